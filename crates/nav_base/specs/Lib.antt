@@ -1,0 +1,3 @@
+pub mod Point
+pub mod Reach
+pub mod Vector
