@@ -1,5 +1,5 @@
 -- Points as vectors, the cross of two vectors, and the side of a walk on which a point lies.
-use Rattle.std.specs.Prelude.{ℤ, pos, negsuc, ◌+ℤ◌, ◌-ℤ◌, ◌*ℤ◌, ◌≤ℤ◌}
+use Rattle.std.specs.Prelude.{ℕ, ◌≤◌, ℤ, pos, negsuc, unsigned_abs, ◌+ℤ◌, ◌-ℤ◌, ◌*ℤ◌, ◌≤ℤ◌}
 use Rattle.nav_base.specs.declared.point.Point.{Point}
 
 -- a coordinate lies between -65536 and 65536
@@ -18,6 +18,11 @@ pub record IsCellCorner (p : Point) : Type 0 where
   pub right : p.x ≤ℤ pos 1024
   pub bottom : pos 0 ≤ℤ p.z
   pub top : p.z ≤ℤ pos 1024
+
+-- both parts of the vector are at most k, whatever their signs
+pub record IsWithin (k : ℕ) (v : Point) : Type 0 where
+  pub across : unsigned_abs v.x ≤ k
+  pub along : unsigned_abs v.z ≤ k
 
 -- the vector from a to b
 abbrev pub from_to : Point → Point → Point

@@ -11,6 +11,7 @@ pub(crate) struct Vector {
 
 impl Vector {
     ghost use Rattle.std.specs.Prelude.{◌≡◌};
+    ghost use Rattle.std.specs.Int.RustNames.{unsigned_abs};
     ghost use Rattle.nav_base.specs.Point.{HasCoordinates, from_to};
     ghost use Rattle.nav_base.specs.Vector.{IsReach, vector_of, wide_cross_of, wide_dot_of};
 
@@ -49,6 +50,14 @@ impl Vector {
         ensures { result ≡ wide_dot_of self other }
     {
         product(self.x, other.x) + product(self.z, other.z)
+    }
+
+    /// The square of the vector's length.
+    pub(crate) fn square(self) -> u64
+        requires { IsReach self }
+        ensures { result ≡ unsigned_abs (wide_dot_of self self) }
+    {
+        self.dot(self).unsigned_abs()
     }
 }
 
