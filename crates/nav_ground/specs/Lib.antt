@@ -1,0 +1,9 @@
+pub mod Limits
+pub mod Tiling
+pub mod Fields
+pub mod Cells
+pub mod Shapes
+pub mod FreeCells
+pub mod History
+pub mod FlatFields
+pub mod Grounds

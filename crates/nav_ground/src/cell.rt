@@ -1,0 +1,84 @@
+//! Cells: the places where an agent can stand.
+
+use crate::tiling::TileNo;
+use nav_list::{Duplicate, Items};
+use std::alloc::{AllocError, Global};
+
+/// A cell by its place: its column, and its level, which is how many cells of the whole field lie below it in that column.
+/// Levels are counted before agents keep from walls and before obstacles, so those in a layer may have gaps.
+#[derive(Clone, Copy, PartialEq, Eq, Debug)]
+pub struct CellRef {
+    pub x: u32,
+    pub z: u32,
+    pub level: u32,
+}
+
+/// A place to stand: the top of a span with room above it.
+#[derive(Clone, Copy, PartialEq, Eq, Debug)]
+pub struct Cell {
+    pub at: CellRef,
+    /// The height to stand on, in height units, at most 8191.
+    pub floor: u32,
+    /// The height of what is above, 65535 where nothing is.
+    pub ceiling: u32,
+    /// 1 to 63.
+    pub area: u32,
+    /// For each direction the level of the connected cell of that neighbouring column, or none.
+    pub next: [Option<u32>; 4],
+}
+
+/// A closed rectangle of columns: from x0 to x1 and from z0 to z1. It may lie outside the field, and is empty where an end is below its beginning.
+#[derive(Clone, Copy, PartialEq, Eq, Debug)]
+pub struct Window {
+    pub x0: i32,
+    pub x1: i32,
+    pub z0: i32,
+    pub z1: i32,
+}
+
+/// The cells of one tile, by z, then x, then level, as the ground was built, before obstacles.
+#[derive(PartialEq, Eq, Debug, Drop)]
+pub struct Layer {
+    pub tile: TileNo,
+    pub cells: Items<Cell>,
+    /// How far agents keep from obstacles, in cells: the agent's radius where the setting says clear, else 0, and then obstacles block
+    /// only what they cover.
+    pub radius: u32,
+    /// Where the setting says clear: all cells, also those too near a wall, of the tile widened by the radius on each side, in the same
+    /// order, each with all its connections. Else empty.
+    pub wide: Items<Cell>,
+}
+
+/// The cells of one tile that the obstacles leave free, in the order of its layer.
+#[derive(PartialEq, Eq, Debug, Drop)]
+pub struct FreeLayer {
+    pub tile: TileNo,
+    pub cells: Items<Cell>,
+}
+
+impl Duplicate for Cell {
+    fn duplicate(&self, alloc: Global) -> Result<Self, AllocError> {
+        let _ = alloc;
+        Ok(*self)
+    }
+}
+
+impl Duplicate for Layer {
+    fn duplicate(&self, alloc: Global) -> Result<Self, AllocError> {
+        Ok(Layer {
+            tile: self.tile,
+            cells: self.cells.duplicate(alloc)?,
+            radius: self.radius,
+            wide: self.wide.duplicate(alloc)?,
+        })
+    }
+}
+
+impl Duplicate for FreeLayer {
+    fn duplicate(&self, alloc: Global) -> Result<Self, AllocError> {
+        Ok(FreeLayer {
+            tile: self.tile,
+            cells: self.cells.duplicate(alloc)?,
+        })
+    }
+}

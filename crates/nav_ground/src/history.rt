@@ -1,0 +1,54 @@
+//! Requests to change the obstacles, and the history that they leave.
+
+use crate::cell::Layer;
+use crate::field::Field;
+use crate::setting::Setting;
+use crate::shape::Shape;
+use nav_list::{Duplicate, Items};
+use std::alloc::{AllocError, Global};
+
+/// How many entries a history can have.
+pub const HISTORY_LIMIT: u32 = 65536;
+
+/// What can be asked of a ground: a new obstacle, or that the obstacle with a number goes.
+#[derive(Clone, Copy, PartialEq, Eq, Debug)]
+pub enum Request {
+    Add(Shape),
+    Remove(u32),
+}
+
+/// What became of a request.
+#[derive(Clone, Copy, PartialEq, Eq, Debug)]
+pub enum Reply {
+    /// The obstacle is alive from now on, under the number of this entry.
+    Added { number: u32 },
+    /// The obstacle is alive no more.
+    Removed,
+    /// As many obstacles are alive as may be; nothing was added.
+    Full { live: u32 },
+    /// No obstacle with this number is alive; nothing was removed.
+    Dead { number: u32 },
+}
+
+/// One request in the history, with who made it and what became of it. Entries are numbered from 1.
+#[derive(Clone, Copy, PartialEq, Eq, Debug)]
+pub struct Entry {
+    pub lane: u32,
+    pub request: Request,
+    pub reply: Reply,
+}
+
+/// A ground as it was built, before any obstacle: its setting, its spans, and its layers, one a tile.
+#[derive(PartialEq, Eq, Debug, Drop)]
+pub struct Ground {
+    pub setting: Setting,
+    pub field: Field,
+    pub layers: Items<Layer>,
+}
+
+impl Duplicate for Entry {
+    fn duplicate(&self, alloc: Global) -> Result<Self, AllocError> {
+        let _ = alloc;
+        Ok(*self)
+    }
+}

@@ -1,0 +1,177 @@
+//! Obstacles: what they cover and how far they reach.
+
+ghost use Rattle.std.specs.Prelude.{◌≡◌, ◌↔◌, ◌≤◌, ◌+◌, ◌*◌, IsTrue, nat_le};
+ghost use Rattle.nav_ground.specs.Limits.{IsShape};
+ghost use Rattle.nav_ground.specs.Shapes.{Covers, is_covering, bounds_of, area_set_by};
+
+use crate::cell::Window;
+use nav_list::Duplicate;
+use std::alloc::{AllocError, Global};
+
+/// An obstacle. Ranges are closed, x and z in columns and y in height units; a cylinder's centre is in half cells, and it reaches the
+/// columns whose middle is at most r cells and a half from it. A shape covers a cell in reach whose floor lies in y0 to y1.
+/// A block or cylinder stops agents; an area block or area cylinder gives the cells that it covers another area.
+#[derive(Clone, Copy, PartialEq, Eq, Debug)]
+pub enum Shape {
+    Block {
+        x0: u32,
+        x1: u32,
+        y0: u32,
+        y1: u32,
+        z0: u32,
+        z1: u32,
+    },
+    Cylinder {
+        cx: u32,
+        cz: u32,
+        r: u32,
+        y0: u32,
+        y1: u32,
+    },
+    AreaBlock {
+        area: u32,
+        x0: u32,
+        x1: u32,
+        y0: u32,
+        y1: u32,
+        z0: u32,
+        z1: u32,
+    },
+    AreaCylinder {
+        area: u32,
+        cx: u32,
+        cz: u32,
+        r: u32,
+        y0: u32,
+        y1: u32,
+    },
+}
+
+/// Whether a number lies in a closed range.
+fn is_in(low: u32, high: u32, n: u32) -> bool
+    ensures { result ≡ Rattle.nav_ground.specs.Shapes.is_in low high n }
+{
+    low <= n && n <= high
+}
+
+/// Whether the middle of a column lies in a disc. Centre in half cells, radius in cells; all is measured in half cells,
+/// where the middle of column x is 2x + 1 and the disc's radius is 2r + 1.
+fn is_in_disc(cx: u32, cz: u32, r: u32, x: u32, z: u32) -> bool
+    requires { r ≤ 1023 }
+    ensures { result ≡ Rattle.nav_ground.specs.Shapes.is_in_disc cx cz r x z }
+{
+    is_within(
+        (2 * x as u64 + 1).abs_diff(cx as u64),
+        (2 * z as u64 + 1).abs_diff(cz as u64),
+        2 * r as u64 + 1,
+    )
+}
+
+/// Whether a way along x and one along z make a distance of at most `reach`. The tests before the squares keep them small.
+#[tactic(auto, using(crate::proofs::Squares::too_far, crate::proofs::Squares::too_far_across))]
+fn is_within(along_x: u64, along_z: u64, reach: u64) -> bool
+    requires { reach ≤ 2047 }
+    ensures { result ≡ nat_le (along_x * along_x + along_z * along_z) (reach * reach) }
+{
+    if along_x > reach {
+        return false;
+    }
+    if along_z > reach {
+        return false;
+    }
+    along_x * along_x + along_z * along_z <= reach * reach
+}
+
+/// Whether an obstacle covers the cell of a column with a floor.
+pub fn covers(shape: &Shape, x: u32, z: u32, floor: u32) -> bool
+    requires { IsShape shape.now }
+    ensures test { result ≡ is_covering shape.now x z floor }
+    ensures covered { IsTrue result ↔ Covers shape.now x z floor }
+{
+    match *shape {
+        Shape::Block {
+            x0,
+            x1,
+            y0,
+            y1,
+            z0,
+            z1,
+        } => is_in(x0, x1, x) && is_in(z0, z1, z) && is_in(y0, y1, floor),
+        Shape::Cylinder { cx, cz, r, y0, y1 } => is_in_disc(cx, cz, r, x, z)
+            && is_in(y0, y1, floor),
+        Shape::AreaBlock {
+            area: _,
+            x0,
+            x1,
+            y0,
+            y1,
+            z0,
+            z1,
+        } => is_in(x0, x1, x) && is_in(z0, z1, z) && is_in(y0, y1, floor),
+        Shape::AreaCylinder {
+            area: _,
+            cx,
+            cz,
+            r,
+            y0,
+            y1,
+        } => is_in_disc(cx, cz, r, x, z) && is_in(y0, y1, floor),
+    }
+}
+
+/// A rectangle that holds every column the obstacle covers: a block's ranges; of a cylinder the columns whose middle is, along each
+/// axis, at most r cells and a half from the centre. It may lie outside the field.
+pub fn bounds(shape: &Shape) -> Window
+    requires { IsShape shape.now }
+    ensures { result ≡ bounds_of shape.now }
+{
+    match *shape {
+        Shape::Block { x0, x1, z0, z1, .. } => block_bounds(x0, x1, z0, z1),
+        Shape::Cylinder { cx, cz, r, .. } => disc_bounds(cx, cz, r),
+        Shape::AreaBlock { x0, x1, z0, z1, .. } => block_bounds(x0, x1, z0, z1),
+        Shape::AreaCylinder { cx, cz, r, .. } => disc_bounds(cx, cz, r),
+    }
+}
+
+/// The area that an obstacle gives to the cells that it covers; none where it stops agents instead.
+pub fn sets(shape: &Shape) -> Option<u32>
+    ensures { result ≡ area_set_by shape.now }
+{
+    match *shape {
+        Shape::Block { .. } | Shape::Cylinder { .. } => None,
+        Shape::AreaBlock { area, .. } | Shape::AreaCylinder { area, .. } => Some(area),
+    }
+}
+
+fn block_bounds(x0: u32, x1: u32, z0: u32, z1: u32) -> Window
+    requires x { (x0 ≤ 1023) × (x1 ≤ 1023) }
+    requires z { (z0 ≤ 1023) × (z1 ≤ 1023) }
+    ensures { result ≡ Rattle.nav_ground.specs.Shapes.block_window x0 x1 z0 z1 }
+{
+    Window {
+        x0: x0 as i32,
+        x1: x1 as i32,
+        z0: z0 as i32,
+        z1: z1 as i32,
+    }
+}
+
+fn disc_bounds(cx: u32, cz: u32, r: u32) -> Window
+    requires centre { (cx ≤ 2048) × (cz ≤ 2048) }
+    requires radius { r ≤ 1023 }
+    ensures { result ≡ Rattle.nav_ground.specs.Shapes.disc_window cx cz r }
+{
+    Window {
+        x0: cx.div_ceil(2) as i32 - (r + 1) as i32,
+        x1: (cx / 2 + r) as i32,
+        z0: cz.div_ceil(2) as i32 - (r + 1) as i32,
+        z1: (cz / 2 + r) as i32,
+    }
+}
+
+impl Duplicate for Shape {
+    fn duplicate(&self, alloc: Global) -> Result<Self, AllocError> {
+        let _ = alloc;
+        Ok(*self)
+    }
+}
