@@ -19,3 +19,8 @@ pub use distance::{dev, exceeds, less};
 pub use orientation::{cross, orient};
 pub use point::Point;
 pub use root::ceil_sqrt;
+//! Whole numbers and whole-number geometry, the ground on which every other crate stands.
+
+mod number;
+
+pub use number::{number_at, push_number, read_number};
