@@ -8,20 +8,20 @@
 //! text; their contracts are what a program stands on, whatever source and sink it is handed.
 #![tactic(auto)]
 
-//mod calm;
+mod calm;
 mod gates;
-//mod memory;
+mod memory;
 mod refusals;
 mod sinks;
 mod sources;
-//mod standard;
+mod standard;
 mod whole;
 
-//pub use calm::{CalmSink, CalmSource};
+pub use calm::{CalmSink, CalmSource};
 pub use gates::{Actor, FreeGate, Gate, Stage};
-//pub use memory::{MemorySink, MemorySource};
+pub use memory::{MemorySink, MemorySource};
 pub use refusals::{Failed, ReadRefusal, WriteFault};
 pub use sinks::Sink;
 pub use sources::Source;
-//pub use standard::{StdSink, StdSource};
+pub use standard::{StdSink, StdSource};
 pub use whole::{read_all, write_all};
