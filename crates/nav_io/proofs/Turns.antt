@@ -1,5 +1,5 @@
 -- What holds at each turn of the loops that read and write everything, and how a turn carries it on.
-use Rattle.std.proofs.Common.{ℕ, ◌≡◌, ◌+◌, ◌-◌, ◌≤◌, List, ◌++◌, length, length-append, length-drop, take, drop, arith, subst, sym, ◌∙◌, ap}
+use Rattle.std.proofs.Common.{ℕ, ◌≡◌, ◌+◌, ◌-◌, ◌≤◌, List, ◌++◌, length, length-append, length-drop, take, drop, arith, subst, sym, ◌∙◌}
 use Rattle.std.proofs.Math.Seq.{take-add}
 use Rattle.std.proofs.lemmas.List.{take-take, length-take-le}
 use Rattle.std.proofs.KnownBytes.{Appends-trans, Consumes-trans}
@@ -45,7 +45,7 @@ WritesSoFar-more old now new before between after bytes at count so_far fits too
     let front : Appends now new (take count (drop at bytes)) =
     subst (Appends now new) (take-take count (length bytes - at) (drop at bytes) within) took in
     record {
-        written = rw (take-add at count bytes) (Appends-trans old now new _ _ so_far.written front);
-        later = omega (arith, so_far.later, later);
-        there = omega (arith, so_far.there, within);
+      written = rw (take-add at count bytes) (Appends-trans old now new _ _ so_far.written front);
+      later = omega (arith, so_far.later, later);
+      there = omega (arith, so_far.there, within);
     }

@@ -1,5 +1,5 @@
 -- What reads and writes say of the bytes that they move, where those are known, and of a count of faults.
-use Rattle.std.specs.Prelude.{◌≡◌, ℕ, ◌+◌, ◌-◌, ◌^◌, ◌<◌, ◌≤◌, min, List, length, take, Option, None, Some, Result, IfOk, OnErr, IfSome, MatchResult}
+use Rattle.std.specs.Prelude.{◌≡◌, ℕ, ◌+◌, ◌-◌, ◌^◌, ◌<◌, ◌≤◌, min, List, length, take, Option, None, Some, Result, IfOk, OnErr, MatchResult}
 use Rattle.std.specs.Io.KnownBytes.{Consumes, Appends, IsAtEnd}
 
 -- a count of faults after one more fault: it stays at its last value, 2 ^ 64 - 1, once it is there

@@ -129,7 +129,12 @@ impl MemorySink {
     /// An empty sink with `room` bytes reserved, which takes at most `piece` bytes at a write and
     /// fails exactly at the writes whose numbers, from 1, are in `fails`, and at those whose bytes
     /// would pass the room.
-    pub fn with_room(alloc: Global, piece: usize, room: usize, fails: Vec<u32>) -> Result<Self, AllocError>
+    pub fn with_room(
+        alloc: Global,
+        piece: usize,
+        room: usize,
+        fails: Vec<u32>,
+    ) -> Result<Self, AllocError>
         requires { 0 < piece }
         ensures bytes { IfOk result (λ sink. sink.bytes.items ≡ []) }
         ensures piece { IfOk result (λ sink. sink.piece ≡ piece) }

@@ -25,10 +25,7 @@ impl<R: Read> StdSource<R> {
         ensures inner { result.inner ≡ inner }
         ensures faults { result.faults ≡ 0 }
     {
-        StdSource {
-            inner,
-            faults: 0,
-        }
+        StdSource { inner, faults: 0 }
     }
 }
 
@@ -74,10 +71,7 @@ impl<W: Write> StdSink<W> {
         ensures inner { result.inner ≡ inner }
         ensures faults { result.faults ≡ 0 }
     {
-        StdSink {
-            inner,
-            faults: 0,
-        }
+        StdSink { inner, faults: 0 }
     }
 }
 

@@ -1,7 +1,7 @@
 // Runs of the sources, the sinks and the two calls. What is wanted was worked out by hand.
 use crate::{
-    Actor, CalmSink, CalmSource, FreeGate, Gate, MemorySink, MemorySource, ReadRefusal, Source, Stage,
-    StdSink, StdSource, WriteFault, read_all, write_all,
+    Actor, CalmSink, CalmSource, FreeGate, Gate, MemorySink, MemorySource, ReadRefusal, Source,
+    Stage, StdSink, StdSource, WriteFault, read_all, write_all,
 };
 use std::alloc::{AllocError, Global};
 use std::io;
@@ -26,6 +26,12 @@ impl Read for Broken {
     }
 }
 
+// Lanes and workers on several threads share one gate.
+fn pass_twice<G: Gate + Sync>(gate: &G) {
+    gate.pass(Actor::Lane(0), Stage::BeforeRequest);
+    gate.pass(Actor::Worker(1), Stage::BeforeBuild);
+}
+
 #[test]
 fn reads_everything_or_says_why_not(rt: HostRuntime) -> Result<(), Fail> {
     let alloc = rt.alloc();
@@ -44,14 +50,32 @@ fn reads_everything_or_says_why_not(rt: HostRuntime) -> Result<(), Fail> {
         (4, 10, 5, None, 10, 0),
     ];
     for (piece, most, failing, refusal, gone, faults) in cases {
+        assert!(rt; 0 < piece);
+        assert!(rt; most < usize::MAX);
         let mut source = MemorySource::new(text(alloc)?, piece, vec![in alloc; failing]?);
         let answer = read_all(alloc, &mut source, most);
         if let Ok(bytes) = &answer {
-            assert_eq!(rt; bytes.as_slice(), TEXT, "pieces of {piece}, read {failing} fails");
+            assert_eq!(rt;
+                bytes.as_slice(),
+                TEXT,
+                "pieces of {piece}, read {failing} fails"
+            );
         }
-        assert_eq!(rt; answer.err(), refusal, "pieces of {piece}, at most {most}, read {failing} fails");
-        assert_eq!(rt; source.at, gone, "pieces of {piece}, at most {most}, read {failing} fails");
-        assert_eq!(rt; source.faults, faults, "pieces of {piece}, read {failing} fails");
+        assert_eq!(rt;
+            answer.err(),
+            refusal,
+            "pieces of {piece}, at most {most}, read {failing} fails"
+        );
+        assert_eq!(rt;
+            source.at,
+            gone,
+            "pieces of {piece}, at most {most}, read {failing} fails"
+        );
+        assert_eq!(rt;
+            source.faults,
+            faults,
+            "pieces of {piece}, read {failing} fails"
+        );
     }
     Ok(())
 }
@@ -76,10 +100,22 @@ fn writes_everything_or_a_front_part(rt: HostRuntime) -> Result<(), Fail> {
         assert!(rt; 0 < piece);
         let mut sink = MemorySink::with_room(alloc, piece, room, vec![in alloc; failing]?)?;
         let answer = write_all(&mut sink, TEXT);
-        assert_eq!(rt; answer, wanted, "pieces of {piece}, room {room}, write {failing} fails");
-        assert_eq!(rt; sink.bytes(), held, "pieces of {piece}, room {room}, write {failing} fails");
+        assert_eq!(rt;
+            answer,
+            wanted,
+            "pieces of {piece}, room {room}, write {failing} fails"
+        );
+        assert_eq!(rt;
+            sink.bytes(),
+            held,
+            "pieces of {piece}, room {room}, write {failing} fails"
+        );
         let faults = if wanted.is_ok() { 0 } else { 1 };
-        assert_eq!(rt; sink.faults, faults, "pieces of {piece}, room {room}, write {failing} fails");
+        assert_eq!(rt;
+            sink.faults,
+            faults,
+            "pieces of {piece}, room {room}, write {failing} fails"
+        );
     }
     Ok(())
 }
@@ -109,7 +145,6 @@ fn others_pass_bytes_on(rt: HostRuntime) -> Result<(), Fail> {
     assert_eq!(rt; sink.faults, 1);
     assert_eq!(rt; four, *b"abcd");
 
-    FreeGate.pass(Actor::Lane(0), Stage::BeforeRequest);
-    FreeGate.pass(Actor::Worker(1), Stage::BeforeBuild);
+    pass_twice(&FreeGate);
     Ok(())
 }

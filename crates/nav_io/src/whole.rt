@@ -7,14 +7,18 @@ use crate::{Failed, ReadRefusal, Sink, Source, WriteFault};
 use std::alloc::Global;
 
 /// How many bytes one read asks for at most.
-const PIECE: usize = 4096;
+const PIECE: usize = 16384;
 
 /// Reads `source` to its end and gives all its bytes, which are at most `most`.
 ///
 /// `ReadFault` comes only where the source's faults rose. `TooLong` comes exactly where `most + 1`
 /// bytes were read, and nothing more is read then. After a refusal the bytes that were read are gone
 /// from the source: what is left is the rest.
-pub fn read_all<S: Source>(alloc: Global, source: &mut S, most: usize) -> Result<Vec<u8>, ReadRefusal>
+pub fn read_all<S: Source>(
+    alloc: Global,
+    source: &mut S,
+    most: usize,
+) -> Result<Vec<u8>, ReadRefusal>
     requires { most < usize.MAX }
     ensures ok { IfOk result (λ bytes. GivesAll (S.left source.old) (S.left source.new) bytes.items) }
     ensures short { IfOk result (λ bytes. length bytes.items ≤ most) }

@@ -1,4 +1,4 @@
-use Rattle.std.proofs.Common.{take, arith, ◌≡◌, ◌+◌, length}
+use Rattle.std.proofs.Common.{take, arith}
 use Rattle.std.proofs.lemmas.Grind.{common_steps}
 use Rattle.nav_io.proofs.Turns.{TookMany-more, TookAtMost-more}
 use Rattle.nav_io.proofs.whole.read_all.Goals as goal
