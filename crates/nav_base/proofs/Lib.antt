@@ -1,5 +1,6 @@
 pub mod Integers
-pub mod Polynomials
+pub mod NearRoots
 pub mod OrientLaws
+pub mod Polynomials
 pub mod RootLaws
 pub mod Sizes
