@@ -1,6 +1,11 @@
+pub mod ConvexLaws
+pub mod FractionLaws
 pub mod Integers
+pub mod LengthLaws
 pub mod NearRoots
 pub mod OrientLaws
+pub mod PointTerms
 pub mod Polynomials
 pub mod RootLaws
+pub mod Signs
 pub mod Sizes

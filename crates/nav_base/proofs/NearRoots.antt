@@ -1,6 +1,6 @@
 -- One step toward a square root: a number that is within one of the root of the leading part of n gives one that is within one of the root of n.
 -- With v half of the leading part's unit, y = v * near and n = 4 * y * q + r, the step gives y + q, the mean of 2 * y and n / (2 * y).
-use Rattle.std.proofs.Common.{◌≡◌, ℕ, zero, suc, ◌+◌, ◌-◌, ◌*◌, ◌/◌, ◌%◌, ◌^◌, ◌≤◌, ◌<◌, refl, sym, ap, subst, ◌∙◌, arith, inl, inr, lit<}
+use Rattle.std.proofs.Common.{◌≡◌, ℕ, zero, suc, ◌+◌, ◌-◌, ◌*◌, ◌/◌, ◌%◌, ◌^◌, ◌≤◌, ◌<◌, sym, ap, subst, ◌∙◌, arith, inl, inr, lit<}
 use Rattle.std.proofs.lemmas.Nat.{mul-le, pow-add, pow_pos, leading_top, shl_whole}
 use Rattle.std.proofs.Math.Nat.{le_refl, le_trans, mul_comm, pow-le-pow_right, mod-lt, div-add-mod, div-div-eq-div-mul}
 use Rattle.std.proofs.lemmas.Bool.{cases_lt}
@@ -14,6 +14,7 @@ four_products a b = elim (cases_lt a b) [ inl below ↦ rising a (b - a) b (omeg
   where
     rising : (a d b : ℕ) → b ≡ a + d → 4 * (a * b) ≤ (a + b) * (a + b)
     rising a d b e = rw e (omega arith)
+
     falling : (d b a : ℕ) → a ≡ b + d → 4 * (a * b) ≤ (a + b) * (a + b)
     falling d b a e = rw e (omega arith)
 
@@ -23,7 +24,7 @@ over y q r small = omega (arith, four_products y (q + 1))
 
 -- the step is not too large where the quotient is at least y
 under_beyond : (p v t r s : ℕ) → 1 ≤ v → v * v ≤ p + v → 4 * ((p + v) * (p + v + t)) + r < 4 * ((p + 2 * v) * (p + 2 * v)) → s + 1 ≡ (p + v) + (p + v + t)
-  → s * s < 4 * ((p + v) * (p + v + t)) + r
+    → s * s < 4 * ((p + v) * (p + v + t)) + r
 under_beyond p v t r s some flat reached e =
     let near : t ≤ 2 * v = elim (cases_lt (2 * v) t) [ inl far ↦ absurd (omega (arith, mul-le (p + v) (2 * v + 1) (p + v) t (omega arith) (omega arith))) | inr near ↦ near ] in
     let squared = mul-le t t (2 * v) (2 * v) near near in
@@ -32,42 +33,46 @@ under_beyond p v t r s some flat reached e =
 
 -- and where it is below y
 under_before : (p v q t r s : ℕ) → 1 ≤ v → p + v ≡ q + t → v * v ≤ q + t → r < 4 * (q + t) → 4 * (p * p) + 4 * (v * v) ≤ 4 * ((q + t) * q) + r → s + 1 ≡ (q + t) + q
-  → s * s < 4 * ((q + t) * q) + r
+    → s * s < 4 * ((q + t) * q) + r
 under_before p v q t r s some split flat small reached e =
     let whole = ap (λ (n : ℕ). n * n) e in
     let squared = ap (λ (n : ℕ). n * n) split in
     let crossed = ap (λ (n : ℕ). n * v) split in
     elim (cases_lt (2 * v) t) [
-      inl far ↦ absurd (omega (arith, mul-le (q + t) (2 * v + 1) (q + t) t (omega arith) (omega arith)))
-    | inr near ↦ elim (cases_lt (t + 1) (2 * v)) [
-        inl nearer ↦ omega (arith, mul-le (t + 2) (t + 2) (2 * v) (2 * v) (omega arith) (omega arith))
-      | inr far ↦ elim (cases_lt t (2 * v)) [
-          inl below ↦ let one_less : t + 1 ≡ 2 * v = omega arith in at_most whole squared crossed (ap (λ (n : ℕ). n * n) one_less) (ap (λ (n : ℕ). q * n) one_less) (ap (λ (n : ℕ). n * v) one_less)
-        | inr above ↦ let twice : t ≡ 2 * v = omega arith in at_last whole squared crossed (ap (λ (n : ℕ). n * n) twice) (ap (λ (n : ℕ). q * n) twice) (ap (λ (n : ℕ). n * v) twice) ] ] ]
+      | inl far ↦ absurd (omega (arith, mul-le (q + t) (2 * v + 1) (q + t) t (omega arith) (omega arith)))
+      | inr near ↦ elim (cases_lt (t + 1) (2 * v)) [
+        | inl nearer ↦ omega (arith, mul-le (t + 2) (t + 2) (2 * v) (2 * v) (omega arith) (omega arith))
+        | inr far ↦ elim (cases_lt t (2 * v)) [
+          | inl below ↦ let one_less : t + 1 ≡ 2 * v = omega arith in at_most whole squared crossed (ap (λ (n : ℕ). n * n) one_less) (ap (λ (n : ℕ). q * n) one_less) (ap (λ (n : ℕ). n * v) one_less)
+          | inr above ↦ let twice : t ≡ 2 * v = omega arith in at_last whole squared crossed (ap (λ (n : ℕ). n * n) twice) (ap (λ (n : ℕ). q * n) twice) (ap (λ (n : ℕ). n * v) twice)
+        ]
+      ]
+    ]
   where
     at_most : (s + 1) * (s + 1) ≡ ((q + t) + q) * ((q + t) + q) → (p + v) * (p + v) ≡ (q + t) * (q + t) → (p + v) * v ≡ (q + t) * v
-      → (t + 1) * (t + 1) ≡ (2 * v) * (2 * v) → q * (t + 1) ≡ q * (2 * v) → (t + 1) * v ≡ (2 * v) * v → s * s < 4 * ((q + t) * q) + r
+        → (t + 1) * (t + 1) ≡ (2 * v) * (2 * v) → q * (t + 1) ≡ q * (2 * v) → (t + 1) * v ≡ (2 * v) * v → s * s < 4 * ((q + t) * q) + r
     at_most whole squared crossed tt qt tv = let positive = mul-le 1 1 v v some some in omega arith
+
     at_last : (s + 1) * (s + 1) ≡ ((q + t) + q) * ((q + t) + q) → (p + v) * (p + v) ≡ (q + t) * (q + t) → (p + v) * v ≡ (q + t) * v
-      → t * t ≡ (2 * v) * (2 * v) → q * t ≡ q * (2 * v) → t * v ≡ (2 * v) * v → s * s < 4 * ((q + t) * q) + r
+        → t * t ≡ (2 * v) * (2 * v) → q * t ≡ q * (2 * v) → t * v ≡ (2 * v) * v → s * s < 4 * ((q + t) * q) + r
     at_last whole squared crossed tt qt tv = let positive = mul-le 1 1 v v some some in omega arith
 
 -- The step is not too large. The leading part's root lies between m and m + 2.
 step_before : (v m n q r t s : ℕ) → 1 ≤ v → v * v ≤ v * m + v → 4 * (v * v) * (m * m + 1) ≤ n → n ≡ 4 * ((v * m + v) * q) + r → r < 4 * (v * m + v) → v * m + v ≡ q + t → s + 1 ≡ (q + t) + q
-  → s * s < n
+    → s * s < n
 step_before v m n q r t s some flat from split small parts e =
     let whole = split ∙ ap (λ (y : ℕ). 4 * (y * q) + r) parts in
     omega (arith, under_before (v * m) v q t r s some parts (omega arith) (omega arith) (omega arith) e)
 
 step_beyond : (v m n q r t s : ℕ) → 1 ≤ v → v * v ≤ v * m + v → n < 4 * (v * v) * ((m + 2) * (m + 2)) → n ≡ 4 * ((v * m + v) * q) + r → q ≡ v * m + v + t → s + 1 ≡ (v * m + v) + (v * m + v + t)
-  → s * s < n
+    → s * s < n
 step_beyond v m n q r t s some flat to split parts e =
     let whole = split ∙ ap (λ (k : ℕ). 4 * ((v * m + v) * k) + r) parts in
     omega (arith, under_beyond (v * m) v t r s some flat (omega arith) e)
 
 -- the step is within one of the root: h is the leading part of n, near is within one of its root, and n = 4 * (v * near) * q + r
 near_step : (v near h n q r : ℕ) → 1 ≤ v → v * v ≤ h → IsNearRoot h near → 4 * (v * v) * h ≤ n → n < 4 * (v * v) * (h + 1) → n ≡ 4 * (v * near * q) + r → r < 4 * (v * near)
-  → IsNearRoot n (v * near + q)
+    → IsNearRoot n (v * near + q)
 near_step v zero h n q r some enough is low high split small = absurd (omega (arith, is.under, is.over))
 near_step v (suc m) h n q r some enough is low high split small =
     let wide : v ≤ suc m = elim (cases_lt (suc m) v) [ inl far ↦ absurd (omega (arith, is.over, mul-le (suc m + 1) (suc m + 1) v v (omega arith) (omega arith))) | inr near ↦ near ] in
@@ -77,9 +82,10 @@ near_step v (suc m) h n q r some enough is low high split small =
     let whole : n ≡ 4 * ((v * m + v) * q) + r = omega arith in
     record {
       under = elim (cases_lt q (v * m + v)) [
-          inl before ↦ step_before v m n q r (v * m + v - q) (v * suc m + q - 1) some flat from whole (omega arith) (omega arith) (omega arith)
-        | inr beyond ↦ step_beyond v m n q r (q - (v * m + v)) (v * suc m + q - 1) some flat to whole (omega arith) (omega arith) ];
-      over = omega (arith, over (v * suc m) q r small)
+        | inl before ↦ step_before v m n q r (v * m + v - q) (v * suc m + q - 1) some flat from whole (omega arith) (omega arith) (omega arith)
+        | inr beyond ↦ step_beyond v m n q r (q - (v * m + v)) (v * suc m + q - 1) some flat to whole (omega arith) (omega arith)
+      ];
+      over = omega (arith, over (v * suc m) q r small);
     }
   where
     leading : (m h : ℕ) → (suc m - 1) * (suc m - 1) < h → m * m + 1 ≤ h
@@ -143,9 +149,11 @@ shifted n p near u e some unit parts rest is = record { under = not_large u part
   where
     not_small : n < (u + 1) * (u + 1)
     not_small = elim (cases_lt n ((u + 1) * (u + 1))) [
-        inl below ↦ below
+      | inl below ↦ below
       | inr above ↦ let reach : near + 1 ≤ p * (u + 1) = omega arith in
-          absurd (omega (arith, is.over, mul-le ((u + 1) * (u + 1)) (p * p) n (p * p) above (le_refl (p * p)), mul-le (near + 1) (near + 1) (p * (u + 1)) (p * (u + 1)) reach reach)) ]
+          absurd (omega (arith, is.over, mul-le ((u + 1) * (u + 1)) (p * p) n (p * p) above (le_refl (p * p)), mul-le (near + 1) (near + 1) (p * (u + 1)) (p * (u + 1)) reach reach))
+    ]
+
     not_large : (u : ℕ) → near ≡ p * u + e → (u - 1) * (u - 1) < n
     not_large zero parts = omega arith
     not_large (suc k) parts =
@@ -153,8 +161,9 @@ shifted n p near u e some unit parts rest is = record { under = not_large u part
         let squared = ap (λ (m : ℕ). m * m) one_less in
         let reach : p * k ≤ near - 1 = omega arith in
         elim (cases_lt (k * k) n) [
-          inl below ↦ omega arith
-        | inr above ↦ absurd (omega (arith, is.under, mul-le n (p * p) (k * k) (p * p) above (le_refl (p * p)), mul-le (p * k) (p * k) (near - 1) (near - 1) reach reach)) ]
+          | inl below ↦ omega arith
+          | inr above ↦ absurd (omega (arith, is.under, mul-le n (p * p) (k * k) (p * p) above (le_refl (p * p)), mul-le (p * k) (p * k) (near - 1) (near - 1) reach reach))
+        ]
 
 pub IsNearRoot-shifted : (n pairs near : ℕ) → 0 < n → IsNearRoot (n * 2 ^ (2 * pairs)) near → IsNearRoot n (near / 2 ^ pairs)
 IsNearRoot-shifted n pairs near some is =

@@ -1,10 +1,10 @@
 -- How large differences, scalar products, crosses and sides can become.
-use Rattle.std.proofs.Common.{◌≡◌, ℕ, ◌+◌, ◌*◌, ◌^◌, ◌≤◌, ◌<◌, ℤ, pos, ◌+ℤ◌, ◌-ℤ◌, ◌*ℤ◌, arith}
+use Rattle.std.proofs.Common.{ℕ, ◌+◌, ◌*◌, ◌^◌, ◌≤◌, ℤ, ◌+ℤ◌, ◌-ℤ◌, ◌*ℤ◌, arith}
 use Rattle.std.specs.Prelude.{unsigned_abs}
 use Rattle.std.proofs.lemmas.Int.{ints, unsigned_abs-mul}
 use Rattle.std.proofs.lemmas.Nat.{mul-le}
 use Rattle.nav_base.specs.declared.point.Point.{Point}
-use Rattle.nav_base.specs.Point.{IsCoordinate, HasCoordinates, IsCellCorner, IsWithin, from_to, dot_of, cross_of, orient_of}
+use Rattle.nav_base.specs.Point.{HasCoordinates, IsCellCorner, IsWithin, from_to, dot_of, cross_of, orient_of}
 
 -- a corner of a cell has coordinates
 pub HasCoordinates-corner : (p : Point) → IsCellCorner p → HasCoordinates p

@@ -1,5 +1,5 @@
 -- How far a point lies from a segment, as a fraction, and the order of fractions.
-use Rattle.std.specs.Prelude.{ℕ, ℤ, pos, ◌*◌, ◌<◌, ◌≢◌, unsigned_abs, if◌then◌else◌}
+use Rattle.std.specs.Prelude.{ℕ, pos, ◌*◌, ◌<◌, unsigned_abs, if◌then◌else◌}
 use Rattle.std.specs.Int.Signed.{le_z}
 use Rattle.nav_base.specs.declared.point.Point.{Point}
 use Rattle.nav_base.specs.declared.deviation.Deviation.{Deviation}
@@ -13,9 +13,9 @@ square_of v = unsigned_abs (dot_of v v)
 -- it lies at or beyond b, and otherwise that from p to the line, which is the square of a cross over the segment's squared length.
 abbrev pub deviation_of : Point → Point → Point → Deviation
 deviation_of a b p =
-  if le_z (dot_of (from_to a b) (from_to a p)) (pos 0) then record { num = square_of (from_to a p); den = 1 }
-  else (if le_z (dot_of (from_to a b) (from_to a b)) (dot_of (from_to a b) (from_to a p)) then record { num = square_of (from_to b p); den = 1 }
-  else record { num = unsigned_abs (cross_of (from_to a b) (from_to a p)) * unsigned_abs (cross_of (from_to a b) (from_to a p)); den = square_of (from_to a b) })
+    if le_z (dot_of (from_to a b) (from_to a p)) (pos 0) then record { num = square_of (from_to a p); den = 1 }
+    else (if le_z (dot_of (from_to a b) (from_to a b)) (dot_of (from_to a b) (from_to a p)) then record { num = square_of (from_to b p); den = 1 }
+    else record { num = unsigned_abs (cross_of (from_to a b) (from_to a p)) * unsigned_abs (cross_of (from_to a b) (from_to a p)); den = square_of (from_to a b) })
 
 -- a hundred times the deviation is greater than the error
 abbrev pub Exceeds : Deviation → ℕ → Type 0

@@ -32,7 +32,10 @@ fn others_left(points: &[Point], place: usize) -> bool
 {
     let after = next_place(points.len(), place);
     for other in 0..points.len() {
-        if other != place && other != after && orient(points[place], points[after], points[other]) <= 0 {
+        if other != place
+            && other != after
+            && orient(points[place], points[after], points[other]) <= 0
+        {
             return false;
         }
     }

@@ -22,13 +22,22 @@ pub fn dev(a: Point, b: Point, p: Point) -> Deviation
     let reached = along.dot(to_point);
     let length = along.dot(along);
     if reached <= 0 {
-        return Deviation { num: to_point.square(), den: 1 };
+        return Deviation {
+            num: to_point.square(),
+            den: 1,
+        };
     }
     if reached >= length {
-        return Deviation { num: Vector::between(b, p).square(), den: 1 };
+        return Deviation {
+            num: Vector::between(b, p).square(),
+            den: 1,
+        };
     }
     let aside = along.cross(to_point).unsigned_abs();
-    Deviation { num: aside * aside, den: along.square() }
+    Deviation {
+        num: aside * aside,
+        den: along.square(),
+    }
 }
 
 /// Whether a hundred times the deviation is greater than `error`.

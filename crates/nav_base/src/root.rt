@@ -13,7 +13,11 @@ pub fn ceil_sqrt(n: u64) -> u32
         return 0;
     }
     let near = near_root(n);
-    if near * near < n { (near + 1) as u32 } else { near as u32 }
+    if near * near < n {
+        (near + 1) as u32
+    } else {
+        near as u32
+    }
 }
 
 // A number within one of the root of `n`.

@@ -21,7 +21,10 @@ impl Vector {
         ensures value { result ≡ vector_of p }
         ensures reach { IsReach result }
     {
-        Vector { x: p.x as i64, z: p.z as i64 }
+        Vector {
+            x: p.x as i64,
+            z: p.z as i64,
+        }
     }
 
     /// The vector from `a` to `b`.
@@ -31,7 +34,10 @@ impl Vector {
         ensures value { result ≡ vector_of (from_to a b) }
         ensures reach { IsReach result }
     {
-        Vector { x: b.x as i64 - a.x as i64, z: b.z as i64 - a.z as i64 }
+        Vector {
+            x: b.x as i64 - a.x as i64,
+            z: b.z as i64 - a.z as i64,
+        }
     }
 
     /// The cross of two vectors.

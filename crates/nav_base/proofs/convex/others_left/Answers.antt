@@ -15,7 +15,8 @@ loop-other-preserved c =
     let corners = c.args.points.now in
     below_more _ _ c.loop-other.invariant
     (elim c.else-other-place.branch [
-      else-other-place-via-then-other-place+then-other-after+else-orient-le0 w ↦ λ _ _.
-        seen_left w.orient.result _ (search rules) (w.orient.ensures ∙ ap (λ (after : ℕ). orient_of (corner_at corners c.args.place) (corner_at corners after) (corner_at corners c.loop-other.other)) c.next_place-after.ensures.value) w.if-orient-le0.false
-    | else-other-place-via-then-other-place+else-other-after w ↦ λ _ apart. absurd (apart (w.if-other-after.false ∙ c.next_place-after.ensures.value))
-    | else-other-place-via-else-other-place w ↦ λ apart _. absurd (apart w.if-other-place.false) ])
+      | else-other-place-via-then-other-place+then-other-after+else-orient-le0 w ↦ λ _ _.
+          seen_left w.orient.result _ (search rules) (w.orient.ensures ∙ ap (λ (after : ℕ). orient_of (corner_at corners c.args.place) (corner_at corners after) (corner_at corners c.loop-other.other)) c.next_place-after.ensures.value) w.if-orient-le0.false
+      | else-other-place-via-then-other-place+else-other-after w ↦ λ _ apart. absurd (apart (w.if-other-after.false ∙ c.next_place-after.ensures.value))
+      | else-other-place-via-else-other-place w ↦ λ apart _. absurd (apart w.if-other-place.false)
+    ])

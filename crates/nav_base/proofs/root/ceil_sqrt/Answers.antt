@@ -1,5 +1,5 @@
 -- A number within one of the root is the root rounded up, or one below it.
-use Rattle.std.proofs.Common.{◌≡◌, ℕ, ◌+◌, sym, subst, arith}
+use Rattle.std.proofs.Common.{◌≡◌, ℕ, ◌+◌, arith}
 use Rattle.nav_base.specs.Root.{IsLeastRoot}
 use Rattle.nav_base.proofs.RootLaws.{ceil_sqrt_of-only}
 use Rattle.nav_base.proofs.NearRoots.{IsLeastRoot-near_below, IsLeastRoot-near_enough}

@@ -1,5 +1,5 @@
 -- The number is moved up and its root down by half as many digits.
-use Rattle.std.proofs.Common.{◌≡◌, ℕ, ◌*◌, ◌/◌, ◌^◌, ◌≤◌, sym, subst, arith}
+use Rattle.std.proofs.Common.{ℕ, ◌/◌, ◌^◌, ◌≤◌, sym, subst}
 use Rattle.std.specs.Int.Count.{count_leading_zeros}
 use Rattle.nav_base.specs.Root.{IsNearRoot}
 use Rattle.nav_base.proofs.NearRoots.{IsNearRoot-shifted, near-bound, moved_up}

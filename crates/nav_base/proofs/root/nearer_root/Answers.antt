@@ -1,5 +1,5 @@
 -- What is near the root has at most 32 binary digits, so that nothing is lost when it is moved up.
-use Rattle.std.proofs.Common.{◌≡◌, ℕ, ◌+◌, ◌*◌, ◌/◌, ◌%◌, ◌^◌, ◌≤◌, ◌<◌, Fits, w64, sym, subst, arith, lit<}
+use Rattle.std.proofs.Common.{◌≡◌, ℕ, ◌+◌, ◌*◌, ◌/◌, ◌%◌, ◌^◌, ◌≤◌, ◌<◌, sym, subst, arith, lit<}
 use Rattle.std.proofs.lemmas.Nat.{mul-le}
 use Rattle.std.proofs.Math.Nat.{mod-eq_of_lt, pow-le-pow_right, div-le_self}
 use Rattle.nav_base.specs.Root.{IsNearRoot}
@@ -13,7 +13,7 @@ kept digits n near few fits is =
     mod-eq_of_lt (omega (arith, mul-le near (2 ^ digits) (2 ^ 32) (2 ^ 15) small unit))
 
 stepped : (digits n near : ℕ) → digits ≤ 15 → n < 2 ^ 64 → 2 ^ (2 * digits) ≤ n / 2 ^ (2 * digits + 2) → IsNearRoot (n / 2 ^ (2 * digits + 2)) near
-  → IsNearRoot n (near * 2 ^ digits % 2 ^ 64 + n / 2 ^ (digits + 2) / near)
+    → IsNearRoot n (near * 2 ^ digits % 2 ^ 64 + n / 2 ^ (digits + 2) / near)
 stepped digits n near few fits leading is =
     subst (λ (k : ℕ). IsNearRoot n (k + n / 2 ^ (digits + 2) / near)) (sym (kept digits n near few fits is)) (near_step_digits digits n near leading is)
 
