@@ -25,3 +25,64 @@ pub fn orient(a: Point, b: Point, c: Point) -> i64
 {
     Vector::between(a, b).cross(Vector::between(a, c))
 }
+
+#[cfg(test)]
+mod tests {
+    use super::*;
+
+    #[test]
+    fn crosses_and_turns(rt: HostRuntime) {
+        let crosses = [
+            (Point { x: 1, z: 0 }, Point { x: 0, z: 1 }, 1),
+            (Point { x: 3, z: -2 }, Point { x: -5, z: 7 }, 11),
+            (
+                Point {
+                    x: 65536,
+                    z: -65536,
+                },
+                Point { x: 65536, z: 65536 },
+                8589934592,
+            ),
+        ];
+        for (a, b, want) in crosses {
+            assert_eq!(rt; cross(a, b), want);
+            assert_eq!(rt; cross(b, a), -want);
+        }
+        let turns = [
+            (
+                Point { x: 0, z: 0 },
+                Point { x: 4, z: 0 },
+                Point { x: 1, z: 3 },
+                12,
+            ),
+            (
+                Point { x: 0, z: 0 },
+                Point { x: 4, z: 0 },
+                Point { x: 9, z: 0 },
+                0,
+            ),
+            (
+                Point { x: -2, z: -3 },
+                Point { x: 5, z: 1 },
+                Point { x: 4, z: -6 },
+                -45,
+            ),
+            (
+                Point {
+                    x: -65536,
+                    z: -65536,
+                },
+                Point {
+                    x: 65536,
+                    z: -65536,
+                },
+                Point { x: 65536, z: 65536 },
+                17179869184,
+            ),
+        ];
+        for (a, b, c, want) in turns {
+            assert_eq!(rt; orient(a, b, c), want);
+            assert_eq!(rt; orient(a, c, b), -want);
+        }
+    }
+}
