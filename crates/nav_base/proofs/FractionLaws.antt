@@ -24,37 +24,43 @@ scaled x y k h = mul-le x k y k h (le_refl k)
 scaled_lt : (x y k : ℕ) → 0 < k → x < y → x * k < y * k
 scaled_lt x y k some h = omega (arith, mul-le (x + 1) k y k (omega arith) (le_refl k))
 
+-- a fraction that is not less than another is at least that
+at_least : (a b : Deviation) → ¬ (IsLess a b) → b.num * a.den ≤ a.num * b.den
+at_least a b not = elim (cases_lt (a.num * b.den) (b.num * a.den)) [ inl below ↦ absurd (not (record { less = below })) | inr above ↦ above ]
+
 -- no fraction is less than itself
 pub IsLess-irreflexive : (a : Deviation) → ¬ (IsLess a a)
-IsLess-irreflexive a less = omega arith
+IsLess-irreflexive a is = omega arith
 
 -- of two fractions at most one is less than the other
 pub IsLess-asymmetric : (a b : Deviation) → IsLess a b → ¬ (IsLess b a)
-IsLess-asymmetric a b less more = omega arith
+IsLess-asymmetric a b is more = omega arith
 
 -- less than what is less is less
 pub IsLess-transitive : (a b c : Deviation) → IsFraction a → IsLess a b → IsLess b c → IsLess a c
-IsLess-transitive a b c is first second =
-    cancelled (a.num * c.den) (c.num * a.den) b.den (omega (arith, scaled (a.num * b.den) (b.num * a.den) c.den (omega arith), scaled_lt (b.num * c.den) (c.num * b.den) a.den is.some second))
+IsLess-transitive a b c is first second = record {
+  less = cancelled (a.num * c.den) (c.num * a.den) b.den (omega (arith, scaled (a.num * b.den) (b.num * a.den) c.den (omega arith), scaled_lt (b.num * c.den) (c.num * b.den) a.den is.some second.less));
+}
 
 -- not less than what is not less is not less: so what is less is less or more than any third fraction
 pub IsLess-negatively_transitive : (a b c : Deviation) → IsFraction b → ¬ (IsLess a b) → ¬ (IsLess b c) → ¬ (IsLess a c)
 IsLess-negatively_transitive a b c is first second less =
     let at_most : c.num * a.den ≤ a.num * c.den =
-    cancelled_le (c.num * a.den) (a.num * c.den) b.den is.some (omega (arith, scaled (b.num * a.den) (a.num * b.den) c.den (omega arith), scaled (c.num * b.den) (b.num * c.den) a.den (omega arith))) in
+    cancelled_le (c.num * a.den) (a.num * c.den) b.den is.some (omega (arith, scaled (b.num * a.den) (a.num * b.den) c.den (at_least a b first), scaled (c.num * b.den) (b.num * c.den) a.den (at_least b c second))) in
     omega arith
 
 -- of two fractions one is less, or their cross products are equal
 pub IsLess-cases : (a b : Deviation) → (IsLess a b) ⊎ (IsLess b a) ⊎ (a.num * b.den ≡ b.num * a.den)
 IsLess-cases a b = elim (cases_lt (a.num * b.den) (b.num * a.den)) [
-  | inl below ↦ inl below
-  | inr above ↦ inr (elim (cases_lt (b.num * a.den) (a.num * b.den)) [ inl more ↦ inl more | inr same ↦ inr (omega arith) ])
+  | inl below ↦ inl (record { less = below })
+  | inr above ↦ inr (elim (cases_lt (b.num * a.den) (a.num * b.den)) [ inl more ↦ inl (record { less = more }) | inr same ↦ inr (omega arith) ])
 ]
 
 -- what is not less than what exceeds an error exceeds it
 pub Exceeds-not_less : (a b : Deviation) (error : ℕ) → IsFraction a → IsFraction b → ¬ (IsLess b a) → Exceeds a error → Exceeds b error
-Exceeds-not_less a b error is is' more exceeds =
-    cancelled (error * b.den) (100 * b.num) a.den (omega (arith, scaled (a.num * b.den) (b.num * a.den) 100 (omega arith), scaled_lt (error * a.den) (100 * a.num) b.den is'.some exceeds))
+Exceeds-not_less a b error is is' more exceeds = record {
+  over = cancelled (error * b.den) (100 * b.num) a.den (omega (arith, scaled (a.num * b.den) (b.num * a.den) 100 (at_least b a more), scaled_lt (error * a.den) (100 * a.num) b.den is'.some exceeds.over));
+}
 
 -- and so does what is more
 pub Exceeds-less : (a b : Deviation) (error : ℕ) → IsFraction a → IsFraction b → IsLess a b → Exceeds a error → Exceeds b error
@@ -62,6 +68,7 @@ Exceeds-less a b error is is' less exceeds = Exceeds-not_less a b error is is' (
 
 -- each deviation is a fraction
 pub IsFraction-deviation_of : (a b p : Point) → IsFraction (deviation_of a b p)
+unfolding deviation_of
 IsFraction-deviation_of a b p =
     chosen (le_z (dot_of (from_to a b) (from_to a p)) (pos 0)) (le_z (dot_of (from_to a b) (from_to a b)) (dot_of (from_to a b) (from_to a p))) refl refl
   where

@@ -20,6 +20,7 @@ square-absolute (negsuc n) = refl
 
 -- the squared length of a vector, over whole numbers
 pub dot_of-itself : (v : Point) → dot_of v v ≡ pos (square_of v)
+unfolding dot_of
 dot_of-itself v = parts ∙ ap pos (sym (ap unsigned_abs parts))
   where
     parts : dot_of v v ≡ pos (unsigned_abs v.x * unsigned_abs v.x + unsigned_abs v.z * unsigned_abs v.z)
@@ -32,6 +33,7 @@ square_of-product u v =
 
 -- the squared length of a sum of two vectors
 pub square_of-moved : (u v : Point) → square_of (moved u v) ≤ square_of u + 2 * unsigned_abs (dot_of u v) + square_of v
+unfolding dot_of
 square_of-moved u v =
     added (dot_of (moved u v) (moved u v)) (dot_of u u) (dot_of u v) (dot_of v v)
     (equal (coordinates (u ∷ v ∷ [])) (dot_term (moved_term (place 0) (place 1)) (moved_term (place 0) (place 1)))
@@ -57,6 +59,7 @@ ceil_sqrt_of-moved u v =
 
 -- the same for the distances of three points
 pub ceil_sqrt_of-from_to : (a b c : Point) → ceil_sqrt_of (square_of (from_to a c)) ≤ ceil_sqrt_of (square_of (from_to a b)) + ceil_sqrt_of (square_of (from_to b c))
+unfolding dot_of
 ceil_sqrt_of-from_to a b c =
     let whole = moved_term (from_to_term (place 0) (place 1)) (from_to_term (place 1) (place 2)) in
     subst (λ (n : ℕ). ceil_sqrt_of n ≤ ceil_sqrt_of (square_of (from_to a b)) + ceil_sqrt_of (square_of (from_to b c)))

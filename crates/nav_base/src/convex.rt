@@ -1,7 +1,7 @@
 //! Strict convexity of polygons.
 
-ghost use Rattle.std.specs.Prelude.{◌≡◌, ◌↔◌, ◌<◌, All, EachIndex, IsTrue, length};
-ghost use Rattle.nav_base.specs.Point.{HasCoordinates};
+ghost use Rattle.std.specs.Prelude.{pos, ◌≡◌, ◌↔◌, ◌<◌, ◌<ℤ◌, All, EachIndex, IsTrue, length};
+ghost use Rattle.nav_base.specs.Point.{HasCoordinates, orient_of};
 ghost use Rattle.nav_base.specs.Convex.{IsStrictlyConvex, LiesLeft, place_after};
 
 use crate::orientation::orient;
@@ -34,12 +34,22 @@ fn others_left(points: &[Point], place: usize) -> bool
     for other in 0..points.len() {
         if other != place
             && other != after
-            && orient(points[place], points[after], points[other]) <= 0
+            && !is_left(points[place], points[after], points[other])
         {
             return false;
         }
     }
     true
+}
+
+// Whether `c` lies strictly to the left of the walk from `a` to `b`.
+fn is_left(a: Point, b: Point, c: Point) -> bool
+    requires first { HasCoordinates a }
+    requires second { HasCoordinates b }
+    requires third { HasCoordinates c }
+    ensures { IsTrue result ↔ (pos 0 <ℤ orient_of a b c) }
+{
+    orient(a, b, c) > 0
 }
 
 // The place after this one, the first after the last.

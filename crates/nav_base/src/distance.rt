@@ -10,6 +10,7 @@ use crate::vector::Vector;
 
 /// The deviation of `p` from the segment from `a` to `b`, in squares of a cell: the square of the least distance from `p` to a point
 /// of the segment. Where `a` and `b` are one point, that is the distance from it.
+#[tactic(auto, unfolding(crate::specs::Deviation::deviation_of))]
 pub fn dev(a: Point, b: Point, p: Point) -> Deviation
     requires first { IsCellCorner a }
     requires second { IsCellCorner b }

@@ -17,6 +17,7 @@ pub fn cross(a: Point, b: Point) -> i64
 
 /// The turn at the walk from `a` to `b`: positive where `c` lies to the left of it, 0 where `c` lies on its line, negative
 /// where `c` lies to the right. It is twice the area of the triangle, with that sign.
+#[tactic(auto, unfolding(crate::specs::Point::orient_of))]
 pub fn orient(a: Point, b: Point, c: Point) -> i64
     requires first { HasCoordinates a }
     requires second { HasCoordinates b }
