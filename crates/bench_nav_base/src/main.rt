@@ -3,12 +3,14 @@
 
 ghost use Rattle.nav_base.specs.Point.{HasCoordinates};
 
-use nav_base::{ceil_sqrt, orient, Point};
+use nav_base::{Point, ceil_sqrt, orient};
 use std::io;
 
 // The next number of a sequence that looks random.
 fn scattered(state: u64) -> u64 {
-    state.wrapping_mul(6364136223846793005).wrapping_add(1442695040888963407)
+    state
+        .wrapping_mul(6364136223846793005)
+        .wrapping_add(1442695040888963407)
 }
 
 // The sum of the roots of numbers of up to 63 bits.
@@ -37,7 +39,10 @@ fn small_roots(rounds: u64) -> u64 {
 fn point(state: u64) -> Point
     ensures { HasCoordinates result }
 {
-    Point { x: ((state >> 47 & 0x1ffff) as i32) - 65536, z: ((state >> 30 & 0x1ffff) as i32) - 65536 }
+    Point {
+        x: ((state >> 47 & 0x1ffff) as i32) - 65536,
+        z: ((state >> 30 & 0x1ffff) as i32) - 65536,
+    }
 }
 
 // The sum of the turns of triangles.
