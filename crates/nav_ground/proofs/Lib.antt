@@ -1,2 +1,5 @@
 pub mod Squares
 pub mod Places
+pub mod Kept
+pub mod Directions
+pub mod FlatLayers

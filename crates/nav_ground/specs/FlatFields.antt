@@ -1,5 +1,5 @@
 -- Flat fields, the only ones that are cut into layers so far: one tile, one level floor, and an agent without a radius.
-use Rattle.std.specs.Prelude.{◌≡◌, ℕ, ◌+◌, ◌*◌, ◌/◌, ◌%◌, ◌<◌, ◌≤◌, Bool, nat_lt, ◌&&◌, if◌then◌else◌, List, [], ◌∷◌, map, filter, Option, Some, None}
+use Rattle.std.specs.Prelude.{◌≡◌, ℕ, ◌+◌, ◌*◌, ◌/◌, ◌%◌, ◌≤◌, Bool, nat_lt, ◌&&◌, if◌then◌else◌, List, [], ◌∷◌, map, filter, Option, Some, None}
 use Rattle.std.specs.List.{range_with_len}
 use Rattle.nav_ground.specs.declared.setting.Setting.{Setting}
 use Rattle.nav_ground.specs.declared.setting.MeshKind.TheVariants.{Strips}
@@ -16,6 +16,11 @@ flat_span width top i = record { x = i % width; z = i / width; bottom = 0; top =
 abbrev pub flat_spans : ℕ → ℕ → ℕ → List Span
 flat_spans width depth top = map (flat_span width top) (range_with_len 0 (width * depth))
 
+-- the field is flat, with one top
+pub record IsLevel (field : Field) : Type 0 where
+  pub top : ℕ
+  pub spans : field.spans ≡ flat_spans field.width field.depth top
+
 -- the level is flat, in one tile, built of strips, for an agent without a radius
 pub record IsFlat (setting : Setting) (field : Field) : Type 0 where
   pub radius : setting.agent.radius ≡ 0
@@ -23,8 +28,7 @@ pub record IsFlat (setting : Setting) (field : Field) : Type 0 where
   pub depth : setting.depth ≤ setting.tile
   pub strips : setting.mesh ≡ Strips
   pub clear : setting.clear ≡ Bool.false
-  pub top : ℕ
-  pub spans : field.spans ≡ flat_spans field.width field.depth top
+  pub level : IsLevel field
 
 -- a column that is not on the field's edge, where the floor ends
 abbrev pub is_inner : Field → Span → Bool
