@@ -1,26 +1,27 @@
-//! Flat levels: one span from 0 up to one top in each column, in one tile.
+//! Flat fields: one span from 0 up to one top in each column, in one tile.
 
 ghost use Rattle.std.specs.Prelude.{◌≡◌, ◌↔◌, ◌<◌, ◌*◌, IsTrue, IfOk, All, slice_get};
 ghost use Rattle.std.specs.Option.{option_map_or};
 ghost use Rattle.nav_ground.specs.declared.field.Span.{Span};
 ghost use Rattle.nav_ground.specs.Limits.{IsSetting};
 ghost use Rattle.nav_ground.specs.Fields.{IsField};
-ghost use Rattle.nav_ground.specs.FlatFields.{IsFlat, IsLevel, is_inner, flat_cell, flat_span, flat_spans};
-ghost use Rattle.nav_ground.specs.Grounds.{IsSized, IsGround, IsLayer, layers_of};
+ghost use Rattle.nav_ground.specs.FlatFields.{IsFlat, IsFlatField, is_inner, flat_cell, flat_span, flat_spans};
+ghost use Rattle.nav_ground.specs.Grounds.{IsSized, IsGround, IsLayerOf, layers_of};
 
-use nav_ground::{Cell, CellRef, Field, Ground, Layer, MeshKind, Setting, Span};
+use nav_ground::{Cell, CellRef, Field, Ground, Layer, Setting, Span};
 use nav_list::Items;
 use std::alloc::{AllocError, Global};
 
-/// The level that a flat field makes: its setting, its field, and its one layer, a cell on each column but those of the field's edge.
+/// The ground that a flat field makes: its setting, its field, and its one layer, a cell on each column but those of the field's edge.
+/// Each cell is at level 0 with nothing above it, and is connected to those of the four neighbouring columns that have a cell.
 pub fn ground(alloc: Global, setting: Setting, field: Field) -> Result<Ground, AllocError>
     requires setting { IsSetting setting }
     requires field { IsField field }
     requires sized { IsSized setting field }
     requires flat { IsFlat setting field }
-    ensures level { IfOk result (λ whole. whole ≡ record { setting = setting; field = field; layers = layers_of field }) }
+    ensures value { IfOk result (λ whole. whole ≡ record { setting = setting; field = field; layers = layers_of setting field }) }
     ensures rules { IfOk result IsGround }
-    ensures layers { IfOk result (λ whole. All (IsLayer whole.setting) whole.layers) }
+    ensures layers { IfOk result (λ whole. All (IsLayerOf whole.setting) whole.layers) }
 {
     let mut layers = Vec::with_capacity(alloc, 1)?;
     layers.push(flat_layer(alloc, &field)?)?;
@@ -50,6 +51,7 @@ fn flat_layer(alloc: Global, field: &Field) -> Result<Layer, AllocError>
     })
 }
 
+/// Whether a span's column is not on the field's edge.
 fn is_inner_column(field: &Field, span: &Span) -> bool
     requires { (span.now.x < 1024) × (span.now.z < 1024) }
     ensures { result ≡ is_inner field.now span.now }
@@ -57,6 +59,7 @@ fn is_inner_column(field: &Field, span: &Span) -> bool
     0 < span.x && span.x + 1 < field.width && (0 < span.z && span.z + 1 < field.depth)
 }
 
+/// The cell on a column's span.
 fn cell_on(field: &Field, span: &Span) -> Cell
     requires { (span.now.x < 1024) × (span.now.z < 1024) }
     ensures { result ≡ flat_cell field.now span.now }
@@ -79,29 +82,30 @@ fn cell_on(field: &Field, span: &Span) -> Cell
     }
 }
 
+/// The level of a neighbour, if there is one.
 fn level_if(inner: bool) -> Option<u32>
     ensures { result ≡ Rattle.nav_ground.specs.FlatFields.level_if inner }
 {
     if inner { Some(0) } else { None }
 }
 
-/// Whether `ground` may be called: the level is flat, in one tile, built of strips, for an agent without a radius. It takes no memory.
+/// Whether `ground` may be called: the field is flat and lies in one tile, for an agent without a radius, and obstacles block only what
+/// they cover. It takes no memory.
 pub fn is_flat(setting: &Setting, field: &Field) -> bool
     ensures { IsTrue result ↔ IsFlat setting.now field.now }
 {
     setting.agent.radius == 0
         && setting.width <= setting.tile
         && setting.depth <= setting.tile
-        && setting.mesh == MeshKind::Strips
         && !setting.clear
-        && is_level(field)
+        && is_flat_field(field)
 }
 
 /// Whether each column has one span from 0 up to the one top, with area 63.
-fn is_level(field: &Field) -> bool
-    ensures { IsTrue result ↔ IsLevel field.now }
+fn is_flat_field(field: &Field) -> bool
+    ensures { IsTrue result ↔ IsFlatField field.now }
 {
-    is_level_at(field, top_of(field))
+    is_flat_field_at(field, top_of(field))
 }
 
 /// The top of the first span; 0 where there is none.
@@ -112,7 +116,7 @@ fn top_of(field: &Field) -> u32
 }
 
 /// Whether each column has one span from 0 up to `top`, with area 63.
-fn is_level_at(field: &Field, top: u32) -> bool
+fn is_flat_field_at(field: &Field, top: u32) -> bool
     ensures { IsTrue result ↔ (field.now.spans ≡ flat_spans field.now.width field.now.depth top) }
 {
     let spans = field.spans.as_slice();

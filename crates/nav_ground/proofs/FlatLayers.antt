@@ -11,7 +11,7 @@ use Rattle.std.proofs.Math.Nat.{zero-mod, zero-div, mul-le-mul}
 use Rattle.std.proofs.lemmas.Int.{ints}
 use Rattle.std.proofs.lemmas.Grind.{div_ceil_times}
 use Rattle.std.specs.Option.{option_map_or}
-use Rattle.nav_ground.specs.Tiling.{columns_of, corner_x, corner_z, tile_window, IsInWindow}
+use Rattle.nav_ground.specs.Tiling.{tiles_in_row, corner_x, corner_z, tile_window, IsInWindow}
 use Rattle.nav_ground.proofs.Places.{some_columns}
 use Rattle.nav_ground.proofs.Kept.{few_kept, AllPairs-map, All-kept}
 use Rattle.nav_ground.proofs.Directions.{both_equal, toward_back}
@@ -21,10 +21,10 @@ use Rattle.nav_ground.specs.declared.field.Field.{Field}
 use Rattle.nav_ground.specs.declared.cell.Cell.{Cell}
 use Rattle.nav_ground.specs.Limits.{IsSetting}
 use Rattle.nav_ground.specs.Fields.{IsField, IsSpan, IsSpanBefore}
-use Rattle.nav_ground.specs.Cells.{IsBefore, IsCell, IsCells, IsInTile, is_toward, is_naming, opposite}
-use Rattle.nav_ground.specs.FlatFields.{IsFlat, IsLevel, flat_span, is_inner, level_if, flat_cell, flat_layer}
+use Rattle.nav_ground.specs.Cells.{IsCut, IsCellBefore, IsCell, IsCells, IsInTile, is_toward, is_naming, opposite}
+use Rattle.nav_ground.specs.FlatFields.{IsFlat, IsFlatField, flat_span, is_inner, level_if, flat_cell, flat_layer}
 use Rattle.nav_ground.specs.declared.history.Ground.{Ground}
-use Rattle.nav_ground.specs.Grounds.{IsSized, IsLayer, IsGround, layers_of}
+use Rattle.nav_ground.specs.Grounds.{IsSized, IsLayerOf, IsGround, layers_of}
 
 -- what a span of a flat field is: it lies in the field, begins at 0, and has area 63
 pub record IsFloor (width depth : ℕ) (span : Span) : Type 0 where
@@ -39,7 +39,7 @@ pub record IsInside (width depth x z : ℕ) : Type 0 where
   pub z_least : 0 < z
   pub z_end : z + 1 < depth
 
-floors : (field : Field) → IsField field → IsLevel field → All (IsFloor field.width field.depth) field.spans
+floors : (field : Field) → IsField field → IsFlatField field → All (IsFloor field.width field.depth) field.spans
 floors field rules' level k d there =
     let n : k < field.width * field.depth =
     omega (arith, ap length level.spans, length-map-range_with_len (flat_span field.width level.top) 0 (field.width * field.depth)) in
@@ -71,7 +71,7 @@ pub record IsInner (field : Field) (cell : Cell) : Type 0 where
   pub floor : IsFloor field.width field.depth span
   pub inside : IsInside field.width field.depth span.x span.z
 
-inner_cells : (field : Field) → IsField field → IsLevel field → All (IsInner field) (flat_layer field).cells
+inner_cells : (field : Field) → IsField field → IsFlatField field → All (IsInner field) (flat_layer field).cells
 inner_cells field rules' level =
     All-kept (IsInner field) (flat_cell field) (is_inner field) field.spans
     (λ k d there passes. record {
@@ -82,14 +82,14 @@ inner_cells field rules' level =
     })
 
 -- spans of a flat field are in the order of cells, since no two stand in one column
-columns_in_order : (field : Field) → IsField field → IsLevel field
-    → AllPairs (λ (a b : Span). IsBefore (flat_cell field a).at (flat_cell field b).at) field.spans
+columns_in_order : (field : Field) → IsField field → IsFlatField field
+    → AllPairs (λ (a b : Span). IsCellBefore (flat_cell field a).at (flat_cell field b).at) field.spans
 columns_in_order field rules' level i j d before there =
     one_a_column (get_or field.spans i d) (get_or field.spans j d)
     (floors field rules' level i d (omega arith)) (floors field rules' level j d there) (rules'.order i j d before there)
   where
     one_a_column : (a b : Span) → IsFloor field.width field.depth a → IsFloor field.width field.depth b → IsSpanBefore a b
-        → IsBefore (flat_cell field a).at (flat_cell field b).at
+        → IsCellBefore (flat_cell field a).at (flat_cell field b).at
     one_a_column a b fa fb (inl below) = inl below
     one_a_column a b fa fb (inr (same, inl left)) = inr (same, inl left)
     one_a_column a b fa fb (inr (same, inr (same_x, above))) = absurd (omega (arith, above, fa.lies.solid, fb.bottom))
@@ -104,11 +104,11 @@ is_cell field rules' cell inner = subst IsCell (sym inner.is) (record {
   sides = refl;
 })
 
-pub flat_cells : (field : Field) → IsField field → IsLevel field → IsCells (flat_layer field).cells
+pub flat_cells : (field : Field) → IsField field → IsFlatField field → IsCells (flat_layer field).cells
 flat_cells field rules' level = record {
   few = omega (arith, few_kept (flat_cell field) (is_inner field) field.spans, rules'.few);
-  order = AllPairs-map (λ (a b : Cell). IsBefore a.at b.at) (flat_cell field) (filter (is_inner field) field.spans)
-      (AllPairs-filter (λ (a b : Span). IsBefore (flat_cell field a).at (flat_cell field b).at) (is_inner field) field.spans
+  order = AllPairs-map (λ (a b : Cell). IsCellBefore a.at b.at) (flat_cell field) (filter (is_inner field) field.spans)
+      (AllPairs-filter (λ (a b : Span). IsCellBefore (flat_cell field a).at (flat_cell field b).at) (is_inner field) field.spans
       (columns_in_order field rules' level));
   each = All-weaker (IsInner field) IsCell (is_cell field rules') (flat_layer field).cells (inner_cells field rules' level);
 }
@@ -153,10 +153,10 @@ some_tiles : (side tile : ℕ) → 1 ≤ side → 1 ≤ tile → 1 ≤ div_ceil 
 some_tiles side tile some some_tile = some_columns (div_ceil side tile) tile 0 (omega (arith, (div_ceil_times side tile some_tile).0))
 
 first_corner_x : (setting : Setting) → corner_x setting 0 ≡ 0
-first_corner_x setting = ap (λ n. n * setting.tile) (zero-mod (columns_of setting)) ∙ zero-mul setting.tile
+first_corner_x setting = ap (λ n. n * setting.tile) (zero-mod (tiles_in_row setting)) ∙ zero-mul setting.tile
 
 first_corner_z : (setting : Setting) → corner_z setting 0 ≡ 0
-first_corner_z setting = ap (λ n. n * setting.tile) (zero-div (columns_of setting)) ∙ zero-mul setting.tile
+first_corner_z setting = ap (λ n. n * setting.tile) (zero-div (tiles_in_row setting)) ∙ zero-mul setting.tile
 
 after_corner : (corner x : ℕ) → corner ≡ 0 → pos corner ≤ℤ pos x
 after_corner corner x first = omega (arith, ints)
@@ -188,30 +188,38 @@ flat_in_tile setting field limits rules' sized flat = record {
       let rows = some_tiles setting.depth setting.tile limits.deep (omega (arith, limits.tile_least)) in
       mul-le-mul columns rows;
   inside = All-weaker (IsInner field) (λ (cell : Cell). IsInWindow (tile_window setting 0) cell.at.x cell.at.z)
-      (in_tile setting field sized flat) (flat_layer field).cells (inner_cells field rules' flat.level);
+      (in_tile setting field sized flat) (flat_layer field).cells (inner_cells field rules' flat.floor);
 }
 
-pub flat_layer_rules : (setting : Setting) (field : Field) → IsSetting setting → IsField field → IsSized setting field → IsFlat setting field
-    → IsLayer setting (flat_layer field)
-flat_layer_rules setting field limits rules' sized flat =
-    let inner = inner_cells field rules' flat.level in
+-- no cells at all
+no_cells : IsCells []
+no_cells = record { few = lit≤ tt; order = λ i j d before there. absurd (omega arith); each = All-nil IsCell }
+
+pub flat_cut : (field : Field) → IsField field → IsFlatField field → IsCut (flat_layer field).cells
+flat_cut field rules' floor =
+    let inner = inner_cells field rules' floor in
     record {
-      cut = record {
-        rules = flat_cells field rules' flat.level;
-        named_back = λ dir a b small has_a has_b. names_back field dir a b small
-            (All-contains (IsInner field) (flat_layer field).cells a inner has_a) (All-contains (IsInner field) (flat_layer field).cells b inner has_b);
-      };
-      placed = flat_in_tile setting field limits rules' sized flat;
+      rules = flat_cells field rules' floor;
+      named_back = λ dir a b small has_a has_b. names_back field dir a b small
+          (All-contains (IsInner field) (flat_layer field).cells a inner has_a) (All-contains (IsInner field) (flat_layer field).cells b inner has_b);
     }
+
+-- the layer of a flat field keeps the rules of layers, and its cells lie in its tile
+pub flat_layer_rules : (setting : Setting) (field : Field) → IsSetting setting → IsField field → IsSized setting field → IsFlat setting field
+    → IsLayerOf setting (flat_layer field)
+flat_layer_rules setting field limits rules' sized flat = record {
+  rules = record { cells = flat_cut field rules' flat.floor; wide = no_cells };
+  inside = flat_in_tile setting field limits rules' sized flat;
+}
 
 -- the layers of a flat field keep the rules of layers
 pub layers_rules : (setting : Setting) (field : Field) → IsSetting setting → IsField field → IsSized setting field → IsFlat setting field
-    → All (IsLayer setting) (layers_of field)
+    → All (IsLayerOf setting) (layers_of setting field)
 layers_rules setting field limits rules' sized flat =
-    All-cons (IsLayer setting) (flat_layer field) [] (flat_layer_rules setting field limits rules' sized flat) (All-nil (IsLayer setting))
+    All-cons (IsLayerOf setting) (flat_layer field) [] (flat_layer_rules setting field limits rules' sized flat) (All-nil (IsLayerOf setting))
 
--- the layers of a level keep the rules of layers
-pub IsLayer-from_ground : (whole : Ground) → IsGround whole → All (IsLayer whole.setting) whole.layers
-IsLayer-from_ground whole rules' =
-    All-same (IsLayer whole.setting) whole.layers (layers_of whole.field) rules'.layers
+-- the layers of a ground keep the rules of layers
+pub IsLayerOf-from_ground : (whole : Ground) → IsGround whole → All (IsLayerOf whole.setting) whole.layers
+IsLayerOf-from_ground whole rules' =
+    All-same (IsLayerOf whole.setting) whole.layers (layers_of whole.setting whole.field) rules'.layers
     (layers_rules whole.setting whole.field rules'.setting rules'.field rules'.sized rules'.flat)

@@ -1,7 +1,7 @@
 use Rattle.std.proofs.Common.{◌≡◌, ◌<◌, ◌*◌, length, arith, ap, ◌∙◌}
 use Rattle.std.specs.Prelude.{IsTrue}
 use Rattle.layer_cut.proofs.Levels.{other_length, span_at, one_more}
-use Rattle.layer_cut.proofs.flat.is_level_at.Goals as goal
+use Rattle.layer_cut.proofs.flat.is_flat_field_at.Goals as goal
 
 pub returns-then-spans-field : goal.returns-then-spans-field
 returns-then-spans-field c =

@@ -1,7 +1,7 @@
 use Rattle.std.proofs.Common.{◌≡◌, take, map}
 use Rattle.std.specs.List.{range_with_len}
 use Rattle.nav_ground.specs.FlatFields.{flat_span}
-use Rattle.layer_cut.proofs.flat.is_level_at.Given as goal
+use Rattle.layer_cut.proofs.flat.is_flat_field_at.Given as goal
 
 -- the spans so far are those of a flat field
 abbrev pub invariant-loop-i : goal.invariant-loop-i
