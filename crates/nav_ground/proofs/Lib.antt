@@ -3,3 +3,4 @@ pub mod Places
 pub mod Kept
 pub mod Directions
 pub mod FlatLayers
+pub mod ShapeLaws
