@@ -4,3 +4,4 @@ pub mod Kept
 pub mod Directions
 pub mod FlatLayers
 pub mod ShapeLaws
+pub mod FreeLayers
