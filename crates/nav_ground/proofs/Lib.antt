@@ -1,2 +1,4 @@
 pub mod Squares
 pub mod Places
+pub mod Selections
+pub mod AliveLaws
