@@ -4,14 +4,15 @@ use Rattle.std.specs.Option.{option_map_or}
 use Rattle.nav_ground.specs.declared.setting.Setting.{Setting}
 use Rattle.nav_ground.specs.declared.cell.CellRef.{CellRef}
 use Rattle.nav_ground.specs.declared.cell.Cell.{Cell}
+use Rattle.nav_ground.specs.declared.cell.Layer.{Layer}
 use Rattle.nav_ground.specs.Limits.{IsArea}
 use Rattle.nav_ground.specs.Tiling.{tile_count, tile_window, IsInWindow}
 
 -- cells stand by z, then x, then level
-abbrev pub IsBefore : CellRef → CellRef → Type 0
-IsBefore a b = (a.z < b.z) ⊎ ((a.z ≡ b.z) × ((a.x < b.x) ⊎ ((a.x ≡ b.x) × (a.level < b.level))))
+abbrev pub IsCellBefore : CellRef → CellRef → Type 0
+IsCellBefore a b = (a.z < b.z) ⊎ ((a.z ≡ b.z) × ((a.x < b.x) ⊎ ((a.x ≡ b.x) × (a.level < b.level))))
 
--- a cell lies in the largest level, can be walked on, and has one place for a neighbour in each of four directions
+-- a cell lies in the largest field, can be walked on, and has one place for a neighbour in each of four directions
 pub record IsCell (cell : Cell) : Type 0 where
   pub x : cell.at.x < 1024
   pub z : cell.at.z < 1024
@@ -23,7 +24,7 @@ pub record IsCell (cell : Cell) : Type 0 where
 -- at most 2000000 cells, in order, none twice
 pub record IsCells (cells : List Cell) : Type 0 where
   pub few : length cells ≤ 2000000
-  pub order : AllPairs (λ (a b : Cell). IsBefore a.at b.at) cells
+  pub order : AllPairs (λ (a b : Cell). IsCellBefore a.at b.at) cells
   pub each : All IsCell cells
 
 -- the column of `to` is the neighbouring column of that of `from` in a direction: 0 is x - 1, 1 is z + 1, 2 is x + 1, 3 is z - 1
@@ -67,7 +68,12 @@ pub record IsCut (cells : List Cell) : Type 0 where
   pub rules : IsCells cells
   pub named_back : AreMutual cells
 
--- the tile is a tile of the level, and the cells lie in it
+-- a layer: its cells are a cut, and its wide cells are in order and within the limits
+pub record IsLayer (layer : Layer) : Type 0 where
+  pub cells : IsCut layer.cells
+  pub wide : IsCells layer.wide
+
+-- the tile is a tile of the ground, and the cells lie in it
 pub record IsInTile (setting : Setting) (tile : ℕ) (cells : List Cell) : Type 0 where
   pub there : tile < tile_count setting
   pub inside : All (λ (cell : Cell). IsInWindow (tile_window setting tile) cell.at.x cell.at.z) cells

@@ -32,6 +32,7 @@ area_under shapes cell = unwrap_or (last_or None (filter_map (area_given cell) s
 abbrev pub is_lost : List Cell → List Shape → Cell → ℕ → Bool
 is_lost cells shapes cell dir = list_any (λ (other : Cell). is_naming dir cell other.at && is_blocked shapes other) cells
 
+-- the level that a free cell names in a direction, if it keeps that neighbour
 abbrev pub free_next : List Cell → List Shape → Cell → ℕ → Option ℕ
 free_next cells shapes cell dir = if is_lost cells shapes cell dir then None else next_level cell dir
 

@@ -1,4 +1,4 @@
--- Levels as they were built: a setting, the field of its size, and the layers of its tiles.
+-- Grounds: a setting, the field of its size, and the layers of its tiles.
 use Rattle.std.specs.Prelude.{◌≡◌, List, [], ◌∷◌}
 use Rattle.nav_ground.specs.declared.setting.Setting.{Setting}
 use Rattle.nav_ground.specs.declared.field.Field.{Field}
@@ -13,14 +13,14 @@ pub record IsSized (setting : Setting) (field : Field) : Type 0 where
   pub width : field.width ≡ setting.width
   pub depth : field.depth ≡ setting.depth
 
--- the layers of a level, in tile order; so far only flat fields of one tile are cut
-abbrev pub layers_of : Field → List Layer
-layers_of field = flat_layer field ∷ []
+-- the layers of a field, in tile order; so far only flat fields of one tile are cut
+abbrev pub layers_of : Setting → Field → List Layer
+layers_of setting field = flat_layer field ∷ []
 
--- a level keeps the rules of its parts, and its layers are those of its field
+-- a ground keeps the rules of its parts, and its layers are those of its field
 pub record IsGround (whole : Ground) : Type 0 where
   pub setting : IsSetting whole.setting
   pub field : IsField whole.field
   pub sized : IsSized whole.setting whole.field
   pub flat : IsFlat whole.setting whole.field
-  pub layers : whole.layers ≡ layers_of whole.field
+  pub layers : whole.layers ≡ layers_of whole.setting whole.field

@@ -1,5 +1,5 @@
 -- The history of requests: which obstacles are alive after it, and what the next request is answered.
-use Rattle.std.specs.Prelude.{◌≡◌, ℕ, ◌+◌, ◌-◌, Bool, false, true, not, ◌&&◌, ◌==◌, if◌then◌else◌, List, length, take, drop, filter, Option, Some, None, slice_get, option_and_then, ⊤}
+use Rattle.std.specs.Prelude.{◌≡◌, ℕ, zero, suc, ◌+◌, ◌≤◌, Bool, false, true, not, ◌&&◌, ◌==◌, if◌then◌else◌, List, length, take, drop, filter, Option, Some, None, slice_get, option_and_then, ⊤, All}
 use Rattle.std.specs.List.{list_any, filter_map, range_with_len}
 use Rattle.std.specs.Option.{option_map_or}
 use Rattle.nav_ground.specs.declared.shape.Shape.{Shape}
@@ -8,6 +8,7 @@ use Rattle.nav_ground.specs.declared.history.Reply.{Reply}
 use Rattle.nav_ground.specs.declared.history.Reply.TheVariants.{Added, Removed, Full, Dead}
 use Rattle.nav_ground.specs.declared.history.Request.{Request}
 use Rattle.nav_ground.specs.declared.history.Request.TheVariants.{Add, Remove}
+use Rattle.nav_ground.specs.declared.history.TheConstants.{HISTORY_LIMIT}
 use Rattle.nav_ground.specs.Limits.{IsShape}
 
 -- a request's shape, if it has one, is within its limits
@@ -25,28 +26,35 @@ abbrev pub is_removing : ℕ → Request → Bool
 is_removing number (Add shape) = false
 is_removing number (Remove other) = other == number
 
-abbrev pub is_yes_to_add : Reply → Bool
-is_yes_to_add (Added number) = true
-is_yes_to_add Removed = false
-is_yes_to_add (Full live) = false
-is_yes_to_add (Dead number) = false
+-- the reply says that the obstacle was added
+abbrev pub is_added : Reply → Bool
+is_added (Added number) = true
+is_added Removed = false
+is_added (Full live) = false
+is_added (Dead number) = false
 
-abbrev pub is_yes_to_remove : Reply → Bool
-is_yes_to_remove (Added number) = false
-is_yes_to_remove Removed = true
-is_yes_to_remove (Full live) = false
-is_yes_to_remove (Dead number) = false
+-- the reply says that the obstacle was removed
+abbrev pub is_removed : Reply → Bool
+is_removed (Added number) = false
+is_removed Removed = true
+is_removed (Full live) = false
+is_removed (Dead number) = false
 
 -- the entry added an obstacle; the entry removed the obstacle with a number
 abbrev pub is_adding : Entry → Bool
-is_adding entry = is_yes_to_add entry.reply
+is_adding entry = is_added entry.reply
 
 abbrev pub is_removal_of : ℕ → Entry → Bool
-is_removal_of number entry = is_removing number entry.request && is_yes_to_remove entry.reply
+is_removal_of number entry = is_removing number entry.request && is_removed entry.reply
 
--- the obstacle with a number is alive after the first k entries: the entry with that number added it, and no later one of the k removed it
+-- the entry with a number; entries are numbered from 1
+abbrev pub entry_at : List Entry → ℕ → Option Entry
+entry_at history zero = None
+entry_at history (suc place) = slice_get history place
+
+-- the obstacle with a number is alive after the first k entries: the one of them with that number added it, and no later one removed it
 abbrev pub is_alive : List Entry → ℕ → ℕ → Bool
-is_alive history k number = option_map_or is_adding (slice_get history (number - 1)) false
+is_alive history k number = option_map_or is_adding (entry_at (take k history) number) false
     && not (list_any (is_removal_of number) (drop number (take k history)))
 
 -- the numbers of the obstacles that are alive after the first k entries, rising
@@ -55,7 +63,7 @@ alive_after history k = filter (is_alive history k) (range_with_len 1 k)
 
 -- the shape of the obstacle with a number
 abbrev pub shape_of : List Entry → ℕ → Option Shape
-shape_of history number = option_and_then (λ (entry : Entry). shape_in entry.request) (slice_get history (number - 1))
+shape_of history number = option_and_then (λ (entry : Entry). shape_in entry.request) (entry_at history number)
 
 -- the shapes that are alive after the first k entries, in order of number
 abbrev pub shapes_alive : List Entry → ℕ → List Shape
@@ -73,3 +81,9 @@ reply_to limit history (Remove number) =
 abbrev pub IsWellReplied : ℕ → List Entry → Type 0
 IsWellReplied limit history = (k : ℕ) (entry : Entry) → slice_get history k ≡ Some entry
     → entry.reply ≡ reply_to limit (take k history) entry.request
+
+-- a history: no longer than it may be, its shapes within their limits, and each request answered by the rules
+pub record IsHistory (limit : ℕ) (history : List Entry) : Type 0 where
+  pub few : length history ≤ HISTORY_LIMIT
+  pub requests : All (λ (entry : Entry). IsRequest entry.request) history
+  pub replies : IsWellReplied limit history

@@ -1,4 +1,4 @@
--- The limits of what a level says: agents, settings and obstacles.
+-- The limits of what a ground says: agents, settings and obstacles.
 use Rattle.std.specs.Prelude.{◌≡◌, ℕ, ◌*◌, ◌<◌, ◌≤◌, Bool, true, IsTrue, nat_le, ◌&&◌, length}
 use Rattle.std.specs.List.{list_all}
 use Rattle.nav_ground.specs.declared.setting.Agent.{Agent}
@@ -17,7 +17,7 @@ pub record IsAgent (agent : Agent) : Type 0 where
 abbrev pub is_cost : ℕ → Bool
 is_cost n = nat_le 1 n && nat_le n 1000
 
--- a level has 1 to 1024 columns a side, tiles of 4 to 128 columns a side, an error of 0 to 10000, 1 to 1024 obstacles at once,
+-- a ground has 1 to 1024 columns a side, tiles of 4 to 128 columns a side, an error of 0 to 10000, 1 to 1024 obstacles at once,
 -- and 64 areas that cost 1 to 1000 each; where agents keep their radius from obstacles, a tile is at least twice as wide as that
 pub record IsSetting (setting : Setting) : Type 0 where
   pub wide : 1 ≤ setting.width
@@ -34,7 +34,7 @@ pub record IsSetting (setting : Setting) : Type 0 where
   pub costs : IsTrue (list_all is_cost setting.costs)
   pub clear : setting.clear ≡ true → 2 * setting.agent.radius ≤ setting.tile
 
--- a block's ranges are closed, do not run backwards, and lie in the largest level
+-- a block's ranges are closed, do not run backwards, and lie in the largest field
 pub record IsBox (x0 x1 y0 y1 z0 z1 : ℕ) : Type 0 where
   pub x : x0 ≤ x1
   pub x_most : x1 ≤ 1023
@@ -43,7 +43,7 @@ pub record IsBox (x0 x1 y0 y1 z0 z1 : ℕ) : Type 0 where
   pub z : z0 ≤ z1
   pub z_most : z1 ≤ 1023
 
--- a cylinder's centre lies in the largest level, in half cells, its radius is at most 1023 cells, and its heights do not run backwards
+-- a cylinder's centre lies in the largest field, in half cells, its radius is at most 1023 cells, and its heights do not run backwards
 pub record IsRound (cx cz r y0 y1 : ℕ) : Type 0 where
   pub cx_most : cx ≤ 2048
   pub cz_most : cz ≤ 2048

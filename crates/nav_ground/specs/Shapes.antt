@@ -41,7 +41,7 @@ is_covering (AreaCylinder area cx cz r y0 y1) x z floor = is_in_disc cx cz r x z
 abbrev pub block_window : ℕ → ℕ → ℕ → ℕ → Window
 block_window x0 x1 z0 z1 = record { x0 = pos x0; x1 = pos x1; z0 = pos z0; z1 = pos z1 }
 
--- the bounds of a cylinder are the columns whose middle is at most its radius away along that axis
+-- the bounds of a cylinder are the columns whose middle is at most r cells and a half away along that axis
 abbrev pub disc_window : ℕ → ℕ → ℕ → Window
 disc_window cx cz r = record {
   x0 = pos (div_ceil cx 2) -ℤ pos (r + 1);
@@ -50,6 +50,7 @@ disc_window cx cz r = record {
   z1 = pos (cz / 2 + r);
 }
 
+-- a rectangle that holds every column which the shape covers
 abbrev pub bounds_of : Shape → Window
 bounds_of (Block x0 x1 y0 y1 z0 z1) = block_window x0 x1 z0 z1
 bounds_of (Cylinder cx cz r y0 y1) = disc_window cx cz r

@@ -5,22 +5,23 @@ use Rattle.nav_ground.specs.declared.setting.Setting.{Setting}
 use Rattle.nav_ground.specs.declared.cell.Window.{Window}
 
 -- how many tiles stand in a row: the width over the tile's side, rounded up
-abbrev pub columns_of : Setting → ℕ
-columns_of setting = div_ceil setting.width setting.tile
+abbrev pub tiles_in_row : Setting → ℕ
+tiles_in_row setting = div_ceil setting.width setting.tile
 
 -- how many rows of tiles there are
-abbrev pub rows_of : Setting → ℕ
-rows_of setting = div_ceil setting.depth setting.tile
+abbrev pub tile_rows : Setting → ℕ
+tile_rows setting = div_ceil setting.depth setting.tile
 
+-- how many tiles there are
 abbrev pub tile_count : Setting → ℕ
-tile_count setting = columns_of setting * rows_of setting
+tile_count setting = tiles_in_row setting * tile_rows setting
 
 -- the first column of a tile along x, and along z
 abbrev pub corner_x : Setting → ℕ → ℕ
-corner_x setting tile = (tile % columns_of setting) * setting.tile
+corner_x setting tile = (tile % tiles_in_row setting) * setting.tile
 
 abbrev pub corner_z : Setting → ℕ → ℕ
-corner_z setting tile = (tile / columns_of setting) * setting.tile
+corner_z setting tile = (tile / tiles_in_row setting) * setting.tile
 
 -- the columns of a tile: from its corner on, one side long, but not past the field's edge
 abbrev pub tile_window : Setting → ℕ → Window

@@ -1,10 +1,11 @@
-//! Cells: the places of a level where an agent can stand.
+//! Cells: the places where an agent can stand.
 
 use crate::tiling::TileNo;
 use nav_list::{Duplicate, Items};
 use std::alloc::{AllocError, Global};
 
-/// A cell by its place: its column, and its level among the cells of that column from the bottom, from 0.
+/// A cell by its place: its column, and its level, which is how many cells of the whole field lie below it in that column.
+/// Levels are counted before agents keep from walls and before obstacles, so those in a layer may have gaps.
 #[derive(Clone, Copy, PartialEq, Eq, Debug)]
 pub struct CellRef {
     pub x: u32,
@@ -16,7 +17,7 @@ pub struct CellRef {
 #[derive(Clone, Copy, PartialEq, Eq, Debug)]
 pub struct Cell {
     pub at: CellRef,
-    /// The height to stand on, in height units.
+    /// The height to stand on, in height units, at most 8191.
     pub floor: u32,
     /// The height of what is above, 65535 where nothing is.
     pub ceiling: u32,
@@ -35,14 +36,16 @@ pub struct Window {
     pub z1: i32,
 }
 
-/// The cells of one tile, by z, then x, then level, as the level was built, before obstacles.
+/// The cells of one tile, by z, then x, then level, as the ground was built, before obstacles.
 #[derive(PartialEq, Eq, Debug, Drop)]
 pub struct Layer {
     pub tile: TileNo,
     pub cells: Items<Cell>,
-    /// How far obstacles keep agents away, in cells; 0 where they block only what they cover.
+    /// How far agents keep from obstacles, in cells: the agent's radius where the setting says clear, else 0, and then obstacles block
+    /// only what they cover.
     pub radius: u32,
-    /// Where the radius is not 0, all cells of the tile widened by it.
+    /// Where the setting says clear: all cells, also those too near a wall, of the tile widened by the radius on each side, in the same
+    /// order, each with all its connections. Else empty.
     pub wide: Items<Cell>,
 }
 

@@ -3,7 +3,7 @@
 use nav_list::{Duplicate, Items};
 use std::alloc::{AllocError, Global};
 
-/// A solid piece of one column, from its bottom up to its top, in height units. An agent stands on the top.
+/// A solid piece of one column, from its bottom up to its top, in height units, 0 to 8191. An agent stands on the top.
 #[derive(Clone, Copy, PartialEq, Eq, Debug)]
 pub struct Span {
     pub x: u32,
@@ -14,7 +14,7 @@ pub struct Span {
     pub area: u32,
 }
 
-/// The spans of a level, by z, then x, then from the bottom up.
+/// The spans of a field, by z, then x, then from the bottom up.
 #[derive(PartialEq, Eq, Debug, Drop)]
 pub struct Field {
     pub width: u32,

@@ -8,9 +8,9 @@ use nav_list::{Duplicate, Items};
 use std::alloc::{AllocError, Global};
 
 /// How many entries a history can have.
-pub const HISTORY_LIMIT: usize = 65536;
+pub const HISTORY_LIMIT: u32 = 65536;
 
-/// What can be asked of a level: a new obstacle, or that the obstacle with a number goes.
+/// What can be asked of a ground: a new obstacle, or that the obstacle with a number goes.
 #[derive(Clone, Copy, PartialEq, Eq, Debug)]
 pub enum Request {
     Add(Shape),
@@ -38,7 +38,7 @@ pub struct Entry {
     pub reply: Reply,
 }
 
-/// A level as it was built, before any obstacle: its setting, its spans, and its layers, one a tile.
+/// A ground as it was built, before any obstacle: its setting, its spans, and its layers, one a tile.
 #[derive(PartialEq, Eq, Debug, Drop)]
 pub struct Ground {
     pub setting: Setting,

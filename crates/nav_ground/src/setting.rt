@@ -1,4 +1,4 @@
-//! What a level says once: its size, its tiles, the agent that walks it, and what its areas cost.
+//! What a ground says once: its size, its tiles, the agent that walks it, and what its areas cost.
 
 use nav_list::Duplicate;
 use std::alloc::{AllocError, Global};
@@ -24,14 +24,14 @@ pub enum MeshKind {
     Contours,
 }
 
-/// Everything about a level but its spans.
+/// Everything about a ground but its spans.
 #[derive(Clone, Copy, PartialEq, Eq, Debug)]
 pub struct Setting {
     /// Columns of the field along x, 1 to 1024.
     pub width: u32,
     /// Columns of the field along z, 1 to 1024.
     pub depth: u32,
-    /// The side of a tile in columns, 4 to 128.
+    /// The side of a tile in columns, 4 to 128, and at least twice the agent's radius where `clear` is set.
     pub tile: u32,
     pub agent: Agent,
     /// How far an outline may stray from the contour, in hundredths of a squared cell, 0 to 10000.

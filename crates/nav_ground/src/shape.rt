@@ -5,8 +5,11 @@ ghost use Rattle.nav_ground.specs.Limits.{IsShape};
 ghost use Rattle.nav_ground.specs.Shapes.{Covers, is_covering, bounds_of, area_set_by};
 
 use crate::cell::Window;
+use nav_list::Duplicate;
+use std::alloc::{AllocError, Global};
 
-/// An obstacle. Ranges are closed, x and z in columns and y in height units; a cylinder's centre is in half cells and its radius in cells.
+/// An obstacle. Ranges are closed, x and z in columns and y in height units; a cylinder's centre is in half cells, and it reaches the
+/// columns whose middle is at most r cells and a half from it. A shape covers a cell in reach whose floor lies in y0 to y1.
 /// A block or cylinder stops agents; an area block or area cylinder gives the cells that it covers another area.
 #[derive(Clone, Copy, PartialEq, Eq, Debug)]
 pub enum Shape {
@@ -116,7 +119,8 @@ pub fn covers(shape: &Shape, x: u32, z: u32, floor: u32) -> bool
     }
 }
 
-/// The columns that an obstacle can cover: its bounds, which may lie outside the field.
+/// A rectangle that holds every column the obstacle covers: a block's ranges; of a cylinder the columns whose middle is, along each
+/// axis, at most r cells and a half from the centre. It may lie outside the field.
 pub fn bounds(shape: &Shape) -> Window
     requires { IsShape shape.now }
     ensures { result ≡ bounds_of shape.now }
@@ -162,5 +166,12 @@ fn disc_bounds(cx: u32, cz: u32, r: u32) -> Window
         x1: (cx / 2 + r) as i32,
         z0: cz.div_ceil(2) as i32 - (r + 1) as i32,
         z1: (cz / 2 + r) as i32,
+    }
+}
+
+impl Duplicate for Shape {
+    fn duplicate(&self, alloc: Global) -> Result<Self, AllocError> {
+        let _ = alloc;
+        Ok(*self)
     }
 }

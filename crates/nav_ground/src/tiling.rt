@@ -3,7 +3,7 @@
 ghost use Rattle.std.specs.Prelude.{◌≡◌, ◌<◌, ◌≤◌, ◌^◌, pos, ◌-◌, ◌+◌, ◌*◌, min};
 ghost use Rattle.std.specs.Int.{div_ceil};
 ghost use Rattle.nav_ground.specs.Limits.{IsSetting};
-ghost use Rattle.nav_ground.specs.Tiling.{columns_of, tile_count, tile_window, corner_x, corner_z};
+ghost use Rattle.nav_ground.specs.Tiling.{tiles_in_row, tile_count, tile_window, corner_x, corner_z};
 
 use crate::cell::Window;
 use crate::setting::Setting;
@@ -11,21 +11,21 @@ use crate::setting::Setting;
 /// The number of a tile, row by row: its row times the number of tiles in a row, and its place in the row.
 pub type TileNo = u32;
 
-/// How many tiles a level has.
+/// How many tiles a ground has.
 pub fn tiles(setting: &Setting) -> u32
     requires { IsSetting setting.now }
     ensures { result ≡ tile_count setting.now }
 {
-    columns(setting) * setting.depth.div_ceil(setting.tile)
+    tiles_in_row(setting) * setting.depth.div_ceil(setting.tile)
 }
 
 /// The columns of a tile.
 pub fn tile_bounds(setting: &Setting, tile: TileNo) -> Window
-    requires level { IsSetting setting.now }
+    requires setting { IsSetting setting.now }
     requires there { tile < tile_count setting.now }
     ensures { result ≡ tile_window setting.now tile }
 {
-    let columns = columns(setting);
+    let columns = tiles_in_row(setting);
     let x0 = first_column(tile % columns, setting.tile, setting.width);
     let z0 = first_column(tile / columns, setting.tile, setting.depth);
     Window {
@@ -37,9 +37,9 @@ pub fn tile_bounds(setting: &Setting, tile: TileNo) -> Window
 }
 
 /// How many tiles stand in a row.
-fn columns(setting: &Setting) -> u32
+fn tiles_in_row(setting: &Setting) -> u32
     requires { IsSetting setting.now }
-    ensures value { result ≡ columns_of setting.now }
+    ensures value { result ≡ tiles_in_row setting.now }
     ensures some { 1 ≤ result }
     ensures few { result ≤ 256 }
 {

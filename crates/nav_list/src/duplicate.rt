@@ -21,3 +21,10 @@ impl<T: Duplicate> Duplicate for Items<T> {
         Ok(Items::from_vec(items))
     }
 }
+
+impl Duplicate for u32 {
+    fn duplicate(&self, alloc: Global) -> Result<Self, AllocError> {
+        let _ = alloc;
+        Ok(*self)
+    }
+}

@@ -13,6 +13,7 @@ use std::alloc::{AllocError, Global};
 /// last area shape that covers it, and with those neighbours that are free or lie in another tile.
 pub fn mark(alloc: Global, layer: &Layer, shapes: &[Shape]) -> Result<FreeLayer, AllocError>
     requires cells { IsCut layer.now.cells }
+    requires near { layer.now.radius ≡ 0 }
     requires shapes { All IsShape shapes.now }
     ensures free { IfOk result (λ free. free ≡ free_layer_of layer.now shapes.now) }
 {
