@@ -13,7 +13,9 @@ use Rattle.nav_ground.specs.Limits.{IsShape}
 use Rattle.nav_ground.specs.History.{IsHistory, IsRequest, entry_at, shape_in, shape_of, reply_to}
 use Rattle.nav_ground.proofs.AliveLaws.{IsWellReplied-push}
 use Rattle.nav_book.specs.declared.live.Live.{Live}
-use Rattle.nav_book.specs.LiveTable.{IsLiveTable}
+use Rattle.nav_ground.specs.declared.history.Reply.{Reply}
+use Rattle.nav_book.specs.LiveTable.{IsLiveTable, reply_among, rows_after}
+use Rattle.nav_book.proofs.Tables.{table_after, table_replies}
 
 -- one entry more, with the reply of the history before it
 pub IsHistory-push : (limit : ℕ) (history : List Entry) (entry : Entry) → IsHistory limit history → length history < HISTORY_LIMIT → IsRequest entry.request
@@ -46,3 +48,20 @@ pub table_limits : (history : List Entry) (rows : List Live) → All (λ (entry 
 table_limits history rows requests table =
     All-map IsShape (λ (row : Live). row.shape) rows
         (λ k d within. shape_limits history (get_or rows k d).number (get_or rows k d).shape requests (table.shapes k d within))
+
+-- a book's history and its table after a request
+pub request_kept : (limit lane number : ℕ) (history : List Entry) (rows : List Live) (request : Request) (reply : Reply)
+    → IsHistory limit history → IsLiveTable history rows → length history < HISTORY_LIMIT → IsRequest request
+    → number ≡ length history + 1 → reply ≡ reply_among limit number rows request
+    → (reply ≡ reply_to limit history request)
+        × IsHistory limit (history ++ record { lane = lane; request = request; reply = reply } ∷ [])
+        × IsLiveTable (history ++ record { lane = lane; request = request; reply = reply } ∷ []) (rows_after limit number rows request)
+request_kept limit lane number history rows request reply rules table room asked next answered =
+    let entry : Entry = record { lane = lane; request = request; reply = reply } in
+    let counted : reply ≡ reply_among limit (length history + 1) rows request = subst (λ n. reply ≡ reply_among limit n rows request) next answered in
+    let right = counted ∙ table_replies limit history rows request table in
+    ( right
+    , IsHistory-push limit history entry rules room asked right
+    , subst (λ n. IsLiveTable (history ++ entry ∷ []) (rows_after limit n rows request)) (sym next)
+        (subst (λ r. IsLiveTable (history ++ record { lane = lane; request = request; reply = r } ∷ []) (rows_after limit (length history + 1) rows request)) (sym counted)
+            (table_after limit lane history rows request table)) )
