@@ -3,3 +3,4 @@ pub mod Polynomials
 pub mod OrientLaws
 pub mod RootLaws
 pub mod Sizes
+pub mod NumberLaws

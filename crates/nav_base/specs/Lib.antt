@@ -4,3 +4,4 @@ pub mod Point
 pub mod Reach
 pub mod Root
 pub mod Vector
+pub mod Number
