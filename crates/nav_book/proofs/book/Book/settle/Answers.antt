@@ -5,11 +5,13 @@ use Rattle.nav_ground.specs.declared.history.Entry.{Entry}
 use Rattle.nav_ground.specs.Cells.{IsLayer}
 use Rattle.nav_ground.specs.Limits.{IsShape}
 use Rattle.nav_book.proofs.Histories.{table_limits}
+use Rattle.nav_book.proofs.Layers.{layers_of_ground}
 use Rattle.nav_book.proofs.Tables.{table_shapes}
 use Rattle.nav_book.proofs.book.Book.settle.Goals as goal
 
 pub marked-requires-clause-layers : goal.marked-requires-clause-layers
-marked-requires-clause-layers c = ?
+marked-requires-clause-layers c =
+    rw (c.as_slice-then-self-len.ensures, c.deref.ensures) (layers_of_ground (arc_value c.self.inside.level) c.self.invariant.level)
 
 pub marked-requires-clause-shapes : goal.marked-requires-clause-shapes
 marked-requires-clause-shapes c =
