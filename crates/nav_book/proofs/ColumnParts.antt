@@ -1,8 +1,8 @@
 -- The cells of a column among ordered cells: they stand together, after those that come before the column.
-use Rattle.std.proofs.Common.{◌≡◌, ℕ, zero, suc, ◌+◌, ◌-◌, ◌<◌, ◌≤◌, ◌⊎◌, Bool, true, false, not, ◌&&◌, ◌||◌, eqb, ltb, List, [], ◌∷◌, ◌++◌, length, take, drop, filter, get_or, refl, sym, ap, ◌∙◌, subst, ⊎_elim, inl, inr, arith, tests}
-use Rattle.std.specs.List.{All, AllPairs, AllWithin}
+use Rattle.std.proofs.Common.{◌≡◌, ℕ, ◌+◌, ◌<◌, ◌≤◌, ◌⊎◌, Bool, true, false, List, ◌++◌, length, take, drop, filter, get_or, sym, ap, ◌∙◌, ⊎_elim, inl, inr, arith, tests}
+use Rattle.std.specs.List.{All, AllWithin}
 use Rattle.std.specs.List.Sorted.{IsPartitionedBy, IsPartitionPoint}
-use Rattle.std.proofs.lemmas.Bool.{both_ways, cases_lt, cases_order, and_parts, or_cases, or_parts, and_cases, ltb-true, ltb-false, eqb-true, eqb-false, lt-ltb, eq-eqb, or_left, or_right, and_from, false_from_ne_true}
+use Rattle.std.proofs.lemmas.Bool.{both_ways, cases_lt, cases_order}
 use Rattle.std.proofs.lemmas.List.{take-append-drop, append-nil, get_or-take, get_or-drop, length-take, length-drop}
 use Rattle.std.proofs.lemmas.List.Elements.{filter-append}
 use Rattle.nav_ground.specs.declared.cell.Cell.{Cell}
@@ -40,8 +40,8 @@ inside_still : (a b : CellRef) (x z : ℕ) → IsNotAfter a b → b.x ≡ x → 
 unfolding IsNotAfter
 inside_still a b x z near at_x at_z late =
     ⊎_elim (λ row. absurd (late (inl (omega (arith, row, at_z)))))
-        (λ column. ⊎_elim (λ left. absurd (late (inr (column.0 ∙ at_z, left)))) (λ right. (omega (arith, column.1, right, at_x), column.0 ∙ at_z)) (cases_lt a.x x))
-        near
+    (λ column. ⊎_elim (λ left. absurd (late (inr (column.0 ∙ at_z, left)))) (λ right. (omega (arith, column.1, right, at_x), column.0 ∙ at_z)) (cases_lt a.x x))
+    near
 
 cell_not_after : (a b : CellRef) → IsCellBefore a b → IsNotAfter a b
 unfolding IsNotAfter
@@ -55,14 +55,14 @@ same_not_after a b same = inr (ap (λ (c : CellRef). c.z) same, omega (arith, ap
 not_after : (cells : List Cell) → AreOrdered cells → (i j : ℕ) (d : Cell) → i ≤ j → j < length cells → IsNotAfter (get_or cells i d).at (get_or cells j d).at
 not_after cells ordered i j d le within =
     ⊎_elim (λ same. same_not_after (get_or cells i d).at (get_or cells j d).at (ap (λ k. (get_or cells k d).at) same))
-        (⊎_elim (λ below. cell_not_after (get_or cells i d).at (get_or cells j d).at (ordered i j d below within)) (λ above. absurd (omega (arith, above, le))))
-        (cases_order i j)
+    (⊎_elim (λ below. cell_not_after (get_or cells i d).at (get_or cells j d).at (ordered i j d below within)) (λ above. absurd (omega (arith, above, le))))
+    (cases_order i j)
 
 -- so the cells that come before a column come first
 pub before_first : (x z : ℕ) (cells : List Cell) → AreOrdered cells → IsPartitionedBy (is_before_column x z) cells
 before_first x z cells ordered i j d le within later =
     before_from x z (get_or cells i d)
-        (before_still (get_or cells i d).at (get_or cells j d).at x z (not_after cells ordered i j d le within) (before_is x z (get_or cells j d) later))
+    (before_still (get_or cells i d).at (get_or cells j d).at x z (not_after cells ordered i j d le within) (before_is x z (get_or cells j d) later))
 
 -- and of the others those of the column come first
 pub inside_first : (x z : ℕ) (cells : List Cell) (first : ℕ) → AreOrdered cells → AllWithin (λ (cell : Cell). is_before_column x z cell ≡ false) cells first (length cells)
@@ -74,7 +74,7 @@ inside_first x z cells first ordered others i j d le within later =
     let near = not_after cells ordered (first + i) (first + j) d (omega (arith, le)) there in
     let late : is_before_column x z (get_or cells (first + i) d) ≡ false = others (first + i) d (omega arith) (omega (arith, le, there)) in
     let same = inside_still (get_or cells (first + i) d).at (get_or cells (first + j) d).at x z near last.0 last.1
-        (λ early. both_ways (is_before_column x z (get_or cells (first + i) d)) late (before_from x z (get_or cells (first + i) d) early)) in
+    (λ early. both_ways (is_before_column x z (get_or cells (first + i) d)) late (before_from x z (get_or cells (first + i) d) early)) in
     rw (get_or-drop first cells i d) (inside_from x z (get_or cells (first + i) d) same.0 same.1)
 
 -- a column's cells, found by the two places
@@ -84,27 +84,31 @@ pub column_parts : (x z : ℕ) (cells : List Cell) (first count : ℕ)
     → take count (drop first cells) ≡ column_of x z cells
 column_parts x z cells first count point place =
     sym (ap (filter inside) (sym (take-append-drop first cells))
-        ∙ filter-append inside (take first cells) rest
-        ∙ ap (λ cs. cs ++ filter inside rest) (filter_none inside (take first cells) early)
-        ∙ ap (filter inside) (sym (take-append-drop count rest))
-        ∙ filter-append inside (take count rest) (drop count rest)
-        ∙ ap (λ cs. cs ++ filter inside (drop count rest)) (filter_all inside (take count rest) there)
-        ∙ ap (λ cs. take count rest ++ cs) (filter_none inside (drop count rest) late)
-        ∙ append-nil (take count rest))
+    ∙ filter-append inside (take first cells) rest
+    ∙ ap (λ cs. cs ++ filter inside rest) (filter_none inside (take first cells) early)
+    ∙ ap (filter inside) (sym (take-append-drop count rest))
+    ∙ filter-append inside (take count rest) (drop count rest)
+    ∙ ap (λ cs. cs ++ filter inside (drop count rest)) (filter_all inside (take count rest) there)
+    ∙ ap (λ cs. take count rest ++ cs) (filter_none inside (drop count rest) late)
+    ∙ append-nil (take count rest))
   where
     inside : Cell → Bool
     inside = is_in_column x z
+
     rest : List Cell
     rest = drop first cells
+
     early : All (λ (cell : Cell). is_in_column x z cell ≡ false) (take first cells)
     early k d within =
         let below : k < first = omega (arith, length-take first cells) in
         rw (get_or-take first cells k d below) (early_outside x z (get_or cells k d) (point.0 k d (omega arith) below))
+
     there : All (λ (cell : Cell). is_in_column x z cell ≡ true) (take count (drop first cells))
     there k d within =
         let below : k < count = omega (arith, length-take count (drop first cells)) in
         rw (get_or-take count (drop first cells) k d below) (place.0 k d (omega arith) below)
+
     late : All (λ (cell : Cell). is_in_column x z cell ≡ false) (drop count (drop first cells))
     late k d within =
         rw (get_or-drop count (drop first cells) k d)
-            (place.1 (count + k) d (omega arith) (omega (arith, length-drop count (drop first cells))))
+        (place.1 (count + k) d (omega arith) (omega (arith, length-drop count (drop first cells))))

@@ -1,6 +1,6 @@
 -- The rules that the layers of a ground and its free layers keep.
-use Rattle.std.proofs.Common.{◌≡◌, ℕ, ◌<◌, List, map, filter, refl}
-use Rattle.std.specs.List.{All, AllPairs}
+use Rattle.std.proofs.Common.{List, filter}
+use Rattle.std.specs.List.{All}
 use Rattle.std.proofs.lemmas.List.Elements.{All-map, All-weaker}
 use Rattle.std.proofs.lemmas.List.Kept.{AllPairs-filter}
 use Rattle.nav_ground.specs.declared.cell.Cell.{Cell}
@@ -23,9 +23,9 @@ layers_of_ground whole rules = All-weaker (IsLayerOf whole.setting) IsLayer (λ 
 free_ordered : (shapes : List Shape) (layer : Layer) → IsLayer layer → AreOrdered (free_layer_of layer shapes).cells
 free_ordered shapes layer rules =
     AllPairs-map (λ (a b : Cell). IsCellBefore a.at b.at) (free_cell_of layer.cells shapes) (filter (is_free shapes) layer.cells)
-        (AllPairs-filter (λ (a b : Cell). IsCellBefore a.at b.at) (is_free shapes) layer.cells rules.cells.rules.order)
+    (AllPairs-filter (λ (a b : Cell). IsCellBefore a.at b.at) (is_free shapes) layer.cells rules.cells.rules.order)
 
 pub all_ordered : (layers : List Layer) (shapes : List Shape) → All IsLayer layers → All (λ (free : FreeLayer). AreOrdered free.cells) (free_layers_of layers shapes)
 all_ordered layers shapes rules =
     All-map (λ (free : FreeLayer). AreOrdered free.cells) (λ (layer : Layer). free_layer_of layer shapes) layers
-        (All-weaker IsLayer (λ (layer : Layer). AreOrdered (free_layer_of layer shapes).cells) (free_ordered shapes) layers rules)
+    (All-weaker IsLayer (λ (layer : Layer). AreOrdered (free_layer_of layer shapes).cells) (free_ordered shapes) layers rules)

@@ -1,12 +1,11 @@
 -- The table of live obstacles as a history grows.
-use Rattle.std.proofs.Common.{◌≡◌, ℕ, zero, suc, ◌+◌, ◌<◌, ◌≤◌, Bool, true, false, not, cond, ◌&&◌, eqb, List, [], ◌∷◌, ◌++◌, length, map, filter, get_or, Some, None, refl, sym, ap, ◌∙◌, subst, ⊎_elim, add-one, arith, tests}
+use Rattle.std.proofs.Common.{◌≡◌, ℕ, suc, ◌+◌, ◌<◌, true, false, not, cond, ◌&&◌, eqb, List, [], ◌∷◌, ◌++◌, length, map, filter, get_or, Some, refl, sym, ap, ◌∙◌, subst, ⊎_elim, arith, tests}
 use Rattle.std.specs.List.{list_any, filter_map, All, AllPairs}
 use Rattle.std.proofs.lemmas.List.{length_push, length-map, map-append, get_or-map, append-nil}
 use Rattle.std.proofs.lemmas.List.Elements.{filter_agree, All-weaker, All-push, All-filter, All-head, All-tail}
 use Rattle.std.specs.Option.{option_and_then}
 use Rattle.std.proofs.lemmas.Bool.{cases_Bool, or_parts, and_right, not_from_false}
 use Rattle.nav_ground.specs.declared.history.Entry.{Entry}
-use Rattle.nav_ground.specs.declared.history.Reply.{Reply}
 use Rattle.nav_ground.specs.declared.history.Reply.TheVariants.{Added, Removed, Full, Dead}
 use Rattle.nav_ground.specs.declared.history.Request.{Request}
 use Rattle.nav_ground.specs.declared.history.Request.TheVariants.{Add, Remove}
@@ -63,17 +62,17 @@ shapes_stay : (history : List Entry) (entry : Entry) (rows : List Live) → All 
     → All (λ (row : Live). shape_of (history ++ entry ∷ []) row.number ≡ Some row.shape) rows
 shapes_stay history entry rows each =
     All-weaker (λ (row : Live). shape_of history row.number ≡ Some row.shape) (λ (row : Live). shape_of (history ++ entry ∷ []) row.number ≡ Some row.shape)
-        (λ row. shape_of-push history entry row.number row.shape) rows each
+    (λ row. shape_of-push history entry row.number row.shape) rows each
 
 -- an entry that neither adds nor removes leaves the table
 table_kept : (history : List Entry) (entry : Entry) (rows : List Live) → is_adding entry ≡ false → ((number : ℕ) → is_removal_of number entry ≡ false)
     → IsLiveTable history rows → IsLiveTable (history ++ entry ∷ []) rows
 table_kept history entry rows adds removes table =
     subst (IsLiveTable (history ++ entry ∷ [])) (append-nil rows)
-        (table-push history entry rows []
-            (table.numbers ∙ sym (filter_all (λ number. not (is_removal_of number entry)) (alive_after history (length history)) (λ k d within. not_from_false (is_removal_of (get_or (alive_after history (length history)) k d) entry) (removes (get_or (alive_after history (length history)) k d)))))
-            (rw adds refl)
-            (rw append-nil (shapes_stay history entry rows table.shapes)))
+    (table-push history entry rows []
+    (table.numbers ∙ sym (filter_all (λ number. not (is_removal_of number entry)) (alive_after history (length history)) (λ k d within. not_from_false (is_removal_of (get_or (alive_after history (length history)) k d) entry) (removes (get_or (alive_after history (length history)) k d)))))
+    (rw adds refl)
+    (rw append-nil (shapes_stay history entry rows table.shapes)))
 
 -- an entry that adds an obstacle adds its row
 table_added : (lane : ℕ) (history : List Entry) (rows : List Live) (shape : Shape) → IsLiveTable history rows
@@ -83,11 +82,11 @@ table_added lane history rows shape table =
     let row : Live = record { number = length history + 1; shape = shape } in
     let number : suc (length history) ≡ length history + 1 = omega arith in
     let last : shape_of (history ++ entry ∷ []) (length history + 1) ≡ Some shape =
-        subst (λ n. shape_of (history ++ entry ∷ []) n ≡ Some shape) number (ap (option_and_then (λ (e : Entry). shape_in e.request)) (slice_get-push history entry)) in
+    subst (λ n. shape_of (history ++ entry ∷ []) n ≡ Some shape) number (ap (option_and_then (λ (e : Entry). shape_in e.request)) (slice_get-push history entry)) in
     table-push history entry rows (row ∷ [])
-        (table.numbers ∙ sym (filter_all (λ number. not (is_removal_of number entry)) (alive_after history (length history)) (λ k d within. refl)))
-        (ap (λ n. n ∷ []) (omega arith))
-        (All-push (λ (row : Live). shape_of (history ++ entry ∷ []) row.number ≡ Some row.shape) rows row (shapes_stay history entry rows table.shapes) last)
+    (table.numbers ∙ sym (filter_all (λ number. not (is_removal_of number entry)) (alive_after history (length history)) (λ k d within. refl)))
+    (ap (λ n. n ∷ []) (omega arith))
+    (All-push (λ (row : Live). shape_of (history ++ entry ∷ []) row.number ≡ Some row.shape) rows row (shapes_stay history entry rows table.shapes) last)
 
 -- an entry that removes an obstacle removes its row
 table_removed : (lane : ℕ) (history : List Entry) (rows : List Live) (other : ℕ) → IsLiveTable history rows
@@ -96,12 +95,12 @@ table_removed lane history rows other table =
     let entry : Entry = record { lane = lane; request = Remove other; reply = Removed } in
     let kept : List Live = rows_without other rows in
     subst (IsLiveTable (history ++ entry ∷ [])) (append-nil kept)
-        (table-push history entry kept []
-            (sym (filter-map (λ number. not (eqb number other)) (λ (row : Live). row.number) rows)
-                ∙ ap (filter (λ number. not (eqb number other))) table.numbers
-                ∙ filter_agree (λ number. not (eqb number other)) (λ number. not (eqb other number && true)) same_test (alive_after history (length history)))
-            refl
-            (rw append-nil (shapes_stay history entry kept (All-filter (λ (row : Live). not (is_row_of other row)) (λ (row : Live). shape_of history row.number ≡ Some row.shape) rows table.shapes))))
+    (table-push history entry kept []
+    (sym (filter-map (λ number. not (eqb number other)) (λ (row : Live). row.number) rows)
+    ∙ ap (filter (λ number. not (eqb number other))) table.numbers
+    ∙ filter_agree (λ number. not (eqb number other)) (λ number. not (eqb other number && true)) same_test (alive_after history (length history)))
+    refl
+    (rw append-nil (shapes_stay history entry kept (All-filter (λ (row : Live). not (is_row_of other row)) (λ (row : Live). shape_of history row.number ≡ Some row.shape) rows table.shapes))))
   where
     same_test : (number : ℕ) → not (eqb number other) ≡ not (eqb other number && true)
     same_test number = grind (arith, tests)
@@ -121,6 +120,7 @@ table_after limit lane history rows (Add shape) table = ⊎_elim full fits (case
     full : eqb (length rows) limit ≡ true
         → IsLiveTable (history ++ record { lane = lane; request = Add shape; reply = reply_among limit (length history + 1) rows (Add shape) } ∷ []) (rows_after limit (length history + 1) rows (Add shape))
     full e = rw e (table_kept history (record { lane = lane; request = Add shape; reply = Full limit }) rows refl (λ number. refl) table)
+
     fits : eqb (length rows) limit ≡ false
         → IsLiveTable (history ++ record { lane = lane; request = Add shape; reply = reply_among limit (length history + 1) rows (Add shape) } ∷ []) (rows_after limit (length history + 1) rows (Add shape))
     fits e = rw e (table_added lane history rows shape table)
@@ -129,6 +129,7 @@ table_after limit lane history rows (Remove other) table = ⊎_elim there missin
     there : list_any (is_row_of other) rows ≡ true
         → IsLiveTable (history ++ record { lane = lane; request = Remove other; reply = reply_among limit (length history + 1) rows (Remove other) } ∷ []) (rows_without other rows)
     there e = rw e (table_removed lane history rows other table)
+
     missing : list_any (is_row_of other) rows ≡ false
         → IsLiveTable (history ++ record { lane = lane; request = Remove other; reply = reply_among limit (length history + 1) rows (Remove other) } ∷ []) (rows_without other rows)
     missing e = rw (e, all_without rows other e) (table_kept history (record { lane = lane; request = Remove other; reply = Dead other }) rows refl (λ number. and_right (eqb other number) false refl) table)

@@ -1,5 +1,5 @@
 -- The floors of a column: where one stands in it, from the bottom up.
-use Rattle.std.specs.Prelude.{◌≡◌, ℕ, Bool, ◌==◌, ◌&&◌, ◌||◌, nat_lt, List, map, filter, AllPairs}
+use Rattle.std.specs.Prelude.{ℕ, Bool, ◌==◌, ◌&&◌, ◌||◌, nat_lt, List, map, filter, AllPairs}
 use Rattle.std.specs.List.{flat_map}
 use Rattle.nav_base.specs.declared.answers.FloorAt.{FloorAt}
 use Rattle.nav_ground.specs.declared.cell.Cell.{Cell}

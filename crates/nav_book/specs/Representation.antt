@@ -1,5 +1,5 @@
 -- What the fields of a book keep at every moment.
-use Rattle.std.specs.Prelude.{◌≡◌, ℕ, ◌≤◌, length, vec_capacity}
+use Rattle.std.specs.Prelude.{◌≡◌, ◌≤◌, length, vec_capacity}
 use Rattle.std.specs.Arc.{arc_value}
 use Rattle.nav_ground.specs.declared.history.TheConstants.{HISTORY_LIMIT}
 use Rattle.nav_ground.specs.FreeCells.{free_layers_of}

@@ -8,7 +8,12 @@ use nav_ground::Cell;
 use std::alloc::AllocError;
 
 /// Appends the floors of a column, from the bottom up. The cells stand in order.
-pub fn push_floors(floors: &mut Vec<FloorAt>, cells: &[Cell], x: u32, z: u32) -> Result<(), AllocError>
+pub fn push_floors(
+    floors: &mut Vec<FloorAt>,
+    cells: &[Cell],
+    x: u32,
+    z: u32,
+) -> Result<(), AllocError>
     requires { AreOrdered cells.now }
     ensures { OnOk result (floors.new.items ≡ floors.old.items ++ map floor_of (column_of x z cells.now)) }
 {

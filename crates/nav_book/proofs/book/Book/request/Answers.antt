@@ -1,10 +1,8 @@
-use Rattle.std.proofs.Common.{◌≡◌, ◌<◌, ℕ, List, ◌++◌, ◌∷◌, [], length, ◌+◌, sym, ap, ◌∙◌, refl, subst, arith}
+use Rattle.std.proofs.Common.{◌≡◌, ◌<◌, ℕ, List, length, ◌+◌, ap, refl, arith}
 use Rattle.std.specs.Arc.{arc_value}
 use Rattle.std.proofs.lemmas.List.{length_push}
 use Rattle.nav_ground.specs.declared.history.Entry.{Entry}
 use Rattle.nav_ground.specs.declared.history.TheConstants.{HISTORY_LIMIT}
-use Rattle.nav_ground.specs.History.{reply_to, shapes_alive}
-use Rattle.nav_ground.specs.FreeCells.{free_layers_of}
 use Rattle.nav_ground.proofs.AliveLaws.{shapes_alive-append}
 use Rattle.nav_book.proofs.Histories.{request_kept}
 use Rattle.nav_book.proofs.Tables.{table_rises}
@@ -21,7 +19,7 @@ invariant_of-self c =
     let room : length history < HISTORY_LIMIT = omega (arith, c.self.invariant.history.few, len, c.if-len-eq-HISTORY_LIMIT.false) in
     let answered = rw c.deref.ensures at c.answer-reply.ensures in
     let kept = request_kept limit c.args.lane (c.length-len.result + 1) history c.self.inside.live.items c.args.request c.answer-reply.result
-        c.self.invariant.history c.self.invariant.live room c.requires (ap (λ n. n + 1) len) answered.reply in
+    c.self.invariant.history c.self.invariant.live room c.requires (ap (λ n. n + 1) len) answered.reply in
     record {
       level = c.self.invariant.level;
       history = rw c.push_reserved.ensures.items kept.1;
@@ -41,7 +39,7 @@ returns-clause-reply c =
     let room : length history < HISTORY_LIMIT = omega (arith, c.self.invariant.history.few, len, c.if-len-eq-HISTORY_LIMIT.false) in
     let answered = rw c.deref.ensures at c.answer-reply.ensures in
     let kept = request_kept limit c.args.lane (c.length-len.result + 1) history c.self.inside.live.items c.args.request c.answer-reply.result
-        c.self.invariant.history c.self.invariant.live room c.requires (ap (λ n. n + 1) len) answered.reply in
+    c.self.invariant.history c.self.invariant.live room c.requires (ap (λ n. n + 1) len) answered.reply in
     rw (← c.self.view_is) kept.0
 
 pub returns-clause-appended : goal.returns-clause-appended

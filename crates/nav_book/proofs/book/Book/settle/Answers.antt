@@ -1,9 +1,6 @@
-use Rattle.std.proofs.Common.{◌≡◌, ◌<◌, ℕ, List, length, map, sym, ap, ◌∙◌, refl, subst, arith}
+use Rattle.std.proofs.Common.{◌≡◌, List, length, refl, arith}
 use Rattle.std.specs.Arc.{arc_value}
-use Rattle.std.specs.List.{All}
 use Rattle.nav_ground.specs.declared.history.Entry.{Entry}
-use Rattle.nav_ground.specs.Cells.{IsLayer}
-use Rattle.nav_ground.specs.Limits.{IsShape}
 use Rattle.nav_book.proofs.Histories.{table_limits}
 use Rattle.nav_book.proofs.Layers.{layers_of_ground}
 use Rattle.nav_book.proofs.Tables.{table_shapes}
@@ -16,7 +13,7 @@ marked-requires-clause-layers c =
 pub marked-requires-clause-shapes : goal.marked-requires-clause-shapes
 marked-requires-clause-shapes c =
     rw (c.as_slice-then-self-len-2.ensures.value, c.in_ok-shapes.ensures, c.as_slice.ensures.value)
-        (table_limits c.self.inside.entries.items c.self.inside.live.items c.self.invariant.history.requests c.self.invariant.live)
+    (table_limits c.self.inside.entries.items c.self.inside.live.items c.self.invariant.history.requests c.self.invariant.live)
 
 pub invariant_of-self : goal.invariant_of-self
 invariant_of-self c =
