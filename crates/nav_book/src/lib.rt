@@ -11,3 +11,6 @@ mod columns;
 mod live;
 
 pub use book::{Book, HistoryFull};
+
+#[cfg(test)]
+mod tests;

@@ -5,3 +5,4 @@ pub mod Directions
 pub mod FlatLayers
 pub mod Selections
 pub mod AliveLaws
+pub mod FlatFieldLaws
