@@ -102,22 +102,24 @@ fn answers_requests(rt: HostRuntime) -> Result<(), Fail> {
     let alloc = rt.alloc();
     let mut book = Book::begin(alloc, small_ground(alloc)?)?;
     let cases = [
-        (Asked::Block(1), Reply::Added { number: 1 }),
-        (Asked::Area(2), Reply::Added { number: 2 }),
-        (Asked::Block(3), Reply::Full { live: 2 }),
-        (Asked::Remove(1), Reply::Removed),
-        (Asked::Remove(1), Reply::Dead { number: 1 }),
-        (Asked::Remove(0), Reply::Dead { number: 0 }),
-        (Asked::Block(3), Reply::Added { number: 7 }),
-        (Asked::Remove(3), Reply::Dead { number: 3 }),
-        (Asked::Remove(7), Reply::Removed),
-        (Asked::Remove(2), Reply::Removed),
-        (Asked::Block(1), Reply::Added { number: 11 }),
+        (1, Asked::Block(1), Reply::Added { number: 1 }),
+        (2, Asked::Area(2), Reply::Added { number: 2 }),
+        (3, Asked::Block(3), Reply::Full { live: 2 }),
+        (4, Asked::Remove(1), Reply::Removed),
+        (5, Asked::Remove(1), Reply::Dead { number: 1 }),
+        (6, Asked::Remove(0), Reply::Dead { number: 0 }),
+        (7, Asked::Block(3), Reply::Added { number: 7 }),
+        (8, Asked::Remove(3), Reply::Dead { number: 3 }),
+        (9, Asked::Remove(7), Reply::Removed),
+        (10, Asked::Remove(2), Reply::Removed),
+        (11, Asked::Block(1), Reply::Added { number: 11 }),
     ];
-    let mut number = 0;
-    for (asked, reply) in cases {
-        number = (number + 1) % 100;
-        assert_eq!(rt; book.request(3, request_of(asked)), Ok((number, reply)), "at {number}");
+    for (number, asked, reply) in cases {
+        assert_eq!(rt;
+            book.request(3, request_of(asked)),
+            Ok((number, reply)),
+            "at {number}"
+        );
         assert_eq!(rt; (book.length(), book.published()), (number, 0));
     }
     let last = Entry {
@@ -139,8 +141,18 @@ fn publishes_floors(rt: HostRuntime) -> Result<(), Fail> {
         (Asked::Remove(9), false, Some(bare), Some(bare)),
         (Asked::Block(2), false, Some(bare), Some(bare)),
         (Asked::Area(1), true, Some(FloorAt { y: 10, area: 5 }), None),
-        (Asked::Block(3), true, Some(FloorAt { y: 10, area: 5 }), None),
-        (Asked::Remove(2), false, Some(FloorAt { y: 10, area: 5 }), None),
+        (
+            Asked::Block(3),
+            true,
+            Some(FloorAt { y: 10, area: 5 }),
+            None,
+        ),
+        (
+            Asked::Remove(2),
+            false,
+            Some(FloorAt { y: 10, area: 5 }),
+            None,
+        ),
         (Asked::Remove(3), true, Some(bare), Some(bare)),
     ];
     for (asked, settles, first, second) in cases {
@@ -153,7 +165,14 @@ fn publishes_floors(rt: HostRuntime) -> Result<(), Fail> {
         assert_eq!(rt; book.floors(alloc, 2, 1)?.first().copied(), second);
     }
     // The columns of the edge and those outside have no cells, and each other column has one.
-    for (x, z, count) in [(0, 1, 0), (4, 1, 0), (1, 0, 0), (1, 3, 0), (3, 2, 1), (5000, 2, 0)] {
+    for (x, z, count) in [
+        (0, 1, 0),
+        (4, 1, 0),
+        (1, 0, 0),
+        (1, 3, 0),
+        (3, 2, 1),
+        (5000, 2, 0),
+    ] {
         assert_eq!(rt; book.floors(alloc, x, z)?.len(), count, "at {x} {z}");
     }
     Ok(())
