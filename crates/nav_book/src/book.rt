@@ -102,11 +102,12 @@ impl Book {
         ensures refused { OnErr result (self.new ≡ self.old) }
     {
         let len = self.length();
-        if self.published != len {
-            let shapes = shapes(alloc, self.live.as_slice())?;
-            self.layers = marked(alloc, self.level.layers.as_slice(), shapes.as_slice())?;
-            self.published = len;
+        if self.published == len {
+            return Ok(len);
         }
+        let shapes = shapes(alloc, self.live.as_slice())?;
+        self.layers = marked(alloc, self.level.layers.as_slice(), shapes.as_slice())?;
+        self.published = len;
         Ok(len)
     }
 

@@ -8,11 +8,11 @@ use Rattle.nav_book.proofs.book.Book.settle.Goals as goal
 
 pub marked-requires-clause-layers : goal.marked-requires-clause-layers
 marked-requires-clause-layers c =
-    rw (c.as_slice-then-self-len.ensures, c.deref.ensures) (layers_of_ground (arc_value c.self.inside.level) c.self.invariant.level)
+    rw (c.as_slice-2.ensures, c.deref.ensures) (layers_of_ground (arc_value c.self.inside.level) c.self.invariant.level)
 
 pub marked-requires-clause-shapes : goal.marked-requires-clause-shapes
 marked-requires-clause-shapes c =
-    rw (c.as_slice-then-self-len-2.ensures.value, c.in_ok-shapes.ensures, c.as_slice.ensures.value)
+    rw (c.as_slice-3.ensures.value, c.in_ok-shapes.ensures, c.as_slice.ensures.value)
     (table_limits c.self.inside.entries.items c.self.inside.live.items c.self.invariant.history.requests c.self.invariant.live)
 
 pub invariant_of-self : goal.invariant_of-self
@@ -28,5 +28,5 @@ invariant_of-self c =
       live_few = kept.live_few;
       live_room = kept.live_room;
       published = omega (arith, len);
-      layers = rw (c.in_ok-self-inside.ensures, c.as_slice-then-self-len.ensures, c.deref.ensures, c.as_slice-then-self-len-2.ensures.value, c.in_ok-shapes.ensures, c.as_slice.ensures.value, len, table_shapes history c.self.inside.live.items kept.live) refl;
+      layers = rw (c.in_ok-self-inside.ensures, c.as_slice-2.ensures, c.deref.ensures, c.as_slice-3.ensures.value, c.in_ok-shapes.ensures, c.as_slice.ensures.value, len, table_shapes history c.self.inside.live.items kept.live) refl;
     }
