@@ -75,7 +75,7 @@ is_alive-push history entry number least most =
     let later = drop-append-le number history (entry ∷ []) (omega arith) in
     let removed = list_any-append (is_removal_of number) (drop number history) (entry ∷ []) in
     rw (all, before, found, later, removed)
-        (and_not_either (option_map_or is_adding (entry_at history number) false) (list_any (is_removal_of number) (drop number history)) (is_removal_of number entry))
+    (and_not_either (option_map_or is_adding (entry_at history number) false) (list_any (is_removal_of number) (drop number history)) (is_removal_of number entry))
 
 -- the last entry's obstacle is alive where that entry added one
 is_alive-last : (history : List Entry) (entry : Entry) → is_alive (history ++ entry ∷ []) (length history + 1) (1 + length history) ≡ is_adding entry
@@ -140,4 +140,4 @@ pub shape_of-push : (history : List Entry) (entry : Entry) (number : ℕ) (shape
 shape_of-push history entry zero shape found = found
 shape_of-push history entry (suc place) shape found =
     option_and_then_some (λ (e : Entry). shape_in e.request) (slice_get history place) shape found
-        (λ e there here. ap (option_and_then (λ (e : Entry). shape_in e.request)) (slice_get-append history (entry ∷ []) place (slice_get_within history place e there)) ∙ found)
+    (λ e there here. ap (option_and_then (λ (e : Entry). shape_in e.request)) (slice_get-append history (entry ∷ []) place (slice_get_within history place e there)) ∙ found)

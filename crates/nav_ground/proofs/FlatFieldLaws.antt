@@ -30,10 +30,10 @@ module _ (width depth top : ℕ) (wide : 1 ≤ width) (solid : 1 ≤ top) (low :
     where
       later : j / width < i / width → width * (j / width) + width ≤ width * (i / width)
       later above =
-        let next : j / width + 1 ≤ i / width = omega (arith, above) in
-        let same : width ≤ width = omega arith in
-        let up : width * (j / width + 1) ≤ width * (i / width) = mul-le-mul same next in
-        omega (arith, up, mul-add width (j / width) 1)
+          let next : j / width + 1 ≤ i / width = omega (arith, above) in
+          let same : width ≤ width = omega arith in
+          let up : width * (j / width + 1) ≤ width * (i / width) = mul-le-mul same next in
+          omega (arith, up, mul-add width (j / width) 1)
 
   -- flat spans within the limits make a field
   pub flat_field_rules : width ≤ 1024 → 1 ≤ depth → depth ≤ 1024 → IsField (record { width = width; depth = depth; spans = flat_spans width depth top })
@@ -51,6 +51,7 @@ module _ (width depth top : ℕ) (wide : 1 ≤ width) (solid : 1 ≤ top) (low :
       each k d within =
           let there : k < width * depth = rw length-range_with_len at within in
           rw (get_or-range_with_len 0 (width * depth) k d there) (one_span (0 + k) (omega arith))
+
       rising : AllPairs (λ i j. IsSpanBefore (flat_span width top i) (flat_span width top j)) (range_with_len 0 (width * depth))
       rising i j d before within =
           let there : j < width * depth = rw length-range_with_len at within in
