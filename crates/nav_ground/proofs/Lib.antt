@@ -3,5 +3,8 @@ pub mod Places
 pub mod Kept
 pub mod Directions
 pub mod FlatLayers
+pub mod FlatFieldLaws
+pub mod Selections
+pub mod AliveLaws
 pub mod ShapeLaws
 pub mod FreeLayers
