@@ -1,0 +1,4 @@
+pub mod FieldText
+pub mod Header
+pub mod Body
+pub mod FieldFormat
