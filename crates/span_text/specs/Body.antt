@@ -1,5 +1,5 @@
 -- What each line behind the header says, in the order of the tests that it can fail.
-use Rattle.std.specs.Prelude.{ℕ, ◌-◌, Bool, not, ◌&&◌, ◌||◌, ◌==◌, nat_lt, nat_le, if◌then◌else◌, List, length, Option, Some, None, bytes_eq, slice_get, slice_index, codes}
+use Rattle.std.specs.Prelude.{ℕ, ◌<◌, ◌≤◌, ⊤, ◌-◌, Bool, not, ◌&&◌, ◌||◌, ◌==◌, nat_lt, nat_le, if◌then◌else◌, List, length, Option, Some, None, bytes_eq, slice_get, slice_index, codes}
 use Rattle.nav_ground.specs.declared.field.Span.{Span}
 use Rattle.nav_text.specs.declared.fault.FaultKind.{FaultKind}
 use Rattle.nav_text.specs.declared.fault.FaultKind.TheVariants.{Form, Range, Order, Overlap, TooMany}
@@ -60,3 +60,10 @@ unfoldable pub body_line : ℕ → ℕ → ℕ → List Span → List ℕ → Bo
 body_line width depth before spans line =
     if length spans == 2000000 && has_word (codes "span") line then lines.Fails TooMany
     else span_or_other width depth before spans line (numbers_of (codes "span") 5 line)
+
+-- a cost is one of a further area, and a span has room
+abbrev pub Fits : ℕ → ℕ → BodyLine → Type 0
+Fits before count (lines.Cost area cost) = (before < area) × (area ≤ 63)
+Fits before count (lines.Spans span) = count < 2000000
+Fits before count lines.End = ⊤
+Fits before count (lines.Fails kind) = ⊤

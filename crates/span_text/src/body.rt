@@ -1,6 +1,6 @@
 //! The lines behind the header: costs, spans and the end.
-ghost use Rattle.std.specs.Prelude.{◌≡◌, Some};
-ghost use Rattle.span_text.specs.Body.{cost_in, span_of, is_span, is_column_before, is_column_of, span_after, span_in, other_line, body_line};
+ghost use Rattle.std.specs.Prelude.{◌≡◌, ◌≤◌, Some, length};
+ghost use Rattle.span_text.specs.Body.{cost_in, span_of, is_span, is_column_before, is_column_of, span_after, span_in, other_line, body_line, Fits};
 ghost use Rattle.std.specs.Option.{option_copied};
 
 use crate::header::is_in;
@@ -22,7 +22,10 @@ pub enum BodyLine {
 /// A line behind the header, after some spans. `before` is the area of the last cost, 0 at first.
 #[tactic(auto, unfolding(crate::specs::Body::body_line))]
 pub fn body_line(width: u32, depth: u32, before: u32, spans: &[Span], line: &[u8]) -> BodyLine
-    ensures { result ≡ body_line width depth before spans.now line.now }
+    requires { length spans.now ≤ MAX_SPANS }
+    ensures value { result ≡ body_line width depth before spans.now line.now }
+    // A cost is one of a further area, and a span has room.
+    ensures fits { Fits before (length spans.now) result }
 {
     if spans.len() == MAX_SPANS && has_word(b"span", line) {
         return BodyLine::Fails(FaultKind::TooMany);

@@ -3,10 +3,11 @@ ghost use Rattle.std.specs.Prelude.{◌≡◌, ℕ, [], ◌-◌, length, MatchRe
 ghost use Rattle.nav_text.specs.Lines.{lines, IsPast};
 ghost use Rattle.nav_text.specs.Reading.{read};
 ghost use Rattle.span_text.specs.FieldFormat.{field_of, field_format, AtBody};
+ghost use Rattle.span_text.specs.Outcome.{IsRead};
 
 use crate::body::{BodyLine, body_line};
 use crate::header::{agent_line, limited, mesh_line, nav_line, size_line};
-use nav_ground::{AREAS, Field, Setting};
+use nav_ground::{AREAS, Field, Setting, Span};
 use nav_list::Items;
 use nav_text::{FaultKind, TextFault, first_line};
 use std::alloc::Global;
@@ -36,6 +37,7 @@ fn read_header(bytes: &[u8]) -> Result<(Setting, &[u8]), TextFault>
     ensures said { MatchResult result
         (λ x. field_of bytes.now ≡ read field_format (AtBody x.0 0 []) 7 (lines x.1.now))
         (λ fault. field_of bytes.now ≡ Err fault) }
+    ensures past { IfOk result (λ x. IsPast bytes.now x.1.now 7) }
 {
     let Some((line, rest)) = first_line(bytes) else {
         return Err(TextFault::new(1, FaultKind::Unfinished));
@@ -79,9 +81,55 @@ fn read_header(bytes: &[u8]) -> Result<(Setting, &[u8]), TextFault>
     Ok((setting, rest))
 }
 
-/// Nothing yet.
-pub fn read_field(alloc: Global, bytes: &[u8]) -> Result<FieldText, FieldRefusal> {
-    let _spans: Vec<u8> = Vec::new(alloc);
-    let _ = read_header(bytes);
-    Err(FieldRefusal::OutOfMemory)
+/// The lines behind the header: costs, then spans, then the end.
+fn read_body(alloc: Global, header: Setting, bytes: &[u8], body: &[u8]) -> Result<FieldText, FieldRefusal>
+    requires said { field_of bytes.now ≡ read field_format (AtBody header 0 []) 7 (lines body.now) }
+    requires past { IsPast bytes.now body.now 7 }
+    ensures { IsRead bytes.now result }
+{
+    let mut setting = header;
+    let mut spans: Vec<Span> = Vec::new(alloc);
+    let mut before = 0;
+    let mut count = 7;
+    let mut rest = body;
+    while let Some((line, after)) = first_line(rest) {
+        match body_line(setting.width, setting.depth, before, spans.as_slice(), line) {
+            BodyLine::Cost { area, cost } => {
+                setting.costs[area as usize] = cost;
+                before = area;
+            }
+            BodyLine::Spans(span) => {
+                if spans.push(span).is_err() {
+                    return Err(FieldRefusal::OutOfMemory);
+                }
+            }
+            BodyLine::End => {
+                let field = Field {
+                    width: setting.width,
+                    depth: setting.depth,
+                    spans: Items::from_vec(spans),
+                };
+                return Ok(FieldText {
+                    setting,
+                    field,
+                    used: bytes.len() - after.len(),
+                    lines: count + 1,
+                });
+            }
+            BodyLine::Fails(kind) => return Err(FieldRefusal::Fault(TextFault::new(count + 1, kind))),
+        }
+        count += 1;
+        rest = after;
+    }
+    Err(FieldRefusal::Fault(TextFault::new(count + 1, FaultKind::Unfinished)))
+}
+
+/// Reads the field text that the bytes begin with.
+pub fn read_field(alloc: Global, bytes: &[u8]) -> Result<FieldText, FieldRefusal>
+    ensures { IsRead bytes.now result }
+{
+    match read_header(bytes) {
+        Ok((setting, body)) => read_body(alloc, setting, bytes, body),
+        Err(fault) => Err(FieldRefusal::Fault(fault)),
+    }
 }

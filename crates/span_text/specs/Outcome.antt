@@ -1,0 +1,15 @@
+-- What reading a field text leaves, against the lines of the bytes.
+use Rattle.std.specs.Prelude.{◌≡◌, ℕ, ◌≤◌, length, take, Ok, Err, Result, ⊤}
+use Rattle.nav_text.specs.Lines.{lines, text_of}
+use Rattle.span_text.specs.declared.field.FieldText.{FieldText}
+use Rattle.span_text.specs.declared.field.FieldRefusal.{FieldRefusal}
+use Rattle.span_text.specs.declared.field.FieldRefusal.TheVariants.{Fault, OutOfMemory}
+use Rattle.span_text.specs.FieldFormat.{field_of}
+use Rattle.std.specs.Prelude.{List}
+
+-- a text that was read is the value of the bytes' first lines, and its length is that of these lines; a fault is that of the bytes
+abbrev pub IsRead : List ℕ → Result FieldText FieldRefusal → Type 0
+IsRead bytes (Ok text) = (field_of bytes ≡ Ok ((text.setting, text.field), text.lines))
+    × (take text.used bytes ≡ text_of (take text.lines (lines bytes))) × (text.used ≤ length bytes)
+IsRead bytes (Err (Fault fault)) = field_of bytes ≡ Err fault
+IsRead bytes (Err OutOfMemory) = ⊤
