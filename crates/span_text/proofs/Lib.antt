@@ -1,1 +1,5 @@
 pub mod BodyLaws
+pub mod HeaderLaws
+pub mod BodyLineLaws
+pub mod FoundLaws
+pub mod OnlyLaws
