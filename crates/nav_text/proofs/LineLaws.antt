@@ -1,7 +1,7 @@
 -- The laws of lines.
-use Rattle.std.proofs.Common.{◌≤◌, ◌-◌, length-append, ◌≡◌, ℕ, zero, suc, ◌+◌, ◌<◌, true, false, eqb, List, [], ◌∷◌, ◌++◌, length, take, drop, get_or, sym, subst, refl, ap, ◌∙◌, arith, append_assoc, add-one, ne_eqb}
+use Rattle.std.proofs.Common.{not, Bool, append-nil, ◌≤◌, ◌-◌, length-append, ◌≡◌, ℕ, zero, suc, ◌+◌, ◌<◌, true, false, eqb, List, [], ◌∷◌, ◌++◌, length, take, drop, get_or, sym, subst, refl, ap, ◌∙◌, arith, append_assoc, add-one, ne_eqb}
 use Rattle.std.specs.List.{list_all}
-use Rattle.std.proofs.lemmas.Bool.{and_parts, not-true, cond-false}
+use Rattle.std.proofs.lemmas.Bool.{cond-true, and_from, and_parts, not-true, cond-false}
 use Rattle.std.proofs.lemmas.List.{flat_map_more, take_at}
 use Rattle.nav_text.specs.Lines.{onto_line, lines, ended, text_of, is_ended, is_line, IsPast}
 
@@ -103,3 +103,30 @@ IsPast-used text rest count past =
       ap (take (length text - length rest)) past.whole ∙ take_at front rest (length text - length rest) same,
       omega arith,
     )
+
+onto_plain : (c : ℕ) (those : List (List ℕ)) → eqb c 10 ≡ false → list_all is_line those ≡ true → list_all is_line (onto_line c those) ≡ true
+onto_plain c [] other plain = refl
+onto_plain c (line ∷ more) other plain =
+    let parts = and_parts (is_line line) (list_all is_line more) plain in
+    and_from _ _ (and_from (not (eqb c 10)) (is_line line) (ap not other) parts.0) parts.1
+
+plain_byte : (c : ℕ) (text : List ℕ) (b : Bool) → eqb c 10 ≡ b → list_all is_line (lines text) ≡ true → list_all is_line (lines (c ∷ text)) ≡ true
+plain_byte c text true feed plain = subst (λ ls. list_all is_line ls ≡ true) (sym (cond-true (eqb c 10) ([] ∷ lines text) (onto_line c (lines text)) feed)) plain
+plain_byte c text false other plain = subst (λ ls. list_all is_line ls ≡ true) (sym (lines_more c text other)) (onto_plain c (lines text) other plain)
+
+-- The lines of a text are lines.
+pub lines_plain : (text : List ℕ) → list_all is_line (lines text) ≡ true
+lines_plain [] = refl
+lines_plain (c ∷ text) = plain_byte c text (eqb c 10) refl (lines_plain text)
+
+plain_take : (n : ℕ) (those : List (List ℕ)) → list_all is_line those ≡ true → list_all is_line (take n those) ≡ true
+plain_take zero those plain = refl
+plain_take (suc n) [] plain = refl
+plain_take (suc n) (line ∷ more) plain =
+    let parts = and_parts (is_line line) (list_all is_line more) plain in and_from _ _ parts.0 (plain_take n more parts.1)
+
+-- The text of a text's first lines has just these lines.
+pub lines_of_first : (text : List ℕ) (count : ℕ) → lines (text_of (take count (lines text))) ≡ take count (lines text)
+lines_of_first text count =
+    let first = take count (lines text) in
+    ap lines (sym (append-nil (text_of first))) ∙ (lines_again first [] (plain_take count (lines text) (lines_plain text)) ∙ append-nil first)

@@ -3,3 +3,4 @@ pub mod HeaderLaws
 pub mod BodyLineLaws
 pub mod FoundLaws
 pub mod OnlyLaws
+pub mod FieldLaws

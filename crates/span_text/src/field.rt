@@ -1,9 +1,15 @@
 //! A whole field text.
-ghost use Rattle.std.specs.Prelude.{◌≡◌, ℕ, [], ◌-◌, length, MatchResult, IfOk, Ok, Err};
+ghost use Rattle.std.specs.Prelude.{◌≡◌, ℕ, ◌≤◌, List, [], ◌++◌, take, length, MatchResult, IfOk, Ok, Err};
+ghost use Rattle.nav_ground.specs.declared.setting.Setting.{Setting};
+ghost use Rattle.nav_ground.specs.declared.field.Field.{Field};
+ghost use Rattle.nav_ground.specs.Limits.{IsSetting};
+ghost use Rattle.nav_ground.specs.Fields.{IsField};
+ghost use Rattle.nav_text.specs.declared.fault.TextFault.{TextFault};
 ghost use Rattle.nav_text.specs.Lines.{lines, IsPast};
-ghost use Rattle.nav_text.specs.Reading.{read};
-ghost use Rattle.span_text.specs.FieldFormat.{field_of, field_format, AtBody};
-ghost use Rattle.span_text.specs.Outcome.{IsRead};
+ghost use Rattle.nav_text.specs.Reading.{read, IsFirstFault};
+ghost use Rattle.span_text.specs.FieldText.{IsFieldText};
+ghost use Rattle.span_text.specs.FieldFormat.{field_of, field_format, AtNav, AtBody};
+ghost use Rattle.span_text.specs.Outcome.{IsRead, Gives};
 
 use crate::body::{BodyLine, body_line};
 use crate::header::{agent_line, limited, mesh_line, nav_line, size_line};
@@ -124,12 +130,33 @@ fn read_body(alloc: Global, header: Setting, bytes: &[u8], body: &[u8]) -> Resul
     Err(FieldRefusal::Fault(TextFault::new(count + 1, FaultKind::Unfinished)))
 }
 
-/// Reads the field text that the bytes begin with.
-pub fn read_field(alloc: Global, bytes: &[u8]) -> Result<FieldText, FieldRefusal>
+fn read_text(alloc: Global, bytes: &[u8]) -> Result<FieldText, FieldRefusal>
     ensures { IsRead bytes.now result }
 {
     match read_header(bytes) {
         Ok((setting, body)) => read_body(alloc, setting, bytes, body),
         Err(fault) => Err(FieldRefusal::Fault(fault)),
     }
+}
+
+/// Reads the field text that the bytes begin with, and leaves what follows it. Memory is taken for the spans alone.
+pub fn read_field(alloc: Global, bytes: &[u8]) -> Result<FieldText, FieldRefusal>
+    // What is read is within its limits, and the bytes that it used spell it.
+    ensures setting { IfOk result (λ text. IsSetting text.setting) }
+    ensures field { IfOk result (λ text. IsField text.field) }
+    ensures found { IfOk result
+        (λ text. IsFieldText (take text.used bytes.now) text.setting text.field) }
+    ensures used { IfOk result (λ text. text.used ≤ length bytes.now) }
+    ensures lines { IfOk result (λ text. text.lines ≡ length (lines (take text.used bytes.now))) }
+
+    // Bytes that begin with the text of a setting and a field are read as these.
+    ensures only { (setting : Setting) (field : Field) (text rest : List ℕ)
+        → IsSetting setting → IsField field → IsFieldText text setting field
+        → bytes.now ≡ text ++ rest → Gives setting field (length text) result }
+
+    // A fault is that of the first line that fails, given the lines before it.
+    ensures first { (fault : TextFault) → result ≡ Err (FieldRefusal.Fault fault)
+        → IsFirstFault field_format AtNav 0 (lines bytes.now) fault }
+{
+    read_text(alloc, bytes)
 }
