@@ -1,5 +1,5 @@
 -- The laws of the lines behind the header.
-use Rattle.std.proofs.Common.{nat_lt, bytes_eq, Bool, true, false, cond, not, ◌||◌, nat_le, slice_index, codes, inl, inr, ◌≡◌, ℕ, ◌+◌, ◌-◌, ◌<◌, ◌≤◌, List, [], ◌∷◌, ◌++◌, length, take, get_or, Option, Ok, Err, Some, None, sym, refl, ap, ◌∙◌, subst, arith}
+use Rattle.std.proofs.Common.{nat_lt, bytes_eq, Bool, true, false, cond, not, ◌||◌, nat_le, slice_index, codes, inl, inr, ◌≡◌, ℕ, ◌+◌, ◌-◌, ◌<◌, ◌≤◌, List, [], ◌∷◌, ◌++◌, length, take, Option, Ok, Err, Some, None, sym, ap, ◌∙◌, subst, arith}
 use Rattle.nav_ground.specs.declared.setting.Setting.{Setting}
 use Rattle.nav_ground.specs.declared.field.Span.{Span}
 use Rattle.nav_text.specs.declared.fault.FaultKind.{FaultKind}
@@ -67,11 +67,11 @@ pub read_end_line : (bytes rest : List ℕ) (setting : Setting) (before : ℕ) (
     → HasRead bytes rest setting before spans count → lines rest ≡ line ∷ lines after → rest ≡ line ++ 10 ∷ after
     → body_line setting.width setting.depth before spans line ≡ End
     → (field_of bytes ≡ Ok ((setting, field_with setting spans), count + 1))
-      × (take (length bytes - length after) bytes ≡ text_of (take (count + 1) (lines bytes)))
+    × (take (length bytes - length after) bytes ≡ text_of (take (count + 1) (lines bytes)))
 read_end_line bytes rest setting before spans count line after has those spelled is = (
-    next_line bytes rest setting before spans count line after End has those is,
-    (IsPast-used bytes after (count + 1) (IsPast_next bytes rest count line after has.past those spelled)).0,
-  )
+  next_line bytes rest setting before spans count line after End has those is,
+  (IsPast-used bytes after (count + 1) (IsPast_next bytes rest count line after has.past those spelled)).0,
+)
 
 -- a line that fails, and lines that end too early
 pub read_bad_line : (bytes rest : List ℕ) (setting : Setting) (before : ℕ) (spans : List Span) (count : ℕ) (line after : List ℕ) (kind : FaultKind)
@@ -97,16 +97,16 @@ fits_further : (before count : ℕ) (numbers : List ℕ) → (not (is_in 1 63 (s
     → Fits before count (cond (nat_le (slice_index numbers 0) before) (Fails Order) (Cost (slice_index numbers 0) (slice_index numbers 1)))
 fits_further before count numbers good =
     elim (cases_Bool (nat_le (slice_index numbers 0) before)) [
-      inl behind ↦ subst (Fits before count) (sym (cond-true _ _ _ behind)) tt
-    | inr further ↦ subst (Fits before count) (sym (cond-false _ _ _ further)) (leb-false _ _ further, area_most (slice_index numbers 0) (slice_index numbers 1) good)
+      | inl behind ↦ subst (Fits before count) (sym (cond-true _ _ _ behind)) tt
+      | inr further ↦ subst (Fits before count) (sym (cond-false _ _ _ further)) (leb-false _ _ further, area_most (slice_index numbers 0) (slice_index numbers 1) good)
     ]
 
 fits_cost : (before count : ℕ) (numbers : Option (List ℕ)) → Fits before count (cost_in before numbers)
 fits_cost before count None = tt
 fits_cost before count (Some numbers) =
     elim (cases_Bool (not (is_in 1 63 (slice_index numbers 0)) || not (is_in 1 1000 (slice_index numbers 1)))) [
-      inl bad ↦ subst (Fits before count) (sym (cond-true _ _ _ bad)) tt
-    | inr good ↦ subst (Fits before count) (sym (cond-false _ _ _ good)) (fits_further before count numbers good)
+      | inl bad ↦ subst (Fits before count) (sym (cond-true _ _ _ bad)) tt
+      | inr good ↦ subst (Fits before count) (sym (cond-false _ _ _ good)) (fits_further before count numbers good)
     ]
 
 pub fits_other : (before count : ℕ) (line : List ℕ) → Fits before count (other_line before count line)

@@ -1,5 +1,5 @@
 -- What a call of `read_field` promises, from what was read of the lines.
-use Rattle.std.proofs.Common.{◌≡◌, ℕ, ◌+◌, ◌≤◌, List, [], ◌∷◌, ◌++◌, length, take, Result, Ok, Err, IfOk, sym, refl, ap, ap₂, ◌∙◌, subst, arith, length-append}
+use Rattle.std.proofs.Common.{◌≡◌, ℕ, ◌≤◌, List, ◌++◌, length, take, Result, Ok, Err, IfOk, sym, refl, ap, ap₂, ◌∙◌, subst, arith}
 use Rattle.std.proofs.lemmas.List.{length-take-le, take_at}
 use Rattle.nav_ground.specs.declared.setting.Setting.{Setting}
 use Rattle.nav_ground.specs.declared.field.Field.{Field}
@@ -15,7 +15,7 @@ use Rattle.span_text.specs.declared.field.FieldText.{FieldText}
 use Rattle.span_text.specs.declared.field.FieldRefusal.{FieldRefusal}
 use Rattle.span_text.specs.declared.field.FieldRefusal.TheVariants as refusals
 use Rattle.span_text.specs.FieldText.{IsFieldText, field_lines}
-use Rattle.span_text.specs.FieldFormat.{Value, AtNav, field_format, field_of}
+use Rattle.span_text.specs.FieldFormat.{Value, AtNav, field_format}
 use Rattle.span_text.specs.Outcome.{IsRead, Gives}
 use Rattle.span_text.proofs.FoundLaws.{field_takes}
 use Rattle.span_text.proofs.OnlyLaws.{field_again, lines_begin}
@@ -49,7 +49,7 @@ read_only bytes (Ok read) told setting field text rest limits fits spelling part
     let all = field_lines setting spelling.costs field.spans in
     let same = ok_is (sym told.0 ∙ field_again bytes text rest setting field limits fits spelling parts) in
     let first : take read.lines (lines bytes) ≡ all =
-      ap₂ (λ n ls. take n ls) (ap (λ p. p.1) same) (lines_begin bytes text rest setting field limits fits spelling parts) ∙ take_at all (lines rest) (length all) refl in
+    ap₂ (λ n ls. take n ls) (ap (λ p. p.1) same) (lines_begin bytes text rest setting field limits fits spelling parts) ∙ take_at all (lines rest) (length all) refl in
     let spelled : take read.used bytes ≡ text = told.1 ∙ (ap text_of first ∙ sym spelling.spelled) in (
       ap (λ p. p.0.0) same,
       ap (λ p. p.0.1) same,

@@ -1,5 +1,5 @@
 -- What is read of a field text is spelled so: the lines that lead to a place say what the place has.
-use Rattle.std.proofs.Common.{zero, suc, length-set, ◌≡◌, ℕ, ◌+◌, ◌-◌, ◌<◌, ◌≤◌, Bool, true, false, List, [], ◌∷◌, ◌++◌, length, take, get_or, map, fold, replicate, set, slice_get, codes, Option, Some, None, Result, Ok, Err, All, AllPairs, IsTrue, sym, refl, ap, ap₂, ◌∙◌, subst, inl, inr, ⊎_elim, arith, append_assoc, append-nil}
+use Rattle.std.proofs.Common.{zero, suc, length-set, ◌≡◌, ℕ, ◌+◌, ◌-◌, ◌<◌, ◌≤◌, true, false, List, [], ◌∷◌, ◌++◌, length, take, get_or, map, replicate, set, codes, Some, Result, Ok, Err, All, AllPairs, IsTrue, sym, refl, ap, ap₂, ◌∙◌, subst, ⊎_elim, arith, append_assoc, append-nil}
 use Rattle.std.specs.List.{list_all}
 use Rattle.std.proofs.lemmas.Bool.{and_from, and_parts, cases_lt}
 use Rattle.std.proofs.lemmas.Bool.Decides.{nat_tests}
@@ -12,17 +12,16 @@ use Rattle.nav_ground.specs.declared.setting.Agent.{Agent}
 use Rattle.nav_ground.specs.declared.setting.MeshKind.{MeshKind}
 use Rattle.nav_ground.specs.declared.setting.Setting.{Setting}
 use Rattle.nav_ground.specs.declared.field.Span.{Span}
-use Rattle.nav_ground.specs.declared.field.Field.{Field}
 use Rattle.nav_ground.specs.Limits.{IsAgent, IsSetting, is_cost}
 use Rattle.nav_ground.specs.Fields.{IsSpan, IsSpanBefore, IsField}
 use Rattle.nav_text.specs.declared.fault.FaultKind.{FaultKind}
 use Rattle.nav_text.specs.Forms.{line_text}
 use Rattle.nav_text.specs.Lines.{lines, text_of}
-use Rattle.nav_text.specs.Reading.{Verdict, Goes, Ends, Refuses, Leads}
+use Rattle.nav_text.specs.Reading.{Goes, Ends}
 use Rattle.nav_text.proofs.ReadingLaws.{EndsAt, read_takes, leads_keep}
 use Rattle.span_text.specs.declared.body.BodyLine.{BodyLine}
 use Rattle.span_text.specs.declared.body.BodyLine.TheVariants as said
-use Rattle.span_text.specs.FieldText.{Cost, RiseAbove, with_cost, costs_of, mesh_text, header_lines, cost_text, span_text, field_lines, IsFieldText}
+use Rattle.span_text.specs.FieldText.{Cost, RiseAbove, with_cost, costs_of, mesh_text, header_lines, cost_text, span_text, IsFieldText}
 use Rattle.span_text.specs.Header.{nav_line, size_line, limited, agent_line, mesh_line}
 use Rattle.span_text.specs.Body.{body_line}
 use Rattle.span_text.specs.FieldFormat.{Place, AtNav, AtSize, AtTile, AtAgent, AtError, AtMesh, AtLimit, AtBody, Value, plain_setting, lead, set_cost, field_with, body_verdict, verdict, field_format, field_of}
@@ -58,13 +57,13 @@ Said (AtAgent width depth tile) those = IsSize width depth × IsTile tile
     × (those ≡ codes "nav 1" ∷ line_text (codes "size") (width ∷ depth ∷ []) ∷ line_text (codes "tile") (tile ∷ []) ∷ [])
 Said (AtError width depth tile agent) those = IsSize width depth × IsTile tile × IsAgent agent
     × (those ≡ codes "nav 1" ∷ line_text (codes "size") (width ∷ depth ∷ []) ∷ line_text (codes "tile") (tile ∷ [])
-      ∷ line_text (codes "agent") (agent.height ∷ agent.climb ∷ agent.radius ∷ []) ∷ [])
+    ∷ line_text (codes "agent") (agent.height ∷ agent.climb ∷ agent.radius ∷ []) ∷ [])
 Said (AtMesh width depth tile agent error) those = IsSize width depth × IsTile tile × IsAgent agent × (error ≤ 10000)
     × (those ≡ codes "nav 1" ∷ line_text (codes "size") (width ∷ depth ∷ []) ∷ line_text (codes "tile") (tile ∷ [])
-      ∷ line_text (codes "agent") (agent.height ∷ agent.climb ∷ agent.radius ∷ []) ∷ line_text (codes "error") (error ∷ []) ∷ [])
+    ∷ line_text (codes "agent") (agent.height ∷ agent.climb ∷ agent.radius ∷ []) ∷ line_text (codes "error") (error ∷ []) ∷ [])
 Said (AtLimit width depth tile agent error mesh) those = IsSize width depth × IsTile tile × IsAgent agent × (error ≤ 10000)
     × (those ≡ codes "nav 1" ∷ line_text (codes "size") (width ∷ depth ∷ []) ∷ line_text (codes "tile") (tile ∷ [])
-      ∷ line_text (codes "agent") (agent.height ∷ agent.climb ∷ agent.radius ∷ []) ∷ line_text (codes "error") (error ∷ []) ∷ mesh_text mesh ∷ [])
+    ∷ line_text (codes "agent") (agent.height ∷ agent.climb ∷ agent.radius ∷ []) ∷ line_text (codes "error") (error ∷ []) ∷ mesh_text mesh ∷ [])
 Said (AtBody setting before spans) those = (length spans ≤ 2000000) × HasSaid setting before spans those
 
 lead_goes : {A : Type 0} (told : Result A FaultKind) (next : A → Place) (place : Place) → lead told next ≡ Goes place → (x : A) × (told ≡ Ok x) × (next x ≡ place)
@@ -104,9 +103,9 @@ after_all width depth spans span each order after k d lt =
     let next : IsSpanBefore (get_or spans (length spans - 1) d) span = subst (λ o. IsAfter o span) last after in
     let solid = (each (length spans - 1) d (omega arith)).solid in
     ⊎_elim
-      (λ earlier. before_trans (get_or spans k d) (get_or spans (length spans - 1) d) span solid (order k (length spans - 1) d earlier (omega arith)) next)
-      (λ same. let at : length spans - 1 ≡ k = omega arith in subst (λ i. IsSpanBefore (get_or spans i d) span) at next)
-      (cases_lt k (length spans - 1))
+    (λ earlier. before_trans (get_or spans k d) (get_or spans (length spans - 1) d) span solid (order k (length spans - 1) d earlier (omega arith)) next)
+    (λ same. let at : length spans - 1 ≡ k = omega arith in subst (λ i. IsSpanBefore (get_or spans i d) span) at next)
+    (cases_lt k (length spans - 1))
 
 rise_push : (before : ℕ) (costs : List Cost) (line : Cost) → RiseAbove before costs → last_area before costs < line.area → line.area ≤ 63 → 1 ≤ line.cost → line.cost ≤ 1000
     → RiseAbove before (costs ++ line ∷ [])
@@ -163,8 +162,8 @@ said_cost setting before spans those line area cost has says =
       each = has.each;
       order = has.order;
       spelled = ap (λ l. those ++ l ∷ []) says.1
-        ∙ (with_cost_line (header_lines setting) (map cost_text has.costs) (map span_text spans) those (cost_text added) (no_spans spans says.0) has.spelled
-        ∙ ap (λ c. header_lines setting ++ c ++ map span_text spans) (sym (map_push cost_text has.costs added)));
+          ∙ (with_cost_line (header_lines setting) (map cost_text has.costs) (map span_text spans) those (cost_text added) (no_spans spans says.0) has.spelled
+          ∙ ap (λ c. header_lines setting ++ c ++ map span_text spans) (sym (map_push cost_text has.costs added)));
     }
   where
     no_spans : (spans : List Span) → length spans ≡ 0 → map span_text spans ≡ []
@@ -183,8 +182,8 @@ said_span setting before spans those line span has says = record {
   each = All-push (IsSpan setting.width setting.depth) spans span has.each says.2;
   order = all_pairs_push IsSpanBefore spans span has.order (after_all setting.width setting.depth spans span has.each has.order says.3);
   spelled = ap₂ (λ ls l. ls ++ l ∷ []) has.spelled says.1
-    ∙ (append_assoc (header_lines setting ++ map cost_text has.costs) (map span_text spans) (span_text span ∷ [])
-    ∙ ap (λ s. header_lines setting ++ map cost_text has.costs ++ s) (sym (map_push span_text spans span)));
+      ∙ (append_assoc (header_lines setting ++ map cost_text has.costs) (map span_text spans) (span_text span ∷ [])
+      ∙ ap (λ s. header_lines setting ++ map cost_text has.costs ++ s) (sym (map_push span_text spans span)));
 }
 
 body_goes : (setting : Setting) (before : ℕ) (spans : List Span) (next : Place) (those : List (List ℕ)) (line : List ℕ) → length spans ≤ 2000000 → HasSaid setting before spans those
@@ -254,26 +253,26 @@ lead_never_ends (Err kind) next value e = cc
 whole_body : (setting : Setting) (before : ℕ) (spans : List Span) (those : List (List ℕ)) (line : List ℕ) → length spans ≤ 2000000 → HasSaid setting before spans those
     → line ≡ codes "end" → IsWhole (setting, field_with setting spans) (those ++ line ∷ [])
 whole_body setting before spans those line few has end = (
-    has.limits,
-    record {
-      wide = has.limits.wide;
-      width = has.limits.width;
-      deep = has.limits.deep;
-      depth = has.limits.depth;
-      few = few;
-      spans = has.each;
-      order = has.order;
-    },
-    record {
-      costs = has.costs;
-      rise = has.rise;
-      table = has.table;
-      clear = has.clear;
-      width = refl;
-      depth = refl;
-      spelled = ap text_of (ap₂ (λ ls l. ls ++ l ∷ []) has.spelled end);
-    },
-  )
+  has.limits,
+  record {
+    wide = has.limits.wide;
+    width = has.limits.width;
+    deep = has.limits.deep;
+    depth = has.limits.depth;
+    few = few;
+    spans = has.each;
+    order = has.order;
+  },
+  record {
+    costs = has.costs;
+    rise = has.rise;
+    table = has.table;
+    clear = has.clear;
+    width = refl;
+    depth = refl;
+    spelled = ap text_of (ap₂ (λ ls l. ls ++ l ∷ []) has.spelled end);
+  },
+)
 
 body_ends : (setting : Setting) (before : ℕ) (spans : List Span) (value : Value) (those : List (List ℕ)) (line : List ℕ) → length spans ≤ 2000000 → HasSaid setting before spans those
     → (told : BodyLine) → Says setting.width setting.depth before (length spans) (last_of spans) line told → body_verdict setting before spans told ≡ Ends value → IsWhole value (those ++ line ∷ [])
@@ -306,12 +305,12 @@ field_takes bytes value total e =
     first_lines : (good : List (List ℕ)) (line : List ℕ) (rest those : List (List ℕ)) (more : ℕ) → those ≡ good ++ line ∷ rest → total ≡ 0 + length good + more → more ≡ 1
         → good ++ line ∷ [] ≡ take total those
     first_lines good line rest those more parts counted one =
-      let long = length_push good line in
-      let at : length (good ++ line ∷ []) ≡ total = omega arith in
-      sym (ap (take total) (parts ∙ sym (append_assoc good (line ∷ []) rest)) ∙ take_at (good ++ line ∷ []) rest total at)
+        let long = length_push good line in
+        let at : length (good ++ line ∷ []) ≡ total = omega arith in
+        sym (ap (take total) (parts ∙ sym (append_assoc good (line ∷ []) rest)) ∙ take_at (good ++ line ∷ []) rest total at)
 
     at_end : (at : Place) (good rest : List (List ℕ)) (more : ℕ) → Said at good → EndsAt field_format at rest value more → lines bytes ≡ good ++ rest → total ≡ 0 + length good + more
         → IsWhole value (take total (lines bytes))
     at_end at good [] more kept ends parts counted = absurd (let none = ends.0 in cc)
     at_end at good (line ∷ rest) more kept ends parts counted =
-      subst (IsWhole value) (first_lines good line rest (lines bytes) more parts counted ends.1) (place_ends at value good line kept ends.0)
+        subst (IsWhole value) (first_lines good line rest (lines bytes) more parts counted ends.1) (place_ends at value good line kept ends.0)

@@ -1,6 +1,6 @@
 -- The laws of the header's lines: what is read is spelled so, and what is spelled so is read.
-use Rattle.std.proofs.Common.{⊎_elim, inl, inr, ◌⊎◌, ◌≡◌, ℕ, ◌<◌, ◌≤◌, ◌^◌, Bool, true, false, cond, not, ◌||◌, nat_lt, nat_le, bytes_eq, List, [], ◌∷◌, length, slice_index, codes, Option, Some, None, Result, Ok, Err, sym, refl, ap, ap₂, ◌∙◌, subst, arith}
-use Rattle.std.proofs.lemmas.Bool.{or_parts, cond-true, cond-false}
+use Rattle.std.proofs.Common.{⊎_elim, inl, inr, ◌⊎◌, ◌≡◌, ℕ, ◌<◌, ◌≤◌, ◌^◌, Bool, true, false, cond, not, ◌||◌, nat_lt, nat_le, bytes_eq, List, [], ◌∷◌, slice_index, codes, Option, Some, None, Result, Ok, Err, refl, ap, ap₂, ◌∙◌, subst, arith}
+use Rattle.std.proofs.lemmas.Bool.{or_parts}
 use Rattle.std.proofs.lemmas.Bool.Decides.{nat_tests}
 use Rattle.std.proofs.lemmas.Slice.Eq.{bytes_eq-Decides}
 use Rattle.nav_ground.specs.declared.setting.Agent.{Agent}
@@ -9,7 +9,7 @@ use Rattle.nav_ground.specs.declared.setting.MeshKind.TheVariants.{Strips, Conto
 use Rattle.nav_ground.specs.Limits.{IsAgent}
 use Rattle.nav_text.specs.declared.fault.FaultKind.{FaultKind}
 use Rattle.nav_text.specs.declared.fault.FaultKind.TheVariants.{Form, Range, Climb}
-use Rattle.nav_text.specs.Forms.{line_text, numbers_of, AreNumbers}
+use Rattle.nav_text.specs.Forms.{line_text, numbers_of}
 use Rattle.nav_text.proofs.FormLaws.{numbers_take, numbers_again}
 use Rattle.nav_text.proofs.Inversions.{ok_is, unless, one_is, two_is, three_is}
 use Rattle.span_text.specs.FieldText.{mesh_text}
@@ -130,9 +130,9 @@ pub mesh_takes : (line : List ℕ) (mesh : MeshKind) → mesh_line line ≡ Ok m
 unfolding mesh_line
 mesh_takes line mesh e =
     ⊎_elim
-      (λ strips. (bytes_eq-Decides line (codes "mesh strips")).0 strips.0 ∙ ap mesh_text strips.1)
-      (λ contours. (bytes_eq-Decides line (codes "mesh contours")).0 contours.0 ∙ ap mesh_text contours.1)
-      (by_tests (bytes_eq line (codes "mesh strips")) (bytes_eq line (codes "mesh contours")) mesh e)
+    (λ strips. (bytes_eq-Decides line (codes "mesh strips")).0 strips.0 ∙ ap mesh_text strips.1)
+    (λ contours. (bytes_eq-Decides line (codes "mesh contours")).0 contours.0 ∙ ap mesh_text contours.1)
+    (by_tests (bytes_eq line (codes "mesh strips")) (bytes_eq line (codes "mesh contours")) mesh e)
   where
     by_tests : (strips contours : Bool) (mesh : MeshKind) → ◌≡◌ {A = Result MeshKind FaultKind} (cond strips (Ok Strips) (cond contours (Ok Contours) (Err Form))) (Ok mesh)
         → ((strips ≡ true) × (Strips ≡ mesh)) ⊎ ((contours ≡ true) × (Contours ≡ mesh))

@@ -1,9 +1,9 @@
 -- What is spelled as a field text is read so.
-use Rattle.std.proofs.Common.{zero, suc, ◌≡◌, ℕ, ◌+◌, ◌-◌, ◌<◌, ◌≤◌, ◌^◌, Bool, true, false, List, [], ◌∷◌, ◌++◌, length, drop, get_or, slice_get, map, fold, replicate, codes, Option, Some, None, Result, Ok, Err, All, AllPairs, sym, subst₂, refl, ap, ap₂, ◌∙◌, subst, arith, append_assoc, append-nil, length-append}
+use Rattle.std.proofs.Common.{suc, ◌≡◌, ℕ, ◌+◌, ◌-◌, ◌<◌, ◌≤◌, true, false, List, [], ◌∷◌, ◌++◌, length, drop, slice_get, map, fold, codes, Option, Some, None, Ok, All, AllPairs, sym, subst₂, refl, ap, ap₂, ◌∙◌, subst, arith, append_assoc, append-nil, length-append}
 use Rattle.std.specs.Prelude.{⊤}
 use Rattle.std.specs.List.{list_all}
 use Rattle.std.proofs.lemmas.Bool.{and_from}
-use Rattle.std.proofs.lemmas.List.{length_push, length-map}
+use Rattle.std.proofs.lemmas.List.{length_push}
 use Rattle.std.proofs.lemmas.List.Elements.{All-head, All-tail}
 use Rattle.std.proofs.lemmas.List.Folds.{list_all-append}
 use Rattle.nav_ground.specs.declared.setting.MeshKind.{MeshKind}
@@ -11,16 +11,16 @@ use Rattle.nav_ground.specs.declared.setting.MeshKind.TheVariants.{Strips, Conto
 use Rattle.nav_ground.specs.declared.setting.Setting.{Setting}
 use Rattle.nav_ground.specs.declared.field.Span.{Span}
 use Rattle.nav_ground.specs.declared.field.Field.{Field}
-use Rattle.nav_ground.specs.Limits.{IsAgent, IsSetting}
+use Rattle.nav_ground.specs.Limits.{IsSetting}
 use Rattle.nav_ground.specs.Fields.{IsSpan, IsSpanBefore, IsField}
-use Rattle.nav_text.specs.Lines.{lines, text_of, is_line}
-use Rattle.nav_text.specs.Forms.{line_text, AreNumbers}
-use Rattle.nav_text.specs.Reading.{Goes, Leads, read, read_on}
+use Rattle.nav_text.specs.Lines.{lines, is_line}
+use Rattle.nav_text.specs.Forms.{line_text}
+use Rattle.nav_text.specs.Reading.{Leads, read, read_on}
 use Rattle.nav_text.proofs.LineLaws.{lines_again}
 use Rattle.nav_text.proofs.FormLaws.{is_line-line_text}
 use Rattle.nav_text.proofs.ReadingLaws.{leads_read}
 use Rattle.span_text.specs.FieldText.{Cost, RiseAbove, with_cost, costs_of, mesh_text, header_lines, cost_text, span_text, field_lines, IsFieldText}
-use Rattle.span_text.specs.FieldFormat.{Place, AtNav, AtSize, AtTile, AtAgent, AtError, AtMesh, AtLimit, AtBody, Value, plain_setting, lead, set_cost, field_with, body_verdict, verdict, field_format, field_of}
+use Rattle.span_text.specs.FieldFormat.{AtNav, AtSize, AtTile, AtAgent, AtError, AtMesh, AtLimit, AtBody, plain_setting, lead, set_cost, field_with, body_verdict, field_format, field_of}
 use Rattle.span_text.proofs.HeaderLaws.{size_again, limited_again, agent_again, mesh_again}
 use Rattle.span_text.proofs.BodyLineLaws.{IsAfter, last_of, end_again, cost_again, span_again}
 use Rattle.span_text.proofs.FoundLaws.{last_area}
@@ -36,15 +36,35 @@ header_leads setting h =
     let t = setting.tile in
     let a = setting.agent in
     let e = setting.error in
-    let m = setting.mesh in
-    (AtSize, refl,
-    (AtTile w d, ap (λ r. lead r (λ size. AtTile size.0 size.1)) (size_again w d (record { wide = h.wide; width_most = h.width; deep = h.deep; depth_most = h.depth })),
-    (AtAgent w d t, ap (λ r. lead r (λ tile. AtAgent w d tile)) (limited_again (codes "tile") 4 128 t h.tile_least h.tile_most (omega arith)),
-    (AtError w d t a, ap (λ r. lead r (λ agent. AtError w d t agent)) (agent_again a h.agent),
-    (AtMesh w d t a e, ap (λ r. lead r (λ error. AtMesh w d t a error)) (limited_again (codes "error") 0 10000 e (omega arith) h.error (omega arith)),
-    (AtLimit w d t a e m, ap (λ r. lead r (λ mesh. AtLimit w d t a e mesh)) (mesh_again m),
-    (AtBody (said_by setting) 0 [], ap (λ r. lead r (λ limit. AtBody (plain_setting w d t a e m limit) 0 [])) (limited_again (codes "limit") 1 1024 setting.limit h.limit_least h.limit_most (omega arith)),
-    refl)))))))
+    let m = setting.mesh in (
+      AtSize,
+      refl,
+      (
+        AtTile w d,
+        ap (λ r. lead r (λ size. AtTile size.0 size.1)) (size_again w d (record { wide = h.wide; width_most = h.width; deep = h.deep; depth_most = h.depth })),
+        (
+          AtAgent w d t,
+          ap (λ r. lead r (λ tile. AtAgent w d tile)) (limited_again (codes "tile") 4 128 t h.tile_least h.tile_most (omega arith)),
+          (
+            AtError w d t a,
+            ap (λ r. lead r (λ agent. AtError w d t agent)) (agent_again a h.agent),
+            (
+              AtMesh w d t a e,
+              ap (λ r. lead r (λ error. AtMesh w d t a error)) (limited_again (codes "error") 0 10000 e (omega arith) h.error (omega arith)),
+              (
+                AtLimit w d t a e m,
+                ap (λ r. lead r (λ mesh. AtLimit w d t a e mesh)) (mesh_again m),
+                (
+                  AtBody (said_by setting) 0 [],
+                  ap (λ r. lead r (λ limit. AtBody (plain_setting w d t a e m limit) 0 [])) (limited_again (codes "limit") 1 1024 setting.limit h.limit_least h.limit_most (omega arith)),
+                  refl,
+                ),
+              ),
+            ),
+          ),
+        ),
+      ),
+    )
 
 -- a setting after some cost lines
 abbrev after_costs : Setting → List Cost → Setting
@@ -54,10 +74,10 @@ costs_lead : (setting : Setting) (before : ℕ) (costs : List Cost) → RiseAbov
     → Leads field_format (AtBody setting before []) (map cost_text costs) (AtBody (after_costs setting costs) (last_area before costs) [])
 costs_lead setting before [] rise = refl
 costs_lead setting before (line ∷ more) rise = (
-    AtBody (set_cost setting line.area line.cost) line.area [],
-    ap (body_verdict setting before []) (cost_again setting.width setting.depth before line.area line.cost rise.0 rise.1 rise.2 rise.3),
-    costs_lead (set_cost setting line.area line.cost) line.area more rise.4,
-  )
+  AtBody (set_cost setting line.area line.cost) line.area [],
+  ap (body_verdict setting before []) (cost_again setting.width setting.depth before line.area line.cost rise.0 rise.1 rise.2 rise.3),
+  costs_lead (set_cost setting line.area line.cost) line.area more rise.4,
+)
 
 -- each span comes after the one before
 abbrev Follows : Option Span → List Span → Type 0
@@ -89,9 +109,9 @@ spans_lead setting before front (span ∷ more) wide deep each follows few =
     let long = length_push front span in (
       AtBody setting before (front ++ span ∷ []),
       ap (body_verdict setting before front)
-        (span_again setting.width setting.depth before front span wide deep (omega arith) (All-head (IsSpan setting.width setting.depth) span more each) follows.0),
+          (span_again setting.width setting.depth before front span wide deep (omega arith) (All-head (IsSpan setting.width setting.depth) span more each) follows.0),
       subst (λ l. Leads field_format (AtBody setting before (front ++ span ∷ [])) (map span_text more) (AtBody setting before l)) (append_assoc front (span ∷ []) more)
-        (spans_lead setting before (front ++ span ∷ []) more wide deep (All-tail (IsSpan setting.width setting.depth) span more each)
+          (spans_lead setting before (front ++ span ∷ []) more wide deep (All-tail (IsSpan setting.width setting.depth) span more each)
           (subst (λ o. Follows o more) (sym (last_pushed front span)) follows.1) (omega arith)),
     )
 
@@ -116,13 +136,13 @@ header_plain setting h =
     let error : setting.error ≤ 10000 = h.error in
     let limit : setting.limit ≤ 1024 = h.limit_most in
     plain_cons (codes "nav 1") (drop 1 all) refl
-      (plain_cons (line_text (codes "size") (setting.width ∷ setting.depth ∷ [])) (drop 2 all) (is_line-line_text (codes "size") (setting.width ∷ setting.depth ∷ []) refl (omega arith, (omega arith, tt)))
-      (plain_cons (line_text (codes "tile") (setting.tile ∷ [])) (drop 3 all) (is_line-line_text (codes "tile") (setting.tile ∷ []) refl (omega arith, tt))
-      (plain_cons (line_text (codes "agent") (agent.height ∷ agent.climb ∷ agent.radius ∷ [])) (drop 4 all)
-        (is_line-line_text (codes "agent") (agent.height ∷ agent.climb ∷ agent.radius ∷ []) refl (omega arith, (omega arith, (omega arith, tt))))
-      (plain_cons (line_text (codes "error") (setting.error ∷ [])) (drop 5 all) (is_line-line_text (codes "error") (setting.error ∷ []) refl (omega arith, tt))
-      (plain_cons (mesh_text setting.mesh) (drop 6 all) (plain_mesh setting.mesh)
-      (plain_cons (line_text (codes "limit") (setting.limit ∷ [])) [] (is_line-line_text (codes "limit") (setting.limit ∷ []) refl (omega arith, tt)) refl))))))
+    (plain_cons (line_text (codes "size") (setting.width ∷ setting.depth ∷ [])) (drop 2 all) (is_line-line_text (codes "size") (setting.width ∷ setting.depth ∷ []) refl (omega arith, (omega arith, tt)))
+    (plain_cons (line_text (codes "tile") (setting.tile ∷ [])) (drop 3 all) (is_line-line_text (codes "tile") (setting.tile ∷ []) refl (omega arith, tt))
+    (plain_cons (line_text (codes "agent") (agent.height ∷ agent.climb ∷ agent.radius ∷ [])) (drop 4 all)
+    (is_line-line_text (codes "agent") (agent.height ∷ agent.climb ∷ agent.radius ∷ []) refl (omega arith, (omega arith, (omega arith, tt))))
+    (plain_cons (line_text (codes "error") (setting.error ∷ [])) (drop 5 all) (is_line-line_text (codes "error") (setting.error ∷ []) refl (omega arith, tt))
+    (plain_cons (mesh_text setting.mesh) (drop 6 all) (plain_mesh setting.mesh)
+    (plain_cons (line_text (codes "limit") (setting.limit ∷ [])) [] (is_line-line_text (codes "limit") (setting.limit ∷ []) refl (omega arith, tt)) refl))))))
 
 costs_plain : (before : ℕ) (costs : List Cost) → RiseAbove before costs → list_all is_line (map cost_text costs) ≡ true
 costs_plain before [] rise = refl
@@ -141,8 +161,8 @@ spans_plain width depth (span ∷ more) wide deep each =
     let top : span.top ≤ 8191 = fits.top in
     let area : span.area ≤ 63 = fits.area in
     plain_cons (span_text span) (map span_text more)
-      (is_line-line_text (codes "span") (span.x ∷ span.z ∷ span.bottom ∷ span.top ∷ span.area ∷ []) refl (omega arith, (omega arith, (omega arith, (omega arith, (omega arith, tt))))))
-      (spans_plain width depth more wide deep (All-tail (IsSpan width depth) span more each))
+    (is_line-line_text (codes "span") (span.x ∷ span.z ∷ span.bottom ∷ span.top ∷ span.area ∷ []) refl (omega arith, (omega arith, (omega arith, (omega arith, (omega arith, tt))))))
+    (spans_plain width depth more wide deep (All-tail (IsSpan width depth) span more each))
 
 regroup : (header costs spans : List (List ℕ)) (end : List ℕ) (more : List (List ℕ)) → header ++ costs ++ spans ++ end ∷ [] ++ more ≡ header ++ (costs ++ (spans ++ end ∷ more))
 regroup header costs spans end more = simp append_assoc
@@ -151,8 +171,8 @@ plain_all : (header costs spans : List (List ℕ)) → list_all is_line header �
     → list_all is_line (header ++ costs ++ spans ++ codes "end" ∷ []) ≡ true
 plain_all header costs spans a b c =
     list_all-append is_line (header ++ costs ++ spans) (codes "end" ∷ []) ∙ and_from _ _
-      (list_all-append is_line (header ++ costs) spans ∙ and_from _ _ (list_all-append is_line header costs ∙ and_from _ _ a b) c)
-      refl
+    (list_all-append is_line (header ++ costs) spans ∙ and_from _ _ (list_all-append is_line header costs ∙ and_from _ _ a b) c)
+    refl
 
 count_all : (header costs spans : List (List ℕ)) (end : List ℕ) → 0 + length header + length costs + length spans + 1 ≡ length (header ++ costs ++ spans ++ end ∷ [])
 count_all header costs spans end =
@@ -176,7 +196,7 @@ pub lines_begin : (bytes text rest : List ℕ) (setting : Setting) (field : Fiel
 lines_begin bytes text rest setting field limits fits spelling parts =
     let each : All (IsSpan setting.width setting.depth) field.spans = subst₂ (λ w d. All (IsSpan w d) field.spans) spelling.width spelling.depth fits.spans in
     let plain = plain_all (header_lines setting) (map cost_text spelling.costs) (map span_text field.spans) (header_plain setting limits) (costs_plain 0 spelling.costs spelling.rise)
-      (spans_plain setting.width setting.depth field.spans limits.width limits.depth each) in
+    (spans_plain setting.width setting.depth field.spans limits.width limits.depth each) in
     ap lines (parts ∙ ap (λ t. t ++ rest) spelling.spelled) ∙ lines_again (field_lines setting spelling.costs field.spans) rest plain
 
 -- The text of a setting and a field is read as these, with all its lines.
@@ -189,16 +209,16 @@ field_again bytes text rest setting field limits fits spelling parts =
     let few : length field.spans ≤ 2000000 = fits.few in
     let each : All (IsSpan setting.width setting.depth) field.spans = subst₂ (λ w d. All (IsSpan w d) field.spans) spelling.width spelling.depth fits.spans in
     let all : lines bytes ≡ header ++ (costs ++ (spans ++ codes "end" ∷ lines rest)) =
-      lines_begin bytes text rest setting field limits fits spelling parts ∙ regroup header costs spans (codes "end") (lines rest) in
+    lines_begin bytes text rest setting field limits fits spelling parts ∙ regroup header costs spans (codes "end") (lines rest) in
     let said = after_costs (said_by setting) spelling.costs in
     let before = last_area 0 spelling.costs in
     ap (read field_format AtNav 0) all
     ∙ (leads_read field_format AtNav 0 header (costs ++ (spans ++ codes "end" ∷ lines rest)) (AtBody (said_by setting) 0 []) (header_leads setting limits)
     ∙ (leads_read field_format (AtBody (said_by setting) 0 []) (0 + length header) costs (spans ++ codes "end" ∷ lines rest) (AtBody said before [])
-      (costs_lead (said_by setting) 0 spelling.costs spelling.rise)
+    (costs_lead (said_by setting) 0 spelling.costs spelling.rise)
     ∙ (leads_read field_format (AtBody said before []) (0 + length header + length costs) spans (codes "end" ∷ lines rest) (AtBody said before field.spans)
-      (spans_lead said before [] field.spans limits.width limits.depth each (follows_all field.spans fits.order) (omega arith))
+    (spans_lead said before [] field.spans limits.width limits.depth each (follows_all field.spans fits.order) (omega arith))
     ∙ (end_read said before field.spans (0 + length header + length costs + length spans) (lines rest)
     ∙ ap₂ (λ v k. Ok (v, k))
-      (ap₂ (λ s f. (s, f)) (same_setting setting spelling.costs spelling.table spelling.clear) (same_field setting field spelling.width spelling.depth))
-      (count_all header costs spans (codes "end"))))))
+    (ap₂ (λ s f. (s, f)) (same_setting setting spelling.costs spelling.table spelling.clear) (same_field setting field spelling.width spelling.depth))
+    (count_all header costs spans (codes "end"))))))

@@ -1,7 +1,6 @@
 -- What each line behind the header says, in the order of the tests that it can fail.
 use Rattle.std.specs.Prelude.{ℕ, ◌<◌, ◌≤◌, ⊤, ◌-◌, Bool, not, ◌&&◌, ◌||◌, ◌==◌, nat_lt, nat_le, if◌then◌else◌, List, length, Option, Some, None, bytes_eq, slice_get, slice_index, codes}
 use Rattle.nav_ground.specs.declared.field.Span.{Span}
-use Rattle.nav_text.specs.declared.fault.FaultKind.{FaultKind}
 use Rattle.nav_text.specs.declared.fault.FaultKind.TheVariants.{Form, Range, Order, Overlap, TooMany}
 use Rattle.nav_text.specs.Forms.{numbers_of, has_word}
 use Rattle.span_text.specs.declared.body.BodyLine.{BodyLine}
@@ -17,12 +16,12 @@ cost_in before (Some numbers) =
 
 abbrev pub span_of : List ℕ → Span
 span_of numbers = record {
-    x = slice_index numbers 0;
-    z = slice_index numbers 1;
-    bottom = slice_index numbers 2;
-    top = slice_index numbers 3;
-    area = slice_index numbers 4
-  }
+  x = slice_index numbers 0;
+  z = slice_index numbers 1;
+  bottom = slice_index numbers 2;
+  top = slice_index numbers 3;
+  area = slice_index numbers 4;
+}
 
 -- the span's numbers are within their limits
 abbrev pub is_span : ℕ → ℕ → Span → Bool

@@ -1,5 +1,5 @@
 -- The format of field texts: what each line is, after what the lines before it have said.
-use Rattle.std.specs.Prelude.{ℕ, false, List, [], ◌∷◌, ◌++◌, replicate, slice_set, Option, None, Result, Ok, Err}
+use Rattle.std.specs.Prelude.{ℕ, false, List, [], ◌∷◌, ◌++◌, replicate, slice_set, None, Result, Ok, Err}
 use Rattle.nav_ground.specs.declared.setting.Agent.{Agent}
 use Rattle.nav_ground.specs.declared.setting.MeshKind.{MeshKind}
 use Rattle.nav_ground.specs.declared.setting.Setting.{Setting}
@@ -34,16 +34,16 @@ Value = Setting × Field
 -- a setting in which every area costs 1, and agents keep no distance from obstacles
 abbrev pub plain_setting : (width depth tile : ℕ) (agent : Agent) (error : ℕ) (mesh : MeshKind) (limit : ℕ) → Setting
 plain_setting width depth tile agent error mesh limit = record {
-    width = width;
-    depth = depth;
-    tile = tile;
-    agent = agent;
-    error = error;
-    mesh = mesh;
-    limit = limit;
-    costs = replicate 64 1;
-    clear = false
-  }
+  width = width;
+  depth = depth;
+  tile = tile;
+  agent = agent;
+  error = error;
+  mesh = mesh;
+  limit = limit;
+  costs = replicate 64 1;
+  clear = false;
+}
 
 -- a right line leads to a further place
 abbrev pub lead : {A : Type 0} → Result A FaultKind → (A → Place) → Verdict Place Value

@@ -2,12 +2,17 @@
 use Rattle.std.specs.Prelude.{◌≡◌, ℕ, ◌≤◌, length, take, Ok, Err, Result, ⊤}
 use Rattle.nav_ground.specs.declared.setting.Setting.{Setting}
 use Rattle.nav_ground.specs.declared.field.Field.{Field}
+use Rattle.nav_ground.specs.declared.field.Span.{Span}
 use Rattle.nav_text.specs.Lines.{lines, text_of}
 use Rattle.span_text.specs.declared.field.FieldText.{FieldText}
 use Rattle.span_text.specs.declared.field.FieldRefusal.{FieldRefusal}
 use Rattle.span_text.specs.declared.field.FieldRefusal.TheVariants.{Fault, OutOfMemory}
-use Rattle.span_text.specs.FieldFormat.{field_of}
+use Rattle.span_text.specs.FieldFormat.{field_of, field_with}
 use Rattle.std.specs.Prelude.{List}
+
+-- a text with its setting and spans
+abbrev pub text_with : Setting → List Span → ℕ → ℕ → FieldText
+text_with setting spans used lines = record { setting = setting; field = field_with setting spans; used = used; lines = lines }
 
 -- a text that was read is the value of the bytes' first lines, and its length is that of these lines; a fault is that of the bytes
 abbrev pub IsRead : List ℕ → Result FieldText FieldRefusal → Type 0

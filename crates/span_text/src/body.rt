@@ -96,7 +96,11 @@ fn span_after(last: &Span, span: Span) -> BodyLine
 fn is_span(width: u32, depth: u32, span: &Span) -> bool
     ensures { result ≡ is_span width depth span.now }
 {
-    span.x < width && span.z < depth && span.bottom < span.top && span.top <= 8191 && span.area <= 63
+    span.x < width
+        && span.z < depth
+        && span.bottom < span.top
+        && span.top <= 8191
+        && span.area <= 63
 }
 
 /// Whether a span's column comes before another's, by z and then x.

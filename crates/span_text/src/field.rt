@@ -1,15 +1,17 @@
 //! A whole field text.
-ghost use Rattle.std.specs.Prelude.{◌≡◌, ℕ, ◌≤◌, List, [], ◌++◌, take, length, MatchResult, IfOk, Ok, Err};
+ghost use Rattle.std.specs.Prelude.{◌≡◌, ℕ, ◌≤◌, List, [], ◌∷◌, ◌++◌, take, length, MatchResult, IfOk, Ok, Err};
 ghost use Rattle.nav_ground.specs.declared.setting.Setting.{Setting};
 ghost use Rattle.nav_ground.specs.declared.field.Field.{Field};
 ghost use Rattle.nav_ground.specs.Limits.{IsSetting};
 ghost use Rattle.nav_ground.specs.Fields.{IsField};
 ghost use Rattle.nav_text.specs.declared.fault.TextFault.{TextFault};
+ghost use Rattle.nav_text.specs.declared.fault.FaultKind.TheVariants.{Unfinished};
+ghost use Rattle.nav_text.specs.Faults.{fault_at};
 ghost use Rattle.nav_text.specs.Lines.{lines, IsPast};
 ghost use Rattle.nav_text.specs.Reading.{read, IsFirstFault};
 ghost use Rattle.span_text.specs.FieldText.{IsFieldText};
 ghost use Rattle.span_text.specs.FieldFormat.{field_of, field_format, AtNav, AtBody};
-ghost use Rattle.span_text.specs.Outcome.{IsRead, Gives};
+ghost use Rattle.span_text.specs.Outcome.{IsRead, Gives, text_with};
 
 use crate::body::{BodyLine, body_line};
 use crate::header::{agent_line, limited, mesh_line, nav_line, size_line};
@@ -37,6 +39,18 @@ pub enum FieldRefusal {
     OutOfMemory,
 }
 
+/// The first line of what is left of a text, and what follows it. The line has this number, and where it is not ended, that is the fault.
+fn line_at(number: u32, text: &[u8]) -> Result<(&[u8], &[u8]), TextFault>
+    ensures lines { MatchResult result (λ x. lines text.now ≡ x.0.now ∷ lines x.1.now)
+        (λ fault. (lines text.now ≡ []) × (fault ≡ fault_at number Unfinished)) }
+    ensures text { IfOk result (λ x. text.now ≡ x.0.now ++ 10 ∷ x.1.now) }
+{
+    match first_line(text) {
+        Some(line) => Ok(line),
+        None => Err(TextFault::new(number, FaultKind::Unfinished)),
+    }
+}
+
 /// The header of a field text: its setting, in which every area costs 1, and the bytes behind it.
 #[tactic(auto, unfolding(nav_text::specs::Reading::read))]
 fn read_header(bytes: &[u8]) -> Result<(Setting, &[u8]), TextFault>
@@ -45,33 +59,19 @@ fn read_header(bytes: &[u8]) -> Result<(Setting, &[u8]), TextFault>
         (λ fault. field_of bytes.now ≡ Err fault) }
     ensures past { IfOk result (λ x. IsPast bytes.now x.1.now 7) }
 {
-    let Some((line, rest)) = first_line(bytes) else {
-        return Err(TextFault::new(1, FaultKind::Unfinished));
-    };
+    let (line, rest) = line_at(1, bytes)?;
     nav_line(line).map_err(|kind| TextFault::new(1, kind))?;
-    let Some((line, rest)) = first_line(rest) else {
-        return Err(TextFault::new(2, FaultKind::Unfinished));
-    };
+    let (line, rest) = line_at(2, rest)?;
     let (width, depth) = size_line(line).map_err(|kind| TextFault::new(2, kind))?;
-    let Some((line, rest)) = first_line(rest) else {
-        return Err(TextFault::new(3, FaultKind::Unfinished));
-    };
+    let (line, rest) = line_at(3, rest)?;
     let tile = limited(b"tile", 4, 128, line).map_err(|kind| TextFault::new(3, kind))?;
-    let Some((line, rest)) = first_line(rest) else {
-        return Err(TextFault::new(4, FaultKind::Unfinished));
-    };
+    let (line, rest) = line_at(4, rest)?;
     let agent = agent_line(line).map_err(|kind| TextFault::new(4, kind))?;
-    let Some((line, rest)) = first_line(rest) else {
-        return Err(TextFault::new(5, FaultKind::Unfinished));
-    };
+    let (line, rest) = line_at(5, rest)?;
     let error = limited(b"error", 0, 10000, line).map_err(|kind| TextFault::new(5, kind))?;
-    let Some((line, rest)) = first_line(rest) else {
-        return Err(TextFault::new(6, FaultKind::Unfinished));
-    };
+    let (line, rest) = line_at(6, rest)?;
     let mesh = mesh_line(line).map_err(|kind| TextFault::new(6, kind))?;
-    let Some((line, rest)) = first_line(rest) else {
-        return Err(TextFault::new(7, FaultKind::Unfinished));
-    };
+    let (line, rest) = line_at(7, rest)?;
     let limit = limited(b"limit", 1, 1024, line).map_err(|kind| TextFault::new(7, kind))?;
     let setting = Setting {
         width,
@@ -87,8 +87,30 @@ fn read_header(bytes: &[u8]) -> Result<(Setting, &[u8]), TextFault>
     Ok((setting, rest))
 }
 
+/// What is read of a whole text.
+fn field_text(setting: Setting, spans: Vec<Span>, used: usize, lines: u32) -> FieldText
+    ensures { result ≡ text_with setting spans.items used lines }
+{
+    let field = Field {
+        width: setting.width,
+        depth: setting.depth,
+        spans: Items::from_vec(spans),
+    };
+    FieldText {
+        setting,
+        field,
+        used,
+        lines,
+    }
+}
+
 /// The lines behind the header: costs, then spans, then the end.
-fn read_body(alloc: Global, header: Setting, bytes: &[u8], body: &[u8]) -> Result<FieldText, FieldRefusal>
+fn read_body(
+    alloc: Global,
+    header: Setting,
+    bytes: &[u8],
+    body: &[u8],
+) -> Result<FieldText, FieldRefusal>
     requires said { field_of bytes.now ≡ read field_format (AtBody header 0 []) 7 (lines body.now) }
     requires past { IsPast bytes.now body.now 7 }
     ensures { IsRead bytes.now result }
@@ -110,19 +132,13 @@ fn read_body(alloc: Global, header: Setting, bytes: &[u8], body: &[u8]) -> Resul
                 }
             }
             BodyLine::End => {
-                let field = Field {
-                    width: setting.width,
-                    depth: setting.depth,
-                    spans: Items::from_vec(spans),
-                };
-                return Ok(FieldText {
-                    setting,
-                    field,
-                    used: bytes.len() - after.len(),
-                    lines: count + 1,
-                });
+                let used = bytes.len() - after.len();
+                return Ok(field_text(setting, spans, used, count + 1));
             }
-            BodyLine::Fails(kind) => return Err(FieldRefusal::Fault(TextFault::new(count + 1, kind))),
+            BodyLine::Fails(kind) => {
+                let fault = TextFault::new(count + 1, kind);
+                return Err(FieldRefusal::Fault(fault));
+            }
         }
         count += 1;
         rest = after;
@@ -160,3 +176,6 @@ pub fn read_field(alloc: Global, bytes: &[u8]) -> Result<FieldText, FieldRefusal
 {
     read_text(alloc, bytes)
 }
+
+#[cfg(test)]
+mod tests;

@@ -1,5 +1,4 @@
-use Rattle.span_text.specs.Body.{Fits}
-use Rattle.std.proofs.Common.{subst, sym, length}
+use Rattle.std.proofs.Common.{length}
 use Rattle.span_text.proofs.BodyLaws.{fits_other}
 use Rattle.span_text.proofs.body.body_line.Goals as goal
 
