@@ -1,1 +1,7 @@
+pub mod Convex
+pub mod Deviation
+pub mod Point
+pub mod Reach
+pub mod Root
+pub mod Vector
 pub mod Number
