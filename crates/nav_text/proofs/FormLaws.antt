@@ -12,7 +12,7 @@ use Rattle.std.proofs.lemmas.Slice.Eq.{bytes_eq-Decides}
 use Rattle.nav_base.specs.Number.{number_at, EndsNumber}
 use Rattle.nav_base.proofs.NumberLaws.{number_takes, number_again, digits_of_decimal}
 use Rattle.nav_text.specs.Lines.{is_line}
-use Rattle.nav_text.specs.Forms.{field_at, fields_of, numbers_of, line_text, AreNumbers}
+use Rattle.nav_text.specs.Forms.{field_at, fields_of, numbers_of, line_text, ends_word, has_word, AreNumbers}
 use Rattle.nav_text.proofs.Inversions.{some_is, when, bind_some, map_some}
 
 -- the numbers of a line, each behind a space
@@ -83,6 +83,18 @@ numbers_take word count line numbers e =
       fields.1,
       fields.2,
     )
+
+-- a line of a word and numbers has that first word
+pub has_word-numbers : (word : List ℕ) (count : ℕ) (line numbers : List ℕ) → numbers_of word (suc count) line ≡ Some numbers → has_word word line ≡ true
+unfolding numbers_of
+has_word-numbers word count line numbers e =
+    let told = when (starts_with nat_eq line word) (fields_of (suc count) (drop (length word) line)) numbers e in
+    let fields = fields_of_take (suc count) (drop (length word) line) numbers told.1 in
+    and_from _ _ told.0 (ap ends_word fields.0 ∙ ends_spaced numbers fields.1)
+  where
+    ends_spaced : (numbers : List ℕ) → length numbers ≡ suc count → ends_word (spaced numbers) ≡ true
+    ends_spaced [] long = refl
+    ends_spaced (n ∷ numbers) long = refl
 
 -- what a line is where the word is taken off it, and where it does not begin with the word
 pub numbers_behind : (word : List ℕ) (count : ℕ) (line rest : List ℕ) → bytes_eq (take (length word) line) word ≡ true → rest ≡ drop (length word) line

@@ -1,9 +1,9 @@
 -- The laws of lines.
-use Rattle.std.proofs.Common.{◌≡◌, ℕ, zero, suc, ◌+◌, ◌<◌, true, false, eqb, List, [], ◌∷◌, ◌++◌, length, take, drop, get_or, sym, subst, refl, ap, ◌∙◌, arith, append_assoc, add-one, ne_eqb}
+use Rattle.std.proofs.Common.{not, Bool, append-nil, ◌≤◌, ◌-◌, length-append, ◌≡◌, ℕ, zero, suc, ◌+◌, ◌<◌, true, false, eqb, List, [], ◌∷◌, ◌++◌, length, take, drop, get_or, sym, subst, refl, ap, ◌∙◌, arith, append_assoc, add-one, ne_eqb}
 use Rattle.std.specs.List.{list_all}
-use Rattle.std.proofs.lemmas.Bool.{and_parts, not-true, cond-false}
-use Rattle.std.proofs.lemmas.List.{flat_map_more}
-use Rattle.nav_text.specs.Lines.{onto_line, lines, ended, text_of, is_ended, is_line}
+use Rattle.std.proofs.lemmas.Bool.{cond-true, and_from, and_parts, not-true, cond-false}
+use Rattle.std.proofs.lemmas.List.{flat_map_more, take_at}
+use Rattle.nav_text.specs.Lines.{onto_line, lines, ended, text_of, is_ended, is_line, IsPast}
 
 -- a byte that is no line feed goes to the first line
 lines_more : (c : ℕ) (text : List ℕ) → eqb c 10 ≡ false → lines (c ∷ text) ≡ onto_line c (lines text)
@@ -68,11 +68,6 @@ no_line (c ∷ text) none =
     last_open c [] other e = other
     last_open c (d ∷ text) other e = e ∙ (ne_eqb (length (d ∷ text)) 0 (λ h. omega arith) ∙ sym (ne_eqb (length (c ∷ d ∷ text)) 0 (λ h. omega arith)))
 
--- the rest is what follows the first `count` lines of a text
-pub record IsPast (text rest : List ℕ) (count : ℕ) : Type 0 where
-  pub whole : text ≡ text_of (take count (lines text)) ++ rest
-  pub left : lines rest ≡ drop count (lines text)
-
 pub IsPast_start : (text : List ℕ) → IsPast text text 0
 IsPast_start text = record { whole = refl; left = refl }
 
@@ -97,3 +92,41 @@ IsPast_next text rest count line after past those spelled =
 
     onto_text : (those : List (List ℕ)) (line after : List ℕ) → text_of those ++ (line ++ 10 ∷ after) ≡ text_of (those ++ line ∷ []) ++ after
     onto_text those line after = sym (ap (λ t. t ++ after) (sym (flat_map_more ended [] those line)) ∙ regroup (text_of those) line after)
+
+-- The first lines of a text, before what follows them, are the text's front: they are as long as what was read.
+pub IsPast-used : (text rest : List ℕ) (count : ℕ) → IsPast text rest count
+    → (take (length text - length rest) text ≡ text_of (take count (lines text))) × (length rest ≤ length text)
+IsPast-used text rest count past =
+    let front = text_of (take count (lines text)) in
+    let long : length text ≡ length front + length rest = ap length past.whole ∙ length-append front rest in
+    let same : length front ≡ length text - length rest = omega arith in (
+      ap (take (length text - length rest)) past.whole ∙ take_at front rest (length text - length rest) same,
+      omega arith,
+    )
+
+onto_plain : (c : ℕ) (those : List (List ℕ)) → eqb c 10 ≡ false → list_all is_line those ≡ true → list_all is_line (onto_line c those) ≡ true
+onto_plain c [] other plain = refl
+onto_plain c (line ∷ more) other plain =
+    let parts = and_parts (is_line line) (list_all is_line more) plain in
+    and_from _ _ (and_from (not (eqb c 10)) (is_line line) (ap not other) parts.0) parts.1
+
+plain_byte : (c : ℕ) (text : List ℕ) (b : Bool) → eqb c 10 ≡ b → list_all is_line (lines text) ≡ true → list_all is_line (lines (c ∷ text)) ≡ true
+plain_byte c text true feed plain = subst (λ ls. list_all is_line ls ≡ true) (sym (cond-true (eqb c 10) ([] ∷ lines text) (onto_line c (lines text)) feed)) plain
+plain_byte c text false other plain = subst (λ ls. list_all is_line ls ≡ true) (sym (lines_more c text other)) (onto_plain c (lines text) other plain)
+
+-- The lines of a text are lines.
+pub lines_plain : (text : List ℕ) → list_all is_line (lines text) ≡ true
+lines_plain [] = refl
+lines_plain (c ∷ text) = plain_byte c text (eqb c 10) refl (lines_plain text)
+
+plain_take : (n : ℕ) (those : List (List ℕ)) → list_all is_line those ≡ true → list_all is_line (take n those) ≡ true
+plain_take zero those plain = refl
+plain_take (suc n) [] plain = refl
+plain_take (suc n) (line ∷ more) plain =
+    let parts = and_parts (is_line line) (list_all is_line more) plain in and_from _ _ parts.0 (plain_take n more parts.1)
+
+-- The text of a text's first lines has just these lines.
+pub lines_of_first : (text : List ℕ) (count : ℕ) → lines (text_of (take count (lines text))) ≡ take count (lines text)
+lines_of_first text count =
+    let first = take count (lines text) in
+    ap lines (sym (append-nil (text_of first))) ∙ (lines_again first [] (plain_take count (lines text) (lines_plain text)) ∙ append-nil first)

@@ -1,5 +1,5 @@
 -- The laws of reading a text line by line, for every format.
-use Rattle.std.proofs.Common.{◌≡◌, ℕ, ◌+◌, List, [], ◌∷◌, ◌++◌, length, Option, Some, None, Ok, Err, sym, refl, ap, ◌∙◌, subst, arith, add-zero, append-nil, append_assoc}
+use Rattle.std.proofs.Common.{◌≤◌, length-append, ◌≡◌, ℕ, ◌+◌, List, [], ◌∷◌, ◌++◌, length, Option, Some, None, Ok, Err, sym, refl, ap, ◌∙◌, subst, arith, add-zero, append-nil, append_assoc}
 use Rattle.nav_text.specs.declared.fault.TextFault.{TextFault}
 use Rattle.nav_text.specs.declared.fault.FaultKind.TheVariants.{Unfinished}
 use Rattle.nav_text.specs.Faults.{fault_at}
@@ -131,6 +131,20 @@ read_takes format place count [] value total e =
     }
 read_takes format place count (line ∷ more) value total e =
     read_line format place count line more value total (λ next r. read_takes format next (count + 1) more value total r) (format.verdict place line) refl e
+
+ends_most : {P V : Type 0} (format : Format P V) (at : P) (rest : List (List ℕ)) (value : V) (more : ℕ) → EndsAt format at rest value more → more ≤ length rest
+ends_most format at [] value more ends = let none : more ≡ 0 = ends.1 in omega arith
+ends_most format at (line ∷ rest) value more ends = let one : more ≡ 1 = ends.1 in omega arith
+
+-- no more lines are read than there are
+pub read_count : {P V : Type 0} (format : Format P V) (place : P) (count : ℕ) (those : List (List ℕ)) (value : V) (total : ℕ)
+    → read format place count those ≡ Ok (value, total) → total ≤ count + length those
+read_count format place count those value total e =
+    let told = read_takes format place count those value total e in
+    let counted : total ≡ count + length told.good + told.more = told.counted in
+    let long : length those ≡ length told.good + length told.rest = ap length told.parts ∙ length-append told.good told.rest in
+    let more : told.more ≤ length told.rest = ends_most format told.at told.rest value told.more told.ends in
+    omega arith
 
 -- Right lines are read, and reading goes on where they lead.
 pub leads_read : {P V : Type 0} (format : Format P V) (place : P) (count : ℕ) (good rest : List (List ℕ)) (at : P)

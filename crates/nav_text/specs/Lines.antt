@@ -1,5 +1,5 @@
 -- Texts as lines. A line ends with one line feed, which is byte 10; what no line feed ends is no line.
-use Rattle.std.specs.Prelude.{ℕ, Bool, true, not, ◌==◌, if◌then◌else◌, List, [], ◌∷◌, ◌++◌, flat_map}
+use Rattle.std.specs.Prelude.{◌≡◌, ℕ, take, drop, Bool, true, not, ◌==◌, if◌then◌else◌, List, [], ◌∷◌, ◌++◌, flat_map}
 use Rattle.std.specs.List.{list_all}
 
 abbrev pub onto_line : ℕ → List (List ℕ) → List (List ℕ)
@@ -28,3 +28,8 @@ is_ended (c ∷ d ∷ text) = is_ended (d ∷ text)
 -- a line has no line feed in it
 abbrev pub is_line : List ℕ → Bool
 is_line line = list_all (λ c. not (c == 10)) line
+
+-- the rest is what follows the first `count` lines of a text
+pub record IsPast (text rest : List ℕ) (count : ℕ) : Type 0 where
+  pub whole : text ≡ text_of (take count (lines text)) ++ rest
+  pub left : lines rest ≡ drop count (lines text)

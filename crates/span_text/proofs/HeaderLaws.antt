@@ -1,0 +1,146 @@
+-- The laws of the header's lines: what is read is spelled so, and what is spelled so is read.
+use Rattle.std.proofs.Common.{⊎_elim, inl, inr, ◌⊎◌, ◌≡◌, ℕ, ◌<◌, ◌≤◌, ◌^◌, Bool, true, false, cond, not, ◌||◌, nat_lt, nat_le, bytes_eq, List, [], ◌∷◌, slice_index, codes, Option, Some, None, Result, Ok, Err, refl, ap, ap₂, ◌∙◌, subst, arith}
+use Rattle.std.proofs.lemmas.Bool.{or_parts}
+use Rattle.std.proofs.lemmas.Bool.Decides.{nat_tests}
+use Rattle.std.proofs.lemmas.Slice.Eq.{bytes_eq-Decides}
+use Rattle.nav_ground.specs.declared.setting.Agent.{Agent}
+use Rattle.nav_ground.specs.declared.setting.MeshKind.{MeshKind}
+use Rattle.nav_ground.specs.declared.setting.MeshKind.TheVariants.{Strips, Contours}
+use Rattle.nav_ground.specs.Limits.{IsAgent}
+use Rattle.nav_text.specs.declared.fault.FaultKind.{FaultKind}
+use Rattle.nav_text.specs.declared.fault.FaultKind.TheVariants.{Form, Range, Climb}
+use Rattle.nav_text.specs.Forms.{line_text, numbers_of}
+use Rattle.nav_text.proofs.FormLaws.{numbers_take, numbers_again}
+use Rattle.nav_text.proofs.Inversions.{ok_is, unless, one_is, two_is, three_is}
+use Rattle.span_text.specs.FieldText.{mesh_text}
+use Rattle.span_text.specs.Header.{is_in, nav_line, size_in, size_line, number_in, limited, agent_with, agent_in, agent_line, mesh_line}
+
+in_range : (low high n : ℕ) → not (is_in low high n) ≡ false → (low ≤ n) × (n ≤ high)
+in_range low high n h = grind (arith, nat_tests)
+
+range_in : (low high n : ℕ) → low ≤ n → n ≤ high → not (is_in low high n) ≡ false
+range_in low high n least most = grind (arith, nat_tests)
+
+-- `nav 1`
+pub nav_takes : (line : List ℕ) (said : Unit {0}) → nav_line line ≡ Ok said → line ≡ codes "nav 1"
+nav_takes line said e = (bytes_eq-Decides line (codes "nav 1")).0 (is_ok_when (bytes_eq line (codes "nav 1")) said e)
+  where
+    is_ok_when : (b : Bool) (said : Unit {0}) → ◌≡◌ {A = Result (Unit {0}) FaultKind} (cond b (Ok tt) (Err Form)) (Ok said) → b ≡ true
+    is_ok_when true said e = refl
+    is_ok_when false said e = absurd cc
+
+-- `size`
+pub record IsSize (width depth : ℕ) : Type 0 where
+  pub wide : 1 ≤ width
+  pub width_most : width ≤ 1024
+  pub deep : 1 ≤ depth
+  pub depth_most : depth ≤ 1024
+
+pub size_takes : (line : List ℕ) (size : ℕ × ℕ) → size_line line ≡ Ok size → (line ≡ line_text (codes "size") (size.0 ∷ size.1 ∷ [])) × IsSize size.0 size.1
+unfolding size_line
+size_takes line size e = of_numbers (numbers_of (codes "size") 2 line) refl e
+  where
+    of_numbers : (numbers : Option (List ℕ)) → numbers_of (codes "size") 2 line ≡ numbers → size_in numbers ≡ Ok size
+        → (line ≡ line_text (codes "size") (size.0 ∷ size.1 ∷ [])) × IsSize size.0 size.1
+    of_numbers None is h = absurd cc
+    of_numbers (Some numbers) is h =
+        let form = numbers_take (codes "size") 2 line numbers is in
+        let told = unless (not (is_in 1 1024 (slice_index numbers 0)) || not (is_in 1 1024 (slice_index numbers 1))) Range (Ok (slice_index numbers 0, slice_index numbers 1)) size h in
+        let tests = or_parts _ _ told.0 in
+        let width = in_range 1 1024 (slice_index numbers 0) tests.0 in
+        let depth = in_range 1 1024 (slice_index numbers 1) tests.1 in
+        let P : ℕ × ℕ → Type 0 = λ s. (line ≡ line_text (codes "size") (s.0 ∷ s.1 ∷ [])) × IsSize s.0 s.1 in
+        subst P (ok_is told.1) (
+          form.0 ∙ ap (line_text (codes "size")) (two_is numbers form.1),
+          record { wide = width.0; width_most = width.1; deep = depth.0; depth_most = depth.1 },
+        )
+
+pub size_again : (width depth : ℕ) → IsSize width depth → size_line (line_text (codes "size") (width ∷ depth ∷ [])) ≡ Ok (width, depth)
+unfolding size_line
+size_again width depth h =
+    let width_most : width ≤ 1024 = h.width_most in
+    let depth_most : depth ≤ 1024 = h.depth_most in
+    ap size_in (numbers_again (codes "size") (width ∷ depth ∷ []) (omega arith, (omega arith, tt)))
+    ∙ (ap₂ (λ a b. cond (a || b) (Err Range) (Ok (width, depth))) (range_in 1 1024 width h.wide h.width_most) (range_in 1 1024 depth h.deep h.depth_most))
+
+-- a word and a number within limits
+pub limited_takes : (word : List ℕ) (low high : ℕ) (line : List ℕ) (n : ℕ) → limited word low high line ≡ Ok n → (line ≡ line_text word (n ∷ [])) × (low ≤ n) × (n ≤ high)
+unfolding limited
+limited_takes word low high line n e = of_numbers (numbers_of word 1 line) refl e
+  where
+    of_numbers : (numbers : Option (List ℕ)) → numbers_of word 1 line ≡ numbers → number_in low high numbers ≡ Ok n
+        → (line ≡ line_text word (n ∷ [])) × (low ≤ n) × (n ≤ high)
+    of_numbers None is h = absurd cc
+    of_numbers (Some numbers) is h =
+        let form = numbers_take word 1 line numbers is in
+        let told = unless (not (is_in low high (slice_index numbers 0))) Range (Ok (slice_index numbers 0)) n h in
+        let range = in_range low high (slice_index numbers 0) told.0 in
+        let P : ℕ → Type 0 = λ k. (line ≡ line_text word (k ∷ [])) × (low ≤ k) × (k ≤ high) in
+        subst P (ok_is told.1) (form.0 ∙ ap (line_text word) (one_is numbers form.1), range.0, range.1)
+
+pub limited_again : (word : List ℕ) (low high n : ℕ) → low ≤ n → n ≤ high → high < 2 ^ 32 → limited word low high (line_text word (n ∷ [])) ≡ Ok n
+unfolding limited
+limited_again word low high n least most small =
+    ap (number_in low high) (numbers_again word (n ∷ []) (omega arith, tt)) ∙ ap (λ b. cond b (Err Range) (Ok n)) (range_in low high n least most)
+
+-- `agent`
+agent_limits : (height climb radius : ℕ) → (not (is_in 1 255 height) || nat_lt 254 climb || nat_lt 15 radius) ≡ false → nat_le height climb ≡ false → IsAgent (agent_with height climb radius)
+agent_limits height climb radius range below = record {
+  stands = grind (arith, nat_tests);
+  low_enough = grind (arith, nat_tests);
+  climb = grind (arith, nat_tests);
+  radius = grind (arith, nat_tests);
+}
+
+pub agent_takes : (line : List ℕ) (agent : Agent) → agent_line line ≡ Ok agent
+    → (line ≡ line_text (codes "agent") (agent.height ∷ agent.climb ∷ agent.radius ∷ [])) × IsAgent agent
+unfolding agent_line
+agent_takes line agent e = of_numbers (numbers_of (codes "agent") 3 line) refl e
+  where
+    of_numbers : (numbers : Option (List ℕ)) → numbers_of (codes "agent") 3 line ≡ numbers → agent_in numbers ≡ Ok agent
+        → (line ≡ line_text (codes "agent") (agent.height ∷ agent.climb ∷ agent.radius ∷ [])) × IsAgent agent
+    of_numbers None is h = absurd cc
+    of_numbers (Some numbers) is h =
+        let form = numbers_take (codes "agent") 3 line numbers is in
+        let range = unless (not (is_in 1 255 (slice_index numbers 0)) || nat_lt 254 (slice_index numbers 1) || nat_lt 15 (slice_index numbers 2)) Range _ agent h in
+        let climb = unless (nat_le (slice_index numbers 0) (slice_index numbers 1)) Climb (Ok (agent_with (slice_index numbers 0) (slice_index numbers 1) (slice_index numbers 2))) agent range.1 in
+        let P : Agent → Type 0 = λ a. (line ≡ line_text (codes "agent") (a.height ∷ a.climb ∷ a.radius ∷ [])) × IsAgent a in
+        subst P (ok_is climb.1) (
+          form.0 ∙ ap (line_text (codes "agent")) (three_is numbers form.1),
+          agent_limits (slice_index numbers 0) (slice_index numbers 1) (slice_index numbers 2) range.0 climb.0,
+        )
+
+pub agent_again : (agent : Agent) → IsAgent agent → agent_line (line_text (codes "agent") (agent.height ∷ agent.climb ∷ agent.radius ∷ [])) ≡ Ok agent
+unfolding agent_line
+agent_again agent h =
+    let height : agent.height ≤ 255 = h.low_enough in
+    let climb : agent.climb < agent.height = h.climb in
+    let radius : agent.radius ≤ 15 = h.radius in
+    ap agent_in (numbers_again (codes "agent") (agent.height ∷ agent.climb ∷ agent.radius ∷ []) (omega arith, (omega arith, (omega arith, tt))))
+    ∙ ap₂ (λ a b. cond a (Err Range) (cond b (Err Climb) (Ok agent))) (agent_fits agent.height agent.climb agent.radius h.stands height climb radius) (below_height agent.height agent.climb climb)
+  where
+    agent_fits : (height climb radius : ℕ) → 1 ≤ height → height ≤ 255 → climb < height → radius ≤ 15 → (not (is_in 1 255 height) || nat_lt 254 climb || nat_lt 15 radius) ≡ false
+    agent_fits height climb radius stands low below near = grind (arith, nat_tests)
+
+    below_height : (height climb : ℕ) → climb < height → nat_le height climb ≡ false
+    below_height height climb below = grind (arith, nat_tests)
+
+-- `mesh`
+pub mesh_takes : (line : List ℕ) (mesh : MeshKind) → mesh_line line ≡ Ok mesh → line ≡ mesh_text mesh
+unfolding mesh_line
+mesh_takes line mesh e =
+    ⊎_elim
+    (λ strips. (bytes_eq-Decides line (codes "mesh strips")).0 strips.0 ∙ ap mesh_text strips.1)
+    (λ contours. (bytes_eq-Decides line (codes "mesh contours")).0 contours.0 ∙ ap mesh_text contours.1)
+    (by_tests (bytes_eq line (codes "mesh strips")) (bytes_eq line (codes "mesh contours")) mesh e)
+  where
+    by_tests : (strips contours : Bool) (mesh : MeshKind) → ◌≡◌ {A = Result MeshKind FaultKind} (cond strips (Ok Strips) (cond contours (Ok Contours) (Err Form))) (Ok mesh)
+        → ((strips ≡ true) × (Strips ≡ mesh)) ⊎ ((contours ≡ true) × (Contours ≡ mesh))
+    by_tests true contours mesh e = inl (refl, ok_is e)
+    by_tests false true mesh e = inr (refl, ok_is e)
+    by_tests false false mesh e = absurd cc
+
+pub mesh_again : (mesh : MeshKind) → mesh_line (mesh_text mesh) ≡ Ok mesh
+unfolding mesh_line
+mesh_again Strips = refl
+mesh_again Contours = refl

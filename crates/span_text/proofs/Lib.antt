@@ -1,0 +1,6 @@
+pub mod BodyLaws
+pub mod HeaderLaws
+pub mod BodyLineLaws
+pub mod FoundLaws
+pub mod OnlyLaws
+pub mod FieldLaws

@@ -1,0 +1,7 @@
+use Rattle.std.proofs.Common.{length}
+use Rattle.span_text.proofs.BodyLaws.{fits_other}
+use Rattle.span_text.proofs.body.body_line.Goals as goal
+
+pub returns-in-None-clause-fits : goal.returns-in-None-clause-fits
+returns-in-None-clause-fits c =
+    rw c.other_line.ensures (fits_other c.args.before (length c.args.spans.now) c.args.line.now)

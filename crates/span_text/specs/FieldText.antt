@@ -1,0 +1,63 @@
+-- The spelling of a field text: a plain function from what it says to its lines.
+use Rattle.std.specs.Prelude.{◌≡◌, ℕ, ◌<◌, ◌≤◌, false, List, [], ◌∷◌, ◌++◌, map, fold, replicate, slice_set, codes, ⊤}
+use Rattle.nav_ground.specs.declared.setting.Setting.{Setting}
+use Rattle.nav_ground.specs.declared.setting.MeshKind.{MeshKind}
+use Rattle.nav_ground.specs.declared.setting.MeshKind.TheVariants.{Strips, Contours}
+use Rattle.nav_ground.specs.declared.field.Span.{Span}
+use Rattle.nav_ground.specs.declared.field.Field.{Field}
+use Rattle.nav_text.specs.Lines.{text_of}
+use Rattle.nav_text.specs.Forms.{line_text}
+
+-- what a `cost` line says: what a unit of way costs in an area
+pub record Cost : Type 0 where
+  pub area : ℕ
+  pub cost : ℕ
+
+-- costs by rising areas, each above the one before and 63 at most, and each cost 1 to 1000
+abbrev pub RiseAbove : ℕ → List Cost → Type 0
+RiseAbove before [] = ⊤
+RiseAbove before (line ∷ more) = (before < line.area) × (line.area ≤ 63) × (1 ≤ line.cost) × (line.cost ≤ 1000) × RiseAbove line.area more
+
+abbrev pub with_cost : List ℕ → Cost → List ℕ
+with_cost table line = slice_set table line.area line.cost
+
+-- what the 64 areas cost: those that have a line what it says, all others 1
+abbrev pub costs_of : List Cost → List ℕ
+costs_of costs = fold with_cost (replicate 64 1) costs
+
+-- the lines
+abbrev pub mesh_text : MeshKind → List ℕ
+mesh_text Strips = codes "mesh strips"
+mesh_text Contours = codes "mesh contours"
+
+abbrev pub header_lines : Setting → List (List ℕ)
+header_lines setting =
+    codes "nav 1"
+    ∷ line_text (codes "size") (setting.width ∷ setting.depth ∷ [])
+    ∷ line_text (codes "tile") (setting.tile ∷ [])
+    ∷ line_text (codes "agent") (setting.agent.height ∷ setting.agent.climb ∷ setting.agent.radius ∷ [])
+    ∷ line_text (codes "error") (setting.error ∷ [])
+    ∷ mesh_text setting.mesh
+    ∷ line_text (codes "limit") (setting.limit ∷ [])
+    ∷ []
+
+abbrev pub cost_text : Cost → List ℕ
+cost_text line = line_text (codes "cost") (line.area ∷ line.cost ∷ [])
+
+abbrev pub span_text : Span → List ℕ
+span_text span = line_text (codes "span") (span.x ∷ span.z ∷ span.bottom ∷ span.top ∷ span.area ∷ [])
+
+-- all lines of a field text: the header, the costs, the spans, and `end`
+abbrev pub field_lines : Setting → List Cost → List Span → List (List ℕ)
+field_lines setting costs spans = header_lines setting ++ map cost_text costs ++ map span_text spans ++ codes "end" ∷ []
+
+-- A text spells a setting and a field: some rising cost lines give the setting's costs, and the text is the lines of the setting, these costs
+-- and the field's spans. Agents keep no distance from obstacles: this form of text has no line for that.
+pub record IsFieldText (bytes : List ℕ) (setting : Setting) (field : Field) : Type 0 where
+  pub costs : List Cost
+  pub rise : RiseAbove 0 costs
+  pub table : setting.costs ≡ costs_of costs
+  pub clear : setting.clear ≡ false
+  pub width : field.width ≡ setting.width
+  pub depth : field.depth ≡ setting.depth
+  pub spelled : bytes ≡ text_of (field_lines setting costs field.spans)

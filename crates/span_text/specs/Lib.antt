@@ -1,0 +1,5 @@
+pub mod FieldText
+pub mod Header
+pub mod Body
+pub mod FieldFormat
+pub mod Outcome

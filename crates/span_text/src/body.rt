@@ -1,0 +1,118 @@
+//! The lines behind the header: costs, spans and the end.
+ghost use Rattle.std.specs.Prelude.{◌≡◌, ◌≤◌, Some, length};
+ghost use Rattle.span_text.specs.Body.{cost_in, span_of, is_span, is_column_before, is_column_of, span_after, span_in, other_line, body_line, Fits};
+ghost use Rattle.std.specs.Option.{option_copied};
+
+use crate::header::is_in;
+use nav_ground::Span;
+use nav_text::{FaultKind, has_word, numbers_of};
+
+/// The most spans that a field can have.
+pub const MAX_SPANS: usize = 2000000;
+
+/// What a line behind the header is.
+#[derive(Clone, Copy)]
+pub enum BodyLine {
+    Cost { area: u32, cost: u32 },
+    Spans(Span),
+    End,
+    Fails(FaultKind),
+}
+
+/// A line behind the header, after some spans. `before` is the area of the last cost, 0 at first.
+#[tactic(auto, unfolding(crate::specs::Body::body_line))]
+pub fn body_line(width: u32, depth: u32, before: u32, spans: &[Span], line: &[u8]) -> BodyLine
+    requires { length spans.now ≤ MAX_SPANS }
+    ensures value { result ≡ body_line width depth before spans.now line.now }
+    // A cost is one of a further area, and a span has room.
+    ensures fits { Fits before (length spans.now) result }
+{
+    if spans.len() == MAX_SPANS && has_word(b"span", line) {
+        return BodyLine::Fails(FaultKind::TooMany);
+    }
+    match numbers_of::<5>(b"span", line) {
+        Some(numbers) => span_in(width, depth, spans.last().copied(), &numbers),
+        None => other_line(before, spans.len(), line),
+    }
+}
+
+/// A line that is no span: `end`, or a cost where no span stands before.
+#[tactic(auto, unfolding(crate::specs::Body::other_line))]
+fn other_line(before: u32, count: usize, line: &[u8]) -> BodyLine
+    ensures { result ≡ other_line before count line.now }
+{
+    if line == b"end".as_slice() {
+        return BodyLine::End;
+    }
+    if count > 0 {
+        return BodyLine::Fails(FaultKind::Form);
+    }
+    let Some(numbers) = numbers_of::<2>(b"cost", line) else {
+        return BodyLine::Fails(FaultKind::Form);
+    };
+    let (area, cost) = (numbers[0], numbers[1]);
+    if !is_in(1, 63, area) || !is_in(1, 1000, cost) {
+        BodyLine::Fails(FaultKind::Range)
+    } else if area <= before {
+        BodyLine::Fails(FaultKind::Order)
+    } else {
+        BodyLine::Cost { area, cost }
+    }
+}
+
+/// The span of five numbers after the last span.
+fn span_in(width: u32, depth: u32, last: Option<Span>, numbers: &[u32; 5]) -> BodyLine
+    ensures { result ≡ span_in width depth last numbers.now }
+{
+    let span = Span {
+        x: numbers[0],
+        z: numbers[1],
+        bottom: numbers[2],
+        top: numbers[3],
+        area: numbers[4],
+    };
+    if !is_span(width, depth, &span) {
+        return BodyLine::Fails(FaultKind::Range);
+    }
+    match last {
+        Some(last) => span_after(&last, span),
+        None => BodyLine::Spans(span),
+    }
+}
+
+fn span_after(last: &Span, span: Span) -> BodyLine
+    ensures { result ≡ span_after (Some last.now) span }
+{
+    if is_column_before(&span, last) {
+        BodyLine::Fails(FaultKind::Order)
+    } else if is_column_of(&span, last) && span.bottom < last.top {
+        BodyLine::Fails(FaultKind::Overlap)
+    } else {
+        BodyLine::Spans(span)
+    }
+}
+
+/// Whether a span's numbers are within their limits.
+fn is_span(width: u32, depth: u32, span: &Span) -> bool
+    ensures { result ≡ is_span width depth span.now }
+{
+    span.x < width
+        && span.z < depth
+        && span.bottom < span.top
+        && span.top <= 8191
+        && span.area <= 63
+}
+
+/// Whether a span's column comes before another's, by z and then x.
+fn is_column_before(a: &Span, b: &Span) -> bool
+    ensures { result ≡ is_column_before a.now b.now }
+{
+    a.z < b.z || a.z == b.z && a.x < b.x
+}
+
+/// Whether two spans are of one column.
+fn is_column_of(a: &Span, b: &Span) -> bool
+    ensures { result ≡ is_column_of a.now b.now }
+{
+    a.z == b.z && a.x == b.x
+}
