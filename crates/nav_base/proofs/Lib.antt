@@ -1,0 +1,5 @@
+pub mod Integers
+pub mod Polynomials
+pub mod OrientLaws
+pub mod RootLaws
+pub mod Sizes

@@ -1,0 +1,40 @@
+-- How large differences, scalar products, crosses and sides can become.
+use Rattle.std.proofs.Common.{◌≡◌, ℕ, ◌+◌, ◌*◌, ◌^◌, ◌≤◌, ◌<◌, ℤ, pos, ◌+ℤ◌, ◌-ℤ◌, ◌*ℤ◌, arith}
+use Rattle.std.specs.Prelude.{unsigned_abs}
+use Rattle.std.proofs.lemmas.Int.{ints, unsigned_abs-mul}
+use Rattle.std.proofs.lemmas.Nat.{mul-le}
+use Rattle.nav_base.specs.declared.point.Point.{Point}
+use Rattle.nav_base.specs.Point.{IsCoordinate, HasCoordinates, IsCellCorner, IsWithin, from_to, dot_of, cross_of, orient_of}
+
+-- a corner of a cell has coordinates
+pub HasCoordinates-corner : (p : Point) → IsCellCorner p → HasCoordinates p
+HasCoordinates-corner p at = record { across = record { low = omega (arith, ints); high = omega (arith, ints) }; along = record { low = omega (arith, ints); high = omega (arith, ints) } }
+
+-- two corners of cells lie at most 1024 apart either way
+pub from_to-corners : (a b : Point) → IsCellCorner a → IsCellCorner b → IsWithin 1024 (from_to a b)
+from_to-corners a b p q = record { across = omega (arith, ints); along = omega (arith, ints) }
+
+-- two points lie at most 2 ^ 17 apart either way
+pub from_to-coordinates : (a b : Point) → HasCoordinates a → HasCoordinates b → IsWithin (2 ^ 17) (from_to a b)
+from_to-coordinates a b p q = record { across = omega (arith, ints); along = omega (arith, ints) }
+
+unsigned_abs-+ℤ : (m n : ℤ) → unsigned_abs (m +ℤ n) ≤ unsigned_abs m + unsigned_abs n
+unsigned_abs-+ℤ m n = omega (arith, ints)
+
+unsigned_abs--ℤ : (m n : ℤ) → unsigned_abs (m -ℤ n) ≤ unsigned_abs m + unsigned_abs n
+unsigned_abs--ℤ m n = omega (arith, ints)
+
+product_bound : (k : ℕ) (m n : ℤ) → unsigned_abs m ≤ k → unsigned_abs n ≤ k → unsigned_abs (m *ℤ n) ≤ k * k
+product_bound k m n p q = rw (unsigned_abs-mul m n) (mul-le (unsigned_abs m) (unsigned_abs n) k k p q)
+
+-- the scalar product of two vectors of which no part is above k
+pub dot_of-bound : (k : ℕ) (u v : Point) → IsWithin k u → IsWithin k v → unsigned_abs (dot_of u v) ≤ 2 * (k * k)
+dot_of-bound k u v p q = omega (arith, unsigned_abs-+ℤ (u.x *ℤ v.x) (u.z *ℤ v.z), product_bound k u.x v.x p.across q.across, product_bound k u.z v.z p.along q.along)
+
+-- their cross
+pub cross_of-bound : (k : ℕ) (u v : Point) → IsWithin k u → IsWithin k v → unsigned_abs (cross_of u v) ≤ 2 * (k * k)
+cross_of-bound k u v p q = omega (arith, unsigned_abs--ℤ (u.x *ℤ v.z) (u.z *ℤ v.x), product_bound k u.x v.z p.across q.along, product_bound k u.z v.x p.along q.across)
+
+-- the side of a walk on which a point lies is a number of at most 2 ^ 35, whatever its sign
+pub orient_of-bound : (a b c : Point) → HasCoordinates a → HasCoordinates b → HasCoordinates c → unsigned_abs (orient_of a b c) ≤ 2 ^ 35
+orient_of-bound a b c p q r = cross_of-bound (2 ^ 17) (from_to a b) (from_to a c) (from_to-coordinates a b p q) (from_to-coordinates a c p r)

@@ -1,0 +1,6 @@
+pub mod Convex
+pub mod Deviation
+pub mod Point
+pub mod Reach
+pub mod Root
+pub mod Vector

@@ -1,0 +1,49 @@
+//! Strict convexity of polygons.
+
+ghost use Rattle.std.specs.Prelude.{◌≡◌, ◌↔◌, ◌<◌, All, EachIndex, IsTrue, length};
+ghost use Rattle.nav_base.specs.Point.{HasCoordinates};
+ghost use Rattle.nav_base.specs.Convex.{IsStrictlyConvex, LiesLeft, place_after};
+
+use crate::orientation::orient;
+use crate::point::Point;
+
+/// Whether the points, in their order, are the corners of a strictly convex polygon that is listed counterclockwise: there
+/// are at least three, and each lies strictly to the left of each edge that it does not end.
+pub fn strictly_convex(points: &[Point]) -> bool
+    requires { All HasCoordinates points.now }
+    ensures { IsTrue result ↔ IsStrictlyConvex points.now }
+{
+    if points.len() < 3 {
+        return false;
+    }
+    for place in 0..points.len() {
+        if !others_left(points, place) {
+            return false;
+        }
+    }
+    true
+}
+
+// Whether each corner ends the edge that begins at `place`, or lies strictly to its left.
+fn others_left(points: &[Point], place: usize) -> bool
+    requires coordinates { All HasCoordinates points.now }
+    requires there { place < length points.now }
+    ensures { IsTrue result ↔ EachIndex points.now (LiesLeft points.now place) }
+{
+    let after = next_place(points.len(), place);
+    for other in 0..points.len() {
+        if other != place && other != after && orient(points[place], points[after], points[other]) <= 0 {
+            return false;
+        }
+    }
+    true
+}
+
+// The place after this one, the first after the last.
+fn next_place(count: usize, place: usize) -> usize
+    requires { place < count }
+    ensures value { result ≡ place_after count place }
+    ensures there { result < count }
+{
+    if place + 1 == count { 0 } else { place + 1 }
+}
