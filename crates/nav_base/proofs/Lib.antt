@@ -1,3 +1,4 @@
+pub mod NumberLaws
 pub mod Integers
 pub mod Polynomials
 pub mod OrientLaws

@@ -1,4 +1,5 @@
-//! Whole-number geometry in the plane: points, turns, deviations as exact fractions, roots rounded up and strict convexity.
+//! Whole numbers and whole-number geometry, the ground on which every other crate stands: numbers as texts spell them, points, turns,
+//! deviations as exact fractions, roots rounded up and strict convexity.
 //!
 //! With x drawn to the right and z upward, a positive turn is a turn to the left, and polygons are listed counterclockwise.
 #![tactic(auto)]
@@ -7,6 +8,7 @@ mod answers;
 mod convex;
 mod deviation;
 mod distance;
+mod number;
 mod orientation;
 mod point;
 mod root;
@@ -16,6 +18,7 @@ pub use answers::{FloorAt, Question};
 pub use convex::strictly_convex;
 pub use deviation::Deviation;
 pub use distance::{dev, exceeds, less};
+pub use number::{number_at, push_number, read_number};
 pub use orientation::{cross, orient};
 pub use point::Point;
 pub use root::ceil_sqrt;
