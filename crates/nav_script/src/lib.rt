@@ -1,0 +1,8 @@
+//! The script text that follows the field text: its lines, their limits, and the reader that names the first fault.
+#![tactic(auto)]
+
+mod line;
+mod script;
+
+pub use line::Line;
+pub use script::{Script, ScriptRefusal, Way};
