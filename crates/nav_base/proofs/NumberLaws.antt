@@ -1,5 +1,5 @@
 -- The laws of numbers in texts.
-use Rattle.std.proofs.Common.{◌≡◌, ℕ, ◌+◌, ◌-◌, ◌*◌, ◌^◌, ◌<◌, ◌≤◌, Bool, true, false, cond, nat_lt, List, [], ◌∷◌, ◌++◌, length, take, drop, get_or, pos, Some, None, decimal, sym, refl, ap, ◌∙◌, subst, inl, inr, arith, take-append-drop, le_refl, length-append}
+use Rattle.std.proofs.Common.{All, ◌≡◌, ℕ, ◌+◌, ◌-◌, ◌*◌, ◌^◌, ◌<◌, ◌≤◌, Bool, true, false, cond, nat_lt, List, [], ◌∷◌, ◌++◌, length, take, drop, get_or, pos, Some, None, decimal, sym, refl, ap, ◌∙◌, subst, inl, inr, arith, take-append-drop, le_refl, length-append}
 use Rattle.std.specs.Char.{is_ascii_digit, digit_value}
 use Rattle.std.specs.Fmt.{signed_decimal}
 use Rattle.std.specs.Int.{IsInRange}
@@ -9,7 +9,7 @@ use Rattle.std.proofs.lemmas.Bool.{ltb-true, cases_lt, cond-false, and_parts, an
 use Rattle.std.proofs.lemmas.Bool.Decides.{nat_tests}
 use Rattle.std.proofs.lemmas.Fmt.{digits_decimal, digits_value-decimal, decimal-digits_value, decimal_nonempty, first_decimal, decimal_digit}
 use Rattle.std.proofs.lemmas.Int.Digits.{digits_value_more}
-use Rattle.std.proofs.lemmas.List.{nil_from_length, drop_more, drop_all, append-nil, take_at, drop_at, take-take, get_or_append_left, get_or-append_right, get_or-take, length-take-le}
+use Rattle.std.proofs.lemmas.List.{get_or_default, nil_from_length, drop_more, drop_all, append-nil, take_at, drop_at, take-take, get_or_append_left, get_or-append_right, get_or-take, length-take-le}
 use Rattle.std.proofs.lemmas.List.Folds.{length-prefix_len}
 use Rattle.std.proofs.lemmas.List.Sums.{prefix_len_is, prefix_len_passes, prefix_len_stops}
 use Rattle.std.proofs.lemmas.Str.Parse.{IsNumeralModel, numerals_by_value, tells_by_index, digits_value-take-le}
@@ -172,6 +172,10 @@ number_again n rest small ends =
     let taken : leading_digits (text ++ rest) ≡ text = rw len (take_at text rest (length text) refl) in
     let below : nat_lt n (2 ^ 32) ≡ true = grind (arith, nat_tests) in
     rw (taken, value, below, decimal_is_canonical n small, drop_at text rest (length text) refl) refl
+
+-- Every byte of a spelling is a digit.
+pub digits_of_decimal : (n : ℕ) → n < 2 ^ 32 → All (IsInRange 48 57) (decimal n)
+digits_of_decimal n small k d lt = rw (get_or_default (decimal n) k d 0 lt) (digits_decimal own n (omega arith) k lt)
 
 -- What `push_number` writes of a number from 0 on is read back by `read_number`: it is that number's spelling.
 pub pushed_is_spelling : (n : ℕ) → signed_decimal (pos n) ≡ decimal n

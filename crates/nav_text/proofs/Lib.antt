@@ -1,0 +1,4 @@
+pub mod Inversions
+pub mod LineLaws
+pub mod FormLaws
+pub mod ReadingLaws

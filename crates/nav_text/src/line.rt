@@ -1,0 +1,124 @@
+//! Lines, and the words and numbers on them.
+ghost use Rattle.std.specs.Prelude.{◌≡◌, ℕ, ◌++◌, ◌==◌, ◌∷◌, [], List, Some, length, MatchOption, IfSome};
+ghost use Rattle.std.specs.Option.{option_map};
+ghost use Rattle.nav_text.specs.Lines.{lines, is_ended};
+ghost use Rattle.nav_text.specs.Forms.{field_at, fields_of, numbers_of, has_word, line_text, AreNumbers};
+
+use memchr::memchr;
+use nav_base::number_at;
+
+/// The first line of a text, without its line feed, and the text after it. None where no line feed is left.
+pub fn first_line(text: &[u8]) -> Option<(&[u8], &[u8])>
+    ensures lines { MatchOption result (lines text.now ≡ [])
+        (λ x. lines text.now ≡ x.0.now ∷ lines x.1.now) }
+    ensures text { IfSome result (λ x. text.now ≡ x.0.now ++ 10 ∷ x.1.now) }
+    ensures ended { MatchOption result (is_ended text.now ≡ (length text.now == 0))
+        (λ x. is_ended text.now ≡ is_ended x.1.now) }
+{
+    let end = memchr(b'\n', text)?;
+    Some((&text[..end], &text[end + 1..]))
+}
+
+/// Whether the first word of a line, which is its bytes up to the first space or the line's end, is a word. The word has no space.
+pub fn has_word(word: &[u8], line: &[u8]) -> bool
+    ensures { result ≡ has_word word.now line.now }
+{
+    match line.strip_prefix(word) {
+        Some(rest) => rest.is_empty() || rest[0] == b' ',
+        None => false,
+    }
+}
+
+/// The number behind one space at the front, and the bytes after it.
+#[tactic(auto, unfolding(crate::specs::Forms::field_at))]
+fn field_at(bytes: &[u8]) -> Option<(u32, &[u8])>
+    ensures { option_map (λ x. (x.0, x.1.now)) result ≡ field_at bytes.now }
+{
+    match bytes {
+        [b' ', number @ ..] => number_at(number),
+        _ => None,
+    }
+}
+
+/// So many numbers, each behind one space, and nothing else.
+fn fields_of<const COUNT: usize>(bytes: &[u8]) -> Option<[u32; COUNT]>
+    ensures { result ≡ fields_of COUNT bytes.now }
+{
+    let mut numbers = [0; COUNT];
+    let mut rest = bytes;
+    for i in 0..COUNT {
+        let (number, after) = field_at(rest)?;
+        numbers[i] = number;
+        rest = after;
+    }
+    if !rest.is_empty() {
+        return None;
+    }
+    Some(numbers)
+}
+
+/// The numbers of a line that is a word and so many numbers, each behind one space. None where it is not of this form.
+#[tactic(auto, unfolding(crate::specs::Forms::numbers_of))]
+pub fn numbers_of<const COUNT: usize>(word: &[u8], line: &[u8]) -> Option<[u32; COUNT]>
+    ensures value { result ≡ numbers_of word.now COUNT line.now }
+    // A line of which numbers are read is the word and these numbers.
+    ensures found { IfSome result (λ numbers. line.now ≡ line_text word.now numbers) }
+    // A line that is the word and so many numbers is read as these numbers.
+    ensures only { (numbers : List ℕ) → length numbers ≡ COUNT → AreNumbers numbers
+        → line.now ≡ line_text word.now numbers → result ≡ Some numbers }
+{
+    fields_of(line.strip_prefix(word)?)
+}
+
+#[cfg(test)]
+mod tests {
+    use super::*;
+    use crate::{FaultKind, TextFault};
+
+    #[test]
+    fn reads_lines_and_words(rt: HostRuntime) {
+        let (line, rest) = first_line(b"end\nscript 1 1\n").unwrap_or((b"", b""));
+        assert_eq!(rt;
+            (line, rest),
+            (b"end".as_slice(), b"script 1 1\n".as_slice())
+        );
+        let (line, rest) = first_line(b"\n").unwrap_or((b"none", b"none"));
+        assert_eq!(rt; (line, rest), (b"".as_slice(), b"".as_slice()));
+        assert!(rt; first_line(b"end").is_none());
+        for (line, wanted) in [
+            ("span", true),
+            ("span 1 x", true),
+            ("span ", true),
+            ("spans", false),
+            ("spa", false),
+            ("", false),
+        ] {
+            assert_eq!(rt; has_word(b"span", line.as_bytes()), wanted, "at {line}");
+        }
+    }
+
+    #[test]
+    fn reads_numbers_of_lines(rt: HostRuntime) {
+        for (line, wanted) in [
+            ("size 7 9", Some([7, 9])),
+            ("size 0 4294967295", Some([0, 4294967295])),
+            ("size 7", None),
+            ("size 7 9 1", None),
+            ("size 7 9 ", None),
+            ("size  7 9", None),
+            ("size 7  9", None),
+            (" size 7 9", None),
+            ("size\t7 9", None),
+            ("size 07 9", None),
+            ("size 7 9\r", None),
+            ("size 7 4294967296", None),
+            ("sizes 7 9", None),
+            ("size7 9", None),
+            ("", None),
+        ] {
+            assert_eq!(rt; numbers_of(b"size", line.as_bytes()), wanted, "at {line}");
+        }
+        assert_eq!(rt; numbers_of(b"end", b"end"), Some([]));
+        assert_eq!(rt; TextFault::new(7, FaultKind::TooManyLines).kind, 11);
+    }
+}
