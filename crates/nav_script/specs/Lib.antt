@@ -1,3 +1,4 @@
 pub mod Spelling
 pub mod Lanes
 pub mod Limits
+pub mod Forms

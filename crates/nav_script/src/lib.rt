@@ -1,6 +1,7 @@
 //! The script text that follows the field text: its lines, their limits, and the reader that names the first fault.
 #![tactic(auto)]
 
+mod forms;
 mod line;
 mod script;
 
