@@ -23,7 +23,11 @@ const LARGEST_RADIUS: u32 = 1023;
 fn in_limits(fits: bool, line: Line) -> Result<Line, FaultKind>
     ensures { result ≡ Rattle.nav_script.specs.Forms.in_limits fits line }
 {
-    if fits { Ok(line) } else { Err(FaultKind::Range) }
+    if fits {
+        Ok(line)
+    } else {
+        Err(FaultKind::Range)
+    }
 }
 
 fn below_count(number: u32, count: u32, line: Line) -> Result<Line, FaultKind>
@@ -58,7 +62,10 @@ fn floor_line(n: [u32; 2]) -> Result<Line, FaultKind>
     ensures { result ≡ Rattle.nav_script.specs.Forms.floor_line n }
 {
     let [x, z] = n;
-    in_limits(x <= LAST_COLUMN && z <= LAST_COLUMN, Line::Ask(Question::Floor { x, z }))
+    in_limits(
+        x <= LAST_COLUMN && z <= LAST_COLUMN,
+        Line::Ask(Question::Floor { x, z }),
+    )
 }
 
 fn path_line(n: [u32; 6]) -> Result<Line, FaultKind>
@@ -69,9 +76,15 @@ fn path_line(n: [u32; 6]) -> Result<Line, FaultKind>
         return Err(FaultKind::Range);
     }
     Ok(Line::Ask(Question::Path {
-        from: Point { x: x as i32, z: z as i32 },
+        from: Point {
+            x: x as i32,
+            z: z as i32,
+        },
         from_y,
-        to: Point { x: to_x as i32, z: to_z as i32 },
+        to: Point {
+            x: to_x as i32,
+            z: to_z as i32,
+        },
         to_y,
     }))
 }
@@ -84,9 +97,15 @@ fn ray_line(n: [u32; 5]) -> Result<Line, FaultKind>
         return Err(FaultKind::Range);
     }
     Ok(Line::Ask(Question::Ray {
-        from: Point { x: x as i32, z: z as i32 },
+        from: Point {
+            x: x as i32,
+            z: z as i32,
+        },
         from_y,
-        to: Point { x: to_x as i32, z: to_z as i32 },
+        to: Point {
+            x: to_x as i32,
+            z: to_z as i32,
+        },
     }))
 }
 
@@ -96,7 +115,14 @@ fn block_line(n: [u32; 6]) -> Result<Line, FaultKind>
     let [x0, x1, y0, y1, z0, z1] = n;
     in_limits(
         is_range(x0, x1, LAST_COLUMN) && is_range(y0, y1, HIGHEST) && is_range(z0, z1, LAST_COLUMN),
-        Line::Add(Shape::Block { x0, x1, y0, y1, z0, z1 }),
+        Line::Add(Shape::Block {
+            x0,
+            x1,
+            y0,
+            y1,
+            z0,
+            z1,
+        }),
     )
 }
 
@@ -196,7 +222,13 @@ fn played_line(way: Way, workers: u32, line: &[u8]) -> Option<Result<Line, Fault
 }
 
 /// What a line says, where there are so many lanes and workers, and so many `add` lines of the line's lane before it; else what is wrong with it.
-pub fn read_line(way: Way, lanes: u32, workers: u32, adds: u32, line: &[u8]) -> Result<Line, FaultKind>
+pub fn read_line(
+    way: Way,
+    lanes: u32,
+    workers: u32,
+    adds: u32,
+    line: &[u8],
+) -> Result<Line, FaultKind>
     ensures { result ≡ Rattle.nav_script.specs.Forms.line_read way lanes workers adds line.now }
 {
     if let Some(read) = question_line(line) {
