@@ -1,5 +1,5 @@
 -- The laws of a script's lines: what is read of a line is spelled so, and what is spelled so is read.
-use Rattle.std.proofs.Common.{◌≡◌, ℕ, zero, suc, ◌+◌, ◌^◌, ◌<◌, ◌≤◌, Bool, true, false, cond, ◌&&◌, eqb, nat_le, nat_lt, List, [], ◌∷◌, length, Option, Some, None, Result, Ok, Err, codes, pos, ◌≤ℤ◌, unwrap_or, sym, subst, refl, ap, ◌∙◌, arith, slice_index}
+use Rattle.std.proofs.Common.{◌≡◌, ℕ, zero, suc, ◌+◌, ◌^◌, ◌<◌, ◌≤◌, Bool, true, false, cond, ◌&&◌, eqb, nat_le, nat_lt, List, [], ◌∷◌, length, Option, Some, None, Result, Ok, Err, codes, pos, ◌≤ℤ◌, unwrap_or, sym, subst, refl, ap, ◌∙◌, arith, slice_index, IfOk}
 use Rattle.std.specs.Option.{option_map}
 use Rattle.std.proofs.lemmas.Bool.{and_parts, ltb-true, leb-true}
 use Rattle.std.proofs.lemmas.Bool.Decides.{nat_tests}
@@ -16,7 +16,7 @@ use Rattle.nav_script.specs.declared.line.Line.TheVariants.{Lane, Ask, Add, Remo
 use Rattle.nav_script.specs.declared.script.Way.{Way}
 use Rattle.nav_script.specs.declared.script.Way.TheVariants.{Play, Live}
 use Rattle.nav_script.specs.Spelling.{line_of}
-use Rattle.nav_script.specs.Lanes.{lane_after, adds_in}
+use Rattle.nav_script.specs.Lanes.{NamesLaneBelow}
 use Rattle.nav_script.specs.Limits.{IsPlace, IsLine}
 use Rattle.nav_script.specs.Forms.{LineRead, in_limits, below_count, floor_line, is_place, is_standing, point_at, path_line, ray_line, is_range, block_line, cylinder_line, drop_line, form, first_of_them, question_forms, question_line, request_forms, request_line, lane_forms, lane_line, worker_forms, worker_line, played_line, line_read}
 
@@ -43,12 +43,12 @@ six : (P : List ℕ → Type 0) → ((a b c d e f : ℕ) → P (a ∷ b ∷ c �
 six P each n = some_more P n 5 (λ a more. five (λ l. P (a ∷ l)) (each a) more)
 
 -- the line that is read stands after these lines, and the bytes are its spelling
-abbrev Fits : Way → (lanes workers : ℕ) → List Line → List ℕ → Line → Type 0
-Fits way lanes workers before text line = (text ≡ line_of line) × IsLine way lanes workers before line
+abbrev pub Fits : Way → (lanes workers adds : ℕ) → List ℕ → Line → Type 0
+Fits way lanes workers adds text line = (text ≡ line_of line) × IsLine way lanes workers adds line
 
 -- what is read, if it is a line, fits
-abbrev IsRight : Way → (lanes workers : ℕ) → List Line → List ℕ → LineRead → Type 0
-IsRight way lanes workers before text read = (line : Line) → read ≡ Ok line → Fits way lanes workers before text line
+abbrev pub IsRight : Way → (lanes workers adds : ℕ) → List ℕ → LineRead → Type 0
+IsRight way lanes workers adds text read = (line : Line) → read ≡ Ok line → Fits way lanes workers adds text line
 
 -- each of these that there is has a property
 abbrev Each : (LineRead → Type 0) → List (Option LineRead) → Type 0
@@ -74,11 +74,11 @@ limits_told true made line e = (refl, ok_is e)
 limits_told false made line e = absurd cc
 
 -- a line that is made where its numbers are in their limits
-limits_right : (way : Way) (lanes workers : ℕ) (before : List Line) (text : List ℕ) (fits : Bool) (made : Line)
-    → text ≡ line_of made → (fits ≡ true → IsLine way lanes workers before made) → IsRight way lanes workers before text (in_limits fits made)
-limits_right way lanes workers before text fits made spelled limits line e =
+limits_right : (way : Way) (lanes workers adds : ℕ) (text : List ℕ) (fits : Bool) (made : Line)
+    → text ≡ line_of made → (fits ≡ true → IsLine way lanes workers adds made) → IsRight way lanes workers adds text (in_limits fits made)
+limits_right way lanes workers adds text fits made spelled limits line e =
     let told = limits_told fits made line e in
-    subst (Fits way lanes workers before text) told.1 (spelled, limits told.0)
+    subst (Fits way lanes workers adds text) told.1 (spelled, limits told.0)
 
 floor_limits : (x z : ℕ) → nat_le x 1023 && nat_le z 1023 ≡ true → (x ≤ 1023) × (z ≤ 1023)
 floor_limits x z h = grind (arith, nat_tests)
@@ -138,11 +138,11 @@ below_told number count made line e = split (nat_lt number count) refl e
     split true is e = (ltb-true number count is, ok_is e)
     split false is e = absurd cc
 
-below_right : (way : Way) (lanes workers : ℕ) (before : List Line) (text : List ℕ) (number count : ℕ) (made : Line)
-    → text ≡ line_of made → (number < count → IsLine way lanes workers before made) → IsRight way lanes workers before text (below_count number count made)
-below_right way lanes workers before text number count made spelled limits line e =
+below_right : (way : Way) (lanes workers adds : ℕ) (text : List ℕ) (number count : ℕ) (made : Line)
+    → text ≡ line_of made → (number < count → IsLine way lanes workers adds made) → IsRight way lanes workers adds text (below_count number count made)
+below_right way lanes workers adds text number count made spelled limits line e =
     let told = below_told number count made line e in
-    subst (Fits way lanes workers before text) told.1 (spelled, limits told.0)
+    subst (Fits way lanes workers adds text) told.1 (spelled, limits told.0)
 
 drop_told : (adds back : ℕ) (line : Line) → drop_line adds back ≡ Ok line → (1 ≤ back) × (back ≤ adds) × (Undo back ≡ line)
 drop_told adds back line e = split (eqb back 0) refl (nat_lt adds back) refl e
@@ -153,27 +153,27 @@ drop_told adds back line e = split (eqb back 0) refl (nat_lt adds back) refl e
     split false is true at e = absurd cc
     split false is false at e = (grind (arith, nat_tests), grind (arith, nat_tests), ok_is e)
 
-drop_right : (way : Way) (lanes workers : ℕ) (before : List Line) (text : List ℕ) (adds back : ℕ)
-    → adds ≡ adds_in (lane_after before) before → text ≡ line_of (Undo back) → IsRight way lanes workers before text (drop_line adds back)
-drop_right way lanes workers before text adds back counted spelled line e =
+drop_right : (way : Way) (lanes workers adds : ℕ) (text : List ℕ) (back : ℕ)
+    → text ≡ line_of (Undo back) → IsRight way lanes workers adds text (drop_line adds back)
+drop_right way lanes workers adds text back spelled line e =
     let told = drop_told adds back line e in
-    subst (Fits way lanes workers before text) told.2 (spelled, (told.0, subst (λ n. back ≤ n) counted told.1))
+    subst (Fits way lanes workers adds text) told.2 (spelled, (told.0, told.1))
 
-same_right : (way : Way) (lanes workers : ℕ) (before : List Line) (text : List ℕ) (made : Line)
-    → text ≡ line_of made → IsLine way lanes workers before made → IsRight way lanes workers before text (Ok made)
-same_right way lanes workers before text made spelled limits line e = subst (Fits way lanes workers before text) (ok_is e) (spelled, limits)
+same_right : (way : Way) (lanes workers adds : ℕ) (text : List ℕ) (made : Line)
+    → text ≡ line_of made → IsLine way lanes workers adds made → IsRight way lanes workers adds text (Ok made)
+same_right way lanes workers adds text made spelled limits line e = subst (Fits way lanes workers adds text) (ok_is e) (spelled, limits)
 
 -- what a text gives at each form
-abbrev Gives : Way → (lanes workers : ℕ) → List Line → List ℕ → List ℕ → (List ℕ → LineRead) → List ℕ → Type 0
-Gives way lanes workers before text word make n = AreNumbers n → text ≡ line_text word n → IsRight way lanes workers before text (make n)
+abbrev Gives : Way → (lanes workers adds : ℕ) → List ℕ → List ℕ → (List ℕ → LineRead) → List ℕ → Type 0
+Gives way lanes workers adds text word make n = AreNumbers n → text ≡ line_text word n → IsRight way lanes workers adds text (make n)
 
-question_right : (way : Way) (lanes workers : ℕ) (before : List Line) (text : List ℕ)
-    → (read : LineRead) → question_line text ≡ Some read → IsRight way lanes workers before text read
+pub question_right : (way : Way) (lanes workers adds : ℕ) (text : List ℕ)
+    → (read : LineRead) → question_line text ≡ Some read → IsRight way lanes workers adds text read
 unfolding question_line
-question_right way lanes workers before text =
-    let Q : LineRead → Type 0 = IsRight way lanes workers before text in
-    let R : List ℕ → (List ℕ → LineRead) → List ℕ → Type 0 = Gives way lanes workers before text in
-    let right = limits_right way lanes workers before text in
+question_right way lanes workers adds text =
+    let Q : LineRead → Type 0 = IsRight way lanes workers adds text in
+    let R : List ℕ → (List ℕ → LineRead) → List ℕ → Type 0 = Gives way lanes workers adds text in
+    let right = limits_right way lanes workers adds text in
     first_is Q (question_forms text) (
       form_is Q (codes "floor") 2 floor_line text
           (two (R (codes "floor") floor_line) (λ x z fit spelled. right _ _ spelled (floor_limits x z))),
@@ -188,13 +188,12 @@ question_right way lanes workers before text =
       ),
     )
 
-request_right : (way : Way) (lanes workers : ℕ) (before : List Line) (adds : ℕ) (text : List ℕ) → adds ≡ adds_in (lane_after before) before
-    → (read : LineRead) → request_line adds text ≡ Some read → IsRight way lanes workers before text read
+pub request_right : (way : Way) (lanes workers adds : ℕ) (text : List ℕ) → (read : LineRead) → request_line adds text ≡ Some read → IsRight way lanes workers adds text read
 unfolding request_line
-request_right way lanes workers before adds text counted =
-    let Q : LineRead → Type 0 = IsRight way lanes workers before text in
-    let R : List ℕ → (List ℕ → LineRead) → List ℕ → Type 0 = Gives way lanes workers before text in
-    let right = limits_right way lanes workers before text in
+request_right way lanes workers adds text =
+    let Q : LineRead → Type 0 = IsRight way lanes workers adds text in
+    let R : List ℕ → (List ℕ → LineRead) → List ℕ → Type 0 = Gives way lanes workers adds text in
+    let right = limits_right way lanes workers adds text in
     let remove : List ℕ → LineRead = λ n. Ok (Remove (slice_index n 0)) in
     let undo : List ℕ → LineRead = λ n. drop_line adds (slice_index n 0) in
     first_is Q (request_forms adds text) (
@@ -205,42 +204,42 @@ request_right way lanes workers before adds text counted =
             (five (R (codes "add cylinder") cylinder_line) (λ cx cz r y0 y1 fit spelled. right _ _ spelled (cylinder_limits cx cz r y0 y1))),
         (
           form_is Q (codes "remove") 1 remove text
-              (one (R (codes "remove") remove) (λ number fit spelled. same_right way lanes workers before text (Remove number) spelled fit.0)),
+              (one (R (codes "remove") remove) (λ number fit spelled. same_right way lanes workers adds text (Remove number) spelled fit.0)),
           (
             form_is Q (codes "drop") 1 undo text
-                (one (R (codes "drop") undo) (λ back fit spelled. drop_right way lanes workers before text adds back counted spelled)),
+                (one (R (codes "drop") undo) (λ back fit spelled. drop_right way lanes workers adds text back spelled)),
             tt,
           ),
         ),
       ),
     )
 
-lane_right : (way : Way) (lanes workers : ℕ) (before : List Line) (text : List ℕ)
-    → (read : LineRead) → lane_line lanes text ≡ Some read → IsRight way lanes workers before text read
+pub lane_right : (way : Way) (lanes workers adds : ℕ) (text : List ℕ)
+    → (read : LineRead) → lane_line lanes text ≡ Some read → IsRight way lanes workers adds text read
 unfolding lane_line
-lane_right way lanes workers before text =
-    let Q : LineRead → Type 0 = IsRight way lanes workers before text in
-    let R : List ℕ → (List ℕ → LineRead) → List ℕ → Type 0 = Gives way lanes workers before text in
+lane_right way lanes workers adds text =
+    let Q : LineRead → Type 0 = IsRight way lanes workers adds text in
+    let R : List ℕ → (List ℕ → LineRead) → List ℕ → Type 0 = Gives way lanes workers adds text in
     let settle : List ℕ → LineRead = λ n. Ok Settle in
     let lane : List ℕ → LineRead = λ n. below_count (slice_index n 0) lanes (Lane (slice_index n 0)) in
     first_is Q (lane_forms lanes text) (
       form_is Q (codes "settle") 0 settle text
-          (λ n. no_more (R (codes "settle") settle) n (λ fit spelled. same_right way lanes workers before text Settle spelled tt)),
+          (λ n. no_more (R (codes "settle") settle) n (λ fit spelled. same_right way lanes workers adds text Settle spelled tt)),
       (
         form_is Q (codes "lane") 1 lane text
-            (one (R (codes "lane") lane) (λ number fit spelled. below_right way lanes workers before text number lanes (Lane number) spelled (λ h. h))),
+            (one (R (codes "lane") lane) (λ number fit spelled. below_right way lanes workers adds text number lanes (Lane number) spelled (λ h. h))),
         tt,
       ),
     )
 
-worker_right : (lanes workers : ℕ) (before : List Line) (text : List ℕ)
-    → (read : LineRead) → worker_line workers text ≡ Some read → IsRight Play lanes workers before text read
+worker_right : (lanes workers adds : ℕ) (text : List ℕ)
+    → (read : LineRead) → worker_line workers text ≡ Some read → IsRight Play lanes workers adds text read
 unfolding worker_line
-worker_right lanes workers before text =
-    let Q : LineRead → Type 0 = IsRight Play lanes workers before text in
-    let R : List ℕ → (List ℕ → LineRead) → List ℕ → Type 0 = Gives Play lanes workers before text in
-    let same = same_right Play lanes workers before text in
-    let below = below_right Play lanes workers before text in
+worker_right lanes workers adds text =
+    let Q : LineRead → Type 0 = IsRight Play lanes workers adds text in
+    let R : List ℕ → (List ℕ → LineRead) → List ℕ → Type 0 = Gives Play lanes workers adds text in
+    let same = same_right Play lanes workers adds text in
+    let below = below_right Play lanes workers adds text in
     let claim : List ℕ → LineRead = λ n. below_count (slice_index n 0) workers (Claim (slice_index n 0)) in
     let submit : List ℕ → LineRead = λ n. below_count (slice_index n 0) workers (Submit (slice_index n 0)) in
     let back : List ℕ → LineRead = λ n. below_count (slice_index n 0) workers (Back (slice_index n 0)) in
@@ -260,29 +259,39 @@ worker_right lanes workers before text =
       ),
     )
 
-played_right : (way : Way) (lanes workers : ℕ) (before : List Line) (text : List ℕ)
-    → (read : LineRead) → played_line way workers text ≡ Some read → IsRight way lanes workers before text read
-played_right Play lanes workers before text read e = worker_right lanes workers before text read e
-played_right Live lanes workers before text read e = absurd cc
+pub played_right : (way : Way) (lanes workers adds : ℕ) (text : List ℕ)
+    → (read : LineRead) → played_line way workers text ≡ Some read → IsRight way lanes workers adds text read
+played_right Play lanes workers adds text read e = worker_right lanes workers adds text read e
+played_right Live lanes workers adds text read e = absurd cc
 
 known : (o : Option LineRead) (line : Line) → unwrap_or o (Err kinds.Line) ≡ Ok line → o ≡ Some (Ok line)
 known (Some read) line e = ap Some e
 known None line e = absurd cc
 
 -- What is read of a line is spelled so, and may stand there.
-pub line_right : (way : Way) (lanes workers adds : ℕ) (before : List Line) (text : List ℕ) → adds ≡ adds_in (lane_after before) before
-    → (line : Line) → line_read way lanes workers adds text ≡ Ok line → (text ≡ line_of line) × IsLine way lanes workers before line
-line_right way lanes workers adds before text counted line e =
-    let Q : LineRead → Type 0 = IsRight way lanes workers before text in
+pub line_right : (way : Way) (lanes workers adds : ℕ) (text : List ℕ) (line : Line)
+    → line_read way lanes workers adds text ≡ Ok line → (text ≡ line_of line) × IsLine way lanes workers adds line
+line_right way lanes workers adds text line e =
+    let Q : LineRead → Type 0 = IsRight way lanes workers adds text in
     let forms = question_line text ∷ request_line adds text ∷ lane_line lanes text ∷ played_line way workers text ∷ [] in
     first_is Q forms (
-      question_right way lanes workers before text,
+      question_right way lanes workers adds text,
       (
-        request_right way lanes workers before adds text counted,
+        request_right way lanes workers adds text,
         (
-          lane_right way lanes workers before text,
-          (played_right way lanes workers before text, tt),
+          lane_right way lanes workers adds text,
+          (played_right way lanes workers adds text, tt),
         ),
       ),
     )
     (Ok line) (known (first_of_them forms) line e) line refl
+
+names_below : (way : Way) (lanes workers adds : ℕ) (line : Line) → IsLine way lanes workers adds line → NamesLaneBelow lanes line
+names_below way lanes workers adds (Lane lane) is = is
+names_below way lanes workers adds _ is = tt
+
+-- the lane that a line names, if it names one, is there
+pub right_names : (way : Way) (lanes workers adds : ℕ) (text : List ℕ) (read : LineRead) → IsRight way lanes workers adds text read
+    → IfOk read (NamesLaneBelow lanes)
+right_names way lanes workers adds text (Ok line) right = names_below way lanes workers adds line (right line refl).1
+right_names way lanes workers adds text (Err kind) right = tt

@@ -2,3 +2,4 @@ pub mod Spelling
 pub mod Lanes
 pub mod Limits
 pub mod Forms
+pub mod Reading

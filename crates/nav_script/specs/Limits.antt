@@ -11,7 +11,7 @@ use Rattle.nav_script.specs.declared.line.Line.TheVariants.{Lane, Ask, Add, Remo
 use Rattle.nav_script.specs.declared.script.Way.{Way}
 use Rattle.nav_script.specs.declared.script.Way.TheVariants.{Play, Live}
 use Rattle.nav_script.specs.declared.script.Script.{Script}
-use Rattle.nav_script.specs.Lanes.{lane_after, adds_in, is_request}
+use Rattle.nav_script.specs.Lanes.{adds_before, is_request}
 use Rattle.nav_script.specs.Spelling.{script_text}
 
 -- a point that a question may name: x and z are 0 to 16384 sixteenths of a cell
@@ -34,20 +34,20 @@ IsObstacle (Cylinder cx cz r y0 y1) = IsShape (Cylinder cx cz r y0 y1)
 IsObstacle (AreaBlock area x0 x1 y0 y1 z0 z1) = ⊥
 IsObstacle (AreaCylinder area cx cz r y0 y1) = ⊥
 
--- a line may stand after these lines: its numbers are in their limits, lanes and workers are below their counts,
--- a `drop` goes back over at least 1 and at most the adds of its lane, and the lines that lead workers are played only
-abbrev pub IsLine : Way → (lanes workers : ℕ) → List Line → Line → Type 0
-IsLine way lanes workers before (Lane lane) = lane < lanes
-IsLine way lanes workers before (Ask question) = IsQuestion question
-IsLine way lanes workers before (Add shape) = IsObstacle shape
-IsLine way lanes workers before (Remove number) = number < 2 ^ 32
-IsLine way lanes workers before (Undo back) = (1 ≤ back) × (back ≤ adds_in (lane_after before) before)
-IsLine way lanes workers before Settle = ⊤
-IsLine way lanes workers before Aim = way ≡ Play
-IsLine way lanes workers before (Claim worker) = (way ≡ Play) × (worker < workers)
-IsLine way lanes workers before (Back worker) = (way ≡ Play) × (worker < workers)
-IsLine way lanes workers before (Submit worker) = (way ≡ Play) × (worker < workers)
-IsLine way lanes workers before Publish = way ≡ Play
+-- a line may stand where so many adds of its lane stand before it: its numbers are in their limits, lanes and workers are below
+-- their counts, a `drop` goes back over at least 1 and at most those adds, and the lines that lead workers are played only
+abbrev pub IsLine : Way → (lanes workers adds : ℕ) → Line → Type 0
+IsLine way lanes workers adds (Lane lane) = lane < lanes
+IsLine way lanes workers adds (Ask question) = IsQuestion question
+IsLine way lanes workers adds (Add shape) = IsObstacle shape
+IsLine way lanes workers adds (Remove number) = number < 2 ^ 32
+IsLine way lanes workers adds (Undo back) = (1 ≤ back) × (back ≤ adds)
+IsLine way lanes workers adds Settle = ⊤
+IsLine way lanes workers adds Aim = way ≡ Play
+IsLine way lanes workers adds (Claim worker) = (way ≡ Play) × (worker < workers)
+IsLine way lanes workers adds (Back worker) = (way ≡ Play) × (worker < workers)
+IsLine way lanes workers adds (Submit worker) = (way ≡ Play) × (worker < workers)
+IsLine way lanes workers adds Publish = way ≡ Play
 
 -- a script for a way to run it: 1 to 16 lanes, 1 to 8 workers, at most 300000 lines, each of which may stand after the lines
 -- before it, and where it runs live at most 65536 requests
@@ -59,7 +59,7 @@ pub record IsScript (way : Way) (script : Script) : Type 0 where
   pub few : length script.lines ≤ 300000
   pub requests : way ≡ Live → count_by is_request script.lines ≤ 65536
   pub each : (k : ℕ) (line : Line) → slice_get script.lines k ≡ Some line
-      → IsLine way script.lanes script.workers (take k script.lines) line
+      → IsLine way script.lanes script.workers (adds_before (take k script.lines)) line
 
 -- these bytes are the text of this script, and it is one for this way
 abbrev pub IsScriptText : Way → List ℕ → Script → Type 0

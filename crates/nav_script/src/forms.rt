@@ -1,7 +1,9 @@
 //! The forms of a script's lines.
-ghost use Rattle.std.specs.Prelude.{◌≡◌, ℕ};
-ghost use Rattle.nav_script.specs.Forms.{LineRead};
+ghost use Rattle.std.specs.Prelude.{◌≡◌, IfOk};
+ghost use Rattle.nav_script.specs.Lanes.{NamesLaneBelow};
+ghost use Rattle.nav_script.specs.Forms.{line_read};
 
+use crate::header::Header;
 use crate::line::Line;
 use crate::script::Way;
 use nav_base::{Point, Question};
@@ -221,15 +223,11 @@ fn played_line(way: Way, workers: u32, line: &[u8]) -> Option<Result<Line, Fault
     }
 }
 
-/// What a line says, where there are so many lanes and workers, and so many `add` lines of the line's lane before it; else what is wrong with it.
-pub fn read_line(
-    way: Way,
-    lanes: u32,
-    workers: u32,
-    adds: u32,
-    line: &[u8],
-) -> Result<Line, FaultKind>
-    ensures { result ≡ Rattle.nav_script.specs.Forms.line_read way lanes workers adds line.now }
+/// What a line of a script with so many lanes and workers says, where so many `add` lines of its lane stand before it;
+/// else what is wrong with it.
+pub fn read_line(way: Way, header: Header, adds: u32, line: &[u8]) -> Result<Line, FaultKind>
+    ensures value { result ≡ line_read way header.lanes header.workers adds line.now }
+    ensures lane { IfOk result (NamesLaneBelow header.lanes) }
 {
     if let Some(read) = question_line(line) {
         return read;
@@ -237,10 +235,10 @@ pub fn read_line(
     if let Some(read) = request_line(adds, line) {
         return read;
     }
-    if let Some(read) = lane_line(lanes, line) {
+    if let Some(read) = lane_line(header.lanes, line) {
         return read;
     }
-    if let Some(read) = played_line(way, workers, line) {
+    if let Some(read) = played_line(way, header.workers, line) {
         return read;
     }
     Err(FaultKind::Line)

@@ -2,7 +2,10 @@
 #![tactic(auto)]
 
 mod forms;
+mod header;
 mod line;
+mod progress;
+mod reader;
 mod script;
 
 pub use line::Line;

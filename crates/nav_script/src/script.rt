@@ -1,8 +1,12 @@
 //! Scripts, and why a text is none.
 
+ghost use Rattle.std.specs.Prelude.{◌≡◌};
+ghost use Rattle.nav_script.specs.declared.script.ScriptRefusal.TheVariants.{OutOfMemory};
+
 use crate::line::Line;
 use nav_list::Items;
 use nav_text::TextFault;
+use std::alloc::AllocError;
 
 /// How a script is run. `aim`, `publish`, `claim`, `back` and `submit` are lines of a script to be played only.
 #[derive(Clone, Copy, PartialEq, Eq, Debug)]
@@ -30,4 +34,12 @@ pub enum ScriptRefusal {
     /// The text is no script: its first fault.
     Fault(TextFault),
     OutOfMemory,
+}
+
+impl From<AllocError> for ScriptRefusal {
+    ghost from_gives = { λ _ refusal. refusal ≡ OutOfMemory };
+
+    fn from(_error: AllocError) -> Self {
+        ScriptRefusal::OutOfMemory
+    }
 }
