@@ -1,3 +1,4 @@
 pub mod LineLaws
 pub mod LaneLaws
 pub mod ReaderLaws
+pub mod SpellingLaws
