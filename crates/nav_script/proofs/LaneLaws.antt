@@ -19,7 +19,8 @@ at_most_one : (b : Bool) → cond b 1 0 ≤ 1
 at_most_one true = omega arith
 at_most_one false = omega arith
 
-adds_at_most : (lane current : ℕ) (lines : List Line) → adds_from lane current lines ≤ length lines
+-- no lane has more adds than there are lines
+pub adds_at_most : (lane current : ℕ) (lines : List Line) → adds_from lane current lines ≤ length lines
 adds_at_most lane current [] = omega arith
 adds_at_most lane current (line ∷ more) =
     omega (arith, at_most_one (is_add line && eqb current lane), adds_at_most lane (next_lane current line) more)
@@ -64,7 +65,7 @@ counted_more lines lane adds requests line counted named =
       asked = ap (λ n. n + cond (is_request line) 1 0) counted.asked ∙ sym (sum_by_push (λ l. cond (is_request l) 1 0) lines line);
     }
 
--- no lane has more adds than there are lines
+-- the counts are at most the number of lines
 pub counted_few : (lines : List Line) (lane : ℕ) (adds : List ℕ) (requests : ℕ) → IsCounted lines lane adds requests
     → (get_or adds lane 0 ≤ length lines) × (requests ≤ length lines)
 counted_few lines lane adds requests counted =

@@ -2,3 +2,5 @@ pub mod LineLaws
 pub mod LaneLaws
 pub mod ReaderLaws
 pub mod SpellingLaws
+pub mod TextLaws
+pub mod ScriptLaws

@@ -32,7 +32,7 @@ no_more P (x ∷ more) none e = absurd (omega arith)
 one : (P : List ℕ → Type 0) → ((a : ℕ) → P (a ∷ [])) → (n : List ℕ) → length n ≡ 1 → P n
 one P each n = some_more P n 0 (λ a more. no_more (λ l. P (a ∷ l)) more (each a))
 
-two : (P : List ℕ → Type 0) → ((a b : ℕ) → P (a ∷ b ∷ [])) → (n : List ℕ) → length n ≡ 2 → P n
+pub two : (P : List ℕ → Type 0) → ((a b : ℕ) → P (a ∷ b ∷ [])) → (n : List ℕ) → length n ≡ 2 → P n
 two P each n = some_more P n 1 (λ a more. one (λ l. P (a ∷ l)) (each a) more)
 
 five : (P : List ℕ → Type 0) → ((a b c d e : ℕ) → P (a ∷ b ∷ c ∷ d ∷ e ∷ [])) → (n : List ℕ) → length n ≡ 5 → P n

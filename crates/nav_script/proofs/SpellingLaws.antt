@@ -210,3 +210,52 @@ line_again Play lanes workers adds (Submit worker) few crew counted is = submit_
 line_again Live lanes workers adds (Submit worker) few crew counted is = let no : Live ≡ Play = is.0 in absurd cc
 line_again Play lanes workers adds Publish few crew counted is = publish_again lanes workers adds
 line_again Live lanes workers adds Publish few crew counted is = absurd cc
+
+plain_question : (question : Question) → IsQuestion question → is_line (question_text question) ≡ true
+plain_question (Floor x z) is = is_line-line_text (codes "floor") (x ∷ z ∷ []) refl (omega arith, (omega arith, tt))
+plain_question (Path from from_y to to_y) is =
+    let f = is.0 in
+    let t = is.2 in
+    let x = size_most from.x 16384 f.x_least f.x_most in
+    let z = size_most from.z 16384 f.z_least f.z_most in
+    let to_x = size_most to.x 16384 t.x_least t.x_most in
+    let to_z = size_most to.z 16384 t.z_least t.z_most in
+    let y : from_y ≤ 8191 = is.1 in
+    let to_height : to_y ≤ 8191 = is.3 in
+    is_line-line_text (codes "path") (nat_abs from.x ∷ nat_abs from.z ∷ from_y ∷ nat_abs to.x ∷ nat_abs to.z ∷ to_y ∷ []) refl
+      (omega arith, (omega arith, (omega arith, (omega arith, (omega arith, (omega arith, tt))))))
+plain_question (Ray from from_y to) is =
+    let f = is.0 in
+    let t = is.2 in
+    let x = size_most from.x 16384 f.x_least f.x_most in
+    let z = size_most from.z 16384 f.z_least f.z_most in
+    let to_x = size_most to.x 16384 t.x_least t.x_most in
+    let to_z = size_most to.z 16384 t.z_least t.z_most in
+    let y : from_y ≤ 8191 = is.1 in
+    is_line-line_text (codes "ray") (nat_abs from.x ∷ nat_abs from.z ∷ from_y ∷ nat_abs to.x ∷ nat_abs to.z ∷ []) refl
+      (omega arith, (omega arith, (omega arith, (omega arith, (omega arith, tt)))))
+
+plain_shape : (shape : Shape) → IsObstacle shape → is_line (shape_line shape) ≡ true
+plain_shape (Block x0 x1 y0 y1 z0 z1) box =
+    is_line-line_text (codes "add block") (x0 ∷ x1 ∷ y0 ∷ y1 ∷ z0 ∷ z1 ∷ []) refl
+      (omega arith, (omega arith, (omega arith, (omega arith, (omega arith, (omega arith, tt))))))
+plain_shape (Cylinder cx cz r y0 y1) round =
+    is_line-line_text (codes "add cylinder") (cx ∷ cz ∷ r ∷ y0 ∷ y1 ∷ []) refl
+      (omega arith, (omega arith, (omega arith, (omega arith, (omega arith, tt)))))
+plain_shape (AreaBlock area x0 x1 y0 y1 z0 z1) is = absurd is
+plain_shape (AreaCylinder area cx cz r y0 y1) is = absurd is
+
+-- a line that may stand there, spelled, has no line feed in it
+pub line_plain : (way : Way) (lanes workers adds : ℕ) (line : Line) → lanes ≤ 16 → workers ≤ 8 → adds < 2 ^ 32 → IsLine way lanes workers adds line
+    → is_line (line_of line) ≡ true
+line_plain way lanes workers adds (Lane lane) few crew counted is = is_line-line_text (codes "lane") (lane ∷ []) refl (omega arith, tt)
+line_plain way lanes workers adds (Ask question) few crew counted is = plain_question question is
+line_plain way lanes workers adds (Add shape) few crew counted is = plain_shape shape is
+line_plain way lanes workers adds (Remove number) few crew counted is = is_line-line_text (codes "remove") (number ∷ []) refl (is, tt)
+line_plain way lanes workers adds (Undo back) few crew counted is = is_line-line_text (codes "drop") (back ∷ []) refl (omega arith, tt)
+line_plain way lanes workers adds Settle few crew counted is = refl
+line_plain way lanes workers adds Aim few crew counted is = refl
+line_plain way lanes workers adds (Claim worker) few crew counted is = is_line-line_text (codes "claim") (worker ∷ []) refl (omega arith, tt)
+line_plain way lanes workers adds (Back worker) few crew counted is = is_line-line_text (codes "back") (worker ∷ []) refl (omega arith, tt)
+line_plain way lanes workers adds (Submit worker) few crew counted is = is_line-line_text (codes "submit") (worker ∷ []) refl (omega arith, tt)
+line_plain way lanes workers adds Publish few crew counted is = refl

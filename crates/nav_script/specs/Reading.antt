@@ -86,3 +86,7 @@ abbrev pub IsReading : Result (Script × ℕ) TextFault → Result Script Script
 IsReading told (Ok script) = value_of told ≡ Some script
 IsReading told (Err (refusals.Fault fault)) = told ≡ Err (one_later fault)
 IsReading told (Err refusals.OutOfMemory) = ⊤
+
+-- this script is what is read, unless memory runs out
+abbrev pub IsReadAs : Result Script ScriptRefusal → Script → Type 0
+IsReadAs result script = (result ≡ Ok script) ⊎ (result ≡ Err refusals.OutOfMemory)

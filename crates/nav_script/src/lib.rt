@@ -9,4 +9,5 @@ mod reader;
 mod script;
 
 pub use line::Line;
+pub use reader::read_script;
 pub use script::{Script, ScriptRefusal, Way};

@@ -1,9 +1,12 @@
 //! Reading a script text.
-ghost use Rattle.std.specs.Prelude.{◌≡◌, ℕ, ◌≤◌, ◌+◌, []};
+ghost use Rattle.std.specs.Prelude.{◌≡◌, ℕ, ◌≤◌, ◌+◌, [], IfOk};
 ghost use Rattle.nav_text.specs.Lines.{lines, is_ended};
 ghost use Rattle.nav_text.specs.Reading.{read};
 ghost use Rattle.nav_text.specs.Faults.{fault_at};
-ghost use Rattle.nav_script.specs.Reading.{AtScript, AtLines, script_format, IsReading};
+ghost use Rattle.nav_text.specs.declared.fault.TextFault.{TextFault};
+ghost use Rattle.nav_script.specs.declared.script.Script.{Script};
+ghost use Rattle.nav_script.specs.Limits.{IsScriptText};
+ghost use Rattle.nav_script.specs.Reading.{AtScript, AtLines, script_format, IsReading, IsReadAs, IsFirstFaultFrom};
 
 use crate::forms::read_line;
 use crate::header::{Header, read_header};
@@ -61,4 +64,19 @@ fn read_all(alloc: Global, bytes: &[u8], first_line: u32, way: Way) -> Result<Sc
         Ok(header) => read_lines(alloc, rest, first_line + 1, way, header),
         Err(kind) => Err(refused(first_line, kind)),
     }
+}
+
+/// Reads a script text: all of the bytes, of which the first line has the number `first_line` in the input. `way` says how the script is to run,
+/// which decides what lines it may have. A fault has the number and the kind of the first line that fails; where the text ends too early, that
+/// of the line that should follow.
+pub fn read_script(alloc: Global, bytes: &[u8], first_line: u32, way: Way) -> Result<Script, ScriptRefusal>
+    requires { first_line ≤ 4000000000 }
+    // What is read is a script for this way, and the bytes are its text.
+    ensures found { IfOk result (IsScriptText way bytes.now) }
+    // The text of a script is read as that script, unless memory runs out.
+    ensures only { (script : Script) → IsScriptText way bytes.now script → IsReadAs result script }
+    // A fault is that of the first line that fails, given the lines before it.
+    ensures first { (fault : TextFault) → result ≡ Err (ScriptRefusal.Fault fault) → IsFirstFaultFrom way first_line bytes.now fault }
+{
+    read_all(alloc, bytes, first_line, way)
 }
