@@ -1,5 +1,5 @@
 -- The laws of lanes: what one more line does to the counts.
-use Rattle.std.proofs.Common.{◌≡◌, ℕ, ◌+◌, ◌<◌, ◌≤◌, Bool, true, false, cond, ◌&&◌, eqb, List, [], ◌∷◌, ◌++◌, length, get_or, set, fold, count_by, sym, subst, refl, ap, ◌∙◌, inl, inr, arith, length-append, ◌≢◌, eq-eqb, ne_eqb}
+use Rattle.std.proofs.Common.{◌≡◌, ℕ, ◌+◌, ◌<◌, ◌≤◌, Bool, true, false, cond, ◌&&◌, eqb, List, [], ◌∷◌, ◌++◌, length, get_or, set, fold, sym, subst, refl, ap, ◌∙◌, inl, inr, arith, ◌≢◌, eq-eqb, ne_eqb}
 use Rattle.std.proofs.lemmas.Bool.{cases_eq}
 use Rattle.std.proofs.lemmas.List.{length-set, get_or-set_same, get_or-set_other}
 use Rattle.std.proofs.lemmas.List.Sums.{fold_push, sum_by_push, count_by-le-length}
@@ -68,6 +68,7 @@ counted_more lines lane adds requests line counted named =
 -- the counts are at most the number of lines
 pub counted_few : (lines : List Line) (lane : ℕ) (adds : List ℕ) (requests : ℕ) → IsCounted lines lane adds requests
     → (get_or adds lane 0 ≤ length lines) × (requests ≤ length lines)
-counted_few lines lane adds requests counted =
-    (subst (λ n. n ≤ length lines) (sym (counted.each lane counted.below)) (adds_at_most lane 0 lines),
-    subst (λ n. n ≤ length lines) (sym counted.asked) (count_by-le-length is_request lines))
+counted_few lines lane adds requests counted = (
+  subst (λ n. n ≤ length lines) (sym (counted.each lane counted.below)) (adds_at_most lane 0 lines),
+  subst (λ n. n ≤ length lines) (sym counted.asked) (count_by-le-length is_request lines),
+)

@@ -1,18 +1,15 @@
 -- The laws of a script's lines: what is read of a line is spelled so, and what is spelled so is read.
-use Rattle.std.proofs.Common.{◌≡◌, ℕ, zero, suc, ◌+◌, ◌^◌, ◌<◌, ◌≤◌, Bool, true, false, cond, ◌&&◌, eqb, nat_le, nat_lt, List, [], ◌∷◌, length, Option, Some, None, Result, Ok, Err, codes, pos, ◌≤ℤ◌, unwrap_or, sym, subst, refl, ap, ◌∙◌, arith, slice_index, IfOk}
-use Rattle.std.specs.Option.{option_map}
+use Rattle.std.proofs.Common.{◌≡◌, ℕ, suc, ◌<◌, ◌≤◌, Bool, true, false, cond, ◌&&◌, eqb, nat_le, nat_lt, List, [], ◌∷◌, length, Option, Some, None, Ok, Err, codes, unwrap_or, subst, refl, ap, arith, slice_index, IfOk}
 use Rattle.std.proofs.lemmas.Bool.{and_parts, ltb-true, leb-true}
 use Rattle.std.proofs.lemmas.Bool.Decides.{nat_tests}
 use Rattle.std.proofs.lemmas.Int.{ints}
-use Rattle.nav_base.specs.declared.answers.Question.TheVariants.{Floor, Path, Ray}
-use Rattle.nav_ground.specs.declared.shape.Shape.TheVariants.{Block, Cylinder}
 use Rattle.nav_ground.specs.Limits.{IsBox, IsRound}
 use Rattle.nav_text.specs.declared.fault.FaultKind.TheVariants as kinds
 use Rattle.nav_text.specs.Forms.{numbers_of, line_text, AreNumbers}
 use Rattle.nav_text.proofs.FormLaws.{numbers_take}
 use Rattle.nav_text.proofs.Inversions.{map_some, ok_is}
 use Rattle.nav_script.specs.declared.line.Line.{Line}
-use Rattle.nav_script.specs.declared.line.Line.TheVariants.{Lane, Ask, Add, Remove, Undo, Settle, Aim, Claim, Back, Submit, Publish}
+use Rattle.nav_script.specs.declared.line.Line.TheVariants.{Lane, Remove, Undo, Settle, Aim, Claim, Back, Submit, Publish}
 use Rattle.nav_script.specs.declared.script.Way.{Way}
 use Rattle.nav_script.specs.declared.script.Way.TheVariants.{Play, Live}
 use Rattle.nav_script.specs.Spelling.{line_of}

@@ -1,12 +1,12 @@
 -- The laws of reading a script text line by line.
-use Rattle.std.proofs.Common.{◌≡◌, ℕ, ◌+◌, ◌≤◌, Bool, true, false, cond, leb, eqb, List, [], ◌∷◌, ◌++◌, length, Some, None, Result, Ok, Err, sym, subst, refl, ap, ◌∙◌, arith, length-append, add_assoc}
+use Rattle.std.proofs.Common.{◌≡◌, ℕ, ◌+◌, ◌≤◌, Bool, true, false, leb, List, [], ◌∷◌, ◌++◌, length, Some, Result, Ok, Err, sym, subst, ap, ◌∙◌, arith, length-append}
 use Rattle.std.proofs.lemmas.Bool.{cond-true, cond-false}
 use Rattle.std.proofs.lemmas.Bool.Decides.{nat_tests}
 use Rattle.nav_text.specs.declared.fault.FaultKind.{FaultKind}
 use Rattle.nav_text.specs.declared.fault.FaultKind.TheVariants as kinds
 use Rattle.nav_text.specs.Faults.{fault_at}
 use Rattle.nav_text.specs.Lines.{lines, is_ended}
-use Rattle.nav_text.specs.Reading.{Verdict, Goes, Refuses, read_on, read_end, read}
+use Rattle.nav_text.specs.Reading.{Verdict, Refuses, read_on, read_end, read}
 use Rattle.nav_script.specs.declared.header.Header.{Header}
 use Rattle.nav_script.specs.declared.line.Line.{Line}
 use Rattle.nav_script.specs.declared.script.Way.{Way}
@@ -22,7 +22,7 @@ pub record Keeps (way : Way) (lanes workers first : ℕ) (text rest : List ℕ) 
   pub few : length before ≤ 300000
   pub ended : is_ended text ≡ is_ended rest
   pub reads : read (script_format way (is_ended text)) (AtLines lanes workers []) first (lines text)
-    ≡ read (script_format way (is_ended text)) (AtLines lanes workers before) (first + length before) (lines rest)
+      ≡ read (script_format way (is_ended text)) (AtLines lanes workers before) (first + length before) (lines rest)
 
 -- one line is read by its verdict
 at_line : (way : Way) (ended : Bool) (place : Place) (count : ℕ) (those : List (List ℕ)) (line : List ℕ) (more : List (List ℕ)) (verdict : Verdict Place Script)
@@ -131,5 +131,5 @@ pub reads_header : (way : Way) (first : ℕ) (text line rest : List ℕ) (header
     → IsReading (read (script_format way (is_ended text)) AtScript first (lines text)) result
 reads_header way first text line rest header result parts ended e reading =
     subst (λ told. IsReading told result)
-      (sym (at_line way (is_ended text) _ _ _ line (lines rest) _ parts (ap header_verdict (sym e))
-      ∙ ap (λ b. read (script_format way b) (AtLines header.lanes header.workers []) (first + 1) (lines rest)) ended)) reading
+    (sym (at_line way (is_ended text) _ _ _ line (lines rest) _ parts (ap header_verdict (sym e))
+    ∙ ap (λ b. read (script_format way b) (AtLines header.lanes header.workers []) (first + 1) (lines rest)) ended)) reading

@@ -1,5 +1,5 @@
 -- The laws of scripts: what is read is a script, spelled so, and every script that is spelled so is read.
-use Rattle.std.proofs.Common.{◌≡◌, ℕ, zero, suc, ◌+◌, ◌^◌, ◌<◌, ◌≤◌, Bool, true, false, cond, ◌&&◌, leb, eqb, List, [], ◌∷◌, ◌++◌, length, take, map, sum_by, count_by, Option, Some, None, Result, Ok, Err, IfOk, codes, inl, inr, sym, subst, refl, ap, ap₂, ◌∙◌, arith, length-append, append-nil, append_assoc}
+use Rattle.std.proofs.Common.{◌≡◌, ℕ, zero, suc, ◌+◌, ◌^◌, ◌<◌, ◌≤◌, Bool, true, false, cond, ◌&&◌, leb, List, [], ◌∷◌, ◌++◌, length, take, map, sum_by, count_by, Option, Some, None, Result, Ok, Err, IfOk, codes, inl, inr, sym, subst, refl, ap, ap₂, ◌∙◌, arith, length-append, append-nil, append_assoc}
 use Rattle.std.specs.List.{slice_get, list_all}
 use Rattle.std.proofs.Math.Seq.{take-append_seam}
 use Rattle.std.proofs.lemmas.Bool.{cases_lt, and_from, and_right, cond-true, cond-false}
@@ -11,7 +11,7 @@ use Rattle.nav_text.specs.declared.fault.TextFault.{TextFault}
 use Rattle.nav_text.specs.declared.fault.FaultKind.{FaultKind}
 use Rattle.nav_text.specs.declared.fault.FaultKind.TheVariants as kinds
 use Rattle.nav_text.specs.Lines.{lines, text_of, is_ended, is_line}
-use Rattle.nav_text.specs.Forms.{numbers_of, line_text, AreNumbers}
+use Rattle.nav_text.specs.Forms.{numbers_of, line_text}
 use Rattle.nav_text.specs.Reading.{Verdict, Goes, Ends, Refuses, read, Leads}
 use Rattle.nav_text.proofs.FormLaws.{numbers_take, numbers_again, is_line-line_text}
 use Rattle.nav_text.proofs.LineLaws.{lines_again}
@@ -80,7 +80,7 @@ header_told text next e = split (numbers_of (codes "script") 2 text) refl e
     split (Some n) is e =
         let spelled = numbers_take (codes "script") 2 text n is in
         two (λ l. text ≡ line_text (codes "script") l → header_verdict (in_counts (Some l)) ≡ Goes next → HeaderTold text next)
-          (λ lanes workers same goes. counts_told text next lanes workers same goes) n spelled.1 spelled.0 e
+        (λ lanes workers same goes. counts_told text next lanes workers same goes) n spelled.1 spelled.0 e
 
 -- what a line after it says that is right
 record LineTold (way : Way) (lanes workers : ℕ) (before : List Line) (text : List ℕ) (next : Place) : Type 0 where
@@ -252,7 +252,7 @@ room_again : (way : Way) (before : List Line) (line : Line) (more : List Line) �
 room_again Play before line more most = refl
 room_again Live before line more most =
     let enough : count_by is_request before + cond (is_request line) 1 0 + count_by is_request more ≤ 65536 =
-      subst (λ n. n ≤ 65536) (requests_at before line more) (most refl) in
+    subst (λ n. n ≤ 65536) (requests_at before line more) (most refl) in
     ap (λ b. leb 65536 (count_by is_request before) && b) (begins_spelled line) ∙ split (is_request line) enough
   where
     split : (b : Bool) → count_by is_request before + cond b 1 0 + count_by is_request more ≤ 65536 → leb 65536 (count_by is_request before) && b ≡ false
@@ -265,11 +265,11 @@ verdict_again way lanes workers before line more is =
     let long = length-append before (line ∷ more) in
     let full : leb 300000 (length before) ≡ false = let most = is.few in grind (arith, nat_tests) in
     let fits : IsLine way lanes workers (adds_before before) line =
-      subst (λ ls. IsLine way lanes workers (adds_before ls) line) (take-append_seam before (line ∷ more)) (is.each (length before) line (get_seam before line more)) in
+    subst (λ ls. IsLine way lanes workers (adds_before ls) line) (take-append_seam before (line ∷ more)) (is.each (length before) line (get_seam before line more)) in
     let counted : adds_before before < 2 ^ 32 = let most = is.few in omega (arith, adds_at_most (lane_after before) 0 before) in (
       cond-false _ _ _ full
-      ∙ (cond-false _ _ _ (room_again way before line more is.requests)
-      ∙ ap (verdict_of lanes workers before) (line_again way lanes workers (adds_before before) line is.lanes_most is.workers_most counted fits)),
+          ∙ (cond-false _ _ _ (room_again way before line more is.requests)
+          ∙ ap (verdict_of lanes workers before) (line_again way lanes workers (adds_before before) line is.lanes_most is.workers_most counted fits)),
       line_plain way lanes workers (adds_before before) line is.lanes_most is.workers_most counted fits,
     )
 
@@ -309,7 +309,7 @@ unfolding read
 read_ended way first script is =
     let again = script_lines_again way true script is in
     let those : lines (script_text script) ≡ script_lines script ++ [] =
-      ap lines (sym (append-nil (script_text script))) ∙ lines_again (script_lines script) [] again.1 in
+    ap lines (sym (append-nil (script_text script))) ∙ lines_again (script_lines script) [] again.1 in
     ap (read (script_format way true) AtScript first) those
     ∙ leads_read (script_format way true) AtScript first (script_lines script) [] (AtLines script.lanes script.workers script.lines) again.0
 
@@ -342,11 +342,11 @@ pub reading_only : (way : Way) (bytes : List ℕ) (first : ℕ) (result : Result
     → (script : Script) → IsScriptText way bytes script → IsReadAs result script
 reading_only way bytes first result reading script is =
     same_value (read (script_format way (is_ended bytes)) AtScript first (lines bytes)) script (first + length (script_lines script))
-      (script_only way bytes first script is) result reading
+    (script_only way bytes first script is) result reading
 
 pub reading_first : (way : Way) (bytes : List ℕ) (first : ℕ) (result : Result Script ScriptRefusal)
     → IsReading (read (script_format way (is_ended bytes)) AtScript first (lines bytes)) result
     → (fault : TextFault) → result ≡ Err (refusals.Fault fault) → IsFirstFaultFrom way first bytes fault
 reading_first way bytes first result reading fault e =
     first_fault (script_format way (is_ended bytes)) AtScript first (lines bytes) (one_later fault)
-      (subst (IsReading (read (script_format way (is_ended bytes)) AtScript first (lines bytes))) e reading)
+    (subst (IsReading (read (script_format way (is_ended bytes)) AtScript first (lines bytes))) e reading)

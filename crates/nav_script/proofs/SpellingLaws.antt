@@ -1,6 +1,6 @@
 -- The laws of spelled lines: each is read as the line that it spells.
-use Rattle.std.proofs.Common.{◌≡◌, ℕ, ◌+◌, ◌^◌, ◌<◌, ◌≤◌, Bool, true, false, cond, ◌&&◌, nat_le, nat_lt, eqb, List, [], ◌∷◌, ◌++◌, length, Option, Some, None, Ok, Err, ℤ, pos, negsuc, ◌≤ℤ◌, nat_abs, codes, unwrap_or, sym, subst, refl, ap, ap₂, ◌∙◌, arith}
-use Rattle.std.proofs.lemmas.Bool.{and_from, le-leb, lt-ltb, le-ltb, cond-true, cond-false}
+use Rattle.std.proofs.Common.{◌≡◌, ℕ, ◌^◌, ◌<◌, ◌≤◌, true, false, nat_lt, eqb, [], ◌∷◌, Some, Ok, Err, ℤ, pos, negsuc, ◌≤ℤ◌, nat_abs, codes, unwrap_or, refl, ap, ap₂, ◌∙◌, arith}
+use Rattle.std.proofs.lemmas.Bool.{and_from, le-leb, lt-ltb}
 use Rattle.std.proofs.lemmas.Bool.Decides.{nat_tests}
 use Rattle.std.proofs.lemmas.Int.{ints}
 use Rattle.nav_base.specs.declared.point.Point.{Point}
@@ -20,7 +20,7 @@ use Rattle.nav_script.specs.declared.script.Way.TheVariants.{Play, Live}
 use Rattle.nav_script.specs.Spelling.{question_line as question_text, shape_line, line_of}
 use Rattle.nav_script.specs.Lanes.{is_request}
 use Rattle.nav_script.specs.Limits.{IsPlace, IsLine, IsQuestion, IsObstacle}
-use Rattle.nav_script.specs.Forms.{LineRead, in_limits, below_count, is_place, is_standing, point_at, is_range, drop_line, question_line, request_line, lane_line, worker_line, line_read}
+use Rattle.nav_script.specs.Forms.{LineRead, is_place, is_standing, point_at, is_range, drop_line, question_line, request_line, lane_line, worker_line, line_read}
 use Rattle.nav_script.specs.Reading.{begins_request}
 
 -- a line begins with the word of a request exactly where it is one
@@ -95,8 +95,8 @@ path_again way lanes workers adds from from_y to to_y is =
     let f = is.0 in
     let t = is.2 in
     path_numbers way lanes workers adds (nat_abs from.x) (nat_abs from.z) from_y (nat_abs to.x) (nat_abs to.z) to_y
-      (size_most from.x 16384 f.x_least f.x_most) (size_most from.z 16384 f.z_least f.z_most) is.1
-      (size_most to.x 16384 t.x_least t.x_most) (size_most to.z 16384 t.z_least t.z_most) is.3
+    (size_most from.x 16384 f.x_least f.x_most) (size_most from.z 16384 f.z_least f.z_most) is.1
+    (size_most to.x 16384 t.x_least t.x_most) (size_most to.z 16384 t.z_least t.z_most) is.3
     ∙ ap₂ (λ a b. let l : LineRead = Ok (Ask (Path a from_y b to_y)) in l) (point_is from f) (point_is to t)
 
 ray_numbers : (way : Way) (lanes workers adds x z y to_x to_z : ℕ)
@@ -114,8 +114,8 @@ ray_again way lanes workers adds from from_y to is =
     let f = is.0 in
     let t = is.2 in
     ray_numbers way lanes workers adds (nat_abs from.x) (nat_abs from.z) from_y (nat_abs to.x) (nat_abs to.z)
-      (size_most from.x 16384 f.x_least f.x_most) (size_most from.z 16384 f.z_least f.z_most) is.1
-      (size_most to.x 16384 t.x_least t.x_most) (size_most to.z 16384 t.z_least t.z_most)
+    (size_most from.x 16384 f.x_least f.x_most) (size_most from.z 16384 f.z_least f.z_most) is.1
+    (size_most to.x 16384 t.x_least t.x_most) (size_most to.z 16384 t.z_least t.z_most)
     ∙ ap₂ (λ a b. let l : LineRead = Ok (Ask (Ray a from_y b)) in l) (point_is from f) (point_is to t)
 
 range_true : (low high most : ℕ) → low ≤ high → high ≤ most → is_range low high most ≡ true
@@ -223,7 +223,7 @@ plain_question (Path from from_y to to_y) is =
     let y : from_y ≤ 8191 = is.1 in
     let to_height : to_y ≤ 8191 = is.3 in
     is_line-line_text (codes "path") (nat_abs from.x ∷ nat_abs from.z ∷ from_y ∷ nat_abs to.x ∷ nat_abs to.z ∷ to_y ∷ []) refl
-      (omega arith, (omega arith, (omega arith, (omega arith, (omega arith, (omega arith, tt))))))
+    (omega arith, (omega arith, (omega arith, (omega arith, (omega arith, (omega arith, tt))))))
 plain_question (Ray from from_y to) is =
     let f = is.0 in
     let t = is.2 in
@@ -233,15 +233,15 @@ plain_question (Ray from from_y to) is =
     let to_z = size_most to.z 16384 t.z_least t.z_most in
     let y : from_y ≤ 8191 = is.1 in
     is_line-line_text (codes "ray") (nat_abs from.x ∷ nat_abs from.z ∷ from_y ∷ nat_abs to.x ∷ nat_abs to.z ∷ []) refl
-      (omega arith, (omega arith, (omega arith, (omega arith, (omega arith, tt)))))
+    (omega arith, (omega arith, (omega arith, (omega arith, (omega arith, tt)))))
 
 plain_shape : (shape : Shape) → IsObstacle shape → is_line (shape_line shape) ≡ true
 plain_shape (Block x0 x1 y0 y1 z0 z1) box =
     is_line-line_text (codes "add block") (x0 ∷ x1 ∷ y0 ∷ y1 ∷ z0 ∷ z1 ∷ []) refl
-      (omega arith, (omega arith, (omega arith, (omega arith, (omega arith, (omega arith, tt))))))
+    (omega arith, (omega arith, (omega arith, (omega arith, (omega arith, (omega arith, tt))))))
 plain_shape (Cylinder cx cz r y0 y1) round =
     is_line-line_text (codes "add cylinder") (cx ∷ cz ∷ r ∷ y0 ∷ y1 ∷ []) refl
-      (omega arith, (omega arith, (omega arith, (omega arith, (omega arith, tt)))))
+    (omega arith, (omega arith, (omega arith, (omega arith, (omega arith, tt)))))
 plain_shape (AreaBlock area x0 x1 y0 y1 z0 z1) is = absurd is
 plain_shape (AreaCylinder area cx cz r y0 y1) is = absurd is
 

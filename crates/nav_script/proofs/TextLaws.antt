@@ -1,7 +1,7 @@
 -- The laws of texts that are made of lines.
 use Rattle.std.proofs.Common.{◌≡◌, ℕ, ◌<◌, Bool, true, false, cond, eqb, List, [], ◌∷◌, ◌++◌, length, sym, refl, ap, ◌∙◌, arith}
 use Rattle.std.proofs.lemmas.Bool.{eqb-true}
-use Rattle.nav_text.specs.Lines.{lines, onto_line, ended, text_of, is_ended}
+use Rattle.nav_text.specs.Lines.{lines, onto_line, text_of, is_ended}
 
 feed_ended : (line rest : List ℕ) → is_ended rest ≡ true → is_ended ((line ++ 10 ∷ []) ++ rest) ≡ true
 feed_ended [] [] all = refl

@@ -1,5 +1,5 @@
 -- What a line of a script says, or what is wrong with it, its form first, then its numbers.
-use Rattle.std.specs.Prelude.{ℕ, Bool, nat_lt, nat_le, nat_eq, ◌==◌, ◌&&◌, if◌then◌else◌, List, [], ◌∷◌, slice_index, codes, pos, Option, Some, None, Result, Ok, Err, unwrap_or}
+use Rattle.std.specs.Prelude.{ℕ, Bool, nat_lt, nat_le, ◌==◌, ◌&&◌, if◌then◌else◌, List, [], ◌∷◌, slice_index, codes, pos, Option, Some, None, Result, Ok, Err, unwrap_or}
 use Rattle.std.specs.Option.{option_map}
 use Rattle.nav_base.specs.declared.point.Point.{Point}
 use Rattle.nav_base.specs.declared.answers.Question.TheVariants.{Floor, Path, Ray}

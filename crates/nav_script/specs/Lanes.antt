@@ -1,7 +1,7 @@
 -- The lanes of a script: which lane a line belongs to, and how many requests and adds stand before it.
 use Rattle.std.specs.Prelude.{◌≡◌, ℕ, ◌+◌, ◌<◌, Bool, true, false, ◌==◌, ◌&&◌, if◌then◌else◌, List, [], ◌∷◌, length, get_or, fold, count_by, ⊤}
 use Rattle.nav_script.specs.declared.line.Line.{Line}
-use Rattle.nav_script.specs.declared.line.Line.TheVariants.{Lane, Ask, Add, Remove, Undo, Settle, Aim, Claim, Back, Submit, Publish}
+use Rattle.nav_script.specs.declared.line.Line.TheVariants.{Lane, Add, Remove, Undo}
 
 -- the lane of the line after a line
 abbrev pub next_lane : ℕ → Line → ℕ

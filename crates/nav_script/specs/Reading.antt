@@ -5,7 +5,7 @@ use Rattle.nav_text.specs.declared.fault.FaultKind.{FaultKind}
 use Rattle.nav_text.specs.declared.fault.FaultKind.TheVariants as kinds
 use Rattle.nav_text.specs.Lines.{lines, is_ended}
 use Rattle.nav_text.specs.Forms.{numbers_of, has_word}
-use Rattle.nav_text.specs.Reading.{Verdict, Goes, Refuses, Format, read, IsFirstFault}
+use Rattle.nav_text.specs.Reading.{Verdict, Goes, Refuses, Format, IsFirstFault}
 use Rattle.nav_script.specs.declared.header.Header.{Header}
 use Rattle.nav_script.specs.declared.line.Line.{Line}
 use Rattle.nav_script.specs.declared.script.Way.{Way}

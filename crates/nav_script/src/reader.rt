@@ -22,7 +22,13 @@ fn refused(line: u32, kind: FaultKind) -> ScriptRefusal
 }
 
 /// The lines after the `script` line, the first of which has the number `first_line`.
-fn read_lines(alloc: Global, text: &[u8], first_line: u32, way: Way, header: Header) -> Result<Script, ScriptRefusal>
+fn read_lines(
+    alloc: Global,
+    text: &[u8],
+    first_line: u32,
+    way: Way,
+    header: Header,
+) -> Result<Script, ScriptRefusal>
     requires lines { first_line ≤ 4000000001 }
     requires lanes { header.lanes ≤ 16 }
     ensures { IsReading (read (script_format way (is_ended text.now)) (AtLines header.lanes header.workers []) first_line (lines text.now)) result }
@@ -69,7 +75,12 @@ fn read_all(alloc: Global, bytes: &[u8], first_line: u32, way: Way) -> Result<Sc
 /// Reads a script text: all of the bytes, of which the first line has the number `first_line` in the input. `way` says how the script is to run,
 /// which decides what lines it may have. A fault has the number and the kind of the first line that fails; where the text ends too early, that
 /// of the line that should follow.
-pub fn read_script(alloc: Global, bytes: &[u8], first_line: u32, way: Way) -> Result<Script, ScriptRefusal>
+pub fn read_script(
+    alloc: Global,
+    bytes: &[u8],
+    first_line: u32,
+    way: Way,
+) -> Result<Script, ScriptRefusal>
     requires { first_line ≤ 4000000000 }
     // What is read is a script for this way, and the bytes are its text.
     ensures found { IfOk result (IsScriptText way bytes.now) }

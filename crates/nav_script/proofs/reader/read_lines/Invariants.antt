@@ -1,4 +1,4 @@
-use Rattle.std.proofs.Common.{length, [], ◌+◌}
+use Rattle.std.proofs.Common.{length}
 use Rattle.nav_script.proofs.ReaderLaws.{Keeps}
 use Rattle.nav_script.proofs.reader.read_lines.Given as goal
 

@@ -1,4 +1,4 @@
-use Rattle.std.proofs.Common.{arith, true, false, cond, Bool, ◌≡◌, refl, ap, ◌≤◌, ℕ, length}
+use Rattle.std.proofs.Common.{arith, true, false, cond, Bool, ◌≡◌, refl, ap, ◌≤◌, length}
 use Rattle.std.specs.Int.{from_bool}
 use Rattle.nav_script.proofs.LaneLaws.{counted_more, counted_few}
 use Rattle.nav_script.proofs.progress.Progress.push.Goals as goal
