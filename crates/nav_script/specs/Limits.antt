@@ -5,6 +5,7 @@ use Rattle.nav_base.specs.declared.answers.Question.{Question}
 use Rattle.nav_base.specs.declared.answers.Question.TheVariants.{Floor, Path, Ray}
 use Rattle.nav_ground.specs.declared.shape.Shape.{Shape}
 use Rattle.nav_ground.specs.declared.shape.Shape.TheVariants.{Block, Cylinder, AreaBlock, AreaCylinder}
+use Rattle.nav_ground.specs.declared.history.TheConstants.{HISTORY_LIMIT}
 use Rattle.nav_ground.specs.Limits.{IsShape}
 use Rattle.nav_script.specs.declared.line.Line.{Line}
 use Rattle.nav_script.specs.declared.line.Line.TheVariants.{Lane, Ask, Add, Remove, Undo, Settle, Aim, Claim, Back, Submit, Publish}
@@ -50,14 +51,14 @@ IsLine way lanes workers adds (Submit worker) = (way ≡ Play) × (worker < work
 IsLine way lanes workers adds Publish = way ≡ Play
 
 -- a script for a way to run it: 1 to 16 lanes, 1 to 8 workers, at most 300000 lines, each of which may stand after the lines
--- before it, and where it runs live at most 65536 requests
+-- before it, and where it runs live at most as many requests as a history has entries
 pub record IsScript (way : Way) (script : Script) : Type 0 where
   pub lanes_least : 1 ≤ script.lanes
   pub lanes_most : script.lanes ≤ 16
   pub workers_least : 1 ≤ script.workers
   pub workers_most : script.workers ≤ 8
   pub few : length script.lines ≤ 300000
-  pub requests : way ≡ Live → count_by is_request script.lines ≤ 65536
+  pub requests : way ≡ Live → count_by is_request script.lines ≤ HISTORY_LIMIT
   pub each : (k : ℕ) (line : Line) → slice_get script.lines k ≡ Some line
       → IsLine way script.lanes script.workers (adds_before (take k script.lines)) line
 

@@ -6,6 +6,7 @@ ghost use Rattle.nav_script.specs.Reading.{begins_request, lacks_room};
 use crate::header::LANES;
 use crate::line::Line;
 use crate::script::Way;
+use nav_ground::HISTORY_LIMIT;
 use nav_list::Items;
 use nav_text::has_word;
 use std::alloc::{AllocError, Global};
@@ -13,8 +14,6 @@ use std::marker::Model;
 
 /// How many lines may follow the `script` line.
 pub const SCRIPT_LINES: usize = 300000;
-/// How many requests a script may have that runs live.
-pub const LIVE_REQUESTS: u32 = 65536;
 
 /// The lines so far. Contracts see the list of them; the lane of the next line, the adds of each lane and the number of requests are kept beside it.
 #[derive(Drop)]
@@ -92,13 +91,13 @@ impl Progress {
         self.lines.len() >= SCRIPT_LINES
     }
 
-    /// Whether a line is a request for which a script that runs live has no room.
+    /// Whether a line is a request for which a script that runs live has no room: each leaves an entry in the history.
     pub fn lacks_room(&self, way: Way, line: &[u8]) -> bool
         ensures { result ≡ lacks_room way self.now line.now }
     {
         match way {
             Way::Play => false,
-            Way::Live => self.requests >= LIVE_REQUESTS && begins_request(line),
+            Way::Live => self.requests >= HISTORY_LIMIT && begins_request(line),
         }
     }
 
