@@ -1,4 +1,4 @@
-//! Whole numbers and whole-number geometry, the ground on which every other crate stands: numbers as texts spell them, points, turns,
+//! Whole numbers and whole-number geometry, the base on which every other crate stands: numbers as texts spell them, points, turns,
 //! deviations as exact fractions, roots rounded up and strict convexity.
 //!
 //! With x drawn to the right and z upward, a positive turn is a turn to the left, and polygons are listed counterclockwise.

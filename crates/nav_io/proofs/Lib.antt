@@ -1,0 +1,3 @@
+mod Turns
+mod Rests
+pub mod Laws
