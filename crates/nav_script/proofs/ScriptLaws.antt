@@ -16,7 +16,7 @@ use Rattle.nav_text.specs.Forms.{numbers_of, line_text}
 use Rattle.nav_text.specs.Reading.{Verdict, Goes, Ends, Refuses, read, Leads}
 use Rattle.nav_text.proofs.FormLaws.{numbers_take, numbers_again, is_line-line_text}
 use Rattle.nav_text.proofs.LineLaws.{lines_again}
-use Rattle.nav_text.proofs.Inversions.{some_is, when}
+use Rattle.nav_text.proofs.Inversions.{some_is, ok_is, when}
 use Rattle.nav_text.proofs.ReadingLaws.{EndsAt, first_fault, read_takes, leads_read, leads_keep}
 use Rattle.nav_script.specs.declared.header.Header.{Header}
 use Rattle.nav_script.specs.declared.line.Line.{Line}
@@ -29,7 +29,7 @@ use Rattle.nav_script.specs.Spelling.{line_of, script_lines, script_text}
 use Rattle.nav_script.specs.Lanes.{lane_after, adds_before, is_request}
 use Rattle.nav_script.specs.Limits.{IsLine, IsScript, IsScriptText}
 use Rattle.nav_script.specs.Forms.{LineRead, line_read}
-use Rattle.nav_script.specs.Reading.{Place, AtScript, AtLines, in_counts, header_read, begins_request, lacks_room, header_verdict, verdict_of, line_verdict, value_at, script_format, one_later, IsFirstFaultFrom, value_of, IsReading, IsReadAs}
+use Rattle.nav_script.specs.Reading.{Place, AtScript, AtLines, in_counts, header_read, begins_request, lacks_room, header_verdict, verdict_of, line_verdict, value_at, script_format, one_later, IsFirstFaultFrom, value_of, IsReading, Gives}
 use Rattle.nav_script.proofs.LineLaws.{line_right, two}
 use Rattle.nav_script.proofs.SpellingLaws.{begins_spelled, line_again, line_plain}
 use Rattle.nav_script.proofs.LaneLaws.{adds_at_most}
@@ -321,6 +321,13 @@ script_only way bytes first script is =
     let all : is_ended bytes ≡ true = ap is_ended is.0 ∙ text_ended (script_lines script) in
     ap₂ (λ b text. read (script_format way b) AtScript first (lines text)) all is.0 ∙ read_ended way first script is.1
 
+script_at_most_one : {a b : Script} {n m : ℕ} → ◌≡◌ {A = Result (Script × ℕ) TextFault} (Ok (a, n)) (Ok (b, m)) → a ≡ b
+script_at_most_one e = ap (λ x. x.0) (ok_is e)
+
+-- A text is that of one script only.
+pub script_unique : (way : Way) (bytes : List ℕ) (one other : Script) → IsScriptText way bytes one → IsScriptText way bytes other → one ≡ other
+script_unique way bytes one other is too = script_at_most_one (sym (script_only way bytes 0 one is) ∙ script_only way bytes 0 other too)
+
 told_value : (told : Result (Script × ℕ) TextFault) (script : Script) → value_of told ≡ Some script → (total : ℕ) × (told ≡ Ok (script, total))
 told_value (Ok x) script e = (x.1, ap (λ s. let r : Result (Script × ℕ) TextFault = Ok (s, x.1) in r) (some_is e))
 told_value (Err fault) script e = absurd cc
@@ -333,14 +340,14 @@ reading_found way bytes first (Ok script) reading =
 reading_found way bytes first (Err refusal) reading = tt
 
 same_value : (told : Result (Script × ℕ) TextFault) (script : Script) (total : ℕ) → told ≡ Ok (script, total)
-    → (result : Result Script ScriptRefusal) → IsReading told result → IsReadAs result script
-same_value told script total e (Ok other) reading = inl (ap (λ s. let r : Result Script ScriptRefusal = Ok s in r) (some_is (sym reading ∙ ap value_of e)))
-same_value told script total e (Err (refusals.Fault fault)) reading = absurd cc
-same_value told script total e (Err refusals.OutOfMemory) reading = inr refl
+    → (result : Result Script ScriptRefusal) → IsReading told result → Gives script result
+same_value told script total e (Ok other) reading = some_is (sym reading ∙ ap value_of e)
+same_value told script total e (Err (refusals.Fault fault)) reading = cc
+same_value told script total e (Err refusals.OutOfMemory) reading = tt
 
 pub reading_only : (way : Way) (bytes : List ℕ) (first : ℕ) (result : Result Script ScriptRefusal)
     → IsReading (read (script_format way (is_ended bytes)) AtScript first (lines bytes)) result
-    → (script : Script) → IsScriptText way bytes script → IsReadAs result script
+    → (script : Script) → IsScriptText way bytes script → Gives script result
 reading_only way bytes first result reading script is =
     same_value (read (script_format way (is_ended bytes)) AtScript first (lines bytes)) script (first + length (script_lines script))
     (script_only way bytes first script is) result reading

@@ -17,7 +17,7 @@ use Rattle.nav_script.specs.declared.line.Line.{Line}
 use Rattle.nav_script.specs.declared.line.Line.TheVariants.{Lane, Ask, Add, Remove, Undo, Settle, Aim, Claim, Back, Submit, Publish}
 use Rattle.nav_script.specs.declared.script.Way.{Way}
 use Rattle.nav_script.specs.declared.script.Way.TheVariants.{Play, Live}
-use Rattle.nav_script.specs.Spelling.{question_line as question_text, shape_line, line_of}
+use Rattle.nav_script.specs.Spelling.{question_spelling, shape_spelling, line_of}
 use Rattle.nav_script.specs.Lanes.{is_request}
 use Rattle.nav_script.specs.Limits.{IsPlace, IsLine, IsQuestion, IsObstacle}
 use Rattle.nav_script.specs.Forms.{LineRead, is_place, is_standing, point_at, is_range, drop_line, question_line, request_line, lane_line, worker_line, line_read}
@@ -211,7 +211,7 @@ line_again Live lanes workers adds (Submit worker) few crew counted is = let no 
 line_again Play lanes workers adds Publish few crew counted is = publish_again lanes workers adds
 line_again Live lanes workers adds Publish few crew counted is = absurd cc
 
-plain_question : (question : Question) → IsQuestion question → is_line (question_text question) ≡ true
+plain_question : (question : Question) → IsQuestion question → is_line (question_spelling question) ≡ true
 plain_question (Floor x z) is = is_line-line_text (codes "floor") (x ∷ z ∷ []) refl (omega arith, (omega arith, tt))
 plain_question (Path from from_y to to_y) is =
     let f = is.0 in
@@ -235,7 +235,7 @@ plain_question (Ray from from_y to) is =
     is_line-line_text (codes "ray") (nat_abs from.x ∷ nat_abs from.z ∷ from_y ∷ nat_abs to.x ∷ nat_abs to.z ∷ []) refl
     (omega arith, (omega arith, (omega arith, (omega arith, (omega arith, tt)))))
 
-plain_shape : (shape : Shape) → IsObstacle shape → is_line (shape_line shape) ≡ true
+plain_shape : (shape : Shape) → IsObstacle shape → is_line (shape_spelling shape) ≡ true
 plain_shape (Block x0 x1 y0 y1 z0 z1) box =
     is_line-line_text (codes "add block") (x0 ∷ x1 ∷ y0 ∷ y1 ∷ z0 ∷ z1 ∷ []) refl
     (omega arith, (omega arith, (omega arith, (omega arith, (omega arith, (omega arith, tt))))))

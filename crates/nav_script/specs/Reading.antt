@@ -1,5 +1,5 @@
 -- How a script's text is read: first its `script` line, then each of its lines, given those before it.
-use Rattle.std.specs.Prelude.{◌≡◌, ℕ, ◌+◌, Bool, false, nat_le, ◌&&◌, ◌||◌, if◌then◌else◌, List, [], ◌∷◌, ◌++◌, length, count_by, codes, slice_index, Option, Some, None, Result, Ok, Err, ◌⊎◌, ⊤}
+use Rattle.std.specs.Prelude.{◌≡◌, ℕ, ◌+◌, Bool, false, nat_le, ◌&&◌, ◌||◌, if◌then◌else◌, List, [], ◌∷◌, ◌++◌, length, count_by, codes, slice_index, Option, Some, None, Result, Ok, Err, ⊤}
 use Rattle.nav_ground.specs.declared.history.TheConstants.{HISTORY_LIMIT}
 use Rattle.nav_text.specs.declared.fault.TextFault.{TextFault}
 use Rattle.nav_text.specs.declared.fault.FaultKind.{FaultKind}
@@ -89,5 +89,7 @@ IsReading told (Err (refusals.Fault fault)) = told ≡ Err (one_later fault)
 IsReading told (Err refusals.OutOfMemory) = ⊤
 
 -- this script is what is read, unless memory runs out
-abbrev pub IsReadAs : Result Script ScriptRefusal → Script → Type 0
-IsReadAs result script = (result ≡ Ok script) ⊎ (result ≡ Err refusals.OutOfMemory)
+abbrev pub Gives : Script → Result Script ScriptRefusal → Type 0
+Gives script (Ok read) = read ≡ script
+Gives script (Err (refusals.Fault fault)) = ⊥
+Gives script (Err refusals.OutOfMemory) = ⊤

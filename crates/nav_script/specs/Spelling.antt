@@ -11,27 +11,27 @@ use Rattle.nav_script.specs.declared.line.Line.TheVariants.{Lane, Ask, Add, Remo
 use Rattle.nav_script.specs.declared.script.Script.{Script}
 
 -- a question: its word, and for each point x and z, then the height if it has one
-abbrev pub question_line : Question → List ℕ
-question_line (Floor x z) = line_text (codes "floor") (x ∷ z ∷ [])
-question_line (Path from from_y to to_y) =
+abbrev pub question_spelling : Question → List ℕ
+question_spelling (Floor x z) = line_text (codes "floor") (x ∷ z ∷ [])
+question_spelling (Path from from_y to to_y) =
     line_text (codes "path") (nat_abs from.x ∷ nat_abs from.z ∷ from_y ∷ nat_abs to.x ∷ nat_abs to.z ∷ to_y ∷ [])
-question_line (Ray from from_y to) =
+question_spelling (Ray from from_y to) =
     line_text (codes "ray") (nat_abs from.x ∷ nat_abs from.z ∷ from_y ∷ nat_abs to.x ∷ nat_abs to.z ∷ [])
 
 -- an obstacle: its kind and its numbers; an area shape, which no script has, is spelled with its area before them
-abbrev pub shape_line : Shape → List ℕ
-shape_line (Block x0 x1 y0 y1 z0 z1) = line_text (codes "add block") (x0 ∷ x1 ∷ y0 ∷ y1 ∷ z0 ∷ z1 ∷ [])
-shape_line (Cylinder cx cz r y0 y1) = line_text (codes "add cylinder") (cx ∷ cz ∷ r ∷ y0 ∷ y1 ∷ [])
-shape_line (AreaBlock area x0 x1 y0 y1 z0 z1) =
+abbrev pub shape_spelling : Shape → List ℕ
+shape_spelling (Block x0 x1 y0 y1 z0 z1) = line_text (codes "add block") (x0 ∷ x1 ∷ y0 ∷ y1 ∷ z0 ∷ z1 ∷ [])
+shape_spelling (Cylinder cx cz r y0 y1) = line_text (codes "add cylinder") (cx ∷ cz ∷ r ∷ y0 ∷ y1 ∷ [])
+shape_spelling (AreaBlock area x0 x1 y0 y1 z0 z1) =
     line_text (codes "add area") (area ∷ []) ++ line_text (codes " block") (x0 ∷ x1 ∷ y0 ∷ y1 ∷ z0 ∷ z1 ∷ [])
-shape_line (AreaCylinder area cx cz r y0 y1) =
+shape_spelling (AreaCylinder area cx cz r y0 y1) =
     line_text (codes "add area") (area ∷ []) ++ line_text (codes " cylinder") (cx ∷ cz ∷ r ∷ y0 ∷ y1 ∷ [])
 
 -- the spelling of a line
 abbrev pub line_of : Line → List ℕ
 line_of (Lane lane) = line_text (codes "lane") (lane ∷ [])
-line_of (Ask question) = question_line question
-line_of (Add shape) = shape_line shape
+line_of (Ask question) = question_spelling question
+line_of (Add shape) = shape_spelling shape
 line_of (Remove number) = line_text (codes "remove") (number ∷ [])
 line_of (Undo back) = line_text (codes "drop") (back ∷ [])
 line_of Settle = codes "settle"

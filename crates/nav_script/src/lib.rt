@@ -11,3 +11,6 @@ mod script;
 pub use line::Line;
 pub use reader::read_script;
 pub use script::{Script, ScriptRefusal, Way};
+
+#[cfg(test)]
+mod tests;

@@ -6,7 +6,7 @@ ghost use Rattle.nav_text.specs.Faults.{fault_at};
 ghost use Rattle.nav_text.specs.declared.fault.TextFault.{TextFault};
 ghost use Rattle.nav_script.specs.declared.script.Script.{Script};
 ghost use Rattle.nav_script.specs.Limits.{IsScriptText};
-ghost use Rattle.nav_script.specs.Reading.{AtScript, AtLines, script_format, IsReading, IsReadAs, IsFirstFaultFrom};
+ghost use Rattle.nav_script.specs.Reading.{AtScript, AtLines, script_format, IsReading, Gives, IsFirstFaultFrom};
 
 use crate::forms::read_line;
 use crate::header::{Header, read_header};
@@ -31,7 +31,8 @@ fn read_lines(
 ) -> Result<Script, ScriptRefusal>
     requires lines { first_line ≤ 4000000001 }
     requires lanes { header.lanes ≤ 16 }
-    ensures { IsReading (read (script_format way (is_ended text.now)) (AtLines header.lanes header.workers []) first_line (lines text.now)) result }
+    ensures { IsReading (read (script_format way (is_ended text.now))
+        (AtLines header.lanes header.workers []) first_line (lines text.now)) result }
 {
     let mut progress = Progress::new(alloc);
     let mut rest = text;
@@ -59,9 +60,11 @@ fn read_lines(
     })
 }
 
+/// The whole text, as its format says.
 fn read_all(alloc: Global, bytes: &[u8], first_line: u32, way: Way) -> Result<Script, ScriptRefusal>
     requires { first_line ≤ 4000000000 }
-    ensures { IsReading (read (script_format way (is_ended bytes.now)) AtScript first_line (lines bytes.now)) result }
+    ensures { IsReading
+        (read (script_format way (is_ended bytes.now)) AtScript first_line (lines bytes.now)) result }
 {
     let Some((line, rest)) = nav_text::first_line(bytes) else {
         return Err(refused(first_line, FaultKind::Unfinished));
@@ -72,9 +75,9 @@ fn read_all(alloc: Global, bytes: &[u8], first_line: u32, way: Way) -> Result<Sc
     }
 }
 
-/// Reads a script text: all of the bytes, of which the first line has the number `first_line` in the input. `way` says how the script is to run,
-/// which decides what lines it may have. A fault has the number and the kind of the first line that fails; where the text ends too early, that
-/// of the line that should follow.
+/// Reads a script text: all of the bytes, whose first line has the number `first_line` in the input. `way` says how the script
+/// is to run, which decides what lines it may have. A fault has the number and the kind of the first line that fails; where the
+/// text ends too early, the number of the line that is not ended or that should follow.
 pub fn read_script(
     alloc: Global,
     bytes: &[u8],
@@ -84,10 +87,13 @@ pub fn read_script(
     requires { first_line ≤ 4000000000 }
     // What is read is a script for this way, and the bytes are its text.
     ensures found { IfOk result (IsScriptText way bytes.now) }
+
     // The text of a script is read as that script, unless memory runs out.
-    ensures only { (script : Script) → IsScriptText way bytes.now script → IsReadAs result script }
+    ensures only { (script : Script) → IsScriptText way bytes.now script → Gives script result }
+
     // A fault is that of the first line that fails, given the lines before it.
-    ensures first { (fault : TextFault) → result ≡ Err (ScriptRefusal.Fault fault) → IsFirstFaultFrom way first_line bytes.now fault }
+    ensures first { (fault : TextFault) → result ≡ Err (ScriptRefusal.Fault fault)
+        → IsFirstFaultFrom way first_line bytes.now fault }
 {
     read_all(alloc, bytes, first_line, way)
 }
