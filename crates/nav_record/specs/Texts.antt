@@ -4,6 +4,7 @@ use Rattle.std.specs.List.{flat_map}
 use Rattle.nav_base.specs.declared.answers.FloorAt.{FloorAt}
 use Rattle.nav_ground.specs.declared.history.Reply.{Reply}
 use Rattle.nav_ground.specs.declared.history.Reply.TheVariants.{Added, Removed, Full, Dead}
+use Rattle.nav_text.specs.declared.fault.TextFault.{TextFault}
 use Rattle.nav_record.specs.declared.step.StepAnswer.{StepAnswer}
 use Rattle.nav_record.specs.declared.step.StepAnswer.TheVariants.{Aim, Claimed, NoTile, Busy, Idle, Back, Taken, Stale, Published, Same, NotYet, Settled, HistoryFull}
 
@@ -41,3 +42,15 @@ floors_text k floors = codes "floors " ++ decimal k ++ codes " " ++ decimal (len
 -- the end of a play: the published length and the history's length
 abbrev pub done_text : ℕ → ℕ → List ℕ
 done_text k n = codes "done " ++ decimal k ++ codes " " ++ decimal n ++ codes "\n"
+
+-- what is wrong with the input: the line that fails, and the number of the fault's kind
+abbrev pub fault_text : TextFault → List ℕ
+fault_text fault = codes "fault " ++ decimal fault.line ++ codes " " ++ decimal fault.kind ++ codes "\n"
+
+-- the call had the wrong arguments
+abbrev pub usage_text : List ℕ
+usage_text = codes "fault usage\n"
+
+-- the input is longer than any that is read
+abbrev pub too_long_text : List ℕ
+too_long_text = codes "fault too long\n"

@@ -6,12 +6,14 @@
 
 mod append;
 mod done;
+mod fault;
 mod floors;
 mod reply;
 mod step;
 mod totals;
 
 pub use done::write_done;
+pub use fault::{write_fault, write_too_long, write_usage};
 pub use floors::write_floors;
 pub use reply::write_reply;
 pub use step::{StepAnswer, write_step};
