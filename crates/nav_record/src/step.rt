@@ -1,5 +1,6 @@
 //! Steps of builders and of the book, and their lines.
 ghost use Rattle.std.specs.Prelude.{◌≡◌, ◌+◌, ◌≤◌, ◌++◌, length, IsOk, OnOk, OnErr, vec_len, vec_capacity};
+ghost use Rattle.nav_record.specs.OneLine.{IsOneLine};
 ghost use Rattle.nav_record.specs.Texts.{step_text};
 
 use crate::append::{append_number, append_numbers};
@@ -37,10 +38,13 @@ pub enum StepAnswer {
 }
 
 /// Appends the line of a step.
+#[tactic(auto, using(crate::proofs::OneLineLaws::step_line))]
 pub fn write_step(out: &mut Vec<u8>, step: &StepAnswer) -> Result<(), AllocError>
     ensures ok { OnOk result (out.new.items ≡ out.old.items ++ step_text step.now) }
     ensures err { OnErr result (out.new.items ≡ out.old.items) }
     ensures room { vec_len out.old + length (step_text step.now) ≤ vec_capacity out.old → IsOk result }
+    // The text is one line.
+    ensures line { IsOneLine (step_text step.now) }
 {
     match *step {
         StepAnswer::Aim { k } => append_number(out, b"aim ", k, b"\n"),
