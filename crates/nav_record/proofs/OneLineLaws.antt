@@ -1,6 +1,6 @@
 -- Each text of one answer is one line.
-use Rattle.std.proofs.Common.{◌≡◌, ◌∙◌, refl, sym, ap, append_assoc, cond, nat_lt, zero, suc, ℕ, ◌+◌, ◌%◌, ◌/◌, ◌<◌, ◌≤◌, Bool, true, false, List, [], ◌∷◌, ◌++◌, length, codes, decimal, arith, not, eqb, ◌&&◌, ◌==◌}
-use Rattle.std.specs.List.{flat_map, list_all}
+use Rattle.std.proofs.Common.{◌≡◌, ◌∙◌, refl, sym, append_assoc, cond, nat_lt, zero, suc, ℕ, ◌+◌, ◌%◌, ◌/◌, Bool, true, false, List, [], ◌∷◌, ◌++◌, length, codes, decimal, arith, not, eqb, ◌==◌}
+use Rattle.std.specs.List.{flat_map}
 use Rattle.std.specs.Fmt.{digits, digits_onto, digit_glyph}
 use Rattle.std.proofs.lemmas.Bool.{and_from}
 use Rattle.std.proofs.lemmas.Bool.Decides.{nat_tests}
@@ -29,7 +29,7 @@ digits_onto_plain zero n acc plain = plain
 digits_onto_plain (suc k) n acc plain =
     let onto = and_from _ _ (glyph_plain (nat_lt (n % 10) 10) (n % 10)) plain in
     either_plain (n / 10 == 0) (digit_glyph false (n % 10) ∷ acc) (digits_onto k 10 false (n / 10) (digit_glyph false (n % 10) ∷ acc)) onto
-      (digits_onto_plain k (n / 10) (digit_glyph false (n % 10) ∷ acc) onto)
+    (digits_onto_plain k (n / 10) (digit_glyph false (n % 10) ∷ acc) onto)
 
 -- a number has no line feed in it
 pub is_line-decimal : (n : ℕ) → is_line (decimal n) ≡ true
@@ -91,13 +91,15 @@ floors_plain (floor ∷ more) =
     let number = is_line-append (codes " ") (decimal floor.y) refl (is_line-decimal floor.y) in
     let front = is_line-append (codes " " ++ decimal floor.y) (codes " ") number refl in
     is_line-append (floor_text floor) (flat_map floor_text more)
-      (is_line-append (codes " " ++ decimal floor.y ++ codes " ") (decimal floor.area) front (is_line-decimal floor.area)) (floors_plain more)
+    (is_line-append (codes " " ++ decimal floor.y ++ codes " ") (decimal floor.area) front (is_line-decimal floor.area)) (floors_plain more)
 
 pub floors_line : (k : ℕ) (floors : List FloorAt) → IsOneLine (floors_text k floors)
 floors_line k floors =
     let count = length floors in
     let number = is_line-append (codes "floors ") (decimal k) refl (is_line-decimal k) in
     let front = is_line-append (codes "floors " ++ decimal k) (codes " ") number refl in
-    let both = is_line-append (codes "floors " ++ decimal k ++ codes " ") (decimal count) front (is_line-decimal count) in
-    (codes "floors " ++ decimal k ++ codes " " ++ decimal count ++ flat_map floor_text floors, refl,
-      is_line-append (codes "floors " ++ decimal k ++ codes " " ++ decimal count) (flat_map floor_text floors) both (floors_plain floors))
+    let both = is_line-append (codes "floors " ++ decimal k ++ codes " ") (decimal count) front (is_line-decimal count) in (
+      codes "floors " ++ decimal k ++ codes " " ++ decimal count ++ flat_map floor_text floors,
+      refl,
+      is_line-append (codes "floors " ++ decimal k ++ codes " " ++ decimal count) (flat_map floor_text floors) both (floors_plain floors),
+    )

@@ -1,5 +1,5 @@
 -- The texts of the output: the exact lines of each answer, each with its line feed.
-use Rattle.std.specs.Prelude.{ℕ, List, [], ◌∷◌, ◌++◌, length, codes, decimal}
+use Rattle.std.specs.Prelude.{ℕ, List, ◌++◌, length, codes, decimal}
 use Rattle.std.specs.List.{flat_map}
 use Rattle.nav_base.specs.declared.answers.FloorAt.{FloorAt}
 use Rattle.nav_ground.specs.declared.history.Reply.{Reply}

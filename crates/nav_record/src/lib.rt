@@ -18,3 +18,6 @@ pub use floors::write_floors;
 pub use reply::write_reply;
 pub use step::{StepAnswer, write_step};
 pub use totals::Totals;
+
+#[cfg(test)]
+mod tests;

@@ -1,4 +1,4 @@
-use Rattle.std.proofs.Common.{ℕ, ◌+◌, ◌≤◌, ◌++◌, Bool, true, false, length, codes, decimal, arith}
+use Rattle.std.proofs.Common.{◌++◌, length, codes, decimal, arith}
 use Rattle.nav_record.proofs.FloorLaws.{room_for_floor}
 use Rattle.nav_record.proofs.floors.append_floors.Goals as goal
 

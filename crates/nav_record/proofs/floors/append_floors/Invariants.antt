@@ -1,4 +1,4 @@
-use Rattle.std.proofs.Common.{◌≡◌, ◌+◌, ◌≤◌, ◌++◌, length, take, vec_len, vec_capacity, ℕ, ◌-◌, ◌*◌, ◌<◌}
+use Rattle.std.proofs.Common.{vec_capacity}
 use Rattle.nav_record.proofs.FloorLaws.{HasWritten}
 use Rattle.nav_record.proofs.floors.append_floors.Given as goal
 
