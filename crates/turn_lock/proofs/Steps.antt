@@ -1,0 +1,113 @@
+-- Each step on the table's word keeps the rule: take the turn, give it back, look at the word.
+use Rattle.std.proofs.Common.{◌≡◌, ◌≢◌, ℕ, zero, suc, ◌+◌, ◌*◌, ◌/◌, ◌%◌, ◌<◌, ◌≤◌, ◌⊎◌, Bool, true, false, eqb, List, [], ◌∷◌, ◌++◌, length, slice_index, slice_set, Option, Some, None, refl, sym, ◌∙◌, ap, subst, inl, inr, ⊎_elim, length-set, get_or-set_same, arith}
+use Rattle.std.specs.Prelude.{All}
+use Rattle.std.proofs.lemmas.List.Elements.{All-cons, All-head, All-tail, All-weaker, All-nil}
+use mathlib.Core.Option as maybe
+use prog.Atomic.{either}
+use lib.ListN.{get_elem?}
+use Rattle.atomic_table.specs.Table.{State, Me, Act, step, stepped, Allows, Valid, keeps, takes, gives, carried_after, homes_after}
+use Rattle.atomic_table.proofs.Lists.{at_set, set_here, set_else, set_again, exchanged}
+use Rattle.turn_lock.specs.declared.view.Claim.{Claim}
+use Rattle.turn_lock.specs.declared.view.View.{View}
+use Rattle.turn_lock.specs.Growth.{Extends, Grows}
+use Rattle.turn_lock.specs.Turns.{Stands, Knows, HasTurn, Phase, Turns, Finds, Takes, Gives, Looks, Returns, having_seen, having_met, claims_of}
+use Rattle.turn_lock.proofs.GrowthLemmas.{Extends-itself, Extends-length, Extends-grown, Grows-length, Grows-makers}
+use Rattle.turn_lock.proofs.TableLemmas.{at_below, same_at, set_itself}
+
+-- where the word is even, nobody has the turn and the value is at home
+module _ {B G E : Type 0} (root_of : B → G) (entries : B → List E) where
+  pub record AtHome (r : G) (current : List E) (holder : Option ℕ) (word : ℕ) (home : maybe.Option (maybe.Option B)) : Type 0 where
+    pub free : holder ≡ None
+    pub even : word ≡ 2 * length current
+    pub value : B
+    pub there : home ≡ maybe.some (maybe.some value)
+    pub list : entries value ≡ current
+    pub root : root_of value ≡ r
+
+  pub at_home : (r : G) (current : List E) (holder : Option ℕ) (word : ℕ) (home : maybe.Option (maybe.Option B)) → word % 2 ≡ 0 → Phase root_of entries r current holder word home → AtHome r current holder word home
+  at_home r current None word home even p = record { free = refl; even = p.0; value = p.1; there = p.2; list = p.3; root = p.4 }
+  at_home r current (Some seat) word home even p = absurd (let odd = p.0 in omega arith)
+
+  -- half the word is the length of the list
+  pub half : (r : G) (current : List E) (holder : Option ℕ) (word : ℕ) (home : maybe.Option (maybe.Option B)) → Phase root_of entries r current holder word home → word / 2 ≡ length current
+  half r current None word home p = let even = p.0 in omega arith
+  half r current (Some seat) word home p = let odd = p.0 in omega arith
+
+  -- while the seat has the turn, the slot is out
+  pub slot_out : (r : G) (current : List E) (holder : Option ℕ) (seat word : ℕ) (home : maybe.Option (maybe.Option B)) → holder ≡ Some seat → Phase root_of entries r current holder word home → word ≡ 2 * length current + 1
+  slot_out r current None seat word home is p = cc
+  slot_out r current (Some other) seat word home is p = p.0
+
+module _ {B G E : Type 0} (root_of : B → G) (entries : B → List E) (maker : E → ℕ) (r : G) (passes : ℕ) where
+  abbrev Rule : State B (View G E) → Type 0
+  Rule = Turns root_of entries maker r passes
+
+  -- the word is set to itself, and the seat keeps what it knows
+  stays : (s : State B (View G E)) (id : ℕ) (me : Me B (View G E)) → get_elem? s.views id ≡ maybe.some me.0 → Rule s → Rule (stepped s 0 (slice_index s.words 0) id me.1 me.0 keeps)
+  stays s id me at t =
+    let one = t.one_word in
+    let words : slice_set s.words 0 (slice_index s.words 0) ≡ s.words = set_itself s.words 0 (omega arith) in
+    let views : slice_set s.views id me.0 ≡ s.views = set_again s.views id me.0 at in
+    subst Rule (λ i. record { words = sym words i; homes = s.homes; views = sym views i }) t
+
+  -- What a seat knows of a list that it has just seen whole
+  seen_whole : (count : ℕ) (seat_of : ℕ → ℕ) (seat : ℕ) (current list : List E) (claim : Claim E) → list ≡ current → Stands maker count seat_of seat current claim
+      → Stands maker count seat_of seat current (record { number = claim.number; seen = list; met = length list })
+  seen_whole count seat_of seat current list claim same stands =
+    let long = ap length same in
+    record { given = stands.given; place = stands.place; extends = subst (λ l. Extends maker claim.number l current) (sym same) (Extends-itself maker claim.number current); met = omega arith; met_all = omega arith }
+
+  -- what the seats know after a step of one of them
+  known : (s : State B (View G E)) (t : Rule s) (id : ℕ) (w : View G E) (current : List E) (holder : Option ℕ)
+      → Knows maker r current t.count t.chief t.seat_of holder id w
+      → ((seat : ℕ) (v : View G E) → seat ≢ id → Knows maker r t.current t.count t.chief t.seat_of t.holder seat v → Knows maker r current t.count t.chief t.seat_of holder seat v)
+      → (seat : ℕ) (v : View G E) (g : G) → get_elem? (slice_set s.views id w) seat ≡ maybe.some v → v.root ≡ Some g → Knows maker r current t.count t.chief t.seat_of holder seat v
+  known s t id w current holder own others seat v g e rooted = ⊎_elim
+      (λ (here, is). let P : ℕ → Type 0 = λ i. Knows maker r current t.count t.chief t.seat_of holder i v in
+          subst P (sym here) (subst (Knows maker r current t.count t.chief t.seat_of holder id) is own))
+      (λ (else, there). others seat v else (t.knows seat v g there rooted))
+      (at_set s.views id seat w v e)
+
+  -- take the turn
+  taken : (s : State B (View G E)) (t : Rule s) (n id : ℕ) (me : Me B (View G E)) (old new : ℕ) → new ≡ old + 1 → me.1 ≡ [] → me.0.taken ≡ [] → me.0.root ≡ Some r
+      → get_elem? s.views id ≡ maybe.some me.0 → AtHome root_of entries r t.current t.holder old (get_elem? s.homes 0) → (found : ℕ) → found ≡ old
+      → (w : View G E) × (a : Act B) × Valid s.homes me.1 a × Rule (stepped s 0 new id me.1 w a) × Takes root_of entries maker (step n 0 old new maybe.none) me found (w, carried_after me.1 a)
+  taken s t n id me old new next idle single rooted at home found is =
+    let knows = t.knows id me.0 r at rooted in
+    let own : Stands maker t.count t.seat_of id t.current me.0.own = All-head (Stands maker t.count t.seat_of id t.current) me.0.own me.0.taken knows.claims in
+    let long = ap length home.list in
+    let w : View G E = having_seen true (entries home.value) me.0 in
+    let one = t.one_word in
+    let slot = t.one_slot in
+    let here = at_below s.views id me.0 at in
+    let word : slice_index (slice_set s.words 0 new) 0 ≡ new = get_or-set_same s.words 0 new 0 (omega arith) in (
+      w,
+      takes 0 home.value,
+      home.there,
+      record {
+        current = t.current; count = t.count; chief = t.chief; seat_of = t.seat_of; holder = Some id;
+        one_word = length-set s.words 0 new ∙ t.one_word;
+        one_slot = length-set s.homes 0 maybe.none ∙ t.one_slot;
+        within = t.within; room = t.room;
+        phase = (let even = home.even in omega arith, set_here s.homes 0 maybe.none (omega arith));
+        makers = t.makers;
+        turn = λ seat told. let same : id ≡ seat = cc in subst (HasTurn r (slice_set s.views id w)) same (record { view = w; there = set_here s.views id w here; root = rooted; holds = refl });
+        knows = known s t id w t.current (Some id)
+          (record { root = rooted; claims = All-cons (Stands maker t.count t.seat_of id t.current) w.own w.taken (seen_whole t.count t.seat_of id t.current (entries home.value) me.0.own home.list own) (All-tail (Stands maker t.count t.seat_of id t.current) me.0.own me.0.taken knows.claims);
+            holds = λ _. (refl, home.list); given = knows.given })
+          (λ seat v else k. record { root = k.root; claims = k.claims; holds = λ h. let told : t.holder ≡ Some seat = (k.holds h).0 in let free = home.free in cc; given = k.given });
+      },
+      (
+        (λ _. (home.value, (λ i. (w, (0, home.value) ∷ me.1)), record { root = rooted ∙ ap Some (sym home.root); extends = subst (Extends maker me.0.own.number me.0.own.seen) (sym home.list) own.extends; met = let m = own.met in omega arith })),
+        (λ miss. absurd (miss is)),
+      ),
+    )
+
+  pub takes_turn : (n id : ℕ) (me : Me B (View G E)) (old new : ℕ) → old % 2 ≡ 0 → new ≡ old + 1 → me.1 ≡ [] → me.0.taken ≡ [] → me.0.root ≡ Some r
+      → Allows Rule n id me 0 (λ y. either (eqb y old) new y) (Takes root_of entries maker (step n 0 old new maybe.none) me)
+  takes_turn n id me old new even next idle single rooted s t wide at fits =
+    exchanged (slice_index s.words 0) old new
+      (λ x. (w : View G E) × (a : Act B) × Valid s.homes me.1 a × Rule (stepped s 0 x id me.1 w a) × Takes root_of entries maker (step n 0 old new maybe.none) me (slice_index s.words 0) (w, carried_after me.1 a))
+      (λ hit. let p : Phase root_of entries r t.current t.holder old (get_elem? s.homes 0) = subst (λ x. Phase root_of entries r t.current t.holder x (get_elem? s.homes 0)) hit t.phase in
+          taken s t n id me old new next idle single rooted at (at_home root_of entries r t.current t.holder old (get_elem? s.homes 0) even p) (slice_index s.words 0) hit)
+      (λ miss. (me.0, keeps, tt, stays s id me at t, ((λ hit. absurd (miss hit)), (λ _. refl))))
