@@ -109,9 +109,11 @@ held_list entries (x ∷ xs) = entries x.1
 abbrev pub Gives : {B G E : Type 0} → (B → List E) → Step B → Me B (View G E) → ℕ → Me B (View G E) → Type 0
 Gives entries st m stored m' = m' ≡ (having_seen false (held_list entries m.1) m.0, rest m.1)
 
--- what a seat owes to give the value back: it has the turn, and the value has the lock's root, room for one entry more, and the list that was found or one entry of the seat's own more
+-- what a seat owes to give the value back: it has the turn and speaks for one pass alone, and the value has the lock's root, fewer than 4294967295 entries, and the list that was found or one entry of that pass more
 pub record Returns {B G E : Type 0} (root_of : B → G) (entries : B → List E) (maker : E → ℕ) (r : G) (v : View G E) (value : B) : Type 0 where
   pub holds : v.holds ≡ true
+  pub single : v.taken ≡ []
+  pub rooted : v.root ≡ Some r
   pub root : root_of value ≡ r
   pub grows : Grows maker (Some v.own.number) v.own.seen (entries value)
   pub room : length (entries value) < 4294967295
