@@ -30,6 +30,10 @@ module _ {B G E : Type 0} (root_of : B → G) (entries : B → List E) where
   at_home r current None word home even p = record { free = refl; even = p.0; value = p.1; there = p.2; list = p.3; root = p.4 }
   at_home r current (Some seat) word home even p = absurd (let odd = p.0 in omega arith)
 
+  pub resting : (r : G) (current : List E) (holder : Option ℕ) (word : ℕ) (home : maybe.Option (maybe.Option B)) → holder ≡ None → Phase root_of entries r current holder word home → AtHome r current holder word home
+  resting r current None word home free p = record { free = refl; even = p.0; value = p.1; there = p.2; list = p.3; root = p.4 }
+  resting r current (Some seat) word home free p = absurd (let e = free in cc)
+
   -- half the word is the length of the list
   pub half : (r : G) (current : List E) (holder : Option ℕ) (word : ℕ) (home : maybe.Option (maybe.Option B)) → Phase root_of entries r current holder word home → word / 2 ≡ length current
   half r current None word home p = let even = p.0 in omega arith

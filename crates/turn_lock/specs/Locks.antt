@@ -2,6 +2,7 @@
 use Rattle.std.specs.Prelude.{◌≡◌, refl, ℕ, ◌<◌, ◌≤◌, List, [], length, ◌⊎◌, Option, Some, None, All, Any, slice_get}
 use Rattle.std.specs.Coded.{Coded, code_by, coded×, coded_ℕ, coded_list, coded_option}
 use Rattle.atomic_table.specs.Seated.{TableId, table_id_coded}
+use Rattle.turn_lock.specs.declared.view.Claim.{Claim}
 use Rattle.turn_lock.specs.Growth.{Extends, Grows}
 
 -- which lock it is: what no other lock shares with it, the root of its value, and the number of its passes
@@ -27,6 +28,10 @@ pass_view_code {G} {E} c d =
         (λ p. (p.table, (p.root, (p.number, (p.seen, p.met))))) (λ t. record { table = t.0; root = t.1.0; number = t.1.1.0; seen = t.1.1.1.0; met = t.1.1.1.1 }) (λ _. refl)
 
 module _ {G E : Type 0} where
+  -- what the pass knows of the list, under its number
+  abbrev pub claim_of : PassView G E → Claim E
+  claim_of pass = record { number = pass.number; seen = pass.seen; met = pass.met }
+
   -- the pass is one of the lock's
   pub record IsOf (lock : LockId G) (pass : PassView G E) : Type 0 where
     pub table : pass.table ≡ lock.table

@@ -16,9 +16,13 @@ module _ {G E : Type 0} where
   abbrev pub claims_of : View G E → List (Claim E)
   claims_of v = v.own ∷ v.taken
 
-  -- the first seat, which has the number 0 and gives the others
+  -- the seat that gives the numbers, where the last that it gave is its own
+  abbrev pub giving_view : G → ℕ → View G E
+  giving_view r number = record { root = Some r; own = new_claim number; taken = []; holds = false; given = number + 1 }
+
+  -- the first seat has the number 0
   abbrev pub first_view : G → View G E
-  first_view r = record { root = Some r; own = new_claim 0; taken = []; holds = false; given = 1 }
+  first_view r = giving_view r 0
 
   -- the seat has seen the whole list
   abbrev pub having_seen : Bool → List E → View G E → View G E

@@ -1,14 +1,16 @@
 // The lock and its passes.
-ghost use Rattle.std.specs.Prelude.{◌≡◌, ◌≢◌, ℕ, ◌+◌, ◌*◌, ◌%◌, ◌<◌, ◌≤◌, true, false, List, [], ◌∷◌, length, Option, Some, IfOk, IfErr, All};
+ghost use Rattle.std.specs.Prelude.{◌≡◌, ◌≢◌, ℕ, ◌+◌, ◌*◌, ◌%◌, ◌<◌, ◌≤◌, true, false, List, [], ◌∷◌, length, map, Option, Some, IfOk, IfErr, All, Any, vec_capacity};
 ghost use Rattle.turn_lock.specs.Growth.{made_by, Extends};
-ghost use Rattle.turn_lock.specs.Locks.{IsOf, AreFresh, AreAll, MayName, Acts};
-ghost use Rattle.turn_lock.specs.Turns.{Finds, Returns, having_seen, held_list};
+ghost use Rattle.turn_lock.specs.Locks.{IsOf, AreFresh, AreAll, MayName, Acts, claim_of, fresh_pass};
+ghost use Rattle.turn_lock.specs.Turns.{Finds, Returns, having_seen, held_list, first_view, claims_of};
 
 use crate::booked::Booked;
-use crate::turns::{Board, Giving, Looking, Place, Taking};
-use std::alloc::Global;
+use crate::turns::{Board, Dealing, Gathering, Giving, Looking, Place, Start, Taking};
+use atomic_table::Refused;
+use std::alloc::{AllocError, Global};
 use std::hint::spin_loop;
 use std::marker::Model;
+use std::snapshot::Snapshot;
 use std::sync::Wait;
 use std::sync::atomic::{AtomicU64, Ordering};
 
@@ -147,5 +149,121 @@ impl<B: Booked> TurnLock<B> {
         ensures seen { length pass.old.seen ≤ result }
     {
         (self.table.shared.load::<Looking<B>>(&mut pass.place, 0) / 2) as u32
+    }
+
+    // The lock with its first seat, which has the number 0.
+    fn open(
+        alloc: Global,
+        value: B,
+        passes: u32,
+    ) -> Result<(TurnLock<B>, Place<B>), (B, AllocError)>
+        requires some { 1 ≤ passes }
+        requires empty { B.entries value ≡ [] }
+        ensures lock { IfOk result (λ made. (made.0.root ≡ B.root value) × (made.0.passes ≡ passes)) }
+        ensures first { IfOk result (λ made. (made.1.table_id ≡ made.0.table) × (made.1.me ≡ (first_view (B.root value), []))) }
+        ensures back { IfErr result (λ failed. failed.0 ≡ value) }
+    {
+        let start = Start {
+            value: Snapshot::of(&value),
+            passes,
+        };
+        let mut slots = match Vec::with_capacity(alloc, 1) {
+            Ok(slots) => slots,
+            Err(error) => return Err((value, error)),
+        };
+        slots.push_reserved(value);
+        match Board::<B>::new(alloc, &[0], slots, &start) {
+            Ok((table, first)) => Ok((
+                TurnLock {
+                    table,
+                    sleepers: AtomicU64::new(0),
+                },
+                first,
+            )),
+            Err(Refused { mut slots }) => {
+                let Some(value) = slots.pop() else { unreachable!() };
+                slots.destroy_empty();
+                Err((value, AllocError))
+            }
+        }
+    }
+
+    // Makes the passes from the first seat on, each with the next number.
+    fn deal(&self, first: Place<B>, passes: u32, list: &mut Vec<Pass<B>>)
+        requires count { (1 ≤ passes) × (passes ≡ self.now.passes) }
+        requires first { (first.table_id ≡ self.now.table) × (first.me ≡ (first_view self.now.root, [])) }
+        requires room { (list.old.items ≡ []) × (passes ≤ vec_capacity list.old) }
+        ensures { AreFresh self.now list.new.items }
+    {
+        let mut giver = first;
+        for _ in 1..passes {
+            let next = self.table.shared.split_seat::<Dealing<B>>(&mut giver);
+            list.push_reserved(Pass { place: giver });
+            giver = next;
+        }
+        list.push_reserved(Pass { place: giver });
+    }
+
+    /// A lock round `value`, with so many passes, which are numbered from 0 and have seen nothing. `Err` gives the value
+    /// back, and comes only for want of memory.
+    pub fn new(
+        alloc: Global,
+        value: B,
+        passes: u32,
+    ) -> Result<(TurnLock<B>, Vec<Pass<B>>), (B, AllocError)>
+        requires some { 1 ≤ passes }
+        requires empty { B.entries value ≡ [] }
+        ensures lock { IfOk result (λ made. (made.0.root ≡ B.root value) × (made.0.passes ≡ passes)) }
+        ensures fresh { IfOk result (λ made. AreFresh made.0 made.1.items) }
+        ensures back { IfErr result (λ failed. failed.0 ≡ value) }
+    {
+        let mut list = match Vec::with_capacity(alloc, passes as usize) {
+            Ok(list) => list,
+            Err(error) => return Err((value, error)),
+        };
+        let (lock, first) = TurnLock::open(alloc, value, passes)?;
+        lock.deal(first, passes, &mut list);
+        Ok((lock, list))
+    }
+
+    // Joins the seats of all passes: one seat then speaks for them all.
+    fn gather(&self, mut passes: Vec<Pass<B>>) -> Place<B>
+        requires some { 1 ≤ self.now.passes }
+        requires all { AreAll self.now passes.items }
+        ensures of { (result.table_id ≡ self.now.table) × (result.me.0.root ≡ Some self.now.root) }
+        ensures idle { (result.me.1 ≡ []) × (result.me.0.holds ≡ false) }
+        ensures claims { claims_of result.me.0 ≡ map claim_of passes.items }
+    {
+        let Some(first) = passes.pop() else { unreachable!() };
+        let Pass { place: mut seat } = first;
+        while let Some(pass) = passes.pop() {
+            let Pass { place } = pass;
+            self.table
+                .shared
+                .join_seat::<Gathering<B>>(&mut seat, place);
+        }
+        seat
+    }
+
+    /// Ends the lock, and gives the value back with the one list. It takes no memory.
+    ///
+    /// The list goes on from what each pass has seen by entries of other makers alone, so each pass's entries stand in it
+    /// in the order in which the pass made them, and it has no entry of any other maker.
+    pub fn close(self, passes: Vec<Pass<B>>) -> B
+        requires { AreAll self passes.items }
+        ensures root { B.root result ≡ self.root }
+        ensures legal { B.legal self.root (B.entries result) }
+        ensures extends { All (λ p. Extends B.maker p.number p.seen (B.entries result)) passes.items }
+        ensures own { All (λ p. made_by B.maker p.number (B.entries result) ≡ made_by B.maker p.number p.seen) passes.items }
+        ensures met { All (λ p. p.met ≤ length (B.entries result)) passes.items }
+        ensures made { All (λ e. Any (λ p. p.number ≡ B.maker e) passes.items) (B.entries result) }
+    {
+        let seat = self.gather(passes);
+        let TurnLock { table, sleepers: _ } = self;
+        let mut closed = table.close_with(seat);
+        let value = closed.take(0);
+        closed.free();
+        let _count = value.length();
+        value
     }
 }
