@@ -1,3 +1,4 @@
+pub mod Gathering
 pub mod GrowthLemmas
 pub mod Seats
 pub mod Steps

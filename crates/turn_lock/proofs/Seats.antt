@@ -170,7 +170,7 @@ module _ {B G E : Type 0} (root_of : B → G) (entries : B → List E) (maker : 
           let below = t.within in
           let bound = own.given in
           let found = all has.view.own.number (omega arith) in
-          let mine : Stands maker t.count t.seat_of id t.current found.1 = All-contains (Stands maker t.count t.seat_of id t.current) (claims_of v) found.1 knows.claims (found.0, (found.2, found.3)) in
+          let mine : Stands maker t.count t.seat_of id t.current found.1 = All-contains (Stands maker t.count t.seat_of id t.current) (claims_of v) found.1 knows.claims (found.0, found.2, found.3) in
           let here : seat ≡ id = sym own.place ∙ ap t.seat_of (sym found.4) ∙ mine.place in
           let e : has.view ≡ v = same_at s.views id has.view v (subst (λ i. get_elem? s.views i ≡ maybe.some has.view) here has.there) at in
           let h = ap (λ u. u.holds) e in let y = has.holds in cc) in
