@@ -3,3 +3,4 @@ pub mod GrowthLemmas
 pub mod Seats
 pub mod Steps
 pub mod TableLemmas
+pub mod TurnsLemmas

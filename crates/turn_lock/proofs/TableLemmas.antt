@@ -1,5 +1,6 @@
 -- Lemmas on the lists of a table.
-use Rattle.std.proofs.Common.{◌≡◌, ◌≢◌, ℕ, zero, suc, ◌+◌, ◌<◌, ◌≤◌, ◌⊎◌, List, [], ◌∷◌, ◌++◌, length, refl, sym, ◌∙◌, ap, inl, inr, get_or, set, length-set, arith}
+use Rattle.std.proofs.Common.{◌≡◌, ◌≢◌, ℕ, zero, suc, ◌+◌, ◌<◌, ◌≤◌, ◌⊎◌, List, [], ◌∷◌, ◌++◌, length, refl, sym, ◌∙◌, ap, inl, inr, get_or, set, length-set, subst, arith}
+use Rattle.std.specs.Prelude.{All}
 use mathlib.Core.Option as maybe
 use mathlib.Core.Option.{some-injective, some-ne-none}
 use lib.ListN.{get_elem?}
@@ -20,6 +21,14 @@ module _ {A : Type 0} where
 
   pub same_at : (l : List A) (i : ℕ) (a b : A) → get_elem? l i ≡ maybe.some a → get_elem? l i ≡ maybe.some b → a ≡ b
   same_at l i a b e f = some-injective a b (sym e ∙ f)
+
+  at_read : (l : List A) (i : ℕ) (a d : A) → get_elem? l i ≡ maybe.some a → get_or l i d ≡ a
+  at_read [] i a d e = absurd (some-ne-none a (sym e))
+  at_read (x ∷ xs) zero a d e = some-injective x a e
+  at_read (x ∷ xs) (suc i) a d e = at_read xs i a d e
+
+  pub All-at : (P : A → Type 0) (l : List A) (i : ℕ) (a : A) → get_elem? l i ≡ maybe.some a → All P l → P a
+  All-at P l i a e all = subst P (at_read l i a a e) (all i a (at_below l i a e))
 
 -- a word that is set to itself
 pub set_itself : (l : List ℕ) (i : ℕ) → i < length l → set l i (get_or l i 0) ≡ l

@@ -1,3 +1,4 @@
 pub mod Growth
 pub mod Locks
+pub mod OneHistory
 pub mod Turns
