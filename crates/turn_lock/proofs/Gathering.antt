@@ -1,7 +1,6 @@
 -- What is known of all passes once their seats are joined.
-use Rattle.std.proofs.Common.{◌≡◌, ℕ, ◌+◌, ◌<◌, ◌≤◌, Bool, false, List, [], ◌∷◌, ◌++◌, length, map, Option, Some, get_or, refl, sym, ◌∙◌, ap, subst, append_assoc, append-nil, arith}
+use Rattle.std.proofs.Common.{◌≡◌, ℕ, ◌<◌, ◌≤◌, false, List, [], ◌∷◌, ◌++◌, length, map, Some, get_or, sym, ◌∙◌, ap, subst, append_assoc, append-nil, arith}
 use Rattle.std.specs.Prelude.{All, Any}
-use Rattle.std.proofs.lemmas.List.Elements.{All-weaker}
 use Rattle.std.proofs.lemmas.List.{map-append, length-map}
 use Rattle.std.proofs.Math.ListN.{get_or-map}
 use mathlib.Core.Option as maybe
@@ -19,14 +18,14 @@ module _ {G E : Type 0} where
   pub gathered : (rest items : List (PassView G E)) (pass : PassView G E) (own : Claim E) (taken claims : List (Claim E)) → items ≡ rest ++ pass ∷ [] → own ≡ claim_of pass → taken ≡ []
       → map claim_of rest ++ (own ∷ (taken ++ claims)) ≡ map claim_of items ++ claims
   gathered rest items pass own taken claims split is none =
-    ap (λ l. map claim_of rest ++ (own ∷ (l ++ claims))) none ∙ ap (λ c. map claim_of rest ++ (c ∷ claims)) is
-    ∙ sym (append_assoc (map claim_of rest) (claim_of pass ∷ []) claims)
-    ∙ ap (λ l. l ++ claims) (sym (map-append claim_of rest (pass ∷ [])) ∙ ap (map claim_of) (sym split))
+      ap (λ l. map claim_of rest ++ (own ∷ (l ++ claims))) none ∙ ap (λ c. map claim_of rest ++ (c ∷ claims)) is
+      ∙ sym (append_assoc (map claim_of rest) (claim_of pass ∷ []) claims)
+      ∙ ap (λ l. l ++ claims) (sym (map-append claim_of rest (pass ∷ [])) ∙ ap (map claim_of) (sym split))
 
   pub gathered_first : (rest items : List (PassView G E)) (pass : PassView G E) (own : Claim E) (taken : List (Claim E)) → items ≡ rest ++ pass ∷ [] → own ≡ claim_of pass → taken ≡ []
       → map claim_of rest ++ (own ∷ taken) ≡ map claim_of items
   gathered_first rest items pass own taken split is none =
-    ap (λ l. map claim_of rest ++ (own ∷ l)) (sym (append-nil taken)) ∙ gathered rest items pass own taken [] split is none ∙ append-nil (map claim_of items)
+      ap (λ l. map claim_of rest ++ (own ∷ l)) (sym (append-nil taken)) ∙ gathered rest items pass own taken [] split is none ∙ append-nil (map claim_of items)
 
   -- what holds of each claim holds of each pass
   of_passes : (P : Claim E → Type 0) (items : List (PassView G E)) → All P (map claim_of items) → All (λ p. P (claim_of p)) items
@@ -34,7 +33,7 @@ module _ {G E : Type 0} where
 
   to_claims : (number : ℕ) (items : List (PassView G E)) → Any (λ p. p.number ≡ number) items → Any (λ c. c.number ≡ number) (map claim_of items)
   to_claims number items (k, pass, below, here, is) =
-    (k, claim_of pass, (let long = length-map items (claim_of {G = G} {E = E}) in omega arith), get_or-map claim_of items k pass ∙ ap claim_of here, is)
+      (k, claim_of pass, (let long = length-map items (claim_of {G = G} {E = E}) in omega arith), get_or-map claim_of items k pass ∙ ap claim_of here, is)
 
 module _ {B G E : Type 0} (root_of : B → G) (entries : B → List E) (maker : E → ℕ) (r : G) (passes : ℕ) where
   -- what the passes know of the value's list
@@ -48,13 +47,13 @@ module _ {B G E : Type 0} (root_of : B → G) (entries : B → List E) (maker : 
       → ((k : ℕ) → k < passes → Any (λ p. p.number ≡ k) items)
       → Final (Seen (Turns root_of entries maker r passes) id v) words slots → get_elem? slots 0 ≡ maybe.some value → Closes items value
   closes items id v words slots value rooted idle claims all final taken =
-    let ended : Ended root_of entries maker r passes v value = ends root_of entries maker r passes id v words slots rooted idle
-          (λ k below. subst (Any (λ c. c.number ≡ k)) (sym claims) (to_claims k items (all k below))) final value taken in
-    let stand : All (λ p. Stands maker ended.count ended.seat_of ended.seat (entries value) (claim_of p)) items =
-          of_passes (Stands maker ended.count ended.seat_of ended.seat (entries value)) items (subst (All (Stands maker ended.count ended.seat_of ended.seat (entries value))) claims ended.claims) in
-    record {
-      root = ended.root;
-      extends = λ k d below. (stand k d below).extends;
-      met = λ k d below. (stand k d below).met;
-      made = λ k d below. all (maker (get_or (entries value) k d)) (ended.makers k d below);
-    }
+      let ended : Ended root_of entries maker r passes v value = ends root_of entries maker r passes id v words slots rooted idle
+      (λ k below. subst (Any (λ c. c.number ≡ k)) (sym claims) (to_claims k items (all k below))) final value taken in
+      let stand : All (λ p. Stands maker ended.count ended.seat_of ended.seat (entries value) (claim_of p)) items =
+      of_passes (Stands maker ended.count ended.seat_of ended.seat (entries value)) items (subst (All (Stands maker ended.count ended.seat_of ended.seat (entries value))) claims ended.claims) in
+      record {
+        root = ended.root;
+        extends = λ k d below. (stand k d below).extends;
+        met = λ k d below. (stand k d below).met;
+        made = λ k d below. all (maker (get_or (entries value) k d)) (ended.makers k d below);
+      }

@@ -25,7 +25,7 @@ pub record PassView (G E : Type 0) : Type 0 where
 abbrev pub pass_view_code : {G E : Type 0} → Coded G → Coded E → Coded (PassView G E)
 pass_view_code {G} {E} c d =
     code_by (TableId × (Option G × (ℕ × (List E × ℕ)))) (coded× table_id_coded (coded× (coded_option c) (coded× coded_ℕ (coded× (coded_list d) coded_ℕ))))
-        (λ p. (p.table, (p.root, (p.number, (p.seen, p.met))))) (λ t. record { table = t.0; root = t.1.0; number = t.1.1.0; seen = t.1.1.1.0; met = t.1.1.1.1 }) (λ _. refl)
+    (λ p. (p.table, (p.root, (p.number, (p.seen, p.met))))) (λ t. record { table = t.0; root = t.1.0; number = t.1.1.0; seen = t.1.1.1.0; met = t.1.1.1.1 }) (λ _. refl)
 
 module _ {G E : Type 0} where
   -- what the pass knows of the list, under its number

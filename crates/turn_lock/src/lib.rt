@@ -9,6 +9,9 @@
 
 mod booked;
 mod lock;
+pub mod pairs;
+#[cfg(test)]
+mod tests;
 mod turns;
 mod view;
 

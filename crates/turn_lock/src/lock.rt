@@ -181,7 +181,9 @@ impl<B: Booked> TurnLock<B> {
                 first,
             )),
             Err(Refused { mut slots }) => {
-                let Some(value) = slots.pop() else { unreachable!() };
+                let Some(value) = slots.pop() else {
+                    unreachable!()
+                };
                 slots.destroy_empty();
                 Err((value, AllocError))
             }
@@ -234,7 +236,9 @@ impl<B: Booked> TurnLock<B> {
         ensures idle { (result.me.1 ≡ []) × (result.me.0.holds ≡ false) }
         ensures claims { claims_of result.me.0 ≡ map claim_of passes.items }
     {
-        let Some(first) = passes.pop() else { unreachable!() };
+        let Some(first) = passes.pop() else {
+            unreachable!()
+        };
         let Pass { place: mut seat } = first;
         while let Some(pass) = passes.pop() {
             let Pass { place } = pass;

@@ -1,4 +1,4 @@
-use Rattle.std.proofs.Common.{rules, ap, sym, ◌∙◌, ◌≡◌, ◌<◌, Some, arith}
+use Rattle.std.proofs.Common.{rules, ap, sym, ◌∙◌, Some, arith}
 use Rattle.turn_lock.proofs.Seats.{splits}
 use Rattle.turn_lock.proofs.lock.TurnLock.deal.Goals as goal
 

@@ -1,4 +1,4 @@
-use Rattle.std.proofs.Common.{rules, ap, sym, ◌∙◌, ◌≡◌, ◌++◌, map, Some}
+use Rattle.std.proofs.Common.{rules, ap, sym, ◌∙◌, ◌++◌, map, Some}
 use Rattle.std.proofs.lemmas.List.Elements.{All-pop}
 use Rattle.turn_lock.specs.Locks.{IsOf, claim_of}
 use Rattle.turn_lock.specs.Turns.{claims_of}

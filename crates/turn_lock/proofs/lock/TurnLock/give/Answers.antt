@@ -1,5 +1,4 @@
-use Rattle.std.proofs.Common.{rules, ap, ◌≡◌, ◌*◌, length}
-use Rattle.turn_lock.specs.Turns.{Returns, held_list}
+use Rattle.std.proofs.Common.{rules, ap, ◌*◌}
 use Rattle.turn_lock.proofs.Steps.{gives_turn_as}
 use Rattle.turn_lock.proofs.lock.TurnLock.give.Goals as goal
 
