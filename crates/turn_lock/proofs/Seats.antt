@@ -1,4 +1,5 @@
--- The rule holds of a new table, and splitting a seat and joining one keep it; and what it says once all seats are joined.
+-- The rule holds of a new table, and splitting a seat and joining one keep it; and what it says once all seats are
+-- joined.
 use Rattle.std.proofs.Common.{◌≡◌, ◌≢◌, ℕ, zero, suc, ◌+◌, ◌<◌, ◌≤◌, false, cond, eqb, List, [], ◌∷◌, length, slice_index, slice_set, Option, Some, None, refl, sym, ◌∙◌, ap, subst, ⊎_elim, length-set, eq-eqb, ne_eqb, arith}
 use Rattle.std.specs.Prelude.{All, Any}
 use Rattle.std.proofs.lemmas.List.Elements.{All-cons, All-head, All-weaker, All-nil, All-append, All-contains}
@@ -179,7 +180,8 @@ module _ {B G E : Type 0} (root_of : B → G) (entries : B → List E) (maker : 
             (at_set (slice_set s.views id both) other seat spent_view u e);
       }
 
-  -- What holds once one seat speaks for all numbers and has not the turn: nobody has it. So the value is at home, and its list goes on from all that was seen
+  -- What holds once one seat speaks for all numbers and has not the turn: nobody has it. So the value is at home, and
+  -- its list goes on from all that was seen
   pub record Ended (v : View G E) (value : B) : Type 0 where
     pub root : root_of value ≡ r
     pub count : ℕ

@@ -12,9 +12,12 @@ pub record LockId (G : Type 0) : Type 0 where
   pub passes : ℕ
 
 abbrev pub lock_id_code : {G : Type 0} → Coded G → Coded (LockId G)
-lock_id_code {G} c = code_by (TableId × (G × ℕ)) (coded× table_id_coded (coded× c coded_ℕ)) (λ l. (l.table, (l.root, l.passes))) (λ t. record { table = t.0; root = t.1.0; passes = t.1.1 }) (λ _. refl)
+lock_id_code {G} c =
+    code_by (TableId × (G × ℕ)) (coded× table_id_coded (coded× c coded_ℕ))
+    (λ l. (l.table, (l.root, l.passes))) (λ t. record { table = t.0; root = t.1.0; passes = t.1.1 }) (λ _. refl)
 
--- what a pass knows: its lock and its lock's root, its number, the part of the list that it has seen, and the greatest length that it has met
+-- what a pass knows: its lock and its lock's root, its number, the part of the list that it has seen, and the greatest
+-- length that it has met
 pub record PassView (G E : Type 0) : Type 0 where
   pub table : TableId
   pub root : Option G
@@ -55,8 +58,10 @@ module _ {G E : Type 0} where
 abbrev pub MayName : Option ℕ → ℕ → Type 0
 MayName by number = (by ≡ Some number) ⊎ (by ≡ None)
 
--- What an act did, and what its pass has seen of it. The list that the act found was legal, went on from what the pass had seen by entries of other makers alone, and was at least as long as
--- the pass had met. `grew` says how far the act lengthened it, `did` what the act answered. The pass has then seen and met the whole list after the act
+-- What an act did, and what its pass has seen of it. The list that the act found was legal, went on from what the pass
+-- had seen by entries of other makers alone, and was at least as long as
+-- the pass had met. `grew` says how far the act lengthened it, `did` what the act answered. The pass has then seen and
+-- met the whole list after the act
 pub record Acts {G E A D : Type 0} (maker : E → ℕ) (by : A → Option ℕ) (is_legal : List E → Type 0) (does : List E → A → D → List E → Type 0) (old : PassView G E) (act : A) (done : D) (new : PassView G E) : Type 0 where
   pub before : List E
   pub legal : is_legal before

@@ -1,4 +1,5 @@
--- What holds of a lock's table between any two steps, part by part, for all seats but those that were joined away. The rule of specs/Turns.antt implies it: `Turns-one_history` of proofs/TurnsLemmas.antt.
+-- What holds of a lock's table between any two steps, part by part, for all seats but those that were joined away. The
+-- rule of specs/Turns.antt implies it: `Turns-one_history` of proofs/TurnsLemmas.antt.
 use Rattle.std.specs.Prelude.{◌≡◌, ℕ, ◌+◌, ◌*◌, ◌<◌, ◌≤◌, ◌⊎◌, true, false, List, ◌++◌, length, slice_index, All, Some}
 use mathlib.Core.Option as maybe
 use lib.ListN.{get_elem?}
@@ -40,7 +41,8 @@ pub record InTurn {B G E : Type 0} (s : State B (View G E)) (current : List E) :
   pub seen : view.own.seen ≡ current
   pub alone : (other : ℕ) (v : View G E) → IsSeat s other v → v.holds ≡ true → other ≡ seat
 
--- What was seen is a prefix of the current list; the length that was met lies between the two lengths; and the entries of the claim's number are those that it has seen, in their order
+-- What was seen is a prefix of the current list; the length that was met lies between the two lengths; and the entries
+-- of the claim's number are those that it has seen, in their order
 pub record IsSeen {E : Type 0} (maker : E → ℕ) (current : List E) (claim : Claim E) : Type 0 where
   pub rest : List E
   pub prefix : current ≡ claim.seen ++ rest

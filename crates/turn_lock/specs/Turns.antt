@@ -1,5 +1,6 @@
 -- The rule of a lock's table, and what each step on it does. The table has one word and one slot.
--- The word is twice the length of the current list, and one more while a seat has the turn. The slot holds the value, or it is out with that seat.
+-- The word is twice the length of the current list, and one more while a seat has the turn. The slot holds the value,
+-- or it is out with that seat.
 use Rattle.std.specs.Prelude.{◌≡◌, ◌≢◌, ℕ, ◌+◌, ◌*◌, ◌/◌, ◌<◌, ◌≤◌, Bool, true, false, List, [], ◌∷◌, ◌++◌, length, slice_index, All, Option, Some, None}
 use mathlib.Core.Option as maybe
 use lib.ListN.{get_elem?}
@@ -46,7 +47,8 @@ module _ {G E : Type 0} where
   spent_view = record { root = None; own = new_claim 0; taken = []; holds = false; given = 0 }
 
 module _ {E : Type 0} (maker : E → ℕ) where
-  -- What a claim says of the current list. Its number was given, and to the seat that speaks for it; the list goes on from what was seen of it by entries of other makers alone,
+  -- What a claim says of the current list. Its number was given, and to the seat that speaks for it; the list goes on
+  -- from what was seen of it by entries of other makers alone,
   -- and is at least as long as the length that was met
   pub record Stands (count : ℕ) (seat_of : ℕ → ℕ) (seat : ℕ) (current : List E) (claim : Claim E) : Type 0 where
     pub given : claim.number < count
@@ -98,7 +100,8 @@ module _ {B G E : Type 0} (root_of : B → G) (entries : B → List E) where
       pub extends : Extends maker v.own.number v.own.seen (entries value)
       pub met : v.own.met ≤ length (entries value)
 
-    -- take the turn: where the word is as expected, the slot goes out to the seat, which has then seen the whole list; else nothing changes
+    -- take the turn: where the word is as expected, the slot goes out to the seat, which has then seen the whole list;
+    -- else nothing changes
     abbrev pub Takes : Step B → Me B (View G E) → ℕ → Me B (View G E) → Type 0
     Takes st m found m' =
         (found ≡ st.first → (value : B) × (m' ≡ (having_seen true (entries value) m.0, (0, value) ∷ m.1)) × Finds m.0 value)
@@ -113,7 +116,8 @@ held_list entries (x ∷ xs) = entries x.1
 abbrev pub Gives : {B G E : Type 0} → (B → List E) → Step B → Me B (View G E) → ℕ → Me B (View G E) → Type 0
 Gives entries st m stored m' = m' ≡ (having_seen false (held_list entries m.1) m.0, rest m.1)
 
--- what a seat owes to give the value back: it has the turn and speaks for one pass alone, and the value has the lock's root, fewer than 4294967295 entries, and the list that was found or one entry of that pass more
+-- what a seat owes to give the value back: it has the turn and speaks for one pass alone, and the value has the lock's
+-- root, fewer than 4294967295 entries, and the list that was found or one entry of that pass more
 pub record Returns {B G E : Type 0} (root_of : B → G) (entries : B → List E) (maker : E → ℕ) (r : G) (v : View G E) (value : B) : Type 0 where
   pub holds : v.holds ≡ true
   pub single : v.taken ≡ []

@@ -1,7 +1,7 @@
 // The lock and its passes.
-ghost use Rattle.std.specs.Prelude.{◌≡◌, ◌≢◌, ℕ, ◌+◌, ◌*◌, ◌%◌, ◌<◌, ◌≤◌, true, false, List, [], ◌∷◌, length, map, Option, Some, IfOk, IfErr, All, Any, vec_capacity};
+ghost use Rattle.std.specs.Prelude.{◌≡◌, ◌%◌, ◌≤◌, true, false, [], ◌∷◌, length, map, IfOk, IfErr, All, Any, vec_capacity};
 ghost use Rattle.turn_lock.specs.Growth.{made_by, Extends};
-ghost use Rattle.turn_lock.specs.Locks.{IsOf, AreFresh, AreAll, MayName, Acts, claim_of, fresh_pass};
+ghost use Rattle.turn_lock.specs.Locks.{IsOf, AreFresh, AreAll, MayName, Acts, claim_of};
 ghost use Rattle.turn_lock.specs.Turns.{Finds, Returns, having_seen, held_list, first_view, claims_of};
 
 use crate::booked::Booked;
@@ -18,6 +18,9 @@ use std::sync::atomic::{AtomicU64, Ordering};
 const LOOKS: u32 = 100;
 
 /// A lock round a value with a list of entries.
+///
+/// Contracts see which lock it is, its value's root and the number of its passes. Its passes act on the value, by `with`;
+/// with all of them `close` gives the value back.
 #[derive(Drop)]
 pub struct TurnLock<B: Booked> {
     table: Board<B>,
@@ -33,12 +36,17 @@ impl<B: Booked> Model for TurnLock<B> {
 
     ghost coded = { lock_id_code B.Root.code };
 
-    ghost view = { λ l. record { table = l.table.shared.table_id; root = B.root l.table.shared.key.value.value; passes = l.table.shared.key.passes } };
+    ghost view = { λ l. let shared = l.table.shared in
+        record { table = shared.table_id; root = B.root shared.key.value.value; passes = shared.key.passes } };
 
-    ghost invariant = { λ l. (l.table.shared.table_id.words ≡ 1) × (l.table.shared.table_id.slots ≡ 1) × (1 ≤ l.table.shared.key.passes) };
+    ghost invariant = { λ l. let shared = l.table.shared in
+        (shared.table_id.words ≡ 1) × (shared.table_id.slots ≡ 1) × (1 ≤ shared.key.passes) };
 }
 
-/// The right to act on a lock's value under one number.
+/// The right to act on a lock's value under one number, which no other pass of the lock has.
+///
+/// Contracts see its lock and the root of that lock's value, its number, the list that it has seen, and the greatest
+/// length that it has met, which is at least that list's.
 #[derive(Drop)]
 pub struct Pass<B: Booked> {
     place: Place<B>,
@@ -52,10 +60,12 @@ impl<B: Booked> Model for Pass<B> {
 
     ghost coded = { pass_view_code B.Root.code B.Entry.code };
 
-    ghost view = { λ p. let own = p.place.me.0.own in record { table = p.place.table_id; root = p.place.me.0.root; number = own.number; seen = own.seen; met = own.met } };
+    ghost view = { λ p. let v = p.place.me.0 in
+        record { table = p.place.table_id; root = v.root; number = v.own.number; seen = v.own.seen; met = v.own.met } };
 
-    // Between two calls no pass has the turn.
-    ghost invariant = { λ p. (p.place.me.1 ≡ []) × (p.place.me.0.holds ≡ false) × (p.place.me.0.taken ≡ []) × (length p.place.me.0.own.seen ≤ p.place.me.0.own.met) };
+    // Between two calls no pass has the turn. Its seat speaks for it alone.
+    ghost invariant = { λ p. let v = p.place.me.0 in
+        (p.place.me.1 ≡ []) × (v.holds ≡ false) × (v.taken ≡ []) × (length v.own.seen ≤ v.own.met) };
 }
 
 impl<B: Booked> TurnLock<B> {
@@ -65,7 +75,9 @@ impl<B: Booked> TurnLock<B> {
         requires idle { (place.old.me.1 ≡ []) × (place.old.me.0.taken ≡ []) }
         requires free { word % 2 ≡ 0 }
         ensures of { place.new.table_id ≡ place.old.table_id }
-        ensures taken { result ≡ true → (value : B) × (place.new.me ≡ (having_seen true (B.entries value) place.old.me.0, (0, value) ∷ [])) × Finds B.root B.entries B.maker place.old.me.0 value }
+        ensures taken { result ≡ true → (value : B)
+            × (place.new.me ≡ (having_seen true (B.entries value) place.old.me.0, (0, value) ∷ []))
+            × Finds B.root B.entries B.maker place.old.me.0 value }
         ensures not_taken { result ≡ false → place.new.me ≡ place.old.me }
     {
         self.table
@@ -92,7 +104,9 @@ impl<B: Booked> TurnLock<B> {
         requires of { (place.old.table_id ≡ self.now.table) × (place.old.me.0.root ≡ Some self.now.root) }
         requires idle { (place.old.me.1 ≡ []) × (place.old.me.0.taken ≡ []) }
         ensures of { place.new.table_id ≡ place.old.table_id }
-        ensures taken { (value : B) × (place.new.me ≡ (having_seen true (B.entries value) place.old.me.0, (0, value) ∷ [])) × Finds B.root B.entries B.maker place.old.me.0 value }
+        ensures taken { (value : B)
+            × (place.new.me ≡ (having_seen true (B.entries value) place.old.me.0, (0, value) ∷ []))
+            × Finds B.root B.entries B.maker place.old.me.0 value }
     {
         for _ in rt.forever() {
             let word = self.table.shared.peek(0);
@@ -110,7 +124,8 @@ impl<B: Booked> TurnLock<B> {
     // Gives the turn back, with the value where it lies and the number of its entries.
     fn give(&self, place: &mut Place<B>, count: u32)
         requires of { place.old.table_id ≡ self.now.table }
-        requires value { (value : B) × (place.old.me.1 ≡ (0, value) ∷ []) × Returns B.root B.entries B.maker self.now.root place.old.me.0 value }
+        requires value { (value : B) × (place.old.me.1 ≡ (0, value) ∷ [])
+            × Returns B.root B.entries B.maker self.now.root place.old.me.0 value }
         requires counted { count ≡ length (held_list B.entries place.old.me.1) }
         ensures of { place.new.table_id ≡ place.old.table_id }
         ensures given { place.new.me ≡ (having_seen false (held_list B.entries place.old.me.1) place.old.me.0, []) }
@@ -124,6 +139,9 @@ impl<B: Booked> TurnLock<B> {
     }
 
     /// Waits for the turn, acts once on the value, and gives the turn back. It takes no memory but what the act takes.
+    ///
+    /// The act finds a list that goes on from what the pass had seen by entries of other makers alone. It leaves the list,
+    /// or adds one entry under the number that it names. The pass has then seen the list after the act.
     pub fn with<R: Wait>(&self, rt: &R, alloc: Global, pass: &mut Pass<B>, act: B::Act) -> B::Done
         requires of { IsOf self.now pass.old }
         requires may { B.may self.now.root act }
@@ -141,7 +159,8 @@ impl<B: Booked> TurnLock<B> {
         done
     }
 
-    /// The length of the list, by one load. The pass has then met it. It does not wait.
+    /// The length of the list, by one load: at least each length that the pass met before, and the number of entries that
+    /// it has seen. The pass has then met it. It does not wait.
     pub fn length(&self, pass: &mut Pass<B>) -> u32
         requires of { IsOf self.now pass.old }
         ensures met { pass.new ≡ record pass.old { met = result } }
@@ -160,7 +179,8 @@ impl<B: Booked> TurnLock<B> {
         requires some { 1 ≤ passes }
         requires empty { B.entries value ≡ [] }
         ensures lock { IfOk result (λ made. (made.0.root ≡ B.root value) × (made.0.passes ≡ passes)) }
-        ensures first { IfOk result (λ made. (made.1.table_id ≡ made.0.table) × (made.1.me ≡ (first_view (B.root value), []))) }
+        ensures first { IfOk result (λ made.
+            (made.1.table_id ≡ made.0.table) × (made.1.me ≡ (first_view (B.root value), []))) }
         ensures back { IfErr result (λ failed. failed.0 ≡ value) }
     {
         let start = Start {
@@ -258,7 +278,8 @@ impl<B: Booked> TurnLock<B> {
         ensures root { B.root result ≡ self.root }
         ensures legal { B.legal self.root (B.entries result) }
         ensures extends { All (λ p. Extends B.maker p.number p.seen (B.entries result)) passes.items }
-        ensures own { All (λ p. made_by B.maker p.number (B.entries result) ≡ made_by B.maker p.number p.seen) passes.items }
+        ensures own { All (λ p. made_by B.maker p.number (B.entries result) ≡ made_by B.maker p.number p.seen)
+            passes.items }
         ensures met { All (λ p. p.met ≤ length (B.entries result)) passes.items }
         ensures made { All (λ e. Any (λ p. p.number ≡ B.maker e) passes.items) (B.entries result) }
     {
