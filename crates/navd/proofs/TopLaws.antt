@@ -1,0 +1,87 @@
+-- How a run ends.
+use Rattle.std.proofs.Common.{◌≡◌, ℕ, ◌≤◌, List, length, subst, sym, ◌∙◌, inl, inr, ◌⊎◌}
+use Rattle.std.specs.Prelude.{Option, Some, None, IfSome, String}
+use Rattle.std.specs.declared.alloc.Global.{Global}
+use Rattle.nav_io.specs.Causes.{Rose, GivesAll, AppendsPrefix}
+use Rattle.nav_io.proofs.Laws.{GivesAll-known}
+use Rattle.navd.specs.declared.status.Status.{Status}
+use Rattle.navd.specs.declared.status.Status.TheVariants as statuses
+use Rattle.navd.specs.Endings.{HasEnded}
+use Rattle.navd.specs.Answers.{TellsFault}
+use Rattle.navd.specs.Inputs.{IsPlay, IsPlayed, IsFault, input_limit}
+use Rattle.navd.specs.Outcomes.{IsDue, IsPlayDue, IsFaultDue, HasBroken}
+
+-- every status but WriteFault
+abbrev pub is_other : Status → Type 0
+is_other statuses.Ok = Unit {0}
+is_other statuses.BadText = Unit {0}
+is_other statuses.Usage = Unit {0}
+is_other statuses.ReadFault = Unit {0}
+is_other statuses.WriteFault = ⊥
+is_other statuses.TooLong = Unit {0}
+is_other statuses.OutOfMemory = Unit {0}
+
+-- a run that ends with WriteFault, where another status was due, broke the text that was due
+pub broken : (words : List (String Global)) (before after held_before held_after : Option (List ℕ)) (faults_before faults_after : ℕ)
+    (text : List ℕ) (due status : Status) → HasEnded held_before held_after faults_before faults_after text due status
+    → is_other due → IsDue words before after text → status ≡ statuses.WriteFault
+    → Rose faults_before faults_after × HasBroken words before after held_before held_after
+broken words before after held_before held_after faults_before faults_after text due status ended other is_due is =
+    elim ended [
+      | inl whole ↦ absurd (subst is_other (sym whole.0 ∙ is) other)
+      | inr part ↦ (part.1, record { text = text; due = is_due; written = part.2 })
+    ]
+
+-- a run whose sink did not fail ends with the status that was due
+pub ended_well : (held_before held_after : Option (List ℕ)) (faults_before faults_after : ℕ) (text : List ℕ) (due status : Status)
+    → HasEnded held_before held_after faults_before faults_after text due status → (¬ Rose faults_before faults_after) → status ≡ due
+ended_well held_before held_after faults_before faults_after text due status ended calm =
+    elim ended [ inl whole ↦ whole.0 | inr part ↦ absurd (calm part.1) ]
+
+-- the play text of what was read is due
+pub play_due : (before after : Option (List ℕ)) (input bytes written text : List ℕ) → GivesAll before after input → length input ≤ input_limit
+    → bytes ≡ input → written ≡ text → IsPlayed bytes text → IsPlayDue before after written
+play_due before after input bytes written text gave short same as_text played =
+    let B : List ℕ → Type 0 = λ xs. IsPlayed xs text in
+    let T : List ℕ → Type 0 = λ xs. IsPlayed input xs in
+    record { input = input; read = gave; short = short; played = subst T (sym as_text) (subst B same played) }
+
+-- the line of the fault of what was read is due
+pub fault_due : (before after : Option (List ℕ)) (input bytes written text : List ℕ) → GivesAll before after input → length input ≤ input_limit
+    → bytes ≡ input → written ≡ text → TellsFault bytes text → IsFaultDue before after written
+fault_due before after input bytes written text gave short same as_text tells =
+    let B : List ℕ → Type 0 = λ xs. IsFault xs tells.fault in
+    record {
+      input = input;
+      fault = tells.fault;
+      read = gave;
+      short = short;
+      wrong = subst B same tells.wrong;
+      told = as_text ∙ tells.told;
+    }
+
+-- where what was read cannot be played, nothing is said of inputs that can
+pub no_play_known : (before after : Option (List ℕ)) (bytes : List ℕ) (Form Calm Quiet Goal : Type 0) → GivesAll before after bytes
+    → (IsPlay bytes → ⊥) → IfSome before (λ input. Form → IsPlay input → length input ≤ input_limit → Calm → Quiet → Goal)
+no_play_known before after bytes Form Calm Quiet Goal gave refuted = by_cases before (GivesAll-known before after bytes gave)
+  where
+    by_cases : (before : Option (List ℕ)) → IfSome before (λ known. bytes ≡ known)
+        → IfSome before (λ input. Form → IsPlay input → length input ≤ input_limit → Calm → Quiet → Goal)
+    by_cases None known = tt
+    by_cases (Some input) known = λ form play short calm quiet. absurd (refuted (subst IsPlay (sym known) play))
+
+-- where what was read can be played, nothing is said of inputs that cannot
+pub play_known : (before after : Option (List ℕ)) (bytes : List ℕ) (Form Calm Quiet Goal : Type 0) → GivesAll before after bytes
+    → IsPlay bytes → IfSome before (λ input. Form → (¬ IsPlay input) → length input ≤ input_limit → Calm → Quiet → Goal)
+play_known before after bytes Form Calm Quiet Goal gave play = by_cases before (GivesAll-known before after bytes gave)
+  where
+    by_cases : (before : Option (List ℕ)) → IfSome before (λ known. bytes ≡ known)
+        → IfSome before (λ input. Form → (¬ IsPlay input) → length input ≤ input_limit → Calm → Quiet → Goal)
+    by_cases None known = tt
+    by_cases (Some input) known = λ form no_play short calm quiet. absurd (no_play (subst IsPlay known play))
+
+-- what holds where the sink is quiet
+pub quiet_ends : (before : Option (List ℕ)) (Form Calm Quiet Goal : Type 0) → (Quiet → Goal)
+    → IfSome before (λ input. Form → (¬ IsPlay input) → length input ≤ input_limit → Calm → Quiet → Goal)
+quiet_ends None Form Calm Quiet Goal ends = tt
+quiet_ends (Some input) Form Calm Quiet Goal ends = λ form no_play short calm quiet. ends quiet

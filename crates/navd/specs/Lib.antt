@@ -1,0 +1,7 @@
+pub mod Statuses
+pub mod Words
+pub mod Inputs
+pub mod Readings
+pub mod Answers
+pub mod Outcomes
+pub mod Endings

@@ -1,0 +1,66 @@
+//! The answer to an input: its play text, or the line of its fault.
+
+ghost use Rattle.std.specs.Prelude.{◌≡◌, ◌≤◌, length};
+ghost use Rattle.navd.specs.Inputs.{IsPlay, input_limit};
+ghost use Rattle.navd.specs.Answers.{IsRight, IsPlayedUnless, IsLineOf};
+
+use crate::input::{Input, InputRefusal, read_input};
+use nav_play::{PlayText, built, play};
+use nav_record::write_fault;
+use nav_steps::Steps;
+use nav_text::TextFault;
+use std::alloc::Global;
+use std::sync::Wait;
+use std::sync::ledger::Ledger;
+
+/// What an input is answered with.
+#[derive(Drop)]
+pub(crate) enum Answer {
+    /// Its play text.
+    Played(Vec<u8>),
+    /// The line of its fault.
+    Fault(Vec<u8>),
+    OutOfMemory,
+}
+
+/// Reads an input and plays its script, or writes the line of its fault. An input that asks for what is not built yet has the fault 0 at line 0.
+pub(crate) fn answer_to<R: Wait, L: Ledger>(
+    rt: &R,
+    alloc: Global,
+    bytes: &[u8],
+    steps: &mut Steps<L>,
+) -> Answer
+    requires { length bytes.now ≤ input_limit }
+    ensures right { IsRight bytes.now result }
+    ensures complete { IsPlay bytes.now → IsPlayedUnless result }
+    ensures steps { steps.new ≡ steps.old }
+{
+    let input = match read_input(alloc, bytes) {
+        Ok(input) => input,
+        Err(InputRefusal::Fault(fault)) => return told(alloc, &fault),
+        Err(InputRefusal::OutOfMemory) => return Answer::OutOfMemory,
+    };
+    if !built(&input.setting, &input.field, &input.script) {
+        return told(alloc, &TextFault { line: 0, kind: 0 });
+    }
+    let Input {
+        setting,
+        field,
+        script,
+    } = input;
+    match play(rt, alloc, setting, field, &script, steps) {
+        Ok(PlayText { bytes, .. }) => Answer::Played(bytes),
+        Err(_) => Answer::OutOfMemory,
+    }
+}
+
+/// The line of a fault.
+fn told(alloc: Global, fault: &TextFault) -> Answer
+    ensures { IsLineOf fault.now result }
+{
+    let mut text = Vec::new(alloc);
+    match write_fault(&mut text, fault) {
+        Ok(()) => Answer::Fault(text),
+        Err(_) => Answer::OutOfMemory,
+    }
+}

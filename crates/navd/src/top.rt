@@ -1,0 +1,115 @@
+//! The top call: everything that the program promises.
+
+ghost use Rattle.std.specs.Prelude.{◌≡◌, ◌+◌, ◌<◌, ◌≤◌, ◌⊎◌, length, IfSome};
+ghost use Rattle.std.specs.Io.KnownBytes.{Appends, Keeps};
+ghost use Rattle.nav_io.specs.Causes.{Rose, TookMany, HasMore};
+ghost use Rattle.nav_record.specs.Texts.{usage_text, too_long_text};
+ghost use Rattle.navd.specs.Inputs.{IsPlay, input_limit};
+ghost use Rattle.navd.specs.Outcomes.{HasPlayed, HasTold, HasBroken};
+ghost use Rattle.navd.specs.Words.{IsForm};
+ghost use Rattle.navd.specs.Endings.{HasEnded};
+
+use crate::answer::{Answer, answer_to};
+use crate::status::Status;
+use crate::words::is_form;
+use nav_io::{FreeGate, Gate, ReadRefusal, Sink, Source, read_all, write_all};
+use nav_steps::Steps;
+use std::alloc::Global;
+use std::sync::Wait;
+use std::sync::ledger::{Blank, Ledger};
+use std::thread::Threads;
+
+/// How many bytes an input may have.
+const MOST: usize = 67108864;
+
+/// Runs the program on the words behind its name: reads the whole input from the source and writes one text to the sink.
+///
+/// For the word `play` the text is the play text of the input: for each line of its script in order what the history and the published
+/// cells answer, then how far the play came. A text that is no input, or that asks for what is not built yet, is told by the line of its fault.
+/// The text is made whole before its first byte is written. Refusals go in the order Usage, ReadFault, TooLong, BadText;
+/// WriteFault comes in place of any status whose text could not be written, and OutOfMemory only before the first write.
+pub fn navd<R: Threads + Wait + Sync, S: Source, K: Sink, G: Gate + Sync, L: Ledger>(
+    rt: &R,
+    alloc: Global,
+    words: &[String],
+    source: &mut S,
+    sink: &mut K,
+    gate: &G,
+    steps: &mut Steps<L>,
+) -> Status
+    // The play of what was read, whole, to the sink that held what it held.
+    ensures ok { result ≡ Status.Ok → IsForm words.now
+        × HasPlayed (S.left source.old) (S.left source.new) (K.held sink.old) (K.held sink.new) }
+
+    // Each refusal has its cause, and the sink holds what is due.
+    ensures bad_text { result ≡ Status.BadText → IsForm words.now
+        × HasTold (S.left source.old) (S.left source.new) (K.held sink.old) (K.held sink.new) }
+    ensures usage { result ≡ Status.Usage → (¬ IsForm words.now)
+        × Appends (K.held sink.old) (K.held sink.new) usage_text × (S.left source.new ≡ S.left source.old) }
+    ensures read_fault { result ≡ Status.ReadFault → IsForm words.now
+        × Rose (S.faults source.old) (S.faults source.new) × Keeps (K.held sink.old) (K.held sink.new) }
+    ensures write_fault { result ≡ Status.WriteFault → Rose (K.faults sink.old) (K.faults sink.new)
+        × HasBroken words.now (S.left source.old) (S.left source.new) (K.held sink.old) (K.held sink.new) }
+    ensures too_long { result ≡ Status.TooLong → IsForm words.now
+        × TookMany (S.left source.old) (S.left source.new) (input_limit + 1) × Appends (K.held sink.old) (K.held sink.new) too_long_text }
+    ensures no_memory { result ≡ Status.OutOfMemory → Keeps (K.held sink.old) (K.held sink.new) }
+
+    // What comes where nothing fails but memory.
+    ensures no_form { (¬ IsForm words.now) → (result ≡ Status.Usage) ⊎ (result ≡ Status.WriteFault) }
+    ensures more { IsForm words.now → HasMore (S.left source.old) input_limit
+        → (¬ Rose (S.faults source.old) (S.faults source.new)) → (¬ Rose (K.faults sink.old) (K.faults sink.new))
+        → (result ≡ Status.TooLong) ⊎ (result ≡ Status.OutOfMemory) }
+    ensures complete { IfSome (S.left source.old) (λ input. IsForm words.now → IsPlay input → length input ≤ input_limit
+        → (¬ Rose (S.faults source.old) (S.faults source.new)) → (¬ Rose (K.faults sink.old) (K.faults sink.new))
+        → (result ≡ Status.Ok) ⊎ (result ≡ Status.OutOfMemory)) }
+    ensures wrong { IfSome (S.left source.old) (λ input. IsForm words.now → (¬ IsPlay input) → length input ≤ input_limit
+        → (¬ Rose (S.faults source.old) (S.faults source.new)) → (¬ Rose (K.faults sink.old) (K.faults sink.new))
+        → (result ≡ Status.BadText) ⊎ (result ≡ Status.OutOfMemory)) }
+
+    // No tile is built so far.
+    ensures steps { steps.new ≡ steps.old }
+{
+    if !is_form(words) {
+        return finish(sink, b"fault usage\n", Status::Usage);
+    }
+    let input = match read_all(alloc, source, MOST) {
+        Ok(input) => input,
+        Err(ReadRefusal::ReadFault) => return Status::ReadFault,
+        Err(ReadRefusal::TooLong) => return finish(sink, b"fault too long\n", Status::TooLong),
+        Err(ReadRefusal::OutOfMemory) => return Status::OutOfMemory,
+    };
+    match answer_to(rt, alloc, input.as_slice(), steps) {
+        Answer::Played(text) => finish(sink, text.as_slice(), Status::Ok),
+        Answer::Fault(text) => finish(sink, text.as_slice(), Status::BadText),
+        Answer::OutOfMemory => Status::OutOfMemory,
+    }
+}
+
+/// Writes the text that is due, and ends with its status or with WriteFault.
+fn finish<K: Sink>(sink: &mut K, text: &[u8], status: Status) -> Status
+    ensures ended { HasEnded (K.held sink.old) (K.held sink.new) (K.faults sink.old) (K.faults sink.new) text.now status result }
+{
+    match write_all(sink, text) {
+        Ok(()) => status,
+        Err(_) => Status::WriteFault,
+    }
+}
+
+/// `navd` with a counter of its own, for callers that count nothing.
+pub fn run<R: Threads + Wait + Sync, S: Source, K: Sink, L: Ledger>(
+    rt: &R,
+    alloc: Global,
+    words: &[String],
+    source: &mut S,
+    sink: &mut K,
+    blank: Blank,
+) -> Status
+    requires name { blank.name ≡ L.name }
+    requires parts { blank.parts ≡ L.parts }
+    requires some { 0 < blank.parts }
+    ensures ok { result ≡ Status.Ok → IsForm words.now
+        × HasPlayed (S.left source.old) (S.left source.new) (K.held sink.old) (K.held sink.new) }
+{
+    let mut steps = Steps::<L>::new(blank);
+    navd(rt, alloc, words, source, sink, &FreeGate, &mut steps)
+}
