@@ -97,6 +97,11 @@ fn small_ground(alloc: Global) -> Result<Arc<Ground>, AllocError>
     Ok(Arc::new(alloc, ground(alloc, setting, field)?)?)
 }
 
+// A book may go from one thread to another.
+fn sent<T: Send>(value: T) -> T {
+    value
+}
+
 #[test]
 fn answers_requests(rt: HostRuntime) -> Result<(), Fail> {
     let alloc = rt.alloc();
@@ -181,7 +186,7 @@ fn publishes_floors(rt: HostRuntime) -> Result<(), Fail> {
 #[test]
 fn fills_its_history(rt: HostRuntime) -> Result<(), Fail> {
     let alloc = rt.alloc();
-    let mut book = Book::begin(alloc, small_ground(alloc)?)?;
+    let mut book = sent(Book::begin(alloc, small_ground(alloc)?)?);
     for _ in 0..HISTORY_LIMIT {
         assert!(rt; book.request(0, Request::Remove(1)).is_ok());
     }
