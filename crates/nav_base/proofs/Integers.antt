@@ -1,5 +1,5 @@
 -- The laws of sums and products of whole numbers that std does not state: products distribute over sums and group either way.
-use Rattle.std.proofs.Common.{◌≡◌, ℤ, pos, ◌+ℤ◌, ◌-ℤ◌, ◌*ℤ◌, ℕ, ◌+◌, ◌*◌, ap, arith}
+use Rattle.std.proofs.Common.{◌≡◌, ℤ, ◌+ℤ◌, ◌*ℤ◌, ℕ, ◌+◌, ◌*◌, ap, arith}
 use lib.IntN.{neg_ℤ}
 use borrow.Author.Differences.{up, down, same_in, sum_is_lem, product_is, neg_is}
 
@@ -32,7 +32,7 @@ pub *ℤ_assoc : (a b c : ℤ) → (a *ℤ b) *ℤ c ≡ a *ℤ (b *ℤ c)
 
 -- a sign moves out of a product
 pub neg_ℤ-*ℤ_left : (a b : ℤ) → neg_ℤ a *ℤ b ≡ neg_ℤ (a *ℤ b)
-neg_ℤ-*ℤ_left a b = 
+neg_ℤ-*ℤ_left a b =
     let sign = neg_is a in
     let up_up = ap (λ (n : ℕ). n * up b) sign.0 in
     let up_down = ap (λ (n : ℕ). n * down b) sign.0 in

@@ -1,6 +1,12 @@
+pub mod ConvexLaws
+pub mod FractionLaws
 pub mod Integers
-pub mod Polynomials
+pub mod LengthLaws
+pub mod NearRoots
 pub mod OrientLaws
+pub mod PointTerms
+pub mod Polynomials
 pub mod RootLaws
+pub mod Signs
 pub mod Sizes
 pub mod NumberLaws

@@ -4,14 +4,15 @@ use Rattle.std.proofs.Common.{◌≡◌, ℤ, pos, negsuc, ◌+ℤ◌, ◌-ℤ�
 use Rattle.std.specs.Prelude.{◌&&◌}
 use Rattle.std.proofs.lemmas.Int.{ints}
 use Rattle.std.proofs.lemmas.Bool.{and_parts, false≢true}
-use lib.IntN.{neg_ℤ, +ℤ_assoc, *ℤ_comm, *ℤ-zero, zero-*ℤ}
-use borrow.Author.Differences.{same_in, same_out, sum_is_lem, neg_is}
-use Rattle.nav_base.proofs.Integers.{*ℤ-+ℤ_left, *ℤ-+ℤ_right, *ℤ_assoc, neg_ℤ-*ℤ_left}
+use lib.IntN.{neg_ℤ, +ℤ_assoc, *ℤ_comm, *ℤ-zero}
+use borrow.Author.Differences.{same_in, same_out, sum_is_lem}
+use Rattle.nav_base.proofs.Integers.{*ℤ-+ℤ_left, *ℤ-+ℤ_right, *ℤ_assoc}
 
--- a term: the number at a place of the list, a number itself, a sum, a difference or a product
+-- a term: the number at a place of the list, a number itself, its opposite, a sum, a difference or a product
 pub data Term : Type 0 where
   at : ℕ → Term
   number : ℤ → Term
+  opposite : Term → Term
   sum : Term → Term → Term
   difference : Term → Term → Term
   product : Term → Term → Term
@@ -32,6 +33,7 @@ number_at xs (suc k) = number_at (tail xs) k
 abbrev pub value : List ℤ → Term → ℤ
 value xs (at k) = number_at xs k
 value xs (number n) = n
+value xs (opposite t) = neg_ℤ (value xs t)
 value xs (sum s t) = value xs s +ℤ value xs t
 value xs (difference s t) = value xs s -ℤ value xs t
 value xs (product s t) = value xs s *ℤ value xs t
@@ -80,6 +82,7 @@ times (step p p') q = plus (lifted (times p) q) (step (constant (pos 0)) (times 
 abbrev pub form_of : Term → Form
 form_of (at k) = variable k
 form_of (number n) = constant n
+form_of (opposite t) = times_number (negsuc 0) (form_of t)
 form_of (sum s t) = plus (form_of s) (form_of t)
 form_of (difference s t) = plus (form_of s) (times_number (negsuc 0) (form_of t))
 form_of (product s t) = times (form_of s) (form_of t)
@@ -169,6 +172,10 @@ form_value-times xs (step p p') q =
 form_value-form_of : (xs : List ℤ) (t : Term) → form_value xs (form_of t) ≡ value xs t
 form_value-form_of xs (at k) = form_value-variable xs k
 form_value-form_of xs (number n) = refl
+form_value-form_of xs (opposite t) = form_value-times_number xs (negsuc 0) (form_of t) ∙ turned (form_value xs (form_of t)) (value xs t) (form_value-form_of xs t)
+  where
+    turned : (a b : ℤ) → a ≡ b → negsuc 0 *ℤ a ≡ neg_ℤ b
+    turned a b e = omega (arith, ints)
 form_value-form_of xs (sum s t) = form_value-plus xs (form_of s) (form_of t) ∙ both (form_value xs (form_of s)) (value xs s) (form_value xs (form_of t)) (value xs t) (form_value-form_of xs s) (form_value-form_of xs t)
   where
     both : (a a' b b' : ℤ) → a ≡ a' → b ≡ b' → a +ℤ b ≡ a' +ℤ b'

@@ -1,5 +1,5 @@
 -- The laws of roots that are rounded up.
-use Rattle.std.proofs.Common.{◌≡◌, ◌≢◌, ℕ, zero, suc, ◌+◌, ◌*◌, ◌≤◌, ◌<◌, Bool, true, false, cond, refl, arith, inl, inr}
+use Rattle.std.proofs.Common.{◌≡◌, ℕ, zero, suc, ◌+◌, ◌*◌, ◌≤◌, ◌<◌, Bool, true, false, cond, refl, arith, inl, inr, sym}
 use Rattle.std.specs.Prelude.{nat_le}
 use Rattle.std.proofs.lemmas.Nat.{mul-le}
 use Rattle.std.proofs.lemmas.Bool.{cases_lt}
@@ -34,3 +34,15 @@ pub ceil_sqrt_of-only : (n root : ℕ) → IsLeastRoot n root → root ≡ ceil_
 ceil_sqrt_of-only n root is =
     let known = ceil_sqrt_of-least n in
     omega (arith, is.least (ceil_sqrt_of n) known.reaches, known.least root is.reaches)
+
+-- the root of a greater number is at least as great
+pub ceil_sqrt_of-monotone : (m n : ℕ) → m ≤ n → ceil_sqrt_of m ≤ ceil_sqrt_of n
+ceil_sqrt_of-monotone m n h = (ceil_sqrt_of-least m).least (ceil_sqrt_of n) (omega (arith, (ceil_sqrt_of-least n).reaches))
+
+-- the root of a square
+pub ceil_sqrt_of-square : (r : ℕ) → ceil_sqrt_of (r * r) ≡ r
+ceil_sqrt_of-square r = sym (ceil_sqrt_of-only (r * r) r (IsLeastRoot-square (r * r) r refl))
+
+-- a number with a square of at least n is at least the root of n
+pub ceil_sqrt_of-at_most : (n r : ℕ) → n ≤ r * r → ceil_sqrt_of n ≤ r
+ceil_sqrt_of-at_most n r h = (ceil_sqrt_of-least n).least r h

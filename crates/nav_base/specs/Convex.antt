@@ -1,5 +1,5 @@
 -- Strict convexity of a polygon that is given by its corners.
-use Rattle.std.specs.Prelude.{ℕ, ℤ, pos, List, length, slice_index_or, ◌≡◌, ◌≢◌, ◌+◌, ◌<◌, ◌≤◌, ◌==◌, ◌<ℤ◌, EachIndex, if◌then◌else◌}
+use Rattle.std.specs.Prelude.{ℕ, ℤ, pos, List, length, slice_index_or, ◌≢◌, ◌+◌, ◌≤◌, ◌==◌, ◌<ℤ◌, EachIndex, if◌then◌else◌}
 use Rattle.nav_base.specs.declared.point.Point.{Point}
 use Rattle.nav_base.specs.Point.{orient_of}
 

@@ -1,4 +1,5 @@
--- Points as vectors, the cross of two vectors, and the side of a walk on which a point lies.
+-- Points as vectors, the cross of two vectors, and the side of a walk on which a point lies. The three products are opened by name alone,
+-- so that what is proved of them stands on their laws.
 use Rattle.std.specs.Prelude.{ℕ, ◌≤◌, ℤ, pos, negsuc, unsigned_abs, ◌+ℤ◌, ◌-ℤ◌, ◌*ℤ◌, ◌≤ℤ◌}
 use Rattle.nav_base.specs.declared.point.Point.{Point}
 
@@ -28,14 +29,18 @@ pub record IsWithin (k : ℕ) (v : Point) : Type 0 where
 abbrev pub from_to : Point → Point → Point
 from_to a b = record { x = b.x -ℤ a.x; z = b.z -ℤ a.z }
 
+-- the point that the vector v leads to from p, which is also the sum of two vectors
+abbrev pub moved : Point → Point → Point
+moved p v = record { x = p.x +ℤ v.x; z = p.z +ℤ v.z }
+
 -- the scalar product of two vectors
-abbrev pub dot_of : Point → Point → ℤ
+unfoldable pub dot_of : Point → Point → ℤ
 dot_of u v = u.x *ℤ v.x +ℤ u.z *ℤ v.z
 
 -- the cross of two vectors: positive where v points to the left of u
-abbrev pub cross_of : Point → Point → ℤ
+unfoldable pub cross_of : Point → Point → ℤ
 cross_of u v = u.x *ℤ v.z -ℤ u.z *ℤ v.x
 
 -- positive where c lies to the left of the walk from a to b, 0 where it lies on its line
-abbrev pub orient_of : Point → Point → Point → ℤ
+unfoldable pub orient_of : Point → Point → Point → ℤ
 orient_of a b c = cross_of (from_to a b) (from_to a c)

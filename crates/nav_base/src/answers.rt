@@ -14,7 +14,19 @@ pub struct FloorAt {
 /// A column is named by its place in whole cells. Points are in sixteenths of a cell, and heights in the unit of the floors.
 #[derive(Clone, Copy, PartialEq, Eq, Debug)]
 pub enum Question {
-    Floor { x: u32, z: u32 },
-    Path { from: Point, from_y: u32, to: Point, to_y: u32 },
-    Ray { from: Point, from_y: u32, to: Point },
+    Floor {
+        x: u32,
+        z: u32,
+    },
+    Path {
+        from: Point,
+        from_y: u32,
+        to: Point,
+        to_y: u32,
+    },
+    Ray {
+        from: Point,
+        from_y: u32,
+        to: Point,
+    },
 }

@@ -1,7 +1,7 @@
 //! Strict convexity of polygons.
 
-ghost use Rattle.std.specs.Prelude.{◌≡◌, ◌↔◌, ◌<◌, All, EachIndex, IsTrue, length};
-ghost use Rattle.nav_base.specs.Point.{HasCoordinates};
+ghost use Rattle.std.specs.Prelude.{pos, ◌≡◌, ◌↔◌, ◌<◌, ◌<ℤ◌, All, EachIndex, IsTrue, length};
+ghost use Rattle.nav_base.specs.Point.{HasCoordinates, orient_of};
 ghost use Rattle.nav_base.specs.Convex.{IsStrictlyConvex, LiesLeft, place_after};
 
 use crate::orientation::orient;
@@ -32,11 +32,24 @@ fn others_left(points: &[Point], place: usize) -> bool
 {
     let after = next_place(points.len(), place);
     for other in 0..points.len() {
-        if other != place && other != after && orient(points[place], points[after], points[other]) <= 0 {
+        if other != place
+            && other != after
+            && !is_left(points[place], points[after], points[other])
+        {
             return false;
         }
     }
     true
+}
+
+// Whether `c` lies strictly to the left of the walk from `a` to `b`.
+fn is_left(a: Point, b: Point, c: Point) -> bool
+    requires first { HasCoordinates a }
+    requires second { HasCoordinates b }
+    requires third { HasCoordinates c }
+    ensures { IsTrue result ↔ (pos 0 <ℤ orient_of a b c) }
+{
+    orient(a, b, c) > 0
 }
 
 // The place after this one, the first after the last.
@@ -46,4 +59,40 @@ fn next_place(count: usize, place: usize) -> usize
     ensures there { result < count }
 {
     if place + 1 == count { 0 } else { place + 1 }
+}
+
+#[cfg(test)]
+mod tests {
+    use super::*;
+
+    const FIVE: [Point; 5] = [
+        Point { x: 0, z: 10 },
+        Point { x: -10, z: 3 },
+        Point { x: -6, z: -8 },
+        Point { x: 6, z: -8 },
+        Point { x: 10, z: 3 },
+    ];
+
+    #[test]
+    fn tells_convex_polygons(rt: HostRuntime) {
+        let [a, b, c, d, e] = FIVE;
+        let middle = Point { x: 0, z: -8 };
+        let far = Point {
+            x: 65536,
+            z: -65536,
+        };
+        let high = Point {
+            x: -65536,
+            z: 65536,
+        };
+        assert!(rt; strictly_convex(&FIVE));
+        assert!(rt; strictly_convex(&[b, c, d]));
+        assert!(rt; strictly_convex(&[high, b, far]));
+        assert!(rt; !strictly_convex(&[]));
+        assert!(rt; !strictly_convex(&[a, b]));
+        assert!(rt; !strictly_convex(&[d, c, b]));
+        assert!(rt; !strictly_convex(&[a, b, c, middle, d, e]));
+        assert!(rt; !strictly_convex(&[a, c, e, b, d]));
+        assert!(rt; !strictly_convex(&[a, b, b, c]));
+    }
 }

@@ -11,9 +11,9 @@ pub(crate) struct Vector {
 
 impl Vector {
     ghost use Rattle.std.specs.Prelude.{◌≡◌};
-    ghost use Rattle.std.specs.Int.RustNames.{unsigned_abs};
-    ghost use Rattle.nav_base.specs.Point.{HasCoordinates, from_to};
-    ghost use Rattle.nav_base.specs.Vector.{IsReach, vector_of, wide_cross_of, wide_dot_of};
+    ghost use Rattle.nav_base.specs.Point.{HasCoordinates, cross_of, dot_of, from_to};
+    ghost use Rattle.nav_base.specs.Deviation.{square_of};
+    ghost use Rattle.nav_base.specs.Vector.{IsReach, point_of, vector_of};
 
     /// The place of a point, as the vector from the origin.
     pub(crate) fn to(p: Point) -> Self
@@ -21,7 +21,10 @@ impl Vector {
         ensures value { result ≡ vector_of p }
         ensures reach { IsReach result }
     {
-        Vector { x: p.x as i64, z: p.z as i64 }
+        Vector {
+            x: p.x as i64,
+            z: p.z as i64,
+        }
     }
 
     /// The vector from `a` to `b`.
@@ -31,14 +34,17 @@ impl Vector {
         ensures value { result ≡ vector_of (from_to a b) }
         ensures reach { IsReach result }
     {
-        Vector { x: b.x as i64 - a.x as i64, z: b.z as i64 - a.z as i64 }
+        Vector {
+            x: b.x as i64 - a.x as i64,
+            z: b.z as i64 - a.z as i64,
+        }
     }
 
     /// The cross of two vectors.
     pub(crate) fn cross(self, other: Self) -> i64
         requires first { IsReach self }
         requires second { IsReach other }
-        ensures { result ≡ wide_cross_of self other }
+        ensures { result ≡ cross_of (point_of self) (point_of other) }
     {
         product(self.x, other.z) - product(self.z, other.x)
     }
@@ -47,7 +53,7 @@ impl Vector {
     pub(crate) fn dot(self, other: Self) -> i64
         requires first { IsReach self }
         requires second { IsReach other }
-        ensures { result ≡ wide_dot_of self other }
+        ensures { result ≡ dot_of (point_of self) (point_of other) }
     {
         product(self.x, other.x) + product(self.z, other.z)
     }
@@ -55,7 +61,7 @@ impl Vector {
     /// The square of the vector's length.
     pub(crate) fn square(self) -> u64
         requires { IsReach self }
-        ensures { result ≡ unsigned_abs (wide_dot_of self self) }
+        ensures { result ≡ square_of (point_of self) }
     {
         self.dot(self).unsigned_abs()
     }

@@ -1,9 +1,8 @@
 -- Places of tiles along an axis.
-use Rattle.std.proofs.Common.{◌≡◌, ℕ, ◌+◌, ◌*◌, ◌/◌, ◌%◌, ◌<◌, ◌≤◌, arith, ◌↔◌, subst, ap, ◌∙◌, add-mul}
+use Rattle.std.proofs.Common.{◌≡◌, ℕ, ◌+◌, ◌*◌, ◌/◌, ◌<◌, ◌≤◌, arith, subst, ap, ◌∙◌, add-mul, zero, suc, zero-mul}
 use Rattle.std.specs.Int.{div_ceil}
-use Rattle.std.proofs.Math.Nat.{mul-le-mul_right, mod-lt, div-lt_iff_lt-mul, mul_comm}
+use Rattle.std.proofs.Math.Nat.{mul-le-mul_right, div-lt_iff_lt-mul, mul_comm}
 use Rattle.std.proofs.lemmas.Grind.{div_ceil_times}
-use Rattle.std.proofs.lemmas.Nat.{mul-lt}
 
 -- a tile that is there begins before the edge
 pub begins_inside : (place tile edge : ℕ) → 1 ≤ tile → place < div_ceil edge tile → place * tile < edge
@@ -15,6 +14,11 @@ begins_inside place tile edge some there =
   where
     add-mul_one : (place tile : ℕ) → (place + 1) * tile ≡ place * tile + tile
     add-mul_one place tile = add-mul place 1 tile ∙ ap (λ n. place * tile + n) (omega arith)
+
+-- a table with a place in it has a column
+pub some_columns : (columns rows place : ℕ) → place < columns * rows → 1 ≤ columns
+some_columns zero rows place there = absurd (omega (arith, zero-mul rows))
+some_columns (suc n) rows place there = omega arith
 
 -- the row of a tile that is there
 pub row_is : (tile columns rows : ℕ) → 0 < columns → tile < columns * rows → tile / columns < rows

@@ -1,5 +1,5 @@
 -- Flat fields, the only ones that are cut into layers so far: one tile, one floor of one height, and an agent without a radius.
-use Rattle.std.specs.Prelude.{◌≡◌, ℕ, ◌+◌, ◌*◌, ◌/◌, ◌%◌, ◌<◌, ◌≤◌, Bool, nat_lt, ◌&&◌, if◌then◌else◌, List, [], ◌∷◌, map, filter, Option, Some, None}
+use Rattle.std.specs.Prelude.{◌≡◌, ℕ, ◌+◌, ◌*◌, ◌/◌, ◌%◌, ◌≤◌, Bool, nat_lt, ◌&&◌, if◌then◌else◌, List, [], ◌∷◌, map, filter, Option, Some, None}
 use Rattle.std.specs.List.{range_with_len}
 use Rattle.nav_ground.specs.declared.setting.Setting.{Setting}
 use Rattle.nav_ground.specs.declared.field.Span.{Span}
@@ -15,14 +15,18 @@ flat_span width top i = record { x = i % width; z = i / width; bottom = 0; top =
 abbrev pub flat_spans : ℕ → ℕ → ℕ → List Span
 flat_spans width depth top = map (flat_span width top) (range_with_len 0 (width * depth))
 
+-- the field is flat: each column has one span, and all have one top
+pub record IsFlatField (field : Field) : Type 0 where
+  pub top : ℕ
+  pub spans : field.spans ≡ flat_spans field.width field.depth top
+
 -- the field is flat and lies in one tile, for an agent without a radius, and obstacles block only what they cover
 pub record IsFlat (setting : Setting) (field : Field) : Type 0 where
   pub radius : setting.agent.radius ≡ 0
   pub width : setting.width ≤ setting.tile
   pub depth : setting.depth ≤ setting.tile
   pub clear : setting.clear ≡ Bool.false
-  pub top : ℕ
-  pub spans : field.spans ≡ flat_spans field.width field.depth top
+  pub floor : IsFlatField field
 
 -- a column that is not on the field's edge, where the floor ends
 abbrev pub is_inner : Field → Span → Bool

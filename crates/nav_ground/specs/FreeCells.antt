@@ -1,5 +1,5 @@
 -- Free cells: what a list of obstacles leaves of a layer.
-use Rattle.std.specs.Prelude.{ℕ, Bool, not, ◌&&◌, if◌then◌else◌, List, [], ◌∷◌, map, filter, Option, Some, None, is_none, unwrap_or}
+use Rattle.std.specs.Prelude.{ℕ, Bool, not, ◌&&◌, if◌then◌else◌, List, [], ◌∷◌, map, filter, Option, None, is_none, unwrap_or}
 use Rattle.std.specs.List.{list_any, filter_map, last_or}
 use Rattle.nav_ground.specs.declared.cell.Cell.{Cell}
 use Rattle.nav_ground.specs.declared.cell.Layer.{Layer}

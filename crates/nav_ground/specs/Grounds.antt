@@ -6,6 +6,7 @@ use Rattle.nav_ground.specs.declared.cell.Layer.{Layer}
 use Rattle.nav_ground.specs.declared.history.Ground.{Ground}
 use Rattle.nav_ground.specs.Limits.{IsSetting}
 use Rattle.nav_ground.specs.Fields.{IsField}
+use Rattle.nav_ground.specs.Cells.{IsLayer, IsInTile}
 use Rattle.nav_ground.specs.FlatFields.{IsFlat, flat_layer}
 
 -- a field has the size that the setting says
@@ -16,6 +17,11 @@ pub record IsSized (setting : Setting) (field : Field) : Type 0 where
 -- the layers of a field, in tile order; so far only flat fields of one tile are cut
 abbrev pub layers_of : Setting → Field → List Layer
 layers_of setting field = flat_layer field ∷ []
+
+-- a layer of a ground with a setting keeps the rules of layers, and its cells lie in its tile
+pub record IsLayerOf (setting : Setting) (layer : Layer) : Type 0 where
+  pub rules : IsLayer layer
+  pub inside : IsInTile setting layer.tile layer.cells
 
 -- a ground keeps the rules of its parts, and its layers are those of its field
 pub record IsGround (whole : Ground) : Type 0 where

@@ -1,5 +1,5 @@
 -- Tiles: squares of columns from the corner (0, 0), cut at the field's edge, numbered row by row.
-use Rattle.std.specs.Prelude.{◌≡◌, ℕ, ◌+◌, ◌*◌, ◌-◌, ◌/◌, ◌%◌, ◌<◌, ◌≤◌, min, ℤ, pos, ◌≤ℤ◌}
+use Rattle.std.specs.Prelude.{ℕ, ◌+◌, ◌*◌, ◌-◌, ◌/◌, ◌%◌, min, pos, ◌≤ℤ◌}
 use Rattle.std.specs.Int.{div_ceil}
 use Rattle.nav_ground.specs.declared.setting.Setting.{Setting}
 use Rattle.nav_ground.specs.declared.cell.Window.{Window}

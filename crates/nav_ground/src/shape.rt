@@ -1,8 +1,9 @@
 //! Obstacles: what they cover and how far they reach.
 
-ghost use Rattle.std.specs.Prelude.{◌≡◌, ◌↔◌, ◌≤◌, ◌+◌, ◌*◌, IsTrue, nat_le};
+ghost use Rattle.std.specs.Prelude.{◌≡◌, ℕ, ◌↔◌, ◌≤◌, ◌+◌, ◌*◌, IsTrue, nat_le};
 ghost use Rattle.nav_ground.specs.Limits.{IsShape};
-ghost use Rattle.nav_ground.specs.Shapes.{Covers, is_covering, bounds_of, area_set_by};
+ghost use Rattle.nav_ground.specs.Shapes.{Covers, IsWithinReach, is_covering, bounds_of, area_set_by};
+ghost use Rattle.nav_ground.specs.Tiling.{IsInWindow};
 
 use crate::cell::Window;
 use nav_list::Duplicate;
@@ -123,7 +124,9 @@ pub fn covers(shape: &Shape, x: u32, z: u32, floor: u32) -> bool
 /// axis, at most r cells and a half from the centre. It may lie outside the field.
 pub fn bounds(shape: &Shape) -> Window
     requires { IsShape shape.now }
-    ensures { result ≡ bounds_of shape.now }
+    ensures value { result ≡ bounds_of shape.now }
+    ensures columns { (x z : ℕ) → IsInWindow result x z ↔ IsWithinReach shape.now x z }
+    ensures covered { (x z floor : ℕ) → Covers shape.now x z floor → IsInWindow result x z }
 {
     match *shape {
         Shape::Block { x0, x1, z0, z1, .. } => block_bounds(x0, x1, z0, z1),

@@ -1,1 +1,5 @@
-pub mod Areas
+pub mod OneMoreShape
+pub mod Rows
+pub mod Columns
+pub mod Blocked
+pub mod FreeCellsLeft

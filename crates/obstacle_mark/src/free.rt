@@ -1,11 +1,13 @@
-//! The free cells of a layer, cell by cell.
+//! The free cells of a layer.
 
-ghost use Rattle.std.specs.Prelude.{◌≡◌, ◌<◌, IfOk, All};
+ghost use Rattle.std.specs.Prelude.{◌≡◌, IfOk, All};
 ghost use Rattle.nav_ground.specs.Limits.{IsShape};
-ghost use Rattle.nav_ground.specs.Cells.{IsCut, is_naming, next_level};
-ghost use Rattle.nav_ground.specs.FreeCells.{is_over, is_blocked, is_free, area_given, area_under, is_lost, free_next, free_cell_of, free_layer_of};
+ghost use Rattle.nav_ground.specs.Cells.{IsCut};
+ghost use Rattle.nav_ground.specs.FreeCells.{free_layer_of};
 
-use nav_ground::{Cell, CellRef, FreeLayer, Layer, Shape, covers, sets};
+use crate::areas::areas_left;
+use crate::places::{Passed, blocked_places, next_kept};
+use nav_ground::{Cell, FreeLayer, Layer, Shape};
 use nav_list::Items;
 use std::alloc::{AllocError, Global};
 
@@ -16,111 +18,33 @@ pub fn mark(alloc: Global, layer: &Layer, shapes: &[Shape]) -> Result<FreeLayer,
     requires near { layer.now.radius ≡ 0 }
     requires shapes { All IsShape shapes.now }
     ensures free { IfOk result (λ free. free ≡ free_layer_of layer.now shapes.now) }
+    ensures rules { IfOk result (λ free. IsCut free.cells) }
 {
-    let mut cells = Vec::new(alloc);
-    for cell in layer.cells.as_slice() {
-        if is_free_of(cell, shapes) {
-            cells.push(free_cell(layer.cells.as_slice(), shapes, cell))?;
+    let cells = layer.cells.as_slice();
+    let left = areas_left(alloc, cells, shapes)?;
+    let areas = left.as_slice();
+    let places = blocked_places(alloc, cells, areas)?;
+    let blocked = places.as_slice();
+    let mut passed = Passed {
+        left: 0,
+        above: 0,
+        right: 0,
+        below: 0,
+    };
+    let mut free = Vec::with_capacity(alloc, cells.len() - blocked.len())?;
+    for (i, cell) in cells.iter().enumerate() {
+        if let Some(area) = areas[i] {
+            free.push(Cell {
+                at: cell.at,
+                floor: cell.floor,
+                ceiling: cell.ceiling,
+                area,
+                next: next_kept(blocked, &mut passed, cell),
+            })?;
         }
     }
     Ok(FreeLayer {
         tile: layer.tile,
-        cells: Items::from_vec(cells),
+        cells: Items::from_vec(free),
     })
-}
-
-fn is_free_of(cell: &Cell, shapes: &[Shape]) -> bool
-    requires { All IsShape shapes.now }
-    ensures { result ≡ is_free shapes.now cell.now }
-{
-    !is_blocked_by(cell, shapes)
-}
-
-fn is_blocked_by(cell: &Cell, shapes: &[Shape]) -> bool
-    requires { All IsShape shapes.now }
-    ensures { result ≡ is_blocked shapes.now cell.now }
-{
-    shapes.iter().any(|shape| sets(shape).is_none()
-        && covers(shape, cell.at.x, cell.at.z, cell.floor))
-}
-
-#[tactic(auto, using(crate::proofs::Areas::area_under_next))]
-fn area_of(cell: &Cell, shapes: &[Shape]) -> u32
-    requires { All IsShape shapes.now }
-    ensures { result ≡ area_under shapes.now cell.now }
-{
-    let mut area = cell.area;
-    for shape in shapes {
-        area = area_from(cell, shape).unwrap_or(area);
-    }
-    area
-}
-
-fn area_from(cell: &Cell, shape: &Shape) -> Option<u32>
-    requires { IsShape shape.now }
-    ensures { result ≡ area_given cell.now shape.now }
-{
-    if covers(shape, cell.at.x, cell.at.z, cell.floor) {
-        sets(shape)
-    } else {
-        None
-    }
-}
-
-fn free_cell(cells: &[Cell], shapes: &[Shape], cell: &Cell) -> Cell
-    requires shapes { All IsShape shapes.now }
-    ensures { result ≡ free_cell_of cells.now shapes.now cell.now }
-{
-    let next = [
-        next_of(cells, shapes, cell, 0),
-        next_of(cells, shapes, cell, 1),
-        next_of(cells, shapes, cell, 2),
-        next_of(cells, shapes, cell, 3),
-    ];
-    Cell {
-        at: cell.at,
-        floor: cell.floor,
-        ceiling: cell.ceiling,
-        area: area_of(cell, shapes),
-        next,
-    }
-}
-
-fn next_of(cells: &[Cell], shapes: &[Shape], cell: &Cell, dir: usize) -> Option<u32>
-    requires shapes { All IsShape shapes.now }
-    requires dir { dir < 4 }
-    ensures { result ≡ free_next cells.now shapes.now cell.now dir }
-{
-    if is_lost_to(cells, shapes, cell, dir) {
-        None
-    } else {
-        cell.next[dir]
-    }
-}
-
-fn is_lost_to(cells: &[Cell], shapes: &[Shape], cell: &Cell, dir: usize) -> bool
-    requires shapes { All IsShape shapes.now }
-    requires dir { dir < 4 }
-    ensures { result ≡ is_lost cells.now shapes.now cell.now dir }
-{
-    cells.iter().any(|other| names(dir, cell, other.at) && is_blocked_by(other, shapes))
-}
-
-fn names(dir: usize, from: &Cell, to: CellRef) -> bool
-    requires { dir < 4 }
-    ensures { result ≡ is_naming dir from.now to }
-{
-    is_toward_cell(dir, from.at, to) && from.next[dir].map_or(false, |level| level == to.level)
-}
-
-fn is_toward_cell(dir: usize, from: CellRef, to: CellRef) -> bool
-    requires { dir < 4 }
-    ensures { result ≡ Rattle.nav_ground.specs.Cells.is_toward dir from to }
-{
-    match dir {
-        0 => to.x as u64 + 1 == from.x as u64 && to.z == from.z,
-        1 => to.x == from.x && to.z as u64 == from.z as u64 + 1,
-        2 => to.x as u64 == from.x as u64 + 1 && to.z == from.z,
-        _ => to.x == from.x && to.z as u64 + 1 == from.z as u64,
-    }
 }

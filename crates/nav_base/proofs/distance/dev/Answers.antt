@@ -1,14 +1,13 @@
 -- Where the point lies between the ends of the segment, and where it lies beyond the second, the tests choose the definition's case.
-use Rattle.std.proofs.Common.{◌≡◌, ℕ, ◌*◌, ◌^◌, ◌≤◌, ◌<◌, ℤ, pos, Bool, true, false, cond, FitsSigned, Fits, w64, to_z, of_z, refl, sym, ap, ◌∙◌, rules, arith, lit≤}
+use Rattle.std.proofs.Common.{◌≡◌, ℕ, ◌*◌, ◌^◌, ◌≤◌, ℤ, pos, Bool, true, false, cond, FitsSigned, Fits, w64, to_z, of_z, refl, sym, ap, ◌∙◌, rules, arith}
 use Rattle.std.specs.Prelude.{unsigned_abs}
 use Rattle.std.specs.Int.Signed.{le_z}
-use Rattle.std.proofs.lemmas.Int.{ints, to_z-of_z}
+use Rattle.std.proofs.lemmas.Int.{to_z-of_z}
 use Rattle.std.proofs.lemmas.Nat.{mul-le}
-use Rattle.nav_base.specs.declared.point.Point.{Point}
 use Rattle.nav_base.specs.declared.deviation.Deviation.{Deviation}
 use Rattle.nav_base.specs.Point.{from_to, dot_of, cross_of}
-use Rattle.nav_base.specs.Vector.{wide_dot_of, wide_cross_of}
-use Rattle.nav_base.specs.Deviation.{deviation_of, square_of}
+use Rattle.nav_base.specs.Deviation.{square_of, deviation_of}
+use Rattle.nav_base.specs.Vector.{point_of}
 use Rattle.nav_base.proofs.Sizes.{from_to-corners, cross_of-bound}
 use Rattle.nav_base.proofs.distance.dev.Goals as goal
 
@@ -27,16 +26,17 @@ fraction : (m n m' n' : ℕ) → m ≡ m' → n ≡ n' → (let first : Deviatio
 fraction m n m' n' e f = λ i. record { num = e i; den = f i }
 
 pub returns-then-reached-length-clause-value : goal.returns-then-reached-length-clause-value
+unfolding deviation_of
 returns-then-reached-length-clause-value c =
     let along = c.between-along.ensures.value in
     let to_point = c.between-to_point.ensures.value in
-    let reached = c.dot-reached.ensures ∙ (λ i. wide_dot_of (along i) (to_point i)) in
-    let length = c.dot-length.ensures ∙ (λ i. wide_dot_of (along i) (along i)) in
-    let beyond = c.square-then-reached-length.ensures ∙ (λ i. unsigned_abs (wide_dot_of (c.between.ensures.value i) (c.between.ensures.value i))) in
+    let reached = c.dot-reached.ensures ∙ (λ i. dot_of (point_of (along i)) (point_of (to_point i))) in
+    let length = c.dot-length.ensures ∙ (λ i. dot_of (point_of (along i)) (point_of (along i))) in
+    let beyond = c.square-then-reached-length.ensures ∙ (λ i. square_of (point_of (c.between.ensures.value i))) in
     second _ _ _ _ _ _
-      (test_is c.dot-reached.result (pos 0) _ (pos 0) false (search rules) (search rules) reached refl c.if-reached-le0.false)
-      (test_is c.dot-length.result c.dot-reached.result _ _ true (search rules) (search rules) length reached c.if-reached-length.true)
-      (fraction _ _ _ _ beyond refl)
+    (test_is c.dot-reached.result (pos 0) _ (pos 0) false (search rules) (search rules) reached refl c.if-reached-le0.false)
+    (test_is c.dot-length.result c.dot-reached.result _ _ true (search rules) (search rules) length reached c.if-reached-length.true)
+    (fraction _ _ _ _ beyond refl)
 
 square_fits : (n : ℕ) → n ≤ 2 ^ 21 → Fits w64 (n * n)
 square_fits n small = record { fits = omega (arith, mul-le n n (2 ^ 21) (2 ^ 21) small small) }
@@ -45,21 +45,22 @@ pub overflow_mul-result : goal.overflow_mul-result
 overflow_mul-result c =
     let along = c.between-along.ensures.value in
     let to_point = c.between-to_point.ensures.value in
-    let cross = c.cross.ensures ∙ (λ i. wide_cross_of (along i) (to_point i)) in
+    let cross = c.cross.ensures ∙ (λ i. cross_of (point_of (along i)) (point_of (to_point i))) in
     let aside = c.unsigned_abs-aside.ensures.value ∙ ap unsigned_abs (to_z-of_z w64 c.cross.result (search rules) ∙ cross) in
     let a = c.args.a in
     square_fits _ (omega (arith, aside, cross_of-bound 1024 (from_to a c.args.b) (from_to a c.args.p) (from_to-corners a c.args.b c.requires.first c.requires.second) (from_to-corners a c.args.p c.requires.first c.requires.point)))
 
 pub returns-clause-value : goal.returns-clause-value
+unfolding deviation_of
 returns-clause-value c =
     let along = c.between-along.ensures.value in
     let to_point = c.between-to_point.ensures.value in
-    let reached = c.dot-reached.ensures ∙ (λ i. wide_dot_of (along i) (to_point i)) in
-    let length = c.dot-length.ensures ∙ (λ i. wide_dot_of (along i) (along i)) in
-    let cross = c.cross.ensures ∙ (λ i. wide_cross_of (along i) (to_point i)) in
+    let reached = c.dot-reached.ensures ∙ (λ i. dot_of (point_of (along i)) (point_of (to_point i))) in
+    let length = c.dot-length.ensures ∙ (λ i. dot_of (point_of (along i)) (point_of (along i))) in
+    let cross = c.cross.ensures ∙ (λ i. cross_of (point_of (along i)) (point_of (to_point i))) in
     let aside = c.unsigned_abs-aside.ensures.value ∙ ap unsigned_abs (to_z-of_z w64 c.cross.result (search rules) ∙ cross) in
-    let square = c.square-2.ensures ∙ (λ i. unsigned_abs (wide_dot_of (along i) (along i))) in
+    let square = c.square-2.ensures ∙ (λ i. square_of (point_of (along i))) in
     third _ _ _ _ _ _
-      (test_is c.dot-reached.result (pos 0) _ (pos 0) false (search rules) (search rules) reached refl c.if-reached-le0.false)
-      (test_is c.dot-length.result c.dot-reached.result _ _ false (search rules) (search rules) length reached c.if-reached-length.false)
-      (fraction _ _ _ _ (λ i. aside i * aside i) square)
+    (test_is c.dot-reached.result (pos 0) _ (pos 0) false (search rules) (search rules) reached refl c.if-reached-le0.false)
+    (test_is c.dot-length.result c.dot-reached.result _ _ false (search rules) (search rules) length reached c.if-reached-length.false)
+    (fraction _ _ _ _ (λ i. aside i * aside i) square)

@@ -1,10 +1,18 @@
--- What the search shows to be the least root is the definition's root.
-use Rattle.std.proofs.Common.{◌+◌, arith}
-use Rattle.nav_base.proofs.RootLaws.{IsLeastRoot-square, IsLeastRoot-above, ceil_sqrt_of-only}
+-- A number within one of the root is the root rounded up, or one below it.
+use Rattle.std.proofs.Common.{◌≡◌, ℕ, ◌+◌, arith}
+use Rattle.nav_base.specs.Root.{IsLeastRoot}
+use Rattle.nav_base.proofs.RootLaws.{ceil_sqrt_of-only}
+use Rattle.nav_base.proofs.NearRoots.{IsLeastRoot-near_below, IsLeastRoot-near_enough}
 use Rattle.nav_base.proofs.root.ceil_sqrt.Goals as goal
 
-pub returns-then-below-n-clause-value : goal.returns-then-below-n-clause-value
-returns-then-below-n-clause-value c = ceil_sqrt_of-only c.args.n c.isqrt-below.result (IsLeastRoot-square c.args.n c.isqrt-below.result (omega arith))
+root-zero : (n : ℕ) → n ≡ 0 → IsLeastRoot n 0
+root-zero n e = record { reaches = omega arith; least = λ r h. omega arith }
 
-pub returns-else-below-n-clause-value : goal.returns-else-below-n-clause-value
-returns-else-below-n-clause-value c = ceil_sqrt_of-only c.args.n (c.isqrt-below.result + 1) (IsLeastRoot-above c.args.n c.isqrt-below.result (omega arith) (omega arith))
+pub returns-then-n-eq0-clause-value : goal.returns-then-n-eq0-clause-value
+returns-then-n-eq0-clause-value c = ceil_sqrt_of-only c.args.n 0 (root-zero c.args.n c.if-n-eq0.true)
+
+pub returns-then-near-n-clause-value : goal.returns-then-near-n-clause-value
+returns-then-near-n-clause-value c = ceil_sqrt_of-only c.args.n (c.near_root-near.result + 1) (IsLeastRoot-near_below c.args.n c.near_root-near.result c.near_root-near.ensures.near c.if-near-n.true)
+
+pub returns-else-near-n-clause-value : goal.returns-else-near-n-clause-value
+returns-else-near-n-clause-value c = ceil_sqrt_of-only c.args.n c.near_root-near.result (IsLeastRoot-near_enough c.args.n c.near_root-near.result c.near_root-near.ensures.near c.if-near-n.false)

@@ -1,5 +1,5 @@
 -- The absolute value of a product is the product of the absolute values.
-use Rattle.std.proofs.Common.{◌≡◌, ◌≤◌, ◌^◌, ◌*ℤ◌, ℤ, FitsSigned, w64, to_z, of_z, arith, lit<}
+use Rattle.std.proofs.Common.{◌^◌, ◌*ℤ◌, ℤ, FitsSigned, w64, arith, lit<}
 use Rattle.std.specs.Int.RustNames.{unsigned_abs}
 use Rattle.std.proofs.lemmas.Int.{to_z-of_z, unsigned_abs-mul, fits_signed_mul}
 use Rattle.std.proofs.lemmas.Nat.{mul-le}

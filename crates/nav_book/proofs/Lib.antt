@@ -1,0 +1,5 @@
+pub mod Rows
+pub mod Tables
+pub mod Histories
+pub mod ColumnParts
+pub mod Layers

@@ -1,0 +1,4 @@
+pub mod LiveTable
+pub mod Columns
+pub mod BookState
+pub mod Representation

@@ -1,0 +1,161 @@
+//! The book: its history, and the free cells that were last published.
+
+ghost use Rattle.std.specs.Prelude.{◌≡◌, ◌↔◌, ◌+◌, ◌≤◌, [], length, map, IsErr, IfOk, IfErr, OnOk, OnErr, All};
+ghost use Rattle.std.specs.Arc.{arc_value};
+ghost use Rattle.nav_ground.specs.Cells.{IsLayer};
+ghost use Rattle.nav_ground.specs.FreeCells.{free_layers_of};
+ghost use Rattle.nav_ground.specs.Grounds.{IsGround};
+ghost use Rattle.nav_ground.specs.History.{IsRequest, IsHistory};
+ghost use Rattle.nav_ground.specs.Limits.{IsShape};
+ghost use Rattle.nav_book.specs.BookState.{BookState, next_reply, after_request, after_settle, published_layers};
+ghost use Rattle.nav_book.specs.Columns.{floors_at};
+
+use crate::columns::push_floors;
+use crate::live::{Live, answer, shapes};
+use nav_base::FloorAt;
+use nav_ground::{Entry, FreeLayer, Ground, HISTORY_LIMIT, Layer, Reply, Request, Shape};
+use obstacle_mark::mark;
+use std::alloc::{AllocError, Global};
+use std::marker::Model;
+use std::sync::Arc;
+
+/// The history has as many entries as a history can have; nothing was appended.
+#[derive(Clone, Copy, PartialEq, Eq, Debug)]
+pub struct HistoryFull {
+    /// How many entries the history has.
+    pub len: u32,
+}
+
+/// The history of the requests to a ground, and the free cells as they were last published.
+#[derive(Drop)]
+pub struct Book {
+    level: Arc<Ground>,
+    entries: Vec<Entry>,
+    live: Vec<Live>,
+    layers: Vec<FreeLayer>,
+    published: u32,
+}
+
+impl Model for Book {
+    ghost use Rattle.nav_book.specs.BookState.{BookState};
+
+    ghost Value = { BookState };
+
+    ghost use Rattle.nav_book.specs.Representation.{state_of, IsKept};
+
+    ghost view = { state_of };
+
+    ghost invariant = { IsKept };
+}
+
+impl Book {
+    /// The book of a ground, with no entries, which shows all cells free. It takes the room for a whole history and for as many live
+    /// obstacles as the setting allows, so that requests take no memory.
+    pub fn begin(alloc: Global, level: Arc<Ground>) -> Result<Book, AllocError>
+        requires { IsGround (arc_value level) }
+        ensures { IfOk result (λ book. book ≡ record { whole = arc_value level; history = []; published = 0 }) }
+    {
+        let entries = Vec::with_capacity(alloc, HISTORY_LIMIT as usize)?;
+        let live = Vec::with_capacity(alloc, level.setting.limit as usize)?;
+        let layers = marked(alloc, level.layers.as_slice(), &[])?;
+        Ok(Book {
+            level,
+            entries,
+            live,
+            layers,
+            published: 0,
+        })
+    }
+
+    /// Appends a request of a lane to the history, and gives the number of its entry, from 1, and its answer. What was published stays.
+    /// It takes no memory.
+    pub fn request(&mut self, lane: u32, request: Request) -> Result<(u32, Reply), HistoryFull>
+        requires { IsRequest request }
+        ensures appended { OnOk result (self.new ≡ after_request self.old lane request) }
+        ensures number { IfOk result (λ answer. answer.0 ≡ length self.old.history + 1) }
+        ensures reply { IfOk result (λ answer. answer.1 ≡ next_reply self.old request) }
+
+        // It is refused exactly where the history is full, and then nothing changes.
+        ensures full { IsErr result ↔ (length self.old.history ≡ HISTORY_LIMIT) }
+        ensures len { IfErr result (λ refused. refused.len ≡ length self.old.history) }
+        ensures refused { OnErr result (self.new ≡ self.old) }
+    {
+        let len = self.length();
+        if len == HISTORY_LIMIT {
+            return Err(HistoryFull { len });
+        }
+        let number = len + 1;
+        let reply = answer(&mut self.live, self.level.setting.limit, number, request);
+        self.entries.push_reserved(Entry {
+            lane,
+            request,
+            reply,
+        });
+        Ok((number, reply))
+    }
+
+    /// Publishes the free cells under the obstacles that are alive after the whole history, and gives the history's length.
+    /// Where memory is refused, nothing has changed.
+    pub fn settle(&mut self, alloc: Global) -> Result<u32, AllocError>
+        ensures published { OnOk result (self.new ≡ after_settle self.old) }
+        ensures length { IfOk result (λ published. published ≡ length self.old.history) }
+        ensures refused { OnErr result (self.new ≡ self.old) }
+    {
+        let len = self.length();
+        if self.published == len {
+            return Ok(len);
+        }
+        let shapes = shapes(alloc, self.live.as_slice())?;
+        self.layers = marked(alloc, self.level.layers.as_slice(), shapes.as_slice())?;
+        self.published = len;
+        Ok(len)
+    }
+
+    /// The floors of the free cells of a column as they were last published, from the bottom up; none where the column has no free cell.
+    pub fn floors(&self, alloc: Global, x: u32, z: u32) -> Result<Vec<FloorAt>, AllocError>
+        ensures { IfOk result (λ floors. floors.items ≡ floors_at x z (published_layers self.now)) }
+    {
+        let mut floors = Vec::new(alloc);
+        for layer in self.layers.as_slice() {
+            push_floors(&mut floors, layer.cells.as_slice(), x, z)?;
+        }
+        Ok(floors)
+    }
+
+    /// How many entries the history has.
+    pub fn length(&self) -> u32
+        ensures { result ≡ length self.now.history }
+    {
+        self.entries.len() as u32
+    }
+
+    /// How many entries the published free cells show.
+    pub fn published(&self) -> u32
+        ensures value { result ≡ self.now.published }
+        ensures within { result ≤ length self.now.history }
+    {
+        self.published
+    }
+
+    /// The history, the oldest entry first.
+    pub fn entries(&self) -> &[Entry]
+        ensures entries { result.now ≡ self.now.history }
+        ensures rules { IsHistory self.now.whole.setting.limit self.now.history }
+    {
+        self.entries.as_slice()
+    }
+}
+
+/// The free cells of each layer under a list of shapes.
+fn marked(alloc: Global, layers: &[Layer], shapes: &[Shape]) -> Result<Vec<FreeLayer>, AllocError>
+    requires layers { All IsLayer layers.now }
+    requires near { All (λ (layer : Layer). layer.radius ≡ 0) layers.now }
+    requires shapes { All IsShape shapes.now }
+    ensures { IfOk result (λ free. free.items ≡ free_layers_of layers.now shapes.now) }
+{
+    let mut free = Vec::with_capacity(alloc, layers.len())?;
+    for layer in layers {
+        free.push(mark(alloc, layer, shapes)?)?;
+    }
+    Ok(free)
+}

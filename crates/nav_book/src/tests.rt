@@ -1,0 +1,192 @@
+//! Runs of a book over a small flat ground. What is wanted was worked out by hand.
+
+ghost use Rattle.std.specs.Prelude.{◌≡◌, ◌≤◌, IfOk};
+ghost use Rattle.std.specs.Arc.{arc_value};
+ghost use Rattle.nav_ground.specs.FlatFields.{flat_spans};
+ghost use Rattle.nav_ground.specs.Grounds.{IsGround};
+ghost use Rattle.nav_ground.specs.History.{IsRequest};
+ghost use Rattle.nav_ground.specs.Limits.{IsSetting};
+
+use crate::{Book, HistoryFull};
+use layer_cut::ground;
+use nav_base::FloorAt;
+use nav_ground::{
+    AREAS, Agent, Entry, Field, Ground, HISTORY_LIMIT, MeshKind, Reply, Request, Setting, Shape,
+    Span,
+};
+use nav_list::Items;
+use std::alloc::{AllocError, Global};
+use std::sync::Arc;
+use std::test::Fail;
+
+/// What a table asks for: a block over the column (x, 1), a block there that sets the area 5, or that a number goes.
+#[derive(Clone, Copy, PartialEq, Eq, Debug)]
+enum Asked {
+    Block(u32),
+    Area(u32),
+    Remove(u32),
+}
+
+fn request_of(asked: Asked) -> Request
+    ensures { IsRequest result }
+{
+    match asked {
+        Asked::Block(x) => Request::Add(Shape::Block {
+            x0: x.min(1023),
+            x1: x.min(1023),
+            y0: 0,
+            y1: 100,
+            z0: 1,
+            z1: 1,
+        }),
+        Asked::Area(x) => Request::Add(Shape::AreaBlock {
+            area: 5,
+            x0: x.min(1023),
+            x1: x.min(1023),
+            y0: 0,
+            y1: 100,
+            z0: 1,
+            z1: 1,
+        }),
+        Asked::Remove(number) => Request::Remove(number),
+    }
+}
+
+fn flat_field(alloc: Global, width: u32, depth: u32, top: u32) -> Result<Field, AllocError>
+    requires width { (1 ≤ width) × (width ≤ 1024) }
+    requires depth { (1 ≤ depth) × (depth ≤ 1024) }
+    ensures { IfOk result (λ field. field ≡ record { width = width; depth = depth; spans = flat_spans width depth top }) }
+{
+    let mut spans = Vec::new(alloc);
+    for i in 0..width * depth {
+        spans.push(Span {
+            x: i % width,
+            z: i / width,
+            bottom: 0,
+            top,
+            area: 63,
+        })?;
+    }
+    Ok(Field {
+        width,
+        depth,
+        spans: Items::from_vec(spans),
+    })
+}
+
+/// A ground of 5 by 4 columns with the one top 10, where two obstacles may be alive.
+fn small_ground(alloc: Global) -> Result<Arc<Ground>, AllocError>
+    ensures { IfOk result (λ level. IsGround (arc_value level)) }
+{
+    let setting = Setting {
+        width: 5,
+        depth: 4,
+        tile: 8,
+        agent: Agent {
+            height: 10,
+            climb: 4,
+            radius: 0,
+        },
+        error: 169,
+        mesh: MeshKind::Strips,
+        limit: 2,
+        costs: [1; AREAS],
+        clear: false,
+    };
+    let field = flat_field(alloc, 5, 4, 10)?;
+    Ok(Arc::new(alloc, ground(alloc, setting, field)?)?)
+}
+
+#[test]
+fn answers_requests(rt: HostRuntime) -> Result<(), Fail> {
+    let alloc = rt.alloc();
+    let mut book = Book::begin(alloc, small_ground(alloc)?)?;
+    let cases = [
+        (1, Asked::Block(1), Reply::Added { number: 1 }),
+        (2, Asked::Area(2), Reply::Added { number: 2 }),
+        (3, Asked::Block(3), Reply::Full { live: 2 }),
+        (4, Asked::Remove(1), Reply::Removed),
+        (5, Asked::Remove(1), Reply::Dead { number: 1 }),
+        (6, Asked::Remove(0), Reply::Dead { number: 0 }),
+        (7, Asked::Block(3), Reply::Added { number: 7 }),
+        (8, Asked::Remove(3), Reply::Dead { number: 3 }),
+        (9, Asked::Remove(7), Reply::Removed),
+        (10, Asked::Remove(2), Reply::Removed),
+        (11, Asked::Block(1), Reply::Added { number: 11 }),
+    ];
+    for (number, asked, reply) in cases {
+        assert_eq!(rt;
+            book.request(3, request_of(asked)),
+            Ok((number, reply)),
+            "at {number}"
+        );
+        assert_eq!(rt; (book.length(), book.published()), (number, 0));
+    }
+    let last = Entry {
+        lane: 3,
+        request: request_of(Asked::Block(1)),
+        reply: Reply::Added { number: 11 },
+    };
+    assert_eq!(rt; book.entries().last(), Some(&last));
+    Ok(())
+}
+
+#[test]
+fn publishes_floors(rt: HostRuntime) -> Result<(), Fail> {
+    let alloc = rt.alloc();
+    let mut book = Book::begin(alloc, small_ground(alloc)?)?;
+    let bare = FloorAt { y: 10, area: 63 };
+    // What is asked, whether the book settles then, and the floors of the columns (1, 1) and (2, 1).
+    let cases = [
+        (Asked::Remove(9), false, Some(bare), Some(bare)),
+        (Asked::Block(2), false, Some(bare), Some(bare)),
+        (Asked::Area(1), true, Some(FloorAt { y: 10, area: 5 }), None),
+        (
+            Asked::Block(3),
+            true,
+            Some(FloorAt { y: 10, area: 5 }),
+            None,
+        ),
+        (
+            Asked::Remove(2),
+            false,
+            Some(FloorAt { y: 10, area: 5 }),
+            None,
+        ),
+        (Asked::Remove(3), true, Some(bare), Some(bare)),
+    ];
+    for (asked, settles, first, second) in cases {
+        let _answer = book.request(0, request_of(asked));
+        if settles {
+            assert_eq!(rt; book.settle(alloc)?, book.length());
+            assert_eq!(rt; book.settle(alloc)?, book.published());
+        }
+        assert_eq!(rt; book.floors(alloc, 1, 1)?.first().copied(), first);
+        assert_eq!(rt; book.floors(alloc, 2, 1)?.first().copied(), second);
+    }
+    // The columns of the edge and those outside have no cells, and each other column has one.
+    for (x, z, count) in [
+        (0, 1, 0),
+        (4, 1, 0),
+        (1, 0, 0),
+        (1, 3, 0),
+        (3, 2, 1),
+        (5000, 2, 0),
+    ] {
+        assert_eq!(rt; book.floors(alloc, x, z)?.len(), count, "at {x} {z}");
+    }
+    Ok(())
+}
+
+#[test]
+fn fills_its_history(rt: HostRuntime) -> Result<(), Fail> {
+    let alloc = rt.alloc();
+    let mut book = Book::begin(alloc, small_ground(alloc)?)?;
+    for _ in 0..HISTORY_LIMIT {
+        assert!(rt; book.request(0, Request::Remove(1)).is_ok());
+    }
+    let full = HistoryFull { len: HISTORY_LIMIT };
+    assert_eq!(rt; book.request(0, Request::Remove(1)), Err(full));
+    assert_eq!(rt; book.settle(alloc)?, HISTORY_LIMIT);
+    Ok(())
+}

@@ -1,0 +1,116 @@
+-- What a play of a script writes: line by line the answers of the book, and then how far the play came.
+use Rattle.std.specs.Prelude.{ℕ, ◌+◌, ◌-◌, ◌==◌, if◌then◌else◌, List, [], ◌∷◌, ◌++◌, length, replicate, slice_get, slice_set, get_or, unwrap_or}
+use Rattle.nav_base.specs.declared.answers.Question.{Question}
+use Rattle.nav_base.specs.declared.answers.Question.TheVariants.{Floor, Path, Ray}
+use Rattle.nav_ground.specs.declared.setting.Setting.{Setting}
+use Rattle.nav_ground.specs.declared.field.Field.{Field}
+use Rattle.nav_ground.specs.declared.history.TheConstants.{HISTORY_LIMIT}
+use Rattle.nav_ground.specs.declared.history.Ground.{Ground}
+use Rattle.nav_ground.specs.declared.history.Reply.{Reply}
+use Rattle.nav_ground.specs.declared.history.Reply.TheVariants.{Added, Removed, Full, Dead}
+use Rattle.nav_ground.specs.declared.history.Request.{Request}
+use Rattle.nav_ground.specs.declared.history.Request.TheVariants as requests
+use Rattle.nav_ground.specs.Grounds.{layers_of}
+use Rattle.nav_book.specs.BookState.{BookState, next_reply, after_request, after_settle, published_layers}
+use Rattle.nav_book.specs.Columns.{floors_at}
+use Rattle.nav_record.specs.declared.step.StepAnswer.TheVariants.{Settled, HistoryFull}
+use Rattle.nav_record.specs.Texts.{reply_text, step_text, floors_text, done_text}
+use Rattle.nav_script.specs.declared.line.Line.{Line}
+use Rattle.nav_script.specs.declared.line.Line.TheVariants.{Lane, Ask, Add, Remove, Undo, Settle, Aim, Claim, Back, Submit, Publish}
+use Rattle.nav_script.specs.declared.script.Script.{Script}
+
+-- what stands between two lines: the book, the lane of the next request, and for each lane the numbers that its add lines got,
+-- 0 where nothing was added
+pub record PlayState : Type 0 where
+  pub book : BookState
+  pub lane : ℕ
+  pub adds : List (List ℕ)
+
+-- the ground of a setting and a field
+abbrev pub ground_of : Setting → Field → Ground
+ground_of setting field = record { setting = setting; field = field; layers = layers_of setting field }
+
+-- a play begins with no history, in lane 0
+abbrev pub first_state : Ground → ℕ → PlayState
+first_state whole lanes = record { book = record { whole = whole; history = []; published = 0 }; lane = 0; adds = replicate lanes [] }
+
+-- the book after a request: with one entry more, or as it was where its history is full
+abbrev pub requested : BookState → ℕ → Request → BookState
+requested book lane request = if length book.history == HISTORY_LIMIT then book else after_request book lane request
+
+-- what is written after a request: the number of its entry and its reply, or that the history is full
+abbrev pub request_text : BookState → Request → List ℕ
+request_text book request =
+    if length book.history == HISTORY_LIMIT then step_text (HistoryFull (length book.history))
+    else reply_text (length book.history + 1) (next_reply book request)
+
+-- the number of an obstacle that was added; 0 where none was
+abbrev pub number_added : Reply → ℕ
+number_added (Added number) = number
+number_added Removed = 0
+number_added (Full live) = 0
+number_added (Dead number) = 0
+
+-- the number that an add line gets for its lane
+abbrev pub number_got : BookState → Request → ℕ
+number_got book request = if length book.history == HISTORY_LIMIT then 0 else number_added (next_reply book request)
+
+-- the numbers of a lane; those of all lanes, with one more for one lane; and the one of the lane's j-th add line, counted from 1
+abbrev pub adds_of : List (List ℕ) → ℕ → List ℕ
+adds_of adds lane = get_or adds lane []
+
+abbrev pub adds_and : List (List ℕ) → ℕ → ℕ → List (List ℕ)
+adds_and adds lane number = slice_set adds lane (adds_of adds lane ++ number ∷ [])
+
+abbrev pub number_in : List (List ℕ) → ℕ → ℕ → ℕ
+number_in adds lane j = unwrap_or (slice_get (adds_of adds lane) (j - 1)) 0
+
+-- a `drop` asks to remove what the lane's j-th add line added
+abbrev pub drop_request : PlayState → ℕ → Request
+drop_request state j = requests.Remove (number_in state.adds state.lane j)
+
+-- the answer to a question, with the length that it was asked at; ways and rays are not built yet
+abbrev pub answer_text : BookState → Question → List ℕ
+answer_text book (Floor x z) = floors_text book.published (floors_at x z (published_layers book))
+answer_text book (Path from from_y to to_y) = []
+answer_text book (Ray from from_y to) = []
+
+-- what is written after a line
+abbrev pub said : PlayState → Line → List ℕ
+said state (Lane lane) = []
+said state (Ask question) = answer_text state.book question
+said state (Add shape) = request_text state.book (requests.Add shape)
+said state (Remove number) = request_text state.book (requests.Remove number)
+said state (Undo j) = request_text state.book (drop_request state j)
+said state Settle = step_text (Settled (length state.book.history))
+said state Aim = []
+said state (Claim worker) = []
+said state (Back worker) = []
+said state (Submit worker) = []
+said state Publish = []
+
+-- the state after a line
+abbrev pub state_after : PlayState → Line → PlayState
+state_after state (Lane lane) = record state { lane = lane }
+state_after state (Ask question) = state
+state_after state (Add shape) = record state {
+  book = requested state.book state.lane (requests.Add shape);
+  adds = adds_and state.adds state.lane (number_got state.book (requests.Add shape));
+}
+state_after state (Remove number) = record state { book = requested state.book state.lane (requests.Remove number) }
+state_after state (Undo j) = record state { book = requested state.book state.lane (drop_request state j) }
+state_after state Settle = record state { book = after_settle state.book }
+state_after state Aim = state
+state_after state (Claim worker) = state
+state_after state (Back worker) = state
+state_after state (Submit worker) = state
+state_after state Publish = state
+
+-- what the lines that are left write, one after another, and then the published length and the length of the history
+unfoldable pub text_from : PlayState → List Line → List ℕ
+text_from state [] = done_text state.book.published (length state.book.history)
+text_from state (line ∷ lines) = said state line ++ text_from (state_after state line) lines
+
+-- the play text of a script over a field
+abbrev pub play_text : Setting → Field → Script → List ℕ
+play_text setting field script = text_from (first_state (ground_of setting field) script.lanes) script.lines

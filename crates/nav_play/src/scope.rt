@@ -1,0 +1,61 @@
+//! Which plays are built so far.
+
+ghost use Rattle.std.specs.Prelude.{◌≡◌, ◌↔◌, IsTrue};
+ghost use Rattle.std.specs.List.{list_all};
+ghost use Rattle.nav_ground.specs.Limits.{IsSetting};
+ghost use Rattle.nav_ground.specs.Fields.{IsField};
+ghost use Rattle.nav_ground.specs.Grounds.{IsSized};
+ghost use Rattle.nav_play.specs.Built.{IsBuilt, is_built_line, is_built_question};
+
+use layer_cut::is_flat;
+use nav_base::Question;
+use nav_ground::{Field, MeshKind, Setting};
+use nav_script::{Line, Script};
+
+/// Whether this play is built so far: the field is flat and lies in one tile, the mesh is one of strips, and no line asks for a way, a
+/// ray or a single step of a worker. It takes one pass over the spans and one over the lines, and no memory.
+pub fn built(setting: &Setting, field: &Field, script: &Script) -> bool
+    requires setting { IsSetting setting.now }
+    requires field { IsField field.now }
+    requires sized { IsSized setting.now field.now }
+    ensures { IsTrue result ↔ IsBuilt setting.now field.now script.now }
+{
+    if !is_of_strips(setting) {
+        return false;
+    }
+    if !are_built(script.lines.as_slice()) {
+        return false;
+    }
+    is_flat(setting, field)
+}
+
+fn is_of_strips(setting: &Setting) -> bool
+    ensures { IsTrue result ↔ (setting.now.mesh ≡ MeshKind.Strips) }
+{
+    matches!(setting.mesh, MeshKind::Strips)
+}
+
+fn are_built(lines: &[Line]) -> bool
+    ensures { result ≡ list_all is_built_line lines.now }
+{
+    lines.iter().all(|line| is_built(line))
+}
+
+fn is_built(line: &Line) -> bool
+    ensures { result ≡ is_built_line line.now }
+{
+    match *line {
+        Line::Ask(question) => is_answered(&question),
+        Line::Lane(_) | Line::Add(_) | Line::Remove(_) | Line::Undo(_) | Line::Settle => true,
+        Line::Aim | Line::Claim(_) | Line::Back(_) | Line::Submit(_) | Line::Publish => false,
+    }
+}
+
+fn is_answered(question: &Question) -> bool
+    ensures { result ≡ is_built_question question.now }
+{
+    match *question {
+        Question::Floor { .. } => true,
+        Question::Path { .. } | Question::Ray { .. } => false,
+    }
+}

@@ -1,0 +1,56 @@
+-- The texts of the output: the exact lines of each answer, each with its line feed.
+use Rattle.std.specs.Prelude.{ℕ, List, ◌++◌, length, codes, decimal}
+use Rattle.std.specs.List.{flat_map}
+use Rattle.nav_base.specs.declared.answers.FloorAt.{FloorAt}
+use Rattle.nav_ground.specs.declared.history.Reply.{Reply}
+use Rattle.nav_ground.specs.declared.history.Reply.TheVariants.{Added, Removed, Full, Dead}
+use Rattle.nav_text.specs.declared.fault.TextFault.{TextFault}
+use Rattle.nav_record.specs.declared.step.StepAnswer.{StepAnswer}
+use Rattle.nav_record.specs.declared.step.StepAnswer.TheVariants.{Aim, Claimed, NoTile, Busy, Idle, Back, Taken, Stale, Published, Same, NotYet, Settled, HistoryFull}
+
+-- the number of an entry, and what became of its request; a refusal says how many obstacles are alive, or which number is not
+abbrev pub reply_text : ℕ → Reply → List ℕ
+reply_text entry (Added _) = codes "entry " ++ decimal entry ++ codes " added\n"
+reply_text entry Removed = codes "entry " ++ decimal entry ++ codes " removed\n"
+reply_text entry (Full live) = codes "entry " ++ decimal entry ++ codes " full " ++ decimal live ++ codes "\n"
+reply_text entry (Dead number) = codes "entry " ++ decimal entry ++ codes " dead " ++ decimal number ++ codes "\n"
+
+-- what a step came to, with the worker, the tile or the length that it names
+abbrev pub step_text : StepAnswer → List ℕ
+step_text (Aim k) = codes "aim " ++ decimal k ++ codes "\n"
+step_text (Claimed worker tile) = codes "claim " ++ decimal worker ++ codes " tile " ++ decimal tile ++ codes "\n"
+step_text (NoTile worker) = codes "claim " ++ decimal worker ++ codes " none\n"
+step_text (Busy worker) = codes "busy " ++ decimal worker ++ codes "\n"
+step_text (Idle worker) = codes "idle " ++ decimal worker ++ codes "\n"
+step_text (Back worker tile) = codes "back " ++ decimal worker ++ codes " tile " ++ decimal tile ++ codes "\n"
+step_text (Taken worker tile) = codes "submit " ++ decimal worker ++ codes " taken " ++ decimal tile ++ codes "\n"
+step_text (Stale worker tile) = codes "submit " ++ decimal worker ++ codes " stale " ++ decimal tile ++ codes "\n"
+step_text (Published k) = codes "published " ++ decimal k ++ codes "\n"
+step_text (Same k) = codes "same " ++ decimal k ++ codes "\n"
+step_text (NotYet tile) = codes "notyet " ++ decimal tile ++ codes "\n"
+step_text (Settled k) = codes "settled " ++ decimal k ++ codes "\n"
+step_text (HistoryFull len) = codes "history full " ++ decimal len ++ codes "\n"
+
+-- a floor: its height and its area
+abbrev pub floor_text : FloorAt → List ℕ
+floor_text floor = codes " " ++ decimal floor.y ++ codes " " ++ decimal floor.area
+
+-- the length of the version that was read, how many floors there are, and then each of them
+abbrev pub floors_text : ℕ → List FloorAt → List ℕ
+floors_text k floors = codes "floors " ++ decimal k ++ codes " " ++ decimal (length floors) ++ flat_map floor_text floors ++ codes "\n"
+
+-- the end of a play: the published length and the history's length
+abbrev pub done_text : ℕ → ℕ → List ℕ
+done_text k n = codes "done " ++ decimal k ++ codes " " ++ decimal n ++ codes "\n"
+
+-- what is wrong with the input: the line that fails, and the number of the fault's kind
+abbrev pub fault_text : TextFault → List ℕ
+fault_text fault = codes "fault " ++ decimal fault.line ++ codes " " ++ decimal fault.kind ++ codes "\n"
+
+-- the call had the wrong arguments
+abbrev pub usage_text : List ℕ
+usage_text = codes "fault usage\n"
+
+-- the input is longer than any that is read
+abbrev pub too_long_text : List ℕ
+too_long_text = codes "fault too long\n"

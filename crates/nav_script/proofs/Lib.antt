@@ -1,0 +1,6 @@
+pub mod LineLaws
+pub mod LaneLaws
+pub mod ReaderLaws
+pub mod SpellingLaws
+pub mod TextLaws
+pub mod ScriptLaws

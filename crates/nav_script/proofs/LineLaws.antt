@@ -1,0 +1,294 @@
+-- The laws of a script's lines: what is read of a line is spelled so, and what is spelled so is read.
+use Rattle.std.proofs.Common.{◌≡◌, ℕ, suc, ◌<◌, ◌≤◌, Bool, true, false, cond, ◌&&◌, eqb, nat_le, nat_lt, List, [], ◌∷◌, length, Option, Some, None, Ok, Err, codes, unwrap_or, subst, refl, ap, arith, slice_index, IfOk}
+use Rattle.std.proofs.lemmas.Bool.{and_parts, ltb-true, leb-true}
+use Rattle.std.proofs.lemmas.Bool.Decides.{nat_tests}
+use Rattle.std.proofs.lemmas.Int.{ints}
+use Rattle.nav_ground.specs.Limits.{IsBox, IsRound}
+use Rattle.nav_text.specs.declared.fault.FaultKind.TheVariants as kinds
+use Rattle.nav_text.specs.Forms.{numbers_of, line_text, AreNumbers}
+use Rattle.nav_text.proofs.FormLaws.{numbers_take}
+use Rattle.nav_text.proofs.Inversions.{map_some, ok_is}
+use Rattle.nav_script.specs.declared.line.Line.{Line}
+use Rattle.nav_script.specs.declared.line.Line.TheVariants.{Lane, Remove, Undo, Settle, Aim, Claim, Back, Submit, Publish}
+use Rattle.nav_script.specs.declared.script.Way.{Way}
+use Rattle.nav_script.specs.declared.script.Way.TheVariants.{Play, Live}
+use Rattle.nav_script.specs.Spelling.{line_of}
+use Rattle.nav_script.specs.Lanes.{NamesLaneBelow}
+use Rattle.nav_script.specs.Limits.{IsPlace, IsLine}
+use Rattle.nav_script.specs.Forms.{LineRead, in_limits, below_count, floor_line, is_place, is_standing, point_at, path_line, ray_line, is_range, block_line, cylinder_line, drop_line, form, first_of_them, question_forms, question_line, request_forms, request_line, lane_forms, lane_line, worker_forms, worker_line, played_line, line_read}
+
+-- the lists of a length, one element after another
+some_more : (P : List ℕ → Type 0) (n : List ℕ) (k : ℕ) → ((x : ℕ) (more : List ℕ) → length more ≡ k → P (x ∷ more)) → length n ≡ suc k → P n
+some_more P [] k each e = absurd (omega arith)
+some_more P (x ∷ more) k each e = each x more (omega arith)
+
+no_more : (P : List ℕ → Type 0) (n : List ℕ) → P [] → length n ≡ 0 → P n
+no_more P [] none e = none
+no_more P (x ∷ more) none e = absurd (omega arith)
+
+one : (P : List ℕ → Type 0) → ((a : ℕ) → P (a ∷ [])) → (n : List ℕ) → length n ≡ 1 → P n
+one P each n = some_more P n 0 (λ a more. no_more (λ l. P (a ∷ l)) more (each a))
+
+pub two : (P : List ℕ → Type 0) → ((a b : ℕ) → P (a ∷ b ∷ [])) → (n : List ℕ) → length n ≡ 2 → P n
+two P each n = some_more P n 1 (λ a more. one (λ l. P (a ∷ l)) (each a) more)
+
+five : (P : List ℕ → Type 0) → ((a b c d e : ℕ) → P (a ∷ b ∷ c ∷ d ∷ e ∷ [])) → (n : List ℕ) → length n ≡ 5 → P n
+five P each n =
+    some_more P n 4 (λ a more. some_more (λ l. P (a ∷ l)) more 3 (λ b more. some_more (λ l. P (a ∷ b ∷ l)) more 2 (λ c more. two (λ l. P (a ∷ b ∷ c ∷ l)) (each a b c) more)))
+
+six : (P : List ℕ → Type 0) → ((a b c d e f : ℕ) → P (a ∷ b ∷ c ∷ d ∷ e ∷ f ∷ [])) → (n : List ℕ) → length n ≡ 6 → P n
+six P each n = some_more P n 5 (λ a more. five (λ l. P (a ∷ l)) (each a) more)
+
+-- the line that is read stands after these lines, and the bytes are its spelling
+abbrev pub Fits : Way → (lanes workers adds : ℕ) → List ℕ → Line → Type 0
+Fits way lanes workers adds text line = (text ≡ line_of line) × IsLine way lanes workers adds line
+
+-- what is read, if it is a line, fits
+abbrev pub IsRight : Way → (lanes workers adds : ℕ) → List ℕ → LineRead → Type 0
+IsRight way lanes workers adds text read = (line : Line) → read ≡ Ok line → Fits way lanes workers adds text line
+
+-- each of these that there is has a property
+abbrev Each : (LineRead → Type 0) → List (Option LineRead) → Type 0
+Each Q [] = Unit {0}
+Each Q (o ∷ more) = ((read : LineRead) → o ≡ Some read → Q read) × Each Q more
+
+first_is : (Q : LineRead → Type 0) (those : List (Option LineRead)) → Each Q those → (read : LineRead) → first_of_them those ≡ Some read → Q read
+first_is Q [] each read e = absurd cc
+first_is Q (Some x ∷ more) each read e = each.0 read e
+first_is Q (None ∷ more) each read e = first_is Q more each.1 read e
+
+-- what a form reads has a property, where the form's numbers give it
+form_is : (Q : LineRead → Type 0) (word : List ℕ) (count : ℕ) (make : List ℕ → LineRead) (text : List ℕ)
+    → ((n : List ℕ) → length n ≡ count → AreNumbers n → text ≡ line_text word n → Q (make n))
+    → (read : LineRead) → form word count make text ≡ Some read → Q read
+form_is Q word count make text gives read e =
+    let told = map_some make (numbers_of word count text) read e in
+    let spelled = numbers_take word count text told.0 told.1 in
+    subst Q told.2 (gives told.0 spelled.1 spelled.2 spelled.0)
+
+limits_told : (fits : Bool) (made line : Line) → in_limits fits made ≡ Ok line → (fits ≡ true) × (made ≡ line)
+limits_told true made line e = (refl, ok_is e)
+limits_told false made line e = absurd cc
+
+-- a line that is made where its numbers are in their limits
+limits_right : (way : Way) (lanes workers adds : ℕ) (text : List ℕ) (fits : Bool) (made : Line)
+    → text ≡ line_of made → (fits ≡ true → IsLine way lanes workers adds made) → IsRight way lanes workers adds text (in_limits fits made)
+limits_right way lanes workers adds text fits made spelled limits line e =
+    let told = limits_told fits made line e in
+    subst (Fits way lanes workers adds text) told.1 (spelled, limits told.0)
+
+floor_limits : (x z : ℕ) → nat_le x 1023 && nat_le z 1023 ≡ true → (x ≤ 1023) × (z ≤ 1023)
+floor_limits x z h = grind (arith, nat_tests)
+
+place_limits : (x z : ℕ) → is_place x z ≡ true → IsPlace (point_at x z)
+place_limits x z h =
+    let parts = and_parts (nat_le x 16384) (nat_le z 16384) h in
+    let x_most : x ≤ 16384 = leb-true x 16384 parts.0 in
+    let z_most : z ≤ 16384 = leb-true z 16384 parts.1 in record {
+      x_least = omega (arith, ints);
+      x_most = omega (arith, ints);
+      z_least = omega (arith, ints);
+      z_most = omega (arith, ints);
+    }
+
+standing_limits : (x z y : ℕ) → is_standing x z y ≡ true → IsPlace (point_at x z) × (y ≤ 8191)
+standing_limits x z y h =
+    let parts = and_parts (is_place x z) (nat_le y 8191) h in (place_limits x z parts.0, leb-true y 8191 parts.1)
+
+path_limits : (x z y to_x to_z to_y : ℕ) → is_standing x z y && is_standing to_x to_z to_y ≡ true
+    → IsPlace (point_at x z) × (y ≤ 8191) × IsPlace (point_at to_x to_z) × (to_y ≤ 8191)
+path_limits x z y to_x to_z to_y h =
+    let parts = and_parts (is_standing x z y) (is_standing to_x to_z to_y) h in
+    let from = standing_limits x z y parts.0 in
+    let to = standing_limits to_x to_z to_y parts.1 in (from.0, from.1, to.0, to.1)
+
+ray_limits : (x z y to_x to_z : ℕ) → is_standing x z y && is_place to_x to_z ≡ true
+    → IsPlace (point_at x z) × (y ≤ 8191) × IsPlace (point_at to_x to_z)
+ray_limits x z y to_x to_z h =
+    let parts = and_parts (is_standing x z y) (is_place to_x to_z) h in
+    let from = standing_limits x z y parts.0 in (from.0, from.1, place_limits to_x to_z parts.1)
+
+block_limits : (x0 x1 y0 y1 z0 z1 : ℕ) → is_range x0 x1 1023 && is_range y0 y1 8191 && is_range z0 z1 1023 ≡ true → IsBox x0 x1 y0 y1 z0 z1
+block_limits x0 x1 y0 y1 z0 z1 h = record {
+  x = grind (arith, nat_tests);
+  x_most = grind (arith, nat_tests);
+  y = grind (arith, nat_tests);
+  y_most = grind (arith, nat_tests);
+  z = grind (arith, nat_tests);
+  z_most = grind (arith, nat_tests);
+}
+
+cylinder_limits : (cx cz r y0 y1 : ℕ) → nat_le cx 2048 && nat_le cz 2048 && nat_le r 1023 && is_range y0 y1 8191 ≡ true → IsRound cx cz r y0 y1
+cylinder_limits cx cz r y0 y1 h = record {
+  cx_most = grind (arith, nat_tests);
+  cz_most = grind (arith, nat_tests);
+  r_most = grind (arith, nat_tests);
+  y = grind (arith, nat_tests);
+  y_most = grind (arith, nat_tests);
+}
+
+-- a line that names a lane or a worker
+below_told : (number count : ℕ) (made line : Line) → below_count number count made ≡ Ok line → (number < count) × (made ≡ line)
+below_told number count made line e = split (nat_lt number count) refl e
+  where
+    split : (b : Bool) → nat_lt number count ≡ b → cond b (Ok made) (Err kinds.Lane) ≡ Ok line → (number < count) × (made ≡ line)
+    split true is e = (ltb-true number count is, ok_is e)
+    split false is e = absurd cc
+
+below_right : (way : Way) (lanes workers adds : ℕ) (text : List ℕ) (number count : ℕ) (made : Line)
+    → text ≡ line_of made → (number < count → IsLine way lanes workers adds made) → IsRight way lanes workers adds text (below_count number count made)
+below_right way lanes workers adds text number count made spelled limits line e =
+    let told = below_told number count made line e in
+    subst (Fits way lanes workers adds text) told.1 (spelled, limits told.0)
+
+drop_told : (adds back : ℕ) (line : Line) → drop_line adds back ≡ Ok line → (1 ≤ back) × (back ≤ adds) × (Undo back ≡ line)
+drop_told adds back line e = split (eqb back 0) refl (nat_lt adds back) refl e
+  where
+    split : (none : Bool) → eqb back 0 ≡ none → (past : Bool) → nat_lt adds back ≡ past
+        → cond none (Err kinds.Range) (cond past (Err kinds.BeforeAdd) (Ok (Undo back))) ≡ Ok line → (1 ≤ back) × (back ≤ adds) × (Undo back ≡ line)
+    split true is past at e = absurd cc
+    split false is true at e = absurd cc
+    split false is false at e = (grind (arith, nat_tests), grind (arith, nat_tests), ok_is e)
+
+drop_right : (way : Way) (lanes workers adds : ℕ) (text : List ℕ) (back : ℕ)
+    → text ≡ line_of (Undo back) → IsRight way lanes workers adds text (drop_line adds back)
+drop_right way lanes workers adds text back spelled line e =
+    let told = drop_told adds back line e in
+    subst (Fits way lanes workers adds text) told.2 (spelled, (told.0, told.1))
+
+same_right : (way : Way) (lanes workers adds : ℕ) (text : List ℕ) (made : Line)
+    → text ≡ line_of made → IsLine way lanes workers adds made → IsRight way lanes workers adds text (Ok made)
+same_right way lanes workers adds text made spelled limits line e = subst (Fits way lanes workers adds text) (ok_is e) (spelled, limits)
+
+-- what a text gives at each form
+abbrev Gives : Way → (lanes workers adds : ℕ) → List ℕ → List ℕ → (List ℕ → LineRead) → List ℕ → Type 0
+Gives way lanes workers adds text word make n = AreNumbers n → text ≡ line_text word n → IsRight way lanes workers adds text (make n)
+
+pub question_right : (way : Way) (lanes workers adds : ℕ) (text : List ℕ)
+    → (read : LineRead) → question_line text ≡ Some read → IsRight way lanes workers adds text read
+unfolding question_line
+question_right way lanes workers adds text =
+    let Q : LineRead → Type 0 = IsRight way lanes workers adds text in
+    let R : List ℕ → (List ℕ → LineRead) → List ℕ → Type 0 = Gives way lanes workers adds text in
+    let right = limits_right way lanes workers adds text in
+    first_is Q (question_forms text) (
+      form_is Q (codes "floor") 2 floor_line text
+          (two (R (codes "floor") floor_line) (λ x z fit spelled. right _ _ spelled (floor_limits x z))),
+      (
+        form_is Q (codes "path") 6 path_line text
+            (six (R (codes "path") path_line) (λ x z y to_x to_z to_y fit spelled. right _ _ spelled (path_limits x z y to_x to_z to_y))),
+        (
+          form_is Q (codes "ray") 5 ray_line text
+              (five (R (codes "ray") ray_line) (λ x z y to_x to_z fit spelled. right _ _ spelled (ray_limits x z y to_x to_z))),
+          tt,
+        ),
+      ),
+    )
+
+pub request_right : (way : Way) (lanes workers adds : ℕ) (text : List ℕ) → (read : LineRead) → request_line adds text ≡ Some read → IsRight way lanes workers adds text read
+unfolding request_line
+request_right way lanes workers adds text =
+    let Q : LineRead → Type 0 = IsRight way lanes workers adds text in
+    let R : List ℕ → (List ℕ → LineRead) → List ℕ → Type 0 = Gives way lanes workers adds text in
+    let right = limits_right way lanes workers adds text in
+    let remove : List ℕ → LineRead = λ n. Ok (Remove (slice_index n 0)) in
+    let undo : List ℕ → LineRead = λ n. drop_line adds (slice_index n 0) in
+    first_is Q (request_forms adds text) (
+      form_is Q (codes "add block") 6 block_line text
+          (six (R (codes "add block") block_line) (λ x0 x1 y0 y1 z0 z1 fit spelled. right _ _ spelled (block_limits x0 x1 y0 y1 z0 z1))),
+      (
+        form_is Q (codes "add cylinder") 5 cylinder_line text
+            (five (R (codes "add cylinder") cylinder_line) (λ cx cz r y0 y1 fit spelled. right _ _ spelled (cylinder_limits cx cz r y0 y1))),
+        (
+          form_is Q (codes "remove") 1 remove text
+              (one (R (codes "remove") remove) (λ number fit spelled. same_right way lanes workers adds text (Remove number) spelled fit.0)),
+          (
+            form_is Q (codes "drop") 1 undo text
+                (one (R (codes "drop") undo) (λ back fit spelled. drop_right way lanes workers adds text back spelled)),
+            tt,
+          ),
+        ),
+      ),
+    )
+
+pub lane_right : (way : Way) (lanes workers adds : ℕ) (text : List ℕ)
+    → (read : LineRead) → lane_line lanes text ≡ Some read → IsRight way lanes workers adds text read
+unfolding lane_line
+lane_right way lanes workers adds text =
+    let Q : LineRead → Type 0 = IsRight way lanes workers adds text in
+    let R : List ℕ → (List ℕ → LineRead) → List ℕ → Type 0 = Gives way lanes workers adds text in
+    let settle : List ℕ → LineRead = λ n. Ok Settle in
+    let lane : List ℕ → LineRead = λ n. below_count (slice_index n 0) lanes (Lane (slice_index n 0)) in
+    first_is Q (lane_forms lanes text) (
+      form_is Q (codes "settle") 0 settle text
+          (λ n. no_more (R (codes "settle") settle) n (λ fit spelled. same_right way lanes workers adds text Settle spelled tt)),
+      (
+        form_is Q (codes "lane") 1 lane text
+            (one (R (codes "lane") lane) (λ number fit spelled. below_right way lanes workers adds text number lanes (Lane number) spelled (λ h. h))),
+        tt,
+      ),
+    )
+
+worker_right : (lanes workers adds : ℕ) (text : List ℕ)
+    → (read : LineRead) → worker_line workers text ≡ Some read → IsRight Play lanes workers adds text read
+unfolding worker_line
+worker_right lanes workers adds text =
+    let Q : LineRead → Type 0 = IsRight Play lanes workers adds text in
+    let R : List ℕ → (List ℕ → LineRead) → List ℕ → Type 0 = Gives Play lanes workers adds text in
+    let same = same_right Play lanes workers adds text in
+    let below = below_right Play lanes workers adds text in
+    let claim : List ℕ → LineRead = λ n. below_count (slice_index n 0) workers (Claim (slice_index n 0)) in
+    let submit : List ℕ → LineRead = λ n. below_count (slice_index n 0) workers (Submit (slice_index n 0)) in
+    let back : List ℕ → LineRead = λ n. below_count (slice_index n 0) workers (Back (slice_index n 0)) in
+    let aim : List ℕ → LineRead = λ n. Ok Aim in
+    let publish : List ℕ → LineRead = λ n. Ok Publish in
+    first_is Q (worker_forms workers text) (
+      form_is Q (codes "claim") 1 claim text (one (R (codes "claim") claim) (λ n fit spelled. below n workers (Claim n) spelled (λ h. (refl, h)))),
+      (
+        form_is Q (codes "submit") 1 submit text (one (R (codes "submit") submit) (λ n fit spelled. below n workers (Submit n) spelled (λ h. (refl, h)))),
+        (
+          form_is Q (codes "back") 1 back text (one (R (codes "back") back) (λ n fit spelled. below n workers (Back n) spelled (λ h. (refl, h)))),
+          (
+            form_is Q (codes "aim") 0 aim text (λ n. no_more (R (codes "aim") aim) n (λ fit spelled. same Aim spelled refl)),
+            (form_is Q (codes "publish") 0 publish text (λ n. no_more (R (codes "publish") publish) n (λ fit spelled. same Publish spelled refl)), tt),
+          ),
+        ),
+      ),
+    )
+
+pub played_right : (way : Way) (lanes workers adds : ℕ) (text : List ℕ)
+    → (read : LineRead) → played_line way workers text ≡ Some read → IsRight way lanes workers adds text read
+played_right Play lanes workers adds text read e = worker_right lanes workers adds text read e
+played_right Live lanes workers adds text read e = absurd cc
+
+known : (o : Option LineRead) (line : Line) → unwrap_or o (Err kinds.Line) ≡ Ok line → o ≡ Some (Ok line)
+known (Some read) line e = ap Some e
+known None line e = absurd cc
+
+-- What is read of a line is spelled so, and may stand there.
+pub line_right : (way : Way) (lanes workers adds : ℕ) (text : List ℕ) (line : Line)
+    → line_read way lanes workers adds text ≡ Ok line → (text ≡ line_of line) × IsLine way lanes workers adds line
+line_right way lanes workers adds text line e =
+    let Q : LineRead → Type 0 = IsRight way lanes workers adds text in
+    let forms = question_line text ∷ request_line adds text ∷ lane_line lanes text ∷ played_line way workers text ∷ [] in
+    first_is Q forms (
+      question_right way lanes workers adds text,
+      (
+        request_right way lanes workers adds text,
+        (
+          lane_right way lanes workers adds text,
+          (played_right way lanes workers adds text, tt),
+        ),
+      ),
+    )
+    (Ok line) (known (first_of_them forms) line e) line refl
+
+names_below : (way : Way) (lanes workers adds : ℕ) (line : Line) → IsLine way lanes workers adds line → NamesLaneBelow lanes line
+names_below way lanes workers adds (Lane lane) is = is
+names_below way lanes workers adds _ is = tt
+
+-- the lane that a line names, if it names one, is there
+pub right_names : (way : Way) (lanes workers adds : ℕ) (text : List ℕ) (read : LineRead) → IsRight way lanes workers adds text read
+    → IfOk read (NamesLaneBelow lanes)
+right_names way lanes workers adds text (Ok line) right = names_below way lanes workers adds line (right line refl).1
+right_names way lanes workers adds text (Err kind) right = tt

@@ -1,0 +1,261 @@
+-- The laws of spelled lines: each is read as the line that it spells.
+use Rattle.std.proofs.Common.{◌≡◌, ℕ, ◌^◌, ◌<◌, ◌≤◌, true, false, nat_lt, eqb, [], ◌∷◌, Some, Ok, Err, ℤ, pos, negsuc, ◌≤ℤ◌, nat_abs, codes, unwrap_or, refl, ap, ap₂, ◌∙◌, arith}
+use Rattle.std.proofs.lemmas.Bool.{and_from, le-leb, lt-ltb}
+use Rattle.std.proofs.lemmas.Bool.Decides.{nat_tests}
+use Rattle.std.proofs.lemmas.Int.{ints}
+use Rattle.nav_base.specs.declared.point.Point.{Point}
+use Rattle.nav_base.specs.declared.answers.Question.{Question}
+use Rattle.nav_base.specs.declared.answers.Question.TheVariants.{Floor, Path, Ray}
+use Rattle.nav_ground.specs.declared.shape.Shape.{Shape}
+use Rattle.nav_ground.specs.declared.shape.Shape.TheVariants.{Block, Cylinder, AreaBlock, AreaCylinder}
+use Rattle.nav_ground.specs.Limits.{IsBox, IsRound}
+use Rattle.nav_text.specs.declared.fault.FaultKind.TheVariants as kinds
+use Rattle.nav_text.specs.Lines.{is_line}
+use Rattle.nav_text.specs.Forms.{numbers_of, line_text, AreNumbers}
+use Rattle.nav_text.proofs.FormLaws.{fields_of_again, is_line-line_text}
+use Rattle.nav_script.specs.declared.line.Line.{Line}
+use Rattle.nav_script.specs.declared.line.Line.TheVariants.{Lane, Ask, Add, Remove, Undo, Settle, Aim, Claim, Back, Submit, Publish}
+use Rattle.nav_script.specs.declared.script.Way.{Way}
+use Rattle.nav_script.specs.declared.script.Way.TheVariants.{Play, Live}
+use Rattle.nav_script.specs.Spelling.{question_spelling, shape_spelling, line_of}
+use Rattle.nav_script.specs.Lanes.{is_request}
+use Rattle.nav_script.specs.Limits.{IsPlace, IsLine, IsQuestion, IsObstacle}
+use Rattle.nav_script.specs.Forms.{LineRead, is_place, is_standing, point_at, is_range, drop_line, question_line, request_line, lane_line, worker_line, line_read}
+use Rattle.nav_script.specs.Reading.{begins_request}
+
+-- a line begins with the word of a request exactly where it is one
+pub begins_spelled : (line : Line) → begins_request (line_of line) ≡ is_request line
+begins_spelled (Lane lane) = refl
+begins_spelled (Ask (Floor x z)) = refl
+begins_spelled (Ask (Path from from_y to to_y)) = refl
+begins_spelled (Ask (Ray from from_y to)) = refl
+begins_spelled (Add (Block x0 x1 y0 y1 z0 z1)) = refl
+begins_spelled (Add (Cylinder cx cz r y0 y1)) = refl
+begins_spelled (Add (AreaBlock area x0 x1 y0 y1 z0 z1)) = refl
+begins_spelled (Add (AreaCylinder area cx cz r y0 y1)) = refl
+begins_spelled (Remove number) = refl
+begins_spelled (Undo back) = refl
+begins_spelled Settle = refl
+begins_spelled Aim = refl
+begins_spelled (Claim worker) = refl
+begins_spelled (Back worker) = refl
+begins_spelled (Submit worker) = refl
+begins_spelled Publish = refl
+
+small : (n most : ℕ) → most < 4294967296 → n ≤ most → n < 2 ^ 32
+small n most fits le = omega arith
+
+floor_again : (way : Way) (lanes workers adds x z : ℕ) → x ≤ 1023 → z ≤ 1023
+    → line_read way lanes workers adds (line_of (Ask (Floor x z))) ≡ Ok (Ask (Floor x z))
+unfolding question_line numbers_of
+floor_again way lanes workers adds x z hx hz =
+    let fit : AreNumbers (x ∷ z ∷ []) = (omega arith, (omega arith, tt)) in
+    rw (fields_of_again (x ∷ z ∷ []) fit, le-leb x 1023 hx, le-leb z 1023 hz) refl
+
+remove_again : (way : Way) (lanes workers adds number : ℕ) → number < 2 ^ 32
+    → line_read way lanes workers adds (line_of (Remove number)) ≡ Ok (Remove number)
+unfolding question_line request_line numbers_of
+remove_again way lanes workers adds number fits = rw (fields_of_again (number ∷ []) (fits, tt)) refl
+
+settle_again : (way : Way) (lanes workers adds : ℕ) → line_read way lanes workers adds (line_of Settle) ≡ Ok Settle
+unfolding question_line request_line lane_line numbers_of
+settle_again way lanes workers adds = rw (fields_of_again [] tt) refl
+
+place_true : (x z : ℕ) → x ≤ 16384 → z ≤ 16384 → is_place x z ≡ true
+place_true x z hx hz = and_from _ _ (le-leb x 16384 hx) (le-leb z 16384 hz)
+
+standing_true : (x z y : ℕ) → x ≤ 16384 → z ≤ 16384 → y ≤ 8191 → is_standing x z y ≡ true
+standing_true x z y hx hz hy = and_from _ _ (place_true x z hx hz) (le-leb y 8191 hy)
+
+-- a number from 0 on is its size
+size_is : (n : ℤ) → pos 0 ≤ℤ n → pos (nat_abs n) ≡ n
+size_is (pos n) least = refl
+size_is (negsuc n) least = absurd (omega (arith, ints))
+
+size_most : (n : ℤ) (most : ℕ) → pos 0 ≤ℤ n → n ≤ℤ pos most → nat_abs n ≤ most
+size_most (pos n) most least h = omega (arith, ints)
+size_most (negsuc n) most least h = absurd (omega (arith, ints))
+
+-- the point that is spelled, and the limits of its numbers
+point_is : (point : Point) → IsPlace point → point_at (nat_abs point.x) (nat_abs point.z) ≡ point
+point_is point is = ap₂ (λ x z. let p : Point = record { x = x; z = z } in p) (size_is point.x is.x_least) (size_is point.z is.z_least)
+
+path_numbers : (way : Way) (lanes workers adds x z y to_x to_z to_y : ℕ)
+    → x ≤ 16384 → z ≤ 16384 → y ≤ 8191 → to_x ≤ 16384 → to_z ≤ 16384 → to_y ≤ 8191
+    → line_read way lanes workers adds (line_text (codes "path") (x ∷ z ∷ y ∷ to_x ∷ to_z ∷ to_y ∷ []))
+    ≡ Ok (Ask (Path (point_at x z) y (point_at to_x to_z) to_y))
+unfolding question_line numbers_of
+path_numbers way lanes workers adds x z y to_x to_z to_y hx hz hy htx htz hty =
+    let fit : AreNumbers (x ∷ z ∷ y ∷ to_x ∷ to_z ∷ to_y ∷ []) = (omega arith, (omega arith, (omega arith, (omega arith, (omega arith, (omega arith, tt)))))) in
+    rw (fields_of_again (x ∷ z ∷ y ∷ to_x ∷ to_z ∷ to_y ∷ []) fit, standing_true x z y hx hz hy, standing_true to_x to_z to_y htx htz hty) refl
+
+path_again : (way : Way) (lanes workers adds : ℕ) (from : Point) (from_y : ℕ) (to : Point) (to_y : ℕ) → IsQuestion (Path from from_y to to_y)
+    → line_read way lanes workers adds (line_of (Ask (Path from from_y to to_y))) ≡ Ok (Ask (Path from from_y to to_y))
+path_again way lanes workers adds from from_y to to_y is =
+    let f = is.0 in
+    let t = is.2 in
+    path_numbers way lanes workers adds (nat_abs from.x) (nat_abs from.z) from_y (nat_abs to.x) (nat_abs to.z) to_y
+    (size_most from.x 16384 f.x_least f.x_most) (size_most from.z 16384 f.z_least f.z_most) is.1
+    (size_most to.x 16384 t.x_least t.x_most) (size_most to.z 16384 t.z_least t.z_most) is.3
+    ∙ ap₂ (λ a b. let l : LineRead = Ok (Ask (Path a from_y b to_y)) in l) (point_is from f) (point_is to t)
+
+ray_numbers : (way : Way) (lanes workers adds x z y to_x to_z : ℕ)
+    → x ≤ 16384 → z ≤ 16384 → y ≤ 8191 → to_x ≤ 16384 → to_z ≤ 16384
+    → line_read way lanes workers adds (line_text (codes "ray") (x ∷ z ∷ y ∷ to_x ∷ to_z ∷ []))
+    ≡ Ok (Ask (Ray (point_at x z) y (point_at to_x to_z)))
+unfolding question_line numbers_of
+ray_numbers way lanes workers adds x z y to_x to_z hx hz hy htx htz =
+    let fit : AreNumbers (x ∷ z ∷ y ∷ to_x ∷ to_z ∷ []) = (omega arith, (omega arith, (omega arith, (omega arith, (omega arith, tt))))) in
+    rw (fields_of_again (x ∷ z ∷ y ∷ to_x ∷ to_z ∷ []) fit, standing_true x z y hx hz hy, place_true to_x to_z htx htz) refl
+
+ray_again : (way : Way) (lanes workers adds : ℕ) (from : Point) (from_y : ℕ) (to : Point) → IsQuestion (Ray from from_y to)
+    → line_read way lanes workers adds (line_of (Ask (Ray from from_y to))) ≡ Ok (Ask (Ray from from_y to))
+ray_again way lanes workers adds from from_y to is =
+    let f = is.0 in
+    let t = is.2 in
+    ray_numbers way lanes workers adds (nat_abs from.x) (nat_abs from.z) from_y (nat_abs to.x) (nat_abs to.z)
+    (size_most from.x 16384 f.x_least f.x_most) (size_most from.z 16384 f.z_least f.z_most) is.1
+    (size_most to.x 16384 t.x_least t.x_most) (size_most to.z 16384 t.z_least t.z_most)
+    ∙ ap₂ (λ a b. let l : LineRead = Ok (Ask (Ray a from_y b)) in l) (point_is from f) (point_is to t)
+
+range_true : (low high most : ℕ) → low ≤ high → high ≤ most → is_range low high most ≡ true
+range_true low high most order end = and_from _ _ (le-leb low high order) (le-leb high most end)
+
+block_again : (way : Way) (lanes workers adds x0 x1 y0 y1 z0 z1 : ℕ) → IsBox x0 x1 y0 y1 z0 z1
+    → line_read way lanes workers adds (line_of (Add (Block x0 x1 y0 y1 z0 z1))) ≡ Ok (Add (Block x0 x1 y0 y1 z0 z1))
+unfolding question_line request_line numbers_of
+block_again way lanes workers adds x0 x1 y0 y1 z0 z1 box =
+    let fit : AreNumbers (x0 ∷ x1 ∷ y0 ∷ y1 ∷ z0 ∷ z1 ∷ []) = (omega arith, (omega arith, (omega arith, (omega arith, (omega arith, (omega arith, tt)))))) in
+    rw (
+      fields_of_again (x0 ∷ x1 ∷ y0 ∷ y1 ∷ z0 ∷ z1 ∷ []) fit,
+      range_true x0 x1 1023 box.x box.x_most,
+      range_true y0 y1 8191 box.y box.y_most,
+      range_true z0 z1 1023 box.z box.z_most,
+    ) refl
+
+cylinder_again : (way : Way) (lanes workers adds cx cz r y0 y1 : ℕ) → IsRound cx cz r y0 y1
+    → line_read way lanes workers adds (line_of (Add (Cylinder cx cz r y0 y1))) ≡ Ok (Add (Cylinder cx cz r y0 y1))
+unfolding question_line request_line numbers_of
+cylinder_again way lanes workers adds cx cz r y0 y1 round =
+    let fit : AreNumbers (cx ∷ cz ∷ r ∷ y0 ∷ y1 ∷ []) = (omega arith, (omega arith, (omega arith, (omega arith, (omega arith, tt))))) in
+    rw (
+      fields_of_again (cx ∷ cz ∷ r ∷ y0 ∷ y1 ∷ []) fit,
+      le-leb cx 2048 round.cx_most,
+      le-leb cz 2048 round.cz_most,
+      le-leb r 1023 round.r_most,
+      range_true y0 y1 8191 round.y round.y_most,
+    ) refl
+
+drop_true : (adds back : ℕ) → 1 ≤ back → back ≤ adds → drop_line adds back ≡ Ok (Undo back)
+drop_true adds back least most =
+    let some : eqb back 0 ≡ false = grind (arith, nat_tests) in
+    let there : nat_lt adds back ≡ false = grind (arith, nat_tests) in
+    rw (some, there) refl
+
+undo_again : (way : Way) (lanes workers adds back : ℕ) → 1 ≤ back → back ≤ adds → adds < 2 ^ 32
+    → line_read way lanes workers adds (line_of (Undo back)) ≡ Ok (Undo back)
+unfolding question_line request_line numbers_of
+undo_again way lanes workers adds back least most few =
+    rw (fields_of_again (back ∷ []) (omega arith, tt)) (ap (λ r. unwrap_or (Some r) (Err kinds.Line)) (drop_true adds back least most))
+
+lane_again : (way : Way) (lanes workers adds lane : ℕ) → lanes ≤ 16 → lane < lanes
+    → line_read way lanes workers adds (line_of (Lane lane)) ≡ Ok (Lane lane)
+unfolding question_line request_line lane_line numbers_of
+lane_again way lanes workers adds lane few below = rw (fields_of_again (lane ∷ []) (omega arith, tt), lt-ltb lane lanes below) refl
+
+claim_again : (lanes workers adds worker : ℕ) → workers ≤ 8 → worker < workers
+    → line_read Play lanes workers adds (line_of (Claim worker)) ≡ Ok (Claim worker)
+unfolding question_line request_line lane_line worker_line numbers_of
+claim_again lanes workers adds worker few below = rw (fields_of_again (worker ∷ []) (omega arith, tt), lt-ltb worker workers below) refl
+
+back_again : (lanes workers adds worker : ℕ) → workers ≤ 8 → worker < workers
+    → line_read Play lanes workers adds (line_of (Back worker)) ≡ Ok (Back worker)
+unfolding question_line request_line lane_line worker_line numbers_of
+back_again lanes workers adds worker few below = rw (fields_of_again (worker ∷ []) (omega arith, tt), lt-ltb worker workers below) refl
+
+submit_again : (lanes workers adds worker : ℕ) → workers ≤ 8 → worker < workers
+    → line_read Play lanes workers adds (line_of (Submit worker)) ≡ Ok (Submit worker)
+unfolding question_line request_line lane_line worker_line numbers_of
+submit_again lanes workers adds worker few below = rw (fields_of_again (worker ∷ []) (omega arith, tt), lt-ltb worker workers below) refl
+
+aim_again : (lanes workers adds : ℕ) → line_read Play lanes workers adds (line_of Aim) ≡ Ok Aim
+unfolding question_line request_line lane_line worker_line numbers_of
+aim_again lanes workers adds = rw (fields_of_again [] tt) refl
+
+publish_again : (lanes workers adds : ℕ) → line_read Play lanes workers adds (line_of Publish) ≡ Ok Publish
+unfolding question_line request_line lane_line worker_line numbers_of
+publish_again lanes workers adds = rw (fields_of_again [] tt) refl
+
+-- A line that may stand there, spelled, is read as that line.
+pub line_again : (way : Way) (lanes workers adds : ℕ) (line : Line) → lanes ≤ 16 → workers ≤ 8 → adds < 2 ^ 32 → IsLine way lanes workers adds line
+    → line_read way lanes workers adds (line_of line) ≡ Ok line
+line_again way lanes workers adds (Lane lane) few crew counted is = lane_again way lanes workers adds lane few is
+line_again way lanes workers adds (Ask (Floor x z)) few crew counted is = floor_again way lanes workers adds x z is.0 is.1
+line_again way lanes workers adds (Ask (Path from from_y to to_y)) few crew counted is = path_again way lanes workers adds from from_y to to_y is
+line_again way lanes workers adds (Ask (Ray from from_y to)) few crew counted is = ray_again way lanes workers adds from from_y to is
+line_again way lanes workers adds (Add (Block x0 x1 y0 y1 z0 z1)) few crew counted is = block_again way lanes workers adds x0 x1 y0 y1 z0 z1 is
+line_again way lanes workers adds (Add (Cylinder cx cz r y0 y1)) few crew counted is = cylinder_again way lanes workers adds cx cz r y0 y1 is
+line_again way lanes workers adds (Add (AreaBlock area x0 x1 y0 y1 z0 z1)) few crew counted is = absurd is
+line_again way lanes workers adds (Add (AreaCylinder area cx cz r y0 y1)) few crew counted is = absurd is
+line_again way lanes workers adds (Remove number) few crew counted is = remove_again way lanes workers adds number is
+line_again way lanes workers adds (Undo back) few crew counted is = undo_again way lanes workers adds back is.0 is.1 counted
+line_again way lanes workers adds Settle few crew counted is = settle_again way lanes workers adds
+line_again Play lanes workers adds Aim few crew counted is = aim_again lanes workers adds
+line_again Live lanes workers adds Aim few crew counted is = absurd cc
+line_again Play lanes workers adds (Claim worker) few crew counted is = claim_again lanes workers adds worker crew is.1
+line_again Live lanes workers adds (Claim worker) few crew counted is = let no : Live ≡ Play = is.0 in absurd cc
+line_again Play lanes workers adds (Back worker) few crew counted is = back_again lanes workers adds worker crew is.1
+line_again Live lanes workers adds (Back worker) few crew counted is = let no : Live ≡ Play = is.0 in absurd cc
+line_again Play lanes workers adds (Submit worker) few crew counted is = submit_again lanes workers adds worker crew is.1
+line_again Live lanes workers adds (Submit worker) few crew counted is = let no : Live ≡ Play = is.0 in absurd cc
+line_again Play lanes workers adds Publish few crew counted is = publish_again lanes workers adds
+line_again Live lanes workers adds Publish few crew counted is = absurd cc
+
+plain_question : (question : Question) → IsQuestion question → is_line (question_spelling question) ≡ true
+plain_question (Floor x z) is = is_line-line_text (codes "floor") (x ∷ z ∷ []) refl (omega arith, (omega arith, tt))
+plain_question (Path from from_y to to_y) is =
+    let f = is.0 in
+    let t = is.2 in
+    let x = size_most from.x 16384 f.x_least f.x_most in
+    let z = size_most from.z 16384 f.z_least f.z_most in
+    let to_x = size_most to.x 16384 t.x_least t.x_most in
+    let to_z = size_most to.z 16384 t.z_least t.z_most in
+    let y : from_y ≤ 8191 = is.1 in
+    let to_height : to_y ≤ 8191 = is.3 in
+    is_line-line_text (codes "path") (nat_abs from.x ∷ nat_abs from.z ∷ from_y ∷ nat_abs to.x ∷ nat_abs to.z ∷ to_y ∷ []) refl
+    (omega arith, (omega arith, (omega arith, (omega arith, (omega arith, (omega arith, tt))))))
+plain_question (Ray from from_y to) is =
+    let f = is.0 in
+    let t = is.2 in
+    let x = size_most from.x 16384 f.x_least f.x_most in
+    let z = size_most from.z 16384 f.z_least f.z_most in
+    let to_x = size_most to.x 16384 t.x_least t.x_most in
+    let to_z = size_most to.z 16384 t.z_least t.z_most in
+    let y : from_y ≤ 8191 = is.1 in
+    is_line-line_text (codes "ray") (nat_abs from.x ∷ nat_abs from.z ∷ from_y ∷ nat_abs to.x ∷ nat_abs to.z ∷ []) refl
+    (omega arith, (omega arith, (omega arith, (omega arith, (omega arith, tt)))))
+
+plain_shape : (shape : Shape) → IsObstacle shape → is_line (shape_spelling shape) ≡ true
+plain_shape (Block x0 x1 y0 y1 z0 z1) box =
+    is_line-line_text (codes "add block") (x0 ∷ x1 ∷ y0 ∷ y1 ∷ z0 ∷ z1 ∷ []) refl
+    (omega arith, (omega arith, (omega arith, (omega arith, (omega arith, (omega arith, tt))))))
+plain_shape (Cylinder cx cz r y0 y1) round =
+    is_line-line_text (codes "add cylinder") (cx ∷ cz ∷ r ∷ y0 ∷ y1 ∷ []) refl
+    (omega arith, (omega arith, (omega arith, (omega arith, (omega arith, tt)))))
+plain_shape (AreaBlock area x0 x1 y0 y1 z0 z1) is = absurd is
+plain_shape (AreaCylinder area cx cz r y0 y1) is = absurd is
+
+-- a line that may stand there, spelled, has no line feed in it
+pub line_plain : (way : Way) (lanes workers adds : ℕ) (line : Line) → lanes ≤ 16 → workers ≤ 8 → adds < 2 ^ 32 → IsLine way lanes workers adds line
+    → is_line (line_of line) ≡ true
+line_plain way lanes workers adds (Lane lane) few crew counted is = is_line-line_text (codes "lane") (lane ∷ []) refl (omega arith, tt)
+line_plain way lanes workers adds (Ask question) few crew counted is = plain_question question is
+line_plain way lanes workers adds (Add shape) few crew counted is = plain_shape shape is
+line_plain way lanes workers adds (Remove number) few crew counted is = is_line-line_text (codes "remove") (number ∷ []) refl (is, tt)
+line_plain way lanes workers adds (Undo back) few crew counted is = is_line-line_text (codes "drop") (back ∷ []) refl (omega arith, tt)
+line_plain way lanes workers adds Settle few crew counted is = refl
+line_plain way lanes workers adds Aim few crew counted is = refl
+line_plain way lanes workers adds (Claim worker) few crew counted is = is_line-line_text (codes "claim") (worker ∷ []) refl (omega arith, tt)
+line_plain way lanes workers adds (Back worker) few crew counted is = is_line-line_text (codes "back") (worker ∷ []) refl (omega arith, tt)
+line_plain way lanes workers adds (Submit worker) few crew counted is = is_line-line_text (codes "submit") (worker ∷ []) refl (omega arith, tt)
+line_plain way lanes workers adds Publish few crew counted is = refl

@@ -1,0 +1,137 @@
+-- What a line of a script says, or what is wrong with it, its form first, then its numbers.
+use Rattle.std.specs.Prelude.{ℕ, Bool, nat_lt, nat_le, ◌==◌, ◌&&◌, if◌then◌else◌, List, [], ◌∷◌, slice_index, codes, pos, Option, Some, None, Result, Ok, Err, unwrap_or}
+use Rattle.std.specs.Option.{option_map}
+use Rattle.nav_base.specs.declared.point.Point.{Point}
+use Rattle.nav_base.specs.declared.answers.Question.TheVariants.{Floor, Path, Ray}
+use Rattle.nav_ground.specs.declared.shape.Shape.TheVariants.{Block, Cylinder}
+use Rattle.nav_text.specs.declared.fault.FaultKind.{FaultKind}
+use Rattle.nav_text.specs.declared.fault.FaultKind.TheVariants as kinds
+use Rattle.nav_text.specs.Forms.{numbers_of}
+use Rattle.nav_script.specs.declared.line.Line.{Line}
+use Rattle.nav_script.specs.declared.line.Line.TheVariants.{Lane, Ask, Add, Remove, Undo, Settle, Aim, Claim, Back, Submit, Publish}
+use Rattle.nav_script.specs.declared.script.Way.{Way}
+use Rattle.nav_script.specs.declared.script.Way.TheVariants.{Play, Live}
+
+-- what is read of a line: the line, or the kind of its fault
+abbrev pub LineRead : Type 0
+LineRead = Result Line FaultKind
+
+-- a line whose numbers have to be in their limits
+abbrev pub in_limits : Bool → Line → LineRead
+in_limits fits line = if fits then Ok line else Err kinds.Range
+
+-- a line that names a lane or a worker, which has to be below their count
+abbrev pub below_count : ℕ → ℕ → Line → LineRead
+below_count number count line = if nat_lt number count then Ok line else Err kinds.Lane
+
+abbrev pub floor_line : List ℕ → LineRead
+floor_line n = in_limits (nat_le (slice_index n 0) 1023 && nat_le (slice_index n 1) 1023) (Ask (Floor (slice_index n 0) (slice_index n 1)))
+
+-- the limits of a point of a question, in sixteenths, and of its height
+abbrev pub is_place : ℕ → ℕ → Bool
+is_place x z = nat_le x 16384 && nat_le z 16384
+
+abbrev pub is_standing : ℕ → ℕ → ℕ → Bool
+is_standing x z y = is_place x z && nat_le y 8191
+
+abbrev pub point_at : ℕ → ℕ → Point
+point_at x z = record { x = pos x; z = pos z }
+
+abbrev pub path_line : List ℕ → LineRead
+path_line n =
+    in_limits
+    (is_standing (slice_index n 0) (slice_index n 1) (slice_index n 2) && is_standing (slice_index n 3) (slice_index n 4) (slice_index n 5))
+    (Ask (Path (point_at (slice_index n 0) (slice_index n 1)) (slice_index n 2) (point_at (slice_index n 3) (slice_index n 4)) (slice_index n 5)))
+
+abbrev pub ray_line : List ℕ → LineRead
+ray_line n =
+    in_limits
+    (is_standing (slice_index n 0) (slice_index n 1) (slice_index n 2) && is_place (slice_index n 3) (slice_index n 4))
+    (Ask (Ray (point_at (slice_index n 0) (slice_index n 1)) (slice_index n 2) (point_at (slice_index n 3) (slice_index n 4))))
+
+-- a range does not run backwards, and ends at most there
+abbrev pub is_range : ℕ → ℕ → ℕ → Bool
+is_range low high most = nat_le low high && nat_le high most
+
+abbrev pub block_line : List ℕ → LineRead
+block_line n =
+    in_limits
+    (is_range (slice_index n 0) (slice_index n 1) 1023 && is_range (slice_index n 2) (slice_index n 3) 8191 && is_range (slice_index n 4) (slice_index n 5) 1023)
+    (Add (Block (slice_index n 0) (slice_index n 1) (slice_index n 2) (slice_index n 3) (slice_index n 4) (slice_index n 5)))
+
+abbrev pub cylinder_line : List ℕ → LineRead
+cylinder_line n =
+    in_limits
+    (nat_le (slice_index n 0) 2048 && nat_le (slice_index n 1) 2048 && nat_le (slice_index n 2) 1023 && is_range (slice_index n 3) (slice_index n 4) 8191)
+    (Add (Cylinder (slice_index n 0) (slice_index n 1) (slice_index n 2) (slice_index n 3) (slice_index n 4)))
+
+-- a `drop` where so many adds of its lane stand before it
+abbrev pub drop_line : ℕ → ℕ → LineRead
+drop_line adds back =
+    if back == 0 then Err kinds.Range else (if nat_lt adds back then Err kinds.BeforeAdd else Ok (Undo back))
+
+-- what a line says that is this word and so many numbers
+abbrev pub form : List ℕ → ℕ → (List ℕ → LineRead) → List ℕ → Option LineRead
+form word count make line = option_map make (numbers_of word count line)
+
+-- the first of these that there is
+abbrev pub first_of_them : List (Option LineRead) → Option LineRead
+first_of_them [] = None
+first_of_them (Some x ∷ more) = Some x
+first_of_them (None ∷ more) = first_of_them more
+
+-- the forms of a question
+abbrev pub question_forms : List ℕ → List (Option LineRead)
+question_forms line =
+    form (codes "floor") 2 floor_line line
+    ∷ form (codes "path") 6 path_line line
+    ∷ form (codes "ray") 5 ray_line line
+    ∷ []
+
+unfoldable pub question_line : List ℕ → Option LineRead
+question_line line = first_of_them (question_forms line)
+
+-- the forms of a line that asks for a change of the obstacles, where so many adds of its lane stand before it
+abbrev pub request_forms : ℕ → List ℕ → List (Option LineRead)
+request_forms adds line =
+    form (codes "add block") 6 block_line line
+    ∷ form (codes "add cylinder") 5 cylinder_line line
+    ∷ form (codes "remove") 1 (λ n. Ok (Remove (slice_index n 0))) line
+    ∷ form (codes "drop") 1 (λ n. drop_line adds (slice_index n 0)) line
+    ∷ []
+
+unfoldable pub request_line : ℕ → List ℕ → Option LineRead
+request_line adds line = first_of_them (request_forms adds line)
+
+-- `settle`, and the lane of the lines that follow, where there are so many lanes
+abbrev pub lane_forms : ℕ → List ℕ → List (Option LineRead)
+lane_forms lanes line =
+    form (codes "settle") 0 (λ n. Ok Settle) line
+    ∷ form (codes "lane") 1 (λ n. below_count (slice_index n 0) lanes (Lane (slice_index n 0))) line
+    ∷ []
+
+unfoldable pub lane_line : ℕ → List ℕ → Option LineRead
+lane_line lanes line = first_of_them (lane_forms lanes line)
+
+-- the forms of a line that leads workers, of which there are so many
+abbrev pub worker_forms : ℕ → List ℕ → List (Option LineRead)
+worker_forms workers line =
+    form (codes "claim") 1 (λ n. below_count (slice_index n 0) workers (Claim (slice_index n 0))) line
+    ∷ form (codes "submit") 1 (λ n. below_count (slice_index n 0) workers (Submit (slice_index n 0))) line
+    ∷ form (codes "back") 1 (λ n. below_count (slice_index n 0) workers (Back (slice_index n 0))) line
+    ∷ form (codes "aim") 0 (λ n. Ok Aim) line
+    ∷ form (codes "publish") 0 (λ n. Ok Publish) line
+    ∷ []
+
+unfoldable pub worker_line : ℕ → List ℕ → Option LineRead
+worker_line workers line = first_of_them (worker_forms workers line)
+
+-- such a line is of no form where the script runs live
+abbrev pub played_line : Way → ℕ → List ℕ → Option LineRead
+played_line Play workers line = worker_line workers line
+played_line Live workers line = None
+
+-- what a line of a script says; of no form, it is wrong as a line
+abbrev pub line_read : Way → (lanes workers adds : ℕ) → List ℕ → LineRead
+line_read way lanes workers adds line =
+    unwrap_or (first_of_them (question_line line ∷ request_line adds line ∷ lane_line lanes line ∷ played_line way workers line ∷ [])) (Err kinds.Line)

@@ -1,0 +1,51 @@
+-- The lanes of a script: which lane a line belongs to, and how many requests and adds stand before it.
+use Rattle.std.specs.Prelude.{◌≡◌, ℕ, ◌+◌, ◌<◌, Bool, true, false, ◌==◌, ◌&&◌, if◌then◌else◌, List, [], ◌∷◌, length, get_or, fold, count_by, ⊤}
+use Rattle.nav_script.specs.declared.line.Line.{Line}
+use Rattle.nav_script.specs.declared.line.Line.TheVariants.{Lane, Add, Remove, Undo}
+
+-- the lane of the line after a line
+abbrev pub next_lane : ℕ → Line → ℕ
+next_lane lane (Lane other) = other
+next_lane lane _ = lane
+
+-- the lane of the line after these: that of the last `lane` line, or 0
+abbrev pub lane_after : List Line → ℕ
+lane_after lines = fold next_lane 0 lines
+
+abbrev pub is_add : Line → Bool
+is_add (Add shape) = true
+is_add _ = false
+
+-- a line that asks for a change of the obstacles
+abbrev pub is_request : Line → Bool
+is_request (Add shape) = true
+is_request (Remove number) = true
+is_request (Undo back) = true
+is_request _ = false
+
+-- how many adds of a lane are among these lines, the first of which belongs to the lane `current`
+abbrev pub adds_from : (lane current : ℕ) → List Line → ℕ
+adds_from lane current [] = 0
+adds_from lane current (line ∷ more) =
+    (if is_add line && current == lane then 1 else 0) + adds_from lane (next_lane current line) more
+
+-- how many adds of a lane are among the lines of a script
+abbrev pub adds_in : ℕ → List Line → ℕ
+adds_in lane lines = adds_from lane 0 lines
+
+-- how many adds of the lane of the line after these are among them
+abbrev pub adds_before : List Line → ℕ
+adds_before lines = adds_in (lane_after lines) lines
+
+-- a line that names a lane names one below a count
+abbrev pub NamesLaneBelow : ℕ → Line → Type 0
+NamesLaneBelow count (Lane lane) = lane < count
+NamesLaneBelow count _ = ⊤
+
+-- the lane of the next line, the adds of each of 16 lanes and the number of requests are those of these lines
+pub record IsCounted (lines : List Line) (lane : ℕ) (adds : List ℕ) (requests : ℕ) : Type 0 where
+  pub here : lane ≡ lane_after lines
+  pub below : lane < 16
+  pub places : length adds ≡ 16
+  pub each : (k : ℕ) → k < 16 → get_or adds k 0 ≡ adds_in k lines
+  pub asked : requests ≡ count_by is_request lines

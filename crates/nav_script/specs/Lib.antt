@@ -1,0 +1,5 @@
+pub mod Spelling
+pub mod Lanes
+pub mod Limits
+pub mod Forms
+pub mod Reading

@@ -1,0 +1,245 @@
+//! The forms of a script's lines.
+ghost use Rattle.std.specs.Prelude.{◌≡◌, IfOk};
+ghost use Rattle.nav_script.specs.Lanes.{NamesLaneBelow};
+ghost use Rattle.nav_script.specs.Forms.{line_read};
+
+use crate::header::Header;
+use crate::line::Line;
+use crate::script::Way;
+use nav_base::{Point, Question};
+use nav_ground::Shape;
+use nav_text::{FaultKind, numbers_of};
+
+/// The greatest number of a column.
+const LAST_COLUMN: u32 = 1023;
+/// The greatest height of a shape or a question.
+const HIGHEST: u32 = 8191;
+/// The greatest x or z of a question's point, in sixteenths of a cell.
+const LAST_SIXTEENTH: u32 = 16384;
+
+/// The greatest x or z of a cylinder's centre, in half cells.
+const LAST_CENTRE: u32 = 2048;
+/// The greatest radius of a cylinder, in cells.
+const LARGEST_RADIUS: u32 = 1023;
+
+fn in_limits(fits: bool, line: Line) -> Result<Line, FaultKind>
+    ensures { result ≡ Rattle.nav_script.specs.Forms.in_limits fits line }
+{
+    if fits {
+        Ok(line)
+    } else {
+        Err(FaultKind::Range)
+    }
+}
+
+fn below_count(number: u32, count: u32, line: Line) -> Result<Line, FaultKind>
+    ensures { result ≡ Rattle.nav_script.specs.Forms.below_count number count line }
+{
+    if number < count {
+        Ok(line)
+    } else {
+        Err(FaultKind::Lane)
+    }
+}
+
+fn is_place(x: u32, z: u32) -> bool
+    ensures { result ≡ Rattle.nav_script.specs.Forms.is_place x z }
+{
+    x <= LAST_SIXTEENTH && z <= LAST_SIXTEENTH
+}
+
+fn is_standing(x: u32, z: u32, y: u32) -> bool
+    ensures { result ≡ Rattle.nav_script.specs.Forms.is_standing x z y }
+{
+    is_place(x, z) && y <= HIGHEST
+}
+
+fn is_range(low: u32, high: u32, most: u32) -> bool
+    ensures { result ≡ Rattle.nav_script.specs.Forms.is_range low high most }
+{
+    low <= high && high <= most
+}
+
+fn floor_line(n: [u32; 2]) -> Result<Line, FaultKind>
+    ensures { result ≡ Rattle.nav_script.specs.Forms.floor_line n }
+{
+    let [x, z] = n;
+    in_limits(
+        x <= LAST_COLUMN && z <= LAST_COLUMN,
+        Line::Ask(Question::Floor { x, z }),
+    )
+}
+
+fn path_line(n: [u32; 6]) -> Result<Line, FaultKind>
+    ensures { result ≡ Rattle.nav_script.specs.Forms.path_line n }
+{
+    let [x, z, from_y, to_x, to_z, to_y] = n;
+    if !(is_standing(x, z, from_y) && is_standing(to_x, to_z, to_y)) {
+        return Err(FaultKind::Range);
+    }
+    Ok(Line::Ask(Question::Path {
+        from: Point {
+            x: x as i32,
+            z: z as i32,
+        },
+        from_y,
+        to: Point {
+            x: to_x as i32,
+            z: to_z as i32,
+        },
+        to_y,
+    }))
+}
+
+fn ray_line(n: [u32; 5]) -> Result<Line, FaultKind>
+    ensures { result ≡ Rattle.nav_script.specs.Forms.ray_line n }
+{
+    let [x, z, from_y, to_x, to_z] = n;
+    if !(is_standing(x, z, from_y) && is_place(to_x, to_z)) {
+        return Err(FaultKind::Range);
+    }
+    Ok(Line::Ask(Question::Ray {
+        from: Point {
+            x: x as i32,
+            z: z as i32,
+        },
+        from_y,
+        to: Point {
+            x: to_x as i32,
+            z: to_z as i32,
+        },
+    }))
+}
+
+fn block_line(n: [u32; 6]) -> Result<Line, FaultKind>
+    ensures { result ≡ Rattle.nav_script.specs.Forms.block_line n }
+{
+    let [x0, x1, y0, y1, z0, z1] = n;
+    in_limits(
+        is_range(x0, x1, LAST_COLUMN) && is_range(y0, y1, HIGHEST) && is_range(z0, z1, LAST_COLUMN),
+        Line::Add(Shape::Block {
+            x0,
+            x1,
+            y0,
+            y1,
+            z0,
+            z1,
+        }),
+    )
+}
+
+fn cylinder_line(n: [u32; 5]) -> Result<Line, FaultKind>
+    ensures { result ≡ Rattle.nav_script.specs.Forms.cylinder_line n }
+{
+    let [cx, cz, r, y0, y1] = n;
+    in_limits(
+        cx <= LAST_CENTRE && cz <= LAST_CENTRE && r <= LARGEST_RADIUS && is_range(y0, y1, HIGHEST),
+        Line::Add(Shape::Cylinder { cx, cz, r, y0, y1 }),
+    )
+}
+
+fn drop_line(adds: u32, back: u32) -> Result<Line, FaultKind>
+    ensures { result ≡ Rattle.nav_script.specs.Forms.drop_line adds back }
+{
+    if back == 0 {
+        return Err(FaultKind::Range);
+    }
+    if back > adds {
+        return Err(FaultKind::BeforeAdd);
+    }
+    Ok(Line::Undo(back))
+}
+
+#[tactic(auto, unfolding(crate::specs::Forms::question_line))]
+fn question_line(line: &[u8]) -> Option<Result<Line, FaultKind>>
+    ensures { result ≡ Rattle.nav_script.specs.Forms.question_line line.now }
+{
+    if let Some(n) = numbers_of::<2>(b"floor", line) {
+        return Some(floor_line(n));
+    }
+    if let Some(n) = numbers_of::<6>(b"path", line) {
+        return Some(path_line(n));
+    }
+    let n = numbers_of::<5>(b"ray", line)?;
+    Some(ray_line(n))
+}
+
+#[tactic(auto, unfolding(crate::specs::Forms::request_line))]
+fn request_line(adds: u32, line: &[u8]) -> Option<Result<Line, FaultKind>>
+    ensures { result ≡ Rattle.nav_script.specs.Forms.request_line adds line.now }
+{
+    if let Some(n) = numbers_of::<6>(b"add block", line) {
+        return Some(block_line(n));
+    }
+    if let Some(n) = numbers_of::<5>(b"add cylinder", line) {
+        return Some(cylinder_line(n));
+    }
+    if let Some(n) = numbers_of::<1>(b"remove", line) {
+        return Some(Ok(Line::Remove(n[0])));
+    }
+    let n = numbers_of::<1>(b"drop", line)?;
+    Some(drop_line(adds, n[0]))
+}
+
+#[tactic(auto, unfolding(crate::specs::Forms::lane_line))]
+fn lane_line(lanes: u32, line: &[u8]) -> Option<Result<Line, FaultKind>>
+    ensures { result ≡ Rattle.nav_script.specs.Forms.lane_line lanes line.now }
+{
+    if numbers_of::<0>(b"settle", line).is_some() {
+        return Some(Ok(Line::Settle));
+    }
+    let n = numbers_of::<1>(b"lane", line)?;
+    Some(below_count(n[0], lanes, Line::Lane(n[0])))
+}
+
+#[tactic(auto, unfolding(crate::specs::Forms::worker_line))]
+fn worker_line(workers: u32, line: &[u8]) -> Option<Result<Line, FaultKind>>
+    ensures { result ≡ Rattle.nav_script.specs.Forms.worker_line workers line.now }
+{
+    if let Some(n) = numbers_of::<1>(b"claim", line) {
+        return Some(below_count(n[0], workers, Line::Claim(n[0])));
+    }
+    if let Some(n) = numbers_of::<1>(b"submit", line) {
+        return Some(below_count(n[0], workers, Line::Submit(n[0])));
+    }
+    if let Some(n) = numbers_of::<1>(b"back", line) {
+        return Some(below_count(n[0], workers, Line::Back(n[0])));
+    }
+    if numbers_of::<0>(b"aim", line).is_some() {
+        return Some(Ok(Line::Aim));
+    }
+    if numbers_of::<0>(b"publish", line).is_some() {
+        return Some(Ok(Line::Publish));
+    }
+    None
+}
+
+fn played_line(way: Way, workers: u32, line: &[u8]) -> Option<Result<Line, FaultKind>>
+    ensures { result ≡ Rattle.nav_script.specs.Forms.played_line way workers line.now }
+{
+    match way {
+        Way::Play => worker_line(workers, line),
+        Way::Live => None,
+    }
+}
+
+/// What a line of a script with so many lanes and workers says, where so many `add` lines of its lane stand before it;
+/// else what is wrong with it.
+pub fn read_line(way: Way, header: Header, adds: u32, line: &[u8]) -> Result<Line, FaultKind>
+    ensures value { result ≡ line_read way header.lanes header.workers adds line.now }
+    ensures lane { IfOk result (NamesLaneBelow header.lanes) }
+{
+    if let Some(read) = question_line(line) {
+        return read;
+    }
+    if let Some(read) = request_line(adds, line) {
+        return read;
+    }
+    if let Some(read) = lane_line(header.lanes, line) {
+        return read;
+    }
+    if let Some(read) = played_line(way, header.workers, line) {
+        return read;
+    }
+    Err(FaultKind::Line)
+}

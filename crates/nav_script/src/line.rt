@@ -1,0 +1,31 @@
+//! The lines of a script.
+
+use nav_base::Question;
+use nav_ground::Shape;
+
+/// A line of a script. Its lane is the one that the last `Lane` line before it names, and 0 where there is none.
+#[derive(Clone, Copy, PartialEq, Eq, Debug)]
+pub enum Line {
+    /// The lines that follow belong to the lane with this number, from 0.
+    Lane(u32),
+    /// A question of the mesh. Points are in sixteenths of a cell and not negative.
+    Ask(Question),
+    /// A new obstacle: a block or a cylinder.
+    Add(Shape),
+    /// The obstacle with this number goes.
+    Remove(u32),
+    /// The obstacle of one of this lane's `Add` lines before goes. They are counted from 1; the text calls this line `drop`.
+    Undo(u32),
+    /// Everything that was asked for is built and published.
+    Settle,
+    /// The next version is to hold all that was asked for so far.
+    Aim,
+    /// The worker with this number, from 0, takes a tile to build.
+    Claim(u32),
+    /// The worker with this number gives its tile back.
+    Back(u32),
+    /// The worker with this number hands in the tile that it built.
+    Submit(u32),
+    /// The version that was aimed at is published.
+    Publish,
+}

@@ -1,0 +1,7 @@
+use Rattle.std.proofs.Common.{◌≡◌, take, map}
+use Rattle.obstacle_mark.specs.AreasLeft.{area_left}
+use Rattle.obstacle_mark.proofs.areas.areas_left.Given as goal
+
+-- the areas under the obstacles so far
+abbrev pub invariant-loop-shape : goal.invariant-loop-shape
+invariant-loop-shape l = l.areas.items ≡ map (area_left (take l.shape-index l.shapes)) l.cells

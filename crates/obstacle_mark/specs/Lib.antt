@@ -1,0 +1,3 @@
+pub mod AreasLeft
+pub mod Columns
+pub mod Places

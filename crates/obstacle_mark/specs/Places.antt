@@ -1,0 +1,33 @@
+-- The places of blocked cells, and the neighbours that cells keep beside them.
+use Rattle.std.specs.Prelude.{ℕ, Bool, ◌&&◌, ◌==◌, if◌then◌else◌, List, [], ◌∷◌, map, filter, Option, None}
+use Rattle.std.specs.List.{list_any}
+use Rattle.nav_ground.specs.declared.cell.Cell.{Cell}
+use Rattle.nav_ground.specs.declared.cell.CellRef.{CellRef}
+use Rattle.nav_ground.specs.declared.shape.Shape.{Shape}
+use Rattle.nav_ground.specs.Cells.{is_naming, next_level}
+use Rattle.nav_ground.specs.FreeCells.{is_blocked}
+use Rattle.obstacle_mark.specs.declared.places.Passed.{Passed}
+use Rattle.obstacle_mark.specs.Columns.{column_of, column_toward, IsPassed}
+
+-- the places of the cells that shapes block, in order
+abbrev pub places_blocked : List Shape → List Cell → List CellRef
+places_blocked shapes cells = map (λ (cell : Cell). cell.at) (filter (is_blocked shapes) cells)
+
+-- one of the places has a column and a level
+abbrev pub is_there : ℕ → ℕ → List CellRef → Bool
+is_there column level places = list_any (λ (at : CellRef). column_of at == column && level == at.level) places
+
+-- the level that a cell names in a direction, unless that neighbour is one of the blocked places
+abbrev pub level_kept : List CellRef → Cell → ℕ → Option ℕ
+level_kept blocked cell dir = if list_any (λ (at : CellRef). is_naming dir cell at) blocked then None else next_level cell dir
+
+-- the same for each direction
+abbrev pub next_kept : List CellRef → Cell → List (Option ℕ)
+next_kept blocked cell = level_kept blocked cell 0 ∷ level_kept blocked cell 1 ∷ level_kept blocked cell 2 ∷ level_kept blocked cell 3 ∷ []
+
+-- in each direction, as many blocked places as said lie in columns before the neighbouring one
+pub record ArePassed (blocked : List CellRef) (passed : Passed) (at : CellRef) : Type 0 where
+  pub left : IsPassed blocked passed.left (column_toward 0 at)
+  pub above : IsPassed blocked passed.above (column_toward 1 at)
+  pub right : IsPassed blocked passed.right (column_toward 2 at)
+  pub below : IsPassed blocked passed.below (column_toward 3 at)

@@ -1,0 +1,132 @@
+//! The places of blocked cells, and which neighbours are among them.
+
+ghost use Rattle.std.specs.Prelude.{◌≡◌, ℕ, ◌<◌, ◌≤◌, IfOk, List, map, length, slice_index_or, vec_len};
+ghost use Rattle.nav_ground.specs.declared.cell.CellRef.{CellRef};
+ghost use Rattle.nav_ground.specs.declared.shape.Shape.{Shape};
+ghost use Rattle.obstacle_mark.specs.AreasLeft.{area_left};
+ghost use Rattle.obstacle_mark.specs.Columns.{IsPlace, ArePlaces, IsPassed, column_of};
+ghost use Rattle.obstacle_mark.specs.Places.{places_blocked, level_kept, ArePassed};
+
+use nav_ground::{Cell, CellRef};
+use std::alloc::{AllocError, Global};
+
+/// How many of the blocked places lie in columns before the neighbouring ones of a cell, direction by direction. As cells are gone
+/// through in order these numbers only rise, so all of them together pass each blocked place once a direction.
+#[derive(Clone, Copy, PartialEq, Eq, Debug)]
+pub struct Passed {
+    pub left: usize,
+    pub above: usize,
+    pub right: usize,
+    pub below: usize,
+}
+
+/// The places of the cells that are left without an area, in order.
+pub fn blocked_places(
+    alloc: Global,
+    cells: &[Cell],
+    areas: &[Option<u32>],
+) -> Result<Vec<CellRef>, AllocError>
+    requires { length areas.now ≡ length cells.now }
+    ensures few { IfOk result (λ places. vec_len places ≤ length cells.now) }
+    ensures places { (shapes : List Shape) → areas.now ≡ map (area_left shapes) cells.now
+        → IfOk result (λ places. places.items ≡ places_blocked shapes cells.now) }
+{
+    let mut places = Vec::new(alloc);
+    for (i, cell) in cells.iter().enumerate() {
+        if areas[i].is_none() {
+            places.push(cell.at)?;
+        }
+    }
+    Ok(places)
+}
+
+/// The levels that a cell names in the four directions, without those neighbours that are among the blocked places.
+pub fn next_kept(blocked: &[CellRef], passed: &mut Passed, cell: &Cell) -> [Option<u32>; 4]
+    requires cell { IsPlace cell.now.at }
+    requires blocked { ArePlaces blocked.now }
+    requires passed { ArePassed blocked.now passed.old cell.now.at }
+    ensures next { result ≡ Rattle.obstacle_mark.specs.Places.next_kept blocked.now cell.now }
+    ensures passed { ArePassed blocked.now passed.new cell.now.at }
+{
+    [
+        level_kept(blocked, &mut passed.left, cell, 0),
+        level_kept(blocked, &mut passed.above, cell, 1),
+        level_kept(blocked, &mut passed.right, cell, 2),
+        level_kept(blocked, &mut passed.below, cell, 3),
+    ]
+}
+
+/// The level that a cell names in a direction, unless that neighbour is one of the blocked places.
+fn level_kept(blocked: &[CellRef], passed: &mut usize, cell: &Cell, dir: usize) -> Option<u32>
+    requires dir { dir < 4 }
+    requires cell { IsPlace cell.now.at }
+    requires blocked { ArePlaces blocked.now }
+    requires passed { IsPassed blocked.now passed.old (Rattle.obstacle_mark.specs.Columns.column_toward dir cell.now.at) }
+    ensures level { result ≡ level_kept blocked.now cell.now dir }
+    ensures passed { IsPassed blocked.now passed.new (Rattle.obstacle_mark.specs.Columns.column_toward dir cell.now.at) }
+{
+    let column = column_toward(dir, cell.at);
+    *passed = pass(blocked, *passed, column);
+    let level = cell.next[dir]?;
+    if is_there(blocked, *passed, column, level) {
+        None
+    } else {
+        Some(level)
+    }
+}
+
+/// How many of the places lie in columns before one, where so many are known to do.
+fn pass(places: &[CellRef], known: usize, column: u32) -> usize
+    requires places { ArePlaces places.now }
+    requires known { IsPassed places.now known column }
+    ensures passed { IsPassed places.now result column }
+    ensures next { (d : CellRef) → result < length places.now → column ≤ column_of (slice_index_or places.now result d) }
+{
+    let mut passed = known;
+    while passed < places.len() && column_of(places[passed]) < column {
+        passed += 1;
+    }
+    passed
+}
+
+/// Whether one of the places has a column and a level, where the first of that column or of a later one is known.
+fn is_there(places: &[CellRef], first: usize, column: u32, level: u32) -> bool
+    requires places { ArePlaces places.now }
+    requires passed { IsPassed places.now first column }
+    requires next { (d : CellRef) → first < length places.now → column ≤ column_of (slice_index_or places.now first d) }
+    ensures { result ≡ Rattle.obstacle_mark.specs.Places.is_there column level places.now }
+{
+    let mut i = first;
+    while i < places.len() && column_of(places[i]) == column {
+        if level == places[i].level {
+            return true;
+        }
+        i += 1;
+    }
+    false
+}
+
+/// The number of a place's column.
+fn column_of(at: CellRef) -> u32
+    requires { IsPlace at }
+    ensures value { result ≡ column_of at }
+    ensures least { 2048 ≤ result }
+    ensures most { result < 2099200 }
+{
+    (at.z + 1) * 2048 + at.x
+}
+
+/// The number of the neighbouring column in a direction.
+fn column_toward(dir: usize, at: CellRef) -> u32
+    requires dir { dir < 4 }
+    requires at { IsPlace at }
+    ensures { result ≡ Rattle.obstacle_mark.specs.Columns.column_toward dir at }
+{
+    let column = column_of(at);
+    match dir {
+        0 => column - 1,
+        1 => column + 2048,
+        2 => column + 1,
+        _ => column - 2048,
+    }
+}

@@ -1,0 +1,5 @@
+pub mod Growth
+pub mod Locks
+pub mod OneHistory
+pub mod PairList
+pub mod Turns
