@@ -3,6 +3,7 @@
 use std::io::Read;
 
 #[derive(Clone, Copy)]
+#[allow(dead_code)]
 struct Span {
     x: u32,
     z: u32,
