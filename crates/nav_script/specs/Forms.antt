@@ -24,6 +24,7 @@ in_limits fits line = if fits then Ok line else Err kinds.Range
 abbrev pub below_count : ℕ → ℕ → Line → LineRead
 below_count number count line = if nat_lt number count then Ok line else Err kinds.Lane
 
+-- each form whose numbers have limits: what it says where it has these numbers
 abbrev pub floor_line : List ℕ → LineRead
 floor_line n = in_limits (nat_le (slice_index n 0) 1023 && nat_le (slice_index n 1) 1023) (Ask (Floor (slice_index n 0) (slice_index n 1)))
 

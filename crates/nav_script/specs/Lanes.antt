@@ -12,6 +12,7 @@ next_lane lane _ = lane
 abbrev pub lane_after : List Line → ℕ
 lane_after lines = fold next_lane 0 lines
 
+-- a line that adds an obstacle
 abbrev pub is_add : Line → Bool
 is_add (Add shape) = true
 is_add _ = false

@@ -78,6 +78,7 @@ abbrev pub IsFirstFaultFrom : Way → ℕ → List ℕ → TextFault → Type 0
 IsFirstFaultFrom way first_line bytes fault =
     IsFirstFault (script_format way (is_ended bytes)) AtScript first_line (lines bytes) (one_later fault)
 
+-- the script of what is read
 abbrev pub value_of : Result (Script × ℕ) TextFault → Option Script
 value_of (Ok x) = Some x.0
 value_of (Err fault) = None
