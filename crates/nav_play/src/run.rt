@@ -25,7 +25,7 @@ use std::sync::{Arc, Wait};
 #[derive(Drop)]
 pub struct PlayText {
     pub bytes: Vec<u8>,
-    /// Entries and published length; no way is asked for so far and no mesh is made, so the rest is 0.
+    /// Entries and published length; no way is asked for so far and no mesh is made, so the rest is 0. Nothing is promised of these numbers yet.
     pub totals: Totals,
 }
 

@@ -1,8 +1,9 @@
 -- How a run ends.
-use Rattle.std.proofs.Common.{◌≡◌, ℕ, ◌≤◌, List, length, subst, sym, ◌∙◌, inl, inr, ◌⊎◌}
+use Rattle.std.proofs.Common.{◌≡◌, ℕ, ◌+◌, ◌≤◌, List, [], length, arith, subst, sym, ◌∙◌, inl, inr, ◌⊎◌}
 use Rattle.std.specs.Prelude.{Option, Some, None, IfSome, String}
 use Rattle.std.specs.declared.alloc.Global.{Global}
-use Rattle.nav_io.specs.Causes.{Rose, GivesAll, AppendsPrefix}
+use Rattle.nav_io.specs.Causes.{Rose, GivesAll, AppendsPrefix, TookMany, TookAtMost}
+use Rattle.std.proofs.KnownBytes.{Consumes-nil}
 use Rattle.nav_io.proofs.Laws.{GivesAll-known}
 use Rattle.navd.specs.declared.status.Status.{Status}
 use Rattle.navd.specs.declared.status.Status.TheVariants as statuses
@@ -85,3 +86,17 @@ pub quiet_ends : (before : Option (List ℕ)) (Form Calm Quiet Goal : Type 0) �
     → IfSome before (λ input. Form → (¬ IsPlay input) → length input ≤ input_limit → Calm → Quiet → Goal)
 quiet_ends None Form Calm Quiet Goal ends = tt
 quiet_ends (Some input) Form Calm Quiet Goal ends = λ form no_play short calm quiet. ends quiet
+
+-- what a run took from its source
+pub took_none : (before : Option (List ℕ)) → TookAtMost before before (input_limit + 1)
+took_none before = ([], omega arith, Consumes-nil before)
+
+pub took_within : (before after : Option (List ℕ)) → TookAtMost before after input_limit → TookAtMost before after (input_limit + 1)
+took_within before after (bytes, few, gone) = (bytes, omega (arith, few), gone)
+
+pub took_many : (before after : Option (List ℕ)) → TookMany before after (input_limit + 1) → TookAtMost before after (input_limit + 1)
+took_many before after (bytes, many, gone) = (bytes, omega (arith, many), gone)
+
+pub took_all : (before after : Option (List ℕ)) (bytes : List ℕ) → GivesAll before after bytes → length bytes ≤ input_limit
+    → TookAtMost before after (input_limit + 1)
+took_all before after bytes gave short = (bytes, omega (arith, short), gave.0)

@@ -24,13 +24,13 @@ pub record IsFaultDue (before after : Option (List ℕ)) (text : List ℕ) : Typ
   pub wrong : IsFault input fault
   pub told : text ≡ fault_text fault
 
--- the text is what the run owed its sink: after words in no form the usage line, after too many bytes the line that says so,
--- else the play text or the fault of the input
+-- the text is what the run owed its sink: after words in no form the usage line, with nothing read; after words in a form the line that says
+-- that too many bytes were read, or the play text or the fault of the whole input
 abbrev pub IsDue : List (String Global) → Option (List ℕ) → Option (List ℕ) → List ℕ → Type 0
 IsDue words before after text =
-    ((¬ IsForm words) × (text ≡ usage_text))
-    ⊎ (((TookMany before after (input_limit + 1)) × (text ≡ too_long_text))
-    ⊎ (IsPlayDue before after text ⊎ IsFaultDue before after text))
+    ((¬ IsForm words) × (after ≡ before) × (text ≡ usage_text))
+    ⊎ (IsForm words × ((TookMany before after (input_limit + 1) × (text ≡ too_long_text))
+    ⊎ (IsPlayDue before after text ⊎ IsFaultDue before after text)))
 
 -- a play was written: all of its text, to the sink that held what it held
 pub record HasPlayed (before after held_before held_after : Option (List ℕ)) : Type 0 where

@@ -10,7 +10,6 @@ mod status;
 mod top;
 mod words;
 
-use anyhow::Result;
 use nav_io::{StdSink, StdSource};
 pub use status::Status;
 use std::marker::Brand;
@@ -19,11 +18,20 @@ use std::sync::ledger::Blank;
 use std::{env, io};
 pub use top::{navd, run};
 
-fn main(rt: HostRuntime) -> Result<ExitCode> {
+fn main(rt: HostRuntime) -> ExitCode {
     let alloc = rt.alloc();
     let mut words = Vec::new(alloc);
-    for word in env::args(&rt)?.skip(1) {
-        words.push(word)?;
+    match env::args(&rt) {
+        Ok(all) => {
+            for word in all.skip(1) {
+                if words.push(word).is_err() {
+                    return ExitCode::from(Status::OutOfMemory.number());
+                }
+            }
+        }
+        // A word that is no text is in no form, and neither are no words.
+        Err(error) if error.kind() == io::ErrorKind::InvalidData => (),
+        Err(_) => return ExitCode::from(Status::OutOfMemory.number()),
     }
     let mut source = StdSource::new(rt.reader());
     let mut sink = StdSink::new(io::writer(&rt));
@@ -35,7 +43,7 @@ fn main(rt: HostRuntime) -> Result<ExitCode> {
         &mut sink,
         Blank::new(1),
     );
-    Ok(ExitCode::from(status.number()))
+    ExitCode::from(status.number())
 }
 
 #[cfg(test)]

@@ -136,3 +136,20 @@ fn leaves_what_was_written(rt: HostRuntime) -> Result<(), Fail> {
     }
     Ok(())
 }
+
+#[test]
+fn reads_no_more_than_it_may(rt: HostRuntime) -> Result<(), Fail> {
+    let alloc = rt.alloc();
+    // As many line feeds as an input may have, and one more.
+    let cases: [(usize, Status, &[u8]); 2] = [
+        (67108864, Status::BadText, b"fault 1 1\n"),
+        (67108865, Status::TooLong, b"fault too long\n"),
+    ];
+    for (length, status, held) in cases {
+        let feeds = vec![in alloc; b'\n'; length]?;
+        let ran = run_once(&rt, alloc, "play", feeds, (1000000, 0), (8, 0))?;
+        assert_eq!(rt; ran.status, status);
+        assert_eq!(rt; ran.held.as_slice(), held);
+    }
+    Ok(())
+}

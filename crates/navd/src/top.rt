@@ -2,7 +2,7 @@
 
 ghost use Rattle.std.specs.Prelude.{◌≡◌, ◌+◌, ◌<◌, ◌≤◌, ◌⊎◌, length, IfSome};
 ghost use Rattle.std.specs.Io.KnownBytes.{Appends, Keeps};
-ghost use Rattle.nav_io.specs.Causes.{Rose, TookMany, HasMore};
+ghost use Rattle.nav_io.specs.Causes.{Rose, TookMany, TookAtMost, HasMore};
 ghost use Rattle.nav_record.specs.Texts.{usage_text, too_long_text};
 ghost use Rattle.navd.specs.Inputs.{IsPlay, input_limit};
 ghost use Rattle.navd.specs.Outcomes.{HasPlayed, HasTold, HasBroken};
@@ -28,6 +28,7 @@ const MOST: usize = 67108864;
 /// cells answer, then how far the play came. A text that is no input, or that asks for what is not built yet, is told by the line of its fault.
 /// The text is made whole before its first byte is written. Refusals go in the order Usage, ReadFault, TooLong, BadText;
 /// WriteFault comes in place of any status whose text could not be written, and OutOfMemory only before the first write.
+#[tactic(auto, using(crate::proofs::TopLaws::took_none, crate::proofs::TopLaws::took_within, crate::proofs::TopLaws::took_many, crate::proofs::TopLaws::took_all))]
 pub fn navd<R: Threads + Wait + Sync, S: Source, K: Sink, G: Gate + Sync, L: Ledger>(
     rt: &R,
     alloc: Global,
@@ -66,6 +67,9 @@ pub fn navd<R: Threads + Wait + Sync, S: Source, K: Sink, G: Gate + Sync, L: Led
         → (¬ Rose (S.faults source.old) (S.faults source.new)) → (¬ Rose (K.faults sink.old) (K.faults sink.new))
         → (result ≡ Status.BadText) ⊎ (result ≡ Status.OutOfMemory)) }
 
+    // At most the bytes of the longest input and one more are gone from the source.
+    ensures took { TookAtMost (S.left source.old) (S.left source.new) (input_limit + 1) }
+
     // No tile is built so far.
     ensures steps { steps.new ≡ steps.old }
 {
@@ -95,7 +99,7 @@ fn finish<K: Sink>(sink: &mut K, text: &[u8], status: Status) -> Status
     }
 }
 
-/// `navd` with a counter of its own, for callers that count nothing.
+/// `navd` with a counter of its own and a gate at which nobody waits, for callers that count nothing. It promises the same.
 pub fn run<R: Threads + Wait + Sync, S: Source, K: Sink, L: Ledger>(
     rt: &R,
     alloc: Global,
@@ -107,8 +111,37 @@ pub fn run<R: Threads + Wait + Sync, S: Source, K: Sink, L: Ledger>(
     requires name { blank.name ≡ L.name }
     requires parts { blank.parts ≡ L.parts }
     requires some { 0 < blank.parts }
+    // The play of what was read, whole, to the sink that held what it held.
     ensures ok { result ≡ Status.Ok → IsForm words.now
         × HasPlayed (S.left source.old) (S.left source.new) (K.held sink.old) (K.held sink.new) }
+
+    // Each refusal has its cause, and the sink holds what is due.
+    ensures bad_text { result ≡ Status.BadText → IsForm words.now
+        × HasTold (S.left source.old) (S.left source.new) (K.held sink.old) (K.held sink.new) }
+    ensures usage { result ≡ Status.Usage → (¬ IsForm words.now)
+        × Appends (K.held sink.old) (K.held sink.new) usage_text × (S.left source.new ≡ S.left source.old) }
+    ensures read_fault { result ≡ Status.ReadFault → IsForm words.now
+        × Rose (S.faults source.old) (S.faults source.new) × Keeps (K.held sink.old) (K.held sink.new) }
+    ensures write_fault { result ≡ Status.WriteFault → Rose (K.faults sink.old) (K.faults sink.new)
+        × HasBroken words.now (S.left source.old) (S.left source.new) (K.held sink.old) (K.held sink.new) }
+    ensures too_long { result ≡ Status.TooLong → IsForm words.now
+        × TookMany (S.left source.old) (S.left source.new) (input_limit + 1) × Appends (K.held sink.old) (K.held sink.new) too_long_text }
+    ensures no_memory { result ≡ Status.OutOfMemory → Keeps (K.held sink.old) (K.held sink.new) }
+
+    // What comes where nothing fails but memory.
+    ensures no_form { (¬ IsForm words.now) → (result ≡ Status.Usage) ⊎ (result ≡ Status.WriteFault) }
+    ensures more { IsForm words.now → HasMore (S.left source.old) input_limit
+        → (¬ Rose (S.faults source.old) (S.faults source.new)) → (¬ Rose (K.faults sink.old) (K.faults sink.new))
+        → (result ≡ Status.TooLong) ⊎ (result ≡ Status.OutOfMemory) }
+    ensures complete { IfSome (S.left source.old) (λ input. IsForm words.now → IsPlay input → length input ≤ input_limit
+        → (¬ Rose (S.faults source.old) (S.faults source.new)) → (¬ Rose (K.faults sink.old) (K.faults sink.new))
+        → (result ≡ Status.Ok) ⊎ (result ≡ Status.OutOfMemory)) }
+    ensures wrong { IfSome (S.left source.old) (λ input. IsForm words.now → (¬ IsPlay input) → length input ≤ input_limit
+        → (¬ Rose (S.faults source.old) (S.faults source.new)) → (¬ Rose (K.faults sink.old) (K.faults sink.new))
+        → (result ≡ Status.BadText) ⊎ (result ≡ Status.OutOfMemory)) }
+
+    // At most the bytes of the longest input and one more are gone from the source.
+    ensures took { TookAtMost (S.left source.old) (S.left source.new) (input_limit + 1) }
 {
     let mut steps = Steps::<L>::new(blank);
     navd(rt, alloc, words, source, sink, &FreeGate, &mut steps)

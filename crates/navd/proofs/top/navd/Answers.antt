@@ -1,4 +1,4 @@
-use Rattle.std.proofs.Common.{◌≡◌, ℕ, subst, sym, inl, inr}
+use Rattle.std.proofs.Common.{rules, ◌≡◌, ℕ, subst, sym, inl, inr}
 use Rattle.navd.specs.Inputs.{IsPlay}
 use Rattle.navd.proofs.TopLaws.{broken, ended_well, play_due, fault_due, no_play_known, play_known, quiet_ends}
 use Rattle.navd.proofs.top.navd.Goals as goal
@@ -6,12 +6,12 @@ use Rattle.navd.proofs.top.navd.Goals as goal
 pub returns-in-Played-clause-write_fault : goal.returns-in-Played-clause-write_fault
 returns-in-Played-clause-write_fault g c is =
     broken _ _ _ _ _ _ _ _ _ _ c.finish-in-Played.ensures.ended tt
-    (inr (inr (inl (play_due _ _ _ _ _ _ c.in-Ok.ensures.ok c.in-Ok.ensures.short c.as_slice.ensures.value c.as_slice-in-Played.ensures.value c.in-Played.ensures.right)))) is
+    (inr (search rules, inr (inl (play_due _ _ _ _ _ _ c.in-Ok.ensures.ok c.in-Ok.ensures.short c.as_slice.ensures.value c.as_slice-in-Played.ensures.value c.in-Played.ensures.right)))) is
 
 pub returns-in-Fault-clause-write_fault : goal.returns-in-Fault-clause-write_fault
 returns-in-Fault-clause-write_fault g c is =
     broken _ _ _ _ _ _ _ _ _ _ c.finish-in-Fault.ensures.ended tt
-    (inr (inr (inr (fault_due _ _ _ _ _ _ c.in-Ok.ensures.ok c.in-Ok.ensures.short c.as_slice.ensures.value c.as_slice-in-Fault.ensures.value c.in-Fault.ensures.right)))) is
+    (inr (search rules, inr (inr (fault_due _ _ _ _ _ _ c.in-Ok.ensures.ok c.in-Ok.ensures.short c.as_slice.ensures.value c.as_slice-in-Fault.ensures.value c.in-Fault.ensures.right)))) is
 
 pub returns-in-Fault-clause-complete : goal.returns-in-Fault-clause-complete
 returns-in-Fault-clause-complete g c =
