@@ -5,3 +5,4 @@ pub mod Directions
 pub mod FlatLayers
 pub mod ShapeLaws
 pub mod FreeLayers
+pub mod Literals
