@@ -145,3 +145,6 @@ fn is_flat_span(width: u32, depth: u32, top: u32, i: usize, span: &Span) -> bool
             area: 63,
         }
 }
+
+#[cfg(test)]
+mod tests;

@@ -8,3 +8,4 @@ pub mod Selections
 pub mod AliveLaws
 pub mod ShapeLaws
 pub mod FreeLayers
+pub mod Literals

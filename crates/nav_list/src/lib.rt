@@ -9,3 +9,6 @@ mod items;
 
 pub use duplicate::Duplicate;
 pub use items::Items;
+
+#[cfg(test)]
+mod tests;

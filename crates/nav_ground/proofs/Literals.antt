@@ -1,0 +1,123 @@
+-- The rules of values that are written out: a test by computation shows that they hold.
+use Rattle.std.proofs.Common.{◌≡◌, ℕ, ◌<◌, Bool, true, length, List, [], ◌∷◌, arith, zero, suc, inl, inr}
+use Rattle.std.proofs.lemmas.Bool.Decides.{nat_tests}
+use Rattle.std.specs.Prelude.{All, AllPairs, IsTrue, ◌&&◌, ◌||◌, ◌==◌, not, nat_lt, nat_le}
+use Rattle.std.specs.List.{list_all}
+use Rattle.std.proofs.lemmas.Bool.{and_parts, or_cases, both_ways, not-true, leb-true}
+use Rattle.std.proofs.lemmas.List.Elements.{All-nil, All-cons, All-weaker, All-contains}
+use Rattle.std.proofs.lemmas.List.Kept.{AllPairs-cons}
+use Rattle.nav_ground.specs.declared.cell.Cell.{Cell}
+use Rattle.nav_ground.specs.declared.cell.CellRef.{CellRef}
+use Rattle.nav_ground.specs.declared.shape.Shape.{Shape}
+use Rattle.nav_ground.specs.declared.shape.Shape.TheVariants.{Block, Cylinder, AreaBlock, AreaCylinder}
+use Rattle.nav_ground.specs.Limits.{IsShape}
+use Rattle.nav_ground.specs.Cells.{IsCellBefore, IsCell, IsCut, AreMutual, is_naming, opposite}
+
+-- a test that holds of each element
+All-from_list_all : {X : Type 0} (p : X → Bool) (xs : List X) → list_all p xs ≡ true → All (λ x. p x ≡ true) xs
+All-from_list_all p [] h = All-nil (λ x. p x ≡ true)
+All-from_list_all p (x ∷ xs) h =
+    let parts = and_parts (p x) (list_all p xs) h in
+    All-cons (λ y. p y ≡ true) x xs parts.0 (All-from_list_all p xs parts.1)
+
+-- a test that holds of each element and each later one
+abbrev pub is_ordered_by : {X : Type 0} → (X → X → Bool) → List X → Bool
+is_ordered_by r [] = true
+is_ordered_by r (x ∷ xs) = list_all (r x) xs && is_ordered_by r xs
+
+AllPairs-from_test : {X : Type 0} (r : X → X → Bool) (xs : List X) → is_ordered_by r xs ≡ true → AllPairs (λ x y. r x y ≡ true) xs
+AllPairs-from_test r [] h = λ i j d before there. absurd (omega arith)
+AllPairs-from_test r (x ∷ xs) h =
+    let parts = and_parts (list_all (r x) xs) (is_ordered_by r xs) h in
+    AllPairs-cons (λ a b. r a b ≡ true) x xs (All-from_list_all (r x) xs parts.0) (AllPairs-from_test r xs parts.1)
+
+abbrev pub is_cell_before : CellRef → CellRef → Bool
+is_cell_before a b = nat_lt a.z b.z || (a.z == b.z && (nat_lt a.x b.x || (a.x == b.x && nat_lt a.level b.level)))
+
+abbrev pub is_cell : Cell → Bool
+is_cell cell = nat_lt cell.at.x 1024 && nat_lt cell.at.z 1024 && nat_le 1 cell.area && nat_le cell.area 63
+    && nat_le cell.floor 8191 && nat_le cell.ceiling 65535 && length cell.next == 4
+
+abbrev pub is_named_back : ℕ → Cell → Cell → Bool
+is_named_back dir a b = not (is_naming dir a b.at) || is_naming (opposite dir) b a.at
+
+abbrev pub is_named_back_each : Cell → Cell → Bool
+is_named_back_each a b = (is_named_back 0 a b && is_named_back 1 a b) && (is_named_back 2 a b && is_named_back 3 a b)
+
+abbrev pub is_mutual : List Cell → Bool
+is_mutual cells = list_all (λ (a : Cell). list_all (is_named_back_each a) cells) cells
+
+-- the rules of cells of a cut, as a test
+abbrev pub is_cut : List Cell → Bool
+is_cut cells = nat_le (length cells) 2000000 && is_ordered_by (λ (a b : Cell). is_cell_before a.at b.at) cells
+    && (list_all is_cell cells && is_mutual cells)
+
+before_shown : (a b : CellRef) → is_cell_before a b ≡ true → IsCellBefore a b
+before_shown a b h = grind (arith, nat_tests)
+
+cell_shown : (cell : Cell) → is_cell cell ≡ true → IsCell cell
+cell_shown cell h = grind (arith, nat_tests)
+
+each_back : (dir : ℕ) (a b : Cell) → dir < 4 → is_named_back_each a b ≡ true → is_named_back dir a b ≡ true
+each_back zero a b small h = (and_parts (is_named_back 0 a b) _ (and_parts (is_named_back 0 a b && is_named_back 1 a b) _ h).0).0
+each_back (suc zero) a b small h = (and_parts (is_named_back 0 a b) _ (and_parts (is_named_back 0 a b && is_named_back 1 a b) _ h).0).1
+each_back (suc (suc zero)) a b small h = (and_parts (is_named_back 2 a b) _ (and_parts (is_named_back 0 a b && is_named_back 1 a b) _ h).1).0
+each_back (suc (suc (suc zero))) a b small h = (and_parts (is_named_back 2 a b) _ (and_parts (is_named_back 0 a b && is_named_back 1 a b) _ h).1).1
+each_back (suc (suc (suc (suc n)))) a b small h = absurd (omega arith)
+
+shown_back : (dir : ℕ) (a b : Cell) → dir < 4 → is_named_back dir a b ≡ true → IsTrue (is_naming dir a b.at) → IsTrue (is_naming (opposite dir) b a.at)
+shown_back dir a b small h named =
+    elim (or_cases (not (is_naming dir a b.at)) (is_naming (opposite dir) b a.at) h) [
+      | inl unnamed ↦ absurd (both_ways (is_naming dir a b.at) (not-true (is_naming dir a b.at) unnamed) named)
+      | inr back ↦ back
+    ]
+
+mutual_shown : (cells : List Cell) → is_mutual cells ≡ true → AreMutual cells
+mutual_shown cells h dir a b small has_a has_b named =
+    let rows = All-contains (λ (c : Cell). list_all (is_named_back_each c) cells ≡ true) cells a
+    (All-from_list_all (λ (c : Cell). list_all (is_named_back_each c) cells) cells h) has_a in
+    let here = All-contains (λ (c : Cell). is_named_back_each a c ≡ true) cells b (All-from_list_all (is_named_back_each a) cells rows) has_b in
+    shown_back dir a b small (each_back dir a b small here) named
+
+-- cells that pass the test are a cut
+pub IsCut-shown : (cells : List Cell) → is_cut cells ≡ true → IsCut cells
+IsCut-shown cells h =
+    let ordered = is_ordered_by (λ (a b : Cell). is_cell_before a.at b.at) cells in
+    let most = and_parts (nat_le (length cells) 2000000 && ordered) (list_all is_cell cells && is_mutual cells) h in
+    let first = and_parts (nat_le (length cells) 2000000) ordered most.0 in
+    let last = and_parts (list_all is_cell cells) (is_mutual cells) most.1 in
+    let pairs = AllPairs-from_test (λ (a b : Cell). is_cell_before a.at b.at) cells first.1 in
+    record {
+      rules = record {
+        few = leb-true (length cells) 2000000 first.0;
+        order = λ i j d before there. before_shown _ _ (pairs i j d before there);
+        each = All-weaker (λ (cell : Cell). is_cell cell ≡ true) IsCell cell_shown cells (All-from_list_all is_cell cells last.0);
+      };
+      named_back = mutual_shown cells last.1;
+    }
+
+-- the limits of a shape, as a test
+abbrev pub is_box : ℕ → ℕ → ℕ → ℕ → ℕ → ℕ → Bool
+is_box x0 x1 y0 y1 z0 z1 = nat_le x0 x1 && nat_le x1 1023 && nat_le y0 y1 && nat_le y1 8191 && nat_le z0 z1 && nat_le z1 1023
+
+abbrev pub is_round : ℕ → ℕ → ℕ → ℕ → ℕ → Bool
+is_round cx cz r y0 y1 = nat_le cx 2048 && nat_le cz 2048 && nat_le r 1023 && nat_le y0 y1 && nat_le y1 8191
+
+abbrev pub is_area : ℕ → Bool
+is_area area = nat_le 1 area && nat_le area 63
+
+abbrev pub is_shape : Shape → Bool
+is_shape (Block x0 x1 y0 y1 z0 z1) = is_box x0 x1 y0 y1 z0 z1
+is_shape (Cylinder cx cz r y0 y1) = is_round cx cz r y0 y1
+is_shape (AreaBlock area x0 x1 y0 y1 z0 z1) = is_area area && is_box x0 x1 y0 y1 z0 z1
+is_shape (AreaCylinder area cx cz r y0 y1) = is_area area && is_round cx cz r y0 y1
+
+pub IsShape-shown : (shape : Shape) → is_shape shape ≡ true → IsShape shape
+IsShape-shown (Block x0 x1 y0 y1 z0 z1) h = grind (arith, nat_tests)
+IsShape-shown (Cylinder cx cz r y0 y1) h = grind (arith, nat_tests)
+IsShape-shown (AreaBlock area x0 x1 y0 y1 z0 z1) h = grind (arith, nat_tests)
+IsShape-shown (AreaCylinder area cx cz r y0 y1) h = grind (arith, nat_tests)
+
+-- shapes that pass the test are within their limits
+pub shapes_shown : (shapes : List Shape) → list_all is_shape shapes ≡ true → All IsShape shapes
+shapes_shown shapes h = All-weaker (λ (s : Shape). is_shape s ≡ true) IsShape IsShape-shown shapes (All-from_list_all is_shape shapes h)
