@@ -36,7 +36,7 @@ IsObstacle (AreaBlock area x0 x1 y0 y1 z0 z1) = ⊥
 IsObstacle (AreaCylinder area cx cz r y0 y1) = ⊥
 
 -- a line may stand where so many adds of its lane stand before it: its numbers are in their limits, lanes and workers are below
--- their counts, a `drop` goes back over at least 1 and at most those adds, and the lines that lead workers are played only
+-- their counts, a `drop` names one of those adds, counted from 1, and the lines that lead workers are played only
 abbrev pub IsLine : Way → (lanes workers adds : ℕ) → Line → Type 0
 IsLine way lanes workers adds (Lane lane) = lane < lanes
 IsLine way lanes workers adds (Ask question) = IsQuestion question
