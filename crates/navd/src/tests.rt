@@ -1,4 +1,6 @@
 // Runs of the whole program over sources and sinks in memory. What is wanted was worked out by hand.
+ghost use Rattle.std.specs.Prelude.{◌<◌};
+
 use crate::{Status, run};
 use nav_io::{MemorySink, MemorySource};
 use std::alloc::{AllocError, Global};
@@ -10,20 +12,32 @@ use std::thread::Threads;
 
 const PLAYED: &[u8] = b"floors 0 1 10 63\nentry 1 added\nsettled 1\nfloors 1 0\ndone 1 1\n";
 
-/// A flat field of 6 by 6 columns with its floor at height 10, and a script behind it.
-fn level(alloc: Global, script: &[u8]) -> Result<Vec<u8>, AllocError> {
+/// A flat field of 6 by 6 columns with its floor at height 10 and so many obstacles at once, and a script of so many lanes behind it.
+fn level_with(alloc: Global, limit: u32, lanes: u32, script: &[u8]) -> Result<Vec<u8>, AllocError> {
     let mut text = Vec::new(alloc);
-    text.extend_from_slice(
-        b"nav 1\nsize 6 6\ntile 6\nagent 10 4 0\nerror 169\nmesh strips\nlimit 4\n",
-    )?;
+    text.extend_from_slice(b"nav 1\nsize 6 6\ntile 6\nagent 10 4 0\nerror 169\nmesh strips\n")?;
+    text.extend_from_slice(format!(in alloc; "limit {limit}\n")?.as_bytes())?;
     for i in 0..36u32 {
         let x = i % 6;
         let z = i / 6;
         text.extend_from_slice(format!(in alloc; "span {x} {z} 0 10 63\n")?.as_bytes())?;
     }
-    text.extend_from_slice(b"end\nscript 1 1\n")?;
+    text.extend_from_slice(format!(in alloc; "end\nscript {lanes} 1\n")?.as_bytes())?;
     text.extend_from_slice(script)?;
     Ok(text)
+}
+
+fn level(alloc: Global, script: &[u8]) -> Result<Vec<u8>, AllocError> {
+    level_with(alloc, 4, 1, script)
+}
+
+/// So many times one line.
+fn lines(alloc: Global, count: u32, line: &[u8]) -> Result<Vec<u8>, AllocError> {
+    let mut script = Vec::new(alloc);
+    for _ in 0..count {
+        script.extend_from_slice(line)?;
+    }
+    Ok(script)
 }
 
 fn first_level(alloc: Global) -> Result<Vec<u8>, AllocError> {
@@ -55,7 +69,7 @@ fn run_once<R: Threads + Wait + Sync>(
     let mut words = Vec::new(alloc);
     words.push(word.to_string(alloc)?)?;
     let mut source = MemorySource::new(input, read.0, vec![in alloc; read.1]?);
-    let mut sink = MemorySink::with_room(alloc, write.0, 1000, vec![in alloc; write.1]?)?;
+    let mut sink = MemorySink::with_room(alloc, write.0, 2000000, vec![in alloc; write.1]?)?;
     let status = run::<_, _, _, Brand>(
         rt,
         alloc,
@@ -110,9 +124,18 @@ fn ends_with_the_status_of_its_cause(rt: HostRuntime) -> Result<(), Fail> {
 #[test]
 fn tells_each_failing_call(rt: HostRuntime) -> Result<(), Fail> {
     let alloc = rt.alloc();
-    let length = first_level(alloc)?.len() as u32;
+    let length = first_level(alloc)?.len();
+    assert!(rt; length < 5000);
+    // The last call is the one that would tell the end.
     for call in 1..length + 2 {
-        let ran = run_once(&rt, alloc, "play", first_level(alloc)?, (1, call), (8, 0))?;
+        let ran = run_once(
+            &rt,
+            alloc,
+            "play",
+            first_level(alloc)?,
+            (1, call as u32),
+            (8, 0),
+        )?;
         assert_eq!(rt; ran.status, Status::ReadFault);
         assert_eq!(rt; ran.held.len(), 0);
     }
@@ -151,5 +174,97 @@ fn reads_no_more_than_it_may(rt: HostRuntime) -> Result<(), Fail> {
         assert_eq!(rt; ran.status, status);
         assert_eq!(rt; ran.held.as_slice(), held);
     }
+    Ok(())
+}
+
+#[test]
+fn plays_scripts(rt: HostRuntime) -> Result<(), Fail> {
+    let alloc = rt.alloc();
+    // Obstacles at once, lanes, the script; the play text.
+    let cases: [(u32, u32, &[u8], &[u8]); 5] = [
+        // The cell (4, 4) is 3 and 4 half cells from the centre: 9 + 16 is 25, the squared reach of the radius 2.
+        (
+            4,
+            1,
+            b"add cylinder 6 5 2 0 100\nsettle\nfloor 4 4\n",
+            b"entry 1 added\nsettled 1\nfloors 1 0\ndone 1 1\n",
+        ),
+        // And here 4 and 4: 32 is more.
+        (
+            4,
+            1,
+            b"add cylinder 5 5 2 0 100\nsettle\nfloor 4 4\n",
+            b"entry 1 added\nsettled 1\nfloors 1 1 10 63\ndone 1 1\n",
+        ),
+        (
+            2,
+            1,
+            b"add block 2 2 0 9 2 2\nadd block 2 2 0 9 2 2\nadd block 2 2 0 9 2 2\nremove 1\nremove 1\nremove 0\nadd block 2 2 0 9 2 2\n",
+            b"entry 1 added\nentry 2 added\nentry 3 full 2\nentry 4 removed\nentry 5 dead 1\nentry 6 dead 0\nentry 7 added\ndone 0 7\n",
+        ),
+        (
+            4,
+            2,
+            b"add block 2 2 0 100 2 2\nlane 1\nadd block 3 3 0 100 2 2\ndrop 1\nsettle\nfloor 2 2\nfloor 3 2\n",
+            b"entry 1 added\nentry 2 added\nentry 3 removed\nsettled 3\nfloors 3 0\nfloors 3 1 10 63\ndone 3 3\n",
+        ),
+        // The add that was refused counts as the lane's second, and dropping it removes number 0.
+        (
+            1,
+            1,
+            b"add block 2 2 0 100 2 2\nadd block 3 3 0 100 2 2\ndrop 2\ndrop 1\nfloor 0 0\n",
+            b"entry 1 added\nentry 2 full 1\nentry 3 dead 0\nentry 4 removed\nfloors 0 0\ndone 0 4\n",
+        ),
+    ];
+    for (limit, lanes, script, text) in cases {
+        let ran = run_once(
+            &rt,
+            alloc,
+            "play",
+            level_with(alloc, limit, lanes, script)?,
+            (100, 0),
+            (100, 0),
+        )?;
+        assert_eq!(rt; ran.status, Status::Ok);
+        assert_eq!(rt; ran.held.as_slice(), text);
+    }
+    Ok(())
+}
+
+#[test]
+fn fills_a_history(rt: HostRuntime) -> Result<(), Fail> {
+    let alloc = rt.alloc();
+    let adds = lines(alloc, 65537, b"add block 0 0 0 0 0 0\n")?;
+    let ran = run_once(
+        &rt,
+        alloc,
+        "play",
+        level_with(alloc, 1, 1, adds.as_slice())?,
+        (4096, 0),
+        (4096, 0),
+    )?;
+    assert_eq!(rt; ran.status, Status::Ok);
+    assert!(rt;
+        ran.held
+            .as_slice()
+            .starts_with(b"entry 1 added\nentry 2 full 1\n")
+    );
+    assert!(rt;
+        ran.held
+            .as_slice()
+            .ends_with(b"entry 65536 full 1\nhistory full 65536\ndone 0 65536\n")
+    );
+
+    let settles = lines(alloc, 300001, b"settle\n")?;
+    let ran = run_once(
+        &rt,
+        alloc,
+        "play",
+        level(alloc, settles.as_slice())?,
+        (4096, 0),
+        (4096, 0),
+    )?;
+    assert_eq!(rt; ran.status, Status::BadText);
+    assert_eq!(rt; ran.held.as_slice(), b"fault 300046 11\n".as_slice());
     Ok(())
 }
