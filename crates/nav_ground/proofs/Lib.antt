@@ -2,9 +2,10 @@ pub mod Squares
 pub mod Places
 pub mod Kept
 pub mod Directions
-pub mod FlatLayers
-pub mod FlatFieldLaws
 pub mod Selections
+pub mod FilterLaws
+pub mod CompactLaws
+pub mod LayerLaws
 pub mod AliveLaws
 pub mod ShapeLaws
 pub mod FreeLayers

@@ -1,5 +1,5 @@
 -- The rules of values that are written out: a test by computation shows that they hold.
-use Rattle.std.proofs.Common.{◌≡◌, ℕ, ◌<◌, Bool, true, length, List, [], ◌∷◌, arith, zero, suc, inl, inr}
+use Rattle.std.proofs.Common.{◌≡◌, ℕ, ◌<◌, ◌≤◌, Bool, true, length, List, [], ◌∷◌, get_or, arith, zero, suc, inl, inr}
 use Rattle.std.proofs.lemmas.Bool.Decides.{nat_tests}
 use Rattle.std.specs.Prelude.{All, AllPairs, IsTrue, ◌&&◌, ◌||◌, ◌==◌, not, nat_lt, nat_le}
 use Rattle.std.specs.List.{list_all}
@@ -10,6 +10,9 @@ use Rattle.nav_ground.specs.declared.cell.Cell.{Cell}
 use Rattle.nav_ground.specs.declared.cell.CellRef.{CellRef}
 use Rattle.nav_ground.specs.declared.shape.Shape.{Shape}
 use Rattle.nav_ground.specs.declared.shape.Shape.TheVariants.{Block, Cylinder, AreaBlock, AreaCylinder}
+use Rattle.nav_ground.specs.declared.field.Field.{Field}
+use Rattle.nav_ground.specs.declared.field.Span.{Span}
+use Rattle.nav_ground.specs.Fields.{IsField, IsSpan, IsSpanBefore, AreAreas}
 use Rattle.nav_ground.specs.Limits.{IsShape}
 use Rattle.nav_ground.specs.Cells.{IsCellBefore, IsCell, IsCut, AreMutual, is_naming, opposite}
 
@@ -121,3 +124,53 @@ IsShape-shown (AreaCylinder area cx cz r y0 y1) h = grind (arith, nat_tests)
 -- shapes that pass the test are within their limits
 pub shapes_shown : (shapes : List Shape) → list_all is_shape shapes ≡ true → All IsShape shapes
 shapes_shown shapes h = All-weaker (λ (s : Shape). is_shape s ≡ true) IsShape IsShape-shown shapes (All-from_list_all is_shape shapes h)
+
+-- the rules of a field, as a test
+abbrev pub is_span : ℕ → ℕ → Span → Bool
+is_span width depth span = nat_lt span.x width && nat_lt span.z depth && nat_lt span.bottom span.top && nat_le span.top 8191 && nat_le span.area 63
+
+abbrev pub is_span_before : Span → Span → Bool
+is_span_before a b = nat_lt a.z b.z || (a.z == b.z && (nat_lt a.x b.x || (a.x == b.x && nat_le a.top b.bottom)))
+
+abbrev pub is_size : ℕ → Bool
+is_size n = nat_le 1 n && nat_le n 1024
+
+abbrev pub is_field : Field → Bool
+is_field field = (is_size field.width && is_size field.depth) && nat_le (length field.spans) 2000000
+    && (list_all (is_span field.width field.depth) field.spans && is_ordered_by is_span_before field.spans)
+
+span_shown : (width depth : ℕ) (span : Span) → is_span width depth span ≡ true → IsSpan width depth span
+span_shown width depth span h = grind (arith, nat_tests)
+
+span_before_shown : (a b : Span) → is_span_before a b ≡ true → IsSpanBefore a b
+span_before_shown a b h = grind (arith, nat_tests)
+
+size_shown : (n : ℕ) → is_size n ≡ true → (1 ≤ n) × (n ≤ 1024)
+size_shown n h = grind (arith, nat_tests)
+
+-- a field that passes the test keeps the rules
+pub IsField-shown : (field : Field) → is_field field ≡ true → IsField field
+IsField-shown field h =
+    let spans = list_all (is_span field.width field.depth) field.spans in
+    let order = is_ordered_by is_span_before field.spans in
+    let most = and_parts ((is_size field.width && is_size field.depth) && nat_le (length field.spans) 2000000) (spans && order) h in
+    let first = and_parts (is_size field.width && is_size field.depth) (nat_le (length field.spans) 2000000) most.0 in
+    let sizes = and_parts (is_size field.width) (is_size field.depth) first.0 in
+    let last = and_parts spans order most.1 in
+    let pairs = AllPairs-from_test is_span_before field.spans last.1 in
+    record {
+      wide = (size_shown field.width sizes.0).0;
+      width = (size_shown field.width sizes.0).1;
+      deep = (size_shown field.depth sizes.1).0;
+      depth = (size_shown field.depth sizes.1).1;
+      few = leb-true (length field.spans) 2000000 first.1;
+      spans = All-weaker (λ (span : Span). is_span field.width field.depth span ≡ true) (IsSpan field.width field.depth)
+          (span_shown field.width field.depth) field.spans (All-from_list_all (is_span field.width field.depth) field.spans last.0);
+      order = λ i j d before there. span_before_shown (get_or field.spans i d) (get_or field.spans j d) (pairs i j d before there);
+    }
+
+-- areas that pass the test stand beside spans
+pub AreAreas-shown : (areas : List ℕ) → list_all (λ area. nat_le area 63) areas ≡ true → AreAreas areas
+AreAreas-shown areas h =
+    All-weaker (λ area. nat_le area 63 ≡ true) (λ area. area ≤ 63) (λ area below. leb-true area 63 below) areas
+    (All-from_list_all (λ area. nat_le area 63) areas h)

@@ -1,5 +1,5 @@
 -- Grounds: a setting, the field of its size, and the layers of its tiles.
-use Rattle.std.specs.Prelude.{◌≡◌, List, [], ◌∷◌}
+use Rattle.std.specs.Prelude.{◌≡◌, false}
 use Rattle.nav_ground.specs.declared.setting.Setting.{Setting}
 use Rattle.nav_ground.specs.declared.field.Field.{Field}
 use Rattle.nav_ground.specs.declared.cell.Layer.{Layer}
@@ -7,16 +7,16 @@ use Rattle.nav_ground.specs.declared.history.Ground.{Ground}
 use Rattle.nav_ground.specs.Limits.{IsSetting}
 use Rattle.nav_ground.specs.Fields.{IsField}
 use Rattle.nav_ground.specs.Cells.{IsLayer, IsInTile}
-use Rattle.nav_ground.specs.FlatFields.{IsFlat, flat_layer}
+use Rattle.nav_ground.specs.Layers.{layers_of}
 
 -- a field has the size that the setting says
 pub record IsSized (setting : Setting) (field : Field) : Type 0 where
   pub width : field.width ≡ setting.width
   pub depth : field.depth ≡ setting.depth
 
--- the layers of a field, in tile order; so far only flat fields of one tile are cut
-abbrev pub layers_of : Setting → Field → List Layer
-layers_of setting field = flat_layer field ∷ []
+-- obstacles block only the cells that they cover, whatever the agent's radius; grounds are built for such settings only
+pub record IsBuiltFor (setting : Setting) : Type 0 where
+  pub clear : setting.clear ≡ false
 
 -- a layer of a ground with a setting keeps the rules of layers, and its cells lie in its tile
 pub record IsLayerOf (setting : Setting) (layer : Layer) : Type 0 where
@@ -28,5 +28,5 @@ pub record IsGround (whole : Ground) : Type 0 where
   pub setting : IsSetting whole.setting
   pub field : IsField whole.field
   pub sized : IsSized whole.setting whole.field
-  pub flat : IsFlat whole.setting whole.field
+  pub built : IsBuiltFor whole.setting
   pub layers : whole.layers ≡ layers_of whole.setting whole.field

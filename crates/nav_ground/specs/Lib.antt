@@ -2,8 +2,12 @@ pub mod Limits
 pub mod Tiling
 pub mod Fields
 pub mod Cells
+pub mod Column
+pub mod Filters
+pub mod Connection
+pub mod Clearance
+pub mod Layers
 pub mod Shapes
 pub mod FreeCells
 pub mod History
-pub mod FlatFields
 pub mod Grounds

@@ -1,5 +1,5 @@
 -- Tiles: squares of columns from the corner (0, 0), cut at the field's edge, numbered row by row.
-use Rattle.std.specs.Prelude.{ℕ, ◌+◌, ◌*◌, ◌-◌, ◌/◌, ◌%◌, min, pos, ◌≤ℤ◌}
+use Rattle.std.specs.Prelude.{ℕ, ◌+◌, ◌*◌, ◌-◌, ◌/◌, ◌%◌, min, pos, ◌≤ℤ◌, Bool, ◌&&◌, int_le}
 use Rattle.std.specs.Int.{div_ceil}
 use Rattle.nav_ground.specs.declared.setting.Setting.{Setting}
 use Rattle.nav_ground.specs.declared.cell.Window.{Window}
@@ -38,3 +38,8 @@ pub record IsInWindow (window : Window) (x z : ℕ) : Type 0 where
   pub x_most : pos x ≤ℤ window.x1
   pub z_least : window.z0 ≤ℤ pos z
   pub z_most : pos z ≤ℤ window.z1
+
+-- the same as a test, for lists of cells
+abbrev pub is_in_window : Window → ℕ → ℕ → Bool
+is_in_window window x z =
+    int_le window.x0 (pos x) && int_le (pos x) window.x1 && (int_le window.z0 (pos z) && int_le (pos z) window.z1)
