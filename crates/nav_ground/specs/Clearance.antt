@@ -1,4 +1,4 @@
--- Clearance: how far the cells of a list are from where the list ends, by walks along their connections.
+-- Clearance: how far the cells of a list are from its boundary cells, by walks along their connections.
 use Rattle.std.specs.Prelude.{ℕ, zero, suc, ◌+◌, ◌*◌, ◌%◌, Bool, false, not, ◌&&◌, ◌||◌, List, [], ◌∷◌, map, filter}
 use Rattle.std.specs.List.{list_any, range_with_len}
 use Rattle.nav_ground.specs.declared.cell.Cell.{Cell}
@@ -37,7 +37,8 @@ is_walk_end cells (suc (suc (suc cost))) to =
     list_any (λ (from : Cell). is_axis_step from to && is_walk_end cells (suc cost) from
     || is_diagonal_step cells from to && is_walk_end cells cost from) cells
 
--- a cell is kept for a radius where its clearance, the least cost of such a walk, is at least twice the radius: no cheaper walk ends there
+-- a cell is kept for a radius where its clearance, the least cost of such a walk, is at least twice the radius: no cheaper walk ends there,
+-- which is also so where no walk does
 abbrev pub is_kept : List Cell → ℕ → Cell → Bool
 is_kept cells radius cell = not (list_any (λ cost. is_walk_end cells cost cell) (range_with_len 0 (2 * radius)))
 

@@ -34,7 +34,7 @@ pub record Gap : Type 0 where
   pub floor : Option ℕ
   pub ceiling : ℕ
 
--- the gaps of spans that stand one above the other over a floor: below each span, and above the last
+-- the gaps of spans that stand one above the other over a floor, or over none: below each span, and above the last
 abbrev pub gaps_over : Option ℕ → List Span → List Gap
 gaps_over floor [] = record { floor = floor; ceiling = 65535 } ∷ []
 gaps_over floor (span ∷ above) = record { floor = floor; ceiling = span.bottom } ∷ gaps_over (Some span.top) above

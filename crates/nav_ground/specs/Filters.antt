@@ -1,4 +1,4 @@
--- Filters: which spans stay walkable. Each filter reads the areas as they were before it.
+-- Filters: the areas of spans after each of three filters, each of which reads the areas as they were before it.
 use Rattle.std.specs.Prelude.{ℕ, ◌+◌, Bool, nat_lt, nat_le, min, max, true, ◌==◌, ◌&&◌, ◌||◌, if◌then◌else◌, List, [], ◌∷◌, ◌++◌, map, filter, Option}
 use Rattle.std.specs.List.{list_any, filter_map, zip}
 use Rattle.std.specs.Option.{option_map_or}
@@ -20,7 +20,8 @@ low_hanging_areas field agent = map (low_hanging_area agent.climb field.spans) f
 abbrev pub areas_without : (Span → Bool) → List Span → List ℕ → List ℕ
 areas_without is_taken spans areas = map (λ (beside : Span × ℕ). if is_taken beside.0 then 0 else beside.1) (zip spans areas)
 
--- a gap is open to a span where an agent's height fits between the greater of the two floors and the lesser of the two ceilings
+-- a gap is open to a span where an agent's height fits between the greater of the two floors (the span's, for a gap without one) and the
+-- lesser of the two ceilings
 abbrev pub is_open : ℕ → List Span → Span → Gap → Bool
 is_open height spans span gap =
     nat_le (option_map_or (λ floor. max span.top floor) gap.floor span.top + height) (min (ceiling_of spans span) gap.ceiling)
@@ -38,7 +39,7 @@ open_gaps height spans span = filter (is_open height spans span) (gaps_beside sp
 abbrev pub is_at_edge : Field → Span → Bool
 is_at_edge field span = span.x == 0 || span.z == 0 || span.x + 1 == field.width || span.z + 1 == field.depth
 
--- a gap's floor is more than the climb below a height, as is every height for a gap without a floor
+-- a gap's floor is more than the climb below a height; a gap without a floor is so below every height
 abbrev pub is_drop : ℕ → ℕ → Gap → Bool
 is_drop climb height gap = option_map_or (λ floor. nat_lt (floor + climb) height) gap.floor true
 
@@ -54,7 +55,8 @@ near_floors climb height gaps = height ∷ filter (is_near climb height) (filter
 abbrev pub is_steep : ℕ → List ℕ → Bool
 is_steep climb heights = list_any (λ low. list_any (λ high. nat_lt (low + climb) high) heights) heights
 
--- a ledge: at the field's edge, or beside a drop, or where the near floors around are steep
+-- a ledge: at the field's edge, or beside an open drop, or where two of its own floor and the near floors of open gaps differ by more than
+-- the climb
 unfoldable pub is_ledge : Field → Agent → Span → Bool
 is_ledge field agent span =
     is_at_edge field span

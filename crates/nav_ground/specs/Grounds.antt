@@ -18,12 +18,13 @@ pub record IsSized (setting : Setting) (field : Field) : Type 0 where
 pub record IsBuiltFor (setting : Setting) : Type 0 where
   pub clear : setting.clear ≡ false
 
--- a layer of a ground with a setting keeps the rules of layers, and its cells lie in its tile
+-- a layer of a ground with a setting keeps the rules of layers, its tile is one of the ground, and its cells lie in it
 pub record IsLayerOf (setting : Setting) (layer : Layer) : Type 0 where
   pub rules : IsLayer layer
   pub inside : IsInTile setting layer.tile layer.cells
 
--- a ground keeps the rules of its parts, and its layers are those of its field
+-- a ground keeps the rules of its parts, its field has the size that the setting says, the setting is one that grounds are built for, and
+-- its layers are those of its field
 pub record IsGround (whole : Ground) : Type 0 where
   pub setting : IsSetting whole.setting
   pub field : IsField whole.field

@@ -28,7 +28,8 @@ layer_cell kept cell = record cell {
   next = kept_level kept cell 0 ∷ kept_level kept cell 1 ∷ kept_level kept cell 2 ∷ kept_level kept cell 3 ∷ [];
 }
 
--- the layer of a tile: the kept cells of its columns, in order; where obstacles block only what they cover, it has no wide cells
+-- the layer of a tile: the kept cells of its columns, in order; its radius is 0 and it has no wide cells, as for every setting that grounds
+-- are built for
 abbrev pub layer_among : Setting → List Cell → ℕ → Layer
 layer_among setting kept tile = record {
   tile = tile;
