@@ -238,3 +238,22 @@ ledge_seen field agent span stand seen inside at is =
     (ap (λ (s : Seen). s.least) now ∙ least_seen own (seen_at_first own) around)
     (ap (λ (s : Seen). s.greatest) now ∙ greatest_seen own (seen_at_first own) around)
     ∙ ledge_not_at_edge field agent span inside
+
+-- the same for a span that is found at its place in a list of the field's spans
+pub ledge_found : (field : Field) (agent : Agent) (spans : List Span) (span here : Span) (ceiling : ℕ) (seen : Seen)
+    → spans ≡ field.spans → span ≡ here → is_at_edge field span ≡ false → ceiling ≡ ceiling_of spans span
+    → ◌≡◌ {A = Seen} seen (seen_over (record { floor = span.top; ceiling = ceiling; height = agent.height; climb = agent.climb })
+    (record { beside_drop = false; least = span.top; greatest = span.top }) (gaps_beside spans span))
+    → (seen.beside_drop || nat_lt (seen.least + agent.climb) seen.greatest) ≡ is_ledge field agent here
+ledge_found field agent spans span here ceiling seen same at inside under is =
+    let stand : Stand = record { floor = span.top; ceiling = ceiling; height = agent.height; climb = agent.climb } in
+    let own : Stand = record { floor = span.top; ceiling = ceiling_of field.spans span; height = agent.height; climb = agent.climb } in
+    let stands : stand ≡ own =
+    ap (λ n. record { floor = span.top; ceiling = n; height = agent.height; climb = agent.climb })
+    (under ∙ ap (λ (xs : List Span). ceiling_of xs span) same) in
+    ledge_seen field agent span stand seen inside stands
+    (is ∙ ap (λ (xs : List Span). seen_over stand (seen_at_first stand) (gaps_beside xs span)) same)
+    ∙ ap (is_ledge field agent) at
+
+pub edge_found : (field : Field) (agent : Agent) (span here : Span) → span ≡ here → is_at_edge field span ≡ true → true ≡ is_ledge field agent here
+edge_found field agent span here at edge = ledge_at_edge field agent span edge ∙ ap (is_ledge field agent) at

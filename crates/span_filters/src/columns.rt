@@ -1,6 +1,6 @@
 //! Columns of spans: what stands above and below a span, and where other columns lie in the list.
 
-ghost use Rattle.std.specs.Prelude.{◌≡◌, ◌+◌, ◌<◌, ◌↔◌, IsTrue, None, length, take, filter, slice_index_or};
+ghost use Rattle.std.specs.Prelude.{◌≡◌, ◌+◌, ◌<◌, ◌↔◌, IsTrue, IfSome, None, length, take, filter, slice_index_or};
 ghost use Rattle.nav_ground.specs.declared.field.Span.{Span};
 ghost use Rattle.nav_ground.specs.Column.{span_below, ceiling_of};
 ghost use Rattle.span_filters.specs.Columns.{IsLargestSpan, AreSpans, IsPassed, IsCutAt, IsSameColumn, column_of, column_beside, place_of, start_of, floor_over, is_in};
@@ -21,7 +21,8 @@ fn is_same_column(a: &Span, b: &Span) -> bool
 pub fn span_below(spans: &[Span], i: usize) -> Option<Span>
     requires spans { AreSpans spans.now }
     requires there { i < length spans.now }
-    ensures { (d : Span) → result ≡ Rattle.nav_ground.specs.Column.span_below spans.now (slice_index_or spans.now i d) }
+    ensures within { IfSome result IsLargestSpan }
+    ensures below { (d : Span) → result ≡ Rattle.nav_ground.specs.Column.span_below spans.now (slice_index_or spans.now i d) }
 {
     if i == 0 {
         return None;
