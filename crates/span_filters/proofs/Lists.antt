@@ -1,7 +1,6 @@
 -- The areas that a filter leaves, and what spans have passed, span by span.
 use Rattle.std.proofs.Common.{◌≡◌, ℕ, ◌+◌, ◌<◌, ◌≤◌, Bool, length, List, [], ◌∷◌, ◌++◌, take, get_or, ap, ◌∙◌, sym, refl, subst, arith, zero, suc}
-use Rattle.std.specs.Prelude.{if◌then◌else◌, nat_lt}
-use Rattle.std.proofs.lemmas.Bool.{lt-ltb, le-ltb}
+use Rattle.std.specs.Prelude.{if◌then◌else◌}
 use Rattle.std.proofs.Math.Numerals.{add-one}
 use Rattle.std.proofs.lemmas.List.{get_or_default}
 use Rattle.nav_ground.specs.declared.field.Span.{Span}
@@ -55,12 +54,3 @@ passed_after spans passed height i rules' low here j d later there =
       right = passed_later spans passed.right _ _ (rises 2 (omega arith)) at.right;
       below = passed_later spans passed.below _ _ (rises 3 (omega arith)) at.below;
     }
-
--- what is left under a ceiling that is too low, and under one that is not
-pub left_under_low : (pushed area ceiling known need : ℕ) → pushed ≡ 0 → ceiling ≡ known → ceiling < need
-    → pushed ≡ (if nat_lt known need then 0 else area)
-left_under_low pushed area ceiling known need is same low = is ∙ sym (ap (λ b. if b then 0 else area) (lt-ltb known need (omega (arith, same, low))))
-
-pub left_under_high : (pushed area ceiling known need : ℕ) → pushed ≡ area → ceiling ≡ known → need ≤ ceiling
-    → pushed ≡ (if nat_lt known need then 0 else area)
-left_under_high pushed area ceiling known need is same high = is ∙ sym (ap (λ b. if b then 0 else area) (le-ltb known need (omega (arith, same, high))))

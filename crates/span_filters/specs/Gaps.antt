@@ -12,6 +12,10 @@ area_hung climb span below =
     if span.area == 0 then option_map_or (λ (other : Span). if nat_le span.top (other.top + climb) then other.area else 0) below 0
     else span.area
 
+-- the area of a span under a ceiling, where so much is needed
+abbrev pub area_under : ℕ → ℕ → ℕ → ℕ
+area_under ceiling needed area = if nat_lt ceiling needed then 0 else area
+
 -- an agent stands on a span of the largest field
 pub record IsStand (stand : Stand) : Type 0 where
   pub floor : stand.floor ≤ 8191

@@ -62,10 +62,17 @@ pub fn low_ceilings(
     let spans = field.spans.as_slice();
     let mut left = Vec::with_capacity(alloc, spans.len())?;
     for (i, span) in spans.iter().enumerate() {
-        let is_low = ceiling_of(spans, i) < span.top + agent.height;
-        left.push(if is_low { 0 } else { areas[i] })?;
+        let ceiling = ceiling_of(spans, i);
+        left.push(area_under(ceiling, span.top + agent.height, areas[i]))?;
     }
     Ok(left)
+}
+
+/// The area of a span under a ceiling, where the agent needs so much.
+fn area_under(ceiling: u32, needed: u32, area: u32) -> u32
+    ensures { result ≡ Rattle.span_filters.specs.Gaps.area_under ceiling needed area }
+{
+    if ceiling < needed { 0 } else { area }
 }
 
 /// The areas that the three filters leave, one after the other: low hanging spans, ledges, low ceilings.

@@ -35,7 +35,8 @@ returns-clause-rules c =
     IfOk-weaker c.low_ceilings.result (λ (areas : Vec ℕ). areas.items ≡ low_ceiling_areas c.args.field.now c.as_slice-2.result.now c.args.agent.now)
     (λ (areas : Vec ℕ). AreAreas areas.items × (length areas.items ≡ length c.args.field.now.spans))
     (λ areas is.
-    let made = is ∙ ap (λ left. low_ceiling_areas c.args.field.now left c.args.agent.now) left in
-    (subst AreAreas (sym made) (filtered_are_areas c.args.field.now c.args.agent.now c.requires.field),
-    ap length made ∙ length-filtered_areas c.args.field.now c.args.agent.now))
+    let made = is ∙ ap (λ left. low_ceiling_areas c.args.field.now left c.args.agent.now) left in (
+      subst AreAreas (sym made) (filtered_are_areas c.args.field.now c.args.agent.now c.requires.field),
+      ap length made ∙ length-filtered_areas c.args.field.now c.args.agent.now,
+    ))
     c.low_ceilings.ensures
