@@ -1,0 +1,156 @@
+-- Gaps of spans that stand one above the other: which of them show nothing.
+use Rattle.std.proofs.Common.{◌≡◌, ℕ, ◌+◌, ◌<◌, ◌≤◌, Bool, true, false, length, List, [], ◌∷◌, ◌++◌, take, drop, get_or, cond, ap, ◌∙◌, sym, refl, subst, Option, Some, None, arith, zero, suc, inl, inr, max, min}
+use Rattle.std.specs.Prelude.{All, AllPairs, IfSome, filter, nat_le, if◌then◌else◌}
+use Rattle.std.specs.Option.{option_map_or}
+use Rattle.std.proofs.lemmas.Bool.{both_ways, leb-false, lt-leb, eqb-true}
+use Rattle.std.proofs.lemmas.List.{take-append-drop, get_or-take, length-take-le}
+use Rattle.std.proofs.lemmas.List.Elements.{All-head, All-tail, All-take, All-filter, filter-append, filter_passes}
+use Rattle.std.proofs.lemmas.List.Kept.{AllPairs-filter}
+use Rattle.nav_ground.specs.declared.field.Span.{Span}
+use Rattle.nav_ground.specs.Column.{Gap, gaps_over, gaps_of}
+use Rattle.nav_ground.specs.Fields.{IsSpan, IsSpanBefore}
+use Rattle.span_filters.specs.declared.gaps.Stand.{Stand}
+use Rattle.span_filters.specs.declared.gaps.Seen.{Seen}
+use Rattle.span_filters.specs.Columns.{AreSpans, IsCutAt, IsStack, IsOver, column_of, is_in, place_of, start_of, floor_over}
+use Rattle.span_filters.specs.Gaps.{IsStand, is_open_to, with_gap, with_floor, seen_over, is_in_reach}
+use Rattle.span_filters.proofs.Neighbours.{stacked}
+
+-- the greater floor over which a gap is open is at least the own one, and at least the gap's
+higher : ℕ → Option ℕ → ℕ
+higher own floor = option_map_or (λ f. max own f) floor own
+
+own_below : (own : ℕ) (floor : Option ℕ) → own ≤ higher own floor
+unfolding higher
+own_below own None = omega arith
+own_below own (Some f) = omega arith
+
+-- a gap whose ceiling is too low for the own floor shows nothing
+closed_below : (stand : Stand) (seen : Seen) (floor : Option ℕ) (ceiling : ℕ) → ceiling < stand.floor + stand.height
+    → with_gap stand seen (record { floor = floor; ceiling = ceiling }) ≡ seen
+unfolding higher
+closed_below stand seen floor ceiling low =
+    let over = own_below stand.floor floor in
+    let closed : is_open_to stand (record { floor = floor; ceiling = ceiling }) ≡ false =
+    lt-leb (higher stand.floor floor + stand.height) (min stand.ceiling ceiling) (omega (arith, low, over)) in
+    ap (λ b. if b then option_map_or (with_floor stand seen) floor (record seen { beside_drop = true }) else seen) closed
+
+-- a gap whose floor is too high for the own ceiling shows nothing
+closed_above : (stand : Stand) (seen : Seen) (floor ceiling : ℕ) → stand.ceiling < floor + stand.height
+    → with_gap stand seen (record { floor = Some floor; ceiling = ceiling }) ≡ seen
+closed_above stand seen floor ceiling high =
+    let closed : is_open_to stand (record { floor = Some floor; ceiling = ceiling }) ≡ false =
+    lt-leb (max stand.floor floor + stand.height) (min stand.ceiling ceiling) (omega (arith, high)) in
+    ap (λ b. if b then with_floor stand seen floor else seen) closed
+
+-- spans whose bottoms are too low show nothing
+pub passed_gaps : (stand : Stand) (seen : Seen) (floor : Option ℕ) (xs ys : List Span)
+    → All (λ (s : Span). s.bottom < stand.floor + stand.height) xs
+    → seen_over stand seen (gaps_over floor (xs ++ ys)) ≡ seen_over stand seen (gaps_over (floor_over floor xs) ys)
+passed_gaps stand seen floor [] ys each = refl
+passed_gaps stand seen floor (s ∷ xs) ys each =
+    let P = λ (t : Span). t.bottom < stand.floor + stand.height in
+    ap (λ (now : Seen). seen_over stand now (gaps_over (Some s.top) (xs ++ ys))) (closed_below stand seen floor s.bottom (All-head P s xs each))
+    ∙ passed_gaps stand seen (Some s.top) xs ys (All-tail P s xs each)
+
+-- spans over a floor that is too high show nothing
+pub gaps_too_high : (stand : Stand) (seen : Seen) (floor : ℕ) (xs : List Span) → IsStack (Some floor) xs → stand.ceiling < floor + stand.height
+    → seen_over stand seen (gaps_over (Some floor) xs) ≡ seen
+gaps_too_high stand seen floor [] stack high = closed_above stand seen floor 65535 high
+gaps_too_high stand seen floor (s ∷ xs) stack high =
+    ap (λ (now : Seen). seen_over stand now (gaps_over (Some s.top) xs)) (closed_above stand seen floor s.bottom high)
+    ∙ gaps_too_high stand seen s.top xs stack.2 (omega (arith, high, stack.0, stack.1))
+
+-- the rest of a stack
+pub rest_of_stack : (floor : Option ℕ) (xs ys : List Span) → IsStack floor (xs ++ ys) → IsStack (floor_over floor xs) ys
+rest_of_stack floor [] ys stack = stack
+rest_of_stack floor (s ∷ xs) ys stack = rest_of_stack (Some s.top) xs ys stack.2
+
+-- spans of which each ends before each later one begins stand one above the other
+AllPairs-rest : {A : Type 0} (R : A → A → Type 0) (x : A) (xs : List A) → AllPairs R (x ∷ xs) → All (R x) xs × AllPairs R xs
+AllPairs-rest R x xs pairs = (
+  λ k d there. pairs zero (suc k) d (omega arith) (omega (arith, there)),
+  λ i j d before there. pairs (suc i) (suc j) d (omega (arith, before)) (omega (arith, there)),
+)
+
+stack_of : (floor : Option ℕ) (xs : List Span) → All (λ (s : Span). IsOver floor s.bottom) xs → All (λ (s : Span). s.bottom < s.top) xs
+    → AllPairs (λ (a b : Span). a.top ≤ b.bottom) xs → IsStack floor xs
+stack_of floor [] over solid pairs = tt
+stack_of floor (s ∷ xs) over solid pairs =
+    let rest = AllPairs-rest (λ (a b : Span). a.top ≤ b.bottom) s xs pairs in (
+      All-head (λ (t : Span). IsOver floor t.bottom) s xs over,
+      All-head (λ (t : Span). t.bottom < t.top) s xs solid,
+      stack_of (Some s.top) xs rest.0 (All-tail (λ (t : Span). t.bottom < t.top) s xs solid) rest.1,
+    )
+
+-- the spans of a column stand one above the other
+pub column_stack : (spans : List Span) (column : ℕ) → AreSpans spans → IsStack None (filter (is_in column) spans)
+column_stack spans column rules' =
+    let own = filter (is_in column) spans in
+    let each = All-filter (is_in column) (IsSpan 1024 1024) spans rules'.each in
+    let inside = filter_passes (is_in column) spans in
+    let pairs = AllPairs-filter IsSpanBefore (is_in column) spans rules'.order in
+    stack_of None own (λ k d there. tt) (λ k d there. (each k d there).solid)
+    (λ i j d before there.
+    let at = eqb-true _ _ (inside i d (omega arith)) in
+    let at' = eqb-true _ _ (inside j d there) in
+    stacked (get_or own i d) (get_or own j d) (each i d (omega arith)) (each j d there) (pairs i j d before there) (at ∙ sym at'))
+
+-- a floor over spans is the top of one of them
+floor_small : (floor : Option ℕ) (xs : List Span) → IfSome floor (λ f. f ≤ 8191) → All (IsSpan 1024 1024) xs → IfSome (floor_over floor xs) (λ f. f ≤ 8191)
+floor_small floor [] small each = small
+floor_small floor (s ∷ xs) small each =
+    floor_small (Some s.top) xs (All-head (IsSpan 1024 1024) s xs each).top (All-tail (IsSpan 1024 1024) s xs each)
+
+-- a list cut in two
+cut : {A : Type 0} (p : A → Bool) (n : ℕ) (xs : List A) → filter p (take n xs) ++ filter p (drop n xs) ≡ filter p xs
+cut p n xs = sym (filter-append p (take n xs) (drop n xs)) ∙ ap (filter p) (take-append-drop n xs)
+
+module _ (stand : Stand) (spans : List Span) (n column : ℕ) (rules' : AreSpans spans) (at : IsStand stand)
+    (first : IsCutAt spans n (place_of column (stand.floor + stand.height))) where
+  -- the spans of the column before the first one are too low
+  low_before : All (λ (s : Span). s.bottom < stand.floor + stand.height) (filter (is_in column) (take n spans))
+  low_before k d there =
+      let P : Span → Type 0 = λ (s : Span). start_of s < place_of column (stand.floor + stand.height) in
+      let each : All P (take n spans) = λ j e within.
+      let fewer = length-take-le n spans first.passed.most in
+      subst P (sym (get_or-take n spans j e (omega (arith, fewer, within)))) (first.passed.before j e (omega (arith, fewer, within))) in
+      let before = All-filter (is_in column) P (take n spans) each k d there in
+      let inside = eqb-true _ _ (filter_passes (is_in column) (take n spans) k d there) in
+      omega (arith, before, inside)
+
+  -- from the first one on no span lies in an earlier column
+  pub next_from : (k : ℕ) (d : Span) → n ≤ k → k < length spans → column ≤ column_of (get_or spans k d)
+  next_from k d above there =
+      let after = first.after k d above there in
+      let solid = (rules'.each k d there).solid in
+      let top = (rules'.each k d there).top in
+      omega (arith, after, solid, top)
+
+  module _ (floor : Option ℕ) (under : floor ≡ floor_over None (filter (is_in column) (take n spans))) where
+    pub stack_from : IsStack floor (filter (is_in column) (drop n spans))
+    stack_from =
+        let P : Option ℕ → Type 0 = λ f. IsStack f (filter (is_in column) (drop n spans)) in
+        let Q : List Span → Type 0 = λ xs. IsStack None xs in
+        subst P (sym under) (rest_of_stack None (filter (is_in column) (take n spans)) (filter (is_in column) (drop n spans))
+        (subst Q (sym (cut (is_in column) n spans)) (column_stack spans column rules')))
+
+    pub seen_from : (seen : Seen) → seen_over stand seen (gaps_over floor (filter (is_in column) (drop n spans)))
+        ≡ seen_over stand seen (gaps_of (filter (is_in column) spans))
+    seen_from seen =
+        ap (λ f. seen_over stand seen (gaps_over f (filter (is_in column) (drop n spans)))) under
+        ∙ sym (passed_gaps stand seen None (filter (is_in column) (take n spans)) (filter (is_in column) (drop n spans)) low_before)
+        ∙ ap (λ xs. seen_over stand seen (gaps_over None xs)) (cut (is_in column) n spans)
+
+    pub floor_from : IfSome floor (λ f. f ≤ 8191)
+    floor_from =
+        let P : Option ℕ → Type 0 = λ f. IfSome f (λ h. h ≤ 8191) in
+        subst P (sym under) (floor_small None (filter (is_in column) (take n spans)) tt
+        (All-filter (is_in column) (IsSpan 1024 1024) (take n spans) (All-take (IsSpan 1024 1024) n spans rules'.each)))
+
+-- from a floor that is out of reach on nothing more is seen
+pub past_reach : (stand : Stand) (seen : Seen) (floor : Option ℕ) (xs : List Span) → is_in_reach stand floor ≡ false → IsStack floor xs
+    → with_gap stand seen (record { floor = floor; ceiling = 65535 }) ≡ seen_over stand seen (gaps_over floor xs)
+past_reach stand seen None xs far stack = absurd (both_ways true far refl)
+past_reach stand seen (Some floor) xs far stack =
+    let high = leb-false _ _ far in
+    closed_above stand seen floor 65535 high ∙ sym (gaps_too_high stand seen floor xs stack high)

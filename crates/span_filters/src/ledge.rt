@@ -1,0 +1,168 @@
+//! The filter of ledges.
+
+ghost use Rattle.std.specs.Prelude.{◌≡◌, ◌+◌, ◌<◌, ◌≤◌, IfOk, length, filter, slice_index_or, if◌then◌else◌};
+ghost use Rattle.nav_ground.specs.declared.field.Span.{Span};
+ghost use Rattle.nav_ground.specs.Fields.{IsField, AreAreas};
+ghost use Rattle.nav_ground.specs.Limits.{IsAgent};
+ghost use Rattle.nav_ground.specs.Column.{gaps_of, column_toward};
+ghost use Rattle.nav_ground.specs.Filters.{ledge_areas, is_ledge, is_at_edge, gaps_beside};
+ghost use Rattle.span_filters.specs.Columns.{IsLargestSpan, AreSpans, IsPassed, IsCutAt, column_beside, place_of, is_in};
+ghost use Rattle.span_filters.specs.Gaps.{IsStand, seen_over, seen_at_first};
+ghost use Rattle.span_filters.specs.Looks.{ArePassed};
+
+use crate::columns::{OPEN_SKY, ceiling_of, column_beside, column_of, floor_over, pass, place_of};
+use crate::gaps::{Seen, Stand, is_in_reach, with_gap};
+use nav_ground::{Agent, Field, Span};
+use std::alloc::{AllocError, Global};
+
+/// How many spans of the list lie before what a span can see of the neighbouring columns: in columns before them, or with their bottoms
+/// too low for a gap under them to be open. As spans are gone through in order these numbers only rise, so all of them together pass
+/// each span once a direction.
+#[derive(Clone, Copy, PartialEq, Eq, Debug)]
+pub struct Passed {
+    pub left: usize,
+    pub above: usize,
+    pub right: usize,
+    pub below: usize,
+}
+
+/// The areas of the spans, with 0 for each span that is a ledge: at the field's edge, or beside a drop of more than the climb, or where
+/// the floors within reach around differ by more than the climb. Recast's ledge filter.
+pub fn ledges(
+    alloc: Global,
+    field: &Field,
+    areas: &[u32],
+    agent: &Agent,
+) -> Result<Vec<u32>, AllocError>
+    requires field { IsField field.now }
+    requires agent { IsAgent agent.now }
+    requires areas { AreAreas areas.now }
+    requires beside { length areas.now ≡ length field.now.spans }
+    ensures { IfOk result (λ left. left.items ≡ ledge_areas field.now areas.now agent.now) }
+{
+    let mut passed = Passed {
+        left: 0,
+        above: 0,
+        right: 0,
+        below: 0,
+    };
+    let mut left = Vec::with_capacity(alloc, areas.len())?;
+    for (i, area) in areas.iter().enumerate() {
+        left.push(area_left(field, agent, &mut passed, i, *area))?;
+    }
+    Ok(left)
+}
+
+/// The area that a span is left with.
+fn area_left(field: &Field, agent: &Agent, passed: &mut Passed, i: usize, area: u32) -> u32
+    requires field { IsField field.now }
+    requires agent { IsAgent agent.now }
+    requires there { i < length field.now.spans }
+    requires passed { (d : Span) → ArePassed field.now.spans passed.old agent.now.height (slice_index_or field.now.spans i d) }
+    ensures area { (d : Span) → result ≡ (if is_ledge field.now agent.now (slice_index_or field.now.spans i d) then 0 else area) }
+    ensures passed { (d : Span) → ArePassed field.now.spans passed.new agent.now.height (slice_index_or field.now.spans i d) }
+{
+    if area == 0 {
+        return 0;
+    }
+    if is_ledge(field, agent, passed, i) {
+        0
+    } else {
+        area
+    }
+}
+
+/// Whether a span is a ledge.
+fn is_ledge(field: &Field, agent: &Agent, passed: &mut Passed, i: usize) -> bool
+    requires field { IsField field.now }
+    requires agent { IsAgent agent.now }
+    requires there { i < length field.now.spans }
+    requires passed { (d : Span) → ArePassed field.now.spans passed.old agent.now.height (slice_index_or field.now.spans i d) }
+    ensures ledge { (d : Span) → result ≡ Rattle.nav_ground.specs.Filters.is_ledge field.now agent.now (slice_index_or field.now.spans i d) }
+    ensures passed { (d : Span) → ArePassed field.now.spans passed.new agent.now.height (slice_index_or field.now.spans i d) }
+{
+    let spans = field.spans.as_slice();
+    let span = &spans[i];
+    if is_at_edge(field, span) {
+        return true;
+    }
+    let stand = Stand {
+        floor: span.top,
+        ceiling: ceiling_of(spans, i),
+        height: agent.height,
+        climb: agent.climb,
+    };
+    let seen = look_around(&stand, spans, passed, span);
+    seen.beside_drop || seen.least + agent.climb < seen.greatest
+}
+
+/// Whether one of the columns beside a span's lies outside the field.
+fn is_at_edge(field: &Field, span: &Span) -> bool
+    requires { IsLargestSpan span.now }
+    ensures { result ≡ is_at_edge field.now span.now }
+{
+    span.x == 0 || span.z == 0 || span.x + 1 == field.width || span.z + 1 == field.depth
+}
+
+/// What a span sees of the gaps of the four columns beside its own.
+fn look_around(stand: &Stand, spans: &[Span], passed: &mut Passed, span: &Span) -> Seen
+    requires stand { IsStand stand.now }
+    requires spans { AreSpans spans.now }
+    requires span { IsLargestSpan span.now }
+    requires floor { stand.now.floor ≡ span.now.top }
+    requires passed { ArePassed spans.now passed.old stand.now.height span.now }
+    ensures seen { result ≡ seen_over stand.now (seen_at_first stand.now) (gaps_beside spans.now span.now) }
+    ensures least { result.least ≤ stand.now.floor }
+    ensures passed { ArePassed spans.now passed.new stand.now.height span.now }
+{
+    let own = Seen {
+        beside_drop: false,
+        least: stand.floor,
+        greatest: stand.floor,
+    };
+    let one = look_toward(0, stand, spans, &mut passed.left, span, own);
+    let two = look_toward(1, stand, spans, &mut passed.above, span, one);
+    let three = look_toward(2, stand, spans, &mut passed.right, span, two);
+    look_toward(3, stand, spans, &mut passed.below, span, three)
+}
+
+/// What is seen once the gaps of the column beside a span's in a direction are looked at too.
+fn look_toward(
+    dir: usize,
+    stand: &Stand,
+    spans: &[Span],
+    passed: &mut usize,
+    span: &Span,
+    seen: Seen,
+) -> Seen
+    requires dir { dir < 4 }
+    requires stand { IsStand stand.now }
+    requires spans { AreSpans spans.now }
+    requires span { IsLargestSpan span.now }
+    requires passed { IsPassed spans.now passed.old (place_of (column_beside dir span.now) (stand.now.floor + stand.now.height)) }
+    ensures seen { result ≡ seen_over stand.now seen (gaps_of (column_toward dir spans.now span.now)) }
+    ensures passed { IsPassed spans.now passed.new (place_of (column_beside dir span.now) (stand.now.floor + stand.now.height)) }
+{
+    let column = column_beside(dir, span);
+    *passed = pass(spans, *passed, place_of(column, stand.floor + stand.height));
+    look(stand, spans, *passed, column, seen)
+}
+
+/// What is seen once the gaps of a column are looked at too, where the first span that begins high enough for an open gap is known.
+/// Gaps are looked at from the bottom up until their floors are too high.
+fn look(stand: &Stand, spans: &[Span], first: usize, column: u32, seen: Seen) -> Seen
+    requires stand { IsStand stand.now }
+    requires spans { AreSpans spans.now }
+    requires first { IsCutAt spans.now first (place_of column (stand.now.floor + stand.now.height)) }
+    ensures { result ≡ seen_over stand.now seen (gaps_of (filter (is_in column) spans.now)) }
+{
+    let mut seen = seen;
+    let mut floor = floor_over(spans, first, column);
+    let mut i = first;
+    while i < spans.len() && column_of(&spans[i]) == column && is_in_reach(stand, floor) {
+        seen = with_gap(stand, seen, floor, spans[i].bottom);
+        floor = Some(spans[i].top);
+        i += 1;
+    }
+    with_gap(stand, seen, floor, OPEN_SKY)
+}

@@ -1,0 +1,19 @@
+//! Filters: which spans of a field an agent can walk on.
+//!
+//! Three filters, each of which reads the areas as they were before it: a low hanging span takes the area of the span that it lies on, a
+//! ledge is nobody's ground, and neither is a span under a low ceiling. Rules and order are those of Recast (Mikko Mononen's library for
+//! navigation meshes). All of them take time in proportion to the number of spans.
+//!
+//! The crates above use the exact contracts of the four calls; `filtered` also says that it gives one area a span.
+#![tactic(auto)]
+
+mod columns;
+mod filters;
+mod gaps;
+mod ledge;
+
+pub use filters::{filtered, low_ceilings, low_hanging};
+pub use ledge::ledges;
+
+#[cfg(test)]
+mod tests;
