@@ -1,6 +1,6 @@
 //! Makes the cells of a field.
 
-ghost use Rattle.std.specs.Prelude.{◌≡◌, ◌<◌, IfOk, length, All, slice_get};
+ghost use Rattle.std.specs.Prelude.{◌≡◌, ◌≤◌, IfOk, length, All, slice_get};
 ghost use Rattle.nav_ground.specs.declared.cell.Cell.{Cell};
 ghost use Rattle.nav_ground.specs.Limits.{IsAgent};
 ghost use Rattle.nav_ground.specs.Fields.{IsField, AreAreas};
@@ -68,7 +68,7 @@ fn unconnected(alloc: Global, field: &Field, areas: &[u32]) -> Result<Vec<Cell>,
 
 /// The level of a cell on a span, from the cells before it in order: one above the last of them if that lies in the same column, else 0.
 fn level_over(cells: &[Cell], span: &Span) -> u32
-    requires { All (λ (cell : Cell). cell.at.level < 2000000) cells.now }
+    requires { All (λ (cell : Cell). cell.at.level ≤ 2000000) cells.now }
     ensures { result ≡ level_over cells.now span.now }
 {
     match cells.last() {

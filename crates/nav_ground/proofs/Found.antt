@@ -68,7 +68,7 @@ one_at_most : (a b : Bool) → (a ≡ true → b ≡ true) → cond a 1 0 ≤ co
 one_at_most true b passes = rw (passes refl) (omega arith)
 one_at_most false b passes = omega arith
 
-count_by-le : {X : Type 0} (p q : X → Bool) (xs : List X) → All (λ x. p x ≡ true → q x ≡ true) xs → count_by p xs ≤ count_by q xs
+pub count_by-le : {X : Type 0} (p q : X → Bool) (xs : List X) → All (λ x. p x ≡ true → q x ≡ true) xs → count_by p xs ≤ count_by q xs
 count_by-le p q [] each = omega arith
 count_by-le p q (x ∷ xs) each =
     let here = one_at_most (p x) (q x) (All-head (λ y. p y ≡ true → q y ≡ true) x xs each) in
