@@ -1,19 +1,17 @@
 -- The one cell of a neighbouring column that a cell may be connected to, and the cells that are passed before it.
-use Rattle.std.proofs.Common.{◌≡◌, ℕ, ◌+◌, ◌<◌, ◌≤◌, Bool, true, false, length, List, get_or, Option, Some, None, refl, sym, ap, ◌∙◌, subst, arith, inl, inr}
-use Rattle.std.specs.Prelude.{All, nat_lt, ◌==◌, ◌&&◌, ◌||◌}
-use Rattle.std.specs.List.{find}
+use Rattle.std.proofs.Common.{◌≡◌, ℕ, ◌+◌, ◌<◌, ◌≤◌, Bool, true, false, length, List, get_or, Some, None, sym, ap, ◌∙◌, subst, arith, inl, inr}
+use Rattle.std.specs.Prelude.{nat_lt, ◌==◌, ◌&&◌}
 use Rattle.std.specs.Option.{option_map}
-use Rattle.std.proofs.lemmas.Bool.{and_parts, and_from, or_cases, or_parts, or_left, or_right, eqb-true, eq-eqb, ltb-true, ltb-false, lt-ltb, cases_lt, cases_order, eqb-false, and_cases, false_from_ne_true, both_ways}
+use Rattle.std.proofs.lemmas.Bool.{and_parts, and_from, or_cases, or_parts, or_left, or_right, eqb-true, eq-eqb, ltb-true, ltb-false, lt-ltb, cases_lt, cases_order, eqb-false, and_cases, false_from_ne_true}
 use Rattle.std.proofs.lemmas.List.{get_or_default}
 use Rattle.nav_ground.specs.declared.setting.Agent.{Agent}
 use Rattle.nav_ground.specs.declared.cell.Cell.{Cell}
-use Rattle.nav_ground.specs.declared.cell.CellRef.{CellRef}
 use Rattle.nav_ground.specs.Limits.{IsAgent}
 use Rattle.nav_ground.specs.Cells.{is_toward}
 use Rattle.nav_ground.specs.Connection.{is_connected, level_toward}
 use Rattle.nav_ground.proofs.Found.{find_is, find_none}
 use Rattle.nav_ground.proofs.Connected.{step_from_test}
-use Rattle.compact_layer.specs.Columns.{IsPlace, column_of, column_toward}
+use Rattle.compact_layer.specs.Columns.{column_of, column_toward}
 use Rattle.compact_layer.specs.Stacks.{IsStanding, IsUnder, AreStacked, is_passed, IsPassed, ArePassed}
 use Rattle.compact_layer.specs.declared.sweep.Passed.{Passed}
 use Rattle.compact_layer.proofs.ColumnNumbers.{number_toward, toward_of_number}
@@ -48,12 +46,13 @@ test_of_before column height cell before =
 -- a cell that is not passed lies in a later column, or in the column with its ceiling at the height or above
 not_passed : (column height : ℕ) (cell : Cell) → is_passed column height cell ≡ false → (column ≤ column_of cell.at) × (column_of cell.at ≡ column → height ≤ cell.ceiling)
 not_passed column height cell h =
-    let parts = or_parts (nat_lt (column_of cell.at) column) (column_of cell.at == column && nat_lt cell.ceiling height) h in
-    (ltb-false (column_of cell.at) column parts.0,
-    λ same. elim (and_cases (column_of cell.at == column) (nat_lt cell.ceiling height) parts.1) [
-      | inl apart ↦ absurd (eqb-false (column_of cell.at) column apart same)
-      | inr high ↦ ltb-false cell.ceiling height high
-    ])
+    let parts = or_parts (nat_lt (column_of cell.at) column) (column_of cell.at == column && nat_lt cell.ceiling height) h in (
+      ltb-false (column_of cell.at) column parts.0,
+      λ same. elim (and_cases (column_of cell.at == column) (nat_lt cell.ceiling height) parts.1) [
+        | inl apart ↦ absurd (eqb-false (column_of cell.at) column apart same)
+        | inr high ↦ ltb-false cell.ceiling height high
+      ],
+    )
 
 -- what is passed for one cell is passed for one that is later in order
 passed_later : (cells : List Cell) (n column column' height height' : ℕ) → column ≤ column' → (column ≡ column' → height ≤ height')

@@ -1,6 +1,6 @@
 -- The levels of walkable spans in order: one above that of the span before, if that stands in the same column.
-use Rattle.std.proofs.Common.{◌≡◌, ℕ, zero, suc, ◌+◌, ◌<◌, ◌≤◌, ◌++◌, Bool, true, false, cond, length, List, [], ◌∷◌, take, drop, map, get_or, Option, Some, None, refl, sym, ap, ◌∙◌, subst, arith, add-one, inl, inr}
-use Rattle.std.specs.Prelude.{All, AllPairs, ◌&&◌, ◌==◌, if◌then◌else◌, slice_get, ◌-◌}
+use Rattle.std.proofs.Common.{◌≡◌, ℕ, zero, suc, ◌+◌, ◌<◌, ◌≤◌, ◌++◌, Bool, true, false, cond, length, List, [], ◌∷◌, take, drop, map, get_or, Option, Some, refl, sym, ap, ◌∙◌, subst, arith, add-one, inl, inr}
+use Rattle.std.specs.Prelude.{All, ◌&&◌, ◌==◌, if◌then◌else◌, slice_get, ◌-◌}
 use Rattle.std.specs.List.{count_by}
 use Rattle.std.specs.Option.{option_map_or}
 use Rattle.std.proofs.lemmas.Bool.{cases_lt, false_from_ne_true, both_ways}
@@ -10,12 +10,11 @@ use Rattle.std.proofs.lemmas.List.Sums.{sum_by-take-drop, sum_by-cons, count_by_
 use Rattle.std.proofs.lemmas.Option.{slice_get-get_or}
 use Rattle.nav_ground.specs.declared.field.Span.{Span}
 use Rattle.nav_ground.specs.declared.cell.Cell.{Cell}
-use Rattle.nav_ground.specs.Fields.{IsSpan, IsSpanBefore}
 use Rattle.nav_ground.specs.Column.{stands_above}
 use Rattle.nav_ground.specs.Connection.{unconnected_cell}
 use Rattle.nav_ground.proofs.Directions.{both_equal, tests_of_equal}
 use Rattle.nav_ground.proofs.Found.{count_by-le}
-use Rattle.nav_ground.proofs.Walkable.{IsAbove, IsAbove-from_test, test_of_IsAbove, above_from_order}
+use Rattle.nav_ground.proofs.Walkable.{IsAbove-from_test, test_of_IsAbove, above_from_order}
 use Rattle.compact_layer.specs.Making.{level_over}
 use Rattle.compact_layer.proofs.Ceilings.{AreSpans, IsBeside, between, none_above}
 

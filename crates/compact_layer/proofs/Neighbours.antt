@@ -1,6 +1,6 @@
 -- Cells found by place, and the cells that they name.
-use Rattle.std.proofs.Common.{◌≡◌, ℕ, zero, suc, ◌+◌, ◌<◌, ◌≤◌, Bool, true, false, length, List, [], ◌∷◌, get_or, Option, Some, None, refl, sym, ap, ◌∙◌, subst, arith, inl, inr}
-use Rattle.std.specs.Prelude.{All, AllPairs, Any, Contains, IsTrue, ◌&&◌, ◌==◌, nat_lt, option_and_then, slice_get}
+use Rattle.std.proofs.Common.{◌≡◌, ℕ, zero, suc, ◌+◌, ◌<◌, Bool, true, false, length, List, [], ◌∷◌, get_or, Option, Some, None, refl, sym, ap, ◌∙◌, subst, arith, inl, inr}
+use Rattle.std.specs.Prelude.{Contains, ◌&&◌, ◌==◌, option_and_then, slice_get}
 use Rattle.std.specs.List.{find}
 use Rattle.std.specs.List.Sorted.{IsPartitionedBy, IsPartitionPoint}
 use Rattle.std.specs.Option.{option_map, option_map_or}
@@ -9,7 +9,7 @@ use Rattle.std.proofs.lemmas.Bool.Decides.{nat_tests}
 use Rattle.std.proofs.lemmas.List.{get_or_default}
 use Rattle.nav_ground.specs.declared.cell.Cell.{Cell}
 use Rattle.nav_ground.specs.declared.cell.CellRef.{CellRef}
-use Rattle.nav_ground.specs.Cells.{IsCell, IsCells, IsCompact, IsCellBefore, is_toward, is_naming, next_level}
+use Rattle.nav_ground.specs.Cells.{IsCells, IsCompact, IsCellBefore, is_toward, is_naming, next_level}
 use Rattle.nav_ground.proofs.Directions.{both_equal}
 use Rattle.nav_ground.proofs.Found.{first_found, find_none}
 use Rattle.nav_ground.proofs.Connected.{one_cell}
@@ -65,9 +65,10 @@ place_is cells at n rules' (k, cell, there, is, same) (before, after) =
           (ap (is_before (get_or cells n cell).at) (sym at_k) ∙ test_of_before _ _ (rules'.order n k cell less there)))
       | inr (inr more) ↦
           absurd (not_before_itself at (ap (λ a. is_before a at) (sym at_k) ∙ before k cell (omega arith) more))
-    ] in
-    (omega (arith, n_is, there),
-    λ d. ap (λ (c : Cell). c.at) (get_or_default cells n d cell (omega (arith, n_is, there))) ∙ ap (λ i. (get_or cells i cell).at) n_is ∙ at_k)
+    ] in (
+      omega (arith, n_is, there),
+      λ d. ap (λ (c : Cell). c.at) (get_or_default cells n d cell (omega (arith, n_is, there))) ∙ ap (λ i. (get_or cells i cell).at) n_is ∙ at_k,
+    )
 
 -- a cell has a place where its three numbers are those of the place
 is_at_from : (at : CellRef) (cell : Cell) → cell.at ≡ at → is_at at cell ≡ true

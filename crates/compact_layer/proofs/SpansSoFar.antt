@@ -1,10 +1,10 @@
 -- The cells on the walkable spans, span by span.
-use Rattle.std.proofs.Common.{◌≡◌, ℕ, zero, suc, ◌+◌, ◌<◌, ◌≤◌, ◌++◌, Bool, true, false, cond, length, List, [], ◌∷◌, take, drop, map, get_or, Option, Some, None, refl, sym, ap, ◌∙◌, subst, arith}
-use Rattle.std.specs.Prelude.{All, AllPairs, ◌==◌, not, slice_get}
-use Rattle.std.specs.List.{count_by, filter, zip}
-use Rattle.std.proofs.lemmas.Bool.{eqb-true, eq-eqb, ne_eqb, not_from_true, not_from_false, cond-true, cond-false}
+use Rattle.std.proofs.Common.{◌≡◌, ℕ, ◌+◌, ◌<◌, ◌≤◌, ◌++◌, Bool, true, false, cond, length, List, [], ◌∷◌, take, drop, map, get_or, None, refl, sym, ap, ◌∙◌, subst, arith}
+use Rattle.std.specs.Prelude.{All, ◌==◌, not, slice_get}
+use Rattle.std.specs.List.{filter, zip}
+use Rattle.std.proofs.lemmas.Bool.{eq-eqb, ne_eqb, not_from_true, not_from_false, cond-true}
 use Rattle.std.proofs.lemmas.List.{get_or-map, length-map, length-append, map-append, append-nil, take_at, get_or_at, drop_more, take-append-drop, take_all}
-use Rattle.std.proofs.lemmas.List.Elements.{filter-append, filter_more, All-map, All-weaker}
+use Rattle.std.proofs.lemmas.List.Elements.{filter-append, filter_more, All-map}
 use Rattle.std.proofs.lemmas.List.Sums.{count_by-le-length}
 use Rattle.std.proofs.lemmas.Slice.Zip.{length-zip, get_or-zip}
 use Rattle.nav_ground.specs.declared.field.Span.{Span}
@@ -13,7 +13,7 @@ use Rattle.nav_ground.specs.declared.cell.Cell.{Cell}
 use Rattle.nav_ground.specs.Fields.{IsField, IsSpan, AreAreas}
 use Rattle.nav_ground.specs.Column.{stands_above, ceiling_of}
 use Rattle.nav_ground.specs.Connection.{walkable_spans, unconnected_cell, unconnected_cells}
-use Rattle.nav_ground.proofs.Walkable.{IsWalkable, walkable, walkable_order, few_walkable}
+use Rattle.nav_ground.proofs.Walkable.{walkable, walkable_order, few_walkable}
 use Rattle.compact_layer.specs.Making.{level_over, ceiling_over}
 use Rattle.compact_layer.proofs.Ceilings.{AreSpans, ceiling_is}
 use Rattle.compact_layer.proofs.Levels.{level_is}

@@ -1,5 +1,5 @@
 -- Cells by place, and their neighbours.
-use Rattle.std.specs.Prelude.{◌≡◌, ℕ, ◌+◌, ◌<◌, Bool, nat_lt, ◌==◌, ◌&&◌, ◌||◌, List, Any, Option, option_and_then}
+use Rattle.std.specs.Prelude.{◌≡◌, ℕ, ◌<◌, Bool, nat_lt, ◌==◌, ◌&&◌, ◌||◌, List, Any, Option, option_and_then}
 use Rattle.std.specs.List.{find}
 use Rattle.std.specs.Option.{option_map}
 use Rattle.nav_ground.specs.declared.cell.Cell.{Cell}

@@ -47,9 +47,25 @@ fn place_toward(dir: u32, at: CellRef, level: u32) -> CellRef
     ensures level { result.level ≡ level }
 {
     match dir {
-        0 => CellRef { x: at.x - 1, z: at.z, level },
-        1 => CellRef { x: at.x, z: at.z + 1, level },
-        2 => CellRef { x: at.x + 1, z: at.z, level },
-        _ => CellRef { x: at.x, z: at.z - 1, level },
+        0 => CellRef {
+            x: at.x - 1,
+            z: at.z,
+            level,
+        },
+        1 => CellRef {
+            x: at.x,
+            z: at.z + 1,
+            level,
+        },
+        2 => CellRef {
+            x: at.x + 1,
+            z: at.z,
+            level,
+        },
+        _ => CellRef {
+            x: at.x,
+            z: at.z - 1,
+            level,
+        },
     }
 }

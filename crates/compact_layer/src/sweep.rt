@@ -41,12 +41,7 @@ pub fn connect(cells: &mut [Cell], agent: &Agent)
 }
 
 /// The levels of the cells that a cell is connected to in the four directions.
-fn next_levels(
-    cells: &[Cell],
-    passed: &mut Passed,
-    cell: &Cell,
-    agent: &Agent,
-) -> [Option<u32>; 4]
+fn next_levels(cells: &[Cell], passed: &mut Passed, cell: &Cell, agent: &Agent) -> [Option<u32>; 4]
     requires cells { AreStacked cells.now }
     requires passed { ArePassed cells.now agent.now.height passed.old cell.now }
     requires cell { IsStanding cell.now }

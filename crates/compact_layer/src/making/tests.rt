@@ -10,26 +10,95 @@ use nav_list::{Duplicate, Items};
 use std::alloc::{AllocError, Global};
 use std::process::Abort;
 
-
 /// Three columns by two. A bridge crosses the second row; a step leads up to the column in the middle of the first, and boards hang over
 /// two columns, which agents do not walk on.
 const SPANS: [Span; 11] = [
-    Span { x: 0, z: 0, bottom: 0, top: 10, area: 63 },
-    Span { x: 1, z: 0, bottom: 0, top: 14, area: 63 },
-    Span { x: 2, z: 0, bottom: 0, top: 10, area: 63 },
-    Span { x: 2, z: 0, bottom: 20, top: 22, area: 0 },
-    Span { x: 0, z: 1, bottom: 0, top: 10, area: 63 },
-    Span { x: 0, z: 1, bottom: 30, top: 40, area: 63 },
-    Span { x: 1, z: 1, bottom: 0, top: 10, area: 63 },
-    Span { x: 1, z: 1, bottom: 19, top: 21, area: 0 },
-    Span { x: 1, z: 1, bottom: 30, top: 40, area: 63 },
-    Span { x: 2, z: 1, bottom: 0, top: 10, area: 63 },
-    Span { x: 2, z: 1, bottom: 30, top: 45, area: 63 },
+    Span {
+        x: 0,
+        z: 0,
+        bottom: 0,
+        top: 10,
+        area: 63,
+    },
+    Span {
+        x: 1,
+        z: 0,
+        bottom: 0,
+        top: 14,
+        area: 63,
+    },
+    Span {
+        x: 2,
+        z: 0,
+        bottom: 0,
+        top: 10,
+        area: 63,
+    },
+    Span {
+        x: 2,
+        z: 0,
+        bottom: 20,
+        top: 22,
+        area: 0,
+    },
+    Span {
+        x: 0,
+        z: 1,
+        bottom: 0,
+        top: 10,
+        area: 63,
+    },
+    Span {
+        x: 0,
+        z: 1,
+        bottom: 30,
+        top: 40,
+        area: 63,
+    },
+    Span {
+        x: 1,
+        z: 1,
+        bottom: 0,
+        top: 10,
+        area: 63,
+    },
+    Span {
+        x: 1,
+        z: 1,
+        bottom: 19,
+        top: 21,
+        area: 0,
+    },
+    Span {
+        x: 1,
+        z: 1,
+        bottom: 30,
+        top: 40,
+        area: 63,
+    },
+    Span {
+        x: 2,
+        z: 1,
+        bottom: 0,
+        top: 10,
+        area: 63,
+    },
+    Span {
+        x: 2,
+        z: 1,
+        bottom: 30,
+        top: 45,
+        area: 63,
+    },
 ];
 
 const BESIDE: [u32; 11] = [63, 5, 63, 0, 63, 63, 63, 0, 63, 63, 63];
 
-const AGENT: Agent = Agent { height: 10, climb: 4, radius: 0 };
+const AGENT: Agent = Agent {
+    height: 10,
+    climb: 4,
+    radius: 0,
+};
 
 /// Place, floor, ceiling, area, and levels in the four directions.
 type Row = ((u32, u32, u32), (u32, u32, u32), [Option<u32>; 4]);
@@ -58,7 +127,11 @@ fn field(alloc: Global) -> Result<Field, AllocError>
 }
 
 fn place(at: (u32, u32, u32)) -> CellRef {
-    CellRef { x: at.0, z: at.1, level: at.2 }
+    CellRef {
+        x: at.0,
+        z: at.1,
+        level: at.2,
+    }
 }
 
 fn check_cells(rt: &impl Abort, cells: &[Cell]) {
@@ -85,7 +158,11 @@ fn check_neighbours(rt: &impl Abort, compact: &CompactField)
         (6, 2, None),
     ] {
         if i < cells.len() && dir < 4 {
-            assert_eq!(rt; neighbour(compact, cells[i].at, dir), wanted.map(place), "cell {i}, {dir}");
+            assert_eq!(rt;
+                neighbour(compact, cells[i].at, dir),
+                wanted.map(place),
+                "cell {i}, {dir}"
+            );
         }
     }
 }

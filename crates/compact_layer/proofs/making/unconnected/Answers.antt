@@ -1,4 +1,4 @@
-use Rattle.std.proofs.Common.{◌≡◌, ◌≤◌, ℕ, List, length, get_or, ◌∙◌, sym, ap, subst, arith}
+use Rattle.std.proofs.Common.{◌≡◌, ◌≤◌, List, length, get_or, ◌∙◌, sym, ap, subst, arith}
 use Rattle.std.specs.Prelude.{All}
 use Rattle.std.specs.Global.{Vec}
 use Rattle.nav_ground.specs.declared.cell.Cell.{Cell}
