@@ -4,6 +4,10 @@ pub mod Kept
 pub mod Directions
 pub mod Selections
 pub mod FilterLaws
+pub mod Found
+pub mod Walkable
+pub mod Stacks
+pub mod Connected
 pub mod CompactLaws
 pub mod LayerLaws
 pub mod AliveLaws

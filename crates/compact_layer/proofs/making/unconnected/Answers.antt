@@ -1,0 +1,53 @@
+use Rattle.std.proofs.Common.{◌≡◌, ◌≤◌, List, length, get_or, ◌∙◌, sym, ap, subst, arith}
+use Rattle.std.specs.Prelude.{All}
+use Rattle.std.specs.Global.{Vec}
+use Rattle.nav_ground.specs.declared.cell.Cell.{Cell}
+use Rattle.nav_ground.specs.declared.field.Field.{Field}
+use Rattle.nav_ground.specs.declared.field.Span.{Span}
+use Rattle.nav_ground.specs.Fields.{IsField}
+use Rattle.nav_ground.specs.Connection.{unconnected_cells}
+use Rattle.compact_layer.specs.Making.{level_over}
+use Rattle.compact_layer.proofs.SpansSoFar.{one_more_cell, one_more_blocked, all_cells, levels_small}
+use Rattle.compact_layer.proofs.making.unconnected.Goals as goal
+use Rattle.compact_layer.proofs.making.unconnected.Goals.{then-area-ne0+in_ok-push, else-area-ne0}
+
+abbrev no_span : Span
+no_span = record { x = 0; z = 0; bottom = 0; top = 0; area = 0 }
+
+-- a field with the spans that are read
+field_with : (field : Field) (spans : List Span) → spans ≡ field.spans → IsField field → IsField (record field { spans = spans })
+field_with field spans same rules' =
+    let P : List Span → Type 0 = λ (s : List Span). IsField (record field { spans = s }) in
+    subst P (sym same) rules'
+
+pub level_over-level-requires : goal.level_over-level-requires
+level_over-level-requires c =
+    let few = c.requires.field.few in
+    let spans = ap length c.as_slice-spans.ensures in
+    let P : List Cell → Type 0 = λ (cells : List Cell). All (λ (cell : Cell). cell.at.level ≤ 2000000) cells in
+    subst P (sym (c.as_slice.ensures.value ∙ c.loop-i.invariant))
+    (levels_small c.as_slice-spans.result.now c.args.areas.now c.loop-i.i (omega (arith, few, spans)))
+
+pub loop-i-preserved : goal.loop-i-preserved
+loop-i-preserved c =
+    let field : Field = record c.args.field.now { spans = c.as_slice-spans.result.now } in
+    let rules' = field_with c.args.field.now c.as_slice-spans.result.now c.as_slice-spans.ensures c.requires.field in
+    let same : length c.args.areas.now ≡ length field.spans = c.requires.each ∙ sym (ap length c.as_slice-spans.ensures) in
+    elim c.if-area-ne0.branch [
+      | then-area-ne0+in_ok-push w ↦
+          ap (λ (v : Vec Cell). v.items) w.cells-is ∙ w.in_ok-push.ensures.items
+          ∙ one_more_cell field c.args.areas.now c.loop-i.i no_span c.loop-i.cells.items w.level_over-level.result w.ceiling_over.result rules' c.requires.areas
+          same c.loop-i-test.true w.if-area-ne0.true
+          (w.level_over-level.ensures ∙ ap (λ (cells : List Cell). level_over cells (get_or c.as_slice-spans.result.now c.loop-i.i no_span)) w.as_slice.ensures.value)
+          w.ceiling_over.ensures c.loop-i.invariant
+      | else-area-ne0 w ↦
+          ap (λ (v : Vec Cell). v.items) w.cells-is
+          ∙ one_more_blocked field.spans c.args.areas.now c.loop-i.i no_span c.loop-i.cells.items same c.loop-i-test.true w.if-area-ne0.false c.loop-i.invariant
+    ]
+
+pub returns : goal.returns
+returns c =
+    let field : Field = record c.args.field.now { spans = c.as_slice-spans.result.now } in
+    let same : length c.args.areas.now ≡ length field.spans = c.requires.each ∙ sym (ap length c.as_slice-spans.ensures) in
+    all_cells field c.args.areas.now c.loop-i.i c.loop-i.cells.items same c.loop-i-test.false c.loop-i.invariant
+    ∙ ap (λ (spans : List Span). unconnected_cells (record c.args.field.now { spans = spans }) c.args.areas.now) c.as_slice-spans.ensures

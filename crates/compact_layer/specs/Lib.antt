@@ -1,0 +1,4 @@
+pub mod Columns
+pub mod Stacks
+pub mod Making
+pub mod Places

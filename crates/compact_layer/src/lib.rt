@@ -1,0 +1,16 @@
+//! The cells of a field: where an agent can stand, and to which cell of each neighbouring column it can step.
+//!
+//! The crates above use two contracts: `compact` gives exactly the compact cells of the definition, which keep the rules of compact
+//! cells, and `neighbour` gives the place of the cell that a cell is connected to.
+#![tactic(auto)]
+
+mod columns;
+mod compact_field;
+mod making;
+mod places;
+mod steps;
+mod sweep;
+
+pub use compact_field::CompactField;
+pub use making::compact;
+pub use places::neighbour;

@@ -1,0 +1,92 @@
+//! Makes the cells of a field.
+
+ghost use Rattle.std.specs.Prelude.{◌≡◌, ◌≤◌, IfOk, length, All, slice_get};
+ghost use Rattle.nav_ground.specs.declared.cell.Cell.{Cell};
+ghost use Rattle.nav_ground.specs.Limits.{IsAgent};
+ghost use Rattle.nav_ground.specs.Fields.{IsField, AreAreas};
+ghost use Rattle.nav_ground.specs.Cells.{IsCompact};
+ghost use Rattle.nav_ground.specs.Connection.{unconnected_cells, compact_cells};
+ghost use Rattle.compact_layer.specs.Making.{level_over, ceiling_over};
+
+use crate::compact_field::CompactField;
+use crate::sweep::connect;
+use nav_ground::{Agent, Cell, CellRef, Field, Span};
+use nav_list::Items;
+use std::alloc::{AllocError, Global};
+
+/// The cells of a field for an agent, where one area stands beside each span: a cell on each span whose area is not 0, each connected to
+/// at most one cell of each neighbouring column. The areas are those that the filters leave, or any others.
+pub fn compact(
+    alloc: Global,
+    field: &Field,
+    areas: &[u32],
+    agent: &Agent,
+) -> Result<CompactField, AllocError>
+    requires field { IsField field.now }
+    requires areas { AreAreas areas.now }
+    requires each { length areas.now ≡ length field.now.spans }
+    requires agent { IsAgent agent.now }
+    ensures cells { IfOk result (λ compact. compact.cells ≡ compact_cells field.now areas.now agent.now) }
+    ensures rules { IfOk result (λ compact. IsCompact compact.cells) }
+{
+    let mut cells = unconnected(alloc, field, areas)?;
+    connect(cells.as_mut_slice(), agent);
+    Ok(CompactField {
+        cells: Items::from_vec(cells),
+    })
+}
+
+/// The cells on the spans whose areas are not 0, not yet connected.
+fn unconnected(alloc: Global, field: &Field, areas: &[u32]) -> Result<Vec<Cell>, AllocError>
+    requires field { IsField field.now }
+    requires areas { AreAreas areas.now }
+    requires each { length areas.now ≡ length field.now.spans }
+    ensures { IfOk result (λ cells. cells.items ≡ unconnected_cells field.now areas.now) }
+{
+    let spans = field.spans.as_slice();
+    let walkable = areas.iter().filter(|area| **area != 0).count();
+    let mut cells = Vec::with_capacity(alloc, walkable)?;
+    for (i, span) in spans.iter().enumerate() {
+        let area = areas[i];
+        if area != 0 {
+            let level = level_over(cells.as_slice(), span);
+            cells.push(Cell {
+                at: CellRef {
+                    x: span.x,
+                    z: span.z,
+                    level,
+                },
+                floor: span.top,
+                ceiling: ceiling_over(spans, i + 1, span),
+                area,
+                next: [None; 4],
+            })?;
+        }
+    }
+    Ok(cells)
+}
+
+/// The level of a cell on a span, from the cells before it in order: one above the last of them if that lies in the same column, else 0.
+fn level_over(cells: &[Cell], span: &Span) -> u32
+    requires { All (λ (cell : Cell). cell.at.level ≤ 2000000) cells.now }
+    ensures { result ≡ level_over cells.now span.now }
+{
+    match cells.last() {
+        Some(last) if last.at.x == span.x && last.at.z == span.z => last.at.level + 1,
+        _ => 0,
+    }
+}
+
+/// The ceiling over a span, by the index of the next span of the field: the bottom of that, walkable or not, if it lies in the same column,
+/// else 65535.
+fn ceiling_over(spans: &[Span], next: usize, span: &Span) -> u32
+    ensures { result ≡ ceiling_over (slice_get spans.now next) span.now }
+{
+    match spans.get(next) {
+        Some(above) if above.x == span.x && above.z == span.z => above.bottom,
+        _ => 65535,
+    }
+}
+
+#[cfg(test)]
+mod tests;
