@@ -1,0 +1,6 @@
+pub mod Places
+pub mod Tables
+pub mod Walks
+pub mod Reaches
+pub mod Rounds
+pub mod WindowLaws

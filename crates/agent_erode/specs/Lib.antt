@@ -1,0 +1,5 @@
+pub mod Columns
+pub mod Table
+pub mod Reaching
+pub mod Clearances
+pub mod Windows
