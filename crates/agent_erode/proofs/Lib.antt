@@ -4,3 +4,4 @@ pub mod Walks
 pub mod Reaches
 pub mod Rounds
 pub mod WindowLaws
+pub mod Selected

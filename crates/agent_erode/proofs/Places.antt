@@ -1,19 +1,19 @@
 -- Places by column and level, and where they stand in a list of cells.
-use Rattle.std.proofs.Common.{◌≡◌, ℕ, ◌+◌, ◌<◌, ◌≤◌, ◌⊎◌, Bool, true, false, length, List, get_or, ap, ◌∙◌, sym, refl, subst, [], Option, Some, None, arith, zero, suc, inl, inr}
-use Rattle.std.specs.Prelude.{◌==◌, ◌&&◌, nat_lt, ◌||◌}
+use Rattle.std.proofs.Common.{◌≡◌, ℕ, ◌+◌, ◌<◌, ◌≤◌, ◌⊎◌, Bool, true, false, length, List, ◌∷◌, get_or, ap, ◌∙◌, sym, refl, subst, [], Option, Some, None, arith, zero, suc, inl, inr}
+use Rattle.std.specs.Prelude.{◌==◌, ◌&&◌, nat_lt, ◌||◌, All, option_and_then, slice_get}
 use Rattle.std.specs.List.{position_or_len}
 use Rattle.std.specs.Option.{option_map_or}
 use Rattle.std.proofs.lemmas.Bool.{eqb-true, eq-eqb, ne_eqb, both_ways, false_from_ne_true, cases_order, cases_lt, and_parts, or_cases, and_from, and_left, and_right, lt-ltb, ltb-true, or_left, or_right}
 use Rattle.std.proofs.lemmas.Bool.Decides.{nat_tests}
 use Rattle.std.proofs.lemmas.List.{get_or_default}
 use Rattle.std.proofs.lemmas.List.Sums.{position_or_len_is}
-use Rattle.std.proofs.lemmas.List.Elements.{All-get_or}
+use Rattle.std.proofs.lemmas.List.Elements.{All-head, All-tail}
 use Rattle.nav_ground.specs.declared.cell.Cell.{Cell}
 use Rattle.nav_ground.specs.declared.cell.CellRef.{CellRef}
 use Rattle.nav_ground.specs.Cells.{IsCellBefore, IsCell, IsCells, is_toward, is_naming, next_level}
 use Rattle.nav_ground.proofs.Directions.{both_equal, tests_of_equal}
 use Rattle.agent_erode.specs.Columns.{IsPlace, column_of, column_toward, is_at, is_before}
-use Rattle.agent_erode.specs.Table.{index_of}
+use Rattle.agent_erode.specs.Table.{index_of, index_named}
 
 abbrev pub no_cell : Cell
 no_cell = record { at = record { x = 0; z = 0; level = 0 }; floor = 0; ceiling = 0; area = 0; next = [] }
@@ -119,4 +119,62 @@ found_nowhere cells rules' column level least most before after here =
             subst P is (here no_cell (omega (arith, is, there)))
       ]
     ])
+    (λ more. absurd (omega (arith, more))))
+
+-- the same up to a cell that comes before, and from one that does not
+pub before_up_to : (cells : List Cell) → IsCells cells → (column level i : ℕ) (e : Cell) → i < length cells
+    → is_before column level (get_or cells i e).at ≡ true
+    → (k : ℕ) (d : Cell) → k < i + 1 → is_before column level (get_or cells k d).at ≡ true
+before_up_to cells rules' column level i e there here k d less =
+    let here' : is_before column level (get_or cells i d).at ≡ true =
+    ap (λ (cell : Cell). is_before column level cell.at) (get_or_default cells i d e there) ∙ here in
+    elim (cases_lt k i) [
+      | inl before ↦ all_before cells rules' column level i k d before there (inl here')
+      | inr after ↦
+          let same : i ≡ k = omega (arith, less, after) in
+          let P : ℕ → Type 0 = λ n. is_before column level (get_or cells n d).at ≡ true in
+          subst P same here'
+    ]
+
+pub after_from : (cells : List Cell) → IsCells cells → (column level i : ℕ) (e : Cell) → i < length cells
+    → is_before column level (get_or cells i e).at ≡ false
+    → (k : ℕ) (d : Cell) → i ≤ k → k < length cells → is_before column level (get_or cells k d).at ≡ false
+after_from cells rules' column level i e there here k d more inside =
+    let here' : is_before column level (get_or cells i d).at ≡ false =
+    ap (λ (cell : Cell). is_before column level cell.at) (get_or_default cells i d e there) ∙ here in
+    elim (cases_lt i k) [
+      | inl before ↦ false_from_ne_true (is_before column level (get_or cells k d).at) (λ h.
+          both_ways (is_before column level (get_or cells i d).at) here' (all_before cells rules' column level k i d before inside (inl h)))
+      | inr after ↦
+          let same : i ≡ k = omega (arith, more, after) in
+          let P : ℕ → Type 0 = λ n. is_before column level (get_or cells n d).at ≡ false in
+          subst P same here'
+    ]
+
+-- what a cell names in a direction, as it stands in the cell
+next_level_at : (nexts : List (Option ℕ)) (dir : ℕ) → option_and_then (λ (next : Option ℕ). next) (slice_get nexts dir) ≡ get_or nexts dir None
+next_level_at [] dir = refl
+next_level_at (next ∷ nexts) zero = refl
+next_level_at (next ∷ nexts) (suc dir) = next_level_at nexts dir
+
+-- two tests that agree at each element find the same first
+position_same : {A : Type 0} (p q : A → Bool) (xs : List A) → All (λ x. p x ≡ q x) xs → position_or_len p xs ≡ position_or_len q xs
+position_same p q [] each = refl
+position_same p q (x ∷ xs) each =
+    let here = All-head (λ y. p y ≡ q y) x xs each in
+    let rest = position_same p q xs (All-tail (λ y. p y ≡ q y) x xs each) in
+    cc
+
+-- the index of the cell that is named is that of the cell with the column and the level
+pub named_index : (dir level : ℕ) (cell : Cell) (cells : List Cell) → dir < 4 → IsPlace cell.at → IsCells cells → get_or cell.next dir None ≡ Some level
+    → index_of cells (column_toward dir cell.at) level ≡ index_named cells cell dir
+named_index dir level cell cells small f rules' named =
+    position_same (λ (other : Cell). is_at (column_toward dir cell.at) level other.at) (λ (other : Cell). is_naming dir cell other.at) cells
+    (λ k d there. sym (naming_number dir level cell (get_or cells k d).at small f (place_at cells rules' k d there) (next_level_at cell.next dir ∙ named)))
+
+-- where no level is named no cell is
+pub named_none : (dir : ℕ) (cell : Cell) (cells : List Cell) → get_or cell.next dir None ≡ None → length cells ≡ index_named cells cell dir
+named_none dir cell cells named =
+    sym (position_or_len_is (λ (other : Cell). is_naming dir cell other.at) cells (length cells) no_cell (omega arith)
+    (λ k there. naming_nowhere dir cell (get_or cells k no_cell).at (next_level_at cell.next dir ∙ named))
     (λ more. absurd (omega (arith, more))))

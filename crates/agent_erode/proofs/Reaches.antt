@@ -3,8 +3,11 @@ use Rattle.std.proofs.Common.{◌≡◌, ℕ, ◌+◌, ◌-◌, ◌<◌, ◌≤�
 use Rattle.std.specs.Prelude.{◌==◌, ◌&&◌, ◌||◌, not, fold, filter}
 use Rattle.std.specs.List.{list_any, flat_map, slice_range, range_with_len}
 use Rattle.std.proofs.lemmas.Bool.{eqb-true, eq-eqb, ne_eqb, both_ways, cases_lt, cases_eq, or_cases, or_left, or_right, and_parts, and_from, and_left, and_right, not_from_true, not_from_false, cases_Bool}
-use Rattle.std.proofs.lemmas.List.{length-set, get_or-set_same, get_or-set_other, get_or_past, length_push, get_or_push, get_or_append_left, get_or-take, get_or-drop, length-take, length-drop, ext_get_or, take_more, flat_map_more}
+use Rattle.std.proofs.lemmas.List.{length-set, get_or-set_same, get_or-set_other, get_or_past, length_push, get_or_push, get_or_append_left, get_or-take, get_or-drop, length-take, length-drop, ext_get_or, take_more, flat_map_more, append-nil}
+use Rattle.std.proofs.lemmas.List.Elements.{filter-append}
+use Rattle.nav_ground.proofs.Selections.{range-push}
 use Rattle.std.proofs.lemmas.List.Folds.{list_any_at, list_any-append}
+use Rattle.std.proofs.lemmas.List.Sums.{fold-append}
 use Rattle.std.proofs.lemmas.List.FromFn.{length-range_with_len, get_or-range_with_len}
 use Rattle.agent_erode.specs.Reaching.{Progress, reached, is_among}
 use Rattle.agent_erode.proofs.Places.{same_test}
@@ -234,3 +237,38 @@ flat_more f xs first end some there =
     ∙ ap (flat_map f) (take_more (drop first xs) (end - first) 0 (omega (arith, length-drop first xs, there, some))
     ∙ ap (λ x. take (end - first) (drop first xs) ++ x ∷ []) at)
     ∙ sym (flat_map_more f [] (take (end - first) (drop first xs)) (get_or xs end 0))
+
+-- one more cell whose steps are taken
+pub step_more : (f : ℕ → List ℕ) (begun old new : Progress) (first place from : ℕ) → first ≤ place → place < length begun.order
+    → old ≡ fold reached begun (flat_map f (slice_range begun.order first place)) → from ≡ get_or old.order place 0
+    → new ≡ fold reached old (f from) → new ≡ fold reached begun (flat_map f (slice_range begun.order first (place + 1)))
+step_more f begun old new first place from some there so_far is one =
+    let before = flat_map f (slice_range begun.order first place) in
+    let here : from ≡ get_or begun.order place 0 =
+    is ∙ ap (λ (p : Progress). get_or p.order place 0) so_far ∙ (reach_all before begun).same place there in
+    one ∙ ap (λ (p : Progress). fold reached p (f from)) so_far ∙ sym (fold-append reached begun before (f from))
+    ∙ ap (λ n. fold reached begun (before ++ f n)) here ∙ ap (fold reached begun) (sym (flat_more f begun.order first place some there))
+
+-- the order as it was is the beginning of the later one
+pub order_grows : (indices : List ℕ) (begun old : Progress) → old ≡ fold reached begun indices → length begun.order ≤ length old.order
+order_grows indices begun old is = omega (arith, (reach_all indices begun).grows, ap (λ (p : Progress). length p.order) is)
+
+-- one more number of a range, which passes a test or not
+pub range_more : (p : ℕ → Bool) (begun old new : Progress) (i : ℕ) → p i ≡ true → old ≡ fold reached begun (filter p (range_with_len 0 i))
+    → new ≡ reached old i → new ≡ fold reached begun (filter p (range_with_len 0 (i + 1)))
+range_more p begun old new i passes so_far one =
+    one ∙ ap (λ (s : Progress). reached s i) so_far
+    ∙ sym (fold-append reached begun (filter p (range_with_len 0 i)) (i ∷ []))
+    ∙ ap (λ b. fold reached begun (filter p (range_with_len 0 i) ++ cond b (i ∷ []) [])) (sym passes)
+    ∙ ap (λ n. fold reached begun (filter p (range_with_len 0 i) ++ filter p (n ∷ []))) (omega arith)
+    ∙ ap (fold reached begun) (sym (filter-append p (range_with_len 0 i) ((0 + i) ∷ [])))
+    ∙ ap (λ (ns : List ℕ). fold reached begun (filter p ns)) (sym (range-push 0 i))
+
+pub range_less : (p : ℕ → Bool) (begun old : Progress) (i : ℕ) → p i ≡ false → old ≡ fold reached begun (filter p (range_with_len 0 i))
+    → old ≡ fold reached begun (filter p (range_with_len 0 (i + 1)))
+range_less p begun old i fails so_far =
+    so_far ∙ ap (fold reached begun) (sym (append-nil (filter p (range_with_len 0 i))))
+    ∙ ap (λ b. fold reached begun (filter p (range_with_len 0 i) ++ cond b (i ∷ []) [])) (sym fails)
+    ∙ ap (λ n. fold reached begun (filter p (range_with_len 0 i) ++ filter p (n ∷ []))) (omega arith)
+    ∙ ap (fold reached begun) (sym (filter-append p (range_with_len 0 i) ((0 + i) ∷ [])))
+    ∙ ap (λ (ns : List ℕ). fold reached begun (filter p ns)) (sym (range-push 0 i))

@@ -5,6 +5,7 @@ use Rattle.std.specs.List.{list_any, flat_map, slice_range, range_with_len}
 use Rattle.std.proofs.lemmas.Bool.{eqb-true, eq-eqb, ne_eqb, both_ways, cases_lt, cases_order, false_from_ne_true, not-true, not_from_false, or_cases, or_left, or_right, and_parts, and_from, cases_Bool}
 use Rattle.std.proofs.lemmas.List.{length-map, get_or-map, get_or_past, ext_get_or}
 use Rattle.std.proofs.lemmas.List.Folds.{list_any_at, list_any-append}
+use Rattle.std.proofs.lemmas.List.Sums.{fold-append}
 use Rattle.std.proofs.lemmas.List.FromFn.{length-range_with_len, get_or-range_with_len}
 use Rattle.nav_ground.specs.declared.cell.Cell.{Cell}
 use Rattle.nav_ground.specs.Cells.{IsCells}
@@ -12,10 +13,11 @@ use Rattle.nav_ground.specs.Clearance.{is_walk_end}
 use Rattle.nav_ground.proofs.Selections.{range-push}
 use Rattle.agent_erode.specs.Table.{neighbour_table}
 use Rattle.agent_erode.specs.Reaching.{Progress, reached, is_among, axis_ends, diagonal_ends, axis_ends_from, diagonal_ends_from, has_gap, boundary}
-use Rattle.agent_erode.specs.Clearances.{is_ended_below, is_beyond, IsLeast, IsLeastBelow, IsStage}
+use Rattle.agent_erode.specs.Clearances.{is_ended_below, is_beyond, IsLeast, IsLeastBelow, IsStage, IsSpread}
 use Rattle.agent_erode.proofs.Places.{same_test, no_cell}
+use Rattle.agent_erode.proofs.Tables.{table_length}
 use Rattle.agent_erode.proofs.Walks.{IsHit, hit_of, IsLastStep, last_step, walk_begins, walk_along, walk_across}
-use Rattle.agent_erode.proofs.Reaches.{IsAfter, IsReach, reach_all, IsFrom, among_flat, flat_among, among_filter}
+use Rattle.agent_erode.proofs.Reaches.{IsAfter, IsReach, reach_all, IsFrom, among_flat, flat_among, among_filter, slice_same}
 
 -- walks below a bound, and one more cost
 ended_more : (cells : List Cell) (bound : ℕ) (cell : Cell)
@@ -327,3 +329,70 @@ kept_later cells cost bound less none =
       | inr past ↦ absurd (none i found.cost no_cell inside past found.is)
     ]))
     ∙ sym (get_or-map (is_beyond cells bound) cells i no_cell false inside))
+
+-- no cell costs less than nothing
+empty_stage : (cells : List Cell) (order : List ℕ) (less cost : ℕ) → cost < less → IsStage cells order 0 0 less cost
+empty_stage cells order less cost below = record {
+  rises = omega arith;
+  each = λ q least most. absurd (omega (arith, least, most));
+  all = λ i d inside own. absurd (omega (arith, own.is, below));
+}
+
+-- walks begin at the boundary
+pub spread_begins : (cells : List Cell) → IsCells cells → (table : List (List ℕ)) (begun now : Progress) → table ≡ neighbour_table cells
+    → begun ≡ record { kept = replicate (length cells) true; order = [] } → now ≡ fold reached begun (boundary table (length table))
+    → IsSpread cells now 0 0 0 1
+spread_begins cells rules' table begun now is none one =
+    let start : Progress = record { kept = replicate (length cells) true; order = [] } in
+    let same : boundary table (length table) ≡ boundary (neighbour_table cells) (length cells) =
+    ap (λ (t : List (List ℕ)). boundary t (length t)) is ∙ ap (boundary (neighbour_table cells)) (table_length cells) in
+    let all : now ≡ fold reached start (boundary (neighbour_table cells) (length cells)) =
+    one ∙ ap (λ (p : Progress). fold reached p (boundary table (length table))) none ∙ ap (fold reached start) same in
+    let P : Progress → Type 0 = λ p. IsSpread cells p 0 0 0 1 in
+    let after = fold reached start (boundary (neighbour_table cells) (length cells)) in
+    let zero_one : 0 + 1 ≡ 1 = refl in
+    subst P (sym all) (record {
+      kept = round_kept cells 0 (boundary (neighbour_table cells) (length cells)) start (first_round cells rules') (kept_first cells);
+      last = round_last cells 0 (boundary (neighbour_table cells) (length cells)) start (first_round cells rules') (kept_first cells);
+      before_last = empty_stage cells after.order 2 1 (omega arith);
+      before_both = empty_stage cells after.order 3 1 (omega arith);
+    })
+
+-- and go on from the cells of the last costs
+pub spread_goes_on : (cells : List Cell) → IsCells cells → (table : List (List ℕ)) (old mid now : Progress) (first second third cost : ℕ)
+    → table ≡ neighbour_table cells → 1 ≤ cost → IsSpread cells old first second third cost
+    → mid ≡ fold reached old (axis_ends_from table old.order second first)
+    → now ≡ fold reached mid (diagonal_ends_from table mid.order third second)
+    → IsSpread cells now (length old.order) first second (cost + 1)
+spread_goes_on cells rules' table old mid now first second third cost is some spread along across =
+    let t = neighbour_table cells in
+    let first_most : first ≤ length old.order = spread.last.rises in
+    let second_most : second ≤ length old.order = omega (arith, spread.before_last.rises, first_most) in
+    let axis = axis_ends_from t old.order second first in
+    let diagonal = diagonal_ends_from t old.order third second in
+    let reach = reach_all (axis_ends_from table old.order second first) old in
+    let grows : length old.order ≤ length mid.order = omega (arith, reach.grows, ap (λ (p : Progress). length p.order) along) in
+    let begins : slice_range mid.order third second ≡ slice_range old.order third second =
+    slice_same old.order mid.order third second second_most grows
+    (λ q before. ap (λ (p : Progress). get_or p.order q 0) along ∙ reach.same q before) in
+    let all : now ≡ fold reached old (axis ++ diagonal) =
+    across
+    ∙ ap (λ (part : List ℕ). fold reached mid (flat_map (diagonal_ends table) part)) begins
+    ∙ ap (λ (tt' : List (List ℕ)). fold reached mid (diagonal_ends_from tt' old.order third second)) is
+    ∙ ap (λ (p : Progress). fold reached p diagonal) (along ∙ ap (λ (tt' : List (List ℕ)). fold reached old (axis_ends_from tt' old.order second first)) is)
+    ∙ sym (fold-append reached old axis diagonal) in
+    let round = next_round cells rules' cost third second first old.order some first_most spread.before_last spread.before_both in
+    let P : Progress → Type 0 = λ p. IsSpread cells p (length old.order) first second (cost + 1) in
+    subst P (sym all) (record {
+      kept = round_kept cells cost (axis ++ diagonal) old round spread.kept;
+      last = round_last cells cost (axis ++ diagonal) old round spread.kept;
+      before_last = round_before cells cost first (length old.order) 1 (axis ++ diagonal) old (omega arith) spread.last;
+      before_both = round_before cells cost second first 2 (axis ++ diagonal) old first_most spread.before_last;
+    })
+
+-- where none of the last three costs has a cell, the cells kept are those kept for every later cost
+pub spread_ends : (cells : List Cell) → IsCells cells → (now : Progress) (first second third cost bound : ℕ) → 1 ≤ cost → cost ≤ bound
+    → length now.order ≤ third → IsSpread cells now first second third cost → now.kept ≡ map (is_beyond cells bound) cells
+spread_ends cells rules' now first second third cost bound some most empty spread =
+    spread.kept ∙ kept_later cells cost bound most
+    (none_later cells rules' cost third second first (length now.order) now.order some empty spread.last spread.before_last spread.before_both)

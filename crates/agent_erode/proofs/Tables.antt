@@ -98,3 +98,7 @@ table_boundary cells i d there =
     let e2 = e 2 (omega arith) in
     let e3 = e 3 (omega arith) in
     cc
+
+pub table_length : (cells : List Cell) → length (neighbour_table cells) ≡ length cells
+unfolding neighbour_table
+table_length cells = length-map cells (indices_named cells)

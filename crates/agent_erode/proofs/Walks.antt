@@ -24,7 +24,7 @@ hit_of p xs d h =
     let any = Any-from_list_any p xs h in
     record { index = any.0; there = any.2; passes = ap p (get_or_default xs any.0 d any.1 any.2 ∙ any.3) ∙ any.4 }
 
-abbrev directions : List ℕ
+abbrev pub directions : List ℕ
 directions = 0 ∷ 1 ∷ 2 ∷ 3 ∷ []
 
 -- two tests that agree at each direction
@@ -37,7 +37,7 @@ any_direction_same p q same =
     cc
 
 -- a direction that passes a test
-any_direction : (p : ℕ → Bool) → list_any p directions ≡ true → (dir : ℕ) × (dir < 4) × (p dir ≡ true)
+pub any_direction : (p : ℕ → Bool) → list_any p directions ≡ true → (dir : ℕ) × (dir < 4) × (p dir ≡ true)
 any_direction p h =
     elim (or_cases (p 0) _ h) [
       | inl h0 ↦ (0, omega arith, h0)

@@ -3,6 +3,7 @@ use Rattle.std.specs.Prelude.{◌≡◌, ℕ, ◌+◌, ◌<◌, ◌≤◌, Bool,
 use Rattle.std.specs.List.{list_any, range_with_len}
 use Rattle.nav_ground.specs.declared.cell.Cell.{Cell}
 use Rattle.nav_ground.specs.Clearance.{is_walk_end}
+use Rattle.agent_erode.specs.Reaching.{Progress}
 
 -- a walk that costs less than a bound ends at a cell
 abbrev pub is_ended_below : List Cell → ℕ → Cell → Bool
@@ -30,3 +31,10 @@ pub record IsStage (cells : List Cell) (order : List ℕ) (first end less cost :
       × ((d : Cell) → IsLeastBelow cells less cost (slice_index_or cells (slice_index_or order q 0) d))
   pub all : (i : ℕ) (d : Cell) → i < length cells → IsLeastBelow cells less cost (slice_index_or cells i d)
       → (q : ℕ) × (first ≤ q) × (q < end) × (slice_index_or order q 0 ≡ i)
+
+-- the cells where walks cheaper than a cost end are kept no more, and it is known where those of the last three costs stand in the order
+pub record IsSpread (cells : List Cell) (now : Progress) (first second third cost : ℕ) : Type 0 where
+  pub kept : now.kept ≡ map (is_beyond cells cost) cells
+  pub last : IsStage cells now.order first (length now.order) 1 cost
+  pub before_last : IsStage cells now.order second first 2 cost
+  pub before_both : IsStage cells now.order third second 3 cost

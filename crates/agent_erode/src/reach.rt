@@ -1,6 +1,6 @@
 //! What walks reach, cost by cost.
 
-ghost use Rattle.std.specs.Prelude.{◌≡◌, ◌<◌, ◌≤◌, IfOk, OnOk, [], true, length, replicate, fold};
+ghost use Rattle.std.specs.Prelude.{◌≡◌, ◌<◌, ◌≤◌, IfOk, OnOk, [], true, length, replicate, fold, slice_index};
 ghost use Rattle.agent_erode.specs.Table.{neighbour};
 ghost use Rattle.agent_erode.specs.Reaching.{Progress, reached, axis_ends, turn_ends, diagonal_ends, axis_ends_from, diagonal_ends_from, has_gap, boundary};
 
@@ -38,6 +38,14 @@ impl Reached {
         self.order.len()
     }
 
+    /// The index of the cell that was reached after so many others.
+    fn at(&self, place: usize) -> u32
+        requires { place < length self.now.order }
+        ensures { result ≡ slice_index self.now.order place }
+    {
+        self.order[place]
+    }
+
     /// Which cells are kept.
     pub fn into_kept(self) -> Vec<bool>
         ensures { result.items ≡ self.kept }
@@ -72,24 +80,24 @@ impl Reached {
 
     /// Takes the axis steps from the cells that were reached from one place in the order to before another.
     pub fn step_along(&mut self, table: &[[u32; 4]], first: usize, end: usize) -> Result<(), AllocError>
-        requires { end ≤ length self.old.order }
+        requires range { first ≤ end }
+        requires there { end ≤ length self.old.order }
         ensures { OnOk result (self.new ≡ fold reached self.old (axis_ends_from table.now self.old.order first end)) }
     {
         for place in first..end {
-            let from = self.order[place];
-            self.axis_steps(table, from)?;
+            self.axis_steps(table, self.at(place))?;
         }
         Ok(())
     }
 
     /// Takes the diagonal steps from the cells that were reached from one place in the order to before another.
     pub fn step_diagonally(&mut self, table: &[[u32; 4]], first: usize, end: usize) -> Result<(), AllocError>
-        requires { end ≤ length self.old.order }
+        requires range { first ≤ end }
+        requires there { end ≤ length self.old.order }
         ensures { OnOk result (self.new ≡ fold reached self.old (diagonal_ends_from table.now self.old.order first end)) }
     {
         for place in first..end {
-            let from = self.order[place];
-            self.diagonal_steps(table, from)?;
+            self.diagonal_steps(table, self.at(place))?;
         }
         Ok(())
     }

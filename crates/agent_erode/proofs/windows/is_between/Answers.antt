@@ -1,0 +1,13 @@
+use Rattle.std.proofs.Common.{◌≡◌, ◌∙◌, arith}
+use Rattle.std.specs.Prelude.{ℤ, pos, ◌+ℤ◌, ◌-ℤ◌, int_le, ◌&&◌}
+use Rattle.std.proofs.lemmas.Int.{ints}
+use Rattle.agent_erode.proofs.windows.is_between.Goals as goal
+
+-- tests of equal numbers
+within_same : (a b c a' b' c' : ℤ) → a ≡ a' → b ≡ b' → c ≡ c' → (int_le a b && int_le b c) ≡ (int_le a' b' && int_le b' c')
+within_same a b c a' b' c' e f g = cc
+
+pub returns : goal.returns
+returns c =
+    c.is_within.ensures ∙ within_same _ _ _ (c.args.least -ℤ pos c.args.margin) (pos c.args.number) (c.args.most +ℤ pos c.args.margin)
+    (omega (arith, ints)) (omega (arith, ints)) (omega (arith, ints))
