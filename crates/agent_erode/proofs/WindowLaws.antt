@@ -1,11 +1,13 @@
 -- Windows: which cells are kept in a rectangle depends on the cells near it alone.
-use Rattle.std.proofs.Common.{◌≡◌, ℕ, ◌+◌, ◌-◌, ◌<◌, ◌≤◌, ◌⊎◌, Bool, true, false, cond, length, List, [], ◌∷◌, map, filter, get_or, ap, ◌∙◌, sym, refl, subst, arith, zero, suc, inl, inr}
+use Rattle.std.proofs.Common.{◌≡◌, ℕ, ◌+◌, ◌-◌, ◌<◌, ◌≤◌, ◌⊎◌, Bool, true, false, cond, length, List, [], ◌∷◌, ◌++◌, map, take, drop, filter, get_or, ap, ◌∙◌, sym, refl, subst, arith, zero, suc, inl, inr}
 use Rattle.std.specs.Prelude.{◌==◌, ◌&&◌, ◌||◌, not, ℤ, pos, ◌+ℤ◌, ◌-ℤ◌, ◌≤ℤ◌, ◌*◌, ◌%◌, int_le}
 use Rattle.std.specs.List.{list_any, range_with_len}
 use Rattle.std.proofs.lemmas.Int.{ints}
-use Rattle.std.proofs.lemmas.Bool.{and_parts, and_from, and_right, or_cases, both_ways, false_from_ne_true}
+use Rattle.std.proofs.lemmas.Bool.{and_parts, and_from, and_right, or_cases, both_ways, false_from_ne_true, cases_lt}
 use Rattle.std.proofs.lemmas.List.Sums.{length-filter, count_by-le-length}
-use Rattle.std.proofs.lemmas.List.Elements.{All-filter, filter_agree}
+use Rattle.std.proofs.lemmas.List.Elements.{All-filter, filter_agree, filter-append}
+use Rattle.std.proofs.lemmas.List.{get_or-take, get_or-drop, length-take, length-drop, append-nil, take-append-drop}
+use Rattle.std.specs.List.Sorted.{IsNonDecreasingBy}
 use Rattle.std.proofs.lemmas.List.Kept.{AllPairs-filter}
 use Rattle.nav_ground.specs.declared.cell.Cell.{Cell}
 use Rattle.nav_ground.specs.declared.cell.CellRef.{CellRef}
@@ -17,7 +19,7 @@ use Rattle.agent_erode.specs.Windows.{widened}
 use Rattle.agent_erode.proofs.Places.{no_cell}
 use Rattle.agent_erode.proofs.Walks.{any_direction, hit_of}
 use Rattle.nav_ground.proofs.Directions.{both_equal}
-use Rattle.nav_ground.proofs.Selections.{filter-filter}
+use Rattle.nav_ground.proofs.Selections.{filter-filter, filter_none}
 
 -- a place is so many columns away from the columns outside a rectangle
 pub record IsDeep (window : Window) (m : ℕ) (at : CellRef) : Type 0 where
@@ -291,3 +293,35 @@ not_widened window x z =
     within_same : (a x b c z d a' b' c' d' : ℤ) → a ≡ a' → b ≡ b' → c ≡ c' → d ≡ d'
         → (int_le a x && int_le x b && (int_le c z && int_le z d)) ≡ (int_le a' x && int_le x b' && (int_le c' z && int_le z d'))
     within_same a x b c z d a' b' c' d' e f g h = cc
+
+-- a later cell's row is not before an earlier one's
+row_rises : (a b : CellRef) → IsCellBefore a b → a.z ≤ b.z
+row_rises a b (inl below) = omega (arith, below)
+row_rises a b (inr (same, after)) = omega (arith, same)
+
+pub rows_rise : (cells : List Cell) → IsCells cells → IsNonDecreasingBy (λ (cell : Cell). cell.at.z) cells
+rows_rise cells rules' i j d before there =
+    elim (cases_lt i j) [
+      | inl less ↦ row_rises (get_or cells i d).at (get_or cells j d).at (rules'.order i j d less there)
+      | inr more ↦
+          let P : ℕ → Type 0 = λ k. (get_or cells i d).at.z ≤ (get_or cells k d).at.z in
+          let same : i ≡ j = omega (arith, before, more) in
+          subst P same (omega arith)
+    ]
+
+-- what a rectangle has of the cells before a place of a list of which none lies in it, and of those before a later place
+pub none_before : {A : Type 0} (p : A → Bool) (xs : List A) (n : ℕ) → ((k : ℕ) (d : A) → k < n → k < length xs → p (get_or xs k d) ≡ false)
+    → filter p (take n xs) ≡ []
+none_before p xs n none =
+    filter_none p (take n xs) (λ k d there.
+    let small : k < n = omega (arith, there, length-take n xs) in
+    ap p (get_or-take n xs k d small) ∙ none k d small (omega (arith, there, length-take n xs)))
+
+pub none_after : {A : Type 0} (p : A → Bool) (xs : List A) (n : ℕ) → ((k : ℕ) (d : A) → n ≤ k → k < length xs → p (get_or xs k d) ≡ false)
+    → filter p (take n xs) ≡ filter p xs
+none_after p xs n none =
+    sym (append-nil (filter p (take n xs)))
+    ∙ ap (λ ys. filter p (take n xs) ++ ys) (sym (filter_none p (drop n xs) (λ k d there.
+    ap p (get_or-drop n xs k d) ∙ none (n + k) d (omega arith) (omega (arith, there, length-drop n xs)))))
+    ∙ sym (filter-append p (take n xs) (drop n xs))
+    ∙ ap (filter p) (take-append-drop n xs)

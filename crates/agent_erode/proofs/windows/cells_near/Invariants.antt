@@ -4,5 +4,5 @@ use Rattle.agent_erode.specs.Windows.{widened}
 use Rattle.agent_erode.proofs.windows.cells_near.Given as goal
 
 -- the cells of the rectangle so far
-abbrev pub invariant-loop-cell : goal.invariant-loop-cell
-invariant-loop-cell l = l.near.items ≡ cells_in (widened l.window l.margin) (take l.cell-index l.cells)
+abbrev pub invariant-loop-i : goal.invariant-loop-i
+invariant-loop-i l = l.near.items ≡ cells_in (widened l.window l.margin) (take l.i l.cells)
