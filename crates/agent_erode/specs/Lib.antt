@@ -3,3 +3,4 @@ pub mod Table
 pub mod Reaching
 pub mod Clearances
 pub mod Windows
+pub mod Rows

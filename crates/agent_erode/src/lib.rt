@@ -16,3 +16,6 @@ mod table;
 mod windows;
 
 pub use kept::{erode, erode_window, kept_marks};
+
+#[cfg(test)]
+mod tests;
