@@ -1,8 +1,0 @@
-pub mod Places
-pub mod Tables
-pub mod Walks
-pub mod Reaches
-pub mod Rounds
-pub mod WindowLaws
-pub mod Selected
-pub mod Literals

@@ -8,10 +8,11 @@ use Rattle.std.proofs.lemmas.List.Folds.{list_any_at, list_any_none, Any-from_li
 use Rattle.nav_ground.specs.declared.cell.Cell.{Cell}
 use Rattle.nav_ground.specs.Cells.{IsCells, is_naming}
 use Rattle.nav_ground.specs.Clearance.{is_boundary, is_axis_step, is_turn, is_diagonal_step, is_walk_end}
-use Rattle.agent_erode.specs.Table.{neighbour_table, neighbour}
+use Rattle.cell_table.specs.Table.{neighbour_table, neighbour}
 use Rattle.agent_erode.specs.Reaching.{axis_ends, turn_ends, diagonal_ends, has_gap, is_among}
-use Rattle.agent_erode.proofs.Places.{same_test}
-use Rattle.agent_erode.proofs.Tables.{table_names, table_past, table_boundary}
+use Rattle.cell_table.proofs.Places.{same_test}
+use Rattle.cell_table.proofs.Tables.{table_names, table_past}
+use Rattle.agent_erode.proofs.Gaps.{table_boundary}
 
 -- an element that passes a test, by its index
 pub record IsHit {A : Type 0} (p : A → Bool) (xs : List A) (d : A) : Type 0 where

@@ -16,7 +16,7 @@ use Rattle.nav_ground.specs.Cells.{IsCellBefore, IsCell, IsCells, is_naming, is_
 use Rattle.nav_ground.specs.Tiling.{is_in_window}
 use Rattle.nav_ground.specs.Clearance.{has_neighbour, is_boundary, is_axis_step, is_turn, is_diagonal_step, is_walk_end, is_kept, kept_cells, cells_in, places_of}
 use Rattle.agent_erode.specs.Windows.{widened}
-use Rattle.agent_erode.proofs.Places.{no_cell}
+use Rattle.cell_table.proofs.Places.{no_cell}
 use Rattle.agent_erode.proofs.Walks.{any_direction, hit_of}
 use Rattle.nav_ground.proofs.Directions.{both_equal}
 use Rattle.nav_ground.proofs.Selections.{filter-filter, filter_none}

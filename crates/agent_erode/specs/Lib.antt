@@ -1,6 +1,0 @@
-pub mod Columns
-pub mod Table
-pub mod Reaching
-pub mod Clearances
-pub mod Windows
-pub mod Rows

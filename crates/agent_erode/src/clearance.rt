@@ -5,7 +5,7 @@ ghost use Rattle.nav_ground.specs.Cells.{IsCells};
 ghost use Rattle.nav_ground.specs.Clearance.{is_kept};
 
 use crate::reach::Reached;
-use crate::table::neighbour_table;
+use cell_table::neighbour_table;
 use nav_ground::Cell;
 use std::alloc::{AllocError, Global};
 

@@ -9,10 +9,8 @@
 #![tactic(auto)]
 
 mod clearance;
-mod columns;
 mod kept;
 mod reach;
-mod table;
 mod windows;
 
 pub use kept::{erode, erode_window, kept_marks};

@@ -1,7 +1,7 @@
 //! What walks reach, cost by cost.
 
 ghost use Rattle.std.specs.Prelude.{◌≡◌, ◌<◌, ◌≤◌, IfOk, OnOk, [], true, length, replicate, fold, slice_index};
-ghost use Rattle.agent_erode.specs.Table.{neighbour};
+ghost use Rattle.cell_table.specs.Table.{neighbour};
 ghost use Rattle.agent_erode.specs.Reaching.{Progress, reached, axis_ends, turn_ends, diagonal_ends, axis_ends_from, diagonal_ends_from, has_gap, boundary};
 
 use std::alloc::{AllocError, Global};

@@ -1,8 +1,8 @@
 use Rattle.std.proofs.Common.{◌≡◌, ℕ, ◌+◌, ◌*◌, ◌≤◌, List, length, map, ◌∙◌, sym, ap, subst, arith}
-use Rattle.agent_erode.specs.Table.{neighbour_table}
+use Rattle.cell_table.specs.Table.{neighbour_table}
 use Rattle.agent_erode.specs.Reaching.{Progress, axis_ends_from}
 use Rattle.agent_erode.specs.Clearances.{is_beyond, IsSpread}
-use Rattle.agent_erode.proofs.Tables.{table_length}
+use Rattle.cell_table.proofs.Tables.{table_length}
 use Rattle.agent_erode.proofs.Reaches.{order_grows}
 use Rattle.agent_erode.proofs.Rounds.{kept_first, spread_begins, spread_goes_on, spread_ends}
 use Rattle.agent_erode.proofs.clearance.marks.Goals as goal

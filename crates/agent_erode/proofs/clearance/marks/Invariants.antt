@@ -1,5 +1,5 @@
 use Rattle.std.proofs.Common.{◌≡◌, ◌-◌, ◌≤◌}
-use Rattle.agent_erode.specs.Table.{neighbour_table}
+use Rattle.cell_table.specs.Table.{neighbour_table}
 use Rattle.agent_erode.specs.Clearances.{IsSpread}
 use Rattle.agent_erode.proofs.clearance.marks.Given as goal
 

@@ -2,7 +2,7 @@ use Rattle.std.proofs.Common.{◌≡◌, ap, ◌∙◌, sym, false}
 use Rattle.std.specs.Global.{Vec}
 use Rattle.nav_ground.specs.declared.cell.CellRef.{CellRef}
 use Rattle.nav_ground.specs.Clearance.{is_kept}
-use Rattle.agent_erode.proofs.Places.{no_cell}
+use Rattle.cell_table.proofs.Places.{no_cell}
 use Rattle.agent_erode.proofs.Selected.{one_more_place, one_less_place, mark_at}
 use Rattle.agent_erode.proofs.kept.erode.Goals as goal
 use Rattle.agent_erode.proofs.kept.erode.Goals.{then-marks-i+in_ok-push, else-marks-i}

@@ -11,7 +11,7 @@ use Rattle.nav_ground.specs.Tiling.{is_in_window}
 use Rattle.nav_ground.specs.Clearance.{is_kept, kept_cells, cells_in, places_of}
 use Rattle.nav_ground.proofs.Selections.{filter-filter}
 use Rattle.agent_erode.specs.Windows.{widened}
-use Rattle.agent_erode.proofs.Places.{no_cell}
+use Rattle.cell_table.proofs.Places.{no_cell}
 use Rattle.agent_erode.proofs.Selected.{one_more_place, one_less_place, mark_at}
 use Rattle.agent_erode.proofs.WindowLaws.{cells_in_rules, kept_in_window, not_widened}
 use Rattle.agent_erode.proofs.kept.erode_window.Goals as goal

@@ -1,8 +1,8 @@
 use Rattle.std.proofs.Common.{ℕ, ◌-◌, ◌<◌, ◌≤◌, length}
 use Rattle.std.specs.Prelude.{slice_index_or}
 use Rattle.nav_ground.specs.declared.cell.Cell.{Cell}
-use Rattle.agent_erode.specs.Columns.{column_of}
-use Rattle.agent_erode.proofs.table.pass.Given as goal
+use Rattle.cell_table.specs.Columns.{column_of}
+use Rattle.cell_table.proofs.table.pass.Given as goal
 
 -- those passed so far lie before the column
 abbrev pub invariant-loop-passed : goal.invariant-loop-passed

@@ -1,7 +1,7 @@
 use Rattle.std.proofs.Common.{◌∙◌, sym, ap}
-use Rattle.agent_erode.specs.Table.{index_of}
-use Rattle.agent_erode.proofs.Places.{named_index, named_none}
-use Rattle.agent_erode.proofs.table.index_named.Goals as goal
+use Rattle.cell_table.specs.Table.{index_of}
+use Rattle.cell_table.proofs.Places.{named_index, named_none}
+use Rattle.cell_table.proofs.table.index_named.Goals as goal
 
 pub returns-in-Some : goal.returns-in-Some
 returns-in-Some c =

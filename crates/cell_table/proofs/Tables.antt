@@ -9,11 +9,10 @@ use Rattle.std.proofs.lemmas.List.Sums.{fails_before_first, passes_at_first}
 use Rattle.nav_ground.specs.declared.cell.Cell.{Cell}
 use Rattle.nav_ground.specs.declared.cell.CellRef.{CellRef}
 use Rattle.nav_ground.specs.Cells.{IsCellBefore, IsCells, is_naming}
-use Rattle.nav_ground.specs.Clearance.{has_neighbour, is_boundary}
+use Rattle.nav_ground.specs.Clearance.{has_neighbour}
 use Rattle.nav_ground.proofs.FreeLayers.{names_one}
-use Rattle.agent_erode.specs.Table.{index_named, indices_named, neighbour_table, neighbour}
-use Rattle.agent_erode.specs.Reaching.{has_gap}
-use Rattle.agent_erode.proofs.Places.{same_test}
+use Rattle.cell_table.specs.Table.{index_named, indices_named, neighbour_table, neighbour}
+use Rattle.cell_table.proofs.Places.{same_test}
 
 -- what stands in the table at a cell
 pub table_at : (cells : List Cell) (i dir : ℕ) (d : Cell) → i < length cells → dir < 4
@@ -42,7 +41,7 @@ not_itself a b same (inr (z, inl x)) = omega (arith, x, ap (λ (c : CellRef). c.
 not_itself a b same (inr (z, inr (x, level))) = omega (arith, level, ap (λ (c : CellRef). c.level) same)
 
 -- so that one index has it
-one_index : (cells : List Cell) → IsCells cells → (i j : ℕ) (d : Cell) → i < length cells → j < length cells
+pub one_index : (cells : List Cell) → IsCells cells → (i j : ℕ) (d : Cell) → i < length cells → j < length cells
     → (get_or cells i d).at ≡ (get_or cells j d).at → i ≡ j
 one_index cells rules' i j d here there same =
     elim (cases_order i j) [
@@ -70,7 +69,7 @@ table_names cells rules' i j dir d here there small =
     ∙ ap (λ n. n == j) (sym (table_at cells i dir d here small))
 
 -- an element passes a test exactly where the first that does stands in the list
-any_position : {A : Type 0} (p : A → Bool) (xs : List A) → list_any p xs ≡ nat_lt (position_or_len p xs) (length xs)
+pub any_position : {A : Type 0} (p : A → Bool) (xs : List A) → list_any p xs ≡ nat_lt (position_or_len p xs) (length xs)
 any_position p [] = refl
 any_position p (x ∷ xs) = same_test _ _
     (λ h.
@@ -82,22 +81,11 @@ any_position p (x ∷ xs) = same_test _ _
     (λ h. let inside = ltb-true _ _ h in list_any_at p (x ∷ xs) (position_or_len p (x ∷ xs)) x inside (passes_at_first p (x ∷ xs) x inside))
 
 -- a cell has a neighbour in a direction exactly where the table has an index of a cell there
-table_neighbour : (cells : List Cell) (i dir : ℕ) (d : Cell) → i < length cells → dir < 4
+pub table_neighbour : (cells : List Cell) (i dir : ℕ) (d : Cell) → i < length cells → dir < 4
     → has_neighbour cells (get_or cells i d) dir ≡ nat_lt (neighbour (neighbour_table cells) i dir) (length cells)
 table_neighbour cells i dir d there small =
     any_position (λ (other : Cell). is_naming dir (get_or cells i d) other.at) cells
     ∙ ap (λ n. nat_lt n (length cells)) (sym (table_at cells i dir d there small))
-
--- the boundary cells
-pub table_boundary : (cells : List Cell) (i : ℕ) (d : Cell) → i < length cells
-    → is_boundary cells (get_or cells i d) ≡ has_gap (neighbour_table cells) (length cells) i
-table_boundary cells i d there =
-    let e = λ (dir : ℕ) (small : dir < 4). table_neighbour cells i dir d there small in
-    let e0 = e 0 (omega arith) in
-    let e1 = e 1 (omega arith) in
-    let e2 = e 2 (omega arith) in
-    let e3 = e 3 (omega arith) in
-    cc
 
 pub table_length : (cells : List Cell) → length (neighbour_table cells) ≡ length cells
 unfolding neighbour_table

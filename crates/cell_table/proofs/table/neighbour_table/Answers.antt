@@ -1,8 +1,8 @@
 use Rattle.std.proofs.Common.{◌∙◌, ◌++◌, [], ◌∷◌, List, ℕ, ap, sym, map, take}
 use Rattle.std.proofs.lemmas.List.{map_more, take_all}
-use Rattle.agent_erode.specs.Table.{indices_named, neighbour_table}
-use Rattle.agent_erode.proofs.Places.{no_cell}
-use Rattle.agent_erode.proofs.table.neighbour_table.Goals as goal
+use Rattle.cell_table.specs.Table.{indices_named, neighbour_table}
+use Rattle.cell_table.proofs.Places.{no_cell}
+use Rattle.cell_table.proofs.table.neighbour_table.Goals as goal
 
 pub loop-cell-preserved : goal.loop-cell-preserved
 loop-cell-preserved c =

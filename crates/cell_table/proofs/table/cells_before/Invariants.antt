@@ -1,8 +1,8 @@
 use Rattle.std.proofs.Common.{◌≡◌, ℕ, ◌-◌, ◌<◌, ◌≤◌, true, false, length}
 use Rattle.std.specs.Prelude.{slice_index_or}
 use Rattle.nav_ground.specs.declared.cell.Cell.{Cell}
-use Rattle.agent_erode.specs.Columns.{is_before}
-use Rattle.agent_erode.proofs.table.cells_before.Given as goal
+use Rattle.cell_table.specs.Columns.{is_before}
+use Rattle.cell_table.proofs.table.cells_before.Given as goal
 
 -- what is sought lies from low to high
 abbrev pub invariant-loop-low : goal.invariant-loop-low

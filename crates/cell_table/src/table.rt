@@ -3,8 +3,8 @@
 ghost use Rattle.std.specs.Prelude.{◌≡◌, ◌<◌, ◌≤◌, ℕ, true, false, IfOk, length, slice_index_or};
 ghost use Rattle.nav_ground.specs.declared.cell.Cell.{Cell};
 ghost use Rattle.nav_ground.specs.Cells.{IsCell, IsCells};
-ghost use Rattle.agent_erode.specs.Columns.{column_of, is_before};
-ghost use Rattle.agent_erode.specs.Table.{index_of, neighbour_table, indices_named};
+ghost use Rattle.cell_table.specs.Columns.{column_of, is_before};
+ghost use Rattle.cell_table.specs.Table.{index_of, neighbour_table, indices_named};
 
 use crate::columns::{column_of, column_toward, is_at, is_before};
 use nav_ground::Cell;
@@ -59,7 +59,7 @@ fn index_named(cells: &[Cell], passed: &mut usize, cell: &Cell, dir: usize) -> u
     requires dir { dir < 4 }
     requires cells { IsCells cells.now }
     requires cell { IsCell cell.now }
-    ensures { result ≡ Rattle.agent_erode.specs.Table.index_named cells.now cell.now dir }
+    ensures { result ≡ Rattle.cell_table.specs.Table.index_named cells.now cell.now dir }
 {
     let column = column_toward(dir, cell.at);
     *passed = pass(cells, *passed, column);

@@ -1,7 +1,7 @@
 //! Columns by number, so that cells in order have columns in order.
 
 ghost use Rattle.std.specs.Prelude.{◌≡◌, ◌<◌, ◌≤◌};
-ghost use Rattle.agent_erode.specs.Columns.{IsPlace, column_of};
+ghost use Rattle.cell_table.specs.Columns.{IsPlace, column_of};
 
 use nav_ground::CellRef;
 
@@ -20,7 +20,7 @@ pub fn column_of(at: CellRef) -> u32
 pub fn column_toward(dir: usize, at: CellRef) -> u32
     requires dir { dir < 4 }
     requires at { IsPlace at }
-    ensures { result ≡ Rattle.agent_erode.specs.Columns.column_toward dir at }
+    ensures { result ≡ Rattle.cell_table.specs.Columns.column_toward dir at }
 {
     let column = column_of(at);
     match dir {
@@ -34,7 +34,7 @@ pub fn column_toward(dir: usize, at: CellRef) -> u32
 /// Whether a place has a column and a level.
 pub fn is_at(column: u32, level: u32, at: CellRef) -> bool
     requires { IsPlace at }
-    ensures { result ≡ Rattle.agent_erode.specs.Columns.is_at column level at }
+    ensures { result ≡ Rattle.cell_table.specs.Columns.is_at column level at }
 {
     column_of(at) == column && level == at.level
 }
@@ -42,7 +42,7 @@ pub fn is_at(column: u32, level: u32, at: CellRef) -> bool
 /// Whether a place comes before that of a column and a level.
 pub fn is_before(column: u32, level: u32, at: CellRef) -> bool
     requires { IsPlace at }
-    ensures { result ≡ Rattle.agent_erode.specs.Columns.is_before column level at }
+    ensures { result ≡ Rattle.cell_table.specs.Columns.is_before column level at }
 {
     let own = column_of(at);
     own < column || (own == column && at.level < level)

@@ -1,6 +1,6 @@
 use Rattle.std.proofs.Common.{◌≡◌, take, map}
-use Rattle.agent_erode.specs.Table.{indices_named}
-use Rattle.agent_erode.proofs.table.neighbour_table.Given as goal
+use Rattle.cell_table.specs.Table.{indices_named}
+use Rattle.cell_table.proofs.table.neighbour_table.Given as goal
 
 -- the rows so far
 abbrev pub invariant-loop-cell : goal.invariant-loop-cell

@@ -3,7 +3,7 @@ use Rattle.std.specs.Prelude.{ℕ, List, [], ◌∷◌, map, slice_index_or}
 use Rattle.std.specs.List.{position_or_len}
 use Rattle.nav_ground.specs.declared.cell.Cell.{Cell}
 use Rattle.nav_ground.specs.Cells.{is_naming}
-use Rattle.agent_erode.specs.Columns.{is_at}
+use Rattle.cell_table.specs.Columns.{is_at}
 
 -- the index of the cell with a column and a level, or how many cells there are where none has them
 abbrev pub index_of : List Cell → ℕ → ℕ → ℕ

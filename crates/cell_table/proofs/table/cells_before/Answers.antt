@@ -1,6 +1,6 @@
 use Rattle.std.proofs.Common.{◌∙◌, sym, arith}
-use Rattle.agent_erode.proofs.Places.{no_cell, before_up_to, after_from}
-use Rattle.agent_erode.proofs.table.cells_before.Goals as goal
+use Rattle.cell_table.proofs.Places.{no_cell, before_up_to, after_from}
+use Rattle.cell_table.proofs.table.cells_before.Goals as goal
 
 pub loop-low-preserved-then-is_before : goal.loop-low-preserved-then-is_before
 loop-low-preserved-then-is_before c = record {

@@ -1,10 +1,10 @@
 use Rattle.std.proofs.Common.{◌∙◌, sym, ap, arith}
 use Rattle.std.proofs.lemmas.List.{get_or_default}
 use Rattle.nav_ground.specs.declared.cell.Cell.{Cell}
-use Rattle.agent_erode.specs.Columns.{is_at}
-use Rattle.agent_erode.proofs.Places.{no_cell, found_there, found_nowhere}
-use Rattle.agent_erode.proofs.table.index_of.Goals as goal
-use Rattle.agent_erode.proofs.table.index_of.Goals.{else-least-cells-via-then-least-cells+else-is_at-2, else-least-cells-via-else-least-cells}
+use Rattle.cell_table.specs.Columns.{is_at}
+use Rattle.cell_table.proofs.Places.{no_cell, found_there, found_nowhere}
+use Rattle.cell_table.proofs.table.index_of.Goals as goal
+use Rattle.cell_table.proofs.table.index_of.Goals.{else-least-cells-via-then-least-cells+else-is_at-2, else-least-cells-via-else-least-cells}
 
 pub returns-then-is_at : goal.returns-then-is_at
 returns-then-is_at c =
