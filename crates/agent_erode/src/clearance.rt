@@ -1,0 +1,43 @@
+//! Which cells keep a radius from every boundary cell.
+
+ghost use Rattle.std.specs.Prelude.{◌≡◌, IfOk, map};
+ghost use Rattle.nav_ground.specs.Cells.{IsCells};
+ghost use Rattle.nav_ground.specs.Clearance.{is_kept};
+
+use crate::reach::Reached;
+use cell_table::neighbour_table;
+use nav_ground::Cell;
+use std::alloc::{AllocError, Global};
+
+/// For each cell whether no walk from a boundary cell to it is cheaper than twice the radius. The cells may be connected to others
+/// that are not in the list, and need not be named back.
+///
+/// Costs are gone through in order, and each cell is left once for its axis steps and once for its diagonal steps. Three costs without a new cell
+/// end it, since no step costs more than three.
+pub fn marks(alloc: Global, cells: &[Cell], radius: u32) -> Result<Vec<bool>, AllocError>
+    requires { IsCells cells.now }
+    ensures { IfOk result (λ marks. marks.items ≡ map (is_kept cells.now radius) cells.now) }
+{
+    let mut reached = Reached::new(alloc, cells.len())?;
+    if radius == 0 {
+        return Ok(reached.into_kept());
+    }
+    let table = neighbour_table(alloc, cells)?;
+    let table = table.as_slice();
+    reached.reach_boundary(table)?;
+    let bound = 2 * u64::from(radius);
+    let mut cost = 1;
+    let mut first = 0;
+    let mut second = 0;
+    let mut third = 0;
+    while cost < bound && third < reached.count() {
+        let end = reached.count();
+        reached.step_along(table, second, first)?;
+        reached.step_diagonally(table, third, second)?;
+        third = second;
+        second = first;
+        first = end;
+        cost += 1;
+    }
+    Ok(reached.into_kept())
+}

@@ -1,0 +1,61 @@
+//! The kept cells of a field.
+
+ghost use Rattle.std.specs.Prelude.{◌≡◌, IfOk, map, length};
+ghost use Rattle.nav_ground.specs.Cells.{IsCompact};
+ghost use Rattle.nav_ground.specs.Clearance.{is_kept, kept_cells, places_of, cells_in};
+
+use crate::clearance::marks;
+use crate::windows::{cells_near, is_near};
+use compact_layer::CompactField;
+use nav_ground::{Cell, CellRef, Window};
+use std::alloc::{AllocError, Global};
+
+/// For each cell of a field, in order, whether it is kept for a radius in cells: whether no walk from a boundary cell to it is cheaper
+/// than twice the radius.
+pub fn kept_marks(alloc: Global, cells: &[Cell], radius: u32) -> Result<Vec<bool>, AllocError>
+    requires { IsCompact cells.now }
+    ensures { IfOk result (λ marks. marks.items ≡ map (is_kept cells.now radius) cells.now) }
+{
+    marks(alloc, cells, radius)
+}
+
+/// The places of the cells of a field that are kept for a radius in cells, in order.
+pub fn erode(alloc: Global, compact: &CompactField, radius: u32) -> Result<Vec<CellRef>, AllocError>
+    requires { IsCompact compact.now.cells }
+    ensures { IfOk result (λ kept. kept.items ≡ places_of (kept_cells compact.now.cells radius)) }
+{
+    let cells = compact.cells.as_slice();
+    let marks = marks(alloc, cells, radius)?;
+    let marks = marks.as_slice();
+    let mut places = Vec::new(alloc);
+    for (i, cell) in cells.iter().enumerate() {
+        if marks[i] {
+            places.push(cell.at)?;
+        }
+    }
+    Ok(places)
+}
+
+/// The places of those kept cells whose columns lie in a window, in order. Only the cells of the window and of `radius` columns on each
+/// side of it are looked at: no walk cheaper than twice the radius comes from further away.
+pub fn erode_window(
+    alloc: Global,
+    compact: &CompactField,
+    window: Window,
+    radius: u32,
+) -> Result<Vec<CellRef>, AllocError>
+    requires { IsCompact compact.now.cells }
+    ensures { IfOk result (λ kept. kept.items ≡ places_of (cells_in window (kept_cells compact.now.cells radius))) }
+{
+    let near = cells_near(alloc, compact.cells.as_slice(), window, radius)?;
+    let cells = near.as_slice();
+    let marks = marks(alloc, cells, radius)?;
+    let marks = marks.as_slice();
+    let mut places = Vec::new(alloc);
+    for (i, cell) in cells.iter().enumerate() {
+        if marks[i] && is_near(window, 0, cell.at) {
+            places.push(cell.at)?;
+        }
+    }
+    Ok(places)
+}
