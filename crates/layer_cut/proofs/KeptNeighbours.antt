@@ -1,9 +1,9 @@
 -- The neighbours that kept cells name.
-use Rattle.std.proofs.Common.{◌≡◌, ℕ, zero, suc, ◌+◌, ◌<◌, Bool, true, false, cond, List, [], ◌∷◌, length, map, filter, get_or, ap, ◌∙◌, sym, refl, subst, arith, Option, Some, None, inl, inr}
-use Rattle.std.specs.Prelude.{Contains, IsTrue, ◌&&◌, ◌||◌, ◌==◌, if◌then◌else◌, option_and_then, slice_get}
+use Rattle.std.proofs.Common.{◌≡◌, ℕ, zero, suc, ◌<◌, Bool, true, false, cond, List, [], ◌∷◌, length, map, filter, get_or, ap, ◌∙◌, sym, refl, arith, Option, Some, None, inl, inr}
+use Rattle.std.specs.Prelude.{Contains, ◌&&◌, ◌||◌, ◌==◌, if◌then◌else◌, option_and_then, slice_get}
 use Rattle.std.specs.List.{list_any}
 use Rattle.std.specs.Option.{option_map_or}
-use Rattle.std.proofs.lemmas.Bool.{and_parts, and_from, and_left, and_right, eq-eqb, cases_lt, both_ways}
+use Rattle.std.proofs.lemmas.Bool.{and_parts, and_from, and_left, and_right, eq-eqb, cases_lt}
 use Rattle.std.proofs.lemmas.List.{length-map, get_or-map, get_or_default}
 use Rattle.std.proofs.lemmas.List.Elements.{All-contains}
 use Rattle.std.proofs.lemmas.List.Folds.{list_any_at, list_any_none}
@@ -11,7 +11,7 @@ use Rattle.nav_ground.specs.declared.cell.Cell.{Cell}
 use Rattle.nav_ground.specs.declared.cell.CellRef.{CellRef}
 use Rattle.nav_ground.specs.Cells.{IsCell, IsCells, IsCellBefore, IsCompact, is_toward, is_naming, next_level}
 use Rattle.nav_ground.specs.Clearance.{has_neighbour}
-use Rattle.nav_ground.specs.Layers.{kept_level, layer_cell}
+use Rattle.nav_ground.specs.Layers.{kept_level}
 use Rattle.nav_ground.proofs.FreeLayers.{names_one}
 use Rattle.layer_cut.specs.Neighbours.{HasColumnToward, IsPlaceOf}
 use Rattle.layer_cut.proofs.PlacesFound.{IsIndexOf}

@@ -1,5 +1,5 @@
 -- The cell at a place, by halving.
-use Rattle.std.proofs.Common.{◌≡◌, ℕ, ◌<◌, ◌≤◌, Bool, true, false, List, [], length, map, get_or, ap, ◌∙◌, sym, subst, arith, tests, inl, inr}
+use Rattle.std.proofs.Common.{◌≡◌, ℕ, ◌<◌, true, false, List, [], length, get_or, ◌∙◌, sym, subst, arith, tests, inl, inr}
 use Rattle.std.specs.List.Sorted.{IsPartitionedBy, IsPartitionPoint}
 use Rattle.std.proofs.lemmas.Bool.{both_ways, cases_order, cases_lt}
 use Rattle.std.proofs.lemmas.List.{length-map, get_or-map}

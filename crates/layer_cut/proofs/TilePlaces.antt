@@ -1,8 +1,8 @@
 -- The tile of a column is the one tile whose rectangle has the column.
-use Rattle.std.proofs.Common.{◌≡◌, ℕ, ◌+◌, ◌-◌, ◌*◌, ◌/◌, ◌%◌, ◌<◌, ◌≤◌, min, Bool, true, false, ap, ◌∙◌, sym, refl, subst, arith, inl, inr, pos, ◌≤ℤ◌, int_le}
+use Rattle.std.proofs.Common.{◌≡◌, ℕ, ◌+◌, ◌-◌, ◌*◌, ◌/◌, ◌%◌, ◌<◌, ◌≤◌, min, Bool, true, false, ap, ◌∙◌, sym, refl, arith, inl, inr, pos, int_le}
 use Rattle.std.specs.Prelude.{◌==◌, ◌&&◌}
 use Rattle.std.specs.Int.{div_ceil}
-use Rattle.std.proofs.Math.Nat.{mul-le-mul_right, div-lt_iff_lt-mul, mul_comm, mul-one}
+use Rattle.std.proofs.Math.Nat.{mul-le-mul_right, div-lt_iff_lt-mul, mul_comm}
 use Rattle.std.proofs.Common.{add-mul}
 use Rattle.std.proofs.lemmas.Bool.{and_parts, and_from, eqb-true, eq-eqb, cases_order}
 use Rattle.std.proofs.lemmas.Grind.{div_ceil_times}
@@ -10,7 +10,7 @@ use Rattle.std.proofs.lemmas.Int.{ints}
 use Rattle.nav_ground.specs.declared.setting.Setting.{Setting}
 use Rattle.nav_ground.specs.Limits.{IsSetting}
 use Rattle.nav_ground.specs.Tiling.{tiles_in_row, tile_rows, tile_count, tile_window, corner_x, corner_z, is_in_window}
-use Rattle.nav_ground.proofs.Places.{some_columns, row_is}
+use Rattle.nav_ground.proofs.Places.{some_columns}
 use Rattle.layer_cut.specs.Tiles.{tile_at, IsInField}
 
 next_multiple : (q n : ℕ) → (q + 1) * n ≡ q * n + n
@@ -114,3 +114,19 @@ in_window_is setting tile x z limits inside there =
     and_from along across
     (range_from setting.width (tile % columns) side x inside.width some (sym column))
     (range_from setting.depth (tile / columns) side z inside.depth some (sym row)))
+
+-- a column in the rectangle of a tile lies in the field
+edge_within : (edge corner tile x : ℕ) → 1 ≤ edge → is_in_range edge corner tile x ≡ true → x < edge
+edge_within edge corner tile x some h =
+    let parts = and_parts (int_le (pos corner) (pos x)) (int_le (pos x) (pos (min edge (corner + tile) - 1))) h in
+    omega (arith, low_is x (min edge (corner + tile) - 1) parts.1)
+
+pub in_field : (setting : Setting) (tile x z : ℕ) → IsSetting setting → is_in_window (tile_window setting tile) x z ≡ true → IsInField setting x z
+in_field setting tile x z limits h =
+    let along = is_in_range setting.width (corner_x setting tile) setting.tile x in
+    let across = is_in_range setting.depth (corner_z setting tile) setting.tile z in
+    let parts = and_parts along across h in
+    record {
+      width = edge_within setting.width (corner_x setting tile) setting.tile x limits.wide parts.0;
+      depth = edge_within setting.depth (corner_z setting tile) setting.tile z limits.deep parts.1;
+    }

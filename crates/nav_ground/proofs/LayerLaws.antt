@@ -196,3 +196,25 @@ pub no_radius_of_ground : (whole : Ground) → IsGround whole → All (λ (layer
 no_radius_of_ground whole rules' =
     All-same (λ (layer : Layer). layer.radius ≡ 0) whole.layers (layers_of whole.setting whole.field) rules'.layers
     (no_radius whole.setting whole.field)
+
+-- there is one layer a tile, in order of tiles
+pub length-layers_of_ground : (whole : Ground) → IsGround whole → length whole.layers ≡ tile_count whole.setting
+unfolding layers_of
+length-layers_of_ground whole rules' =
+    ap length rules'.layers ∙ length-map-range_with_len (layer_of whole.setting whole.field) 0 (tile_count whole.setting)
+
+pub layer_of_ground : (whole : Ground) (tile : ℕ) (d : Layer) → IsGround whole → tile < tile_count whole.setting
+    → get_or whole.layers tile d ≡ layer_of whole.setting whole.field tile
+unfolding layers_of
+layer_of_ground whole tile d rules' there =
+    ap (λ (layers : List Layer). get_or layers tile d) rules'.layers
+    ∙ get_or-map-range_with_len (layer_of whole.setting whole.field) 0 (tile_count whole.setting) tile tile d there (omega arith)
+
+-- the cells of a layer pass the test of its tile's columns
+pub layer_inside : (setting : Setting) (field : Field) (tile : ℕ)
+    → All (λ (cell : Cell). is_in_window (tile_window setting tile) cell.at.x cell.at.z ≡ true) (layer_of setting field tile).cells
+unfolding layer_of
+layer_inside setting field tile =
+    let kept = kept_cells_of setting field in
+    All-map (λ (cell : Cell). is_in_window (tile_window setting tile) cell.at.x cell.at.z ≡ true) (layer_cell kept) (cells_in (tile_window setting tile) kept)
+    (filter_passes (λ (cell : Cell). is_in_window (tile_window setting tile) cell.at.x cell.at.z) kept)

@@ -2,7 +2,7 @@ use Rattle.std.proofs.Common.{rules}
 use Rattle.std.proofs.lemmas.Fn.{always_returns_same}
 use Rattle.nav_ground.specs.declared.cell.Cell.{Cell}
 use Rattle.layer_cut.specs.Neighbours.{is_before}
-use Rattle.layer_cut.proofs.PlacesFound.{IsIndexOf, places_parted, place_found}
+use Rattle.layer_cut.proofs.PlacesFound.{places_parted, place_found}
 use Rattle.layer_cut.proofs.neighbours.sought.Goals as goal
 
 pub returns-clause-within : goal.returns-clause-within

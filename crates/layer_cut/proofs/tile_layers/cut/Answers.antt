@@ -1,5 +1,4 @@
-use Rattle.std.proofs.Common.{true, false, ap, ◌∙◌, sym}
-use Rattle.std.proofs.lemmas.List.Elements.{Contains-get_or}
+use Rattle.std.proofs.Common.{ap, ◌∙◌, sym}
 use Rattle.nav_ground.specs.Clearance.{is_kept, kept_cells}
 use Rattle.layer_cut.proofs.HandedOut.{cut_in, cut_outside, cut_unmarked}
 use Rattle.layer_cut.proofs.tile_layers.cut.Goals as goal

@@ -1,6 +1,5 @@
-use Rattle.std.proofs.Common.{◌≡◌, ◌∙◌, ap, arith, ℕ, List, [], map, sym}
+use Rattle.std.proofs.Common.{◌≡◌, ◌∙◌, ap, arith, List, [], map}
 use Rattle.std.specs.List.{range_with_len}
-use Rattle.nav_ground.specs.declared.cell.Layer.{Layer}
 use Rattle.nav_ground.specs.declared.cell.Cell.{Cell}
 use Rattle.nav_ground.specs.Tiling.{tile_count}
 use Rattle.layer_cut.specs.Tiles.{layer_with}

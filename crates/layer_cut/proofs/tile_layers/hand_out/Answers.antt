@@ -1,6 +1,5 @@
 use Rattle.std.proofs.Common.{true, false, arith, length, ap, ◌∙◌}
 use Rattle.std.proofs.lemmas.List.FromFn.{length-map-range_with_len}
-use Rattle.std.proofs.lemmas.List.Elements.{Contains-get_or}
 use Rattle.nav_ground.specs.Clearance.{is_kept, kept_cells}
 use Rattle.layer_cut.proofs.HandedOut.{kept_step, unkept_step, mark_is}
 use Rattle.layer_cut.proofs.tile_layers.hand_out.Goals as goal
