@@ -1,2 +1,5 @@
-pub mod Levels
-pub mod FlatFieldRules
+pub mod TilePlaces
+pub mod PlacesFound
+pub mod KeptNeighbours
+pub mod FieldCells
+pub mod HandedOut

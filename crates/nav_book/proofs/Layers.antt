@@ -1,7 +1,7 @@
 -- The rules that the layers of a ground and its free layers keep.
-use Rattle.std.proofs.Common.{List, filter}
+use Rattle.std.proofs.Common.{◌≡◌, ◌<◌, ℕ, List, length, filter, get_or}
 use Rattle.std.specs.List.{All}
-use Rattle.std.proofs.lemmas.List.Elements.{All-map, All-weaker}
+use Rattle.std.proofs.lemmas.List.Elements.{All-map, All-same, All-weaker}
 use Rattle.std.proofs.lemmas.List.Kept.{AllPairs-filter}
 use Rattle.nav_ground.specs.declared.cell.Cell.{Cell}
 use Rattle.nav_ground.specs.declared.cell.FreeLayer.{FreeLayer}
@@ -12,7 +12,7 @@ use Rattle.nav_ground.specs.Cells.{IsLayer, IsCellBefore}
 use Rattle.nav_ground.specs.FreeCells.{is_free, free_cell_of, free_layer_of, free_layers_of}
 use Rattle.nav_ground.specs.Grounds.{IsGround, IsLayerOf}
 use Rattle.nav_ground.proofs.Kept.{AllPairs-map}
-use Rattle.nav_ground.proofs.FlatLayers.{IsLayerOf-from_ground}
+use Rattle.nav_ground.proofs.LayerLaws.{IsLayerOf-from_ground}
 use Rattle.nav_book.specs.Columns.{AreOrdered}
 
 -- the layers of a ground are layers
@@ -29,3 +29,10 @@ pub all_ordered : (layers : List Layer) (shapes : List Shape) → All IsLayer la
 all_ordered layers shapes rules =
     All-map (λ (free : FreeLayer). AreOrdered free.cells) (λ (layer : Layer). free_layer_of layer shapes) layers
     (All-weaker IsLayer (λ (layer : Layer). AreOrdered (free_layer_of layer shapes).cells) (free_ordered shapes) layers rules)
+
+-- the cells of one free layer of a ground stand in order
+pub ordered_at : (whole : Ground) (shapes : List Shape) (layers : List FreeLayer) (tile : ℕ) (d : FreeLayer) → IsGround whole
+    → layers ≡ free_layers_of whole.layers shapes → tile < length layers → AreOrdered (get_or layers tile d).cells
+ordered_at whole shapes layers tile d rules same there =
+    All-same (λ (free : FreeLayer). AreOrdered free.cells) layers (free_layers_of whole.layers shapes) same
+    (all_ordered whole.layers shapes (layers_of_ground whole rules)) tile d there

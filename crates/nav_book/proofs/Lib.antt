@@ -3,3 +3,4 @@ pub mod Tables
 pub mod Histories
 pub mod ColumnParts
 pub mod Layers
+pub mod TileFloors

@@ -1,19 +1,21 @@
 //! The book: its history, and the free cells that were last published.
 
-ghost use Rattle.std.specs.Prelude.{◌≡◌, ◌↔◌, ◌+◌, ◌≤◌, [], length, map, IsErr, IfOk, IfErr, OnOk, OnErr, All};
+ghost use Rattle.std.specs.Prelude.{◌≡◌, ◌↔◌, ◌+◌, ◌≤◌, [], length, map, IsErr, IsTrue, IfOk, IfErr, OnOk, OnErr, All};
 ghost use Rattle.std.specs.Arc.{arc_value};
 ghost use Rattle.nav_ground.specs.Cells.{IsLayer};
 ghost use Rattle.nav_ground.specs.FreeCells.{free_layers_of};
 ghost use Rattle.nav_ground.specs.Grounds.{IsGround};
 ghost use Rattle.nav_ground.specs.History.{IsRequest, IsHistory};
 ghost use Rattle.nav_ground.specs.Limits.{IsShape};
+ghost use Rattle.layer_cut.specs.Tiles.{IsInField};
 ghost use Rattle.nav_book.specs.BookState.{BookState, next_reply, after_request, after_settle, published_layers};
 ghost use Rattle.nav_book.specs.Columns.{floors_at};
 
 use crate::columns::push_floors;
 use crate::live::{Live, answer, shapes};
+use layer_cut::tile_of;
 use nav_base::FloorAt;
-use nav_ground::{Entry, FreeLayer, Ground, HISTORY_LIMIT, Layer, Reply, Request, Shape};
+use nav_ground::{Entry, FreeLayer, Ground, HISTORY_LIMIT, Layer, Reply, Request, Setting, Shape};
 use obstacle_mark::mark;
 use std::alloc::{AllocError, Global};
 use std::marker::Model;
@@ -111,12 +113,15 @@ impl Book {
         Ok(len)
     }
 
-    /// The floors of the free cells of a column as they were last published, from the bottom up; none where the column has no free cell.
+    /// The floors of the free cells of a column as they were last published, from the bottom up; none where the column has no free cell or
+    /// lies outside the field. It looks into the column's tile alone, by halving.
     pub fn floors(&self, alloc: Global, x: u32, z: u32) -> Result<Vec<FloorAt>, AllocError>
         ensures { IfOk result (λ floors. floors.items ≡ floors_at x z (published_layers self.now)) }
     {
         let mut floors = Vec::new(alloc);
-        for layer in self.layers.as_slice() {
+        let setting = &self.level.setting;
+        if is_inside(setting, x, z) {
+            let layer = &self.layers[tile_of(setting, x, z) as usize];
             push_floors(&mut floors, layer.cells.as_slice(), x, z)?;
         }
         Ok(floors)
@@ -144,6 +149,13 @@ impl Book {
     {
         self.entries.as_slice()
     }
+}
+
+/// Whether a column lies in the field.
+fn is_inside(setting: &Setting, x: u32, z: u32) -> bool
+    ensures { IsTrue result ↔ IsInField setting.now x z }
+{
+    x < setting.width && z < setting.depth
 }
 
 /// The free cells of each layer under a list of shapes.

@@ -1,12 +1,11 @@
--- Which plays are built so far: those over flat fields whose lines ask for obstacles and floors.
-use Rattle.std.specs.Prelude.{◌≡◌, Bool, false, true, IsTrue, List}
+-- Which plays are built so far: those over meshes of strips whose lines ask for obstacles and floors.
+use Rattle.std.specs.Prelude.{◌≡◌, Bool, false, true, IsTrue}
 use Rattle.std.specs.List.{list_all}
 use Rattle.nav_base.specs.declared.answers.Question.{Question}
 use Rattle.nav_base.specs.declared.answers.Question.TheVariants.{Floor, Path, Ray}
 use Rattle.nav_ground.specs.declared.setting.Setting.{Setting}
 use Rattle.nav_ground.specs.declared.setting.MeshKind.TheVariants.{Strips}
-use Rattle.nav_ground.specs.declared.field.Field.{Field}
-use Rattle.nav_ground.specs.FlatFields.{IsFlat}
+use Rattle.nav_ground.specs.Grounds.{IsBuiltFor}
 use Rattle.nav_script.specs.declared.line.Line.{Line}
 use Rattle.nav_script.specs.declared.line.Line.TheVariants.{Lane, Ask, Add, Remove, Undo, Settle, Aim, Claim, Back, Submit, Publish}
 use Rattle.nav_script.specs.declared.script.Script.{Script}
@@ -31,8 +30,8 @@ is_built_line (Back worker) = false
 is_built_line (Submit worker) = false
 is_built_line Publish = false
 
--- a play is built: the field is flat in one tile, its mesh is one of strips, and each line is built
-pub record IsBuilt (setting : Setting) (field : Field) (script : Script) : Type 0 where
-  pub flat : IsFlat setting field
+-- a play is built: grounds are built for its setting, its mesh is one of strips, and each line is built
+pub record IsBuilt (setting : Setting) (script : Script) : Type 0 where
+  pub ground_built : IsBuiltFor setting
   pub strips : setting.mesh ≡ Strips
   pub lines : IsTrue (list_all is_built_line script.lines)

@@ -10,7 +10,7 @@ use Rattle.nav_ground.specs.declared.history.Reply.{Reply}
 use Rattle.nav_ground.specs.declared.history.Reply.TheVariants.{Added, Removed, Full, Dead}
 use Rattle.nav_ground.specs.declared.history.Request.{Request}
 use Rattle.nav_ground.specs.declared.history.Request.TheVariants as requests
-use Rattle.nav_ground.specs.Grounds.{layers_of}
+use Rattle.nav_ground.specs.Layers.{layers_of}
 use Rattle.nav_book.specs.BookState.{BookState, next_reply, after_request, after_settle, published_layers}
 use Rattle.nav_book.specs.Columns.{floors_at}
 use Rattle.nav_record.specs.declared.step.StepAnswer.TheVariants.{Settled, HistoryFull}

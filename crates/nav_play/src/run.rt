@@ -43,7 +43,7 @@ pub fn play<R: Wait, L: Ledger>(
     requires field { IsField field }
     requires sized { IsSized setting field }
     requires script { IsScript Play script.now }
-    requires built { IsBuilt setting field script.now }
+    requires built { IsBuilt setting script.now }
     ensures text { IfOk result (λ text. text.bytes.items ≡ play_text setting field script.now) }
     ensures steps { steps.new ≡ steps.old }
 {

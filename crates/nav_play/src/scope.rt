@@ -2,31 +2,32 @@
 
 ghost use Rattle.std.specs.Prelude.{◌≡◌, ◌↔◌, IsTrue};
 ghost use Rattle.std.specs.List.{list_all};
-ghost use Rattle.nav_ground.specs.Limits.{IsSetting};
-ghost use Rattle.nav_ground.specs.Fields.{IsField};
-ghost use Rattle.nav_ground.specs.Grounds.{IsSized};
+ghost use Rattle.nav_ground.specs.Grounds.{IsBuiltFor};
 ghost use Rattle.nav_play.specs.Built.{IsBuilt, is_built_line, is_built_question};
 
-use layer_cut::is_flat;
 use nav_base::Question;
-use nav_ground::{Field, MeshKind, Setting};
+use nav_ground::{MeshKind, Setting};
 use nav_script::{Line, Script};
 
-/// Whether this play is built so far: the field is flat and lies in one tile, the mesh is one of strips, and no line asks for a way, a
-/// ray or a single step of a worker. It takes one pass over the spans and one over the lines, and no memory.
-pub fn built(setting: &Setting, field: &Field, script: &Script) -> bool
-    requires setting { IsSetting setting.now }
-    requires field { IsField field.now }
-    requires sized { IsSized setting.now field.now }
-    ensures { IsTrue result ↔ IsBuilt setting.now field.now script.now }
+/// Whether this play is built so far: agents keep their radius from walls alone, the mesh is one of strips, and no line asks for a way, a
+/// ray or a single step of a worker. It takes one pass over the lines, and no memory.
+pub fn built(setting: &Setting, script: &Script) -> bool
+    ensures { IsTrue result ↔ IsBuilt setting.now script.now }
 {
+    if !is_ground_built(setting) {
+        return false;
+    }
     if !is_of_strips(setting) {
         return false;
     }
-    if !are_built(script.lines.as_slice()) {
-        return false;
-    }
-    is_flat(setting, field)
+    are_built(script.lines.as_slice())
+}
+
+/// Whether grounds are built for a setting: obstacles block only what they cover.
+fn is_ground_built(setting: &Setting) -> bool
+    ensures { IsTrue result ↔ IsBuiltFor setting.now }
+{
+    !setting.clear
 }
 
 fn is_of_strips(setting: &Setting) -> bool

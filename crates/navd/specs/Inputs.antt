@@ -40,7 +40,7 @@ pub record IsPlay (input : List ℕ) : Type 0 where
   pub field : Field
   pub script : Script
   pub there : IsInput input setting field script
-  pub built : IsBuilt setting field script
+  pub built : IsBuilt setting script
 
 -- the text is what the play of the input writes
 pub record IsPlayed (input text : List ℕ) : Type 0 where
@@ -48,7 +48,7 @@ pub record IsPlayed (input text : List ℕ) : Type 0 where
   pub field : Field
   pub script : Script
   pub there : IsInput input setting field script
-  pub built : IsBuilt setting field script
+  pub built : IsBuilt setting script
   pub text_is : text ≡ play_text setting field script
 
 -- the input does not begin with a field text: the fault is that of its first line that fails
@@ -70,7 +70,7 @@ pub record IsNotBuilt (input : List ℕ) (fault : TextFault) : Type 0 where
   pub field : Field
   pub script : Script
   pub there : IsInput input setting field script
-  pub missing : ¬ IsBuilt setting field script
+  pub missing : ¬ IsBuilt setting script
   pub told : fault ≡ record { line = 0; kind = 0 }
 
 -- what is wrong with an input

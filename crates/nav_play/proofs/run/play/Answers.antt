@@ -1,4 +1,4 @@
-use Rattle.std.proofs.Common.{rules, ◌≡◌, ◌<◌, ◌≤◌, ℕ, List, [], ◌∷◌, ◌++◌, ap, ◌∙◌, arith}
+use Rattle.std.proofs.Common.{arith}
 use Rattle.nav_play.proofs.Runs.{line_playable, one_line, no_line}
 use Rattle.nav_play.proofs.run.play.Goals as goal
 

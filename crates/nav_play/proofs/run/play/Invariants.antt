@@ -1,4 +1,3 @@
-use Rattle.std.proofs.Common.{◌≡◌, ℕ}
 use Rattle.nav_play.specs.PlayRecord.{first_state, ground_of}
 use Rattle.nav_play.specs.Players.{player_state}
 use Rattle.nav_play.proofs.Runs.{IsUnderWay}

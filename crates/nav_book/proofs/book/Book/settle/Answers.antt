@@ -1,6 +1,7 @@
 use Rattle.std.proofs.Common.{◌≡◌, List, length, refl, arith}
 use Rattle.std.specs.Arc.{arc_value}
 use Rattle.nav_ground.specs.declared.history.Entry.{Entry}
+use Rattle.nav_ground.proofs.LayerLaws.{no_radius_of_ground}
 use Rattle.nav_book.proofs.Histories.{table_limits}
 use Rattle.nav_book.proofs.Layers.{layers_of_ground}
 use Rattle.nav_book.proofs.Tables.{table_shapes}
@@ -9,6 +10,10 @@ use Rattle.nav_book.proofs.book.Book.settle.Goals as goal
 pub marked-requires-clause-layers : goal.marked-requires-clause-layers
 marked-requires-clause-layers c =
     rw (c.as_slice-2.ensures, c.deref.ensures) (layers_of_ground (arc_value c.self.inside.level) c.self.invariant.level)
+
+pub marked-requires-clause-near : goal.marked-requires-clause-near
+marked-requires-clause-near c =
+    rw (c.as_slice-2.ensures, c.deref.ensures) (no_radius_of_ground (arc_value c.self.inside.level) c.self.invariant.level)
 
 pub marked-requires-clause-shapes : goal.marked-requires-clause-shapes
 marked-requires-clause-shapes c =

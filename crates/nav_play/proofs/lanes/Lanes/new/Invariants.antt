@@ -1,4 +1,4 @@
-use Rattle.std.proofs.Common.{◌≡◌, ℕ, [], replicate}
+use Rattle.std.proofs.Common.{◌≡◌, [], replicate}
 use Rattle.nav_play.proofs.lanes.Lanes.new.Given as goal
 
 -- as many lanes as turns, all without numbers

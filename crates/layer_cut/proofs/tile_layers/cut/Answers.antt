@@ -1,0 +1,29 @@
+use Rattle.std.proofs.Common.{ap, ◌∙◌, sym}
+use Rattle.nav_ground.specs.Clearance.{is_kept, kept_cells}
+use Rattle.layer_cut.proofs.HandedOut.{cut_in, cut_outside, cut_unmarked}
+use Rattle.layer_cut.proofs.tile_layers.cut.Goals as goal
+use Rattle.layer_cut.proofs.tile_layers.cut.Goals.{then-marks-i+then-is_inside+in_ok-push, else-marks-i, else-marks-i-via-then-marks-i+else-is_inside, else-marks-i-via-else-marks-i}
+
+pub loop-i-preserved : goal.loop-i-preserved
+loop-i-preserved c =
+    let window = c.tile_bounds-window.result in
+    let cells = c.args.cells.now in
+    let kept = kept_cells cells c.args.setting.now.agent.radius in
+    let p = is_kept cells c.args.setting.now.agent.radius in
+    elim c.if-marks-i.branch [
+      | then-marks-i+then-is_inside+in_ok-push w ↦
+          (ap (λ v. v.items) w.kept-is)
+          ∙ w.in_ok-push.ensures.items
+          ∙ cut_in window kept cells c.args.marks.now p c.loop-i.i _ c.loop-i.kept.items w.layer_cell.result c.requires.marks c.loop-i-test.true
+          w.if-marks-i.true (sym w.is_inside.ensures ∙ w.if-is_inside.true) (w.layer_cell.ensures p c.requires.marks) c.loop-i.invariant
+      | else-marks-i w ↦
+          (ap (λ v. v.items) w.kept-is)
+          ∙ elim w.else-marks-i.branch [
+            | else-marks-i-via-then-marks-i+else-is_inside w' ↦
+                cut_outside window kept cells c.args.marks.now p c.loop-i.i _ c.loop-i.kept.items c.requires.marks c.loop-i-test.true
+                w'.if-marks-i.true (sym w'.is_inside.ensures ∙ w'.if-is_inside.false) c.loop-i.invariant
+            | else-marks-i-via-else-marks-i w' ↦
+                cut_unmarked window kept cells c.args.marks.now p c.loop-i.i c.loop-i.kept.items c.requires.marks c.loop-i-test.true
+                w'.if-marks-i.false c.loop-i.invariant
+          ]
+    ]

@@ -1,0 +1,88 @@
+//! From a field to its layers: the filters, the cells, the kept cells, and the cut into tiles.
+
+ghost use Rattle.std.specs.Prelude.{◌≡◌, ◌<◌, IfOk, All};
+ghost use Rattle.nav_ground.specs.Cells.{IsCompact};
+ghost use Rattle.nav_ground.specs.Fields.{IsField};
+ghost use Rattle.nav_ground.specs.Grounds.{IsSized, IsBuiltFor, IsGround, IsLayerOf};
+ghost use Rattle.nav_ground.specs.Layers.{cells_of, layer_of, layers_of};
+ghost use Rattle.nav_ground.specs.Limits.{IsSetting};
+ghost use Rattle.nav_ground.specs.Tiling.{tile_count};
+ghost use Rattle.layer_cut.specs.Tiles.{AreInField};
+
+use crate::tile_layers::{cut, hand_out};
+use agent_erode::kept_marks;
+use compact_layer::{CompactField, compact};
+use nav_ground::{Field, Ground, Layer, Setting, TileNo};
+use nav_list::Items;
+use span_filters::filtered;
+use std::alloc::{AllocError, Global};
+
+/// The ground that a field makes for a setting: its layers have the kept cells of each tile, in order of tiles, each connected to its
+/// kept neighbours in its own tile and across the border. It takes one pass over the field for each stage.
+pub fn ground(alloc: Global, setting: Setting, field: Field) -> Result<Ground, AllocError>
+    requires setting { IsSetting setting }
+    requires field { IsField field }
+    requires sized { IsSized setting field }
+    requires built { IsBuiltFor setting }
+    ensures value { IfOk result (λ whole. whole ≡ record { setting = setting; field = field; layers = layers_of setting field }) }
+    ensures rules { IfOk result IsGround }
+    ensures layers { IfOk result (λ whole. All (IsLayerOf whole.setting) whole.layers) }
+{
+    let layers = layers(alloc, &setting, &field)?;
+    Ok(Ground {
+        setting,
+        field,
+        layers: Items::from_vec(layers),
+    })
+}
+
+/// The layer of one tile: exactly what `ground` makes of that tile.
+pub fn layer(
+    alloc: Global,
+    field: &Field,
+    setting: &Setting,
+    tile: TileNo,
+) -> Result<Layer, AllocError>
+    requires setting { IsSetting setting.now }
+    requires field { IsField field.now }
+    requires sized { IsSized setting.now field.now }
+    requires built { IsBuiltFor setting.now }
+    requires there { tile < tile_count setting.now }
+    ensures value { IfOk result (λ layer. layer ≡ layer_of setting.now field.now tile) }
+    ensures rules { IfOk result (λ layer. IsLayerOf setting.now layer) }
+{
+    let compact = cells(alloc, setting, field)?;
+    let marks = kept_marks(alloc, compact.cells.as_slice(), setting.agent.radius)?;
+    cut(
+        alloc,
+        setting,
+        compact.cells.as_slice(),
+        marks.as_slice(),
+        tile,
+    )
+}
+
+/// The layers of all tiles, in order.
+fn layers(alloc: Global, setting: &Setting, field: &Field) -> Result<Vec<Layer>, AllocError>
+    requires setting { IsSetting setting.now }
+    requires field { IsField field.now }
+    requires sized { IsSized setting.now field.now }
+    ensures { IfOk result (λ layers. layers.items ≡ layers_of setting.now field.now) }
+{
+    let compact = cells(alloc, setting, field)?;
+    let marks = kept_marks(alloc, compact.cells.as_slice(), setting.agent.radius)?;
+    hand_out(alloc, setting, compact.cells.as_slice(), marks.as_slice())
+}
+
+/// The cells of a field, on the spans that the filters leave walkable.
+fn cells(alloc: Global, setting: &Setting, field: &Field) -> Result<CompactField, AllocError>
+    requires setting { IsSetting setting.now }
+    requires field { IsField field.now }
+    requires sized { IsSized setting.now field.now }
+    ensures cells { IfOk result (λ compact. compact.cells ≡ cells_of setting.now field.now) }
+    ensures rules { IfOk result (λ compact. IsCompact compact.cells) }
+    ensures inside { IfOk result (λ compact. AreInField setting.now compact.cells) }
+{
+    let areas = filtered(alloc, field, &setting.agent)?;
+    compact(alloc, field, areas.as_slice(), &setting.agent)
+}
