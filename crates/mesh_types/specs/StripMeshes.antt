@@ -1,0 +1,142 @@
+-- StripMeshes: the mesh of a tile as strips, one rectangle a strip.
+use Rattle.std.specs.Prelude.{ℕ, ◌+◌, ◌-◌, ◌*◌, ◌%◌, min, max, Bool, not, ◌==◌, ◌&&◌, if◌then◌else◌, List, [], ◌∷◌, ◌++◌, length, map, filter, get_or, drop, Option, is_some, unwrap_or, pos, int_le}
+use Rattle.std.specs.List.{list_any, flat_map, range_with_len, fold, between}
+use Rattle.nav_base.specs.declared.point.Point.{Point}
+use Rattle.nav_ground.specs.declared.setting.Setting.{Setting}
+use Rattle.nav_ground.specs.declared.cell.Cell.{Cell}
+use Rattle.nav_ground.specs.declared.cell.CellRef.{CellRef}
+use Rattle.nav_ground.specs.declared.cell.Window.{Window}
+use Rattle.nav_ground.specs.declared.cell.FreeLayer.{FreeLayer}
+use Rattle.nav_ground.specs.Cells.{is_naming, next_level}
+use Rattle.nav_ground.specs.Tiling.{tile_window}
+use Rattle.mesh_types.specs.declared.polygon.Polygon.{Polygon}
+use Rattle.mesh_types.specs.declared.links.Portal.{Portal}
+use Rattle.mesh_types.specs.declared.links.Link.{Link}
+use Rattle.mesh_types.specs.declared.tile.LevelPair.{LevelPair}
+use Rattle.mesh_types.specs.declared.tile.RimEdge.{RimEdge}
+use Rattle.mesh_types.specs.declared.tile.TileMesh.{TileMesh}
+use Rattle.mesh_types.specs.Runs.{Run, runs_of}
+use Rattle.mesh_types.specs.Strips.{strip_cells, strip_firsts}
+
+-- the strips of a tile as their cells, in order
+abbrev pub strip_runs : List Cell → List (List Cell)
+strip_runs cells = map (strip_cells cells) (strip_firsts cells)
+
+-- a corner in whole cells, and the same point in sixteenths
+abbrev pub corner : ℕ → ℕ → Point
+corner x z = record { x = pos x; z = pos z }
+
+abbrev pub sixteenths : ℕ → ℕ → Point
+sixteenths x z = corner (16 * x) (16 * z)
+
+-- the first cell of a strip, and the least and the greatest floor of its cells
+abbrev pub some_cell : Cell
+some_cell = record { at = record { x = 0; z = 0; level = 0 }; floor = 0; ceiling = 0; area = 0; next = [] }
+
+abbrev pub first_of : List Cell → Cell
+first_of run = get_or run 0 some_cell
+
+abbrev pub low_of : List Cell → ℕ
+low_of run = fold (λ low (cell : Cell). min low cell.floor) (first_of run).floor run
+
+abbrev pub high_of : List Cell → ℕ
+high_of run = fold (λ high (cell : Cell). max high cell.floor) (first_of run).floor run
+
+-- the rectangle of a strip: counterclockwise from its least corner
+abbrev pub rectangle : ℕ → ℕ → ℕ → List Point
+rectangle x0 x1 z = corner x0 z ∷ corner (x1 + 1) z ∷ corner (x1 + 1) (z + 1) ∷ corner x0 (z + 1) ∷ []
+
+abbrev pub strip_polygon : List Cell → Polygon
+strip_polygon run = record {
+  corners = rectangle (first_of run).at.x ((first_of run).at.x + length run - 1) (first_of run).at.z;
+  area = (first_of run).area;
+  low = low_of run;
+  high = high_of run;
+}
+
+-- the direction that lies outside an edge of a rectangle: edge 0 is the one toward z - 1, 1 toward x + 1, 2 toward z + 1, 3 toward x - 1
+abbrev pub outside_of : ℕ → ℕ
+outside_of edge = 3 - edge
+
+-- the portal over an edge of a row z along the columns x0 to x1
+abbrev pub edge_portal : ℕ → ℕ → ℕ → ℕ → Portal
+edge_portal edge x0 x1 z =
+    if edge == 0 then record { left = sixteenths (x1 + 1) z; right = sixteenths x0 z }
+    else (if edge == 1 then record { left = sixteenths (x1 + 1) (z + 1); right = sixteenths (x1 + 1) z }
+    else (if edge == 2 then record { left = sixteenths x0 (z + 1); right = sixteenths (x1 + 1) (z + 1) }
+    else record { left = sixteenths x0 z; right = sixteenths x0 (z + 1) }))
+
+-- which cells of one strip are connected to cells of another in a direction
+abbrev pub are_connected : ℕ → List Cell → List Cell → List Bool
+are_connected dir run other = map (λ (cell : Cell). list_any (λ (to : Cell). is_naming dir cell to.at) other) run
+
+-- the link over an edge of the strip s to the strip t along a run of its cells
+abbrev pub strip_link : ℕ → List (List Cell) → ℕ → ℕ → ℕ → Run → Link
+strip_link tile runs s edge t run = record {
+  from = record { tile = tile; index = s };
+  edge = edge;
+  to = record { tile = tile; index = t };
+  portal = edge_portal edge ((first_of (get_or runs s [])).at.x + run.first) ((first_of (get_or runs s [])).at.x + run.last) (first_of (get_or runs s [])).at.z;
+}
+
+-- the links over an edge of the strip s to the strip t: one for each maximal run of its cells that are connected to cells of the other
+abbrev pub strip_links_to : ℕ → List (List Cell) → ℕ → ℕ → ℕ → List Link
+strip_links_to tile runs s edge t =
+    if t == s then [] else map (strip_link tile runs s edge t) (runs_of (are_connected (outside_of edge) (get_or runs s []) (get_or runs t [])))
+
+-- the links that leave the strip s: edge by edge, strip by strip, run by run
+abbrev pub strip_links_from : ℕ → List (List Cell) → ℕ → List Link
+strip_links_from tile runs s =
+    flat_map (λ edge. flat_map (strip_links_to tile runs s edge) (range_with_len 0 (length runs))) (range_with_len 0 4)
+
+abbrev pub strip_links : ℕ → List (List Cell) → List Link
+strip_links tile runs = flat_map (strip_links_from tile runs) (range_with_len 0 (length runs))
+
+-- the neighbouring column of a cell in a direction lies outside the tile
+abbrev pub is_at_side : Window → ℕ → CellRef → Bool
+is_at_side window dir at =
+    if dir == 0 then int_le (pos at.x) window.x0
+    else (if dir == 1 then int_le window.z1 (pos at.z)
+    else (if dir == 2 then int_le window.x1 (pos at.x)
+    else int_le (pos at.z) window.z0))
+
+-- a cell has a kept neighbour across the side of its tile in a direction
+abbrev pub is_crossing : Window → ℕ → Cell → Bool
+is_crossing window dir cell = is_at_side window dir cell.at && is_some (next_level cell dir)
+
+-- the position of a cell along a side of the tile: z on the sides 0 and 2, x on the sides 1 and 3
+abbrev pub position_of : ℕ → CellRef → ℕ
+position_of side at = if side % 2 == 0 then at.z else at.x
+
+-- the levels of a cell and of its neighbour across
+abbrev pub level_pair : ℕ → Cell → LevelPair
+level_pair side cell = record { own = cell.at.level; other = unwrap_or (next_level cell side) 0 }
+
+-- what the rim lists for an edge of a strip along a run of its cells that have a kept neighbour across
+abbrev pub rim_edge : ℕ → ℕ → List Cell → Run → RimEdge
+rim_edge poly edge run part = record {
+  poly = poly;
+  edge = edge;
+  side = outside_of edge;
+  first = position_of (outside_of edge) (get_or run part.first some_cell).at;
+  pairs = map (level_pair (outside_of edge)) (between part.first (part.last + 1) run);
+}
+
+abbrev pub strip_rim_over : Window → List (List Cell) → ℕ → ℕ → List RimEdge
+strip_rim_over window runs s edge =
+    map (rim_edge s edge (get_or runs s [])) (runs_of (map (is_crossing window (outside_of edge)) (get_or runs s [])))
+
+-- the rim of a tile: strip by strip, edge by edge, run by run
+abbrev pub strip_rim : Window → List (List Cell) → List RimEdge
+strip_rim window runs =
+    flat_map (λ s. flat_map (strip_rim_over window runs s) (range_with_len 0 4)) (range_with_len 0 (length runs))
+
+-- the mesh of a tile as strips: a rectangle for each strip, the links between them, and the rim
+unfoldable pub strip_mesh_of : Setting → FreeLayer → TileMesh
+strip_mesh_of setting free = record {
+  tile = free.tile;
+  free = free;
+  polys = map strip_polygon (strip_runs free.cells);
+  links = strip_links free.tile (strip_runs free.cells);
+  rim = strip_rim (tile_window setting free.tile) (strip_runs free.cells);
+}
