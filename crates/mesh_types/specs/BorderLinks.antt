@@ -11,7 +11,8 @@ use Rattle.mesh_types.specs.declared.links.Link.{Link}
 use Rattle.mesh_types.specs.declared.tile.LevelPair.{LevelPair}
 use Rattle.mesh_types.specs.declared.tile.RimEdge.{RimEdge}
 use Rattle.mesh_types.specs.declared.tile.TileMesh.{TileMesh}
-use Rattle.mesh_types.specs.Runs.{Run, runs_of}
+use Rattle.mesh_types.specs.declared.label_runs.Run.{Run}
+use Rattle.mesh_types.specs.Runs.{runs_of, label_if}
 use Rattle.mesh_types.specs.LinkOrder.{ordered_links}
 
 -- the levels that a rim entry has at a position, if it has some there
@@ -24,9 +25,9 @@ are_meeting (Some a) (Some b) = a.own == b.other && a.other == b.own
 are_meeting (Some a) None = false
 are_meeting None b = false
 
--- for each position of an entry whether it meets another entry there
-abbrev pub meetings : RimEdge → RimEdge → List Bool
-meetings a b = map (λ k. are_meeting (pair_at a (a.first + k)) (pair_at b (a.first + k))) (range_with_len 0 (length a.pairs))
+-- for each position of an entry a label where it meets another entry there
+abbrev pub meetings : RimEdge → RimEdge → List (Option ℕ)
+meetings a b = map (λ k. label_if (are_meeting (pair_at a (a.first + k)) (pair_at b (a.first + k)))) (range_with_len 0 (length a.pairs))
 
 -- where an edge along a side lies: x for the sides 0 and 2, z for the sides 1 and 3
 abbrev pub line_of : ℕ → List Polygon → RimEdge → ℤ

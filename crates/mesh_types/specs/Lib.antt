@@ -2,8 +2,8 @@ pub mod Inline
 pub mod LinkIndex
 pub mod Runs
 pub mod Strips
-pub mod StripMeshes
 pub mod LinkOrder
+pub mod StripMeshes
 pub mod BorderLinks
 pub mod WholeMesh
 pub mod Soundness

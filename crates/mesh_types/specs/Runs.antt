@@ -1,20 +1,26 @@
--- Runs: maximal runs of places that pass a test.
-use Rattle.std.specs.Prelude.{ℕ, ◌+◌, ◌-◌, Bool, false, not, ◌==◌, ◌&&◌, ◌||◌, List, length, map, filter, drop, get_or}
-use Rattle.std.specs.List.{prefix_len, range_with_len}
+-- Runs: maximal runs of places with one label.
+use Rattle.std.specs.Prelude.{ℕ, ◌+◌, ◌-◌, Bool, false, not, ◌==◌, ◌||◌, if◌then◌else◌, List, [], length, drop, get_or, Option, Some, None}
+use Rattle.std.specs.List.{prefix_len, range_with_len, filter_map}
+use Rattle.mesh_types.specs.declared.label_runs.Run.{Run}
 
--- a run of places, from the first to the last
-pub record Run : Type 0 where
-  pub first : ℕ
-  pub last : ℕ
+-- a place has a label
+abbrev pub has_label : ℕ → Option ℕ → Bool
+has_label label (Some own) = own == label
+has_label label None = false
 
--- a maximal run begins at a place that passes, where the place before it does not or is not there
-abbrev pub begins_run : List Bool → ℕ → Bool
-begins_run answers place = get_or answers place false && (place == 0 || not (get_or answers (place - 1) false))
+-- the maximal run that begins at a place with a label, where the place before it has another, or none, or is not there: it ends before the
+-- next place that does not have the label
+abbrev pub run_with : List (Option ℕ) → ℕ → Option ℕ → Option Run
+run_with labels place None = None
+run_with labels place (Some label) =
+    if place == 0 || not (has_label label (get_or labels (place - 1) None))
+    then Some (record { first = place; last = place + prefix_len (has_label label) (drop (place + 1) labels); label = label })
+    else None
 
--- the maximal run that begins at a place ends before the next place that does not pass
-abbrev pub run_at : List Bool → ℕ → Run
-run_at answers place = record { first = place; last = place + prefix_len (λ (passes : Bool). passes) (drop (place + 1) answers) }
+-- the maximal runs of places with one label, in order
+unfoldable pub runs_of : List (Option ℕ) → List Run
+runs_of labels = filter_map (λ place. run_with labels place (get_or labels place None)) (range_with_len 0 (length labels))
 
--- the maximal runs of places that pass, in order
-abbrev pub runs_of : List Bool → List Run
-runs_of answers = map (run_at answers) (filter (begins_run answers) (range_with_len 0 (length answers)))
+-- the maximal runs of places where a test holds, which all get the label 0
+abbrev pub label_if : Bool → Option ℕ
+label_if holds = if holds then Some 0 else None

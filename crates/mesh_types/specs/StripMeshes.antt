@@ -1,6 +1,6 @@
 -- StripMeshes: the mesh of a tile as strips, one rectangle a strip.
-use Rattle.std.specs.Prelude.{ℕ, ◌+◌, ◌-◌, ◌*◌, ◌%◌, min, max, Bool, not, ◌==◌, ◌&&◌, if◌then◌else◌, List, [], ◌∷◌, ◌++◌, length, map, filter, get_or, drop, Option, is_some, unwrap_or, pos, int_le}
-use Rattle.std.specs.List.{list_any, flat_map, range_with_len, fold, between}
+use Rattle.std.specs.Prelude.{ℕ, ◌+◌, ◌-◌, ◌*◌, ◌%◌, min, max, Bool, not, ◌==◌, ◌&&◌, if◌then◌else◌, List, [], ◌∷◌, ◌++◌, length, map, filter, get_or, drop, Option, Some, None, is_some, unwrap_or, option_and_then, pos, int_le}
+use Rattle.std.specs.List.{list_any, flat_map, range_with_len, fold, between, position}
 use Rattle.nav_base.specs.declared.point.Point.{Point}
 use Rattle.nav_ground.specs.declared.setting.Setting.{Setting}
 use Rattle.nav_ground.specs.declared.cell.Cell.{Cell}
@@ -15,7 +15,9 @@ use Rattle.mesh_types.specs.declared.links.Link.{Link}
 use Rattle.mesh_types.specs.declared.tile.LevelPair.{LevelPair}
 use Rattle.mesh_types.specs.declared.tile.RimEdge.{RimEdge}
 use Rattle.mesh_types.specs.declared.tile.TileMesh.{TileMesh}
-use Rattle.mesh_types.specs.Runs.{Run, runs_of}
+use Rattle.mesh_types.specs.declared.label_runs.Run.{Run}
+use Rattle.mesh_types.specs.Runs.{runs_of, label_if}
+use Rattle.mesh_types.specs.LinkOrder.{ordered_links}
 use Rattle.mesh_types.specs.Strips.{strip_cells, strip_firsts}
 
 -- the strips of a tile as their cells, in order
@@ -66,31 +68,33 @@ edge_portal edge x0 x1 z =
     else (if edge == 2 then record { left = sixteenths x0 (z + 1); right = sixteenths (x1 + 1) (z + 1) }
     else record { left = sixteenths x0 z; right = sixteenths x0 (z + 1) }))
 
--- which cells of one strip are connected to cells of another in a direction
-abbrev pub are_connected : ℕ → List Cell → List Cell → List Bool
-are_connected dir run other = map (λ (cell : Cell). list_any (λ (to : Cell). is_naming dir cell to.at) other) run
+-- a strip holds a cell that a cell names in a direction
+abbrev pub holds_named : ℕ → Cell → List Cell → Bool
+holds_named dir cell run = list_any (λ (to : Cell). is_naming dir cell to.at) run
 
--- the link over an edge of the strip s to the strip t along a run of its cells
-abbrev pub strip_link : ℕ → List (List Cell) → ℕ → ℕ → ℕ → Run → Link
-strip_link tile runs s edge t run = record {
+-- the place of the strip, other than its own, with the cell to which a cell is connected in a direction
+abbrev pub strip_beyond : List (List Cell) → ℕ → ℕ → Cell → Option ℕ
+strip_beyond runs s dir cell =
+    option_and_then (λ t. if t == s then None else Some t) (position (holds_named dir cell) runs)
+
+-- the link over an edge of the strip s along a run of its cells that are connected to cells of one other strip
+abbrev pub strip_link : ℕ → List Cell → ℕ → ℕ → Run → Link
+strip_link tile own s edge run = record {
   from = record { tile = tile; index = s };
   edge = edge;
-  to = record { tile = tile; index = t };
-  portal = edge_portal edge ((first_of (get_or runs s [])).at.x + run.first) ((first_of (get_or runs s [])).at.x + run.last) (first_of (get_or runs s [])).at.z;
+  to = record { tile = tile; index = run.label };
+  portal = edge_portal edge ((first_of own).at.x + run.first) ((first_of own).at.x + run.last) (first_of own).at.z;
 }
 
--- the links over an edge of the strip s to the strip t: one for each maximal run of its cells that are connected to cells of the other
-abbrev pub strip_links_to : ℕ → List (List Cell) → ℕ → ℕ → ℕ → List Link
-strip_links_to tile runs s edge t =
-    if t == s then [] else map (strip_link tile runs s edge t) (runs_of (are_connected (outside_of edge) (get_or runs s []) (get_or runs t [])))
+-- the links over an edge of the strip s: one for each maximal run of its cells that are connected to cells of one other strip
+abbrev pub strip_links_over : ℕ → List (List Cell) → ℕ → ℕ → List Link
+strip_links_over tile runs s edge =
+    map (strip_link tile (get_or runs s []) s edge) (runs_of (map (strip_beyond runs s (outside_of edge)) (get_or runs s [])))
 
--- the links that leave the strip s: edge by edge, strip by strip, run by run
-abbrev pub strip_links_from : ℕ → List (List Cell) → ℕ → List Link
-strip_links_from tile runs s =
-    flat_map (λ edge. flat_map (strip_links_to tile runs s edge) (range_with_len 0 (length runs))) (range_with_len 0 4)
-
+-- the links between strips, in order
 abbrev pub strip_links : ℕ → List (List Cell) → List Link
-strip_links tile runs = flat_map (strip_links_from tile runs) (range_with_len 0 (length runs))
+strip_links tile runs = ordered_links
+    (flat_map (λ s. flat_map (strip_links_over tile runs s) (range_with_len 0 4)) (range_with_len 0 (length runs)))
 
 -- the neighbouring column of a cell in a direction lies outside the tile
 abbrev pub is_at_side : Window → ℕ → CellRef → Bool
@@ -124,7 +128,7 @@ rim_edge poly edge run part = record {
 
 abbrev pub strip_rim_over : Window → List (List Cell) → ℕ → ℕ → List RimEdge
 strip_rim_over window runs s edge =
-    map (rim_edge s edge (get_or runs s [])) (runs_of (map (is_crossing window (outside_of edge)) (get_or runs s [])))
+    map (rim_edge s edge (get_or runs s [])) (runs_of (map (λ (cell : Cell). label_if (is_crossing window (outside_of edge) cell)) (get_or runs s [])))
 
 -- the rim of a tile: strip by strip, edge by edge, run by run
 abbrev pub strip_rim : Window → List (List Cell) → List RimEdge

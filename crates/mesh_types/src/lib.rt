@@ -9,6 +9,7 @@
 #![tactic(auto)]
 
 mod corners;
+mod label_runs;
 mod link_list;
 mod links;
 mod mesh;
@@ -17,6 +18,7 @@ mod strip;
 mod tile;
 
 pub use corners::Corners;
+pub use label_runs::{Run, runs};
 pub use link_list::Links;
 pub use links::{Link, PolyRef, Portal};
 pub use mesh::{Mesh, copy_mesh, copy_tile, poly};

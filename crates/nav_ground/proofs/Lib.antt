@@ -3,9 +3,6 @@ pub mod Places
 pub mod Kept
 pub mod Directions
 pub mod Selections
-pub mod FilterLaws
-pub mod CompactLaws
-pub mod LayerLaws
 pub mod AliveLaws
 pub mod ShapeLaws
 pub mod FreeLayers
