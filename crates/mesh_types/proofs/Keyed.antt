@@ -11,14 +11,14 @@ use Rattle.std.proofs.lemmas.List.Sums.{sum_by-cons, length-filter, count_by-le-
 use Rattle.nav_ground.proofs.Selections.{filter-filter, filter_none, filter_all}
 
 -- an element more that passes, or that does not
-count_yes : {X : Type 0} (q : X → Bool) (x : X) (xs : List X) → q x ≡ true → count_by q (x ∷ xs) ≡ suc (count_by q xs)
+pub count_yes : {X : Type 0} (q : X → Bool) (x : X) (xs : List X) → q x ≡ true → count_by q (x ∷ xs) ≡ suc (count_by q xs)
 count_yes q x xs passes =
     let more = sum_by-cons (λ y. cond (q y) 1 0) x xs in
     let n : ℕ = cond (q x) 1 0 in
     let one : n ≡ 1 = ap (λ b. cond b 1 0) passes in
     omega (arith, more, one)
 
-count_no : {X : Type 0} (q : X → Bool) (x : X) (xs : List X) → q x ≡ false → count_by q (x ∷ xs) ≡ count_by q xs
+pub count_no : {X : Type 0} (q : X → Bool) (x : X) (xs : List X) → q x ≡ false → count_by q (x ∷ xs) ≡ count_by q xs
 count_no q x xs fails =
     let more = sum_by-cons (λ y. cond (q y) 1 0) x xs in
     let n : ℕ = cond (q x) 1 0 in
@@ -37,7 +37,7 @@ none_pass q x xs first fails k d there =
       | false ↦ λ is. refl
     ] refl
 
-count_none : {X : Type 0} (q : X → Bool) (xs : List X) → All (λ y. q y ≡ false) xs → count_by q xs ≡ 0
+pub count_none : {X : Type 0} (q : X → Bool) (xs : List X) → All (λ y. q y ≡ false) xs → count_by q xs ≡ 0
 count_none q xs none = sym (length-filter q xs) ∙ ap length (filter_none q xs none)
 
 -- where the elements that pass stand first, they are the first so many, and the others are those after them

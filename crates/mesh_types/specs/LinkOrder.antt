@@ -1,26 +1,29 @@
 -- LinkOrder: the one order of links.
-use Rattle.std.specs.Prelude.{ℤ, pos, Bool, false, true, int_lt, int_le, ◌&&◌, ◌||◌, if◌then◌else◌, List, [], ◌∷◌}
+use Rattle.std.specs.Prelude.{Bool, if◌then◌else◌, List, [], ◌∷◌}
+use Rattle.std.specs.Ordering.{is_lt, nat_cmp, int_cmp, ordering_then}
+use Rattle.std.specs.declared.cmp.Ordering.{Ordering}
+use Rattle.nav_base.specs.declared.point.Point.{Point}
+use Rattle.mesh_types.specs.declared.links.PolyRef.{PolyRef}
 use Rattle.mesh_types.specs.declared.links.Link.{Link}
 
--- what links are ordered by: the polygon that is left, the edge, the polygon entered, and the right and the left end of the portal
-abbrev pub link_key : Link → List ℤ
-link_key link =
-    pos link.from.tile ∷ pos link.from.index ∷ pos link.edge ∷ pos link.to.tile ∷ pos link.to.index
-    ∷ link.portal.right.x ∷ link.portal.right.z ∷ link.portal.left.x ∷ link.portal.left.z ∷ []
+-- polygons by tile, then by place
+abbrev pub poly_cmp : PolyRef → PolyRef → Ordering
+poly_cmp a b = ordering_then (nat_cmp a.tile b.tile) (nat_cmp a.index b.index)
 
--- keys are ordered by their first numbers that differ
-abbrev pub is_key_before : List ℤ → List ℤ → Bool
-is_key_before [] ys = false
-is_key_before (a ∷ xs) [] = false
-is_key_before (a ∷ xs) (b ∷ ys) = int_lt a b || (int_le a b && is_key_before xs ys)
+-- points by x, then by z
+abbrev pub point_cmp : Point → Point → Ordering
+point_cmp a b = ordering_then (int_cmp a.x b.x) (int_cmp a.z b.z)
 
-abbrev pub is_link_before : Link → Link → Bool
-is_link_before a b = is_key_before (link_key a) (link_key b)
+-- links by the polygon that they leave, then by the edge, then by the polygon entered, then by the right and by the left end of the portal
+abbrev pub link_cmp : Link → Link → Ordering
+link_cmp a b =
+    ordering_then (poly_cmp a.from b.from) (ordering_then (nat_cmp a.edge b.edge) (ordering_then (poly_cmp a.to b.to)
+    (ordering_then (point_cmp a.portal.right b.portal.right) (point_cmp a.portal.left b.portal.left))))
 
 -- a link put into links that stand in order: before the first that it comes before
 abbrev pub put_link : Link → List Link → List Link
 put_link link [] = link ∷ []
-put_link link (other ∷ links) = if is_link_before link other then link ∷ other ∷ links else other ∷ put_link link links
+put_link link (other ∷ links) = if is_lt (link_cmp link other) then link ∷ other ∷ links else other ∷ put_link link links
 
 -- links put in order
 unfoldable pub ordered_links : List Link → List Link

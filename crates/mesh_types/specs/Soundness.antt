@@ -1,5 +1,5 @@
 -- Soundness: what every polygon, link, tile and mesh keeps.
-use Rattle.std.specs.Prelude.{◌≡◌, ℕ, zero, suc, ◌+◌, ◌<◌, ◌≤◌, ℤ, pos, ◌≤ℤ◌, ◌<ℤ◌, ◌+ℤ◌, get_or, List, length, All, slice_get, Option, Some}
+use Rattle.std.specs.Prelude.{◌≡◌, ◌≢◌, ℕ, zero, suc, ◌+◌, ◌<◌, ◌≤◌, ℤ, pos, ◌≤ℤ◌, ◌<ℤ◌, ◌+ℤ◌, get_or, List, length, All, slice_get, Option, Some}
 use Rattle.std.specs.List.{sum_by}
 use Rattle.nav_base.specs.declared.point.Point.{Point}
 use Rattle.nav_base.specs.Point.{IsCellCorner, orient_of, dot_of, from_to}
@@ -18,7 +18,8 @@ use Rattle.mesh_types.specs.declared.mesh.Mesh.{Mesh}
 use Rattle.mesh_types.specs.BorderLinks.{scaled}
 use Rattle.mesh_types.specs.WholeMesh.{poly_at}
 
--- a polygon is strictly convex with 3 to 6 corners in the largest field, has an area that can be walked on, and floors in order
+-- a polygon is strictly convex with 3 to 6 corners in the largest field, has an area that can be walked on, and floors in order of at
+-- most 8191
 pub record IsPolygon (polygon : Polygon) : Type 0 where
   pub convex : IsStrictlyConvex polygon.corners
   pub most : length polygon.corners ≤ 6
@@ -66,7 +67,7 @@ pub record LeadsThrough (from to : Option Polygon) (link : Link) : Type 0 where
   pub is_entered : to ≡ Some enters
   pub into : IsPortalIn enters link.portal
 
--- an inner link joins two polygons of its tile
+-- an inner link leads through its portal from one polygon of its tile to another
 pub record IsInnerLink (tile : TileMesh) (link : Link) : Type 0 where
   pub from_here : link.from.tile ≡ tile.tile
   pub to_here : link.to.tile ≡ tile.tile
@@ -79,29 +80,33 @@ pub record IsInSquare (window : Window) (p : Point) : Type 0 where
   pub bottom : window.z0 ≤ℤ p.z
   pub top : p.z ≤ℤ (window.z1 +ℤ pos 1)
 
--- an edge from u to v runs along a side of a tile, and over the positions from one up to before another
-abbrev pub RunsAlong : Window → ℕ → Point → Point → ℕ → ℕ → Type 0
-RunsAlong window zero u v first end =
-    (u.x ≡ window.x0) × (v.x ≡ window.x0) × (v.z ≤ℤ pos first) × (pos end ≤ℤ u.z)
-RunsAlong window (suc zero) u v first end =
-    (u.z ≡ window.z1 +ℤ pos 1) × (v.z ≡ window.z1 +ℤ pos 1) × (v.x ≤ℤ pos first) × (pos end ≤ℤ u.x)
-RunsAlong window (suc (suc zero)) u v first end =
-    (u.x ≡ window.x1 +ℤ pos 1) × (v.x ≡ window.x1 +ℤ pos 1) × (u.z ≤ℤ pos first) × (pos end ≤ℤ v.z)
-RunsAlong window (suc (suc (suc side))) u v first end =
-    (u.z ≡ window.z0) × (v.z ≡ window.z0) × (u.x ≤ℤ pos first) × (pos end ≤ℤ v.x)
+-- an edge from u to v lies on a side of a tile
+abbrev pub LiesOnSide : Window → ℕ → Point → Point → Type 0
+LiesOnSide window zero u v = (u.x ≡ window.x0) × (v.x ≡ window.x0)
+LiesOnSide window (suc zero) u v = (u.z ≡ window.z1 +ℤ pos 1) × (v.z ≡ window.z1 +ℤ pos 1)
+LiesOnSide window (suc (suc zero)) u v = (u.x ≡ window.x1 +ℤ pos 1) × (v.x ≡ window.x1 +ℤ pos 1)
+LiesOnSide window (suc (suc (suc side))) u v = (u.z ≡ window.z0) × (v.z ≡ window.z0)
 
--- a rim entry names an edge of one of the tile's polygons, which runs along the entry's side and over its positions
+-- an edge from u to v along a side runs over the positions from one up to before another
+abbrev pub RunsOver : ℕ → Point → Point → ℕ → ℕ → Type 0
+RunsOver zero u v first end = (v.z ≤ℤ pos first) × (pos end ≤ℤ u.z)
+RunsOver (suc zero) u v first end = (v.x ≤ℤ pos first) × (pos end ≤ℤ u.x)
+RunsOver (suc (suc zero)) u v first end = (u.z ≤ℤ pos first) × (pos end ≤ℤ v.z)
+RunsOver (suc (suc (suc side))) u v first end = (u.x ≤ℤ pos first) × (pos end ≤ℤ v.x)
+
+-- a rim entry names an edge of one of the tile's polygons, which lies on the entry's side and runs over its positions, where it has some
 pub record IsRimOf (setting : Setting) (tile : TileMesh) (entry : RimEdge) : Type 0 where
   pub side : entry.side < 4
   pub polygon : Polygon
   pub is_there : slice_get tile.polys entry.poly ≡ Some polygon
   pub edge : entry.edge < length polygon.corners
-  pub runs : RunsAlong (tile_window setting tile.tile) entry.side (corner_at polygon.corners entry.edge)
+  pub lies : LiesOnSide (tile_window setting tile.tile) entry.side (corner_at polygon.corners entry.edge)
+      (corner_at polygon.corners (place_after (length polygon.corners) entry.edge))
+  pub runs : 0 < length entry.pairs → RunsOver entry.side (corner_at polygon.corners entry.edge)
       (corner_at polygon.corners (place_after (length polygon.corners) entry.edge)) entry.first (entry.first + length entry.pairs)
 
 -- a tile mesh is fit for a setting
 pub record IsFit (setting : Setting) (tile : TileMesh) : Type 0 where
-  pub there : tile.tile < tile_count setting
   pub of_tile : tile.free.tile ≡ tile.tile
   pub free : IsCut tile.free.cells
   pub in_tile : IsInTile setting tile.tile tile.free.cells
@@ -121,12 +126,13 @@ pub record AreTiles (setting : Setting) (tiles : List TileMesh) : Type 0 where
   pub fit : All (IsFit setting) tiles
   pub few : polygon_count tiles ≤ 8000000
 
--- a link over a tile border leaves the tile, and leads through its portal
+-- a link over a tile border leads through its portal from a polygon of the tile to one of another tile
 pub record IsCrossLink (mesh : Mesh) (tile : ℕ) (link : Link) : Type 0 where
   pub from_here : link.from.tile ≡ tile
+  pub to_another : link.to.tile ≢ tile
   pub through : LeadsThrough (poly_at mesh link.from) (poly_at mesh link.to) link
 
--- a mesh is sound: its tiles are, and each tile has one list of links that leave it and lead through their portals
+-- a mesh is sound: its tiles are fit, and for each tile there is one list of links that leave it for others
 pub record IsSound (mesh : Mesh) : Type 0 where
   pub tiles : AreTiles mesh.setting mesh.tiles
   pub one_each : length mesh.cross ≡ length mesh.tiles

@@ -31,10 +31,11 @@ corner x z = record { x = pos x; z = pos z }
 abbrev pub sixteenths : ℕ → ℕ → Point
 sixteenths x z = corner (16 * x) (16 * z)
 
--- the first cell of a strip, and the least and the greatest floor of its cells
+-- a cell that stands for none
 abbrev pub some_cell : Cell
 some_cell = record { at = record { x = 0; z = 0; level = 0 }; floor = 0; ceiling = 0; area = 0; next = [] }
 
+-- the first cell of a strip, and the least and the greatest floor of its cells
 abbrev pub first_of : List Cell → Cell
 first_of run = get_or run 0 some_cell
 

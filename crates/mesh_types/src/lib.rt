@@ -11,6 +11,7 @@
 mod corners;
 mod label_runs;
 mod link_list;
+mod link_order;
 mod links;
 mod mesh;
 mod polygon;
@@ -20,6 +21,7 @@ mod tile;
 pub use corners::Corners;
 pub use label_runs::{Run, runs};
 pub use link_list::Links;
+pub use link_order::order_links;
 pub use links::{Link, PolyRef, Portal};
 pub use mesh::{Mesh, copy_mesh, copy_tile, poly};
 pub use polygon::Polygon;
