@@ -1,0 +1,5 @@
+pub mod Keyed
+pub mod Starts
+pub mod Labels
+pub mod Sorting
+pub mod LinkOrderLaws

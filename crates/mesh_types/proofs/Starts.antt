@@ -1,0 +1,84 @@
+-- Where the links of each polygon begin.
+use Rattle.std.proofs.Common.{◌≡◌, ℕ, ◌+◌, ◌-◌, ◌<◌, ◌≤◌, Bool, true, false, List, [], ◌∷◌, ◌++◌, length, map, filter, get_or, ap, ◌∙◌, sym, refl, arith, tests, inl, inr}
+use Rattle.std.specs.Prelude.{nat_lt, ◌==◌, ◌&&◌, slice_range, All}
+use Rattle.std.specs.List.{count_by, range_with_len}
+use Rattle.std.proofs.lemmas.Bool.{cases_lt, ne_eqb, both_ways, ltb-true, lt-ltb}
+use Rattle.std.proofs.lemmas.List.FromFn.{get_or-map-range_with_len, length-map-range_with_len, map-range_with_len_more}
+use Rattle.std.proofs.lemmas.List.Sums.{count_by-le-length}
+use Rattle.nav_ground.proofs.Selections.{filter_none}
+use Rattle.mesh_types.specs.declared.links.Link.{Link}
+use Rattle.mesh_types.specs.LinkIndex.{AreOrderedLinks, AreBelow, IsIndexed, is_before_polygon, leaving_of, starts_of}
+use Rattle.mesh_types.proofs.Keyed.{before_first, at_key, first_passes, later_fails, fewer_before}
+
+-- one link more leaves an earlier polygon
+pub one_more_before : (links : List Link) (polygon start : ℕ) (d : Link) → AreOrderedLinks links → start ≤ count_by (is_before_polygon polygon) links
+    → start < length links → (get_or links start d).from.index < polygon → start + 1 ≤ count_by (is_before_polygon polygon) links
+one_more_before links polygon start d order known there early =
+    elim (cases_lt start (count_by (is_before_polygon polygon) links)) [
+      | inl less ↦ omega (arith, less)
+      | inr more ↦ absurd (both_ways _ (later_fails (is_before_polygon polygon) links start d
+          (before_first (λ (link : Link). link.from.index) polygon links order) more there) (lt-ltb _ _ early))
+    ]
+
+-- the links so far are all that leave earlier polygons
+pub all_before : (links : List Link) (polygon start : ℕ) (d : Link) → AreOrderedLinks links → start ≤ count_by (is_before_polygon polygon) links
+    → (start < length links → polygon ≤ (get_or links start d).from.index)
+    → start ≡ count_by (is_before_polygon polygon) links
+all_before links polygon start d order known late =
+    elim (cases_lt start (count_by (is_before_polygon polygon) links)) [
+      | inl less ↦
+          let early = first_passes (is_before_polygon polygon) links start d (before_first (λ (link : Link). link.from.index) polygon links order) less in
+          let early' = ltb-true (get_or links start d).from.index polygon early in
+          absurd (omega (arith, early', late (omega (arith, less, count_by-le-length (is_before_polygon polygon) links))))
+      | inr more ↦ omega (arith, known, more)
+    ]
+
+-- how many starts there are
+starts_count : (links : List Link) (starts : List ℕ) (indexed : IsIndexed links starts) → length starts ≡ indexed.polygons + 1
+starts_count links starts indexed =
+    ap length indexed.starts_are
+    ∙ length-map-range_with_len (λ polygon. count_by (is_before_polygon polygon) links) 0 (indexed.polygons + 1)
+
+-- no link leaves a polygon past the last
+pub none_leave : (links : List Link) (starts : List ℕ) (polygon : ℕ) → IsIndexed links starts → length starts ≤ polygon + 1 → [] ≡ leaving_of polygon links
+none_leave links starts polygon indexed past =
+    sym (filter_none (λ (link : Link). link.from.index == polygon) links (λ k d there.
+    let below = indexed.within k d there in
+    ne_eqb _ _ (λ same. omega (arith, below, past, same, starts_count links starts indexed))))
+
+-- the start of a polygon that is there
+start_at : (links : List Link) (starts : List ℕ) (polygon start : ℕ) → IsIndexed links starts → polygon < length starts
+    → start ≡ get_or starts polygon start → start ≡ count_by (is_before_polygon polygon) links
+start_at links starts polygon start indexed there at =
+    at ∙ ap (λ xs. get_or xs polygon start) indexed.starts_are
+    ∙ get_or-map-range_with_len (λ p. count_by (is_before_polygon p) links) 0 (indexed.polygons + 1) polygon polygon start
+    (omega (arith, there, starts_count links starts indexed)) (omega arith)
+
+pub starts_rise : (links : List Link) (starts : List ℕ) (polygon start next : ℕ) → IsIndexed links starts → polygon + 1 < length starts
+    → start ≡ get_or starts polygon start → next ≡ get_or starts (polygon + 1) next → (start ≤ next) × (next ≤ length links)
+starts_rise links starts polygon start next indexed there at at' =
+    let first = start_at links starts polygon start indexed (omega (arith, there)) at in
+    let after = start_at links starts (polygon + 1) next indexed there at' in (
+      omega (arith, first, after, fewer_before (λ (link : Link). link.from.index) polygon links),
+      omega (arith, after, count_by-le-length (is_before_polygon (polygon + 1)) links),
+    )
+
+-- the links of a polygon are those between its start and the next
+pub leaving_between : (links : List Link) (starts : List ℕ) (polygon start next : ℕ) → IsIndexed links starts → polygon + 1 < length starts
+    → start ≡ get_or starts polygon start → next ≡ get_or starts (polygon + 1) next → slice_range links start next ≡ leaving_of polygon links
+leaving_between links starts polygon start next indexed there at at' =
+    ap (λ a. slice_range links a next) (start_at links starts polygon start indexed (omega (arith, there)) at)
+    ∙ ap (slice_range links (count_by (is_before_polygon polygon) links)) (start_at links starts (polygon + 1) next indexed there at')
+    ∙ at_key (λ (link : Link). link.from.index) polygon links indexed.order
+
+-- a start more
+pub one_more_start : (links : List Link) (starts : List ℕ) (polygon : ℕ)
+    → starts ≡ map (λ p. count_by (is_before_polygon p) links) (range_with_len 0 polygon)
+    → starts ++ count_by (is_before_polygon polygon) links ∷ [] ≡ map (λ p. count_by (is_before_polygon p) links) (range_with_len 0 (polygon + 1))
+one_more_start links starts polygon before =
+    ap (λ (xs : List ℕ). xs ++ count_by (is_before_polygon polygon) links ∷ []) before
+    ∙ sym (map-range_with_len_more (λ p. count_by (is_before_polygon p) links) 0 polygon polygon (omega arith))
+
+-- what leaves before a polygon leaves before the next
+pub known_before : (links : List Link) (polygon : ℕ) → count_by (is_before_polygon polygon) links ≤ count_by (is_before_polygon (polygon + 1)) links
+known_before links polygon = fewer_before (λ (link : Link). link.from.index) polygon links

@@ -1,0 +1,10 @@
+pub mod Inline
+pub mod LinkIndex
+pub mod Runs
+pub mod Strips
+pub mod LinkOrder
+pub mod StripMeshes
+pub mod BorderLinks
+pub mod WholeMesh
+pub mod Soundness
+pub mod Builds

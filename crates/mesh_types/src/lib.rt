@@ -1,0 +1,29 @@
+//! The shared types and definitions of the mesh: strips, polygons, portals, links, tiles and the whole mesh of a ground.
+//!
+//! Every crate above the ground speaks of the mesh in these words. A tile's free cells become polygons; a polygon's edges carry portals,
+//! through which links lead to other polygons; the tiles of a ground are joined into one mesh. The crates above use the definitions of
+//! `specs/`, the look-up `poly`, and tiles and lists of links that versions of a mesh share.
+//!
+//! Units: corners of polygons are in whole cells, points of portals in sixteenths of a cell; the corner (x, z) is the point (16 x, 16 z).
+//! With x drawn to the right and z upward, polygons are listed counterclockwise, and an edge has its outside on its right.
+#![tactic(auto)]
+
+mod corners;
+mod label_runs;
+mod link_list;
+mod link_order;
+mod links;
+mod mesh;
+mod polygon;
+mod strip;
+mod tile;
+
+pub use corners::Corners;
+pub use label_runs::{Run, runs};
+pub use link_list::Links;
+pub use link_order::order_links;
+pub use links::{Link, PolyRef, Portal};
+pub use mesh::{Mesh, copy_mesh, copy_tile, poly};
+pub use polygon::Polygon;
+pub use strip::Strip;
+pub use tile::{LevelPair, RimEdge, TileMesh};

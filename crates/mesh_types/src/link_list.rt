@@ -1,0 +1,116 @@
+//! Lists of links in which those that leave a polygon are one slice.
+
+ghost use Rattle.std.specs.Prelude.{◌≡◌, ◌<◌, ◌≤◌, ◌+◌, IfOk, length, slice_range};
+ghost use Rattle.std.specs.List.{count_by};
+ghost use Rattle.mesh_types.specs.LinkIndex.{AreOrderedLinks, AreBelow, is_before_polygon, leaving_of, starts_of};
+
+use crate::links::Link;
+use nav_list::Duplicate;
+use std::alloc::{AllocError, Global};
+use std::marker::Model;
+
+/// The links that leave the polygons of one tile, by the polygon that they leave, seen by contracts as their list. Beside the links stands
+/// where those of each polygon begin, so that they are found at once.
+#[derive(Drop)]
+pub struct Links {
+    links: Vec<Link>,
+    starts: Vec<usize>,
+}
+
+impl Model for Links {
+    ghost use Rattle.std.specs.Prelude.{List};
+    ghost use Rattle.mesh_types.specs.declared.links.Link.{Link};
+    ghost use Rattle.mesh_types.specs.LinkIndex.{IsIndexed};
+
+    ghost Value = { List Link };
+
+    ghost view = { λ a. a.links.items };
+
+    ghost invariant = { λ a. IsIndexed a.links.items a.starts.items };
+}
+
+impl Links {
+    /// A list of links that leave polygons numbered below `polygons`, in order of those numbers.
+    pub fn new(alloc: Global, links: Vec<Link>, polygons: u32) -> Result<Links, AllocError>
+        requires order { AreOrderedLinks links.items }
+        requires within { AreBelow polygons links.items }
+        ensures { IfOk result (λ made. made ≡ links.items) }
+    {
+        let starts = starts(alloc, links.as_slice(), polygons)?;
+        Ok(Links { links, starts })
+    }
+
+    /// All links, in order.
+    pub fn as_slice(&self) -> &[Link]
+        ensures value { result.now ≡ self.now }
+        ensures order { AreOrderedLinks self.now }
+    {
+        self.links.as_slice()
+    }
+
+    /// How many links there are.
+    pub fn len(&self) -> usize
+        ensures { result ≡ length self.now }
+    {
+        self.links.len()
+    }
+
+    /// The links that leave a polygon, in order.
+    pub fn leaving(&self, polygon: u32) -> &[Link]
+        ensures { result.now ≡ leaving_of polygon self.now }
+    {
+        let place = polygon as usize;
+        if self.starts.len() <= place + 1 {
+            return &[];
+        }
+        between(
+            self.links.as_slice(),
+            self.starts[place],
+            self.starts[place + 1],
+        )
+    }
+}
+
+/// The links from one place up to another.
+fn between(links: &[Link], first: usize, end: usize) -> &[Link]
+    requires { (first ≤ end) × (end ≤ length links.now) }
+    ensures { result.now ≡ slice_range links.now first end }
+{
+    &links[first..end]
+}
+
+/// For each polygon, and the number after the last, how many links leave earlier ones.
+fn starts(alloc: Global, links: &[Link], polygons: u32) -> Result<Vec<usize>, AllocError>
+    requires { AreOrderedLinks links.now }
+    ensures { IfOk result (λ starts. starts.items ≡ starts_of links.now polygons) }
+{
+    let mut starts = Vec::with_capacity(alloc, polygons as usize + 1)?;
+    let mut start = 0;
+    for polygon in 0..polygons as usize + 1 {
+        start = start_from(links, start, polygon);
+        starts.push(start)?;
+    }
+    Ok(starts)
+}
+
+/// How many links leave polygons before one, of which the first ones are known to.
+fn start_from(links: &[Link], known: usize, polygon: usize) -> usize
+    requires order { AreOrderedLinks links.now }
+    requires known { known ≤ count_by (is_before_polygon polygon) links.now }
+    ensures { result ≡ count_by (is_before_polygon polygon) links.now }
+{
+    let mut start = known;
+    while start < links.len() && (links[start].from.index as usize) < polygon {
+        start += 1;
+    }
+    start
+}
+
+impl Duplicate for Links {
+    fn duplicate(&self, alloc: Global) -> Result<Self, AllocError> {
+        Ok(Links {
+            links: Vec::from_slice(alloc, self.links.as_slice())?,
+            starts: Vec::from_slice(alloc, self.starts.as_slice())?,
+        })
+    }
+}

@@ -1,0 +1,28 @@
+//! Strips of cells.
+
+use nav_list::{Duplicate, Items};
+use std::alloc::{AllocError, Global};
+
+/// A maximal run of free cells of one area in one row, with successive x, each connected to the next.
+#[derive(PartialEq, Eq, Debug, Drop)]
+pub struct Strip {
+    pub z: u32,
+    /// The first and the last column.
+    pub x0: u32,
+    pub x1: u32,
+    /// The level of each cell, from the first column on.
+    pub levels: Items<u32>,
+    pub area: u32,
+}
+
+impl Duplicate for Strip {
+    fn duplicate(&self, alloc: Global) -> Result<Self, AllocError> {
+        Ok(Strip {
+            z: self.z,
+            x0: self.x0,
+            x1: self.x1,
+            levels: self.levels.duplicate(alloc)?,
+            area: self.area,
+        })
+    }
+}
