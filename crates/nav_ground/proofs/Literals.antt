@@ -14,7 +14,7 @@ use Rattle.nav_ground.specs.declared.field.Field.{Field}
 use Rattle.nav_ground.specs.declared.field.Span.{Span}
 use Rattle.nav_ground.specs.Fields.{IsField, IsSpan, IsSpanBefore, AreAreas}
 use Rattle.nav_ground.specs.Limits.{IsShape}
-use Rattle.nav_ground.specs.Cells.{IsCellBefore, IsCell, IsCut, AreMutual, is_naming, opposite}
+use Rattle.nav_ground.specs.Cells.{IsCellBefore, IsCell, IsCells, IsCut, AreMutual, is_naming, opposite}
 
 -- a test that holds of each element
 All-from_list_all : {X : Type 0} (p : X → Bool) (xs : List X) → list_all p xs ≡ true → All (λ x. p x ≡ true) xs
@@ -50,10 +50,12 @@ is_named_back_each a b = (is_named_back 0 a b && is_named_back 1 a b) && (is_nam
 abbrev pub is_mutual : List Cell → Bool
 is_mutual cells = list_all (λ (a : Cell). list_all (is_named_back_each a) cells) cells
 
--- the rules of cells of a cut, as a test
+-- the rules of cells, and of cells of a cut, as tests
+abbrev pub is_cells : List Cell → Bool
+is_cells cells = nat_le (length cells) 2000000 && (is_ordered_by (λ (a b : Cell). is_cell_before a.at b.at) cells && list_all is_cell cells)
+
 abbrev pub is_cut : List Cell → Bool
-is_cut cells = nat_le (length cells) 2000000 && is_ordered_by (λ (a b : Cell). is_cell_before a.at b.at) cells
-    && (list_all is_cell cells && is_mutual cells)
+is_cut cells = is_cells cells && is_mutual cells
 
 before_shown : (a b : CellRef) → is_cell_before a b ≡ true → IsCellBefore a b
 before_shown a b h = grind (arith, nat_tests)
@@ -82,22 +84,23 @@ mutual_shown cells h dir a b small has_a has_b named =
     let here = All-contains (λ (c : Cell). is_named_back_each a c ≡ true) cells b (All-from_list_all (is_named_back_each a) cells rows) has_b in
     shown_back dir a b small (each_back dir a b small here) named
 
--- cells that pass the test are a cut
+-- cells that pass the test keep the rules of cells, or of a cut
+pub IsCells-shown : (cells : List Cell) → is_cells cells ≡ true → IsCells cells
+IsCells-shown cells h =
+    let ordered = is_ordered_by (λ (a b : Cell). is_cell_before a.at b.at) cells in
+    let most = and_parts (nat_le (length cells) 2000000) (ordered && list_all is_cell cells) h in
+    let last = and_parts ordered (list_all is_cell cells) most.1 in
+    let pairs = AllPairs-from_test (λ (a b : Cell). is_cell_before a.at b.at) cells last.0 in
+    record {
+      few = leb-true (length cells) 2000000 most.0;
+      order = λ i j d before there. before_shown _ _ (pairs i j d before there);
+      each = All-weaker (λ (cell : Cell). is_cell cell ≡ true) IsCell cell_shown cells (All-from_list_all is_cell cells last.1);
+    }
+
 pub IsCut-shown : (cells : List Cell) → is_cut cells ≡ true → IsCut cells
 IsCut-shown cells h =
-    let ordered = is_ordered_by (λ (a b : Cell). is_cell_before a.at b.at) cells in
-    let most = and_parts (nat_le (length cells) 2000000 && ordered) (list_all is_cell cells && is_mutual cells) h in
-    let first = and_parts (nat_le (length cells) 2000000) ordered most.0 in
-    let last = and_parts (list_all is_cell cells) (is_mutual cells) most.1 in
-    let pairs = AllPairs-from_test (λ (a b : Cell). is_cell_before a.at b.at) cells first.1 in
-    record {
-      rules = record {
-        few = leb-true (length cells) 2000000 first.0;
-        order = λ i j d before there. before_shown _ _ (pairs i j d before there);
-        each = All-weaker (λ (cell : Cell). is_cell cell ≡ true) IsCell cell_shown cells (All-from_list_all is_cell cells last.0);
-      };
-      named_back = mutual_shown cells last.1;
-    }
+    let parts = and_parts (is_cells cells) (is_mutual cells) h in
+    record { rules = IsCells-shown cells parts.0; named_back = mutual_shown cells parts.1 }
 
 -- the limits of a shape, as a test
 abbrev pub is_box : ℕ → ℕ → ℕ → ℕ → ℕ → ℕ → Bool
