@@ -27,3 +27,6 @@ pub use mesh::{Mesh, copy_mesh, copy_tile, poly};
 pub use polygon::Polygon;
 pub use strip::Strip;
 pub use tile::{LevelPair, RimEdge, TileMesh};
+
+#[cfg(test)]
+mod tests;
