@@ -8,3 +8,5 @@ pub mod BorderLinks
 pub mod WholeMesh
 pub mod Soundness
 pub mod Builds
+pub mod Chains
+pub mod Taut

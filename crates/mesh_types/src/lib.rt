@@ -8,6 +8,7 @@
 //! With x drawn to the right and z upward, polygons are listed counterclockwise, and an edge has its outside on its right.
 #![tactic(auto)]
 
+mod corner;
 mod corners;
 mod label_runs;
 mod link_list;
@@ -18,6 +19,7 @@ mod polygon;
 mod strip;
 mod tile;
 
+pub use corner::{Corner, Side};
 pub use corners::Corners;
 pub use label_runs::{Run, runs};
 pub use link_list::Links;
