@@ -8,5 +8,7 @@ pub mod BorderLinks
 pub mod WholeMesh
 pub mod Soundness
 pub mod Builds
+pub mod Corridors
+pub mod Located
 pub mod Chains
 pub mod Taut

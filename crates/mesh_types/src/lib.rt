@@ -10,6 +10,7 @@
 
 mod corner;
 mod corners;
+mod corridor;
 mod label_runs;
 mod link_list;
 mod link_order;
@@ -21,6 +22,7 @@ mod tile;
 
 pub use corner::{Corner, Side};
 pub use corners::Corners;
+pub use corridor::Corridor;
 pub use label_runs::{Run, runs};
 pub use link_list::Links;
 pub use link_order::order_links;

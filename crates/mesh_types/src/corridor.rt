@@ -1,0 +1,21 @@
+//! Corridors: cheapest walks from one polygon to another.
+
+use crate::links::Link;
+use nav_list::{Duplicate, Items};
+use std::alloc::{AllocError, Global};
+
+/// A walk from one polygon to another that no other walk undercuts: its cost, and its links in order.
+#[derive(PartialEq, Eq, Debug, Drop)]
+pub struct Corridor {
+    pub cost: u64,
+    pub links: Items<Link>,
+}
+
+impl Duplicate for Corridor {
+    fn duplicate(&self, alloc: Global) -> Result<Self, AllocError> {
+        Ok(Corridor {
+            cost: self.cost,
+            links: self.links.duplicate(alloc)?,
+        })
+    }
+}
