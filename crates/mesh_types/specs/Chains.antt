@@ -1,13 +1,14 @@
 -- Chains: portals one after the other, from a start to a goal.
-use Rattle.std.specs.Prelude.{◌≡◌, ◌≢◌, ℕ, ◌+◌, ◌-◌, ◌<◌, ℤ, pos, ◌≤ℤ◌, ◌<ℤ◌, Bool, nat_lt, ◌==◌, if◌then◌else◌, List, [], ◌∷◌, length, All, get_or}
+use Rattle.std.specs.Prelude.{◌≡◌, ◌≢◌, ℕ, ◌+◌, ◌-◌, ◌<◌, ℤ, pos, ◌≤ℤ◌, ◌<ℤ◌, nat_lt, ◌==◌, if◌then◌else◌, List, [], ◌∷◌, length, All, get_or}
 use Rattle.nav_base.specs.declared.point.Point.{Point}
 use Rattle.nav_base.specs.Point.{orient_of, dot_of, from_to}
 use Rattle.mesh_types.specs.declared.links.Portal.{Portal}
 
--- the portal at a place
+-- a portal that stands for none
 abbrev pub some_portal : Portal
 some_portal = record { left = record { x = pos 0; z = pos 0 }; right = record { x = pos 0; z = pos 0 } }
 
+-- the portal at a place
 abbrev pub portal_at : List Portal → ℕ → Portal
 portal_at portals m = get_or portals m some_portal
 
@@ -28,7 +29,7 @@ abbrev pub points_after : List Portal → Point → ℕ → List Point
 points_after portals goal m =
     if nat_lt (m + 1) (length portals) then (portal_at portals (m + 1)).left ∷ (portal_at portals (m + 1)).right ∷ [] else goal ∷ []
 
--- a chain: each portal has two ends, what comes before it lies behind it, and what comes after it lies ahead of it
+-- a chain: each portal has two different ends, what comes before it lies behind it, and what comes after it lies ahead of it
 pub record IsChain (start : Point) (portals : List Portal) (goal : Point) : Type 0 where
   pub wide : (m : ℕ) → m < length portals → (portal_at portals m).left ≢ (portal_at portals m).right
   pub behind : (m : ℕ) → m < length portals → All (IsBehind (portal_at portals m)) (points_before start portals m)

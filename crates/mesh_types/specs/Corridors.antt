@@ -1,5 +1,5 @@
 -- Corridors: walks over links, what they cost, and the cheapest.
-use Rattle.std.specs.Prelude.{◌≡◌, ℕ, ◌*◌, ◌≤◌, max, ℤ, pos, ◌+ℤ◌, ◌*ℤ◌, unsigned_abs, List, [], ◌∷◌, map, slice_get, slice_index, Option, Some, Contains, ◌⊎◌}
+use Rattle.std.specs.Prelude.{◌≡◌, ℕ, ◌*◌, ◌≤◌, max, ℤ, pos, ◌+ℤ◌, ◌*ℤ◌, List, [], ◌∷◌, map, slice_get, slice_index, Some, Contains, ◌⊎◌}
 use Rattle.std.specs.List.{sum_by, fold}
 use Rattle.std.specs.Int.{int_min, int_max}
 use Rattle.std.specs.Option.{option_map_or}

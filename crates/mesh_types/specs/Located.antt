@@ -1,5 +1,5 @@
 -- Located: which polygon holds a point at a height.
-use Rattle.std.specs.Prelude.{◌≡◌, ℕ, ◌-◌, ◌<◌, ◌≤◌, ◌⊎◌, max, pos, ◌≤ℤ◌, length, Option, Some}
+use Rattle.std.specs.Prelude.{◌≡◌, ℕ, ◌-◌, ◌<◌, ◌≤◌, ◌⊎◌, max, pos, ◌≤ℤ◌, length, Some}
 use Rattle.nav_base.specs.declared.point.Point.{Point}
 use Rattle.nav_base.specs.Point.{orient_of}
 use Rattle.mesh_types.specs.declared.links.PolyRef.{PolyRef}
@@ -8,7 +8,7 @@ use Rattle.mesh_types.specs.declared.mesh.Mesh.{Mesh}
 use Rattle.mesh_types.specs.Soundness.{edge_begin, edge_end}
 use Rattle.mesh_types.specs.WholeMesh.{poly_at}
 
--- a polygon holds a point of the plane, in sixteenths: it lies to the left of each edge or on its line
+-- a polygon holds a point of the plane, in sixteenths: the point lies to the left of each edge or on its line
 abbrev pub Holds : Polygon → Point → Type 0
 Holds polygon p = (edge : ℕ) → edge < length polygon.corners → pos 0 ≤ℤ orient_of (edge_begin polygon edge) (edge_end polygon edge) p
 

@@ -6,7 +6,8 @@ use Rattle.mesh_types.specs.declared.links.Portal.{Portal}
 use Rattle.mesh_types.specs.declared.corner.Side.{Side}
 use Rattle.mesh_types.specs.declared.corner.Side.TheVariants.{L, R}
 use Rattle.mesh_types.specs.declared.corner.Corner.{Corner}
-use Rattle.mesh_types.specs.Chains.{portal_at, some_portal, IsBehind, IsAhead, IsFold}
+use Rattle.mesh_types.specs.Soundness.{along}
+use Rattle.mesh_types.specs.Chains.{portal_at, IsBehind, IsAhead, IsFold}
 
 -- the end of a portal on a side, and the other end
 abbrev pub end_of : Side → Portal → Point
@@ -52,7 +53,8 @@ pub record IsSpanned (stops : List Stop) (k m : ℕ) : Type 0 where
   pub after : (stop_at stops k).number < m + 1
   pub before : m + 1 < (stop_at stops (k + 1)).number
 
--- (b) a segment from p to q goes through a portal: its ends lie on both sides, from behind to ahead
+-- (b) a segment from p to q goes through a portal: the portal's left end does not lie to the right of the way, its right end not to the
+-- left, p not ahead of the portal and q not behind it
 pub record GoesThrough (p q : Point) (portal : Portal) : Type 0 where
   pub left : pos 0 ≤ℤ orient_of p q portal.left
   pub right : orient_of p q portal.right ≤ℤ pos 0
@@ -63,16 +65,12 @@ pub record GoesThrough (p q : Point) (portal : Portal) : Type 0 where
 abbrev pub LiesOn : Point → Portal → Type 0
 LiesOn p portal = dot_of (from_to portal.left p) (from_to portal.right p) ≤ℤ pos 0
 
--- how far a point is along the way from p to q, as a product
-abbrev pub along : Point → Point → Point → ℤ
-along p q x = dot_of (from_to p x) (from_to p q)
-
 -- a portal lies on the line through p and q
 pub record LiesOnLine (p q : Point) (portal : Portal) : Type 0 where
   pub left : orient_of p q portal.left ≡ pos 0
   pub right : orient_of p q portal.right ≡ pos 0
 
--- (d) a portal on a segment's line has an end that is not before its beginning, and an end that is not after its end
+-- (d) a portal on a segment's line has an end that is not before the segment's beginning, and an end that is not after the segment's end
 pub record IsReached (p q : Point) (portal : Portal) : Type 0 where
   pub begin : (pos 0 ≤ℤ along p q portal.left) ⊎ (pos 0 ≤ℤ along p q portal.right)
   pub end : (along p q portal.left ≤ℤ along p q q) ⊎ (along p q portal.right ≤ℤ along p q q)
@@ -108,19 +106,20 @@ pub record IsStraightOn (b c e : Point) : Type 0 where
   pub on_line : orient_of b c e ≡ pos 0
   pub onward : dot_of (from_to c b) (from_to c e) <ℤ pos 0
 
--- a point beyond c holds a corner on a side: it is straight on or lies further to that side
+-- a point holds a corner at c on a side: it is straight on, or lies on that side of the way from b to c
 abbrev pub IsHolding : Side → Point → Point → Point → Type 0
 IsHolding L b c e = IsStraightOn b c e ⊎ (pos 0 <ℤ orient_of b c e)
 IsHolding R b c e = IsStraightOn b c e ⊎ (orient_of b c e <ℤ pos 0)
 
--- the corner at a stop of a bend
+-- a corner that stands for none
 abbrev pub some_corner : Corner
 some_corner = record { at = record { x = pos 0; z = pos 0 }; side = L; portal = 0 }
 
+-- the corner at a stop of a bend
 abbrev pub corner_of : List Corner → ℕ → Corner
 corner_of corners k = get_or corners (k - 1) some_corner
 
--- one of the corners of a bend has a side
+-- the corner at a stop of a bend has a side
 pub record HasSide (corners : List Corner) (first last : ℕ) (side : Side) (k : ℕ) : Type 0 where
   pub from : first ≤ k
   pub to : k ≤ last
