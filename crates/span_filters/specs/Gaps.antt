@@ -1,5 +1,5 @@
 -- What is seen of gaps, one after the other.
-use Rattle.std.specs.Prelude.{ℕ, ◌+◌, ◌<◌, ◌≤◌, Bool, true, false, nat_le, nat_lt, min, max, ◌==◌, if◌then◌else◌, List, fold, Option}
+use Rattle.std.specs.Prelude.{ℕ, ◌+◌, ◌<◌, ◌≤◌, Bool, true, false, ◌||◌, nat_le, nat_lt, min, max, ◌==◌, if◌then◌else◌, List, fold, Option}
 use Rattle.std.specs.Option.{option_map_or}
 use Rattle.nav_ground.specs.declared.field.Span.{Span}
 use Rattle.nav_ground.specs.Column.{Gap}
@@ -50,3 +50,7 @@ seen_at_first stand = record { beside_drop = false; least = stand.floor; greates
 -- a gap with such a floor, or one above it, may be open
 abbrev pub is_in_reach : Stand → Option ℕ → Bool
 is_in_reach stand floor = option_map_or (λ height. nat_le (height + stand.height) stand.ceiling) floor true
+
+-- what is seen makes a span a ledge: a drop, or floors that differ by more than the climb
+abbrev pub shows_ledge : Seen → ℕ → Bool
+shows_ledge seen climb = seen.beside_drop || nat_lt (seen.least + climb) seen.greatest
