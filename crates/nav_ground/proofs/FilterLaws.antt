@@ -1,5 +1,5 @@
 -- The areas that the filters leave are areas, one beside each span.
-use Rattle.std.proofs.Common.{◌≡◌, ℕ, ◌+◌, ◌≤◌, Bool, true, false, List, [], ◌∷◌, length, Option, None, Some, refl, ap, ◌∙◌, arith, suc}
+use Rattle.std.proofs.Common.{◌≡◌, ℕ, ◌+◌, ◌≤◌, Bool, true, false, List, [], ◌∷◌, length, Option, None, Some, refl, ap, arith, suc}
 use Rattle.std.specs.Prelude.{All, IfSome, nat_le, ◌==◌, filter, if◌then◌else◌}
 use Rattle.std.specs.List.{last_or}
 use Rattle.std.specs.Option.{option_map_or}
@@ -10,7 +10,7 @@ use Rattle.nav_ground.specs.declared.field.Span.{Span}
 use Rattle.nav_ground.specs.declared.field.Field.{Field}
 use Rattle.nav_ground.specs.Column.{stands_above, span_below}
 use Rattle.nav_ground.specs.Fields.{IsField, IsSpan, AreAreas}
-use Rattle.nav_ground.specs.Filters.{low_hanging_area, low_hanging_areas, areas_without, is_ledge, is_low_ceiling, ledge_areas, low_ceiling_areas, filtered_areas}
+use Rattle.nav_ground.specs.Filters.{low_hanging_area, low_hanging_areas, areas_without, is_ledge, is_low_ceiling, ledge_areas, filtered_areas}
 
 -- what holds of each element holds of the last
 last_of_all : {A : Type 0} (P : A → Type 0) (o : Option A) (xs : List A) → IfSome o P → All P xs → IfSome (last_or o xs) P

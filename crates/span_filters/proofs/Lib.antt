@@ -1,4 +1,4 @@
 pub mod Neighbours
 pub mod Stacks
 pub mod Verdict
-pub mod Lists
+pub mod OneMoreSpan

@@ -1,9 +1,9 @@
 -- Spans in order: their columns and places rise, and what stands directly above and below a span is beside it in the list.
 use Rattle.std.proofs.Common.{◌≡◌, ℕ, ◌+◌, ◌<◌, ◌≤◌, Bool, true, false, length, List, [], ◌∷◌, ◌++◌, take, drop, get_or, cond, ap, ◌∙◌, sym, refl, subst, Option, Some, None, arith, zero, suc, inl, inr}
-use Rattle.std.specs.Prelude.{◌==◌, ◌&&◌, All, filter}
+use Rattle.std.specs.Prelude.{All, filter}
 use Rattle.std.specs.List.{find, last_or}
 use Rattle.std.specs.Option.{option_map_or, option_or}
-use Rattle.std.proofs.lemmas.Bool.{cases_lt, false_from_ne_true, ne_eqb, eq-eqb, eqb-true, and_from, le-leb}
+use Rattle.std.proofs.lemmas.Bool.{cases_lt, false_from_ne_true, ne_eqb, eq-eqb, eqb-true}
 use Rattle.std.proofs.lemmas.Bool.Decides.{nat_tests}
 use Rattle.std.proofs.lemmas.List.{append-nil, get_or-take, get_or-drop, get_or_default, length-take-le, length-drop, take-append-drop, drop_more, drop_all}
 use Rattle.std.proofs.lemmas.List.Elements.{All-head, All-tail, All-weaker, filter-append, filter_more}
@@ -15,7 +15,7 @@ use Rattle.nav_ground.specs.Column.{stands_above, span_above, span_below, ceilin
 use Rattle.nav_ground.specs.Fields.{IsField, IsSpan, IsSpanBefore}
 use Rattle.nav_ground.proofs.Directions.{both_equal, tests_of_equal}
 use Rattle.nav_ground.proofs.Selections.{filter_none}
-use Rattle.span_filters.specs.Columns.{AreSpans, IsSameColumn, IsPassed, IsCutAt, column_of, column_beside, is_in, place_of, start_of, floor_over}
+use Rattle.span_filters.specs.Columns.{AreSpans, IsSameColumn, IsPassed, column_of, column_beside, is_in, place_of, start_of, floor_over}
 
 -- the spans of a field
 pub spans_of_field : (field : Field) → IsField field → AreSpans field.spans

@@ -1,13 +1,13 @@
 -- Gaps of spans that stand one above the other: which of them show nothing.
-use Rattle.std.proofs.Common.{◌≡◌, ℕ, ◌+◌, ◌<◌, ◌≤◌, Bool, true, false, length, List, [], ◌∷◌, ◌++◌, take, drop, get_or, cond, ap, ◌∙◌, sym, refl, subst, Option, Some, None, arith, zero, suc, inl, inr, max, min}
-use Rattle.std.specs.Prelude.{All, AllPairs, IfSome, filter, nat_le, if◌then◌else◌}
+use Rattle.std.proofs.Common.{◌≡◌, ℕ, ◌+◌, ◌<◌, ◌≤◌, Bool, true, false, length, List, [], ◌∷◌, ◌++◌, take, drop, get_or, ap, ◌∙◌, sym, refl, subst, Option, Some, None, arith, zero, suc, max, min}
+use Rattle.std.specs.Prelude.{All, AllPairs, IfSome, filter, if◌then◌else◌}
 use Rattle.std.specs.Option.{option_map_or}
 use Rattle.std.proofs.lemmas.Bool.{both_ways, leb-false, lt-leb, eqb-true}
 use Rattle.std.proofs.lemmas.List.{take-append-drop, get_or-take, length-take-le}
 use Rattle.std.proofs.lemmas.List.Elements.{All-head, All-tail, All-take, All-filter, filter-append, filter_passes}
 use Rattle.std.proofs.lemmas.List.Kept.{AllPairs-filter}
 use Rattle.nav_ground.specs.declared.field.Span.{Span}
-use Rattle.nav_ground.specs.Column.{Gap, gaps_over, gaps_of}
+use Rattle.nav_ground.specs.Column.{gaps_over, gaps_of}
 use Rattle.nav_ground.specs.Fields.{IsSpan, IsSpanBefore}
 use Rattle.span_filters.specs.declared.gaps.Stand.{Stand}
 use Rattle.span_filters.specs.declared.gaps.Seen.{Seen}

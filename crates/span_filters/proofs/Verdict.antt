@@ -1,5 +1,5 @@
 -- What is seen of the gaps around a span says whether it is a ledge.
-use Rattle.std.proofs.Common.{◌≡◌, ℕ, ◌+◌, ◌<◌, ◌≤◌, Bool, true, false, List, [], ◌∷◌, cond, ap, ◌∙◌, sym, refl, Option, Some, None, arith, inl, inr, min, max}
+use Rattle.std.proofs.Common.{◌≡◌, ℕ, ◌+◌, ◌≤◌, Bool, true, false, List, [], ◌∷◌, cond, ap, ◌∙◌, sym, refl, Option, Some, None, arith, inl, inr, min, max}
 use Rattle.std.specs.Prelude.{filter, fold, nat_lt, nat_le, not, ◌&&◌, ◌||◌, if◌then◌else◌}
 use Rattle.std.specs.List.{list_any, filter_map, cons_option}
 use Rattle.std.specs.Option.{option_map_or}
@@ -11,7 +11,7 @@ use Rattle.nav_ground.specs.Column.{Gap, ceiling_of}
 use Rattle.nav_ground.specs.Filters.{is_at_edge, is_drop, is_near, near_floors, is_steep, gaps_beside, open_gaps, is_ledge}
 use Rattle.span_filters.specs.declared.gaps.Stand.{Stand}
 use Rattle.span_filters.specs.declared.gaps.Seen.{Seen}
-use Rattle.span_filters.specs.Gaps.{is_open_to, with_gap, with_floor, seen_over, seen_at_first}
+use Rattle.span_filters.specs.Gaps.{is_open_to, with_floor, seen_over, seen_at_first, shows_ledge}
 
 -- one more open gap
 abbrev with_open : Stand → Seen → Gap → Seen
@@ -214,7 +214,7 @@ ledge_not_at_edge field agent span inside =
 verdict_of : (climb floor : ℕ) (gaps : List Gap) (seen : Seen) → seen.beside_drop ≡ list_any (is_drop climb floor) gaps
     → seen.least ≡ fold min floor (filter (is_near climb floor) (floors_of gaps))
     → seen.greatest ≡ fold max floor (filter (is_near climb floor) (floors_of gaps))
-    → (seen.beside_drop || nat_lt (seen.least + climb) seen.greatest)
+    → shows_ledge seen climb
     ≡ (list_any (is_drop climb floor) gaps || is_steep climb (near_floors climb floor gaps))
 verdict_of climb floor gaps seen drops least greatest =
     let near = filter (is_near climb floor) (floors_of gaps) in
@@ -226,7 +226,7 @@ verdict_of climb floor gaps seen drops least greatest =
 pub ledge_seen : (field : Field) (agent : Agent) (span : Span) (stand : Stand) (seen : Seen) → is_at_edge field span ≡ false
     → stand ≡ record { floor = span.top; ceiling = ceiling_of field.spans span; height = agent.height; climb = agent.climb }
     → seen ≡ seen_over stand (seen_at_first stand) (gaps_beside field.spans span)
-    → (seen.beside_drop || nat_lt (seen.least + agent.climb) seen.greatest) ≡ is_ledge field agent span
+    → shows_ledge seen agent.climb ≡ is_ledge field agent span
 ledge_seen field agent span stand seen inside at is =
     let own : Stand = record { floor = span.top; ceiling = ceiling_of field.spans span; height = agent.height; climb = agent.climb } in
     let around = open_gaps agent.height field.spans span in
@@ -244,7 +244,7 @@ pub ledge_found : (field : Field) (agent : Agent) (spans : List Span) (span here
     → spans ≡ field.spans → span ≡ here → is_at_edge field span ≡ false → ceiling ≡ ceiling_of spans span
     → ◌≡◌ {A = Seen} seen (seen_over (record { floor = span.top; ceiling = ceiling; height = agent.height; climb = agent.climb })
     (record { beside_drop = false; least = span.top; greatest = span.top }) (gaps_beside spans span))
-    → (seen.beside_drop || nat_lt (seen.least + agent.climb) seen.greatest) ≡ is_ledge field agent here
+    → shows_ledge seen agent.climb ≡ is_ledge field agent here
 ledge_found field agent spans span here ceiling seen same at inside under is =
     let stand : Stand = record { floor = span.top; ceiling = ceiling; height = agent.height; climb = agent.climb } in
     let own : Stand = record { floor = span.top; ceiling = ceiling_of field.spans span; height = agent.height; climb = agent.climb } in

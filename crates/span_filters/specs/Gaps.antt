@@ -1,20 +1,9 @@
 -- What is seen of gaps, one after the other.
-use Rattle.std.specs.Prelude.{ℕ, ◌+◌, ◌<◌, ◌≤◌, Bool, true, false, nat_le, nat_lt, min, max, ◌==◌, if◌then◌else◌, List, fold, Option}
+use Rattle.std.specs.Prelude.{ℕ, ◌+◌, ◌<◌, ◌≤◌, Bool, true, false, ◌||◌, nat_le, nat_lt, min, max, if◌then◌else◌, List, fold, Option}
 use Rattle.std.specs.Option.{option_map_or}
-use Rattle.nav_ground.specs.declared.field.Span.{Span}
 use Rattle.nav_ground.specs.Column.{Gap}
 use Rattle.span_filters.specs.declared.gaps.Stand.{Stand}
 use Rattle.span_filters.specs.declared.gaps.Seen.{Seen}
-
--- the area of a span over the one directly below it
-abbrev pub area_hung : ℕ → Span → Option Span → ℕ
-area_hung climb span below =
-    if span.area == 0 then option_map_or (λ (other : Span). if nat_le span.top (other.top + climb) then other.area else 0) below 0
-    else span.area
-
--- the area of a span under a ceiling, where so much is needed
-abbrev pub area_under : ℕ → ℕ → ℕ → ℕ
-area_under ceiling needed area = if nat_lt ceiling needed then 0 else area
 
 -- an agent stands on a span of the largest field
 pub record IsStand (stand : Stand) : Type 0 where
@@ -50,3 +39,7 @@ seen_at_first stand = record { beside_drop = false; least = stand.floor; greates
 -- a gap with such a floor, or one above it, may be open
 abbrev pub is_in_reach : Stand → Option ℕ → Bool
 is_in_reach stand floor = option_map_or (λ height. nat_le (height + stand.height) stand.ceiling) floor true
+
+-- what is seen makes a span a ledge: a drop, or floors that differ by more than the climb
+abbrev pub shows_ledge : Seen → ℕ → Bool
+shows_ledge seen climb = seen.beside_drop || nat_lt (seen.least + climb) seen.greatest

@@ -1,3 +1,4 @@
 pub mod Columns
+pub mod Areas
 pub mod Gaps
 pub mod Looks

@@ -6,7 +6,7 @@ ghost use Rattle.nav_ground.specs.Fields.{IsField, AreAreas};
 ghost use Rattle.nav_ground.specs.Limits.{IsAgent};
 ghost use Rattle.nav_ground.specs.Filters.{low_hanging_areas, low_ceiling_areas, filtered_areas};
 ghost use Rattle.span_filters.specs.Columns.{IsLargestSpan};
-ghost use Rattle.span_filters.specs.Gaps.{area_hung};
+ghost use Rattle.span_filters.specs.Areas.{area_hung};
 
 use crate::columns::{ceiling_of, span_below};
 use crate::ledge::ledges;
@@ -35,7 +35,7 @@ fn area_hung(climb: u32, span: &Span, below: Option<Span>) -> u32
     requires climb { climb < 256 }
     requires span { IsLargestSpan span.now }
     requires below { IfSome below IsLargestSpan }
-    ensures { result ≡ Rattle.span_filters.specs.Gaps.area_hung climb span.now below }
+    ensures { result ≡ Rattle.span_filters.specs.Areas.area_hung climb span.now below }
 {
     if span.area != 0 {
         return span.area;
@@ -70,7 +70,7 @@ pub fn low_ceilings(
 
 /// The area of a span under a ceiling, where the agent needs so much.
 fn area_under(ceiling: u32, needed: u32, area: u32) -> u32
-    ensures { result ≡ Rattle.span_filters.specs.Gaps.area_under ceiling needed area }
+    ensures { result ≡ Rattle.span_filters.specs.Areas.area_under ceiling needed area }
 {
     if ceiling < needed { 0 } else { area }
 }

@@ -1,7 +1,6 @@
 //! What an agent on a span sees of the gaps around it.
 
-ghost use Rattle.std.specs.Prelude.{◌≡◌, ◌≤◌, ℕ, IfSome, Some};
-ghost use Rattle.nav_ground.specs.Column.{Gap};
+ghost use Rattle.std.specs.Prelude.{◌≡◌, ◌<◌, ◌≤◌, IfSome};
 ghost use Rattle.span_filters.specs.Gaps.{IsStand};
 
 /// Where an agent would stand, and the agent: heights in height units.
@@ -81,4 +80,13 @@ pub fn is_in_reach(stand: &Stand, floor: Option<u32>) -> bool
         Some(floor) => floor + stand.height <= stand.ceiling,
         None => true,
     }
+}
+
+/// Whether what is seen makes the span a ledge: a drop, or floors that differ by more than the climb.
+pub fn shows_ledge(seen: &Seen, climb: u32) -> bool
+    requires least { seen.now.least ≤ 8191 }
+    requires climb { climb < 256 }
+    ensures { result ≡ Rattle.span_filters.specs.Gaps.shows_ledge seen.now climb }
+{
+    seen.beside_drop || seen.least + climb < seen.greatest
 }

@@ -11,7 +11,7 @@ ghost use Rattle.span_filters.specs.Gaps.{IsStand, seen_over, seen_at_first};
 ghost use Rattle.span_filters.specs.Looks.{ArePassed};
 
 use crate::columns::{OPEN_SKY, ceiling_of, column_beside, column_of, floor_over, pass, place_of};
-use crate::gaps::{Seen, Stand, is_in_reach, with_gap};
+use crate::gaps::{Seen, Stand, is_in_reach, shows_ledge, with_gap};
 use nav_ground::{Agent, Field, Span};
 use std::alloc::{AllocError, Global};
 
@@ -93,7 +93,7 @@ fn is_ledge(field: &Field, agent: &Agent, passed: &mut Passed, i: usize) -> bool
         climb: agent.climb,
     };
     let seen = look_around(&stand, spans, passed, span);
-    seen.beside_drop || seen.least + agent.climb < seen.greatest
+    shows_ledge(&seen, agent.climb)
 }
 
 /// Whether one of the columns beside a span's lies outside the field.

@@ -1,4 +1,4 @@
-use Rattle.std.proofs.Common.{◌∙◌, arith}
+use Rattle.std.proofs.Common.{arith}
 use Rattle.nav_ground.specs.declared.field.Span.{Span}
 use Rattle.span_filters.proofs.Neighbours.{starts_after}
 use Rattle.span_filters.proofs.columns.pass.Goals as goal

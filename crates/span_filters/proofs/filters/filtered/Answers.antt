@@ -1,8 +1,8 @@
-use Rattle.std.proofs.Common.{◌≡◌, ℕ, ◌∙◌, List, length, ap, sym, subst}
+use Rattle.std.proofs.Common.{◌≡◌, ℕ, ◌∙◌, length, ap, sym, subst}
 use Rattle.std.specs.Global.{Vec}
 use Rattle.std.proofs.lemmas.Result.{IfOk-weaker}
 use Rattle.nav_ground.specs.Fields.{AreAreas}
-use Rattle.nav_ground.specs.Filters.{low_hanging_areas, ledge_areas, low_ceiling_areas, is_ledge, is_low_ceiling}
+use Rattle.nav_ground.specs.Filters.{low_hanging_areas, ledge_areas, low_ceiling_areas, is_ledge}
 use Rattle.nav_ground.proofs.FilterLaws.{low_hanging_are_areas, length-low_hanging_areas, without_are_areas, length-areas_without, filtered_are_areas, length-filtered_areas}
 use Rattle.span_filters.proofs.filters.filtered.Goals as goal
 

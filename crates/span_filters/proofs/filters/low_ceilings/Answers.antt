@@ -1,8 +1,8 @@
 use Rattle.std.proofs.Common.{◌+◌, ◌∙◌, length, get_or, ap, arith}
 use Rattle.nav_ground.specs.declared.field.Span.{Span}
 use Rattle.nav_ground.specs.Filters.{is_low_ceiling}
-use Rattle.span_filters.specs.Gaps.{area_under}
-use Rattle.span_filters.proofs.Lists.{without_more}
+use Rattle.span_filters.specs.Areas.{area_under}
+use Rattle.span_filters.proofs.OneMoreSpan.{without_more}
 use Rattle.span_filters.proofs.filters.low_ceilings.Goals as goal
 
 abbrev no_span : Span

@@ -1,5 +1,4 @@
-use Rattle.std.proofs.Common.{◌≡◌, ℕ, ◌+◌, ◌<◌, ◌∙◌, List, length, get_or, ap, sym, subst}
-use Rattle.std.specs.Prelude.{◌||◌, nat_lt}
+use Rattle.std.proofs.Common.{◌≡◌, ℕ, ◌<◌, ◌∙◌, List, length, get_or, ap, sym, subst}
 use Rattle.std.proofs.lemmas.List.{get_or_default}
 use Rattle.nav_ground.specs.declared.field.Span.{Span}
 use Rattle.span_filters.specs.Looks.{ArePassed}
@@ -23,20 +22,10 @@ look_around-seen-requires-clause-passed c =
     let P : List Span → Type 0 = λ xs. ArePassed xs c.args.passed.now c.args.agent.now.height (get_or xs c.args.i no_span) in
     subst P (sym c.as_slice-spans.ensures) (c.requires.passed no_span)
 
-pub returns-then-seen-clause-ledge : goal.returns-then-seen-clause-ledge
-returns-then-seen-clause-ledge c = λ d.
-    let seen = c.look_around-seen.result in
-    c.if-seen.true ∙ sym (ap (λ b. b || nat_lt (seen.least + c.args.agent.now.climb) seen.greatest) c.if-seen.true)
+pub returns-clause-ledge : goal.returns-clause-ledge
+returns-clause-ledge c = λ d.
+    c.shows_ledge.ensures
     ∙ ledge_found c.args.field.now c.args.agent.now c.as_slice-spans.result.now (get_or c.as_slice-spans.result.now c.args.i no_span)
-    (get_or c.args.field.now.spans c.args.i d) c.ceiling_of.result seen c.as_slice-spans.ensures
-    (at_place _ _ c.args.i d c.as_slice-spans.ensures c.requires.there) (sym c.is_at_edge.ensures ∙ c.if-is_at_edge.false)
-    (c.ceiling_of.ensures no_span) c.look_around-seen.ensures.seen
-
-pub returns-else-seen-clause-ledge : goal.returns-else-seen-clause-ledge
-returns-else-seen-clause-ledge c = λ d.
-    let seen = c.look_around-seen.result in
-    sym (ap (λ b. b || nat_lt (seen.least + c.args.agent.now.climb) seen.greatest) c.if-seen.false)
-    ∙ ledge_found c.args.field.now c.args.agent.now c.as_slice-spans.result.now (get_or c.as_slice-spans.result.now c.args.i no_span)
-    (get_or c.args.field.now.spans c.args.i d) c.ceiling_of.result seen c.as_slice-spans.ensures
+    (get_or c.args.field.now.spans c.args.i d) c.ceiling_of.result c.look_around-seen.result c.as_slice-spans.ensures
     (at_place _ _ c.args.i d c.as_slice-spans.ensures c.requires.there) (sym c.is_at_edge.ensures ∙ c.if-is_at_edge.false)
     (c.ceiling_of.ensures no_span) c.look_around-seen.ensures.seen

@@ -2,7 +2,7 @@ use Rattle.std.proofs.Common.{◌∙◌, arith}
 use Rattle.nav_ground.specs.declared.field.Span.{Span}
 use Rattle.nav_ground.specs.Filters.{is_ledge}
 use Rattle.span_filters.proofs.Neighbours.{spans_of_field}
-use Rattle.span_filters.proofs.Lists.{without_more, passed_after}
+use Rattle.span_filters.proofs.OneMoreSpan.{without_more, passed_after}
 use Rattle.span_filters.proofs.ledge.ledges.Goals as goal
 
 abbrev no_span : Span

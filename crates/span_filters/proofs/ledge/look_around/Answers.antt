@@ -1,4 +1,4 @@
-use Rattle.std.proofs.Common.{ℕ, ◌≤◌, List, arith}
+use Rattle.std.proofs.Common.{ℕ, List, arith}
 use Rattle.nav_ground.specs.Column.{Gap, gaps_of, column_toward}
 use Rattle.span_filters.specs.Gaps.{seen_at_first}
 use Rattle.span_filters.proofs.Verdict.{least_falls}

@@ -1,10 +1,7 @@
 -- The areas that a filter leaves, and what spans have passed, span by span.
-use Rattle.std.proofs.Common.{◌≡◌, ℕ, ◌+◌, ◌<◌, ◌≤◌, Bool, length, List, [], ◌∷◌, ◌++◌, take, get_or, ap, ◌∙◌, sym, refl, subst, arith, zero, suc}
+use Rattle.std.proofs.Common.{◌≡◌, ℕ, ◌+◌, ◌<◌, ◌≤◌, Bool, length, List, [], ◌∷◌, ◌++◌, take, get_or, ap, ◌∙◌, sym, refl, arith, zero, suc}
 use Rattle.std.specs.Prelude.{if◌then◌else◌}
-use Rattle.std.proofs.Math.Numerals.{add-one}
-use Rattle.std.proofs.lemmas.List.{get_or_default}
 use Rattle.nav_ground.specs.declared.field.Span.{Span}
-use Rattle.nav_ground.specs.Fields.{IsSpan, IsSpanBefore}
 use Rattle.nav_ground.specs.Filters.{areas_without}
 use Rattle.span_filters.specs.declared.ledge.Passed.{Passed}
 use Rattle.span_filters.specs.Columns.{AreSpans, IsPassed, column_beside, place_of}
