@@ -14,8 +14,10 @@ use nav_ground::{Agent, Cell, CellRef, Field, Span};
 use nav_list::Items;
 use std::alloc::{AllocError, Global};
 
-/// The cells of a field for an agent, where one area stands beside each span: a cell on each span whose area is not 0, each connected to
-/// at most one cell of each neighbouring column. The areas are those that the filters leave, or any others.
+/// The cells of a field for an agent, where one area stands beside each span: a cell on each span whose area is not 0, by z, then x, then
+/// level, each connected to at most one cell of each neighbouring column, as in Recast's compact height field. The areas are those that the
+/// filters leave, or any others. A cell's ceiling is the bottom of the next span, whatever its area; heights and the agent are in height
+/// units. It takes memory once, for the cells.
 pub fn compact(
     alloc: Global,
     field: &Field,

@@ -9,7 +9,7 @@ use crate::compact_field::CompactField;
 use nav_ground::{Cell, CellRef};
 
 /// The place of the cell that the cell at a place is connected to in a direction, 0 for x - 1, 1 for z + 1, 2 for x + 1, 3 for z - 1; none
-/// where it is connected to none there.
+/// where it is connected to none there. The place is that of a cell of the list.
 pub fn neighbour(compact: &CompactField, at: CellRef, dir: u32) -> Option<CellRef>
     requires rules { IsCompact compact.now.cells }
     requires there { IsPlaceOf compact.now.cells at }

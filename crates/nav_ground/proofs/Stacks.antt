@@ -1,8 +1,9 @@
 -- The cells of a field before they are connected: in order, and in each column one above the other, each ceiling below the next floor.
-use Rattle.std.proofs.Common.{◌≡◌, ℕ, ◌<◌, Bool, true, false, length, List, get_or, refl, sym, ap, ◌∙◌, arith, inl, inr}
+use Rattle.std.proofs.Common.{◌≡◌, ℕ, ◌<◌, length, List, get_or, refl, sym, ap, ◌∙◌, arith, inl, inr}
 use Rattle.std.specs.Prelude.{All, AllPairs}
 use Rattle.std.specs.List.{count_by}
 use Rattle.std.proofs.lemmas.List.Elements.{All-map}
+use Rattle.std.proofs.lemmas.Bool.{false_from_ne_true}
 use Rattle.nav_ground.specs.declared.field.Span.{Span}
 use Rattle.nav_ground.specs.declared.field.Field.{Field}
 use Rattle.nav_ground.specs.declared.cell.Cell.{Cell}
@@ -13,11 +14,6 @@ use Rattle.nav_ground.specs.Connection.{walkable_spans, unconnected_cell, unconn
 use Rattle.nav_ground.proofs.Found.{count_by-below}
 use Rattle.nav_ground.proofs.Kept.{AllPairs-map}
 use Rattle.nav_ground.proofs.Walkable.{IsAbove, IsAbove-from_test, test_of_IsAbove, above_from_order, ceiling_below, ceiling_at_most, IsWalkable, walkable, walkable_order}
-
--- a test that cannot pass does not
-none_passes : (b : Bool) → (b ≡ true → ⊥) → b ≡ false
-none_passes true not = absurd (not refl)
-none_passes false not = refl
 
 -- the level of a span is below that of one that stands above it
 level_rises : (width depth : ℕ) (spans walkable : List Span) (i : ℕ) (d b : Span) → All (IsWalkable width depth spans) walkable → i < length walkable
@@ -31,7 +27,7 @@ level_rises width depth spans walkable i d b each there above =
     let h = IsAbove-from_test (get_or walkable k e) a under in
     test_of_IsAbove (get_or walkable k e) b (record { x = above.x ∙ h.x; z = above.z ∙ h.z; over = omega (arith, h.over, above.over, solid) }))
     there
-    (none_passes (stands_above a a) (λ itself. let h = IsAbove-from_test a a itself in omega (arith, h.over, solid)))
+    (false_from_ne_true (stands_above a a) (λ itself. let h = IsAbove-from_test a a itself in omega (arith, h.over, solid)))
     (test_of_IsAbove a b above)
 
 -- a cell before another in a list of cells: in an earlier place, and in the same column under a ceiling that is below the other's floor
