@@ -1,5 +1,5 @@
 -- What walks reach, cost by cost: cells are taken out of those that are kept, and stand in the order in which they were reached.
-use Rattle.std.specs.Prelude.{ℕ, ◌+◌, ◌%◌, ◌==◌, Bool, false, not, ◌&&◌, nat_lt, if◌then◌else◌, List, [], ◌∷◌, ◌++◌, filter, fold, slice_index_or, slice_set}
+use Rattle.std.specs.Prelude.{ℕ, ◌+◌, ◌%◌, ◌==◌, Bool, false, not, ◌&&◌, nat_lt, if◌then◌else◌, List, [], ◌∷◌, ◌++◌, filter, slice_index_or, slice_set}
 use Rattle.std.specs.List.{list_any, flat_map, slice_range, range_with_len}
 use Rattle.agent_erode.specs.Table.{neighbour}
 

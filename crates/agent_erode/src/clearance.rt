@@ -4,7 +4,7 @@ ghost use Rattle.std.specs.Prelude.{◌≡◌, IfOk, map};
 ghost use Rattle.nav_ground.specs.Cells.{IsCells};
 ghost use Rattle.nav_ground.specs.Clearance.{is_kept};
 
-use crate::reach::Reached;
+use crate::reach::{Reached, all_kept};
 use crate::table::neighbour_table;
 use nav_ground::Cell;
 use std::alloc::{AllocError, Global};
@@ -18,12 +18,12 @@ pub fn marks(alloc: Global, cells: &[Cell], radius: u32) -> Result<Vec<bool>, Al
     requires { IsCells cells.now }
     ensures { IfOk result (λ marks. marks.items ≡ map (is_kept cells.now radius) cells.now) }
 {
-    let mut reached = Reached::new(alloc, cells.len())?;
     if radius == 0 {
-        return Ok(reached.into_kept());
+        return Ok(all_kept(alloc, cells.len())?);
     }
     let table = neighbour_table(alloc, cells)?;
     let table = table.as_slice();
+    let mut reached = Reached::new(alloc, cells.len())?;
     reached.reach_boundary(table)?;
     let bound = 2 * u64::from(radius);
     let mut cost = 1;

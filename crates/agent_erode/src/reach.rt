@@ -26,7 +26,7 @@ impl Reached {
         ensures { IfOk result (λ reached. reached ≡ record { kept = replicate count true; order = [] }) }
     {
         Ok(Reached {
-            kept: vec![in alloc; true; count]?,
+            kept: all_kept(alloc, count)?,
             order: Vec::with_capacity(alloc, count)?,
         })
     }
@@ -79,7 +79,12 @@ impl Reached {
     }
 
     /// Takes the axis steps from the cells that were reached from one place in the order to before another.
-    pub fn step_along(&mut self, table: &[[u32; 4]], first: usize, end: usize) -> Result<(), AllocError>
+    pub fn step_along(
+        &mut self,
+        table: &[[u32; 4]],
+        first: usize,
+        end: usize,
+    ) -> Result<(), AllocError>
         requires range { first ≤ end }
         requires there { end ≤ length self.old.order }
         ensures { OnOk result (self.new ≡ fold reached self.old (axis_ends_from table.now self.old.order first end)) }
@@ -91,7 +96,12 @@ impl Reached {
     }
 
     /// Takes the diagonal steps from the cells that were reached from one place in the order to before another.
-    pub fn step_diagonally(&mut self, table: &[[u32; 4]], first: usize, end: usize) -> Result<(), AllocError>
+    pub fn step_diagonally(
+        &mut self,
+        table: &[[u32; 4]],
+        first: usize,
+        end: usize,
+    ) -> Result<(), AllocError>
         requires range { first ≤ end }
         requires there { end ≤ length self.old.order }
         ensures { OnOk result (self.new ≡ fold reached self.old (diagonal_ends_from table.now self.old.order first end)) }
@@ -131,6 +141,13 @@ impl Reached {
         self.reach(neighbour(table, by, (dir + 1) % 4))?;
         self.reach(neighbour(table, by, (dir + 3) % 4))
     }
+}
+
+/// All of so many cells are kept.
+pub fn all_kept(alloc: Global, count: usize) -> Result<Vec<bool>, AllocError>
+    ensures { IfOk result (λ kept. kept.items ≡ replicate count true) }
+{
+    Ok(vec![in alloc; true; count]?)
 }
 
 /// The index in a table at a cell and a direction; past the table one that no cell has.

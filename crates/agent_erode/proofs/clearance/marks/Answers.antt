@@ -1,6 +1,5 @@
-use Rattle.std.proofs.Common.{◌≡◌, ℕ, ◌+◌, ◌*◌, ◌≤◌, List, length, map, ◌∙◌, sym, ap, subst, arith}
-use Rattle.agent_erode.specs.Table.{neighbour_table}
-use Rattle.agent_erode.specs.Reaching.{Progress, axis_ends_from}
+use Rattle.std.proofs.Common.{◌≡◌, ℕ, ◌+◌, ◌*◌, List, length, map, ◌∙◌, sym, ap, subst, arith}
+use Rattle.agent_erode.specs.Reaching.{axis_ends_from}
 use Rattle.agent_erode.specs.Clearances.{is_beyond, IsSpread}
 use Rattle.agent_erode.proofs.Tables.{table_length}
 use Rattle.agent_erode.proofs.Reaches.{order_grows}
@@ -11,8 +10,7 @@ use Rattle.agent_erode.proofs.clearance.marks.Goals.{then-loop-cost-test+else-th
 pub returns-then-radius-eq0 : goal.returns-then-radius-eq0
 returns-then-radius-eq0 c =
     let none : 0 ≡ 2 * c.args.radius = omega arith in
-    c.into_kept.ensures ∙ ap (λ (p : Progress). p.kept) c.in_ok-reached.ensures ∙ kept_first c.args.cells.now
-    ∙ ap (λ bound. map (is_beyond c.args.cells.now bound) c.args.cells.now) none
+    c.in_ok-all_kept.ensures ∙ kept_first c.args.cells.now ∙ ap (λ bound. map (is_beyond c.args.cells.now bound) c.args.cells.now) none
 
 pub reach_boundary-requires : goal.reach_boundary-requires
 reach_boundary-requires c =
@@ -54,8 +52,8 @@ pub returns : goal.returns
 returns c =
     let cells = c.args.cells.now in
     let bound : 2 * c.from-bound.result ≡ 2 * c.args.radius = ap (λ n. 2 * n) c.from-bound.ensures in
-    let P : ℕ → Type 0 = λ n. c.into_kept-2.result.items ≡ map (is_beyond cells n) cells in
-    subst P bound (c.into_kept-2.ensures ∙ elim c.loop-cost-test.branch [
+    let P : ℕ → Type 0 = λ n. c.into_kept.result.items ≡ map (is_beyond cells n) cells in
+    subst P bound (c.into_kept.ensures ∙ elim c.loop-cost-test.branch [
       | then-loop-cost-test+else-third-count w ↦
           spread_ends cells c.requires c.loop-cost.reached c.loop-cost.first c.loop-cost.second c.loop-cost.third c.loop-cost.cost (2 * c.from-bound.result)
           c.loop-cost.invariant.some c.loop-cost.invariant.most (omega (arith, w.if-third-count.false, w.count.ensures)) c.loop-cost.invariant.spread

@@ -1,4 +1,4 @@
-use Rattle.std.proofs.Common.{◌∙◌, sym, ap}
+use Rattle.std.proofs.Common.{◌∙◌, ap}
 use Rattle.agent_erode.specs.Table.{index_of}
 use Rattle.agent_erode.proofs.Places.{named_index, named_none}
 use Rattle.agent_erode.proofs.table.index_named.Goals as goal
