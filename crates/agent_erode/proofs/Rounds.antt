@@ -12,7 +12,7 @@ use Rattle.nav_ground.specs.Cells.{IsCells}
 use Rattle.nav_ground.specs.Clearance.{is_walk_end}
 use Rattle.nav_ground.proofs.Selections.{range-push}
 use Rattle.agent_erode.specs.Table.{neighbour_table}
-use Rattle.agent_erode.specs.Reaching.{Progress, reached, is_among, axis_ends, diagonal_ends, axis_ends_from, diagonal_ends_from, has_gap, boundary}
+use Rattle.agent_erode.specs.Reaching.{Progress, reached, is_among, axis_ends, diagonal_ends, axis_ends_from, diagonal_ends_from, after_axis_steps, after_round, has_gap, boundary}
 use Rattle.agent_erode.specs.Clearances.{is_ended_below, is_beyond, IsLeast, IsLeastBelow, IsStage, IsSpread}
 use Rattle.agent_erode.proofs.Places.{same_test, no_cell}
 use Rattle.agent_erode.proofs.Tables.{table_length}
@@ -365,27 +365,23 @@ spread_begins cells rules' table begun now is none one =
     })
 
 -- and go on from the cells of the last costs
-pub spread_goes_on : (cells : List Cell) → IsCells cells → (table : List (List ℕ)) (old mid now : Progress) (first second third cost : ℕ)
+pub spread_goes_on : (cells : List Cell) → IsCells cells → (table : List (List ℕ)) (old now : Progress) (first second third cost : ℕ)
     → table ≡ neighbour_table cells → 1 ≤ cost → IsSpread cells old first second third cost
-    → mid ≡ fold reached old (axis_ends_from table old.order second first)
-    → now ≡ fold reached mid (diagonal_ends_from table mid.order third second)
-    → IsSpread cells now (length old.order) first second (cost + 1)
-spread_goes_on cells rules' table old mid now first second third cost is some spread along across =
+    → now ≡ after_round table old third second first → IsSpread cells now (length old.order) first second (cost + 1)
+spread_goes_on cells rules' table old now first second third cost is some spread across =
+    let mid = after_axis_steps table old second first in
     let t = neighbour_table cells in
     let first_most : first ≤ length old.order = spread.last.rises in
     let second_most : second ≤ length old.order = omega (arith, spread.before_last.rises, first_most) in
     let axis = axis_ends_from t old.order second first in
     let diagonal = diagonal_ends_from t old.order third second in
     let reach = reach_all (axis_ends_from table old.order second first) old in
-    let grows : length old.order ≤ length mid.order = omega (arith, reach.grows, ap (λ (p : Progress). length p.order) along) in
     let begins : slice_range mid.order third second ≡ slice_range old.order third second =
-    slice_same old.order mid.order third second second_most grows
-    (λ q before. ap (λ (p : Progress). get_or p.order q 0) along ∙ reach.same q before) in
+    slice_same old.order mid.order third second second_most reach.grows reach.same in
     let all : now ≡ fold reached old (axis ++ diagonal) =
     across
     ∙ ap (λ (part : List ℕ). fold reached mid (flat_map (diagonal_ends table) part)) begins
-    ∙ ap (λ (tt' : List (List ℕ)). fold reached mid (diagonal_ends_from tt' old.order third second)) is
-    ∙ ap (λ (p : Progress). fold reached p diagonal) (along ∙ ap (λ (tt' : List (List ℕ)). fold reached old (axis_ends_from tt' old.order second first)) is)
+    ∙ ap (λ (rows : List (List ℕ)). fold reached (after_axis_steps rows old second first) (diagonal_ends_from rows old.order third second)) is
     ∙ sym (fold-append reached old axis diagonal) in
     let round = next_round cells rules' cost third second first old.order some first_most spread.before_last spread.before_both in
     let P : Progress → Type 0 = λ p. IsSpread cells p (length old.order) first second (cost + 1) in
