@@ -1,5 +1,5 @@
 -- The rules of the cells of a whole field, written out: a test by computation shows that they hold.
-use Rattle.std.proofs.Common.{◌≡◌, ℕ, ◌<◌, Bool, true, false, List, [], ◌∷◌, get_or, Option, ap, ◌∙◌, sym, arith, zero, suc}
+use Rattle.std.proofs.Common.{◌≡◌, ℕ, ◌<◌, Bool, true, List, [], ◌∷◌, get_or, Option, ap, ◌∙◌, sym, arith, zero, suc}
 use Rattle.std.specs.Prelude.{All, ◌&&◌, ◌||◌, is_none}
 use Rattle.std.specs.List.{list_all}
 use Rattle.std.proofs.lemmas.Bool.{and_parts}

@@ -1,5 +1,5 @@
 -- What it is to reach a list of indices one after the other.
-use Rattle.std.proofs.Common.{◌≡◌, ℕ, ◌+◌, ◌-◌, ◌<◌, ◌≤◌, Bool, true, false, cond, length, List, [], ◌∷◌, ◌++◌, map, take, drop, get_or, set, ap, ◌∙◌, sym, refl, subst, arith, zero, suc, inl, inr, ◌⊎◌}
+use Rattle.std.proofs.Common.{◌≡◌, ℕ, ◌+◌, ◌-◌, ◌<◌, ◌≤◌, Bool, true, false, cond, length, List, [], ◌∷◌, ◌++◌, take, drop, get_or, set, ap, ◌∙◌, sym, refl, arith, inl, inr, ◌⊎◌}
 use Rattle.std.specs.Prelude.{◌==◌, ◌&&◌, ◌||◌, not, fold, filter}
 use Rattle.std.specs.List.{list_any, flat_map, slice_range, range_with_len}
 use Rattle.std.proofs.lemmas.Bool.{eqb-true, eq-eqb, ne_eqb, both_ways, cases_lt, cases_eq, or_cases, or_left, or_right, and_parts, and_from, and_left, and_right, not_from_true, not_from_false, cases_Bool}
@@ -11,7 +11,7 @@ use Rattle.std.proofs.lemmas.List.Sums.{fold-append}
 use Rattle.std.proofs.lemmas.List.FromFn.{length-range_with_len, get_or-range_with_len}
 use Rattle.agent_erode.specs.Reaching.{Progress, reached, is_among}
 use Rattle.cell_table.proofs.Places.{same_test}
-use Rattle.agent_erode.proofs.Walks.{IsHit, hit_of}
+use Rattle.agent_erode.proofs.Walks.{hit_of}
 
 -- a place in the order, from a first on, with an index
 pub record IsAfter (order : List ℕ) (first i : ℕ) : Type 0 where
@@ -64,30 +64,32 @@ reach_one i old = by_kept (get_or old.kept i false) refl
             let no : get_or old.kept k false ≡ false = ap (λ n. get_or old.kept n false) (sym same) ∙ sym is in
             no ∙ sym (and_left (get_or old.kept k false) _ no)
         kept_same k (inr apart) = and_true (get_or old.kept k false) ∙ ap (λ b. get_or old.kept k false && not (b || false)) (sym (ne_eqb i k apart))
+
         only : (k : ℕ) → is_among k (i ∷ []) ≡ true → i ≡ k
         only k among = elim (or_cases (i == k) false among) [ inl same ↦ eqb-true i k same | inr none ↦ absurd (both_ways false refl none) ]
     by_kept true is =
-      let inside : i < length old.kept = inside_of (cases_lt i (length old.kept)) in
-      record {
-        long = length-set old.kept i false;
-        kept = λ k. kept_less inside k (cases_eq i k);
-        grows = omega (arith, length_push old.order i);
-        same = λ q before. get_or_append_left old.order (i ∷ []) 0 q before;
-        each = λ q least most.
-            let here : length old.order ≡ q = omega (arith, length_push old.order i, least, most) in
-            let at = get_or_push old.order i 0 q here in
-            (ap (λ n. get_or old.kept n false) at ∙ sym is, ap (λ n. is_among n (i ∷ [])) at ∙ or_left (i == i) false (eq-eqb i i refl));
-        all = λ k was among. record {
-          place = length old.order;
-          least = omega arith;
-          most = omega (arith, length_push old.order i);
-          index = get_or_push old.order i 0 (length old.order) refl ∙ only k among;
-        };
-      }
+        let inside : i < length old.kept = inside_of (cases_lt i (length old.kept)) in
+        record {
+          long = length-set old.kept i false;
+          kept = λ k. kept_less inside k (cases_eq i k);
+          grows = omega (arith, length_push old.order i);
+          same = λ q before. get_or_append_left old.order (i ∷ []) 0 q before;
+          each = λ q least most.
+              let here : length old.order ≡ q = omega (arith, length_push old.order i, least, most) in
+              let at = get_or_push old.order i 0 q here in
+              (ap (λ n. get_or old.kept n false) at ∙ sym is, ap (λ n. is_among n (i ∷ [])) at ∙ or_left (i == i) false (eq-eqb i i refl));
+          all = λ k was among. record {
+            place = length old.order;
+            least = omega arith;
+            most = omega (arith, length_push old.order i);
+            index = get_or_push old.order i 0 (length old.order) refl ∙ only k among;
+          };
+        }
       where
         inside_of : (i < length old.kept) ⊎ (length old.kept ≤ i) → i < length old.kept
         inside_of (inl below) = below
         inside_of (inr past) = absurd (both_ways (get_or old.kept i false) (get_or_past old.kept i false past) (sym is))
+
         kept_less : i < length old.kept → (k : ℕ) → (i ≡ k) ⊎ (i ≡ k → ⊥)
             → get_or (set old.kept i false) k false ≡ (get_or old.kept k false && not ((i == k) || false))
         kept_less inside k (inl same) =
@@ -96,6 +98,7 @@ reach_one i old = by_kept (get_or old.kept i false) refl
         kept_less inside k (inr apart) =
             get_or-set_other old.kept i k false false (λ same. apart (sym same))
             ∙ and_true (get_or old.kept k false) ∙ ap (λ b. get_or old.kept k false && not (b || false)) (sym (ne_eqb i k apart))
+
         only : (k : ℕ) → is_among k (i ∷ []) ≡ true → i ≡ k
         only k among = elim (or_cases (i == k) false among) [ inl same ↦ eqb-true i k same | inr none ↦ absurd (both_ways false refl none) ]
 
@@ -109,9 +112,10 @@ reach_both is js old mid new first second = record {
   each = λ q least most. elim (cases_lt q (length mid.order)) [
     | inl early ↦
         let at = second.same q early in
-        let was = first.each q least early in
-        (ap (λ n. get_or old.kept n false) at ∙ was.0,
-        ap (λ n. is_among n (is ++ js)) at ∙ both (get_or mid.order q 0) ∙ or_left _ _ was.1)
+        let was = first.each q least early in (
+          ap (λ n. get_or old.kept n false) at ∙ was.0,
+          ap (λ n. is_among n (is ++ js)) at ∙ both (get_or mid.order q 0) ∙ or_left _ _ was.1,
+        )
     | inr late ↦
         let was = second.each q late most in
         let i = get_or new.order q 0 in
@@ -128,10 +132,13 @@ reach_both is js old mid new first second = record {
     neither true true y = refl
     neither true false y = refl
     neither false x y = refl
+
     both : (i : ℕ) → is_among i (is ++ js) ≡ (is_among i is || is_among i js)
     both i = list_any-append (λ index. index == i) is js
+
     later : (x y : Bool) → x ≡ false → (x || y) ≡ true → y ≡ true
     later x y none h = ap (λ b. b || y) (sym none) ∙ h
+
     from_first : {i : ℕ} → IsAfter mid.order (length old.order) i → IsAfter new.order (length old.order) i
     from_first after = record {
       place = after.place;
@@ -139,6 +146,7 @@ reach_both is js old mid new first second = record {
       most = omega (arith, after.most, second.grows);
       index = second.same after.place after.most ∙ after.index;
     }
+
     from_second : {i : ℕ} → IsAfter new.order (length mid.order) i → IsAfter new.order (length old.order) i
     from_second after = record {
       place = after.place;

@@ -1,8 +1,8 @@
 -- Rounds: what is reached at a cost, from what was reached at lesser costs.
-use Rattle.std.proofs.Common.{◌≡◌, ℕ, ◌+◌, ◌<◌, ◌≤◌, Bool, true, false, cond, length, List, [], ◌∷◌, ◌++◌, map, take, drop, get_or, ap, ◌∙◌, sym, refl, subst, arith, zero, suc, inl, inr, ◌⊎◌}
-use Rattle.std.specs.Prelude.{◌==◌, ◌&&◌, ◌||◌, not, fold, filter, replicate}
+use Rattle.std.proofs.Common.{◌≡◌, ℕ, ◌+◌, ◌<◌, ◌≤◌, Bool, true, false, length, List, [], ◌∷◌, ◌++◌, map, get_or, ap, ◌∙◌, sym, refl, subst, arith, zero, suc, inl, inr, ◌⊎◌}
+use Rattle.std.specs.Prelude.{◌==◌, ◌&&◌, ◌||◌, not, fold, replicate}
 use Rattle.std.specs.List.{list_any, flat_map, slice_range, range_with_len}
-use Rattle.std.proofs.lemmas.Bool.{eqb-true, eq-eqb, ne_eqb, both_ways, cases_lt, cases_order, false_from_ne_true, not-true, not_from_false, or_cases, or_left, or_right, and_parts, and_from, cases_Bool}
+use Rattle.std.proofs.lemmas.Bool.{both_ways, cases_lt, cases_order, false_from_ne_true, not-true, not_from_false, or_cases, or_left, or_right, cases_Bool}
 use Rattle.std.proofs.lemmas.List.{length-map, get_or-map, get_or_past, ext_get_or}
 use Rattle.std.proofs.lemmas.List.Folds.{list_any_at, list_any-append}
 use Rattle.std.proofs.lemmas.List.Sums.{fold-append}
@@ -12,12 +12,12 @@ use Rattle.nav_ground.specs.Cells.{IsCells}
 use Rattle.nav_ground.specs.Clearance.{is_walk_end}
 use Rattle.nav_ground.proofs.Selections.{range-push}
 use Rattle.cell_table.specs.Table.{neighbour_table}
-use Rattle.agent_erode.specs.Reaching.{Progress, reached, is_among, axis_ends, diagonal_ends, axis_ends_from, diagonal_ends_from, has_gap, boundary}
+use Rattle.agent_erode.specs.Reaching.{Progress, reached, is_among, axis_ends, diagonal_ends, axis_ends_from, diagonal_ends_from, after_axis_steps, after_round, has_gap, boundary}
 use Rattle.agent_erode.specs.Clearances.{is_ended_below, is_beyond, IsLeast, IsLeastBelow, IsStage, IsSpread}
 use Rattle.cell_table.proofs.Places.{same_test, no_cell}
 use Rattle.cell_table.proofs.Tables.{table_length}
-use Rattle.agent_erode.proofs.Walks.{IsHit, hit_of, IsLastStep, last_step, walk_begins, walk_along, walk_across}
-use Rattle.agent_erode.proofs.Reaches.{IsAfter, IsReach, reach_all, IsFrom, among_flat, flat_among, among_filter, slice_same}
+use Rattle.agent_erode.proofs.Walks.{hit_of, IsLastStep, last_step, walk_begins, walk_along, walk_across}
+use Rattle.agent_erode.proofs.Reaches.{reach_all, IsFrom, among_flat, flat_among, among_filter, slice_same}
 
 -- walks below a bound, and one more cost
 ended_more : (cells : List Cell) (bound : ℕ) (cell : Cell)
@@ -147,15 +147,17 @@ round_last cells cost indices old round kept =
       each = λ q least most.
           let i = get_or new.order q 0 in
           let found = reach.each q least most in
-          let inside : i < length cells = inside_of i (cases_lt i (length old.kept)) long found.0 in
-          (inside, λ d. record {
-            own = cost;
-            is = refl;
-            least = record {
-              ends = round.ends i d inside found.1;
-              least = not-true (is_ended_below cells cost (get_or cells i d)) (sym (was i d inside) ∙ found.0);
-            };
-          });
+          let inside : i < length cells = inside_of i (cases_lt i (length old.kept)) long found.0 in (
+            inside,
+            λ d. record {
+              own = cost;
+              is = refl;
+              least = record {
+                ends = round.ends i d inside found.1;
+                least = not-true (is_ended_below cells cost (get_or cells i d)) (sym (was i d inside) ∙ found.0);
+              };
+            },
+          );
       all = λ i d inside below.
           let same : below.own ≡ cost = omega (arith, below.is) in
           let P : ℕ → Type 0 = λ n. IsLeast cells n (get_or cells i d) in
@@ -178,10 +180,12 @@ round_before cells cost first end less indices old most stage =
       rises = stage.rises;
       each = λ q least below.
           let same = reach.same q (omega (arith, below, most)) in
-          let was = stage.each q least below in
-          (omega (arith, same, was.0), λ d.
-          let P : ℕ → Type 0 = λ n. IsLeastBelow cells (less + 1) (cost + 1) (get_or cells n d) in
-          subst P (sym same) (later (was.1 d)));
+          let was = stage.each q least below in (
+            omega (arith, same, was.0),
+            λ d.
+                let P : ℕ → Type 0 = λ n. IsLeastBelow cells (less + 1) (cost + 1) (get_or cells n d) in
+                subst P (sym same) (later (was.1 d)),
+          );
       all = λ i d inside below.
           let at = stage.all i d inside (earlier below) in
           (at.0, at.1, at.2, reach.same at.0 (omega (arith, at.2, most)) ∙ at.3);
@@ -189,6 +193,7 @@ round_before cells cost first end less indices old most stage =
   where
     later : {cell : Cell} → IsLeastBelow cells less cost cell → IsLeastBelow cells (less + 1) (cost + 1) cell
     later below = record { own = below.own; is = omega (arith, below.is); least = below.least }
+
     earlier : {cell : Cell} → IsLeastBelow cells (less + 1) (cost + 1) cell → IsLeastBelow cells less cost cell
     earlier below = record { own = below.own; is = omega (arith, below.is); least = below.least }
 
@@ -291,6 +296,7 @@ none_later cells rules' cost third second first end order some empty one two thr
             none_there cells order third second 3 cost own i d (omega (arith, empty, one.rises, two.rises)) three there (omega (arith, below', near)) least
       ]
     ]
+
     within : (fuel i later : ℕ) (d : Cell) → i < length cells → cost ≤ later → later ≤ fuel → IsLeast cells later (get_or cells i d) → ⊥
     within zero i later d there past less least = omega (arith, some, past, less)
     within (suc fuel) i later d there past less least =
@@ -359,27 +365,23 @@ spread_begins cells rules' table begun now is none one =
     })
 
 -- and go on from the cells of the last costs
-pub spread_goes_on : (cells : List Cell) → IsCells cells → (table : List (List ℕ)) (old mid now : Progress) (first second third cost : ℕ)
+pub spread_goes_on : (cells : List Cell) → IsCells cells → (table : List (List ℕ)) (old now : Progress) (first second third cost : ℕ)
     → table ≡ neighbour_table cells → 1 ≤ cost → IsSpread cells old first second third cost
-    → mid ≡ fold reached old (axis_ends_from table old.order second first)
-    → now ≡ fold reached mid (diagonal_ends_from table mid.order third second)
-    → IsSpread cells now (length old.order) first second (cost + 1)
-spread_goes_on cells rules' table old mid now first second third cost is some spread along across =
+    → now ≡ after_round table old third second first → IsSpread cells now (length old.order) first second (cost + 1)
+spread_goes_on cells rules' table old now first second third cost is some spread across =
+    let mid = after_axis_steps table old second first in
     let t = neighbour_table cells in
     let first_most : first ≤ length old.order = spread.last.rises in
     let second_most : second ≤ length old.order = omega (arith, spread.before_last.rises, first_most) in
     let axis = axis_ends_from t old.order second first in
     let diagonal = diagonal_ends_from t old.order third second in
     let reach = reach_all (axis_ends_from table old.order second first) old in
-    let grows : length old.order ≤ length mid.order = omega (arith, reach.grows, ap (λ (p : Progress). length p.order) along) in
     let begins : slice_range mid.order third second ≡ slice_range old.order third second =
-    slice_same old.order mid.order third second second_most grows
-    (λ q before. ap (λ (p : Progress). get_or p.order q 0) along ∙ reach.same q before) in
+    slice_same old.order mid.order third second second_most reach.grows reach.same in
     let all : now ≡ fold reached old (axis ++ diagonal) =
     across
     ∙ ap (λ (part : List ℕ). fold reached mid (flat_map (diagonal_ends table) part)) begins
-    ∙ ap (λ (tt' : List (List ℕ)). fold reached mid (diagonal_ends_from tt' old.order third second)) is
-    ∙ ap (λ (p : Progress). fold reached p diagonal) (along ∙ ap (λ (tt' : List (List ℕ)). fold reached old (axis_ends_from tt' old.order second first)) is)
+    ∙ ap (λ (rows : List (List ℕ)). fold reached (after_axis_steps rows old second first) (diagonal_ends_from rows old.order third second)) is
     ∙ sym (fold-append reached old axis diagonal) in
     let round = next_round cells rules' cost third second first old.order some first_most spread.before_last spread.before_both in
     let P : Progress → Type 0 = λ p. IsSpread cells p (length old.order) first second (cost + 1) in

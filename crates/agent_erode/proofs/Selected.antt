@@ -1,6 +1,5 @@
 -- The places of the cells that pass a test, one cell after the other.
-use Rattle.std.proofs.Common.{◌≡◌, ℕ, ◌+◌, ◌<◌, Bool, true, false, cond, length, List, [], ◌∷◌, ◌++◌, take, map, get_or, ap, ◌∙◌, sym, refl}
-use Rattle.std.specs.Prelude.{◌&&◌}
+use Rattle.std.proofs.Common.{◌≡◌, ℕ, ◌+◌, ◌<◌, Bool, true, false, cond, length, List, [], ◌∷◌, ◌++◌, take, map, get_or, ap, ◌∙◌, sym}
 use Rattle.std.specs.List.{filter}
 use Rattle.std.proofs.lemmas.List.{get_or-map, map-append, append-nil}
 use Rattle.std.proofs.lemmas.List.Elements.{filter_more}

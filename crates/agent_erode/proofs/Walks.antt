@@ -1,16 +1,15 @@
 -- Walks over a list of cells, by the indices in its neighbour table.
-use Rattle.std.proofs.Common.{◌≡◌, ℕ, ◌+◌, ◌<◌, ◌≤◌, ◌⊎◌, Bool, true, false, length, List, [], ◌∷◌, ◌++◌, map, get_or, ap, ◌∙◌, sym, refl, subst, arith, zero, suc, inl, inr}
-use Rattle.std.specs.Prelude.{◌==◌, ◌&&◌, ◌||◌, ◌%◌, nat_lt, not}
-use Rattle.std.specs.List.{position_or_len, list_any}
-use Rattle.std.proofs.lemmas.Bool.{eqb-true, eq-eqb, both_ways, cases_lt, lt-ltb, ltb-true, or_cases, or_left, or_right, and_parts, and_from}
+use Rattle.std.proofs.Common.{◌≡◌, ℕ, ◌+◌, ◌<◌, ◌⊎◌, Bool, true, false, length, List, [], ◌∷◌, get_or, ap, ◌∙◌, sym, refl, subst, arith, zero, suc, inl, inr}
+use Rattle.std.specs.Prelude.{◌==◌, ◌&&◌, ◌||◌, ◌%◌}
+use Rattle.std.specs.List.{list_any}
+use Rattle.std.proofs.lemmas.Bool.{eqb-true, eq-eqb, both_ways, cases_lt, or_cases, or_left, or_right, and_parts, and_from}
 use Rattle.std.proofs.lemmas.List.{get_or_default}
-use Rattle.std.proofs.lemmas.List.Folds.{list_any_at, list_any_none, Any-from_list_any, list_any-append}
+use Rattle.std.proofs.lemmas.List.Folds.{list_any_at, Any-from_list_any}
 use Rattle.nav_ground.specs.declared.cell.Cell.{Cell}
 use Rattle.nav_ground.specs.Cells.{IsCells, is_naming}
-use Rattle.nav_ground.specs.Clearance.{is_boundary, is_axis_step, is_turn, is_diagonal_step, is_walk_end}
+use Rattle.nav_ground.specs.Clearance.{is_axis_step, is_turn, is_diagonal_step, is_walk_end}
 use Rattle.cell_table.specs.Table.{neighbour_table, neighbour}
-use Rattle.agent_erode.specs.Reaching.{axis_ends, turn_ends, diagonal_ends, has_gap, is_among}
-use Rattle.cell_table.proofs.Places.{same_test}
+use Rattle.agent_erode.specs.Reaching.{axis_ends, diagonal_ends, has_gap, is_among}
 use Rattle.cell_table.proofs.Tables.{table_names, table_past}
 use Rattle.agent_erode.proofs.Gaps.{table_boundary}
 
@@ -141,7 +140,7 @@ module _ (cells : List Cell) (rules' : IsCells cells) (d : Cell) where
   diagonal_from i j here there h =
       let found = any_direction (is_turn_end (neighbour_table cells) i j) (among_diagonal (neighbour_table cells) i j ∙ h) in
       let m = neighbour (neighbour_table cells) i found.0 in
-      let by : m < length cells = 
+      let by : m < length cells =
       elim (or_cases (neighbour (neighbour_table cells) m ((found.0 + 1) % 4) == j) (neighbour (neighbour_table cells) m ((found.0 + 3) % 4) == j) found.2) [
         | inl one ↦ not_past m ((found.0 + 1) % 4) j there one
         | inr other ↦ not_past m ((found.0 + 3) % 4) j there other
@@ -195,18 +194,36 @@ module _ (cells : List Cell) (rules' : IsCells cells) (d : Cell) where
   last_step j (suc (suc zero)) there some ends =
       let hit = hit_of (λ (from : Cell). is_axis_step from (get_or cells j d) && is_walk_end cells zero from) cells d ends in
       let parts = and_parts (is_axis_step (get_or cells hit.index d) (get_or cells j d)) _ hit.passes in
-      inl (record { from = hit.index; before = 0; there = hit.there; adds = refl; ends_there = parts.1;
-      leads = sym (axis_test cells rules' d hit.index j hit.there there) ∙ parts.0; })
+      inl (record {
+        from = hit.index;
+        before = 0;
+        there = hit.there;
+        adds = refl;
+        ends_there = parts.1;
+        leads = sym (axis_test cells rules' d hit.index j hit.there there) ∙ parts.0;
+      })
   last_step j (suc (suc (suc cost))) there some ends =
       let hit = hit_of (λ (from : Cell). is_axis_step from (get_or cells j d) && is_walk_end cells (suc cost) from
       || is_diagonal_step cells from (get_or cells j d) && is_walk_end cells cost from) cells d ends in
       elim (or_cases (is_axis_step (get_or cells hit.index d) (get_or cells j d) && is_walk_end cells (suc cost) (get_or cells hit.index d)) _ hit.passes) [
         | inl along ↦
             let parts = and_parts (is_axis_step (get_or cells hit.index d) (get_or cells j d)) _ along in
-            inl (record { from = hit.index; before = suc cost; there = hit.there; adds = omega arith; ends_there = parts.1;
-            leads = sym (axis_test cells rules' d hit.index j hit.there there) ∙ parts.0; })
+            inl (record {
+              from = hit.index;
+              before = suc cost;
+              there = hit.there;
+              adds = omega arith;
+              ends_there = parts.1;
+              leads = sym (axis_test cells rules' d hit.index j hit.there there) ∙ parts.0;
+            })
         | inr across ↦
             let parts = and_parts (is_diagonal_step cells (get_or cells hit.index d) (get_or cells j d)) _ across in
-            inr (record { from = hit.index; before = cost; there = hit.there; adds = omega arith; ends_there = parts.1;
-            leads = diagonal_to cells rules' d hit.index j hit.there there parts.0; })
+            inr (record {
+              from = hit.index;
+              before = cost;
+              there = hit.there;
+              adds = omega arith;
+              ends_there = parts.1;
+              leads = diagonal_to cells rules' d hit.index j hit.there there parts.0;
+            })
       ]

@@ -1,6 +1,6 @@
 -- Windows: which cells are kept in a rectangle depends on the cells near it alone.
-use Rattle.std.proofs.Common.{◌≡◌, ℕ, ◌+◌, ◌-◌, ◌<◌, ◌≤◌, ◌⊎◌, Bool, true, false, cond, length, List, [], ◌∷◌, ◌++◌, map, take, drop, filter, get_or, ap, ◌∙◌, sym, refl, subst, arith, zero, suc, inl, inr}
-use Rattle.std.specs.Prelude.{◌==◌, ◌&&◌, ◌||◌, not, ℤ, pos, ◌+ℤ◌, ◌-ℤ◌, ◌≤ℤ◌, ◌*◌, ◌%◌, int_le}
+use Rattle.std.proofs.Common.{◌≡◌, ℕ, ◌+◌, ◌-◌, ◌<◌, ◌≤◌, ◌⊎◌, Bool, true, false, cond, length, List, [], ◌∷◌, ◌++◌, take, drop, filter, get_or, ap, ◌∙◌, sym, refl, subst, arith, zero, suc, inl, inr}
+use Rattle.std.specs.Prelude.{◌&&◌, ◌||◌, not, ℤ, pos, ◌+ℤ◌, ◌-ℤ◌, ◌≤ℤ◌, ◌*◌, ◌%◌, int_le}
 use Rattle.std.specs.List.{list_any, range_with_len}
 use Rattle.std.proofs.lemmas.Int.{ints}
 use Rattle.std.proofs.lemmas.Bool.{and_parts, and_from, and_right, or_cases, both_ways, false_from_ne_true, cases_lt}
@@ -14,7 +14,7 @@ use Rattle.nav_ground.specs.declared.cell.CellRef.{CellRef}
 use Rattle.nav_ground.specs.declared.cell.Window.{Window}
 use Rattle.nav_ground.specs.Cells.{IsCellBefore, IsCell, IsCells, is_naming, is_toward}
 use Rattle.nav_ground.specs.Tiling.{is_in_window}
-use Rattle.nav_ground.specs.Clearance.{has_neighbour, is_boundary, is_axis_step, is_turn, is_diagonal_step, is_walk_end, is_kept, kept_cells, cells_in, places_of}
+use Rattle.nav_ground.specs.Clearance.{has_neighbour, is_boundary, is_axis_step, is_turn, is_diagonal_step, is_walk_end, is_kept, kept_cells, cells_in}
 use Rattle.agent_erode.specs.Windows.{widened}
 use Rattle.cell_table.proofs.Places.{no_cell}
 use Rattle.agent_erode.proofs.Walks.{any_direction, hit_of}
@@ -111,6 +111,7 @@ deep_inside window m at deep =
   where
     is_low : (x0 : ℤ) (x m : ℕ) → (x0 +ℤ pos m) ≤ℤ pos x → int_le x0 (pos x) ≡ true
     is_low x0 x m h = grind (arith, ints)
+
     is_high : (x1 : ℤ) (x m : ℕ) → (pos x +ℤ pos m) ≤ℤ x1 → int_le (pos x) x1 ≡ true
     is_high x1 x m h = grind (arith, ints)
 
@@ -129,6 +130,7 @@ inside_deep window margin at inside =
   where
     low_wide : (x0 : ℤ) (x m : ℕ) → int_le x0 (pos x) ≡ true → ((x0 -ℤ pos m) +ℤ pos m) ≤ℤ pos x
     low_wide x0 x m h = grind (arith, ints)
+
     high_wide : (x1 : ℤ) (x m : ℕ) → int_le (pos x) x1 ≡ true → (pos x +ℤ pos m) ≤ℤ (x1 +ℤ pos m)
     high_wide x1 x m h = grind (arith, ints)
 
@@ -166,10 +168,14 @@ turn_places from by to turn =
     let parts = and_parts (is_naming dir from by.at) _ found.2 in
     let first = (and_parts (is_toward dir from.at by.at) _ parts.0).0 in
     elim (or_cases (is_naming ((dir + 1) % 4) by to.at) (is_naming ((dir + 3) % 4) by to.at) parts.1) [
-      | inl one ↦ (named_beside ((dir + 1) % 4) by to.at (omega arith) one,
-          turn_beside dir from.at by.at to.at found.1 first (inl (and_parts (is_toward ((dir + 1) % 4) by.at to.at) _ one).0))
-      | inr other ↦ (named_beside ((dir + 3) % 4) by to.at (omega arith) other,
-          turn_beside dir from.at by.at to.at found.1 first (inr (and_parts (is_toward ((dir + 3) % 4) by.at to.at) _ other).0))
+      | inl one ↦ (
+        named_beside ((dir + 1) % 4) by to.at (omega arith) one,
+        turn_beside dir from.at by.at to.at found.1 first (inl (and_parts (is_toward ((dir + 1) % 4) by.at to.at) _ one).0),
+      )
+      | inr other ↦ (
+        named_beside ((dir + 3) % 4) by to.at (omega arith) other,
+        turn_beside dir from.at by.at to.at found.1 first (inr (and_parts (is_toward ((dir + 3) % 4) by.at to.at) _ other).0),
+      )
     ]
 
 diagonal_beside : (cells : List Cell) (from to : Cell) → is_diagonal_step cells from to ≡ true → IsBeside from.at to.at

@@ -43,3 +43,14 @@ has_gap table count from =
 -- the indices of the boundary cells
 abbrev pub boundary : List (List ℕ) → ℕ → List ℕ
 boundary table count = filter (has_gap table count) (range_with_len 0 count)
+
+-- what is reached once the axis steps are taken from each cell in a part of the order, and once the diagonal steps are
+abbrev pub after_axis_steps : List (List ℕ) → Progress → ℕ → ℕ → Progress
+after_axis_steps table progress first end = fold reached progress (axis_ends_from table progress.order first end)
+
+abbrev pub after_diagonal_steps : List (List ℕ) → Progress → ℕ → ℕ → Progress
+after_diagonal_steps table progress first end = fold reached progress (diagonal_ends_from table progress.order first end)
+
+-- a round: axis steps from the cells of two costs before, and diagonal steps from those of three costs before
+abbrev pub after_round : List (List ℕ) → Progress → ℕ → ℕ → ℕ → Progress
+after_round table progress third second first = after_diagonal_steps table (after_axis_steps table progress second first) third second

@@ -1,10 +1,10 @@
 //! Which cells keep a radius from every boundary cell.
 
-ghost use Rattle.std.specs.Prelude.{◌≡◌, IfOk, map};
+ghost use Rattle.std.specs.Prelude.{◌≡◌, ◌*◌, IfOk, map};
 ghost use Rattle.nav_ground.specs.Cells.{IsCells};
 ghost use Rattle.nav_ground.specs.Clearance.{is_kept};
 
-use crate::reach::Reached;
+use crate::reach::{Reached, all_kept};
 use cell_table::neighbour_table;
 use nav_ground::Cell;
 use std::alloc::{AllocError, Global};
@@ -18,26 +18,32 @@ pub fn marks(alloc: Global, cells: &[Cell], radius: u32) -> Result<Vec<bool>, Al
     requires { IsCells cells.now }
     ensures { IfOk result (λ marks. marks.items ≡ map (is_kept cells.now radius) cells.now) }
 {
-    let mut reached = Reached::new(alloc, cells.len())?;
     if radius == 0 {
-        return Ok(reached.into_kept());
+        return Ok(all_kept(alloc, cells.len())?);
     }
     let table = neighbour_table(alloc, cells)?;
     let table = table.as_slice();
+    let mut reached = Reached::new(alloc, cells.len())?;
     reached.reach_boundary(table)?;
-    let bound = 2 * u64::from(radius);
+    let bound = bound_of(radius);
     let mut cost = 1;
     let mut first = 0;
     let mut second = 0;
     let mut third = 0;
     while cost < bound && third < reached.count() {
         let end = reached.count();
-        reached.step_along(table, second, first)?;
-        reached.step_diagonally(table, third, second)?;
+        reached.round(table, third, second, first)?;
         third = second;
         second = first;
         first = end;
         cost += 1;
     }
     Ok(reached.into_kept())
+}
+
+/// The least cost of a walk that a kept cell may be reached by: twice the radius.
+fn bound_of(radius: u32) -> u64
+    ensures { result ≡ 2 * radius }
+{
+    2 * u64::from(radius)
 }

@@ -2,7 +2,7 @@
 
 ghost use Rattle.std.specs.Prelude.{◌≡◌, ◌<◌, ◌≤◌, IfOk, OnOk, [], true, length, replicate, fold, slice_index};
 ghost use Rattle.cell_table.specs.Table.{neighbour};
-ghost use Rattle.agent_erode.specs.Reaching.{Progress, reached, axis_ends, turn_ends, diagonal_ends, axis_ends_from, diagonal_ends_from, has_gap, boundary};
+ghost use Rattle.agent_erode.specs.Reaching.{Progress, reached, axis_ends, turn_ends, diagonal_ends, after_axis_steps, after_diagonal_steps, after_round, has_gap, boundary};
 
 use std::alloc::{AllocError, Global};
 use std::marker::Model;
@@ -26,7 +26,7 @@ impl Reached {
         ensures { IfOk result (λ reached. reached ≡ record { kept = replicate count true; order = [] }) }
     {
         Ok(Reached {
-            kept: vec![in alloc; true; count]?,
+            kept: all_kept(alloc, count)?,
             order: Vec::with_capacity(alloc, count)?,
         })
     }
@@ -78,11 +78,35 @@ impl Reached {
         Ok(())
     }
 
+    /// Takes the steps that end at a cost: the axis steps from the cells that were reached two costs before, which stand in the order from
+    /// `second` to before `first`, and the diagonal steps from those of three costs before, which stand from `third` to before `second`.
+    pub fn round(
+        &mut self,
+        table: &[[u32; 4]],
+        third: usize,
+        second: usize,
+        first: usize,
+    ) -> Result<(), AllocError>
+        requires third { third ≤ second }
+        requires second { second ≤ first }
+        requires first { first ≤ length self.old.order }
+        ensures { OnOk result (self.new ≡ after_round table.now self.old third second first) }
+    {
+        self.step_along(table, second, first)?;
+        self.step_diagonally(table, third, second)
+    }
+
     /// Takes the axis steps from the cells that were reached from one place in the order to before another.
-    pub fn step_along(&mut self, table: &[[u32; 4]], first: usize, end: usize) -> Result<(), AllocError>
+    fn step_along(
+        &mut self,
+        table: &[[u32; 4]],
+        first: usize,
+        end: usize,
+    ) -> Result<(), AllocError>
         requires range { first ≤ end }
         requires there { end ≤ length self.old.order }
-        ensures { OnOk result (self.new ≡ fold reached self.old (axis_ends_from table.now self.old.order first end)) }
+        ensures reached { OnOk result (self.new ≡ after_axis_steps table.now self.old first end) }
+        ensures grows { OnOk result (length self.old.order ≤ length self.new.order) }
     {
         for place in first..end {
             self.axis_steps(table, self.at(place))?;
@@ -91,10 +115,15 @@ impl Reached {
     }
 
     /// Takes the diagonal steps from the cells that were reached from one place in the order to before another.
-    pub fn step_diagonally(&mut self, table: &[[u32; 4]], first: usize, end: usize) -> Result<(), AllocError>
+    fn step_diagonally(
+        &mut self,
+        table: &[[u32; 4]],
+        first: usize,
+        end: usize,
+    ) -> Result<(), AllocError>
         requires range { first ≤ end }
         requires there { end ≤ length self.old.order }
-        ensures { OnOk result (self.new ≡ fold reached self.old (diagonal_ends_from table.now self.old.order first end)) }
+        ensures { OnOk result (self.new ≡ after_diagonal_steps table.now self.old first end) }
     {
         for place in first..end {
             self.diagonal_steps(table, self.at(place))?;
@@ -131,6 +160,13 @@ impl Reached {
         self.reach(neighbour(table, by, (dir + 1) % 4))?;
         self.reach(neighbour(table, by, (dir + 3) % 4))
     }
+}
+
+/// All of so many cells are kept.
+pub fn all_kept(alloc: Global, count: usize) -> Result<Vec<bool>, AllocError>
+    ensures { IfOk result (λ kept. kept.items ≡ replicate count true) }
+{
+    Ok(vec![in alloc; true; count]?)
 }
 
 /// The index in a table at a cell and a direction; past the table one that no cell has.

@@ -77,7 +77,10 @@ fn field(alloc: Global) -> Result<CompactField, AllocError>
 
 /// Places as x, z and level.
 fn as_tuples(alloc: Global, places: &[CellRef]) -> Result<Vec<(u32, u32, u32)>, AllocError> {
-    places.iter().map(|at| (at.x, at.z, at.level)).collect(alloc)
+    places
+        .iter()
+        .map(|at| (at.x, at.z, at.level))
+        .collect(alloc)
 }
 
 /// The cells with four connections, which are kept for a radius of 1.
@@ -104,11 +107,21 @@ fn keeps_by_hand(rt: HostRuntime) -> Result<(), AllocError> {
         let kept = erode(alloc, &field, radius)?;
         assert_eq!(rt; kept.len(), wanted, "at {radius}");
         let marks = kept_marks(alloc, field.cells.as_slice(), radius)?;
-        assert_eq!(rt; marks.iter().filter(|mark| **mark).count(), wanted, "at {radius}");
+        assert_eq!(rt;
+            marks.iter().filter(|mark| **mark).count(),
+            wanted,
+            "at {radius}"
+        );
         assert_eq!(rt; marks.get(13).copied(), Some(radius < 3), "at {radius}");
     }
-    assert_eq!(rt; as_tuples(alloc, &erode(alloc, &field, 1)?)?.as_slice(), INNER.as_slice());
-    assert_eq!(rt; as_tuples(alloc, &erode(alloc, &field, 2)?)?.as_slice(), [MIDDLE].as_slice());
+    assert_eq!(rt;
+        as_tuples(alloc, &erode(alloc, &field, 1)?)?.as_slice(),
+        INNER.as_slice()
+    );
+    assert_eq!(rt;
+        as_tuples(alloc, &erode(alloc, &field, 2)?)?.as_slice(),
+        [MIDDLE].as_slice()
+    );
     Ok(())
 }
 
@@ -122,17 +135,37 @@ fn keeps_in_windows(rt: HostRuntime) -> Result<(), AllocError> {
         z0: i32::MIN,
         z1: i32::MAX,
     };
-    let column = Window { x0: 2, x1: 2, ..all };
-    let row = Window { z0: 4, z1: 4, ..all };
+    let column = Window {
+        x0: 2,
+        x1: 2,
+        ..all
+    };
+    let row = Window {
+        z0: 4,
+        z1: 4,
+        ..all
+    };
     let middle = Window {
         x0: 3,
         x1: 3,
         z0: 3,
         z1: 3,
     };
-    let left = Window { x0: -9, x1: -1, ..all };
-    let right = Window { x0: 6, x1: 900, ..all };
-    let empty = Window { x0: 4, x1: 2, ..all };
+    let left = Window {
+        x0: -9,
+        x1: -1,
+        ..all
+    };
+    let right = Window {
+        x0: 6,
+        x1: 900,
+        ..all
+    };
+    let empty = Window {
+        x0: 4,
+        x1: 2,
+        ..all
+    };
     for (window, radius, wanted) in [
         (all, 1, INNER.as_slice()),
         (all, 2, &[MIDDLE]),
@@ -151,7 +184,11 @@ fn keeps_in_windows(rt: HostRuntime) -> Result<(), AllocError> {
         (empty, 1, &[]),
     ] {
         let kept = erode_window(alloc, &field, window, radius)?;
-        assert_eq!(rt; as_tuples(alloc, &kept)?.as_slice(), wanted, "at {window:?} and {radius}");
+        assert_eq!(rt;
+            as_tuples(alloc, &kept)?.as_slice(),
+            wanted,
+            "at {window:?} and {radius}"
+        );
     }
     Ok(())
 }

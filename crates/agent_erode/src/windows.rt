@@ -11,7 +11,12 @@ use nav_ground::{Cell, CellRef, Window};
 use std::alloc::{AllocError, Global};
 
 /// The cells in a rectangle with a margin of so many columns on each side. Only the cells of its rows are looked at.
-pub fn cells_near(alloc: Global, cells: &[Cell], window: Window, margin: u32) -> Result<Vec<Cell>, AllocError>
+pub fn cells_near(
+    alloc: Global,
+    cells: &[Cell],
+    window: Window,
+    margin: u32,
+) -> Result<Vec<Cell>, AllocError>
     requires { IsCells cells.now }
     ensures { IfOk result (λ near. near.items ≡ cells_in (widened window margin) cells.now) }
 {
@@ -67,7 +72,11 @@ fn is_between(least: i32, most: i32, margin: u32, number: u32) -> bool
     ensures { result ≡ (int_le (least -ℤ pos margin) (pos number) && int_le (pos number) (most +ℤ pos margin)) }
 {
     let margin = i64::from(margin);
-    is_within(i64::from(least) - margin, i64::from(number), i64::from(most) + margin)
+    is_within(
+        i64::from(least) - margin,
+        i64::from(number),
+        i64::from(most) + margin,
+    )
 }
 
 /// Whether a number is not below a least one and not above a greatest one.

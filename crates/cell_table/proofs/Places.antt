@@ -2,15 +2,15 @@
 use Rattle.std.proofs.Common.{◌≡◌, ℕ, ◌+◌, ◌<◌, ◌≤◌, ◌⊎◌, Bool, true, false, length, List, ◌∷◌, get_or, ap, ◌∙◌, sym, refl, subst, [], Option, Some, None, arith, zero, suc, inl, inr}
 use Rattle.std.specs.Prelude.{◌==◌, ◌&&◌, nat_lt, ◌||◌, All, option_and_then, slice_get}
 use Rattle.std.specs.List.{position_or_len}
+use Rattle.std.specs.List.Sorted.{IsPartitionedBy}
 use Rattle.std.specs.Option.{option_map_or}
-use Rattle.std.proofs.lemmas.Bool.{eqb-true, eq-eqb, ne_eqb, both_ways, false_from_ne_true, cases_order, cases_lt, and_parts, or_cases, and_from, and_left, and_right, lt-ltb, ltb-true, or_left, or_right}
+use Rattle.std.proofs.lemmas.Bool.{eqb-true, eq-eqb, both_ways, false_from_ne_true, cases_lt, and_right}
 use Rattle.std.proofs.lemmas.Bool.Decides.{nat_tests}
-use Rattle.std.proofs.lemmas.List.{get_or_default}
 use Rattle.std.proofs.lemmas.List.Sums.{position_or_len_is}
 use Rattle.std.proofs.lemmas.List.Elements.{All-head, All-tail}
 use Rattle.nav_ground.specs.declared.cell.Cell.{Cell}
 use Rattle.nav_ground.specs.declared.cell.CellRef.{CellRef}
-use Rattle.nav_ground.specs.Cells.{IsCellBefore, IsCell, IsCells, is_toward, is_naming, next_level}
+use Rattle.nav_ground.specs.Cells.{IsCellBefore, IsCells, is_toward, is_naming, next_level}
 use Rattle.nav_ground.proofs.Directions.{both_equal, tests_of_equal}
 use Rattle.cell_table.specs.Columns.{IsPlace, column_of, column_toward, is_at, is_before}
 use Rattle.cell_table.specs.Table.{index_of, index_named}
@@ -121,34 +121,15 @@ found_nowhere cells rules' column level least most before after here =
     ])
     (λ more. absurd (omega (arith, more))))
 
--- the same up to a cell that comes before, and from one that does not
-pub before_up_to : (cells : List Cell) → IsCells cells → (column level i : ℕ) (e : Cell) → i < length cells
-    → is_before column level (get_or cells i e).at ≡ true
-    → (k : ℕ) (d : Cell) → k < i + 1 → is_before column level (get_or cells k d).at ≡ true
-before_up_to cells rules' column level i e there here k d less =
-    let here' : is_before column level (get_or cells i d).at ≡ true =
-    ap (λ (cell : Cell). is_before column level cell.at) (get_or_default cells i d e there) ∙ here in
-    elim (cases_lt k i) [
-      | inl before ↦ all_before cells rules' column level i k d before there (inl here')
-      | inr after ↦
-          let same : i ≡ k = omega (arith, less, after) in
+-- so cells are parted by what comes before a column and a level
+pub parted_before : (cells : List Cell) → IsCells cells → (column level : ℕ) → IsPartitionedBy (λ (cell : Cell). is_before column level cell.at) cells
+parted_before cells rules' column level i j d before there here =
+    elim (cases_lt i j) [
+      | inl less ↦ all_before cells rules' column level j i d less there (inl here)
+      | inr more ↦
+          let same : j ≡ i = omega (arith, before, more) in
           let P : ℕ → Type 0 = λ n. is_before column level (get_or cells n d).at ≡ true in
-          subst P same here'
-    ]
-
-pub after_from : (cells : List Cell) → IsCells cells → (column level i : ℕ) (e : Cell) → i < length cells
-    → is_before column level (get_or cells i e).at ≡ false
-    → (k : ℕ) (d : Cell) → i ≤ k → k < length cells → is_before column level (get_or cells k d).at ≡ false
-after_from cells rules' column level i e there here k d more inside =
-    let here' : is_before column level (get_or cells i d).at ≡ false =
-    ap (λ (cell : Cell). is_before column level cell.at) (get_or_default cells i d e there) ∙ here in
-    elim (cases_lt i k) [
-      | inl before ↦ false_from_ne_true (is_before column level (get_or cells k d).at) (λ h.
-          both_ways (is_before column level (get_or cells i d).at) here' (all_before cells rules' column level k i d before inside (inl h)))
-      | inr after ↦
-          let same : i ≡ k = omega (arith, more, after) in
-          let P : ℕ → Type 0 = λ n. is_before column level (get_or cells n d).at ≡ false in
-          subst P same here'
+          subst P same here
     ]
 
 -- what a cell names in a direction, as it stands in the cell

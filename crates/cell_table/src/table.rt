@@ -70,8 +70,7 @@ fn index_named(cells: &[Cell], passed: &mut usize, cell: &Cell, dir: usize) -> u
 }
 
 /// How many cells lie in columns before one, where so many are known to do.
-fn pass(cells: &[Cell], known: usize, column: u32) -> usize
-    requires { IsCells cells.now }
+fn pass(cells: &[Cell], known: usize, column: u64) -> usize
     ensures least { known ≤ result }
     ensures passed { (k : ℕ) (d : Cell) → known ≤ k → k < result → column_of (slice_index_or cells.now k d).at < column }
     ensures next { (d : Cell) → result < length cells.now → column ≤ column_of (slice_index_or cells.now result d).at }
@@ -84,7 +83,7 @@ fn pass(cells: &[Cell], known: usize, column: u32) -> usize
 }
 
 /// The index of the cell with a column and a level, or the number of cells where none has them. It is looked for at a guess first.
-fn index_of(cells: &[Cell], guess: usize, column: u32, level: u32) -> u32
+fn index_of(cells: &[Cell], guess: usize, column: u64, level: u32) -> u32
     requires { IsCells cells.now }
     ensures { result ≡ index_of cells.now column level }
 {
@@ -100,21 +99,11 @@ fn index_of(cells: &[Cell], guess: usize, column: u32, level: u32) -> u32
 }
 
 /// How many cells come before a column and a level.
-fn cells_before(cells: &[Cell], column: u32, level: u32) -> usize
+fn cells_before(cells: &[Cell], column: u64, level: u32) -> usize
     requires { IsCells cells.now }
     ensures most { result ≤ length cells.now }
     ensures before { (k : ℕ) (d : Cell) → k < result → is_before column level (slice_index_or cells.now k d).at ≡ true }
     ensures after { (k : ℕ) (d : Cell) → result ≤ k → k < length cells.now → is_before column level (slice_index_or cells.now k d).at ≡ false }
 {
-    let mut low = 0;
-    let mut high = cells.len();
-    while low < high {
-        let middle = low + (high - low) / 2;
-        if is_before(column, level, cells[middle].at) {
-            low = middle + 1;
-        } else {
-            high = middle;
-        }
-    }
-    low
+    cells.partition_point(|cell| is_before(column, level, cell.at))
 }

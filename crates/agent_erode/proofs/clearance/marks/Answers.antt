@@ -1,6 +1,5 @@
-use Rattle.std.proofs.Common.{◌≡◌, ℕ, ◌+◌, ◌*◌, ◌≤◌, List, length, map, ◌∙◌, sym, ap, subst, arith}
-use Rattle.cell_table.specs.Table.{neighbour_table}
-use Rattle.agent_erode.specs.Reaching.{Progress, axis_ends_from}
+use Rattle.std.proofs.Common.{◌≡◌, ℕ, ◌+◌, ◌*◌, List, length, map, ◌∙◌, sym, ap, subst, arith}
+use Rattle.agent_erode.specs.Reaching.{axis_ends_from}
 use Rattle.agent_erode.specs.Clearances.{is_beyond, IsSpread}
 use Rattle.cell_table.proofs.Tables.{table_length}
 use Rattle.agent_erode.proofs.Reaches.{order_grows}
@@ -11,8 +10,7 @@ use Rattle.agent_erode.proofs.clearance.marks.Goals.{then-loop-cost-test+else-th
 pub returns-then-radius-eq0 : goal.returns-then-radius-eq0
 returns-then-radius-eq0 c =
     let none : 0 ≡ 2 * c.args.radius = omega arith in
-    c.into_kept.ensures ∙ ap (λ (p : Progress). p.kept) c.in_ok-reached.ensures ∙ kept_first c.args.cells.now
-    ∙ ap (λ bound. map (is_beyond c.args.cells.now bound) c.args.cells.now) none
+    c.in_ok-all_kept.ensures ∙ kept_first c.args.cells.now ∙ ap (λ bound. map (is_beyond c.args.cells.now bound) c.args.cells.now) none
 
 pub reach_boundary-requires : goal.reach_boundary-requires
 reach_boundary-requires c =
@@ -28,38 +26,30 @@ loop-cost-init c = record {
       (c.as_slice-table.ensures.value ∙ c.in_ok-table.ensures) c.in_ok-reached.ensures c.in_ok-reach_boundary.ensures;
 }
 
-pub step_diagonally-requires-clause-there : goal.step_diagonally-requires-clause-there
-step_diagonally-requires-clause-there c =
-    let spread = c.loop-cost.invariant.spread in
-    let grows = order_grows (axis_ends_from c.as_slice-table.result.now c.loop-cost.reached.order c.loop-cost.second c.loop-cost.first)
-    c.loop-cost.reached c.step_along.new.self c.in_ok-step_along.ensures in
-    omega (arith, grows, spread.before_last.rises, spread.last.rises)
-
 pub loop-cost-preserved : goal.loop-cost-preserved
 loop-cost-preserved c =
     let cells = c.args.cells.now in
-    let now = c.step_diagonally.new.self in
+    let now = c.round.new.self in
     let P : ℕ → Type 0 = λ first. IsSpread cells now first c.loop-cost.first c.loop-cost.second (c.loop-cost.cost + 1) in
     record {
       some = omega arith;
       most = omega arith;
       table = c.loop-cost.invariant.table;
       spread = subst P (sym c.count-end.ensures)
-          (spread_goes_on cells c.requires c.as_slice-table.result.now c.loop-cost.reached c.step_along.new.self now
+          (spread_goes_on cells c.requires c.as_slice-table.result.now c.loop-cost.reached now
           c.loop-cost.first c.loop-cost.second c.loop-cost.third c.loop-cost.cost c.loop-cost.invariant.table c.loop-cost.invariant.some
-          c.loop-cost.invariant.spread c.in_ok-step_along.ensures c.in_ok-step_diagonally.ensures);
+          c.loop-cost.invariant.spread c.in_ok-round.ensures);
     }
 
 pub returns : goal.returns
 returns c =
     let cells = c.args.cells.now in
-    let bound : 2 * c.from-bound.result ≡ 2 * c.args.radius = ap (λ n. 2 * n) c.from-bound.ensures in
-    let P : ℕ → Type 0 = λ n. c.into_kept-2.result.items ≡ map (is_beyond cells n) cells in
-    subst P bound (c.into_kept-2.ensures ∙ elim c.loop-cost-test.branch [
+    let P : ℕ → Type 0 = λ n. c.into_kept.result.items ≡ map (is_beyond cells n) cells in
+    subst P c.bound_of-bound.ensures (c.into_kept.ensures ∙ elim c.loop-cost-test.branch [
       | then-loop-cost-test+else-third-count w ↦
-          spread_ends cells c.requires c.loop-cost.reached c.loop-cost.first c.loop-cost.second c.loop-cost.third c.loop-cost.cost (2 * c.from-bound.result)
+          spread_ends cells c.requires c.loop-cost.reached c.loop-cost.first c.loop-cost.second c.loop-cost.third c.loop-cost.cost c.bound_of-bound.result
           c.loop-cost.invariant.some c.loop-cost.invariant.most (omega (arith, w.if-third-count.false, w.count.ensures)) c.loop-cost.invariant.spread
       | else-loop-cost-test w ↦
-          let last : c.loop-cost.cost ≡ 2 * c.from-bound.result = omega (arith, w.loop-cost-test.false) in
+          let last : c.loop-cost.cost ≡ c.bound_of-bound.result = omega (arith, w.loop-cost-test.false) in
           c.loop-cost.invariant.spread.kept ∙ ap (λ n. map (is_beyond cells n) cells) last
     ])

@@ -1,4 +1,4 @@
-use Rattle.std.proofs.Common.{◌≡◌, ap, ◌∙◌, sym, false}
+use Rattle.std.proofs.Common.{ap, ◌∙◌, false}
 use Rattle.std.specs.Global.{Vec}
 use Rattle.nav_ground.specs.declared.cell.CellRef.{CellRef}
 use Rattle.nav_ground.specs.Clearance.{is_kept}

@@ -1,11 +1,10 @@
-use Rattle.std.proofs.Common.{◌≡◌, ap, ◌∙◌, sym, true, false, ◌&&◌, List, subst, Bool, get_or}
+use Rattle.std.proofs.Common.{◌≡◌, ap, ◌∙◌, sym, true, false, ◌&&◌, List, subst, get_or}
 use Rattle.std.specs.Global.{Vec}
 use Rattle.std.specs.List.{filter}
 use Rattle.std.proofs.lemmas.Bool.{and_from, and_left, and_right}
 use Rattle.std.proofs.lemmas.List.{take_all}
 use Rattle.nav_ground.specs.declared.cell.Cell.{Cell}
 use Rattle.nav_ground.specs.declared.cell.CellRef.{CellRef}
-use Rattle.nav_ground.specs.declared.cell.Window.{Window}
 use Rattle.nav_ground.specs.Cells.{IsCells}
 use Rattle.nav_ground.specs.Tiling.{is_in_window}
 use Rattle.nav_ground.specs.Clearance.{is_kept, kept_cells, cells_in, places_of}

@@ -1,19 +1,21 @@
-use Rattle.std.proofs.Common.{◌∙◌, sym, arith}
-use Rattle.cell_table.proofs.Places.{no_cell, before_up_to, after_from}
+use Rattle.std.proofs.Common.{◌≡◌, true, false, arith, rules}
+use Rattle.std.specs.List.Sorted.{IsPartitionPoint}
+use Rattle.std.proofs.lemmas.List.Sorted.{IsPartitionPoint-from_clause}
+use Rattle.nav_ground.specs.declared.cell.Cell.{Cell}
+use Rattle.cell_table.specs.Columns.{is_before}
+use Rattle.cell_table.proofs.Places.{parted_before}
 use Rattle.cell_table.proofs.table.cells_before.Goals as goal
 
-pub loop-low-preserved-then-is_before : goal.loop-low-preserved-then-is_before
-loop-low-preserved-then-is_before c = record {
-  range = omega arith;
-  most = omega arith;
-  before = before_up_to c.args.cells.now c.requires c.args.column c.args.level _ no_cell (omega arith) (sym c.is_before.ensures ∙ c.if-is_before.true);
-  after = c.loop-low.invariant.after;
-}
+-- the search finds where the cells end that come before, since cells stand in order
+point : (c : goal.After-partition_point)
+    → IsPartitionPoint (λ (cell : Cell). is_before c.args.column c.args.level cell.at ≡ true)
+    (λ (cell : Cell). is_before c.args.column c.args.level cell.at ≡ false) c.args.cells.now c.partition_point.result
+point c =
+    IsPartitionPoint-from_clause (λ (cell : Cell). is_before c.args.column c.args.level cell.at) _ _ c.partition_point.ensures.partitioned
+    (parted_before c.args.cells.now c.requires c.args.column c.args.level) (λ a r q k. search rules)
 
-pub loop-low-preserved : goal.loop-low-preserved
-loop-low-preserved c = record {
-  range = omega arith;
-  most = omega arith;
-  before = c.loop-low.invariant.before;
-  after = after_from c.args.cells.now c.requires c.args.column c.args.level _ no_cell (omega arith) (sym c.is_before.ensures ∙ c.if-is_before.false);
-}
+pub returns-clause-before : goal.returns-clause-before
+returns-clause-before c = λ k d below. (point c).0 k d (omega arith) below
+
+pub returns-clause-after : goal.returns-clause-after
+returns-clause-after c = λ k d above there. (point c).1 k d above there

@@ -1,4 +1,4 @@
-use Rattle.std.proofs.Common.{◌∙◌, sym, ap}
+use Rattle.std.proofs.Common.{◌∙◌, ap}
 use Rattle.cell_table.specs.Table.{index_of}
 use Rattle.cell_table.proofs.Places.{named_index, named_none}
 use Rattle.cell_table.proofs.table.index_named.Goals as goal

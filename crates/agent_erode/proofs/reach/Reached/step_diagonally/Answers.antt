@@ -1,4 +1,4 @@
-use Rattle.std.proofs.Common.{◌≡◌, ap, ◌∙◌, arith, sym}
+use Rattle.std.proofs.Common.{◌≡◌, ap, ◌∙◌, arith}
 use Rattle.std.specs.Prelude.{fold}
 use Rattle.agent_erode.specs.Reaching.{reached, diagonal_ends, diagonal_ends_from}
 use Rattle.agent_erode.proofs.Reaches.{step_more, order_grows}
