@@ -1,0 +1,7 @@
+pub mod Gaps
+pub mod Walks
+pub mod Reaches
+pub mod Rounds
+pub mod WindowLaws
+pub mod Selected
+pub mod Literals

@@ -1,0 +1,4 @@
+pub mod Reaching
+pub mod Clearances
+pub mod Windows
+pub mod Rows
