@@ -1,6 +1,8 @@
 //! Square fields cut by hand: flat but for a few spans over the column (2, 2), so that every layer can be said by its floors.
 
-ghost use Rattle.std.specs.Prelude.{◌≡◌, ◌≤◌, IfOk};
+ghost use Rattle.std.specs.Prelude.{◌≡◌, ◌≤◌, ◌&&◌, IfOk, IsTrue};
+ghost use Rattle.std.specs.List.{list_all};
+ghost use Rattle.nav_ground.specs.Fields.{IsField};
 ghost use Rattle.nav_ground.specs.Grounds.{IsBuiltFor};
 ghost use Rattle.nav_ground.specs.Limits.{IsSetting};
 ghost use Rattle.nav_ground.proofs.Literals;
@@ -92,16 +94,41 @@ fn field_of(alloc: Global, case: &Case) -> Result<Field, AllocError>
     })
 }
 
+/// Whether a field keeps the rules of fields.
+fn keeps_rules(field: &Field) -> bool
+    ensures { IsTrue result → IsField field.now }
+{
+    is_field(field)
+}
+
 fn is_field(field: &Field) -> bool
     ensures { result ≡ Literals.is_field field.now }
 {
     let spans = field.spans.as_slice();
-    (is_size(field.width) && is_size(field.depth))
-        && spans.len() <= 2000000
-        && (spans
-            .iter()
-            .all(|span| is_span(field.width, field.depth, span))
-            && is_ordered(spans))
+    let sized = both(is_size(field.width), is_size(field.depth));
+    let listed = both(
+        are_spans(field.width, field.depth, spans),
+        is_ordered(spans),
+    );
+    both(both(sized, spans.len() <= 2000000), listed)
+}
+
+fn both(a: bool, b: bool) -> bool
+    ensures { result ≡ (a && b) }
+{
+    a && b
+}
+
+fn are_spans(width: u32, depth: u32, spans: &[Span]) -> bool
+    ensures { result ≡ list_all (Literals.is_span width depth) spans.now }
+{
+    spans.iter().all(|span| is_span(width, depth, span))
+}
+
+fn are_after(first: &Span, rest: &[Span]) -> bool
+    ensures { result ≡ list_all (Literals.is_span_before first.now) rest.now }
+{
+    rest.iter().all(|span| is_span_before(first, span))
 }
 
 fn is_size(n: u32) -> bool
@@ -125,8 +152,7 @@ fn is_ordered(spans: &[Span]) -> bool
 {
     match spans {
         [] => true,
-        [first, rest @ ..] => rest.iter().all(|span| is_span_before(first, span))
-            && is_ordered(rest),
+        [first, rest @ ..] => both(are_after(first, rest), is_ordered(rest)),
     }
 }
 
@@ -187,7 +213,7 @@ fn check(rt: &impl Abort, alloc: Global, case: &Case) -> Result<(), AllocError>
 {
     let setting = setting_of(case);
     let field = field_of(alloc, case)?;
-    assert!(rt; is_field(&field));
+    assert!(rt; keeps_rules(&field));
     let whole = ground(alloc, setting, field)?;
     assert_eq!(rt; whole.layers.len(), tiles(&setting) as usize);
     let mut cells = 0usize;
