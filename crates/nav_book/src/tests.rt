@@ -1,11 +1,10 @@
 //! Runs of a book over a small flat ground. What is wanted was worked out by hand.
 
-ghost use Rattle.std.specs.Prelude.{◌≡◌, ◌≤◌, IfOk};
+ghost use Rattle.std.specs.Prelude.{◌≡◌, IfOk};
 ghost use Rattle.std.specs.Arc.{arc_value};
-ghost use Rattle.nav_ground.specs.FlatFields.{flat_spans};
+ghost use Rattle.nav_ground.specs.Fields.{IsField};
 ghost use Rattle.nav_ground.specs.Grounds.{IsGround};
 ghost use Rattle.nav_ground.specs.History.{IsRequest};
-ghost use Rattle.nav_ground.specs.Limits.{IsSetting};
 
 use crate::{Book, HistoryFull};
 use layer_cut::ground;
@@ -52,36 +51,37 @@ fn request_of(asked: Asked) -> Request
     }
 }
 
-fn flat_field(alloc: Global, width: u32, depth: u32, top: u32) -> Result<Field, AllocError>
-    requires width { (1 ≤ width) × (width ≤ 1024) }
-    requires depth { (1 ≤ depth) × (depth ≤ 1024) }
-    ensures { IfOk result (λ field. field ≡ record { width = width; depth = depth; spans = flat_spans width depth top }) }
+/// A field of 7 by 4 columns with the one top 10.
+fn small_field(alloc: Global) -> Result<Field, AllocError>
+    ensures rules { IfOk result IsField }
+    ensures width { IfOk result (λ field. field.width ≡ 7) }
+    ensures depth { IfOk result (λ field. field.depth ≡ 4) }
 {
     let mut spans = Vec::new(alloc);
-    for i in 0..width * depth {
+    for i in 0..28u32 {
         spans.push(Span {
-            x: i % width,
-            z: i / width,
+            x: i % 7,
+            z: i / 7,
             bottom: 0,
-            top,
+            top: 10,
             area: 63,
         })?;
     }
     Ok(Field {
-        width,
-        depth,
+        width: 7,
+        depth: 4,
         spans: Items::from_vec(spans),
     })
 }
 
-/// A ground of 5 by 4 columns with the one top 10, where two obstacles may be alive.
+/// The ground of that field in two tiles, where two obstacles may be alive.
 fn small_ground(alloc: Global) -> Result<Arc<Ground>, AllocError>
     ensures { IfOk result (λ level. IsGround (arc_value level)) }
 {
     let setting = Setting {
-        width: 5,
+        width: 7,
         depth: 4,
-        tile: 8,
+        tile: 4,
         agent: Agent {
             height: 10,
             climb: 4,
@@ -93,7 +93,7 @@ fn small_ground(alloc: Global) -> Result<Arc<Ground>, AllocError>
         costs: [1; AREAS],
         clear: false,
     };
-    let field = flat_field(alloc, 5, 4, 10)?;
+    let field = small_field(alloc)?;
     Ok(Arc::new(alloc, ground(alloc, setting, field)?)?)
 }
 
@@ -172,10 +172,14 @@ fn publishes_floors(rt: HostRuntime) -> Result<(), Fail> {
     // The columns of the edge and those outside have no cells, and each other column has one.
     for (x, z, count) in [
         (0, 1, 0),
-        (4, 1, 0),
+        (6, 1, 0),
         (1, 0, 0),
         (1, 3, 0),
         (3, 2, 1),
+        (4, 2, 1),
+        (5, 1, 1),
+        (7, 2, 0),
+        (1, 4, 0),
         (5000, 2, 0),
     ] {
         assert_eq!(rt; book.floors(alloc, x, z)?.len(), count, "at {x} {z}");

@@ -231,6 +231,143 @@ fn plays_scripts(rt: HostRuntime) -> Result<(), Fail> {
     Ok(())
 }
 
+/// What stands over a square field beside its floor at height 10.
+#[derive(Clone, Copy, PartialEq, Eq)]
+enum Over {
+    /// No field: it has no spans at all.
+    Void,
+    Sky,
+    /// Spans over the column (2, 2).
+    Spans(&'static [u8]),
+    /// A deck at height 40 over the rows 1 to 3.
+    Deck,
+}
+
+fn built_level(
+    alloc: Global,
+    side: u32,
+    tile: u32,
+    radius: u32,
+    over: Over,
+    script: &[u8],
+) -> Result<Vec<u8>, AllocError>
+    requires { side < 100 }
+{
+    let mut text = Vec::new(alloc);
+    text.extend_from_slice(format!(in alloc;
+        "nav 1\nsize {side} {side}\ntile {tile}\n"
+    )?.as_bytes())?;
+    text.extend_from_slice(format!(in alloc; "agent 10 4 {radius}\n")?.as_bytes())?;
+    text.extend_from_slice(b"error 169\nmesh strips\nlimit 4\n")?;
+    let columns = if over == Over::Void { 0 } else { side * side };
+    for i in 0..columns {
+        let (x, z) = (i % side, i / side);
+        text.extend_from_slice(format!(in alloc; "span {x} {z} 0 10 63\n")?.as_bytes())?;
+        match over {
+            Over::Spans(spans) if x == 2 && z == 2 => text.extend_from_slice(spans)?,
+            Over::Deck if 1 <= z && z <= 3 => {
+                text.extend_from_slice(format!(in alloc; "span {x} {z} 30 40 63\n")?.as_bytes())?;
+            }
+            _ => (),
+        }
+    }
+    text.extend_from_slice(b"end\nscript 1 1\n")?;
+    text.extend_from_slice(script)?;
+    Ok(text)
+}
+
+#[test]
+fn finds_floors(rt: HostRuntime) -> Result<(), Fail> {
+    let alloc = rt.alloc();
+    // The side, the tiles, the agent's radius, what stands over the floor, the script; the play text.
+    let cases: [(u32, u32, u32, Over, &[u8], &[u8]); 9] = [
+        (
+            6,
+            6,
+            0,
+            Over::Sky,
+            b"floor 1 1\nfloor 0 0\n",
+            b"floors 0 1 10 63\nfloors 0 0\ndone 0 0\n",
+        ),
+        (
+            4,
+            4,
+            0,
+            Over::Void,
+            b"floor 1 1\n",
+            b"floors 0 0\ndone 0 0\n",
+        ),
+        // A low step takes the area of the floor under it, one on top of it does not.
+        (
+            6,
+            6,
+            0,
+            Over::Spans(b"span 2 2 10 12 0\n"),
+            b"floor 2 2\n",
+            b"floors 0 1 12 63\ndone 0 0\n",
+        ),
+        (
+            6,
+            6,
+            0,
+            Over::Spans(b"span 2 2 10 12 0\nspan 2 2 12 14 0\n"),
+            b"floor 2 2\n",
+            b"floors 0 0\ndone 0 0\n",
+        ),
+        // The agent fits under a beam of its own height, and not under one that is lower.
+        (
+            6,
+            6,
+            0,
+            Over::Spans(b"span 2 2 20 22 0\n"),
+            b"floor 2 2\n",
+            b"floors 0 1 10 63\ndone 0 0\n",
+        ),
+        (
+            6,
+            6,
+            0,
+            Over::Spans(b"span 2 2 19 22 0\n"),
+            b"floor 2 2\n",
+            b"floors 0 0\ndone 0 0\n",
+        ),
+        (
+            6,
+            6,
+            0,
+            Over::Deck,
+            b"floor 2 2\n",
+            b"floors 0 2 10 63 40 63\ndone 0 0\n",
+        ),
+        // The ring of the edge has no cells, so the cells from 3 on are two cells from every boundary cell.
+        (
+            10,
+            10,
+            2,
+            Over::Sky,
+            b"floor 2 2\nfloor 3 3\n",
+            b"floors 0 0\nfloors 0 1 10 63\ndone 0 0\n",
+        ),
+        // Four tiles.
+        (
+            8,
+            4,
+            0,
+            Over::Sky,
+            b"floor 3 4\nfloor 4 3\nfloor 7 4\nfloor 8 4\n",
+            b"floors 0 1 10 63\nfloors 0 1 10 63\nfloors 0 0\nfloors 0 0\ndone 0 0\n",
+        ),
+    ];
+    for (side, tile, radius, over, script, text) in cases {
+        assert!(rt; side < 100);
+        let level = built_level(alloc, side, tile, radius, over, script)?;
+        let ran = run_once(&rt, alloc, "play", level, (100, 0), (100, 0))?;
+        assert_eq!(rt; ran.status, Status::Ok);
+        assert_eq!(rt; ran.held.as_slice(), text);
+    }
+    Ok(())
+}
+
 #[test]
 fn fills_a_history(rt: HostRuntime) -> Result<(), Fail> {
     let alloc = rt.alloc();
