@@ -1,12 +1,11 @@
 -- The cells of a field lie in its columns, and they are all its walkable spans.
-use Rattle.std.proofs.Common.{◌≡◌, ℕ, ◌<◌, List, [], ◌∷◌, length, map, filter, refl, subst, sym, ap, ◌∙◌}
+use Rattle.std.proofs.Common.{◌≡◌, ℕ, ◌<◌, List, [], ◌∷◌, map, refl, subst, sym, ap, ◌∙◌}
 use Rattle.std.specs.List.{All, zip, range_with_len}
 use Rattle.std.specs.Prelude.{not, ◌==◌}
 use Rattle.std.proofs.lemmas.List.Elements.{All-nil, All-cons, All-head, All-tail, All-map, All-filter, All-weaker, All-same}
 use Rattle.nav_ground.specs.declared.cell.Cell.{Cell}
 use Rattle.nav_ground.specs.declared.field.Span.{Span}
 use Rattle.nav_ground.specs.declared.field.Field.{Field}
-use Rattle.nav_ground.specs.declared.setting.Agent.{Agent}
 use Rattle.nav_ground.specs.declared.setting.Setting.{Setting}
 use Rattle.nav_ground.specs.Connection.{walkable_spans, unconnected_cell, unconnected_cells, connected_cell, compact_cells}
 use Rattle.nav_ground.specs.Fields.{IsField, IsSpan}
