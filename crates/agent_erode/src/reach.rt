@@ -97,12 +97,7 @@ impl Reached {
     }
 
     /// Takes the axis steps from the cells that were reached from one place in the order to before another.
-    fn step_along(
-        &mut self,
-        table: &[[u32; 4]],
-        first: usize,
-        end: usize,
-    ) -> Result<(), AllocError>
+    fn step_along(&mut self, table: &[[u32; 4]], first: usize, end: usize) -> Result<(), AllocError>
         requires range { first ≤ end }
         requires there { end ≤ length self.old.order }
         ensures reached { OnOk result (self.new ≡ after_axis_steps table.now self.old first end) }
