@@ -12,8 +12,10 @@ use std::alloc::{AllocError, Global};
 /// For each cell whether no walk from a boundary cell to it is cheaper than twice the radius. The cells may be connected to others
 /// that are not in the list, and need not be named back.
 ///
-/// Costs are gone through in order, and each cell is left once for its axis steps and once for its diagonal steps. Three costs without a new cell
-/// end it, since no step costs more than three.
+/// Costs are gone through in order, from what was reached: the cells whose least cost is the last one stand in the order from `first` on,
+/// those of the cost before it from `second` to before `first`, and those of the cost before that from `third` to before `second`. Each cell is
+/// left once for its axis steps and once for its diagonal steps. Three costs without a new cell end it, since no step costs more than
+/// three.
 pub fn marks(alloc: Global, cells: &[Cell], radius: u32) -> Result<Vec<bool>, AllocError>
     requires { IsCells cells.now }
     ensures { IfOk result (λ marks. marks.items ≡ map (is_kept cells.now radius) cells.now) }
@@ -41,7 +43,7 @@ pub fn marks(alloc: Global, cells: &[Cell], radius: u32) -> Result<Vec<bool>, Al
     Ok(reached.into_kept())
 }
 
-/// The least cost of a walk that a kept cell may be reached by: twice the radius.
+/// What a walk to a kept cell costs at least: twice the radius.
 fn bound_of(radius: u32) -> u64
     ensures { result ≡ 2 * radius }
 {
