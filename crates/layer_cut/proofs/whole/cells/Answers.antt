@@ -5,7 +5,7 @@ use Rattle.layer_cut.proofs.whole.cells.Goals as goal
 
 pub returns-clause-cells : goal.returns-clause-cells
 returns-clause-cells c =
-    IfOk-weaker c.compact.result _ _ (λ compact made. cells_are c.args.setting.now c.args.field.now c.as_slice.result.now compact.cells (c.as_slice.ensures.value ∙ c.in_ok-areas.ensures.value) made)
+    IfOk-weaker c.compact.result _ _ (λ compact made. cells_are c.args.setting.now c.args.field.now c.as_slice.result.now compact.cells (c.as_slice.ensures.value ∙ c.in_ok-areas.ensures.areas) made)
     c.compact.ensures.cells
 
 pub returns-clause-inside : goal.returns-clause-inside
