@@ -1,0 +1,6 @@
+pub mod Cuts
+pub mod Found
+pub mod Chains
+pub mod Walks
+pub mod Owners
+pub mod RunLaws
