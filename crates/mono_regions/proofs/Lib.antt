@@ -4,3 +4,4 @@ pub mod Chains
 pub mod Walks
 pub mod Owners
 pub mod RunLaws
+pub mod Named

@@ -140,7 +140,7 @@ first_place cells i there begins =
     ∙ ne_eqb _ _ (λ (e : get_or before k 0 ≡ i). omega (arith, e, firsts_small cells i k 0 less)))
     (λ _. eq-eqb _ _ (get_or_at before i rest 0 (length before) refl))
 
-position_map : {A B : Type 0} (p : B → Bool) (q : A → Bool) (f : A → B) (xs : List A) → All (λ x. p (f x) ≡ q x) xs
+pub position_map : {A B : Type 0} (p : B → Bool) (q : A → Bool) (f : A → B) (xs : List A) → All (λ x. p (f x) ≡ q x) xs
     → position_or_len p (map f xs) ≡ position_or_len q xs
 position_map p q f [] each = refl
 position_map p q f (x ∷ xs) each =

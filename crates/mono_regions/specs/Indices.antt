@@ -1,5 +1,5 @@
 -- Strips by the indices of their cells.
-use Rattle.std.specs.Prelude.{ℕ, zero, suc, ◌+◌, ◌-◌, ◌^◌, ◌<◌, nat_lt, ◌==◌, ◌&&◌, Bool, if◌then◌else◌, List, [], ◌∷◌, length, map, filter, slice_index, slice_index_or, All}
+use Rattle.std.specs.Prelude.{ℕ, zero, suc, ◌+◌, ◌-◌, ◌<◌, ◌≤◌, nat_lt, ◌==◌, ◌&&◌, Bool, if◌then◌else◌, List, [], ◌∷◌, length, map, filter, slice_index, slice_index_or, All}
 use Rattle.std.specs.List.{position_or_len, range_with_len, list_any}
 use Rattle.nav_ground.specs.declared.cell.Cell.{Cell}
 use Rattle.nav_ground.specs.Cells.{is_naming}
@@ -47,7 +47,7 @@ owner_of cells i = position_or_len (has_index i) (index_runs cells)
 -- indices of cells, at least one
 pub record AreIndices (cells : List Cell) (run : List ℕ) : Type 0 where
   pub some : 0 < length run
-  pub few : length run < 2 ^ 31
+  pub few : length run ≤ 2000001
   pub each : All (λ i. i < length cells) run
 
 abbrev pub level_at : List Cell → ℕ → ℕ
