@@ -70,7 +70,8 @@ fn push_links_over(
 {
     label_beyond(strips, strip, edge, labels)?;
     let parts = runs(alloc, labels.as_slice())?;
-    for part in parts.as_slice() {
+    let parts = parts.as_slice();
+    for part in parts {
         links.push(link(strips, strip, edge, *part))?;
     }
     Ok(())
@@ -88,8 +89,9 @@ fn label_beyond(
     requires edge { edge < 4 }
     ensures { OnOk result (labels.new.items ≡ map (strip_beyond (runs_in strips.now) strip (outside_of edge)) (run_in strips.now strip)) }
 {
+    let run = strips.run(strip);
     labels.clear();
-    for at in strips.run(strip) {
+    for at in run {
         labels.push(strips.beyond(strip, 3 - edge, *at))?;
     }
     Ok(())

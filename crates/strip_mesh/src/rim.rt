@@ -1,11 +1,12 @@
 //! What the rim of a tile offers to the tiles across its sides.
 
-ghost use Rattle.std.specs.Prelude.{◌≡◌, ◌<◌, ◌≤◌, ◌++◌, IfOk, OnOk, All, length, map};
-ghost use Rattle.std.specs.List.{flat_map, range_with_len};
+ghost use Rattle.std.specs.Prelude.{◌≡◌, ◌<◌, ◌≤◌, ◌+◌, ◌++◌, IfOk, OnOk, All, length, map, slice_index, slice_index_or, slice_range};
+ghost use Rattle.std.specs.List.{between, flat_map, range_with_len};
 ghost use Rattle.nav_ground.specs.declared.cell.Cell.{Cell};
 ghost use Rattle.nav_ground.specs.Cells.{IsCell, IsCells};
-ghost use Rattle.mesh_types.specs.StripMeshes.{strip_rim, strip_rim_over, is_crossing, outside_of};
+ghost use Rattle.mesh_types.specs.StripMeshes.{strip_rim, strip_rim_over, is_crossing, outside_of, some_cell};
 ghost use Rattle.mesh_types.specs.Runs.{label_if};
+ghost use Rattle.mono_regions.specs.Indices.{cell_at, AreIndices};
 ghost use Rattle.strip_mesh.specs.Indexed.{AreIndexed, runs_in, run_in};
 ghost use Rattle.strip_mesh.specs.Strips.{pair_at};
 
@@ -69,7 +70,8 @@ fn push_rim_over(
 {
     label_crossing(strips, window, strip, edge, labels)?;
     let parts = runs(alloc, labels.as_slice())?;
-    for part in parts.as_slice() {
+    let parts = parts.as_slice();
+    for part in parts {
         rim.push(rim_edge(alloc, strips, strip, edge, *part)?)?;
     }
     Ok(())
@@ -90,8 +92,9 @@ fn label_crossing(
         ≡ map (λ (cell : Cell). label_if (is_crossing window.now (outside_of edge) cell)) (run_in strips.now strip)) }
 {
     let cells = strips.free.cells.as_slice();
+    let run = strips.run(strip);
     labels.clear();
-    for at in strips.run(strip) {
+    for at in run {
         labels.push(label(window, 3 - edge, &cells[*at as usize]))?;
     }
     Ok(())
@@ -141,7 +144,7 @@ fn rim_edge(
 {
     let cells = strips.free.cells.as_slice();
     let side = 3 - edge;
-    let run = &strips.run(strip)[part.first as usize..part.last as usize + 1];
+    let run = part_of(strips, strip, part);
     Ok(RimEdge {
         poly: strip,
         edge,
@@ -149,6 +152,28 @@ fn rim_edge(
         first: position_of(side, cells[run[0] as usize].at),
         pairs: pairs(alloc, cells, run, side)?,
     })
+}
+
+/// The indices of the cells of a strip along a part of it.
+fn part_of(strips: &TileStrips, strip: u32, part: Run) -> &[u32]
+    requires rules { AreIndexed strips.now }
+    requires there { strip < length (runs_in strips.now) }
+    requires order { part.first ≤ part.last }
+    requires inside { part.last < length (run_in strips.now strip) }
+    ensures cells { map (cell_at strips.now.free.cells) result.now ≡ between part.first (part.last + 1) (run_in strips.now strip) }
+    ensures first { cell_at strips.now.free.cells (slice_index result.now 0) ≡ slice_index_or (run_in strips.now strip) part.first some_cell }
+    ensures indices { AreIndices strips.now.free.cells result.now }
+{
+    let run = strips.run(strip);
+    between(run, part.first as usize, part.last as usize + 1)
+}
+
+/// The indices from one place up to another.
+fn between(run: &[u32], first: usize, end: usize) -> &[u32]
+    requires { (first ≤ end) × (end ≤ length run.now) }
+    ensures { result.now ≡ slice_range run.now first end }
+{
+    &run[first..end]
 }
 
 /// The position of a place along a side of a tile: z on the sides 0 and 2, x on the sides 1 and 3.

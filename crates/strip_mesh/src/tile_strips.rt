@@ -1,5 +1,8 @@
 //! A tile's free cells beside their neighbour table and their strips.
 
+ghost use Rattle.std.specs.Prelude.{◌≡◌, ◌<◌, ◌==◌, if◌then◌else◌, None, Some, option_and_then};
+ghost use Rattle.cell_table.specs.Table.{neighbour};
+
 use cell_table::neighbour_table;
 use mono_regions::{StripIndex, strip_index};
 use nav_ground::{Cell, FreeLayer};
@@ -17,7 +20,7 @@ pub struct TileStrips {
 }
 
 impl TileStrips {
-    ghost use Rattle.std.specs.Prelude.{◌≡◌, ◌<◌, ◌≤◌, IfOk, length, map};
+    ghost use Rattle.std.specs.Prelude.{◌≤◌, IfOk, length, map};
     ghost use Rattle.nav_ground.specs.Cells.{IsCut};
     ghost use Rattle.mesh_types.specs.StripMeshes.{strip_beyond, first_of};
     ghost use Rattle.mono_regions.specs.Indices.{cell_at, AreIndices};
@@ -77,8 +80,35 @@ impl TileStrips {
         requires there { at < length self.now.free.cells }
         ensures { result ≡ strip_beyond (runs_in self.now) strip dir (cell_at self.now.free.cells at) }
     {
-        let to = self.table.as_slice()[at as usize][dir as usize];
-        let owner = *self.index.owners.get(to as usize)?;
-        if owner == strip { None } else { Some(owner) }
+        let to = neighbour(self.table.as_slice(), at, dir as usize);
+        let owner = self.index.owners.get(to as usize).copied();
+        other(owner, strip)
+    }
+}
+
+/// The index in a table at a cell and a direction; past the table one that no cell has.
+fn neighbour(table: &[[u32; 4]], from: u32, dir: usize) -> u32
+    requires { dir < 4 }
+    ensures { result ≡ neighbour table.now from dir }
+{
+    match table.get(from as usize) {
+        Some(next) => next[dir],
+        None => u32::MAX,
+    }
+}
+
+/// A strip, unless it is a given one.
+fn other(owner: Option<u32>, strip: u32) -> Option<u32>
+    ensures { result ≡ option_and_then (λ t. if t == strip then None else Some t) owner }
+{
+    match owner {
+        Some(owner) => {
+            if owner == strip {
+                None
+            } else {
+                Some(owner)
+            }
+        }
+        None => None,
     }
 }
