@@ -7,13 +7,17 @@ use Rattle.std.proofs.lemmas.List.Elements.{All-take, All-drop}
 use Rattle.nav_ground.specs.declared.cell.Cell.{Cell}
 use Rattle.cell_table.specs.Table.{neighbour, neighbour_table, index_named}
 use Rattle.cell_table.proofs.Tables.{table_at}
-use Rattle.mesh_types.specs.StripMeshes.{some_cell, strip_runs, holds_named, strip_beyond, first_of}
+use Rattle.mesh_types.specs.declared.label_runs.Run.{Run}
+use Rattle.mesh_types.specs.declared.tile.LevelPair.{LevelPair}
+use Rattle.mesh_types.specs.declared.tile.RimEdge.{RimEdge}
+use Rattle.mesh_types.specs.StripMeshes.{some_cell, strip_runs, holds_named, strip_beyond, first_of, position_of, level_pair, rim_edge}
 use Rattle.mono_regions.specs.Indices.{cell_at, index_runs, AreIndices, owner_of}
 use Rattle.mono_regions.proofs.Owners.{run_count, few_firsts}
-use Rattle.mono_regions.proofs.RunLaws.{runs_are, runs_indices}
+use Rattle.mono_regions.proofs.RunLaws.{map-map, runs_are, runs_indices}
 use Rattle.mono_regions.proofs.Named.{position_of_named}
 use Rattle.strip_mesh.specs.declared.tile_strips.TileStrips.{TileStrips}
 use Rattle.strip_mesh.specs.Indexed.{AreIndexed, runs_in, run_in}
+use Rattle.strip_mesh.specs.Strips.{pair_at}
 
 pub count_is : (strips : TileStrips) → AreIndexed strips → length strips.index.runs ≡ length (runs_in strips)
 count_is strips rules' =
@@ -86,3 +90,20 @@ part_indices cells run part first end indices is less there =
 
 pub run_length : (cells : List Cell) (run : List ℕ) (own : List Cell) → map (cell_at cells) run ≡ own → length run ≡ length own
 run_length cells run own are = sym (length-map run (cell_at cells)) ∙ ap length are
+
+-- an entry of the rim from its position and its pairs
+pub entry_is : (strip edge : ℕ) (cells : List Cell) (part_indices : List ℕ) (own : List Cell) (part : Run) (d : Cell) (first : ℕ) (pairs : List LevelPair)
+    → 0 < length part_indices → All (λ i. i < length cells) part_indices
+    → first ≡ position_of (3 - edge) (get_or cells (get_or part_indices 0 0) d).at
+    → cell_at cells (get_or part_indices 0 0) ≡ get_or own part.first some_cell
+    → pairs ≡ map (pair_at cells (3 - edge)) part_indices
+    → map (cell_at cells) part_indices ≡ slice_range own part.first (part.last + 1)
+    → ◌≡◌ {A = RimEdge} (record { poly = strip; edge = edge; side = 3 - edge; first = first; pairs = pairs }) (rim_edge strip edge own part)
+entry_is strip edge cells part_indices own part d first pairs some each first_at first_cell pairs_are part_are =
+    ap (λ (n : ℕ). entry n pairs)
+    (first_at ∙ ap (λ (c : Cell). position_of (3 - edge) c.at) (get_or_default cells (get_or part_indices 0 0) d some_cell (each 0 0 some) ∙ first_cell))
+    ∙ ap (λ (ps : List LevelPair). entry (position_of (3 - edge) (get_or own part.first some_cell).at) ps)
+    (pairs_are ∙ sym (map-map (level_pair (3 - edge)) (cell_at cells) part_indices) ∙ ap (map (level_pair (3 - edge))) part_are)
+  where
+    entry : ℕ → List LevelPair → RimEdge
+    entry n ps = record { poly = strip; edge = edge; side = 3 - edge; first = n; pairs = ps }
