@@ -5,3 +5,4 @@ pub mod Walks
 pub mod Owners
 pub mod RunLaws
 pub mod Named
+pub mod StripLaws

@@ -32,7 +32,7 @@ begins_true cells cut i there past = begins_is cells cut i there ∙ ap not (le-
 pub begins_false : (cells : List Cell) → IsCut cells → (i : ℕ) → i < length cells → along cells 0 i < length cells → begins_at cells i ≡ false
 begins_false cells cut i there inside = begins_is cells cut i there ∙ ap not (lt-ltb _ _ inside)
 
-begins_past : (cells : List Cell) → IsCut cells → (i : ℕ) → i < length cells → begins_at cells i ≡ true → length cells ≤ along cells 0 i
+pub begins_past : (cells : List Cell) → IsCut cells → (i : ℕ) → i < length cells → begins_at cells i ≡ true → length cells ≤ along cells 0 i
 begins_past cells cut i there begins = ltb-false _ _ (not-true _ (sym (begins_is cells cut i there) ∙ begins))
 
 -- one cell more among the first ones
@@ -63,7 +63,7 @@ firsts_small cells n =
     let there' : k < n = omega (arith, there, length-range_with_len 0 n) in
     omega (arith, get_or-range_with_len 0 n k d there', there'))
 
-firsts_begin : (cells : List Cell) (n : ℕ) → All (λ f. begins_at cells f ≡ true) (firsts_below cells n)
+pub firsts_begin : (cells : List Cell) (n : ℕ) → All (λ f. begins_at cells f ≡ true) (firsts_below cells n)
 firsts_begin cells n = filter_passes (begins_at cells) (range_with_len 0 n)
 
 -- the runs so far, with one more
@@ -148,13 +148,17 @@ position_map p q f (x ∷ xs) each =
     let rest = position_map p q f xs (All-tail (λ y. p (f y) ≡ q y) x xs each) in
     cc
 
-pub owner_first : (cells : List Cell) → IsCut cells → (i : ℕ) → i < length cells → length cells ≤ along cells 0 i
-    → owner_of cells i ≡ length (firsts_below cells i)
+-- the strips that hold a cell at which a strip begins
+pub owner_place : (cells : List Cell) → IsCut cells → (i : ℕ) → i < length cells → length cells ≤ along cells 0 i
+    → owner_of cells i ≡ position_or_len (λ f. f == i) (firsts_below cells (length cells))
 unfolding index_runs
-owner_first cells cut i there past =
+owner_place cells cut i there past =
     position_map (has_index i) (λ f. f == i) (run_at cells) (firsts_below cells (length cells))
     (λ k d there'. held_alone cells cut i (get_or (firsts_below cells (length cells)) k d) there past (firsts_small cells (length cells) k d there'))
-    ∙ first_place cells i there (begins_true cells cut i there past)
+
+pub owner_first : (cells : List Cell) → IsCut cells → (i : ℕ) → i < length cells → length cells ≤ along cells 0 i
+    → owner_of cells i ≡ length (firsts_below cells i)
+owner_first cells cut i there past = owner_place cells cut i there past ∙ first_place cells i there (begins_true cells cut i there past)
 
 pub run_count : (cells : List Cell) → length (index_runs cells) ≡ length (firsts_below cells (length cells))
 unfolding index_runs

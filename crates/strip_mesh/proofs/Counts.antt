@@ -1,16 +1,16 @@
 -- The strips of a tile by the indices of their cells, and as their cells.
-use Rattle.std.proofs.Common.{◌≡◌, ℕ, ◌+◌, ◌-◌, ◌<◌, ◌≤◌, length, List, [], ◌∷◌, map, take, drop, get_or, ap, ◌∙◌, sym, refl, subst, arith, Option}
-use Rattle.std.specs.Prelude.{All, slice_get, slice_range, slice_index_or, None, Some, option_and_then, ◌==◌, if◌then◌else◌}
-use Rattle.std.specs.List.{range_with_len, position}
+use Rattle.std.proofs.Common.{◌≡◌, ℕ, ◌+◌, ◌-◌, ◌<◌, ◌≤◌, length, List, [], map, take, drop, get_or, ap, ◌∙◌, sym, subst, arith, Option}
+use Rattle.std.specs.Prelude.{All, slice_get, slice_range, None, Some, option_and_then, ◌==◌, if◌then◌else◌}
+use Rattle.std.specs.List.{range_with_len}
 use Rattle.std.proofs.lemmas.List.{length-map, get_or-map, get_or_default, drop-map, take-map, get_or-take, get_or-drop, length-take, length-drop}
 use Rattle.std.proofs.lemmas.List.Elements.{All-take, All-drop}
 use Rattle.nav_ground.specs.declared.cell.Cell.{Cell}
-use Rattle.cell_table.specs.Table.{neighbour, neighbour_table, index_named}
+use Rattle.cell_table.specs.Table.{neighbour}
 use Rattle.cell_table.proofs.Tables.{table_at}
 use Rattle.mesh_types.specs.declared.label_runs.Run.{Run}
 use Rattle.mesh_types.specs.declared.tile.LevelPair.{LevelPair}
 use Rattle.mesh_types.specs.declared.tile.RimEdge.{RimEdge}
-use Rattle.mesh_types.specs.StripMeshes.{some_cell, strip_runs, holds_named, strip_beyond, first_of, position_of, level_pair, rim_edge}
+use Rattle.mesh_types.specs.StripMeshes.{some_cell, strip_beyond, first_of, position_of, level_pair, rim_edge}
 use Rattle.mono_regions.specs.Indices.{cell_at, index_runs, AreIndices, owner_of}
 use Rattle.mono_regions.proofs.Owners.{run_count, few_firsts}
 use Rattle.mono_regions.proofs.RunLaws.{map-map, runs_are, runs_indices}

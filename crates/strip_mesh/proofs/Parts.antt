@@ -1,19 +1,17 @@
 -- Parts of strips, and the links along them.
-use Rattle.std.proofs.Common.{◌≡◌, ℕ, ◌+◌, ◌-◌, ◌<◌, ◌≤◌, length, List, [], ◌∷◌, ◌++◌, map, get_or, ap, ◌∙◌, sym, refl, subst, arith, Option, zero, suc}
+use Rattle.std.proofs.Common.{◌≡◌, ℕ, ◌+◌, ◌<◌, ◌≤◌, length, List, [], map, get_or, ap, ◌∙◌, sym, refl, subst, arith, Option, zero, suc}
 use Rattle.std.specs.Prelude.{All}
 use Rattle.std.specs.List.{range_with_len, flat_map}
 use Rattle.std.proofs.lemmas.List.{length-map}
-use Rattle.std.proofs.lemmas.List.Elements.{All-append, All-nil, All-map, All-weaker, All-head, All-tail}
-use Rattle.std.proofs.lemmas.List.FromFn.{get_or-range_with_len, length-range_with_len}
+use Rattle.std.proofs.lemmas.List.Elements.{All-append, All-nil, All-map, All-weaker}
 use Rattle.nav_ground.specs.declared.cell.Cell.{Cell}
 use Rattle.mesh_types.specs.declared.label_runs.Run.{Run}
 use Rattle.mesh_types.specs.declared.links.Link.{Link}
 use Rattle.mesh_types.specs.Runs.{runs_of}
 use Rattle.mesh_types.specs.LinkIndex.{AreOrderedLinks, AreBelow}
 use Rattle.mesh_types.specs.StripMeshes.{strip_beyond, strip_link, strip_links_over, strip_links, outside_of}
-use Rattle.mesh_types.proofs.RunLaws.{IsRunOf, runs_are_runs}
+use Rattle.mesh_types.proofs.RunLaws.{runs_are_runs}
 use Rattle.mesh_types.proofs.OrderedLinks.{ordered_all, ordered_by_polygon}
-use Rattle.mono_regions.specs.Indices.{cell_at}
 use Rattle.strip_mesh.specs.declared.tile_strips.TileStrips.{TileStrips}
 use Rattle.strip_mesh.specs.Indexed.{AreIndexed, runs_in, run_in}
 use Rattle.strip_mesh.proofs.Counts.{run_cells, run_indices, run_length}

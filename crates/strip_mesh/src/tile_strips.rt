@@ -102,13 +102,7 @@ fn other(owner: Option<u32>, strip: u32) -> Option<u32>
     ensures { result ≡ option_and_then (λ t. if t == strip then None else Some t) owner }
 {
     match owner {
-        Some(owner) => {
-            if owner == strip {
-                None
-            } else {
-                Some(owner)
-            }
-        }
+        Some(owner) => { if owner == strip { None } else { Some(owner) } }
         None => None,
     }
 }

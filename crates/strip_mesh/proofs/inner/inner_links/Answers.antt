@@ -1,11 +1,10 @@
 use Rattle.std.proofs.Common.{◌≡◌, ℕ, ◌++◌, List, take, drop, length, ap, ◌∙◌, sym, subst}
 use Rattle.std.specs.Prelude.{IfOk}
-use Rattle.std.specs.List.{flat_map, range_with_len}
 use Rattle.std.proofs.Math.Seq.{take-append_seam}
 use Rattle.mesh_types.specs.declared.links.Link.{Link}
 use Rattle.mesh_types.specs.LinkIndex.{AreOrderedLinks, AreBelow}
 use Rattle.mesh_types.specs.LinkOrder.{ordered_links}
-use Rattle.mesh_types.specs.StripMeshes.{strip_links, strip_links_over}
+use Rattle.mesh_types.specs.StripMeshes.{strip_links}
 use Rattle.strip_mesh.specs.Indexed.{runs_in}
 use Rattle.strip_mesh.proofs.Parts.{links_ordered, links_below}
 use Rattle.strip_mesh.proofs.inner.inner_links.Goals as goal
@@ -22,7 +21,7 @@ new-requires-clause-order c =
     let same : c.in_ok-links.links.len ≡ length c.order_links.new.links =
     c.in_ok-links.links.ok.0 ∙ sym (ap length c.as_mut_slice.ensures.value) ∙ sym c.order_links.auto.links in
     let sorted = written_back c.in_ok-links.links.len c.in_ok-links.links.items c.order_links.new.links same
-        ∙ c.order_links.ensures ∙ ap ordered_links (c.as_mut_slice.ensures.value ∙ c.in_ok-links.ensures) in
+    ∙ c.order_links.ensures ∙ ap ordered_links (c.as_mut_slice.ensures.value ∙ c.in_ok-links.ensures) in
     subst AreOrderedLinks (sym sorted) (links_ordered tile runs)
 
 pub new-requires-clause-within : goal.new-requires-clause-within
@@ -32,7 +31,7 @@ new-requires-clause-within c =
     let same : c.in_ok-links.links.len ≡ length c.order_links.new.links =
     c.in_ok-links.links.ok.0 ∙ sym (ap length c.as_mut_slice.ensures.value) ∙ sym c.order_links.auto.links in
     let sorted = written_back c.in_ok-links.links.len c.in_ok-links.links.items c.order_links.new.links same
-        ∙ c.order_links.ensures ∙ ap ordered_links (c.as_mut_slice.ensures.value ∙ c.in_ok-links.ensures) in
+    ∙ c.order_links.ensures ∙ ap ordered_links (c.as_mut_slice.ensures.value ∙ c.in_ok-links.ensures) in
     let P : ℕ → Type 0 = λ n. AreBelow n (strip_links tile runs) in
     subst (AreBelow c.count.result) (sym sorted) (subst P (sym c.count.ensures.value) (links_below tile runs))
 
@@ -41,6 +40,6 @@ returns c =
     let same : c.in_ok-links.links.len ≡ length c.order_links.new.links =
     c.in_ok-links.links.ok.0 ∙ sym (ap length c.as_mut_slice.ensures.value) ∙ sym c.order_links.auto.links in
     let sorted = written_back c.in_ok-links.links.len c.in_ok-links.links.items c.order_links.new.links same
-        ∙ c.order_links.ensures ∙ ap ordered_links (c.as_mut_slice.ensures.value ∙ c.in_ok-links.ensures) in
+    ∙ c.order_links.ensures ∙ ap ordered_links (c.as_mut_slice.ensures.value ∙ c.in_ok-links.ensures) in
     let P : List Link → Type 0 = λ links. IfOk c.new.result (λ made. made ≡ links) in
     subst P sorted c.new.ensures

@@ -1,6 +1,5 @@
-use Rattle.std.proofs.Common.{◌≡◌, ◌<◌, ◌≤◌, ◌++◌, List, map, length, get_or, ap, ◌∙◌, arith}
+use Rattle.std.proofs.Common.{◌++◌, List, map, length, ap, ◌∙◌, arith}
 use Rattle.std.proofs.lemmas.List.{take_all, length-map}
-use Rattle.mesh_types.specs.declared.links.Link.{Link}
 use Rattle.mesh_types.specs.declared.label_runs.Run.{Run}
 use Rattle.mesh_types.specs.Runs.{runs_of}
 use Rattle.mesh_types.specs.StripMeshes.{strip_beyond, strip_link, outside_of}
@@ -13,16 +12,20 @@ pub runs-requires : goal.runs-requires
 runs-requires c =
     let strips = c.args.strips.now in
     let beyond = strip_beyond (runs_in strips) c.args.strip (outside_of c.args.edge) in
-    omega (arith, ap length (c.as_slice.ensures.value ∙ c.in_ok-label_beyond.ensures), length-map (run_in strips c.args.strip) beyond,
-    own_few strips c.requires.rules c.args.strip c.requires.there)
+    omega (
+      arith,
+      ap length (c.as_slice.ensures.value ∙ c.in_ok-label_beyond.ensures),
+      length-map (run_in strips c.args.strip) beyond,
+      own_few strips c.requires.rules c.args.strip c.requires.there,
+    )
 
 pub link-requires : goal.link-requires
 link-requires c =
     let strips = c.args.strips.now in
     let own = run_in strips c.args.strip in
     let inside = part_inside (strip_beyond (runs_in strips) c.args.strip (outside_of c.args.edge)) own c.as_slice.result.now c.as_slice-parts.result.now
-        (c.as_slice.ensures.value ∙ c.in_ok-label_beyond.ensures) (c.as_slice-parts.ensures.value ∙ c.in_ok-parts.ensures)
-        c.loop-part.part-index (record { first = 0; last = 0; label = 0 }) c.loop-part-test.true in
+    (c.as_slice.ensures.value ∙ c.in_ok-label_beyond.ensures) (c.as_slice-parts.ensures.value ∙ c.in_ok-parts.ensures)
+    c.loop-part.part-index (record { first = 0; last = 0; label = 0 }) c.loop-part-test.true in
     let few = own_few strips c.requires.rules c.args.strip c.requires.there in
     record {
       rules = c.requires.rules;

@@ -1,9 +1,7 @@
-use Rattle.std.proofs.Common.{◌≡◌, ◌<◌, ◌∙◌, ℕ, length, get_or, ap, arith}
-use Rattle.std.proofs.lemmas.List.{get_or_default}
+use Rattle.std.proofs.Common.{◌∙◌}
 use Rattle.nav_ground.specs.declared.cell.Cell.{Cell}
 use Rattle.mesh_types.specs.Runs.{label_if}
-use Rattle.mesh_types.specs.StripMeshes.{is_crossing, outside_of, some_cell}
-use Rattle.mono_regions.specs.Indices.{cell_at}
+use Rattle.mesh_types.specs.StripMeshes.{is_crossing, outside_of}
 use Rattle.strip_mesh.specs.Indexed.{run_in}
 use Rattle.strip_mesh.proofs.Steps.{made_of_cells}
 use Rattle.strip_mesh.proofs.rim.label_crossing.Goals as goal
