@@ -1,3 +1,5 @@
 pub mod Counts
 pub mod Steps
 pub mod Parts
+pub mod Rectangles
+pub mod PortalLaws
