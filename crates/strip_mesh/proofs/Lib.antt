@@ -3,3 +3,5 @@ pub mod Steps
 pub mod Parts
 pub mod Rectangles
 pub mod PortalLaws
+pub mod RowLaws
+pub mod PolygonLaws
