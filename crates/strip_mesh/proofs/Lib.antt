@@ -5,3 +5,6 @@ pub mod Rectangles
 pub mod PortalLaws
 pub mod RowLaws
 pub mod PolygonLaws
+pub mod LinkLaws
+pub mod RimLaws
+pub mod FitLaws

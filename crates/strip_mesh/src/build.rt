@@ -3,6 +3,7 @@
 ghost use Rattle.std.specs.Prelude.{◌≡◌, IfOk};
 ghost use Rattle.nav_ground.specs.Limits.{IsSetting};
 ghost use Rattle.nav_ground.specs.Cells.{IsCut, IsInTile};
+ghost use Rattle.mesh_types.specs.Soundness.{IsFit};
 ghost use Rattle.mesh_types.specs.StripMeshes.{strip_mesh_of};
 
 use crate::inner::inner_links;
@@ -15,12 +16,20 @@ use std::alloc::{AllocError, Global};
 
 /// The mesh of a tile from its free cells: a rectangle for each strip, the links between the strips, and the rim. The mesh keeps a copy of
 /// the free cells.
+pub fn strip_mesh(alloc: Global, free: &FreeLayer, setting: &Setting) -> Result<TileMesh, AllocError>
+    requires setting { IsSetting setting.now }
+    requires cells { IsCut free.now.cells }
+    requires tile { IsInTile setting.now free.now.tile free.now.cells }
+    ensures value { IfOk result (λ tile. tile ≡ strip_mesh_of setting.now free.now) }
+    ensures fit { IfOk result (IsFit setting.now) }
+{
+    let mesh = mesh(alloc, free, setting)?;
+    Ok(mesh)
+}
+
+/// The mesh, part by part.
 #[tactic(auto, unfolding(mesh_types::specs::StripMeshes::strip_mesh_of))]
-pub fn strip_mesh(
-    alloc: Global,
-    free: &FreeLayer,
-    setting: &Setting,
-) -> Result<TileMesh, AllocError>
+fn mesh(alloc: Global, free: &FreeLayer, setting: &Setting) -> Result<TileMesh, AllocError>
     requires setting { IsSetting setting.now }
     requires cells { IsCut free.now.cells }
     requires tile { IsInTile setting.now free.now.tile free.now.cells }
