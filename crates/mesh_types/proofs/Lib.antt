@@ -3,3 +3,5 @@ pub mod Starts
 pub mod Labels
 pub mod Sorting
 pub mod LinkOrderLaws
+pub mod RunLaws
+pub mod OrderedLinks

@@ -1,0 +1,10 @@
+pub mod Counts
+pub mod Steps
+pub mod Parts
+pub mod Rectangles
+pub mod PortalLaws
+pub mod RowLaws
+pub mod PolygonLaws
+pub mod LinkLaws
+pub mod RimLaws
+pub mod FitLaws

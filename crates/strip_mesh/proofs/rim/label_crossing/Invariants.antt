@@ -1,0 +1,10 @@
+use Rattle.std.proofs.Common.{◌≡◌, map, take}
+use Rattle.mesh_types.specs.Runs.{label_if}
+use Rattle.mesh_types.specs.StripMeshes.{is_crossing, outside_of}
+use Rattle.mono_regions.specs.Indices.{cell_at}
+use Rattle.strip_mesh.proofs.rim.label_crossing.Given as goal
+
+-- the labels of the cells so far
+abbrev pub invariant-loop-at : goal.invariant-loop-at
+invariant-loop-at l =
+    l.labels.items ≡ map (λ i. label_if (is_crossing l.window (outside_of l.edge) (cell_at l.strips.free.cells i))) (take l.at-index l.run)

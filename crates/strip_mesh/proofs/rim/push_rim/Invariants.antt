@@ -1,0 +1,9 @@
+use Rattle.std.proofs.Common.{◌≡◌, ◌++◌}
+use Rattle.std.specs.List.{flat_map, range_with_len}
+use Rattle.mesh_types.specs.StripMeshes.{strip_rim_over}
+use Rattle.strip_mesh.specs.Indexed.{runs_in}
+use Rattle.strip_mesh.proofs.rim.push_rim.Given as goal
+
+-- the entries over the edges so far
+abbrev pub invariant-loop-edge : goal.invariant-loop-edge
+invariant-loop-edge l = l.rim.items ≡ l.initial.rim.items ++ flat_map (strip_rim_over l.window (runs_in l.strips) l.strip) (range_with_len 0 l.edge)

@@ -1,0 +1,50 @@
+//! The mesh of a tile as strips.
+
+ghost use Rattle.std.specs.Prelude.{◌≡◌, IfOk};
+ghost use Rattle.nav_ground.specs.Limits.{IsSetting};
+ghost use Rattle.nav_ground.specs.Cells.{IsCut, IsInTile};
+ghost use Rattle.mesh_types.specs.Soundness.{IsFit};
+ghost use Rattle.mesh_types.specs.StripMeshes.{strip_mesh_of};
+
+use crate::inner::inner_links;
+use crate::polygons::polygons;
+use crate::rim::rim;
+use crate::tile_strips::TileStrips;
+use mesh_types::TileMesh;
+use nav_ground::{FreeLayer, Setting, tile_bounds};
+use std::alloc::{AllocError, Global};
+
+/// The mesh of a tile from its free cells: a rectangle for each strip, the links between the strips, and the rim. The mesh keeps a copy of
+/// the free cells.
+pub fn strip_mesh(alloc: Global, free: &FreeLayer, setting: &Setting) -> Result<TileMesh, AllocError>
+    requires setting { IsSetting setting.now }
+    requires cells { IsCut free.now.cells }
+    requires tile { IsInTile setting.now free.now.tile free.now.cells }
+    ensures value { IfOk result (λ tile. tile ≡ strip_mesh_of setting.now free.now) }
+    ensures fit { IfOk result (IsFit setting.now) }
+{
+    let mesh = mesh(alloc, free, setting)?;
+    Ok(mesh)
+}
+
+/// The mesh, part by part.
+#[tactic(auto, unfolding(mesh_types::specs::StripMeshes::strip_mesh_of))]
+fn mesh(alloc: Global, free: &FreeLayer, setting: &Setting) -> Result<TileMesh, AllocError>
+    requires setting { IsSetting setting.now }
+    requires cells { IsCut free.now.cells }
+    requires tile { IsInTile setting.now free.now.tile free.now.cells }
+    ensures { IfOk result (λ tile. tile ≡ strip_mesh_of setting.now free.now) }
+{
+    let window = tile_bounds(setting, free.tile);
+    let strips = TileStrips::new(alloc, free)?;
+    let polys = polygons(alloc, &strips)?;
+    let links = inner_links(alloc, &strips)?;
+    let rim = rim(alloc, &strips, &window)?;
+    Ok(TileMesh {
+        tile: free.tile,
+        free: strips.free,
+        polys,
+        links,
+        rim,
+    })
+}

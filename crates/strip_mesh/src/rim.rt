@@ -1,0 +1,214 @@
+//! What the rim of a tile offers to the tiles across its sides.
+
+ghost use Rattle.std.specs.Prelude.{◌≡◌, ◌<◌, ◌≤◌, ◌+◌, ◌++◌, IfOk, OnOk, All, length, map, slice_index, slice_index_or, slice_range};
+ghost use Rattle.std.specs.List.{between, flat_map, range_with_len};
+ghost use Rattle.nav_ground.specs.declared.cell.Cell.{Cell};
+ghost use Rattle.nav_ground.specs.Cells.{IsCell, IsCells};
+ghost use Rattle.mesh_types.specs.StripMeshes.{strip_rim, strip_rim_over, is_crossing, outside_of, some_cell};
+ghost use Rattle.mesh_types.specs.Runs.{label_if};
+ghost use Rattle.mono_regions.specs.Indices.{cell_at, AreIndices};
+ghost use Rattle.strip_mesh.specs.Indexed.{AreIndexed, runs_in, run_in};
+ghost use Rattle.strip_mesh.specs.Strips.{pair_at};
+
+use crate::tile_strips::TileStrips;
+use mesh_types::{LevelPair, RimEdge, Run, runs};
+use nav_ground::{Cell, CellRef, Window};
+use nav_list::Items;
+use std::alloc::{AllocError, Global};
+
+/// The rim of a tile, strip by strip and edge by edge: for each edge along a side of the tile the maximal runs of cells that have a kept
+/// neighbour across.
+pub fn rim(
+    alloc: Global,
+    strips: &TileStrips,
+    window: &Window,
+) -> Result<Items<RimEdge>, AllocError>
+    requires { AreIndexed strips.now }
+    ensures { IfOk result (λ rim. rim ≡ strip_rim window.now (runs_in strips.now)) }
+{
+    let mut labels = Vec::new(alloc);
+    let mut rim = Vec::new(alloc);
+    for strip in 0..strips.count() {
+        push_rim(alloc, strips, window, strip, &mut labels, &mut rim)?;
+    }
+    Ok(Items::from_vec(rim))
+}
+
+/// Appends what the rim lists for a strip. The labels are room to work in.
+fn push_rim(
+    alloc: Global,
+    strips: &TileStrips,
+    window: &Window,
+    strip: u32,
+    labels: &mut Vec<Option<u32>>,
+    rim: &mut Vec<RimEdge>,
+) -> Result<(), AllocError>
+    requires rules { AreIndexed strips.now }
+    requires there { strip < length (runs_in strips.now) }
+    ensures { OnOk result (rim.new.items ≡ rim.old.items ++ flat_map (strip_rim_over window.now (runs_in strips.now) strip) (range_with_len 0 4)) }
+{
+    for edge in 0..4 {
+        push_rim_over(alloc, strips, window, strip, edge, labels, rim)?;
+    }
+    Ok(())
+}
+
+/// Appends what the rim lists for an edge of a strip.
+fn push_rim_over(
+    alloc: Global,
+    strips: &TileStrips,
+    window: &Window,
+    strip: u32,
+    edge: u32,
+    labels: &mut Vec<Option<u32>>,
+    rim: &mut Vec<RimEdge>,
+) -> Result<(), AllocError>
+    requires rules { AreIndexed strips.now }
+    requires there { strip < length (runs_in strips.now) }
+    requires edge { edge < 4 }
+    ensures { OnOk result (rim.new.items ≡ rim.old.items ++ strip_rim_over window.now (runs_in strips.now) strip edge) }
+{
+    label_crossing(strips, window, strip, edge, labels)?;
+    let parts = runs(alloc, labels.as_slice())?;
+    let parts = parts.as_slice();
+    for part in parts {
+        rim.push(rim_edge(alloc, strips, strip, edge, *part)?)?;
+    }
+    Ok(())
+}
+
+/// Which cells of a strip have a kept neighbour across the side of the tile that an edge lies on.
+fn label_crossing(
+    strips: &TileStrips,
+    window: &Window,
+    strip: u32,
+    edge: u32,
+    labels: &mut Vec<Option<u32>>,
+) -> Result<(), AllocError>
+    requires rules { AreIndexed strips.now }
+    requires there { strip < length (runs_in strips.now) }
+    requires edge { edge < 4 }
+    ensures { OnOk result (labels.new.items
+        ≡ map (λ (cell : Cell). label_if (is_crossing window.now (outside_of edge) cell)) (run_in strips.now strip)) }
+{
+    let cells = strips.free.cells.as_slice();
+    let run = strips.run(strip);
+    labels.clear();
+    for at in run {
+        labels.push(label(window, 3 - edge, &cells[*at as usize]))?;
+    }
+    Ok(())
+}
+
+/// The one label, for a cell that has a kept neighbour across the side of the tile in a direction.
+fn label(window: &Window, dir: u32, cell: &Cell) -> Option<u32>
+    requires dir { dir < 4 }
+    requires cell { IsCell cell.now }
+    ensures { result ≡ label_if (is_crossing window.now dir cell.now) }
+{
+    if is_at_side(window, dir, cell.at) && cell.next[dir as usize].is_some() {
+        Some(0)
+    } else {
+        None
+    }
+}
+
+/// Whether the neighbouring column of a place in a direction lies outside the tile.
+fn is_at_side(window: &Window, dir: u32, at: CellRef) -> bool
+    requires x { at.x < 1024 }
+    requires z { at.z < 1024 }
+    ensures { result ≡ Rattle.mesh_types.specs.StripMeshes.is_at_side window.now dir at }
+{
+    match dir {
+        0 => at.x as i32 <= window.x0,
+        1 => window.z1 <= at.z as i32,
+        2 => window.x1 <= at.x as i32,
+        _ => at.z as i32 <= window.z0,
+    }
+}
+
+/// What the rim lists for an edge of a strip along a run of its cells.
+fn rim_edge(
+    alloc: Global,
+    strips: &TileStrips,
+    strip: u32,
+    edge: u32,
+    part: Run,
+) -> Result<RimEdge, AllocError>
+    requires rules { AreIndexed strips.now }
+    requires there { strip < length (runs_in strips.now) }
+    requires edge { edge < 4 }
+    requires order { part.first ≤ part.last }
+    requires inside { part.last < length (run_in strips.now strip) }
+    ensures { IfOk result (λ entry. entry ≡ Rattle.mesh_types.specs.StripMeshes.rim_edge strip edge (run_in strips.now strip) part) }
+{
+    let cells = strips.free.cells.as_slice();
+    let side = 3 - edge;
+    let run = part_of(strips, strip, part);
+    Ok(RimEdge {
+        poly: strip,
+        edge,
+        side,
+        first: position_of(side, cells[run[0] as usize].at),
+        pairs: pairs(alloc, cells, run, side)?,
+    })
+}
+
+/// The indices of the cells of a strip along a part of it.
+fn part_of(strips: &TileStrips, strip: u32, part: Run) -> &[u32]
+    requires rules { AreIndexed strips.now }
+    requires there { strip < length (runs_in strips.now) }
+    requires order { part.first ≤ part.last }
+    requires inside { part.last < length (run_in strips.now strip) }
+    ensures cells { map (cell_at strips.now.free.cells) result.now ≡ between part.first (part.last + 1) (run_in strips.now strip) }
+    ensures first { cell_at strips.now.free.cells (slice_index result.now 0) ≡ slice_index_or (run_in strips.now strip) part.first some_cell }
+    ensures indices { AreIndices strips.now.free.cells result.now }
+{
+    let run = strips.run(strip);
+    between(run, part.first as usize, part.last as usize + 1)
+}
+
+/// The indices from one place up to another.
+fn between(run: &[u32], first: usize, end: usize) -> &[u32]
+    requires { (first ≤ end) × (end ≤ length run.now) }
+    ensures { result.now ≡ slice_range run.now first end }
+{
+    &run[first..end]
+}
+
+/// The position of a place along a side of a tile: z on the sides 0 and 2, x on the sides 1 and 3.
+fn position_of(side: u32, at: CellRef) -> u32
+    ensures { result ≡ Rattle.mesh_types.specs.StripMeshes.position_of side at }
+{
+    if side % 2 == 0 { at.z } else { at.x }
+}
+
+/// The levels of cells, by their indices, and of their neighbours across a side.
+fn pairs(
+    alloc: Global,
+    cells: &[Cell],
+    run: &[u32],
+    side: u32,
+) -> Result<Items<LevelPair>, AllocError>
+    requires side { side < 4 }
+    requires cells { IsCells cells.now }
+    requires run { All (λ i. i < length cells.now) run.now }
+    ensures { IfOk result (λ pairs. pairs ≡ map (pair_at cells.now side) run.now) }
+{
+    let mut pairs = Vec::with_capacity(alloc, run.len())?;
+    for at in run {
+        pairs.push(level_pair(side, &cells[*at as usize]))?;
+    }
+    Ok(Items::from_vec(pairs))
+}
+
+/// The levels of a cell and of its neighbour across a side.
+fn level_pair(side: u32, cell: &Cell) -> LevelPair
+    requires side { side < 4 }
+    ensures { result ≡ Rattle.mesh_types.specs.StripMeshes.level_pair side cell.now }
+{
+    LevelPair {
+        own: cell.at.level,
+        other: cell.next[side as usize].unwrap_or(0),
+    }
+}

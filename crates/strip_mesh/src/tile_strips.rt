@@ -1,0 +1,108 @@
+//! A tile's free cells beside their neighbour table and their strips.
+
+ghost use Rattle.std.specs.Prelude.{◌≡◌, ◌<◌, ◌==◌, if◌then◌else◌, None, Some, option_and_then};
+ghost use Rattle.cell_table.specs.Table.{neighbour};
+
+use cell_table::neighbour_table;
+use mono_regions::{StripIndex, strip_index};
+use nav_ground::{Cell, FreeLayer};
+use nav_list::{Duplicate, Items};
+use std::alloc::{AllocError, Global};
+
+/// What a mesh of strips is made from.
+#[derive(Drop)]
+pub struct TileStrips {
+    /// The tile's free cells, which the mesh keeps.
+    pub free: FreeLayer,
+    /// For each cell and direction the index of the neighbour, or the number of cells where there is none in the tile.
+    pub table: Items<[u32; 4]>,
+    pub index: StripIndex,
+}
+
+impl TileStrips {
+    ghost use Rattle.std.specs.Prelude.{◌≤◌, IfOk, length, map};
+    ghost use Rattle.nav_ground.specs.Cells.{IsCut};
+    ghost use Rattle.mesh_types.specs.StripMeshes.{strip_beyond, first_of};
+    ghost use Rattle.mono_regions.specs.Indices.{cell_at, AreIndices};
+    ghost use Rattle.strip_mesh.specs.Indexed.{AreIndexed, runs_in, run_in};
+
+    /// The strips of a tile, of whose free cells a copy is made.
+    pub fn new(alloc: Global, free: &FreeLayer) -> Result<TileStrips, AllocError>
+        requires { IsCut free.now.cells }
+        ensures rules { IfOk result (λ strips. AreIndexed strips) }
+        ensures free { IfOk result (λ strips. strips.free ≡ free.now) }
+    {
+        let free = free.duplicate(alloc)?;
+        let table = neighbour_table(alloc, free.cells.as_slice())?;
+        let index = strip_index(alloc, free.cells.as_slice(), table.as_slice())?;
+        Ok(TileStrips {
+            free,
+            table: Items::from_vec(table),
+            index,
+        })
+    }
+
+    /// How many strips there are.
+    pub fn count(&self) -> u32
+        requires { AreIndexed self.now }
+        ensures value { result ≡ length (runs_in self.now) }
+        ensures few { result ≤ 2000000 }
+    {
+        self.index.runs.len() as u32
+    }
+
+    /// The indices of the cells of a strip, from the first column on.
+    pub fn run(&self, strip: u32) -> &[u32]
+        requires rules { AreIndexed self.now }
+        requires there { strip < length (runs_in self.now) }
+        ensures cells { map (cell_at self.now.free.cells) result.now ≡ run_in self.now strip }
+        ensures indices { AreIndices self.now.free.cells result.now }
+    {
+        self.index.runs.list(strip as usize)
+    }
+
+    /// The first cell of a strip.
+    pub fn first(&self, strip: u32) -> &Cell
+        requires rules { AreIndexed self.now }
+        requires there { strip < length (runs_in self.now) }
+        ensures value { result.now ≡ first_of (run_in self.now strip) }
+        ensures x { result.now.at.x < 1024 }
+        ensures z { result.now.at.z < 1024 }
+    {
+        let run = self.run(strip);
+        &self.free.cells.as_slice()[run[0] as usize]
+    }
+
+    /// The strip, other than a cell's own, that holds the cell which it names in a direction.
+    pub fn beyond(&self, strip: u32, dir: u32, at: u32) -> Option<u32>
+        requires rules { AreIndexed self.now }
+        requires dir { dir < 4 }
+        requires there { at < length self.now.free.cells }
+        ensures { result ≡ strip_beyond (runs_in self.now) strip dir (cell_at self.now.free.cells at) }
+    {
+        let to = neighbour(self.table.as_slice(), at, dir as usize);
+        let owner = self.index.owners.get(to as usize).copied();
+        other(owner, strip)
+    }
+}
+
+/// The index in a table at a cell and a direction; past the table one that no cell has.
+fn neighbour(table: &[[u32; 4]], from: u32, dir: usize) -> u32
+    requires { dir < 4 }
+    ensures { result ≡ neighbour table.now from dir }
+{
+    match table.get(from as usize) {
+        Some(next) => next[dir],
+        None => u32::MAX,
+    }
+}
+
+/// A strip, unless it is a given one.
+fn other(owner: Option<u32>, strip: u32) -> Option<u32>
+    ensures { result ≡ option_and_then (λ t. if t == strip then None else Some t) owner }
+{
+    match owner {
+        Some(owner) => { if owner == strip { None } else { Some(owner) } }
+        None => None,
+    }
+}
