@@ -1,0 +1,2 @@
+pub mod MeetingPlaces
+pub mod RimEntries
