@@ -1,2 +1,4 @@
 pub mod MeetingPlaces
 pub mod RimEntries
+pub mod TilesAcross
+pub mod LooseLinks

@@ -1,6 +1,8 @@
 -- Loose: the links over a border as they are found, before they are put in order.
-use Rattle.std.specs.Prelude.{ℕ, List, map, Option, None, slice_index_or}
+use Rattle.std.specs.Prelude.{ℕ, List, [], map, slice_get, Option, None, slice_index_or, option_and_then}
 use Rattle.std.specs.List.{flat_map}
+use Rattle.std.specs.Option.{option_map_or}
+use Rattle.nav_ground.specs.declared.setting.Setting.{Setting}
 use Rattle.nav_ground.specs.Cells.{opposite}
 use Rattle.mesh_types.specs.declared.links.Link.{Link}
 use Rattle.mesh_types.specs.declared.tile.RimEdge.{RimEdge}
@@ -8,6 +10,7 @@ use Rattle.mesh_types.specs.declared.tile.TileMesh.{TileMesh}
 use Rattle.mesh_types.specs.declared.label_runs.Run.{Run}
 use Rattle.mesh_types.specs.Runs.{runs_of, run_with}
 use Rattle.mesh_types.specs.BorderLinks.{along_side, border_link, meetings}
+use Rattle.mesh_types.specs.WholeMesh.{tile_across}
 
 -- the maximal run that begins at a place of an entry where it meets another, if one does
 abbrev pub run_at : RimEdge → RimEdge → ℕ → Option Run
@@ -28,3 +31,8 @@ links_from a b side entries = flat_map (λ (entry : RimEdge). entry_links a b si
 -- the links from a tile to the tile across a side
 abbrev pub loose_links : TileMesh → TileMesh → ℕ → List Link
 loose_links a b side = links_from a b side (along_side side a.rim)
+
+-- the links from a tile over one of its sides
+abbrev pub loose_over : Setting → List TileMesh → TileMesh → ℕ → List Link
+loose_over setting tiles tile side =
+    option_map_or (λ (other : TileMesh). loose_links tile other side) (option_and_then (slice_get tiles) (tile_across setting tile.tile side)) []
