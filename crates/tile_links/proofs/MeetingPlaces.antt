@@ -46,7 +46,7 @@ pub all_met : (a b : RimEdge) (end : ℕ) → length a.pairs ≤ end → prefix_
 all_met a b end past = prefix_len-drop_all (has_label 0) (meetings a b) end (omega (arith, past, length-meetings a b))
 
 -- no pair names none
-meets_none : (pair : Option LevelPair) → are_meeting pair None ≡ false
+pub meets_none : (pair : Option LevelPair) → are_meeting pair None ≡ false
 meets_none None = refl
 meets_none (Some pair) = refl
 

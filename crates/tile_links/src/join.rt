@@ -3,7 +3,7 @@
 ghost use Rattle.std.specs.Prelude.{◌≡◌, ◌≤◌, ◌<◌, ◌++◌, IfOk, OnOk, length};
 ghost use Rattle.nav_ground.specs.Limits.{IsSetting};
 ghost use Rattle.nav_ground.specs.Tiling.{tile_count};
-ghost use Rattle.mesh_types.specs.Soundness.{AreTiles, IsFit};
+ghost use Rattle.mesh_types.specs.Soundness.{AreTiles, IsFit, IsSound};
 ghost use Rattle.mesh_types.specs.WholeMesh.{tile_across, cross_links, mesh_of};
 ghost use Rattle.tile_links.specs.Loose.{loose_over};
 
@@ -18,7 +18,8 @@ use std::alloc::{AllocError, Global};
 pub fn whole(alloc: Global, setting: &Setting, tiles: Vec<TileMesh>) -> Result<Mesh, AllocError>
     requires setting { IsSetting setting.now }
     requires tiles { AreTiles setting.now tiles.items }
-    ensures { IfOk result (λ mesh. mesh ≡ mesh_of setting.now tiles.items) }
+    ensures mesh { IfOk result (λ mesh. mesh ≡ mesh_of setting.now tiles.items) }
+    ensures sound { IfOk result IsSound }
 {
     let tiles = shared(alloc, tiles)?;
     joined(alloc, setting, tiles)
@@ -32,7 +33,8 @@ pub fn joined(
 ) -> Result<Mesh, AllocError>
     requires setting { IsSetting setting.now }
     requires tiles { AreTiles setting.now tiles }
-    ensures { IfOk result (λ mesh. mesh ≡ mesh_of setting.now tiles) }
+    ensures mesh { IfOk result (λ mesh. mesh ≡ mesh_of setting.now tiles) }
+    ensures sound { IfOk result IsSound }
 {
     let mut cross = Vec::with_capacity(alloc, tiles.len())?;
     for tile in tiles.as_slice() {
