@@ -3,4 +3,4 @@ pub mod Starts
 pub mod Labels
 pub mod Sorting
 pub mod LinkOrderLaws
-pub mod OrderedLinks
+pub mod LinksInOrder

@@ -18,9 +18,10 @@ Rises lt (x ∷ xs) = All (λ y. lt y x ≡ false) xs × Rises lt xs
 rises_from_pairs : {X : Type 0} (lt : X → X → Bool) (xs : List X)
     → ((i j : ℕ) (d : X) → i ≤ j → j < length xs → lt (get_or xs j d) (get_or xs i d) ≡ false) → Rises lt xs
 rises_from_pairs lt [] pairs = tt
-rises_from_pairs lt (x ∷ xs) pairs =
-    (λ k d there. pairs 0 (suc k) d (omega arith) (omega (arith, there)),
-    rises_from_pairs lt xs (λ i j d le there. pairs (suc i) (suc j) d (omega (arith, le)) (omega (arith, there))))
+rises_from_pairs lt (x ∷ xs) pairs = (
+  λ k d there. pairs 0 (suc k) d (omega arith) (omega (arith, there)),
+  rises_from_pairs lt xs (λ i j d le there. pairs (suc i) (suc j) d (omega (arith, le)) (omega (arith, there))),
+)
 
 pub rises_from_sorted : {X : Type 0} (lt : X → X → Bool) (xs : List X) → IsStrictWeakOrder lt → IsSortedBy lt xs → Rises lt xs
 rises_from_sorted lt xs order sorted = rises_from_pairs lt xs (sorted_far lt order xs sorted)
@@ -69,8 +70,8 @@ same_in_order lt order tie (x ∷ xs) [] up up' counts =
     absurd (omega (arith, counts (λ w. true), count_yes (λ w. true) x xs refl))
 same_in_order {X = X} lt order tie (x ∷ xs) (y ∷ ys) up up' counts =
     let same : x ≡ y = tie x y
-        (not-true' (no_earlier lt order x y xs ys up' counts))
-        (not-true' (no_earlier lt order y x ys xs up (λ p. sym (counts p)))) in
+    (not-true' (no_earlier lt order x y xs ys up' counts))
+    (not-true' (no_earlier lt order y x ys xs up (λ p. sym (counts p)))) in
     let P : X → Type 0 = λ z. (p : X → Bool) → count_by p (x ∷ xs) ≡ count_by p (z ∷ ys) in
     let rest = same_in_order lt order tie xs ys up.1 up'.1 (rest_counts x xs ys (subst P (sym same) counts)) in
     cc

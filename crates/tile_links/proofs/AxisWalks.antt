@@ -1,9 +1,8 @@
 -- Walks along an axis: the points of a way between two points on one line, in sixteenths.
-use Rattle.std.proofs.Common.{◌≡◌, ℕ, ◌≤◌, ◌<◌, ℤ, pos, ◌≤ℤ◌, ◌<ℤ◌, ◌+ℤ◌, ◌-ℤ◌, ◌*ℤ◌, List, [], ◌∷◌, ap, ◌∙◌, sym, refl, subst, arith}
+use Rattle.std.proofs.Common.{◌≡◌, ℤ, pos, ◌≤ℤ◌, ◌<ℤ◌, ◌+ℤ◌, ◌-ℤ◌, ◌*ℤ◌, [], ◌∷◌, sym, refl, subst, arith}
 use Rattle.std.proofs.lemmas.Int.{ints}
-use Rattle.nav_base.specs.declared.point.Point.{Point}
-use Rattle.nav_base.specs.Point.{from_to, dot_of, cross_of, orient_of}
-use Rattle.nav_base.proofs.Polynomials.{Term, at, number, sum, difference, product, equal}
+use Rattle.nav_base.specs.Point.{dot_of, cross_of, orient_of}
+use Rattle.nav_base.proofs.Polynomials.{at, number, sum, difference, product, equal}
 use Rattle.nav_base.proofs.Signs.{product-not_negative, product-positive}
 use Rattle.mesh_types.specs.BorderLinks.{scaled}
 use Rattle.mesh_types.specs.Soundness.{LiesAlong, along}

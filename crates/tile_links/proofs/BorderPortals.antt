@@ -1,5 +1,5 @@
 -- The portal of a link over a border lies on the edges of both polygons: on the one in its direction, on the other in the opposite one.
-use Rattle.std.proofs.Common.{◌≡◌, ℕ, zero, suc, ◌+◌, ◌-◌, ◌*◌, ◌<◌, ◌≤◌, ℤ, pos, ◌≤ℤ◌, ◌<ℤ◌, ◌+ℤ◌, ap, ◌∙◌, sym, refl, subst, arith}
+use Rattle.std.proofs.Common.{◌≡◌, ℕ, zero, suc, ◌+◌, ◌-◌, ◌*◌, ◌<◌, ◌≤◌, ℤ, pos, ◌≤ℤ◌, ◌+ℤ◌, ap, ◌∙◌, sym, subst, arith}
 use Rattle.std.specs.Prelude.{min}
 use Rattle.std.specs.Int.{div_ceil}
 use Rattle.std.proofs.lemmas.Int.{ints}
@@ -8,7 +8,7 @@ use Rattle.nav_ground.specs.declared.setting.Setting.{Setting}
 use Rattle.nav_ground.specs.declared.cell.Window.{Window}
 use Rattle.nav_ground.specs.Limits.{IsSetting}
 use Rattle.nav_ground.specs.Cells.{opposite}
-use Rattle.nav_ground.specs.Tiling.{tiles_in_row, tile_rows, tile_window}
+use Rattle.nav_ground.specs.Tiling.{tile_window}
 use Rattle.nav_ground.proofs.Places.{begins_inside}
 use Rattle.mesh_types.specs.BorderLinks.{scaled, side_portal}
 use Rattle.mesh_types.specs.Soundness.{LiesOnSide, RunsOver, LiesAlong}

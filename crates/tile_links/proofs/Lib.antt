@@ -6,3 +6,4 @@ pub mod AxisWalks
 pub mod SharedRuns
 pub mod BorderPortals
 pub mod SoundMeshes
+pub mod HandTiles

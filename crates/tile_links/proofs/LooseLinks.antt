@@ -1,5 +1,5 @@
 -- Links as they are found: what holds of each, and that they are those of the definition, put in order.
-use Rattle.std.proofs.Common.{◌≡◌, ℕ, zero, suc, ◌+◌, ◌<◌, ◌≤◌, Bool, true, false, List, [], ◌∷◌, ◌++◌, length, map, filter, get_or, ap, ◌∙◌, sym, refl, subst, arith}
+use Rattle.std.proofs.Common.{◌≡◌, ℕ, ◌+◌, ◌<◌, List, [], ◌∷◌, ◌++◌, length, get_or, ap, ◌∙◌, sym, refl, arith}
 use Rattle.std.specs.Prelude.{All, Some, None, Option, slice_get, ◌==◌, option_and_then}
 use Rattle.std.specs.Option.{option_map_or}
 use Rattle.std.specs.List.{flat_map, range_with_len}
@@ -14,13 +14,12 @@ use Rattle.nav_ground.proofs.Selections.{range-push}
 use Rattle.mesh_types.specs.declared.links.Link.{Link}
 use Rattle.mesh_types.specs.declared.tile.RimEdge.{RimEdge}
 use Rattle.mesh_types.specs.declared.tile.TileMesh.{TileMesh}
-use Rattle.mesh_types.specs.declared.label_runs.Run.{Run}
 use Rattle.mesh_types.specs.Runs.{runs_of}
 use Rattle.mesh_types.specs.LinkOrder.{ordered_links}
 use Rattle.mesh_types.specs.BorderLinks.{along_side, border_link, border_links, meetings}
 use Rattle.mesh_types.specs.WholeMesh.{tile_across, links_over, cross_links}
 use Rattle.mesh_types.specs.Soundness.{IsFit, IsRimOf}
-use Rattle.mesh_types.proofs.OrderedLinks.{ordered_links-parts}
+use Rattle.mesh_types.proofs.LinksInOrder.{ordered_links-parts}
 use Rattle.tile_links.specs.Loose.{pair_links, entry_links, loose_links, loose_over}
 
 -- what holds of all parts holds of the whole

@@ -1,5 +1,5 @@
 -- What the entries of a fit tile's rim name, and links entry by entry.
-use Rattle.std.proofs.Common.{◌≡◌, ℕ, zero, suc, ◌+◌, ◌<◌, ◌≤◌, ℤ, pos, ◌≤ℤ◌, Bool, true, false, cond, List, [], ◌∷◌, ◌++◌, length, take, filter, get_or, ap, ◌∙◌, sym, refl, subst, arith, append_assoc}
+use Rattle.std.proofs.Common.{◌≡◌, ℕ, zero, suc, ◌+◌, ◌<◌, ◌≤◌, pos, Bool, true, false, cond, List, [], ◌∷◌, ◌++◌, length, take, filter, get_or, ap, ◌∙◌, sym, subst, arith, append_assoc}
 use Rattle.std.specs.Prelude.{All, Some, slice_get}
 use Rattle.std.specs.List.{flat_map}
 use Rattle.std.proofs.lemmas.Int.{ints}
@@ -9,14 +9,14 @@ use Rattle.std.proofs.lemmas.List.Elements.{filter_more}
 use Rattle.std.proofs.lemmas.Option.{get_or_from_slice_get, slice_get_within}
 use Rattle.nav_base.specs.declared.point.Point.{Point}
 use Rattle.nav_base.specs.Point.{IsCellCorner}
-use Rattle.nav_base.specs.Convex.{corner_at, place_after}
+use Rattle.nav_base.specs.Convex.{place_after}
 use Rattle.nav_base.proofs.ConvexLaws.{place_after-in}
 use Rattle.nav_ground.specs.declared.setting.Setting.{Setting}
 use Rattle.mesh_types.specs.declared.polygon.Polygon.{Polygon}
 use Rattle.mesh_types.specs.declared.tile.RimEdge.{RimEdge}
 use Rattle.mesh_types.specs.declared.tile.TileMesh.{TileMesh}
 use Rattle.mesh_types.specs.Soundness.{IsFit, IsPolygon, IsRimOf, RunsOver}
-use Rattle.tile_links.specs.Across.{IsNamed, IsOnField, IsWithinField}
+use Rattle.tile_links.specs.Across.{IsNamed}
 
 -- positions that an edge between cell corners runs over lie in the largest field
 within_field : (side : ℕ) (u v : Point) (first end : ℕ) → IsCellCorner u → IsCellCorner v → RunsOver side u v first end → end ≤ 1024

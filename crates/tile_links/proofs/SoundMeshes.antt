@@ -1,29 +1,27 @@
 -- Every mesh of a setting and fit tiles is sound.
-use Rattle.std.proofs.Common.{◌≡◌, ℕ, zero, suc, ◌+◌, ◌/◌, ◌%◌, ◌<◌, ◌≤◌, ℤ, pos, List, [], ◌∷◌, length, map, get_or, Option, ap, ◌∙◌, sym, refl, subst, arith}
-use Rattle.std.specs.Prelude.{All, Some, None, slice_get, option_and_then}
-use Rattle.std.specs.List.{flat_map, range_with_len}
+use Rattle.std.proofs.Common.{◌≡◌, ℕ, zero, suc, ◌+◌, ◌/◌, ◌%◌, ◌<◌, pos, List, [], ◌∷◌, length, get_or, Option, ap, ◌∙◌, sym, refl, subst, arith}
+use Rattle.std.specs.Prelude.{All, Some, slice_get, option_and_then}
+use Rattle.std.specs.List.{range_with_len}
 use Rattle.std.specs.Option.{option_map_or}
 use Rattle.std.proofs.lemmas.List.{get_or-map, length-map}
-use Rattle.std.proofs.lemmas.List.FromFn.{get_or-range_with_len, length-range_with_len}
+use Rattle.std.proofs.lemmas.List.FromFn.{get_or-range_with_len}
 use Rattle.std.proofs.lemmas.List.Elements.{All-map, All-weaker}
 use Rattle.std.proofs.lemmas.Option.{slice_get_read, slice_get_within, get_or_from_slice_get}
-use Rattle.nav_base.specs.declared.point.Point.{Point}
 use Rattle.nav_base.specs.Convex.{corner_at, place_after}
 use Rattle.nav_ground.specs.declared.setting.Setting.{Setting}
 use Rattle.nav_ground.specs.Limits.{IsSetting}
 use Rattle.nav_ground.specs.Cells.{opposite}
 use Rattle.nav_ground.specs.Tiling.{tile_window, tiles_in_row}
 use Rattle.mesh_types.specs.declared.polygon.Polygon.{Polygon}
-use Rattle.mesh_types.specs.declared.links.Link.{Link}
 use Rattle.mesh_types.specs.declared.label_runs.Run.{Run}
 use Rattle.mesh_types.specs.declared.tile.RimEdge.{RimEdge}
 use Rattle.mesh_types.specs.declared.tile.TileMesh.{TileMesh}
 use Rattle.mesh_types.specs.declared.mesh.Mesh.{Mesh}
 use Rattle.mesh_types.specs.Runs.{runs_of}
 use Rattle.mesh_types.specs.BorderLinks.{border_link, line_of, meetings}
-use Rattle.mesh_types.specs.WholeMesh.{tile_across, cross_links, mesh_of, poly_at}
+use Rattle.mesh_types.specs.WholeMesh.{cross_links, mesh_of, poly_at}
 use Rattle.mesh_types.specs.Soundness.{IsFit, AreTiles, IsRimOf, LiesOnSide, RunsOver, LeadsThrough, IsCrossLink, IsSound}
-use Rattle.mesh_types.proofs.OrderedLinks.{All-ordered_links}
+use Rattle.mesh_types.proofs.LinksInOrder.{All-ordered_links}
 use Rattle.tile_links.specs.Across.{fixed_of}
 use Rattle.tile_links.specs.Loose.{loose_links, loose_over}
 use Rattle.tile_links.proofs.TilesAcross.{IsPlacedAcross, LiesBeside, placed_across, tile_at}

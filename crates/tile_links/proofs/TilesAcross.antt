@@ -1,6 +1,6 @@
 -- The tiles across the sides of a tile.
-use Rattle.std.proofs.Common.{◌≡◌, ℕ, zero, suc, ◌+◌, ◌-◌, ◌*◌, ◌/◌, ◌%◌, ◌<◌, ◌≤◌, Bool, true, false, List, [], ◌∷◌, length, get_or, ap, ◌∙◌, sym, refl, subst, arith}
-use Rattle.std.specs.Prelude.{Option, Some, None, slice_get, nat_lt, ◌==◌, if◌then◌else◌}
+use Rattle.std.proofs.Common.{◌≡◌, ℕ, zero, suc, ◌+◌, ◌-◌, ◌*◌, ◌/◌, ◌%◌, ◌<◌, Bool, true, false, List, length, get_or, ap, ◌∙◌, sym, refl, subst, arith}
+use Rattle.std.specs.Prelude.{Some, None, nat_lt, ◌==◌, if◌then◌else◌}
 use Rattle.std.proofs.Math.Nat.{add-mul-mod_self_right, add-mul-div_right, div-eq_of_lt, mod-eq_of_lt, mod-add-div', mod-lt, div-lt_iff_lt-mul, mul_comm}
 use Rattle.std.proofs.lemmas.Bool.{eqb-false, ltb-true}
 use Rattle.nav_ground.specs.declared.setting.Setting.{Setting}

@@ -15,3 +15,6 @@ mod rim;
 
 pub use join::{across, cross_links, joined, whole};
 pub use rim::rim_links;
+
+#[cfg(test)]
+mod tests;

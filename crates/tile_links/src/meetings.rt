@@ -134,10 +134,7 @@ fn pair_at(entry: &RimEdge, position: u32) -> Option<LevelPair>
     ensures { result ≡ pair_at entry.now position }
 {
     if entry.first <= position {
-        entry
-            .pairs
-            .get((position - entry.first) as usize)
-            .copied()
+        entry.pairs.get((position - entry.first) as usize).copied()
     } else {
         None
     }

@@ -32,12 +32,7 @@ pub fn border_link(
             tile: b.tile,
             index: other.poly,
         },
-        portal: side_portal(
-            side,
-            line,
-            entry.first + run.first,
-            entry.first + run.last,
-        ),
+        portal: side_portal(side, line, entry.first + run.first, entry.first + run.last),
     }
 }
 

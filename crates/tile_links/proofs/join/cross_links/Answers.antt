@@ -7,7 +7,7 @@ use Rattle.mesh_types.specs.declared.links.Link.{Link}
 use Rattle.mesh_types.specs.LinkIndex.{AreOrderedLinks, AreBelow}
 use Rattle.mesh_types.specs.LinkOrder.{ordered_links}
 use Rattle.mesh_types.specs.WholeMesh.{cross_links}
-use Rattle.mesh_types.proofs.OrderedLinks.{ordered_links-polygons, All-ordered_links}
+use Rattle.mesh_types.proofs.LinksInOrder.{ordered_links-polygons, All-ordered_links}
 use Rattle.tile_links.specs.Loose.{loose_over}
 use Rattle.tile_links.proofs.LooseLinks.{one_more_side, all_leave_tile, cross_links_found}
 use Rattle.tile_links.proofs.join.cross_links.Goals as goal

@@ -2,7 +2,6 @@ use Rattle.std.proofs.Common.{◌≡◌, ◌∙◌, ap, sym, subst, arith, lengt
 use Rattle.std.proofs.lemmas.List.{take_all}
 use Rattle.mesh_types.specs.declared.links.Link.{Link}
 use Rattle.mesh_types.specs.declared.mesh.Mesh.{Mesh}
-use Rattle.mesh_types.specs.declared.tile.TileMesh.{TileMesh}
 use Rattle.mesh_types.specs.WholeMesh.{cross_links, mesh_of}
 use Rattle.mesh_types.specs.Soundness.{IsSound}
 use Rattle.tile_links.proofs.SoundMeshes.{IsSound-mesh_of}

@@ -1,7 +1,6 @@
-use Rattle.std.proofs.Common.{◌≡◌, ◌<◌, ◌++◌, ◌∙◌, sym, ap, subst, arith, length, refl}
+use Rattle.std.proofs.Common.{◌<◌, ◌++◌, ◌∙◌, sym, ap, subst, arith, length, refl}
 use Rattle.std.proofs.lemmas.Option.{slice_get_read}
 use Rattle.mesh_types.specs.declared.tile.TileMesh.{TileMesh}
-use Rattle.mesh_types.specs.WholeMesh.{tile_across}
 use Rattle.tile_links.specs.Across.{AreAcross}
 use Rattle.tile_links.specs.Loose.{loose_links}
 use Rattle.tile_links.proofs.TilesAcross.{across_there, across_of}

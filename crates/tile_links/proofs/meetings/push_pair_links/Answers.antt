@@ -1,6 +1,6 @@
-use Rattle.std.proofs.Common.{◌≡◌, ◌++◌, arith, ap, sym, ◌∙◌, map, length}
+use Rattle.std.proofs.Common.{◌++◌, arith, ap, sym, ◌∙◌, map, length}
 use Rattle.std.specs.List.{filter_map, range_with_len}
-use Rattle.mesh_types.specs.BorderLinks.{border_link, meetings}
+use Rattle.mesh_types.specs.BorderLinks.{border_link}
 use Rattle.mesh_types.specs.Runs.{runs_of}
 use Rattle.tile_links.specs.Loose.{run_at}
 use Rattle.tile_links.proofs.MeetingPlaces.{length-meetings, no_run, nothing_before, nothing_after, one_more_found}

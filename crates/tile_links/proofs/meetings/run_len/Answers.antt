@@ -1,4 +1,4 @@
-use Rattle.std.proofs.Common.{◌≡◌, ◌+◌, arith, sym, ◌∙◌}
+use Rattle.std.proofs.Common.{arith, sym, ◌∙◌}
 use Rattle.tile_links.proofs.MeetingPlaces.{one_more_met, none_met, all_met}
 use Rattle.tile_links.proofs.meetings.run_len.Goals as goal
 use Rattle.tile_links.proofs.meetings.run_len.Goals.{then-loop-end-test+else-are_met, else-loop-end-test}

@@ -1,11 +1,10 @@
-use Rattle.std.proofs.Common.{◌≡◌, ◌<◌, ◌++◌, arith, ap, sym, ◌∙◌, get_or, length}
+use Rattle.std.proofs.Common.{◌<◌, arith, ap, ◌∙◌, get_or, length}
 use Rattle.std.specs.Prelude.{◌==◌}
 use Rattle.std.specs.Global.{Vec}
 use Rattle.std.proofs.lemmas.Bool.{eq-eqb, ne_eqb}
 use Rattle.nav_ground.specs.Cells.{opposite}
 use Rattle.mesh_types.specs.declared.links.Link.{Link}
 use Rattle.mesh_types.specs.declared.tile.RimEdge.{RimEdge}
-use Rattle.mesh_types.specs.BorderLinks.{along_side}
 use Rattle.tile_links.specs.Loose.{pair_links}
 use Rattle.tile_links.proofs.RimEntries.{named_in, one_more_kept, one_more_left}
 use Rattle.tile_links.proofs.rim.push_entry_links.Goals as goal

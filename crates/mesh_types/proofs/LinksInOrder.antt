@@ -26,8 +26,14 @@ put_counts p link (other ∷ links) = by_case (before link other) refl (put_coun
     by_case true is rest = ap (λ b. count_by p (if b then link ∷ other ∷ links else other ∷ put_link link links)) is
     by_case false is rest =
         ap (λ b. count_by p (if b then link ∷ other ∷ links else other ∷ put_link link links)) is
-        ∙ omega (arith, rest, sum_by-cons (λ l. cond (p l) 1 0) other (put_link link links), sum_by-cons (λ l. cond (p l) 1 0) link links,
-        sum_by-cons (λ l. cond (p l) 1 0) link (other ∷ links), sum_by-cons (λ l. cond (p l) 1 0) other links)
+        ∙ omega (
+          arith,
+          rest,
+          sum_by-cons (λ l. cond (p l) 1 0) other (put_link link links),
+          sum_by-cons (λ l. cond (p l) 1 0) link links,
+          sum_by-cons (λ l. cond (p l) 1 0) link (other ∷ links),
+          sum_by-cons (λ l. cond (p l) 1 0) other links,
+        )
 
 -- links put in order are the same links
 pub ordered_links-count : (p : Link → Bool) (links : List Link) → count_by p (ordered_links links) ≡ count_by p links
@@ -60,11 +66,12 @@ put_rises link (other ∷ links) up = by_case (before link other) refl (put_rise
   where
     by_case : (b : Bool) → before link other ≡ b → Rises before (put_link link links) → Rises before (put_link link (other ∷ links))
     by_case true is rest =
-        rw is
-        (All-cons (λ l. before l link ≡ false) other links (links_order.one_way link other is)
-        (All-weaker (λ l. before l other ≡ false) (λ l. before l link ≡ false)
-        (λ l after. links_order.chain l other link after (links_order.one_way link other is)) links up.0),
-        up)
+        rw is (
+          All-cons (λ l. before l link ≡ false) other links (links_order.one_way link other is)
+              (All-weaker (λ l. before l other ≡ false) (λ l. before l link ≡ false)
+              (λ l after. links_order.chain l other link after (links_order.one_way link other is)) links up.0),
+          up,
+        )
     by_case false is rest = rw is (put_all (λ l. before l other ≡ false) link links is up.0, rest)
 
 -- links put in order rise
