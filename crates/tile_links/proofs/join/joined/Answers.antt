@@ -1,0 +1,24 @@
+use Rattle.std.proofs.Common.{◌≡◌, ◌∙◌, ap, sym, subst, arith, length, List, map}
+use Rattle.std.proofs.lemmas.List.{take_all}
+use Rattle.mesh_types.specs.declared.links.Link.{Link}
+use Rattle.mesh_types.specs.declared.mesh.Mesh.{Mesh}
+use Rattle.mesh_types.specs.WholeMesh.{cross_links, mesh_of}
+use Rattle.mesh_types.specs.Soundness.{IsSound}
+use Rattle.tile_links.proofs.SoundMeshes.{IsSound-mesh_of}
+use Rattle.tile_links.proofs.join.joined.Goals as goal
+
+-- the mesh that is handed out
+made : (c : goal.After-from_vec) → ◌≡◌ {A = Mesh} (record { setting = c.args.setting.now; tiles = c.args.tiles; cross = c.from_vec.result })
+    (mesh_of c.args.setting.now c.args.tiles)
+unfolding mesh_of
+made c =
+    ap (λ (cross : List (List Link)). record { setting = c.args.setting.now; tiles = c.args.tiles; cross = cross })
+    (c.from_vec.ensures ∙ c.loop-tile.invariant
+    ∙ ap (map (cross_links c.args.setting.now c.args.tiles))
+    (take_all c.loop-tile.tile-index c.args.tiles (omega (arith, c.loop-tile-test.false, ap length c.as_slice-tile-items.ensures))))
+
+pub returns-clause-mesh : goal.returns-clause-mesh
+returns-clause-mesh c = made c
+
+pub returns-clause-sound : goal.returns-clause-sound
+returns-clause-sound c = subst IsSound (sym (made c)) (IsSound-mesh_of c.args.setting.now c.args.tiles c.requires.setting c.requires.tiles)

@@ -1,0 +1,3 @@
+pub mod Across
+pub mod Loose
+pub mod ByHand

@@ -1,0 +1,123 @@
+//! Tiles joined into one mesh.
+
+ghost use Rattle.std.specs.Prelude.{◌≡◌, ◌≤◌, ◌<◌, ◌++◌, IfOk, OnOk, length};
+ghost use Rattle.nav_ground.specs.Limits.{IsSetting};
+ghost use Rattle.nav_ground.specs.Tiling.{tile_count};
+ghost use Rattle.mesh_types.specs.Soundness.{AreTiles, IsFit, IsSound};
+ghost use Rattle.mesh_types.specs.WholeMesh.{tile_across, cross_links, mesh_of};
+ghost use Rattle.tile_links.specs.Loose.{loose_over};
+
+use crate::rim::push_links;
+use mesh_types::{Link, Links, Mesh, TileMesh, order_links};
+use nav_ground::{Setting, TileNo};
+use nav_list::Items;
+use nav_share::Shared;
+use std::alloc::{AllocError, Global};
+
+/// The mesh of a setting and its tiles: the tiles, and for each of them the links that leave it over its sides.
+pub fn whole(alloc: Global, setting: &Setting, tiles: Vec<TileMesh>) -> Result<Mesh, AllocError>
+    requires setting { IsSetting setting.now }
+    requires tiles { AreTiles setting.now tiles.items }
+    ensures mesh { IfOk result (λ mesh. mesh ≡ mesh_of setting.now tiles.items) }
+    ensures sound { IfOk result IsSound }
+{
+    let tiles = shared(alloc, tiles)?;
+    joined(alloc, setting, tiles)
+}
+
+/// What `whole` does, for tiles that may have other owners already.
+pub fn joined(
+    alloc: Global,
+    setting: &Setting,
+    tiles: Items<Shared<TileMesh>>,
+) -> Result<Mesh, AllocError>
+    requires setting { IsSetting setting.now }
+    requires tiles { AreTiles setting.now tiles }
+    ensures mesh { IfOk result (λ mesh. mesh ≡ mesh_of setting.now tiles) }
+    ensures sound { IfOk result IsSound }
+{
+    let mut cross = Vec::with_capacity(alloc, tiles.len())?;
+    for tile in tiles.as_slice() {
+        let links = cross_links(alloc, setting, tiles.as_slice(), tile.get())?;
+        cross.push(Shared::new(alloc, links)?)?;
+    }
+    Ok(Mesh {
+        setting: *setting,
+        tiles,
+        cross: Items::from_vec(cross),
+    })
+}
+
+/// Tiles as values that several meshes can share.
+fn shared(alloc: Global, tiles: Vec<TileMesh>) -> Result<Items<Shared<TileMesh>>, AllocError>
+    ensures { IfOk result (λ shared. shared ≡ tiles.items) }
+{
+    let mut shared = Vec::with_capacity(alloc, tiles.len())?;
+    for tile in tiles {
+        shared.push(Shared::new(alloc, tile)?)?;
+    }
+    Ok(Items::from_vec(shared))
+}
+
+/// The links that leave a tile over its four sides for other tiles, in the order of links.
+pub fn cross_links(
+    alloc: Global,
+    setting: &Setting,
+    tiles: &[Shared<TileMesh>],
+    tile: &TileMesh,
+) -> Result<Links, AllocError>
+    requires setting { IsSetting setting.now }
+    requires tiles { AreTiles setting.now tiles.now }
+    requires tile { IsFit setting.now tile.now }
+    requires few { length tile.now.polys ≤ 8000000 }
+    ensures { IfOk result (λ links. links ≡ cross_links setting.now tiles.now tile.now) }
+{
+    let mut links = Vec::new(alloc);
+    for side in 0..4 {
+        push_side_links(&mut links, setting, tiles, tile, side)?;
+    }
+    order_links(links.as_mut_slice());
+    Links::new(alloc, links, tile.polys.len() as u32)
+}
+
+/// Appends the links that leave a tile over one of its sides.
+fn push_side_links(
+    links: &mut Vec<Link>,
+    setting: &Setting,
+    tiles: &[Shared<TileMesh>],
+    tile: &TileMesh,
+    side: u32,
+) -> Result<(), AllocError>
+    requires setting { IsSetting setting.now }
+    requires tiles { AreTiles setting.now tiles.now }
+    requires tile { IsFit setting.now tile.now }
+    requires side { side < 4 }
+    ensures { OnOk result (links.new.items ≡ links.old.items ++ loose_over setting.now tiles.now tile.now side) }
+{
+    if let Some(other) = across(setting, tile.tile, side) {
+        push_links(links, tile, tiles[other as usize].get(), side)?;
+    }
+    Ok(())
+}
+
+/// The tile across a side of a tile, if there is one.
+pub fn across(setting: &Setting, tile: TileNo, side: u32) -> Option<TileNo>
+    requires setting { IsSetting setting.now }
+    requires there { tile < tile_count setting.now }
+    ensures { result ≡ tile_across setting.now tile side }
+{
+    let columns = setting.width.div_ceil(setting.tile);
+    let rows = setting.depth.div_ceil(setting.tile);
+    let column = tile % columns;
+    let row = tile / columns;
+    match side {
+        0 if column == 0 => None,
+        0 => Some(tile - 1),
+        1 if row + 1 < rows => Some(tile + columns),
+        1 => None,
+        2 if column + 1 < columns => Some(tile + 1),
+        2 => None,
+        _ if row == 0 => None,
+        _ => Some(tile - columns),
+    }
+}

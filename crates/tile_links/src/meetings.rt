@@ -1,0 +1,141 @@
+//! Where two rim entries meet: the runs of positions at which each names the other's level.
+
+ghost use Rattle.std.specs.Prelude.{◌≡◌, ℕ, ◌+◌, ◌<◌, ◌≤◌, ◌++◌, [], map, drop, length, OnOk, IfSome, None};
+ghost use Rattle.std.specs.List.{prefix_len, cons_option};
+ghost use Rattle.mesh_types.specs.Runs.{has_label};
+ghost use Rattle.mesh_types.specs.BorderLinks.{are_meeting, pair_at, meetings, border_link};
+ghost use Rattle.tile_links.specs.Across.{IsNamed, IsWithinField};
+ghost use Rattle.tile_links.specs.Loose.{pair_links, run_at};
+
+use crate::portals::border_link;
+use mesh_types::{LevelPair, Link, RimEdge, Run, TileMesh};
+use std::alloc::AllocError;
+
+/// Appends the links from an entry of tile `a` on a side to an entry of tile `b` across: one for each maximal run of positions where they
+/// meet. Only positions that both have are looked at.
+#[tactic(auto, unfolding(mesh_types::specs::Runs::runs_of))]
+pub fn push_pair_links(
+    links: &mut Vec<Link>,
+    a: &TileMesh,
+    b: &TileMesh,
+    side: u32,
+    entry: &RimEdge,
+    other: &RimEdge,
+) -> Result<(), AllocError>
+    requires entry { IsNamed a.now entry.now }
+    requires other { IsWithinField other.now }
+    ensures { OnOk result (links.new.items ≡ links.old.items ++ pair_links a.now b.now side entry.now other.now) }
+{
+    for place in shared_from(entry, other)..shared_to(entry, other) {
+        push_run_link(links, a, b, side, entry, other, place)?;
+    }
+    Ok(())
+}
+
+/// How many places of an entry come before the positions of another.
+fn shared_from(entry: &RimEdge, other: &RimEdge) -> usize
+    ensures most { result ≤ length entry.now.pairs }
+    ensures none { (k : ℕ) → k < result → pair_at other.now (entry.now.first + k) ≡ None }
+{
+    let before = other.first.saturating_sub(entry.first) as usize;
+    before.min(entry.pairs.len())
+}
+
+/// The place of an entry from which on no position is another's.
+fn shared_to(entry: &RimEdge, other: &RimEdge) -> usize
+    requires { IsWithinField other.now }
+    ensures most { result ≤ length entry.now.pairs }
+    ensures none { (k : ℕ) → result ≤ k → k < length entry.now.pairs → pair_at other.now (entry.now.first + k) ≡ None }
+{
+    let end = other.first as usize + other.pairs.len();
+    end.saturating_sub(entry.first as usize)
+        .min(entry.pairs.len())
+}
+
+/// Appends the link along the run that begins at a place of an entry, if one does.
+fn push_run_link(
+    links: &mut Vec<Link>,
+    a: &TileMesh,
+    b: &TileMesh,
+    side: u32,
+    entry: &RimEdge,
+    other: &RimEdge,
+    place: usize,
+) -> Result<(), AllocError>
+    requires entry { IsNamed a.now entry.now }
+    requires there { place < length entry.now.pairs }
+    ensures { OnOk result (links.new.items ≡ links.old.items ++ map (border_link a.now b.now side entry.now other.now)
+        (cons_option (run_at entry.now other.now place) [])) }
+{
+    if let Some(run) = run_from(entry, other, place) {
+        links.push(border_link(a, b, side, entry, other, run))?;
+    }
+    Ok(())
+}
+
+/// The maximal run of places of an entry where it meets another that begins at a place, if one does.
+#[tactic(auto, using(crate::proofs::MeetingPlaces::meeting_at))]
+fn run_from(entry: &RimEdge, other: &RimEdge, place: usize) -> Option<Run>
+    requires inside { IsWithinField entry.now }
+    requires there { place < length entry.now.pairs }
+    ensures value { result ≡ run_at entry.now other.now place }
+    ensures inside { IfSome result (λ run. (run.first ≤ run.last) × (run.last < length entry.now.pairs)) }
+{
+    if !are_met(entry, other, place) {
+        return None;
+    }
+    if place != 0 && are_met(entry, other, place - 1) {
+        return None;
+    }
+    let more = run_len(entry, other, place + 1);
+    Some(Run {
+        first: place as u32,
+        last: (place + more) as u32,
+        label: 0,
+    })
+}
+
+/// At how many places of an entry, from one on, it meets another without a break.
+fn run_len(entry: &RimEdge, other: &RimEdge, first: usize) -> usize
+    requires inside { IsWithinField entry.now }
+    requires there { first ≤ length entry.now.pairs }
+    ensures value { result ≡ prefix_len (has_label 0) (drop first (meetings entry.now other.now)) }
+    ensures most { first + result ≤ length entry.now.pairs }
+{
+    let mut end = first;
+    while end < entry.pairs.len() && are_met(entry, other, end) {
+        end += 1;
+    }
+    end - first
+}
+
+/// Whether an entry meets another at one of its places.
+fn are_met(entry: &RimEdge, other: &RimEdge, place: usize) -> bool
+    requires inside { IsWithinField entry.now }
+    requires there { place < length entry.now.pairs }
+    ensures { result ≡ are_meeting (pair_at entry.now (entry.now.first + place)) (pair_at other.now (entry.now.first + place)) }
+{
+    let position = entry.first + place as u32;
+    are_meeting(pair_at(entry, position), pair_at(other, position))
+}
+
+/// Whether two pairs of levels name each other.
+fn are_meeting(a: Option<LevelPair>, b: Option<LevelPair>) -> bool
+    ensures { result ≡ are_meeting a b }
+{
+    match (a, b) {
+        (Some(a), Some(b)) => a.own == b.other && a.other == b.own,
+        _ => false,
+    }
+}
+
+/// The levels that an entry has at a position, if it has some there.
+fn pair_at(entry: &RimEdge, position: u32) -> Option<LevelPair>
+    ensures { result ≡ pair_at entry.now position }
+{
+    if entry.first <= position {
+        entry.pairs.get((position - entry.first) as usize).copied()
+    } else {
+        None
+    }
+}

@@ -1,0 +1,112 @@
+//! The link from one rim entry to another along a run of positions, and its portal.
+
+ghost use Rattle.std.specs.Prelude.{◌≡◌, ◌+◌, ◌<◌, ◌≤◌, pos, ◌≤ℤ◌};
+ghost use Rattle.nav_base.specs.Convex.{corner_at};
+ghost use Rattle.mesh_types.specs.BorderLinks.{border_link, line_of, scaled, side_portal};
+ghost use Rattle.tile_links.specs.Across.{IsNamed, IsOnField};
+
+use mesh_types::{Link, PolyRef, Polygon, Portal, RimEdge, Run, TileMesh};
+use nav_base::Point;
+
+/// The link from an entry of tile `a` on a side to an entry of tile `b` across, along a run of the first one's positions.
+pub fn border_link(
+    a: &TileMesh,
+    b: &TileMesh,
+    side: u32,
+    entry: &RimEdge,
+    other: &RimEdge,
+    run: Run,
+) -> Link
+    requires entry { IsNamed a.now entry.now }
+    requires run { (run.first ≤ run.last) × (entry.now.first + run.last < 1024) }
+    ensures { result ≡ border_link a.now b.now side entry.now other.now run }
+{
+    let line = line_of(side, a.polys.as_slice(), entry);
+    Link {
+        from: PolyRef {
+            tile: a.tile,
+            index: entry.poly,
+        },
+        edge: entry.edge,
+        to: PolyRef {
+            tile: b.tile,
+            index: other.poly,
+        },
+        portal: side_portal(side, line, entry.first + run.first, entry.first + run.last),
+    }
+}
+
+/// Where the edge of an entry along a side lies, in whole cells: x for the sides 0 and 2, z for the sides 1 and 3.
+fn line_of(side: u32, polys: &[Polygon], entry: &RimEdge) -> i32
+    ensures { result ≡ line_of side polys.now entry.now }
+{
+    match polys.get(entry.poly as usize) {
+        Some(polygon) => along(side, corner_at(polygon, entry.edge)),
+        None => 0,
+    }
+}
+
+/// The coordinate of a point that is the same all along a side.
+fn along(side: u32, corner: Point) -> i32
+    ensures { result ≡ Rattle.tile_links.specs.Across.fixed_of side corner }
+{
+    match side {
+        0 => corner.x,
+        1 => corner.z,
+        2 => corner.x,
+        _ => corner.z,
+    }
+}
+
+/// The corner of a polygon at a place; the origin where there is no such corner.
+fn corner_at(polygon: &Polygon, place: u32) -> Point
+    ensures { result ≡ corner_at polygon.now.corners place }
+{
+    let corners = polygon.corners.as_slice();
+    if (place as usize) < corners.len() {
+        corners[place as usize]
+    } else {
+        Point { x: 0, z: 0 }
+    }
+}
+
+/// The portal through a side that lies at a line, from one position to the end of another. Seen from inside, side 0 runs downward, side 1
+/// to the left, side 2 upward and side 3 to the right.
+fn side_portal(side: u32, line: i32, first: u32, last: u32) -> Portal
+    requires line { IsOnField line }
+    requires run { (first ≤ last) × (last < 1024) }
+    ensures { result ≡ side_portal side line first last }
+{
+    let first = first as i32;
+    let end = last as i32 + 1;
+    match side {
+        0 => Portal {
+            left: scaled(line, first),
+            right: scaled(line, end),
+        },
+        1 => Portal {
+            left: scaled(first, line),
+            right: scaled(end, line),
+        },
+        2 => Portal {
+            left: scaled(line, end),
+            right: scaled(line, first),
+        },
+        _ => Portal {
+            left: scaled(end, line),
+            right: scaled(first, line),
+        },
+    }
+}
+
+/// A point in sixteenths, from whole cells.
+fn scaled(x: i32, z: i32) -> Point
+    requires x { IsOnField x }
+    requires z { IsOnField z }
+    ensures { result ≡ scaled x z }
+{
+    Point {
+        x: 16 * x,
+        z: 16 * z,
+    }
+}
