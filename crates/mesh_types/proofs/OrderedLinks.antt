@@ -73,10 +73,11 @@ put_up tile link (other ∷ links) here each up =
     by_case : (b : Bool) → is_lt (link_cmp link other) ≡ b → Up (put_link link links) → Up (put_link link (other ∷ links))
     by_case true is rest =
         let least = first_is tile link other here there is in
-        rw is
-        (All-cons (λ (l : Link). link.from.index ≤ l.from.index) other links least
-        (All-weaker (λ (l : Link). other.from.index ≤ l.from.index) (λ (l : Link). link.from.index ≤ l.from.index) (λ l after. omega (arith, least, after)) links up.0),
-        up)
+        rw is (
+          All-cons (λ (l : Link). link.from.index ≤ l.from.index) other links least
+              (All-weaker (λ (l : Link). other.from.index ≤ l.from.index) (λ (l : Link). link.from.index ≤ l.from.index) (λ l after. omega (arith, least, after)) links up.0),
+          up,
+        )
     by_case false is rest =
         rw is (put_all (λ (l : Link). other.from.index ≤ l.from.index) link links (other_is tile link other here there is) up.0, rest)
 
