@@ -4,5 +4,4 @@ pub mod Labels
 pub mod Sorting
 pub mod LinkOrderLaws
 pub mod RunLaws
-pub mod OrderedLinks
 pub mod LinksInOrder

@@ -18,7 +18,7 @@ use Rattle.mesh_types.specs.Runs.{runs_of, label_if}
 use Rattle.mesh_types.specs.Soundness.{IsPolygon, IsInSquare, IsInnerLink, IsRimOf, RunsOver, IsFit}
 use Rattle.mesh_types.specs.StripMeshes.{some_cell, strip_runs, strip_polygon, strip_beyond, strip_link, strip_links, strip_links_over, strip_rim, strip_rim_over, rim_edge, level_pair, is_crossing, outside_of, strip_mesh_of}
 use Rattle.mesh_types.proofs.RunLaws.{IsRunOf, runs_are_runs}
-use Rattle.mesh_types.proofs.OrderedLinks.{ordered_all}
+use Rattle.mesh_types.proofs.LinksInOrder.{All-ordered_links}
 use Rattle.strip_mesh.proofs.Parts.{gathered_all}
 use Rattle.strip_mesh.proofs.RowLaws.{IsRow, row_is, own_all}
 use Rattle.strip_mesh.proofs.PolygonLaws.{polygon_sound, polygon_inside}
@@ -42,7 +42,7 @@ unfolding strip_mesh_of
 links_fit setting free cut =
     let runs = strip_runs free.cells in
     let P : Link → Type 0 = IsInnerLink (strip_mesh_of setting free) in
-    ordered_all P (flat_map (λ s. flat_map (strip_links_over free.tile runs s) (range_with_len 0 4)) (range_with_len 0 (length runs)))
+    All-ordered_links P (flat_map (λ s. flat_map (strip_links_over free.tile runs s) (range_with_len 0 4)) (range_with_len 0 (length runs)))
     (gathered_all P (λ s. flat_map (strip_links_over free.tile runs s) (range_with_len 0 4)) 0 (length runs)
     (λ s least most. gathered_all P (strip_links_over free.tile runs s) 0 4
     (λ edge least' most'.

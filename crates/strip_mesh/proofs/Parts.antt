@@ -11,7 +11,7 @@ use Rattle.mesh_types.specs.Runs.{runs_of}
 use Rattle.mesh_types.specs.LinkIndex.{AreOrderedLinks, AreBelow}
 use Rattle.mesh_types.specs.StripMeshes.{strip_beyond, strip_link, strip_links_over, strip_links, outside_of}
 use Rattle.mesh_types.proofs.RunLaws.{runs_are_runs}
-use Rattle.mesh_types.proofs.OrderedLinks.{ordered_all, ordered_by_polygon}
+use Rattle.mesh_types.proofs.LinksInOrder.{All-ordered_links, ordered_links-polygons}
 use Rattle.strip_mesh.specs.declared.tile_strips.TileStrips.{TileStrips}
 use Rattle.strip_mesh.specs.Indexed.{AreIndexed, runs_in, run_in}
 use Rattle.strip_mesh.proofs.Counts.{run_cells, run_indices, run_length}
@@ -54,11 +54,11 @@ leaves_tile tile runs =
 pub links_ordered : (tile : ℕ) (runs : List (List Cell)) → AreOrderedLinks (strip_links tile runs)
 links_ordered tile runs =
     let links = flat_map (λ s. flat_map (strip_links_over tile runs s) (range_with_len 0 4)) (range_with_len 0 (length runs)) in
-    ordered_by_polygon tile links
+    ordered_links-polygons tile links
     (All-weaker (λ (l : Link). (l.from.tile ≡ tile) × (l.from.index < length runs)) (λ (l : Link). l.from.tile ≡ tile) (λ l both. both.0) links (leaves_tile tile runs))
 
 pub links_below : (tile : ℕ) (runs : List (List Cell)) → AreBelow (length runs) (strip_links tile runs)
 links_below tile runs =
     let links = flat_map (λ s. flat_map (strip_links_over tile runs s) (range_with_len 0 4)) (range_with_len 0 (length runs)) in
-    ordered_all (λ (l : Link). l.from.index < length runs) links
+    All-ordered_links (λ (l : Link). l.from.index < length runs) links
     (All-weaker (λ (l : Link). (l.from.tile ≡ tile) × (l.from.index < length runs)) (λ (l : Link). l.from.index < length runs) (λ l both. both.1) links (leaves_tile tile runs))
