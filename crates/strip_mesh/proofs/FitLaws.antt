@@ -68,8 +68,8 @@ entry_fits setting free cut in_tile s edge part there small is =
     let order : part.first ≤ part.last = is.order in
     let last-in : part.last < length own = omega (arith, is.inside, length-map own crossing) in
     let placed = rim_placed edge window own part.first part.last small (row_is free.cells cut s there) (each_inside setting free cut in_tile s [] there) order last-in
-        (part_at_side window (outside_of edge) own part is part.first (omega arith) order (omega (arith, order, last-in)))
-        (part_at_side window (outside_of edge) own part is part.last order (omega arith) last-in) in
+    (part_at_side window (outside_of edge) own part is part.first (omega arith) order (omega (arith, order, last-in)))
+    (part_at_side window (outside_of edge) own part is part.last order (omega arith) last-in) in
     let many : length (map (level_pair (outside_of edge)) (between part.first (part.last + 1) own)) ≡ part.last + 1 - part.first =
     length-map (between part.first (part.last + 1) own) (level_pair (outside_of edge)) ∙ part_length own part.first part.last order last-in in
     record {

@@ -112,9 +112,9 @@ link_leads cells cut tile s edge part there small is =
     let last-in : part.last < length own = omega (arith, is.inside, length-map own beyond) in
     let first-in : part.first < length own = omega (arith, last-in, order) in
     let f = beyond_found runs s (outside_of edge) part.label (get_or own part.first some_cell)
-        (sym (get_or-map beyond own part.first some_cell None first-in) ∙ is.labelled part.first (omega arith) order) in
+    (sym (get_or-map beyond own part.first some_cell None first-in) ∙ is.labelled part.first (omega arith) order) in
     let l = beyond_found runs s (outside_of edge) part.label (get_or own part.last some_cell)
-        (sym (get_or-map beyond own part.last some_cell None last-in) ∙ is.labelled part.last order (omega arith)) in
+    (sym (get_or-map beyond own part.last some_cell None last-in) ∙ is.labelled part.last order (omega arith)) in
     let at = placed cells cut edge s part.label part.first part.last there small order last-in f l in
     record {
       leaves = strip_polygon own;

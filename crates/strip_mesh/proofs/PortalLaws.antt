@@ -23,7 +23,7 @@ portal_out zero own first last small order inside meets = record {
 portal_out (suc zero) own first last small order inside meets =
     let same : (first_of own).at.x + length own - 1 + 1 ≡ (first_of own).at.x + last + 1 = omega (arith, meets) in
     let P : ℕ → Type 0 = λ x. LiesAlong (sixteenths ((first_of own).at.x + length own - 1 + 1) (first_of own).at.z)
-        (sixteenths ((first_of own).at.x + length own - 1 + 1) ((first_of own).at.z + 1)) (sixteenths x (first_of own).at.z) (sixteenths x ((first_of own).at.z + 1)) in
+    (sixteenths ((first_of own).at.x + length own - 1 + 1) ((first_of own).at.z + 1)) (sixteenths x (first_of own).at.z) (sixteenths x ((first_of own).at.z + 1)) in
     record {
       there = omega arith;
       lies = subst P same (toward_top ((first_of own).at.x + length own - 1 + 1) (first_of own).at.z ((first_of own).at.z + 1) (first_of own).at.z
@@ -37,7 +37,7 @@ portal_out (suc (suc zero)) own first last small order inside meets = record {
 portal_out (suc (suc (suc zero))) own first last small order inside meets =
     let same : (first_of own).at.x ≡ (first_of own).at.x + first = omega (arith, meets) in
     let P : ℕ → Type 0 = λ x. LiesAlong (sixteenths (first_of own).at.x ((first_of own).at.z + 1))
-        (sixteenths (first_of own).at.x (first_of own).at.z) (sixteenths x ((first_of own).at.z + 1)) (sixteenths x (first_of own).at.z) in
+    (sixteenths (first_of own).at.x (first_of own).at.z) (sixteenths x ((first_of own).at.z + 1)) (sixteenths x (first_of own).at.z) in
     record {
       there = omega arith;
       lies = subst P same (toward_bottom (first_of own).at.x ((first_of own).at.z + 1) (first_of own).at.z ((first_of own).at.z + 1) (first_of own).at.z
@@ -61,7 +61,7 @@ pub portal_in : (edge : ℕ) (own other : List Cell) (first last : ℕ) → edge
     → IsPortalIn (strip_polygon other) (edge_portal edge ((first_of own).at.x + first) ((first_of own).at.x + last) (first_of own).at.z)
 portal_in zero own other first last small order some beyond =
     let P : ℕ → Type 0 = λ z. LiesAlong (sixteenths ((first_of other).at.x + length other - 1 + 1) ((first_of other).at.z + 1))
-        (sixteenths (first_of other).at.x ((first_of other).at.z + 1)) (sixteenths ((first_of own).at.x + last + 1) z) (sixteenths ((first_of own).at.x + first) z) in
+    (sixteenths (first_of other).at.x ((first_of other).at.z + 1)) (sixteenths ((first_of own).at.x + last + 1) z) (sixteenths ((first_of own).at.x + first) z) in
     record {
       edge = 2;
       there = omega arith;
@@ -70,7 +70,7 @@ portal_in zero own other first last small order some beyond =
     }
 portal_in (suc zero) own other first last small order some beyond =
     let P : ℕ → ℕ → Type 0 = λ x z. LiesAlong (sixteenths (first_of other).at.x ((first_of other).at.z + 1)) (sixteenths (first_of other).at.x (first_of other).at.z)
-        (sixteenths x (z + 1)) (sixteenths x z) in
+    (sixteenths x (z + 1)) (sixteenths x z) in
     record {
       edge = 3;
       there = omega arith;
@@ -80,7 +80,7 @@ portal_in (suc zero) own other first last small order some beyond =
     }
 portal_in (suc (suc zero)) own other first last small order some beyond =
     let P : ℕ → Type 0 = λ z. LiesAlong (sixteenths (first_of other).at.x (first_of other).at.z)
-        (sixteenths ((first_of other).at.x + length other - 1 + 1) (first_of other).at.z) (sixteenths ((first_of own).at.x + first) z) (sixteenths ((first_of own).at.x + last + 1) z) in
+    (sixteenths ((first_of other).at.x + length other - 1 + 1) (first_of other).at.z) (sixteenths ((first_of own).at.x + first) z) (sixteenths ((first_of own).at.x + last + 1) z) in
     record {
       edge = 0;
       there = omega arith;
@@ -90,7 +90,7 @@ portal_in (suc (suc zero)) own other first last small order some beyond =
 portal_in (suc (suc (suc zero))) own other first last small order some beyond =
     let end : (first_of other).at.x + length other - 1 + 1 ≡ (first_of own).at.x + first = omega (arith, beyond.1, some) in
     let P : ℕ → ℕ → Type 0 = λ x z. LiesAlong (sixteenths ((first_of other).at.x + length other - 1 + 1) (first_of other).at.z)
-        (sixteenths ((first_of other).at.x + length other - 1 + 1) ((first_of other).at.z + 1)) (sixteenths x z) (sixteenths x (z + 1)) in
+    (sixteenths ((first_of other).at.x + length other - 1 + 1) ((first_of other).at.z + 1)) (sixteenths x z) (sixteenths x (z + 1)) in
     record {
       edge = 1;
       there = omega arith;

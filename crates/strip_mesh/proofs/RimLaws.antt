@@ -60,10 +60,13 @@ rim_placed zero window own first last small row each order inside f l =
     let corner = each 0 some_cell row.some in
     let z = row.z first some_cell first-in in
     let x = row.x first some_cell first-in in
-    let on = exactly window.z0 (first_of own).at.z (get_or own first some_cell).at.z corner.z_least (at_most _ _ f) (sym z) in
-    ((on, on),
-    (no_more (first_of own).at.x (get_or own first some_cell).at.x (omega (arith, x)),
-    no_more ((get_or own first some_cell).at.x + (last + 1 - first)) ((first_of own).at.x + length own - 1 + 1) (omega (arith, x, order, inside))))
+    let on = exactly window.z0 (first_of own).at.z (get_or own first some_cell).at.z corner.z_least (at_most _ _ f) (sym z) in (
+      (on, on),
+      (
+        no_more (first_of own).at.x (get_or own first some_cell).at.x (omega (arith, x)),
+        no_more ((get_or own first some_cell).at.x + (last + 1 - first)) ((first_of own).at.x + length own - 1 + 1) (omega (arith, x, order, inside)),
+      ),
+    )
 rim_placed (suc zero) window own first last small row each order inside f l =
     let first-in : first < length own = omega (arith, order, inside) in
     let end-in : length own - 1 < length own = omega (arith, row.some) in
@@ -74,19 +77,25 @@ rim_placed (suc zero) window own first last small row each order inside f l =
     let close = squeezed window.x1 (get_or own first some_cell).at.x (get_or own (length own - 1) some_cell).at.x (at_most _ _ f) end.x_most in
     let x1 : (get_or own (length own - 1) some_cell).at.x ≡ (first_of own).at.x + length own - 1 = omega (arith, end_x, row.some) in
     let on = exactly_next window.x1 (get_or own first some_cell).at.x ((first_of own).at.x + length own - 1) (at_most _ _ f)
-        (subst (λ n. pos n ≤ℤ window.x1) x1 end.x_most) (omega (arith, x, first-in)) in
-    ((on, on),
-    (no_more (first_of own).at.z (get_or own first some_cell).at.z (omega (arith, z)),
-    no_more ((get_or own first some_cell).at.z + (last + 1 - first)) ((first_of own).at.z + 1) (omega (arith, z, x, end_x, close, order, inside))))
+    (subst (λ n. pos n ≤ℤ window.x1) x1 end.x_most) (omega (arith, x, first-in)) in (
+      (on, on),
+      (
+        no_more (first_of own).at.z (get_or own first some_cell).at.z (omega (arith, z)),
+        no_more ((get_or own first some_cell).at.z + (last + 1 - first)) ((first_of own).at.z + 1) (omega (arith, z, x, end_x, close, order, inside)),
+      ),
+    )
 rim_placed (suc (suc zero)) window own first last small row each order inside f l =
     let first-in : first < length own = omega (arith, order, inside) in
     let corner = each 0 some_cell row.some in
     let z = row.z first some_cell first-in in
     let x = row.x first some_cell first-in in
-    let on = exactly_next window.z1 (get_or own first some_cell).at.z (first_of own).at.z (at_most _ _ f) corner.z_most (omega (arith, z)) in
-    ((on, on),
-    (no_more (first_of own).at.x (get_or own first some_cell).at.x (omega (arith, x)),
-    no_more ((get_or own first some_cell).at.x + (last + 1 - first)) ((first_of own).at.x + length own - 1 + 1) (omega (arith, x, order, inside))))
+    let on = exactly_next window.z1 (get_or own first some_cell).at.z (first_of own).at.z (at_most _ _ f) corner.z_most (omega (arith, z)) in (
+      (on, on),
+      (
+        no_more (first_of own).at.x (get_or own first some_cell).at.x (omega (arith, x)),
+        no_more ((get_or own first some_cell).at.x + (last + 1 - first)) ((first_of own).at.x + length own - 1 + 1) (omega (arith, x, order, inside)),
+      ),
+    )
 rim_placed (suc (suc (suc zero))) window own first last small row each order inside f l =
     let first-in : first < length own = omega (arith, order, inside) in
     let corner = each 0 some_cell row.some in
@@ -94,8 +103,11 @@ rim_placed (suc (suc (suc zero))) window own first last small row each order ins
     let x = row.x first some_cell first-in in
     let x' = row.x last some_cell inside in
     let close = squeezed window.x0 (first_of own).at.x (get_or own last some_cell).at.x corner.x_least (at_most _ _ l) in
-    let on = exactly window.x0 (first_of own).at.x (get_or own first some_cell).at.x corner.x_least (at_most _ _ f) (omega (arith, x, x', close, order)) in
-    ((on, on),
-    (no_more (first_of own).at.z (get_or own first some_cell).at.z (omega (arith, z)),
-    no_more ((get_or own first some_cell).at.z + (last + 1 - first)) ((first_of own).at.z + 1) (omega (arith, z, x', close, order))))
+    let on = exactly window.x0 (first_of own).at.x (get_or own first some_cell).at.x corner.x_least (at_most _ _ f) (omega (arith, x, x', close, order)) in (
+      (on, on),
+      (
+        no_more (first_of own).at.z (get_or own first some_cell).at.z (omega (arith, z)),
+        no_more ((get_or own first some_cell).at.z + (last + 1 - first)) ((first_of own).at.z + 1) (omega (arith, z, x', close, order)),
+      ),
+    )
 rim_placed (suc (suc (suc (suc edge)))) window own first last small row each order inside f l = absurd (omega (arith, small))

@@ -57,11 +57,11 @@ row_is cells cut s there =
     record {
       some = some';
       x = λ k d inside.
-      let at = run_columns cells cut.rules s k 0 (omega (arith, there, count_same cells)) (omega (arith, inside, own_length cells s there)) in
-      ap (λ (c : Cell). c.at.x) (own_cell cells s k d there inside) ∙ at.x ∙ ap (λ (c : Cell). c.at.x + k) (sym first_cell);
+          let at = run_columns cells cut.rules s k 0 (omega (arith, there, count_same cells)) (omega (arith, inside, own_length cells s there)) in
+          ap (λ (c : Cell). c.at.x) (own_cell cells s k d there inside) ∙ at.x ∙ ap (λ (c : Cell). c.at.x + k) (sym first_cell);
       z = λ k d inside.
-      let at = run_columns cells cut.rules s k 0 (omega (arith, there, count_same cells)) (omega (arith, inside, own_length cells s there)) in
-      ap (λ (c : Cell). c.at.z) (own_cell cells s k d there inside) ∙ at.z ∙ ap (λ (c : Cell). c.at.z) (sym first_cell);
+          let at = run_columns cells cut.rules s k 0 (omega (arith, there, count_same cells)) (omega (arith, inside, own_length cells s there)) in
+          ap (λ (c : Cell). c.at.z) (own_cell cells s k d there inside) ∙ at.z ∙ ap (λ (c : Cell). c.at.z) (sym first_cell);
       each = own_all cells IsCell cut.rules cut.rules.each s there;
     }
 
@@ -106,8 +106,8 @@ own_ends_meet cells cut s t k j s-in t-in apart k-in j-in named =
     let b' : Cell = cell_at cells (get_or (get_or (index_runs cells) t []) j 0) in
     let named' = subst (λ (c : Cell). P c b') (own_cell cells s k some_cell s-in k-in) (subst (P a) (own_cell cells t j some_cell t-in j-in) named) in
     let meet = ends_meet cells cut s t k j (omega (arith, s-in, count_same cells)) (omega (arith, t-in, count_same cells)) apart
-        (omega (arith, k-in, own_length cells s s-in)) (omega (arith, j-in, own_length cells t t-in))
-        (indices_are cells cut.rules s s-in).each (indices_are cells cut.rules t t-in).each named' in
+    (omega (arith, k-in, own_length cells s s-in)) (omega (arith, j-in, own_length cells t t-in))
+    (indices_are cells cut.rules s s-in).each (indices_are cells cut.rules t t-in).each named' in
     (omega (arith, meet.0, own_length cells s s-in), meet.1)
 
 -- cells of strips name each other back

@@ -16,7 +16,11 @@ use std::alloc::{AllocError, Global};
 
 /// The mesh of a tile from its free cells: a rectangle for each strip, the links between the strips, and the rim. The mesh keeps a copy of
 /// the free cells.
-pub fn strip_mesh(alloc: Global, free: &FreeLayer, setting: &Setting) -> Result<TileMesh, AllocError>
+pub fn strip_mesh(
+    alloc: Global,
+    free: &FreeLayer,
+    setting: &Setting,
+) -> Result<TileMesh, AllocError>
     requires setting { IsSetting setting.now }
     requires cells { IsCut free.now.cells }
     requires tile { IsInTile setting.now free.now.tile free.now.cells }
