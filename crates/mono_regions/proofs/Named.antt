@@ -1,9 +1,9 @@
 -- The strip that holds the cell that a cell names.
-use Rattle.std.proofs.Common.{◌≡◌, ℕ, ◌+◌, ◌<◌, ◌≤◌, ◌⊎◌, Bool, true, false, length, List, [], ◌∷◌, map, get_or, ap, ◌∙◌, sym, refl, subst, arith, zero, suc, inl, inr, Option}
+use Rattle.std.proofs.Common.{◌≡◌, ℕ, ◌<◌, ◌≤◌, true, false, length, List, [], ◌∷◌, map, get_or, ap, ◌∙◌, sym, refl, subst, arith, inl, inr}
 use Rattle.std.specs.Prelude.{◌==◌, ◌||◌, nat_lt, All, Some, None, slice_get}
-use Rattle.std.specs.List.{position, position_or_len, list_any, range_with_len}
+use Rattle.std.specs.List.{position, position_or_len, range_with_len}
 use Rattle.std.proofs.lemmas.Bool.{cases_lt, lt-ltb, le-ltb, cond-true, cond-false, eq-eqb, eqb-true}
-use Rattle.std.proofs.lemmas.List.{length-map, get_or_default, get_or_past}
+use Rattle.std.proofs.lemmas.List.{length-map}
 use Rattle.std.proofs.lemmas.List.Elements.{All-head, All-tail}
 use Rattle.std.proofs.lemmas.List.FromFn.{get_or-map-range_with_len, length-map-range_with_len}
 use Rattle.std.proofs.lemmas.List.Sums.{passes_at_first, fails_before_first}
@@ -15,8 +15,8 @@ use Rattle.cell_table.specs.Table.{index_named}
 use Rattle.cell_table.proofs.Places.{same_test}
 use Rattle.cell_table.proofs.Tables.{one_index}
 use Rattle.mesh_types.specs.StripMeshes.{some_cell, strip_runs, holds_named}
-use Rattle.mono_regions.specs.Indices.{cell_at, index_runs, has_index, owner_of, AreIndices}
-use Rattle.mono_regions.proofs.Found.{position_most, position_none}
+use Rattle.mono_regions.specs.Indices.{cell_at, index_runs, has_index, owner_of}
+use Rattle.mono_regions.proofs.Found.{position_none}
 use Rattle.mono_regions.proofs.Owners.{owner_there, position_map}
 use Rattle.mono_regions.proofs.RunLaws.{runs_indices, runs_are}
 

@@ -12,3 +12,6 @@ mod layer;
 pub use index::{StripIndex, strip_index};
 pub use index_lists::IndexLists;
 pub use layer::strips;
+
+#[cfg(test)]
+mod tests;

@@ -8,3 +8,4 @@ pub mod PolygonLaws
 pub mod LinkLaws
 pub mod RimLaws
 pub mod FitLaws
+pub mod Literals

@@ -15,3 +15,6 @@ mod rim;
 mod tile_strips;
 
 pub use build::strip_mesh;
+
+#[cfg(test)]
+mod tests;
