@@ -6,3 +6,6 @@
 mod build;
 
 pub use build::build_tile;
+
+#[cfg(test)]
+mod tests;
