@@ -1,36 +1,26 @@
 -- The layer of a tile, from the spans near the tile alone.
-use Rattle.std.proofs.Common.{◌≡◌, ℕ, zero, suc, ◌+◌, ◌*◌, ◌<◌, ◌≤◌, Bool, true, false, List, [], ◌∷◌, map, filter, refl, sym, ap, ◌∙◌, arith, inl, inr, Option, Some, None, get_or}
-use Rattle.std.specs.Prelude.{◌&&◌, ◌||◌, ◌==◌, not, if◌then◌else◌, All, ℤ, pos, ◌-ℤ◌, ◌+ℤ◌, int_le}
-use Rattle.std.specs.List.{find, list_any, zip, count_by, range_with_len}
-use Rattle.std.specs.Option.{option_map, option_map_or}
-use Rattle.std.proofs.lemmas.Bool.{cases_Bool, and_parts, and_from, false_from_ne_true, both_ways, and_right}
-use Rattle.std.proofs.lemmas.Int.{ints}
-use Rattle.std.proofs.lemmas.Simd.{map-map}
-use Rattle.std.proofs.lemmas.List.Elements.{filter_passes, filter_agree, All-weaker}
+use Rattle.std.proofs.Common.{◌≡◌, ℕ, Bool, true, false, List, [], ◌∷◌, map, filter, refl, sym, ap, ◌∙◌, inl, inr, None, get_or}
+use Rattle.std.specs.Prelude.{◌&&◌, ◌==◌, not, if◌then◌else◌}
+use Rattle.std.specs.List.{zip, count_by}
+use Rattle.std.proofs.lemmas.Bool.{cases_Bool, and_parts, and_from, both_ways, and_right}
+use Rattle.std.proofs.lemmas.List.Elements.{filter_passes, All-weaker}
 use Rattle.nav_ground.specs.declared.setting.Agent.{Agent}
-use Rattle.nav_ground.specs.declared.setting.Setting.{Setting}
 use Rattle.nav_ground.specs.declared.field.Span.{Span}
 use Rattle.nav_ground.specs.declared.field.Field.{Field}
 use Rattle.nav_ground.specs.declared.cell.Cell.{Cell}
-use Rattle.nav_ground.specs.declared.cell.Layer.{Layer}
-use Rattle.nav_ground.specs.declared.cell.CellRef.{CellRef}
 use Rattle.nav_ground.specs.declared.cell.Window.{Window}
-use Rattle.nav_ground.specs.Limits.{IsAgent, IsSetting}
+use Rattle.nav_ground.specs.Limits.{IsAgent}
 use Rattle.nav_ground.specs.Fields.{IsField, IsSpan}
-use Rattle.nav_ground.specs.Cells.{is_toward, is_naming, next_level}
-use Rattle.nav_ground.specs.Tiling.{is_in_window, tile_window}
+use Rattle.nav_ground.specs.Tiling.{is_in_window}
 use Rattle.nav_ground.specs.Column.{stands_above, ceiling_of}
-use Rattle.nav_ground.specs.Filters.{areas_without, filtered_areas, is_ledge, is_low_ceiling, low_hanging_area, low_hanging_areas, ledge_areas}
-use Rattle.nav_ground.specs.Connection.{walkable_spans, unconnected_cell, unconnected_cells, is_connected, level_toward, connected_cell, compact_cells}
-use Rattle.nav_ground.specs.Clearance.{has_neighbour, is_boundary, is_axis_step, is_turn, is_diagonal_step, is_walk_end, is_kept, kept_cells, cells_in}
-use Rattle.nav_ground.specs.Layers.{cells_of, kept_cells_of, kept_level, layer_cell, layer_among, layer_of}
-use Rattle.nav_ground.proofs.Selections.{filter-filter, filter-map, list_any-map}
+use Rattle.nav_ground.specs.Filters.{areas_without, filtered_areas, is_ledge, is_low_ceiling, low_hanging_area}
+use Rattle.nav_ground.specs.Connection.{walkable_spans, unconnected_cell, unconnected_cells}
+use Rattle.nav_ground.specs.Clearance.{cells_in}
+use Rattle.nav_ground.proofs.Selections.{filter-filter, filter-map}
 use Rattle.nav_ground.proofs.Walkable.{IsAbove-from_test}
-use Rattle.nav_ground.proofs.Connected.{level_of_connected}
 use Rattle.agent_erode.specs.Windows.{widened}
-use Rattle.agent_erode.proofs.WindowLaws.{toward_beside, named_beside, beside_back, deep_beside, deep_inside, inside_deep, either_same, and_same, any_range_same, kept_near}
 use Rattle.layer_cut.specs.Nearby.{spans_in, field_in}
-use Rattle.layer_cut.proofs.Restricted.{any_agree, map_agree, map_kept_agree, find-restricted, count-restricted, any-restricted}
+use Rattle.layer_cut.proofs.Restricted.{map_agree, map_kept_agree, count-restricted}
 use Rattle.layer_cut.proofs.NearbySpans.{filtered_area, inside_same, ceiling_nearby, area_nearby, area_at_edge, widened_inside}
 
 -- the filters, span by span
@@ -76,12 +66,12 @@ module _ (window : Window) (field : Field) (agent : Agent) (limits : IsAgent age
         | inl inside ↦
             let same = area_nearby window field agent s inside in (
               both_in (is_in_window (widened window 1) s.x s.z) (is_in_window window s.x s.z) _ _ (widened_inside window s.x s.z inside) inside
-              (ap (λ n. not (n == 0)) same),
+                  (ap (λ n. not (n == 0)) same),
               λ h. ap (λ n. record s { area = n }) same,
             )
         | inr outside ↦ (
           one_in (is_in_window (widened window 1) s.x s.z) (is_in_window window s.x s.z) _ _ outside
-          (ap (λ n. not (n == 0)) (area_at_edge window field agent s limits is.top outside)),
+              (ap (λ n. not (n == 0)) (area_at_edge window field agent s limits is.top outside)),
           λ h. absurd (both_ways (is_in_window window s.x s.z) outside (and_parts (is_walkable (with_area (filtered_area field agent) s)) _ h).1),
         )
       ]

@@ -1,12 +1,12 @@
 -- The layer of a tile, from the spans near the tile alone.
-use Rattle.std.proofs.Common.{◌≡◌, ℕ, zero, suc, ◌+◌, ◌<◌, Bool, true, false, List, [], ◌∷◌, map, filter, refl, sym, ap, ◌∙◌, arith, inl, inr, Option, None, get_or}
-use Rattle.std.specs.Prelude.{◌&&◌, ◌||◌, ◌==◌, not, if◌then◌else◌, All, ℤ, pos, ◌-ℤ◌, ◌+ℤ◌, int_le, ◌*◌}
+use Rattle.std.proofs.Common.{◌≡◌, ℕ, zero, suc, ◌+◌, ◌<◌, Bool, true, false, List, [], ◌∷◌, map, filter, refl, sym, ap, ◌∙◌, arith, Option, None, get_or}
+use Rattle.std.specs.Prelude.{◌&&◌, ◌||◌, ◌==◌, not, if◌then◌else◌, All, ℤ, pos, ◌-ℤ◌, ◌+ℤ◌, ◌*◌}
 use Rattle.std.specs.List.{list_any}
 use Rattle.std.specs.Option.{option_map, option_map_or}
-use Rattle.std.proofs.lemmas.Bool.{cases_Bool, and_parts, and_right}
+use Rattle.std.proofs.lemmas.Bool.{and_parts, and_right}
 use Rattle.std.proofs.lemmas.Int.{ints}
 use Rattle.std.proofs.lemmas.Simd.{map-map}
-use Rattle.std.proofs.lemmas.List.Elements.{filter_passes, filter_agree, All-weaker}
+use Rattle.std.proofs.lemmas.List.Elements.{filter_passes, All-weaker}
 use Rattle.nav_ground.specs.declared.setting.Agent.{Agent}
 use Rattle.nav_ground.specs.declared.setting.Setting.{Setting}
 use Rattle.nav_ground.specs.declared.field.Field.{Field}
@@ -26,8 +26,8 @@ use Rattle.nav_ground.proofs.Directions.{both_equal}
 use Rattle.nav_ground.proofs.Selections.{filter-filter, filter-map, list_any-map}
 use Rattle.nav_ground.proofs.Connected.{level_of_connected}
 use Rattle.agent_erode.specs.Windows.{widened}
-use Rattle.agent_erode.proofs.WindowLaws.{toward_beside, named_beside, beside_back, deep_beside, deep_inside, inside_deep, either_same, and_same, any_range_same, kept_near}
-use Rattle.layer_cut.specs.Nearby.{spans_in, field_in}
+use Rattle.agent_erode.proofs.WindowLaws.{toward_beside, beside_back, deep_beside, deep_inside, inside_deep, either_same, and_same, any_range_same, kept_near}
+use Rattle.layer_cut.specs.Nearby.{field_in}
 use Rattle.layer_cut.proofs.Restricted.{any_agree, map_kept_agree, find-restricted, any-restricted}
 use Rattle.layer_cut.proofs.NearbySpans.{inside_same}
 use Rattle.layer_cut.proofs.NearbyCells.{unconnected_nearby}

@@ -1,7 +1,7 @@
 -- The areas of the spans over a rectangle, in a field that has the spans over the next columns too and no others.
-use Rattle.std.proofs.Common.{◌≡◌, ℕ, zero, suc, ◌+◌, ◌<◌, ◌≤◌, Bool, true, false, List, [], ◌∷◌, ◌++◌, map, refl, sym, ap, ◌∙◌, subst, arith, inl, inr, Option, Some, None, get_or}
-use Rattle.std.specs.Prelude.{◌&&◌, ◌||◌, ◌==◌, not, if◌then◌else◌, All, nat_le, nat_lt, min, max, ℤ, pos, ◌-ℤ◌, ◌+ℤ◌, int_le, filter}
-use Rattle.std.specs.List.{find, list_any, zip, last_or}
+use Rattle.std.proofs.Common.{◌≡◌, ℕ, zero, suc, ◌+◌, ◌<◌, ◌≤◌, Bool, true, false, List, [], ◌++◌, refl, sym, ap, ◌∙◌, subst, arith, inl, inr, Option, None, get_or}
+use Rattle.std.specs.Prelude.{◌&&◌, ◌||◌, ◌==◌, if◌then◌else◌, nat_le, nat_lt, min, max, ℤ, pos, ◌-ℤ◌, ◌+ℤ◌, int_le, filter}
+use Rattle.std.specs.List.{list_any, last_or}
 use Rattle.std.specs.Option.{option_map_or}
 use Rattle.std.proofs.lemmas.Bool.{cases_Bool, and_parts, and_from, false_from_ne_true, both_ways, le-leb, ltb-false}
 use Rattle.std.proofs.lemmas.Int.{ints}
@@ -14,13 +14,13 @@ use Rattle.nav_ground.specs.declared.cell.Window.{Window}
 use Rattle.nav_ground.specs.Limits.{IsAgent}
 use Rattle.nav_ground.specs.Cells.{is_toward}
 use Rattle.nav_ground.specs.Tiling.{is_in_window}
-use Rattle.nav_ground.specs.Column.{Gap, gaps_of, stands_above, span_below, ceiling_of, foot_of, column_toward}
+use Rattle.nav_ground.specs.Column.{Gap, gaps_of, stands_above, ceiling_of, foot_of, column_toward}
 use Rattle.nav_ground.specs.Filters.{low_hanging_area, is_open, gaps_beside, open_gaps, is_at_edge, is_drop, near_floors, is_steep, is_ledge, is_low_ceiling}
 use Rattle.nav_ground.proofs.Directions.{both_equal}
 use Rattle.nav_ground.proofs.Selections.{filter-filter, filter_none}
 use Rattle.nav_ground.proofs.Walkable.{IsAbove-from_test}
 use Rattle.agent_erode.specs.Windows.{widened}
-use Rattle.agent_erode.proofs.WindowLaws.{IsBeside, toward_beside, beside_back, deep_beside, deep_inside, inside_deep}
+use Rattle.agent_erode.proofs.WindowLaws.{toward_beside, beside_back, deep_beside, deep_inside, inside_deep}
 use Rattle.layer_cut.specs.Nearby.{spans_in, field_in}
 use Rattle.layer_cut.proofs.Restricted.{find-restricted, filter-restricted, any-restricted}
 
@@ -247,6 +247,6 @@ area_at_edge window field agent span limits top outside =
       | inr high ↦
           let ledge = drop_beside (field_in (widened window 1) field) agent span side.dir limits top side.small lost high in
           ap (λ b. if b then 0 else (if is_ledge (field_in (widened window 1) field) agent span then 0
-              else low_hanging_area agent.climb (spans_in (widened window 1) field.spans) span)) high
+          else low_hanging_area agent.climb (spans_in (widened window 1) field.spans) span)) high
           ∙ ap (λ b. if b then 0 else low_hanging_area agent.climb (spans_in (widened window 1) field.spans) span) ledge
     ]
