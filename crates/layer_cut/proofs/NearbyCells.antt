@@ -1,4 +1,4 @@
--- The layer of a tile, from the spans near the tile alone.
+-- The cells over a rectangle before they are connected, from the spans over it and over the next columns alone.
 use Rattle.std.proofs.Common.{◌≡◌, ℕ, Bool, true, false, List, [], ◌∷◌, map, filter, refl, sym, ap, ◌∙◌, inl, inr, None, get_or}
 use Rattle.std.specs.Prelude.{◌&&◌, ◌==◌, not, if◌then◌else◌}
 use Rattle.std.specs.List.{zip, count_by}

@@ -285,14 +285,16 @@ layer_nearby_in setting field tile limits rules' =
     (unconnected_nearby (widened (widened window 1) agent.radius) field agent limits.agent rules')
     ∙ ap (λ (l : List Cell). record { tile = tile; cells = l; radius = 0; wide = [] }) (layer_cells_nearby window agent cells agent.radius)
 
--- the layer of a tile, from the spans over the tile and over the columns within the radius and two more on each side: one for the neighbours
--- across its border, one for the connections of the cells where walks to them begin, and one for the filters of the cells so connected
+-- the layer of a tile, from the spans over the tile and over the columns within the radius and two more on each side: the radius is for the
+-- neighbours across the border and the walks to them, the two more are for the connections of the cells where those walks begin and for the
+-- filters of the cells so connected; where the radius is 0 they are for the neighbours and their filters
 pub layer_nearby : (setting : Setting) (field : Field) (tile : ℕ) → IsSetting setting → IsField field
     → layer_of setting (field_in (widened (tile_window setting tile) (setting.agent.radius + 2)) field) tile ≡ layer_of setting field tile
 layer_nearby setting field tile limits rules' =
     ap (λ (window : Window). layer_of setting (field_in window field) tile) (widened_thrice (tile_window setting tile) setting.agent.radius)
     ∙ layer_nearby_in setting field tile limits rules'
 
+-- the same, for a part of the field and a layer that were made so
 pub layer_from_near : (setting : Setting) (field near : Field) (window : Window) (tile : ℕ) (layer : Layer) → IsSetting setting → IsField field
     → window ≡ tile_window setting tile → near ≡ field_in (widened window (setting.agent.radius + 2)) field → layer ≡ layer_of setting near tile
     → layer ≡ layer_of setting field tile

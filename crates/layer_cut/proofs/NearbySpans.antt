@@ -82,7 +82,7 @@ ledge_by edge agent top c c' a0 a1 a2 a3 b0 b1 b2 b3 e e0 e1 e2 e3 =
     ∙ ap (λ l. ledge_of edge agent top c' b0 b1 l a3) e2
     ∙ ap (λ l. ledge_of edge agent top c' b0 b1 b2 l) e3
 
--- a span of the rectangle was widened by one from: all that the filters read is there
+-- a widened rectangle has the columns of the rectangle
 pub widened_inside : (window : Window) (x z : ℕ) → is_in_window window x z ≡ true → is_in_window (widened window 1) x z ≡ true
 widened_inside window x z inside =
     deep_inside (widened window 1) 1 (record { x = x; z = z; level = 0 }) (inside_deep window 1 (record { x = x; z = z; level = 0 }) inside)

@@ -38,8 +38,9 @@ pub fn ground(alloc: Global, setting: Setting, field: Field) -> Result<Ground, A
 }
 
 /// The layer of one tile: exactly what `ground` makes of that tile. It works on the spans over the tile's columns and over those within the
-/// agent's radius and two more on each side of it; of the rest of the field it looks only for where the rows of those columns begin. The
-/// two more are one for the connections of the cells where walks to the tile begin, and one for the filters of the cells so connected.
+/// agent's radius and two more on each side of it, and searches the list of spans for where their rows begin. The radius is for the
+/// neighbours across the border and the walks to them, the two more are for the connections of the cells where those walks begin and for
+/// the filters of the cells so connected; where the radius is 0 they are for the neighbours and their filters.
 #[tactic(auto, using(crate::proofs::NearbyField::field_in_rules, crate::proofs::NearbyField::field_in_sized, crate::proofs::NearbyLayer::layer_from_near, crate::proofs::FieldCells::layer_rules_of))]
 pub fn layer(
     alloc: Global,
