@@ -23,19 +23,19 @@ use Rattle.nav_ground.proofs.Selections.{filter-filter, filter_none}
 
 -- a place is so many columns away from the columns outside a rectangle
 pub record IsDeep (window : Window) (m : ℕ) (at : CellRef) : Type 0 where
-  x_least : (window.x0 +ℤ pos m) ≤ℤ pos at.x
-  x_most : (pos at.x +ℤ pos m) ≤ℤ window.x1
-  z_least : (window.z0 +ℤ pos m) ≤ℤ pos at.z
-  z_most : (pos at.z +ℤ pos m) ≤ℤ window.z1
+  pub x_least : (window.x0 +ℤ pos m) ≤ℤ pos at.x
+  pub x_most : (pos at.x +ℤ pos m) ≤ℤ window.x1
+  pub z_least : (window.z0 +ℤ pos m) ≤ℤ pos at.z
+  pub z_most : (pos at.z +ℤ pos m) ≤ℤ window.z1
 
 -- two places lie at most one column apart
-record IsBeside (a b : CellRef) : Type 0 where
-  right : a.x ≤ b.x + 1
-  left : b.x ≤ a.x + 1
-  above : a.z ≤ b.z + 1
-  below : b.z ≤ a.z + 1
+pub record IsBeside (a b : CellRef) : Type 0 where
+  pub right : a.x ≤ b.x + 1
+  pub left : b.x ≤ a.x + 1
+  pub above : a.z ≤ b.z + 1
+  pub below : b.z ≤ a.z + 1
 
-toward_beside : (dir : ℕ) (a b : CellRef) → dir < 4 → is_toward dir a b ≡ true → IsBeside a b
+pub toward_beside : (dir : ℕ) (a b : CellRef) → dir < 4 → is_toward dir a b ≡ true → IsBeside a b
 toward_beside zero a b small h =
     let e = both_equal (b.x + 1) a.x b.z a.z h in
     record { right = omega (arith, e.0); left = omega (arith, e.0); above = omega (arith, e.1); below = omega (arith, e.1) }
@@ -87,13 +87,13 @@ turn_beside (suc (suc (suc zero))) a b c small h (inr g) =
     record { right = omega (arith, e, f); left = omega (arith, e, f); above = omega (arith, e, f); below = omega (arith, e, f) }
 turn_beside (suc (suc (suc (suc n)))) a b c small h g = absurd (omega (arith, small))
 
-beside_back : (a b : CellRef) → IsBeside a b → IsBeside b a
+pub beside_back : (a b : CellRef) → IsBeside a b → IsBeside b a
 beside_back a b beside = record { right = beside.left; left = beside.right; above = beside.below; below = beside.above }
 
-named_beside : (dir : ℕ) (a : Cell) (b : CellRef) → dir < 4 → is_naming dir a b ≡ true → IsBeside a.at b
+pub named_beside : (dir : ℕ) (a : Cell) (b : CellRef) → dir < 4 → is_naming dir a b ≡ true → IsBeside a.at b
 named_beside dir a b small named = toward_beside dir a.at b small (and_parts (is_toward dir a.at b) _ named).0
 
-deep_beside : (window : Window) (m : ℕ) (a b : CellRef) → IsBeside a b → IsDeep window (m + 1) b → IsDeep window m a
+pub deep_beside : (window : Window) (m : ℕ) (a b : CellRef) → IsBeside a b → IsDeep window (m + 1) b → IsDeep window m a
 deep_beside window m a b beside deep = record {
   x_least = omega (arith, ints);
   x_most = omega (arith, ints);
@@ -101,10 +101,10 @@ deep_beside window m a b beside deep = record {
   z_most = omega (arith, ints);
 }
 
-deep_same : (window : Window) (m n : ℕ) (at : CellRef) → m ≡ n → IsDeep window m at → IsDeep window n at
+pub deep_same : (window : Window) (m n : ℕ) (at : CellRef) → m ≡ n → IsDeep window m at → IsDeep window n at
 deep_same window m n at same deep = let P : ℕ → Type 0 = λ k. IsDeep window k at in subst P same deep
 
-deep_inside : (window : Window) (m : ℕ) (at : CellRef) → IsDeep window m at → is_in_window window at.x at.z ≡ true
+pub deep_inside : (window : Window) (m : ℕ) (at : CellRef) → IsDeep window m at → is_in_window window at.x at.z ≡ true
 deep_inside window m at deep =
     and_from _ _ (and_from _ _ (is_low window.x0 at.x m deep.x_least) (is_high window.x1 at.x m deep.x_most))
     (and_from _ _ (is_low window.z0 at.z m deep.z_least) (is_high window.z1 at.z m deep.z_most))
@@ -135,7 +135,7 @@ inside_deep window margin at inside =
     high_wide x1 x m h = grind (arith, ints)
 
 -- elements that a test keeps, where each that passes another does
-any_kept : {A : Type 0} (p q r : A → Bool) (xs : List A) → ((x : A) → r x ≡ true → p x ≡ true) → ((x : A) → p x ≡ true → q x ≡ r x)
+pub any_kept : {A : Type 0} (p q r : A → Bool) (xs : List A) → ((x : A) → r x ≡ true → p x ≡ true) → ((x : A) → p x ≡ true → q x ≡ r x)
     → list_any q (filter p xs) ≡ list_any r xs
 any_kept p q r [] kept same = refl
 any_kept p q r (x ∷ xs) kept same =
@@ -147,11 +147,11 @@ any_kept p q r (x ∷ xs) kept same =
           rest ∙ ap (λ b. b || list_any r xs) (sym none)
     ]) refl
 
-either_same : {a b x y : Bool} → a ≡ b → x ≡ y → (a || x) ≡ (b || y)
+pub either_same : {a b x y : Bool} → a ≡ b → x ≡ y → (a || x) ≡ (b || y)
 either_same {b = b} {x = x} e f = ap (λ c. c || x) e ∙ ap (λ c. b || c) f
 
 -- a test that matters only where another holds
-and_same : (a x y : Bool) → (a ≡ true → x ≡ y) → (a && x) ≡ (a && y)
+pub and_same : (a x y : Bool) → (a ≡ true → x ≡ y) → (a && x) ≡ (a && y)
 and_same true x y same = same refl
 and_same false x y same = refl
 
@@ -161,7 +161,7 @@ axis_beside from to step =
     named_beside found.0 from to.at found.1 found.2
 
 -- a turn joins three places
-turn_places : (from by to : Cell) → is_turn from by to ≡ true → IsBeside by.at to.at × IsBeside from.at to.at
+pub turn_places : (from by to : Cell) → is_turn from by to ≡ true → IsBeside by.at to.at × IsBeside from.at to.at
 turn_places from by to turn =
     let found = any_direction (λ dir. is_naming dir from by.at && (is_naming ((dir + 1) % 4) by to.at || is_naming ((dir + 3) % 4) by to.at)) turn in
     let dir = found.0 in
@@ -242,7 +242,7 @@ module _ (window : Window) (cells : List Cell) where
       walk_deep cost m from (omega (arith, cheap)) (less from (diagonal_beside cells from to step)))))
 
 -- two tests that agree on a range
-any_range_same : (p q : ℕ → Bool) (first count : ℕ) → ((n : ℕ) → first ≤ n → n < first + count → p n ≡ q n)
+pub any_range_same : (p q : ℕ → Bool) (first count : ℕ) → ((n : ℕ) → first ≤ n → n < first + count → p n ≡ q n)
     → list_any p (range_with_len first count) ≡ list_any q (range_with_len first count)
 any_range_same p q first zero same = refl
 any_range_same p q first (suc count) same =

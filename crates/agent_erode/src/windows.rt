@@ -30,15 +30,15 @@ pub fn cells_near(
     Ok(near)
 }
 
-/// Rows of columns from `first` on, before `end`.
+/// Rows of columns of a field, those with z from `first` on and before `end`.
 #[derive(Clone, Copy, PartialEq, Eq, Debug)]
-struct Rows {
-    first: u32,
-    end: u32,
+pub struct Rows {
+    pub first: u32,
+    pub end: u32,
 }
 
-/// The rows of the largest field that a rectangle with a margin has.
-fn rows_of(window: Window, margin: u32) -> Rows
+/// The rows that a rectangle with a margin of so many columns on each side has of the largest field.
+pub fn rows_of(window: Window, margin: u32) -> Rows
     ensures { (x z : ℕ) → z < 1024 → is_in_window (widened window margin) x z ≡ true → (result.first ≤ z) × (z < result.end) }
 {
     let margin = i64::from(margin);

@@ -3,3 +3,8 @@ pub mod PlacesFound
 pub mod KeptNeighbours
 pub mod FieldCells
 pub mod HandedOut
+pub mod Restricted
+pub mod NearbySpans
+pub mod NearbyCells
+pub mod NearbyLayer
+pub mod NearbyField

@@ -4,6 +4,7 @@
 //! tile's layer, the same that `ground` makes; and `tile_of`, the tile of a column.
 #![tactic(auto)]
 
+mod nearby;
 mod neighbours;
 mod tile_layers;
 mod whole;

@@ -278,6 +278,14 @@ fn cuts_by_hand(rt: HostRuntime) -> Result<(), AllocError> {
             edge: 3,
             ..flat
         },
+        // Sixteen tiles, each from a part of the field.
+        Case {
+            side: 16,
+            tile: 4,
+            radius: 1,
+            edge: 2,
+            ..flat
+        },
     ];
     for case in &cases {
         assert!(rt; 1 <= case.side && case.side <= 16);

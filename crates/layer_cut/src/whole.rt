@@ -9,10 +9,11 @@ ghost use Rattle.nav_ground.specs.Limits.{IsSetting};
 ghost use Rattle.nav_ground.specs.Tiling.{tile_count};
 ghost use Rattle.layer_cut.specs.Tiles.{AreInField};
 
+use crate::nearby::field_near;
 use crate::tile_layers::{cut, hand_out};
 use agent_erode::kept_marks;
 use compact_layer::{CompactField, compact};
-use nav_ground::{Field, Ground, Layer, Setting, TileNo};
+use nav_ground::{Field, Ground, Layer, Setting, TileNo, tile_bounds};
 use nav_list::Items;
 use span_filters::filtered;
 use std::alloc::{AllocError, Global};
@@ -36,7 +37,11 @@ pub fn ground(alloc: Global, setting: Setting, field: Field) -> Result<Ground, A
     })
 }
 
-/// The layer of one tile: exactly what `ground` makes of that tile.
+/// The layer of one tile: exactly what `ground` makes of that tile. It works on the spans over the tile's columns and over those within the
+/// agent's radius and two more on each side of it, and searches the list of spans for where their rows begin. The radius is for the
+/// neighbours across the border and the walks to them, the two more are for the connections of the cells where those walks begin and for
+/// the filters of the cells so connected; where the radius is 0 they are for the neighbours and their filters.
+#[tactic(auto, using(crate::proofs::NearbyField::field_in_rules, crate::proofs::NearbyField::field_in_sized, crate::proofs::NearbyLayer::layer_from_near, crate::proofs::FieldCells::layer_rules_of))]
 pub fn layer(
     alloc: Global,
     field: &Field,
@@ -50,6 +55,25 @@ pub fn layer(
     requires there { tile < tile_count setting.now }
     ensures value { IfOk result (λ layer. layer ≡ layer_of setting.now field.now tile) }
     ensures rules { IfOk result (λ layer. IsLayerOf setting.now layer) }
+{
+    let window = tile_bounds(setting, tile);
+    let margin = setting.agent.radius + 2;
+    let near = field_near(alloc, field, window, margin)?;
+    layer_from(alloc, &near, setting, tile)
+}
+
+/// The layer of one tile, from the whole of a field.
+fn layer_from(
+    alloc: Global,
+    field: &Field,
+    setting: &Setting,
+    tile: TileNo,
+) -> Result<Layer, AllocError>
+    requires setting { IsSetting setting.now }
+    requires field { IsField field.now }
+    requires sized { IsSized setting.now field.now }
+    requires there { tile < tile_count setting.now }
+    ensures { IfOk result (λ layer. layer ≡ layer_of setting.now field.now tile) }
 {
     let compact = cells(alloc, setting, field)?;
     let marks = kept_marks(alloc, compact.cells.as_slice(), setting.agent.radius)?;
