@@ -1,5 +1,7 @@
 //! Small meshes by hand: what their calls find.
 
+ghost use Rattle.std.specs.Prelude.{◌≡◌};
+
 use crate::{
     Corners, Link, Links, Mesh, PolyRef, Polygon, Portal, Run, TileMesh, copy_mesh, copy_tile,
     order_links, poly, runs,
@@ -48,7 +50,9 @@ fn finds_runs(rt: HostRuntime) -> Result<(), Fail> {
 }
 
 /// A link from a polygon over an edge to another, through a portal that begins at x.
-fn link(from: (u32, u32), edge: u32, to: (u32, u32), x: i32) -> Link {
+fn link(from: (u32, u32), edge: u32, to: (u32, u32), x: i32) -> Link
+    ensures { result.from.index ≡ from.1 }
+{
     Link {
         from: PolyRef {
             tile: from.0,
