@@ -20,7 +20,7 @@ for z in range(side - 3):
             continue
         ground = 10 + random.randrange(2) * (random.randrange(12) == 0) * 9 + (x + z) // 9 % 3
         out.append(f"span {x} {z} 0 {ground} {0 if random.randrange(50) == 0 else random.choice([63, 63, 63, 5])}")
-        if random.randrange(25) == 0:
+        if ground < 15 and random.randrange(25) == 0:
             out.append(f"span {x} {z} {ground + random.randrange(1, 3)} {ground + 3 + random.randrange(4)} 0")
         if (x // 8 + z // 8) % 2 == 0 and random.randrange(30):
             under = 26 + random.randrange(2) * (random.randrange(20) == 0) * 3
