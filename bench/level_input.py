@@ -1,7 +1,7 @@
 #!/usr/bin/env python3
 """Writes an input for `navd play` to standard output: a rough field of SIDE by SIDE columns with two floors, cut into tiles, with holes,
-steps, hanging spans and low ceilings, for an agent with a radius; and LINES script lines that mix floors, blocks, cylinders, removes and
-settles. The same arguments give the same bytes.
+steps, hanging spans and low ceilings, for an agent with a radius; and LINES script lines that mix floors, paths, blocks, cylinders, removes
+and settles. The same arguments give the same bytes.
 
 usage: level_input.py [SIDE [LINES [SEED]]]     (defaults 40 300 1)
 """
@@ -13,7 +13,7 @@ count = int(sys.argv[2]) if len(sys.argv) > 2 else 300
 random.seed(int(sys.argv[3]) if len(sys.argv) > 3 else 1)
 
 out = ["nav 1", f"size {side} {side - 3}", f"tile {random.choice([4, 7, 16, 48])}", f"agent 10 {random.randrange(6)} {random.randrange(4)}",
-       "error 169", "mesh strips", f"limit {random.choice([3, 64])}"]
+       "error 169", "mesh strips", f"limit {random.choice([3, 64])}"] + [["cost 5 3"], []][random.randrange(2)]
 for z in range(side - 3):
     for x in range(side):
         if random.randrange(40) == 0:
@@ -29,7 +29,7 @@ out += ["end", "script 2 1"]
 adds = [0, 0]
 lane = 0
 for _ in range(count):
-    kind = random.randrange(8)
+    kind = random.randrange(11)
     if kind == 0:
         x, z, y = random.randrange(side), random.randrange(side), random.choice([0, 20])
         out.append(f"add block {x} {x + random.randrange(8)} {y} {y + random.randrange(40)} {z} {z + random.randrange(8)}")
@@ -44,6 +44,10 @@ for _ in range(count):
     elif kind == 4:
         lane = random.randrange(2)
         out.append(f"lane {lane}")
-    else:
+    elif kind < 8:
         out.append(f"floor {random.randrange(side + 2)} {random.randrange(side)}")
+    else:
+        points = [random.choice([1, 1, 4, 16]) * (random.randrange(1000)) % (16 * side) for _ in range(4)]
+        heights = [random.choice([10, 11, 27, 28]) for _ in range(2)]
+        out.append(f"path {points[0]} {points[1]} {heights[0]} {points[2]} {points[3]} {heights[1]}")
 sys.stdout.write("\n".join(out) + "\n")
