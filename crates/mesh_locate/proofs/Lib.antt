@@ -1,0 +1,2 @@
+mod TileReach
+mod NearestLaws
