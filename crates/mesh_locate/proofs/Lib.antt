@@ -1,2 +1,3 @@
-mod TileReach
 mod NearestLaws
+mod TileReach
+mod Scans

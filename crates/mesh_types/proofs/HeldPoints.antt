@@ -6,7 +6,7 @@ use Rattle.std.proofs.lemmas.Bool.{cases_eq}
 use Rattle.std.proofs.lemmas.Bool.Decides.{nat_tests}
 use lib.IntN.{neg_ℤ, *ℤ_comm}
 use Rattle.nav_base.specs.declared.point.Point.{Point}
-use Rattle.nav_base.specs.Point.{from_to, dot_of, cross_of, orient_of}
+use Rattle.nav_base.specs.Point.{HasCoordinates, from_to, dot_of, cross_of, orient_of}
 use Rattle.nav_base.specs.Convex.{IsStrictlyConvex, corner_at, place_after, side_of_edge}
 use Rattle.nav_base.proofs.Polynomials.{number, opposite, sum, difference, product, equal}
 use Rattle.nav_base.proofs.PointTerms.{Place, place, coordinates, from_to_term, dot_term, orient_term}
@@ -15,7 +15,7 @@ use Rattle.nav_base.proofs.Signs.{product-not_negative, product-positive, factor
 use Rattle.nav_ground.specs.declared.cell.Window.{Window}
 use Rattle.mesh_types.specs.declared.polygon.Polygon.{Polygon}
 use Rattle.mesh_types.specs.BorderLinks.{scaled}
-use Rattle.mesh_types.specs.Soundness.{edge_begin, edge_end, IsInSquare}
+use Rattle.mesh_types.specs.Soundness.{IsPolygon, edge_begin, edge_end, IsInSquare}
 use Rattle.mesh_types.specs.Located.{Holds}
 
 -- ---- sixteenths
@@ -257,3 +257,22 @@ held_in_square window polygon q convex square holds = record {
   bottom = held_from_z polygon q window.z0 convex holds (λ k d there. (square k d there).bottom);
   top = held_to_z polygon q (window.z1 +ℤ pos 1) convex holds (λ k d there. (square k d there).top);
 }
+
+-- so its coordinates are those of the largest field
+pub held_coordinates : (polygon : Polygon) (q : Point) → IsPolygon polygon → Holds polygon q → HasCoordinates q
+held_coordinates polygon q rules holds = record {
+  across = record {
+    low = at_least q.x (held_from_x polygon q (pos 0) rules.convex holds (λ k d there. (rules.corners k d there).left));
+    high = at_most q.x (held_to_x polygon q (pos 1024) rules.convex holds (λ k d there. (rules.corners k d there).right));
+  };
+  along = record {
+    low = at_least q.z (held_from_z polygon q (pos 0) rules.convex holds (λ k d there. (rules.corners k d there).bottom));
+    high = at_most q.z (held_to_z polygon q (pos 1024) rules.convex holds (λ k d there. (rules.corners k d there).top));
+  };
+}
+  where
+    at_least : (n : ℤ) → (pos 16 *ℤ pos 0) ≤ℤ n → negsuc 65535 ≤ℤ n
+    at_least n h = omega (arith, ints)
+
+    at_most : (n : ℤ) → n ≤ℤ (pos 16 *ℤ pos 1024) → n ≤ℤ pos 65536
+    at_most n h = omega (arith, ints)

@@ -8,3 +8,6 @@ pub mod LinksInOrder
 pub mod HeldPoints
 pub mod PortalEnds
 pub mod MeshPolygons
+pub mod MeshLinks
+pub mod WalkChains
+pub mod RightLaws

@@ -1,0 +1,1 @@
+//! A small mesh by hand, and where places lie in it.
