@@ -1,3 +1,4 @@
 mod NearestLaws
 mod TileReach
 mod Scans
+mod HandMesh

@@ -1,10 +1,10 @@
 -- The scan of a tile, of a row of tiles, and of the rows: what is passed over holds no polygon that holds the point.
-use Rattle.std.proofs.Common.{◌≡◌, ℕ, zero, suc, ◌+◌, ◌-◌, ◌*◌, ◌/◌, ◌%◌, ◌≤◌, ◌<◌, List, [], ◌∷◌, length, refl, sym, ap, subst, ◌∙◌, inl, inr, arith}
+use Rattle.std.proofs.Common.{◌≡◌, ℕ, ◌+◌, ◌-◌, ◌*◌, ◌/◌, ◌%◌, ◌≤◌, ◌<◌, length, refl, sym, ap, subst, ◌∙◌, inl, inr, arith}
 use Rattle.std.specs.Prelude.{All, Option, Some, None, slice_get, option_and_then}
-use Rattle.std.specs.List.{sum_by}
 use Rattle.std.proofs.lemmas.Bool.{cases_lt}
-use Rattle.std.proofs.lemmas.Nat.{mod-mul-add, div-mul-add, mul-le}
-use Rattle.std.proofs.lemmas.Option.{same_Some, slice_get_within, option_and_then_some}
+use Rattle.std.proofs.lemmas.Nat.{mod-mul-add, mul-le}
+use Rattle.std.proofs.lemmas.List.Sums.{get_or-le-sum_by}
+use Rattle.std.proofs.lemmas.Option.{same_Some, slice_get_within, get_or_from_slice_get, option_and_then_some}
 use Rattle.nav_base.specs.declared.point.Point.{Point}
 use Rattle.nav_base.specs.Point.{IsCellCorner}
 use Rattle.nav_ground.specs.Limits.{IsSetting}
@@ -38,14 +38,11 @@ its_corners mesh t i tile polygon sound there listed =
     (placed mesh (record { tile = t; index = i }) polygon sound (polygon_there mesh t i tile polygon there listed)).rules.corners
 
 -- a tile has at most as many polygons as all tiles have
-polygons_within : (tiles : List TileMesh) (t : ℕ) (tile : TileMesh) → slice_get tiles t ≡ Some tile → length tile.polys ≤ polygon_count tiles
-polygons_within [] t tile there = absurd (omega (arith, slice_get_within [] t tile there))
-polygons_within (d ∷ tiles) zero tile there =
-    let same : d ≡ tile = same_Some d tile there in omega (arith, ap (λ (e : TileMesh). length e.polys) same)
-polygons_within (d ∷ tiles) (suc t) tile there = omega (arith, polygons_within tiles t tile there)
-
 pub few_polygons : (mesh : Mesh) (t : ℕ) (tile : TileMesh) → IsSound mesh → slice_get mesh.tiles t ≡ Some tile → length tile.polys ≤ 8000000
-few_polygons mesh t tile sound there = omega (arith, polygons_within mesh.tiles t tile there, sound.tiles.few)
+few_polygons mesh t tile sound there =
+    let within = slice_get_within mesh.tiles t tile there in
+    let same = ap (λ (d : TileMesh). length d.polys) (get_or_from_slice_get mesh.tiles t tile tile there) in
+    omega (arith, get_or-le-sum_by (λ (d : TileMesh). length d.polys) mesh.tiles t tile within, same, sound.tiles.few)
 
 -- after a tile's last polygon comes the next tile
 pub tile_done : (mesh : Mesh) (p : Point) (y t : ℕ) (tile : TileMesh) (best : Option Near) → slice_get mesh.tiles t ≡ Some tile
