@@ -145,17 +145,17 @@ goes_round polygon q convex holds = record {
   closes = subst (λ (m : ℕ). pos 0 ≤ℤ orient_of (edge_begin polygon (n - 1)) (edge_begin polygon m) q) (last n convex.enough)
       (holds (n - 1) (omega (arith, convex.enough)));
   bends = subst (λ (m : ℤ). pos 0 <ℤ m) (sym (orient_of-scaled (corner_at polygon.corners 0) (corner_at polygon.corners 1) (corner_at polygon.corners 2)))
-      (product-positive (pos 256) _ (record { lt = refl }) turn);
+      (product-positive (pos 256) _ (omega (arith, ints)) turn);
 }
   where
     n : ℕ
     n = length polygon.corners
 
-    next : (n k : ℕ) → suc k < n → place_after n k ≡ suc k
-    next n k there = grind (arith, nat_tests)
+    next : (count k : ℕ) → suc k < count → place_after count k ≡ suc k
+    next count k there = grind (arith, nat_tests)
 
-    last : (n : ℕ) → 3 ≤ n → place_after n (n - 1) ≡ 0
-    last n enough = grind (arith, nat_tests)
+    last : (count : ℕ) → 3 ≤ count → place_after count (count - 1) ≡ 0
+    last count enough = grind (arith, nat_tests)
 
     turn : pos 0 <ℤ orient_of (corner_at polygon.corners 0) (corner_at polygon.corners 1) (corner_at polygon.corners 2)
     turn =

@@ -1,7 +1,7 @@
 -- The ends of a portal are held by the polygon on either side, and what the one polygon holds lies behind it, what the other holds ahead.
 use Rattle.std.proofs.Common.{◌≡◌, ◌≢◌, ℕ, ◌<◌, ℤ, pos, ◌+ℤ◌, ◌-ℤ◌, ◌*ℤ◌, ◌≤ℤ◌, ◌<ℤ◌, [], ◌∷◌, length, refl, sym, ap, subst, ◌∙◌, arith}
 use Rattle.std.proofs.lemmas.Int.{ints}
-use lib.IntN.{neg_ℤ}
+use lib.IntN.{neg_ℤ, *ℤ_comm, *ℤ-zero}
 use Rattle.nav_base.specs.declared.point.Point.{Point}
 use Rattle.nav_base.specs.Point.{from_to, dot_of, cross_of, orient_of}
 use Rattle.nav_base.specs.Convex.{IsStrictlyConvex, corner_at, place_after, side_of_edge}
@@ -71,7 +71,7 @@ between s t u v p on hu hv =
     left a b d e h = omega (arith, ints)
 
     none : (o d : ℤ) → o ≡ pos 0 → o *ℤ d ≡ pos 0
-    none o d e = ap (λ (n : ℤ). n *ℤ d) e
+    none o d e = ap (λ (n : ℤ). n *ℤ d) e ∙ *ℤ_comm (pos 0) d ∙ *ℤ-zero d
 
     add : (a b c e : ℤ) → e ≡ pos 0 → a ≡ b +ℤ c +ℤ e → pos 0 ≤ℤ b → pos 0 ≤ℤ c → pos 0 ≤ℤ a
     add a b c e z h hb hc = omega (arith, ints)
@@ -141,7 +141,7 @@ left_along u v from to p lies h =
     aside a b c h e e' = omega (arith, ints)
 
     none : (o d : ℤ) → o ≡ pos 0 → o *ℤ d ≡ pos 0
-    none o d e = ap (λ (n : ℤ). n *ℤ d) e
+    none o d e = ap (λ (n : ℤ). n *ℤ d) e ∙ *ℤ_comm (pos 0) d ∙ *ℤ-zero d
 
     same : (a b c : ℤ) → a ≡ b +ℤ c → c ≡ pos 0 → pos 0 ≤ℤ a → pos 0 ≤ℤ b
     same a b c e z h = omega (arith, ints)

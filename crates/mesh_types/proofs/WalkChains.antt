@@ -59,8 +59,8 @@ portal_is links m there = get_or-map (λ (link : Link). link.portal) links m som
 
 -- what all elements of either of two lists keep
 All-if : {X : Type 0} (P : X → Type 0) (b : Bool) (xs ys : List X) → (b ≡ true → All P xs) → (b ≡ false → All P ys) → All P (if b then xs else ys)
-All-if P true xs ys yes no = yes refl
-All-if P false xs ys yes no = no refl
+All-if P true xs ys then' else' = then' refl
+All-if P false xs ys then' else' = else' refl
 
 one : {X : Type 0} (P : X → Type 0) (x : X) → P x → All P (x ∷ [])
 one P x h = All-cons P x [] h (All-nil P)
