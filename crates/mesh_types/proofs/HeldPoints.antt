@@ -1,5 +1,5 @@
 -- A point that a polygon holds obeys each half plane that the polygon's corners obey.
-use Rattle.std.proofs.Common.{◌≡◌, ℕ, zero, suc, ◌+◌, ◌-◌, ◌≤◌, ◌<◌, ℤ, pos, negsuc, ◌+ℤ◌, ◌-ℤ◌, ◌*ℤ◌, ◌≤ℤ◌, ◌<ℤ◌, [], ◌∷◌, length, refl, sym, ap, subst, ◌∙◌, inl, inr, arith, lit<}
+use Rattle.std.proofs.Common.{◌≡◌, ℕ, zero, suc, ◌-◌, ◌≤◌, ◌<◌, ℤ, pos, negsuc, ◌+ℤ◌, ◌-ℤ◌, ◌*ℤ◌, ◌≤ℤ◌, ◌<ℤ◌, [], ◌∷◌, length, refl, sym, subst, ◌∙◌, inl, inr, arith}
 use Rattle.std.specs.Prelude.{All}
 use Rattle.std.proofs.lemmas.Int.{ints, by_lt_z}
 use Rattle.std.proofs.lemmas.Bool.{cases_eq}
@@ -7,7 +7,7 @@ use Rattle.std.proofs.lemmas.Bool.Decides.{nat_tests}
 use lib.IntN.{neg_ℤ, *ℤ_comm}
 use Rattle.nav_base.specs.declared.point.Point.{Point}
 use Rattle.nav_base.specs.Point.{HasCoordinates, from_to, dot_of, cross_of, orient_of}
-use Rattle.nav_base.specs.Convex.{IsStrictlyConvex, corner_at, place_after, side_of_edge}
+use Rattle.nav_base.specs.Convex.{IsStrictlyConvex, corner_at, place_after}
 use Rattle.nav_base.proofs.Polynomials.{number, opposite, sum, difference, product, equal}
 use Rattle.nav_base.proofs.PointTerms.{Place, place, coordinates, from_to_term, dot_term, orient_term}
 use Rattle.nav_base.proofs.OrientLaws.{orient_of-rotated, orient_of-exchanged, dot_of-fan}
@@ -15,7 +15,7 @@ use Rattle.nav_base.proofs.Signs.{product-not_negative, product-positive, factor
 use Rattle.nav_ground.specs.declared.cell.Window.{Window}
 use Rattle.mesh_types.specs.declared.polygon.Polygon.{Polygon}
 use Rattle.mesh_types.specs.BorderLinks.{scaled}
-use Rattle.mesh_types.specs.Soundness.{IsPolygon, edge_begin, edge_end, IsInSquare}
+use Rattle.mesh_types.specs.Soundness.{IsPolygon, edge_begin, IsInSquare}
 use Rattle.mesh_types.specs.Located.{Holds}
 
 -- ---- sixteenths

@@ -1,5 +1,5 @@
 -- The links of a sound mesh: from which polygon into which they lead, and which points lie behind and ahead of them.
-use Rattle.std.proofs.Common.{◌≡◌, ◌≢◌, ℕ, ◌<◌, List, length, get_or, ap, sym, subst, ◌∙◌, inl, inr}
+use Rattle.std.proofs.Common.{◌≡◌, ◌≢◌, ℕ, List, ap, sym, subst, ◌∙◌, inl, inr}
 use Rattle.std.specs.Prelude.{All, Contains, slice_get, Option, Some, option_and_then}
 use Rattle.std.proofs.lemmas.Option.{slice_get_within, get_or_from_slice_get, same_Some}
 use Rattle.nav_base.specs.declared.point.Point.{Point}
@@ -14,7 +14,7 @@ use Rattle.mesh_types.specs.Located.{Holds, HoldsAt}
 use Rattle.mesh_types.specs.Soundness.{LeadsThrough, IsInnerLink, IsCrossLink, IsSound}
 use Rattle.mesh_types.specs.WholeMesh.{poly_at}
 use Rattle.mesh_types.proofs.MeshPolygons.{tile_at, placed}
-use Rattle.mesh_types.proofs.PortalEnds.{HoldsEnds, out_held, in_held, ends_apart, held_behind, held_ahead}
+use Rattle.mesh_types.proofs.PortalEnds.{out_held, in_held, ends_apart, held_behind, held_ahead}
 
 -- an element of a list keeps what all elements keep
 pub All-contained : {X : Type 0} (P : X → Type 0) (xs : List X) (x : X) → All P xs → Contains xs x → P x

@@ -4,9 +4,9 @@ use Rattle.std.proofs.lemmas.Int.{ints}
 use lib.IntN.{neg_ℤ, *ℤ_comm, *ℤ-zero}
 use Rattle.nav_base.specs.declared.point.Point.{Point}
 use Rattle.nav_base.specs.Point.{from_to, dot_of, cross_of, orient_of}
-use Rattle.nav_base.specs.Convex.{IsStrictlyConvex, corner_at, place_after, side_of_edge}
+use Rattle.nav_base.specs.Convex.{IsStrictlyConvex, corner_at, place_after}
 use Rattle.nav_base.proofs.Polynomials.{difference, equal}
-use Rattle.nav_base.proofs.PointTerms.{place, coordinates, from_to_term, dot_term, orient_term}
+use Rattle.nav_base.proofs.PointTerms.{place, coordinates, from_to_term, dot_term}
 use Rattle.nav_base.proofs.OrientLaws.{orient_of-turned, orient_of-apart, orient_of-between, dot_of-cross_of}
 use Rattle.nav_base.proofs.ConvexLaws.{IsStrictlyConvex-sides, place_after-in}
 use Rattle.nav_base.proofs.Signs.{product-not_negative, factor-not_negative}

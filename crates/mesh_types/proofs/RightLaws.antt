@@ -1,5 +1,5 @@
 -- What is right for a question is determined: its kind, its floors, its first polygon and its cost.
-use Rattle.std.proofs.Common.{◌≡◌, ℕ, ◌≤◌, ◌<◌, ◌⊎◌, refl, sym, ap, subst, ◌∙◌, inl, inr, arith}
+use Rattle.std.proofs.Common.{◌≡◌, ℕ, sym, subst, ◌∙◌, inl, inr, arith}
 use Rattle.std.specs.Prelude.{⊤}
 use Rattle.nav_base.specs.declared.point.Point.{Point}
 use Rattle.nav_base.specs.declared.answers.Question.{Question}
@@ -11,7 +11,7 @@ use Rattle.mesh_types.specs.declared.links.PolyRef.{PolyRef}
 use Rattle.mesh_types.specs.declared.mesh.Mesh.{Mesh}
 use Rattle.mesh_types.specs.declared.corridor.Corridor.{Corridor}
 use Rattle.mesh_types.specs.Corridors.{IsCheapest, WalksTo}
-use Rattle.mesh_types.specs.Located.{HoldsAt, IsLocated, IsNoLater, height_gap}
+use Rattle.mesh_types.specs.Located.{IsLocated, IsNoLater, height_gap}
 use Rattle.mesh_types.specs.Right.{HasNoPath, IsPath, IsRight, IsRightFloors, IsRightPath}
 
 -- of two polygons each is no later than the other
@@ -49,10 +49,12 @@ both_paths : (mesh : Mesh) (from : Point) (from_y : ℕ) (to : Point) (to_y : �
     → IsPath mesh from from_y to to_y b → (a.first ≡ b.first) × (a.cost ≡ b.cost)
 both_paths mesh from from_y to to_y a b is is' =
     let first = one_located mesh from from_y a.first b.first is.start is'.start in
-    let last = one_located mesh to to_y is.last is'.last is.goal is'.goal in
-    (first, one_cost mesh b.first is'.last (record { cost = a.cost; links = a.links }) (record { cost = b.cost; links = b.links })
-    (subst (λ (at : PolyRef). IsCheapest mesh at is'.last (record { cost = a.cost; links = a.links })) first
-    (subst (λ (at : PolyRef). IsCheapest mesh a.first at (record { cost = a.cost; links = a.links })) last is.cheapest)) is'.cheapest)
+    let last = one_located mesh to to_y is.last is'.last is.goal is'.goal in (
+      first,
+      one_cost mesh b.first is'.last (record { cost = a.cost; links = a.links }) (record { cost = b.cost; links = b.links })
+          (subst (λ (at : PolyRef). IsCheapest mesh at is'.last (record { cost = a.cost; links = a.links })) first
+          (subst (λ (at : PolyRef). IsCheapest mesh a.first at (record { cost = a.cost; links = a.links })) last is.cheapest)) is'.cheapest,
+    )
 
 -- where no walk joins the two places, there is no path
 no_walk_there : (mesh : Mesh) (from : Point) (from_y : ℕ) (to : Point) (to_y : ℕ) (found : PathFound) → HasNoPath mesh from from_y to to_y
