@@ -1,5 +1,5 @@
 -- The mesh that is written out is sound.
-use Rattle.std.proofs.Common.{◌≡◌, ℕ, zero, suc, ◌+◌, ◌<◌, ◌≤◌, ℤ, pos, ◌<ℤ◌, List, [], ◌∷◌, length, get_or, refl, arith, subst, sym}
+use Rattle.std.proofs.Common.{◌≡◌, ℕ, zero, suc, ◌+◌, ◌<◌, ◌≤◌, pos, ◌<ℤ◌, List, [], ◌∷◌, get_or, refl, arith, subst, sym}
 use Rattle.std.specs.Prelude.{All}
 use Rattle.std.proofs.lemmas.Int.{ints}
 use Rattle.std.proofs.lemmas.List.Elements.{All-nil, All-cons}
@@ -14,7 +14,7 @@ use Rattle.mesh_types.specs.declared.links.Link.{Link}
 use Rattle.mesh_types.specs.declared.polygon.Polygon.{Polygon}
 use Rattle.mesh_types.specs.declared.tile.TileMesh.{TileMesh}
 use Rattle.mesh_types.specs.Soundness.{IsPolygon, IsInSquare, IsFit, IsSound, IsCrossLink}
-use Rattle.mesh_locate.specs.ByHand.{hand_setting, hand_polygon, hand_tile, left_tile, right_tile, hand_mesh}
+use Rattle.mesh_locate.specs.ByHand.{hand_setting, hand_polygon, left_tile, right_tile, hand_mesh}
 
 pub IsSetting-hand : IsSetting hand_setting
 IsSetting-hand = record {
@@ -77,11 +77,11 @@ left_fits = record {
   of_tile = refl;
   free = IsCut-shown [] refl;
   in_tile = record { there = omega arith; inside = All-nil _ };
-  polys = All-cons IsPolygon _ _ low_polygon (All-cons IsPolygon _ _ high_polygon (All-nil IsPolygon));
-  square = All-cons (λ (polygon : Polygon). All (IsInSquare (tile_window hand_setting 0)) polygon.corners) (hand_polygon 0 4 0) _
+  polys = All-cons IsPolygon (hand_polygon 0 4 0) (hand_polygon 0 4 4 ∷ []) low_polygon (All-cons IsPolygon (hand_polygon 0 4 4) [] high_polygon (All-nil IsPolygon));
+  square = All-cons (λ (polygon : Polygon). All (IsInSquare (tile_window hand_setting 0)) polygon.corners) (hand_polygon 0 4 0) (hand_polygon 0 4 4 ∷ [])
       (in_square 0 0 4 0 (tile_window hand_setting 0) refl refl (omega arith) (omega arith))
-      (All-cons (λ (polygon : Polygon). All (IsInSquare (tile_window hand_setting 0)) polygon.corners) (hand_polygon 0 4 4) _
-      (in_square 0 0 4 4 (tile_window hand_setting 0) refl refl (omega arith) (omega arith)) (All-nil _));
+      (All-cons (λ (polygon : Polygon). All (IsInSquare (tile_window hand_setting 0)) polygon.corners) (hand_polygon 0 4 4) []
+      (in_square 0 0 4 4 (tile_window hand_setting 0) refl refl (omega arith) (omega arith)) (All-nil (λ (polygon : Polygon). All (IsInSquare (tile_window hand_setting 0)) polygon.corners)));
   links = All-nil _;
   rim = All-nil _;
 }
@@ -91,9 +91,9 @@ right_fits = record {
   of_tile = refl;
   free = IsCut-shown [] refl;
   in_tile = record { there = omega arith; inside = All-nil _ };
-  polys = All-cons IsPolygon _ _ other_polygon (All-nil IsPolygon);
-  square = All-cons (λ (polygon : Polygon). All (IsInSquare (tile_window hand_setting 1)) polygon.corners) (hand_polygon 4 4 0) _
-      (in_square 4 4 4 0 (tile_window hand_setting 1) refl refl (omega arith) (omega arith)) (All-nil _);
+  polys = All-cons IsPolygon (hand_polygon 4 4 0) [] other_polygon (All-nil IsPolygon);
+  square = All-cons (λ (polygon : Polygon). All (IsInSquare (tile_window hand_setting 1)) polygon.corners) (hand_polygon 4 4 0) []
+      (in_square 4 4 4 0 (tile_window hand_setting 1) refl refl (omega arith) (omega arith)) (All-nil (λ (polygon : Polygon). All (IsInSquare (tile_window hand_setting 1)) polygon.corners));
   links = All-nil _;
   rim = All-nil _;
 }

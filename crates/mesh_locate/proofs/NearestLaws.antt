@@ -1,15 +1,14 @@
 -- One more polygon, one more tile: what was found stays the nearest.
-use Rattle.std.proofs.Common.{◌≡◌, ℕ, ◌+◌, ◌≤◌, ◌<◌, ◌⊎◌, Bool, true, false, List, length, refl, sym, ap, subst, ◌∙◌, inl, inr, arith}
-use Rattle.std.specs.Prelude.{Option, Some, None, slice_get, nat_lt}
+use Rattle.std.proofs.Common.{◌≡◌, ℕ, ◌+◌, ◌≤◌, ◌<◌, true, false, refl, sym, ap, subst, ◌∙◌, inl, inr, arith}
+use Rattle.std.specs.Prelude.{Option, Some, None}
 use Rattle.std.proofs.lemmas.Bool.{cases_lt, ltb-true, ltb-false, true≢false}
-use Rattle.std.proofs.lemmas.Option.{same_Some, slice_get_within}
+use Rattle.std.proofs.lemmas.Option.{same_Some}
 use Rattle.nav_base.specs.declared.point.Point.{Point}
 use Rattle.mesh_types.specs.declared.links.PolyRef.{PolyRef}
 use Rattle.mesh_types.specs.declared.polygon.Polygon.{Polygon}
 use Rattle.mesh_types.specs.declared.mesh.Mesh.{Mesh}
 use Rattle.mesh_types.specs.Located.{Holds, HoldsAt, IsLocated, IsNoLater, height_gap}
 use Rattle.mesh_types.specs.Right.{IsNowhere}
-use Rattle.mesh_types.specs.Soundness.{IsSound}
 use Rattle.mesh_types.specs.WholeMesh.{poly_at}
 use Rattle.mesh_locate.specs.declared.near.Near.{Near}
 use Rattle.mesh_locate.specs.Nearest.{IsBefore, IsNearest, IsNearestBefore, is_nearer}
@@ -29,10 +28,22 @@ later_next : (at other : PolyRef) → IsBefore at.tile at.index other → IsBefo
 later_next at other (inl earlier) = inl earlier
 later_next at other (inr same) = inr (same.0, omega (arith, same.1))
 
--- the gap of a polygon that holds the point
-gap_is : (mesh : Mesh) (p : Point) (y : ℕ) (at : PolyRef) (polygon : Polygon) → poly_at mesh at ≡ Some polygon → (held : HoldsAt mesh p y at)
-    → held.polygon ≡ polygon
-gap_is mesh p y at polygon there held = same_Some held.polygon polygon (sym held.there ∙ there)
+-- a reference names one polygon
+one_polygon : (mesh : Mesh) (p : Point) (y : ℕ) (at other : PolyRef) (polygon : Polygon) → other ≡ at → poly_at mesh at ≡ Some polygon
+    → (held : HoldsAt mesh p y other) → held.polygon ≡ polygon
+one_polygon mesh p y at other polygon here there held = same_Some held.polygon polygon (sym held.there ∙ ap (poly_at mesh) here ∙ there)
+
+-- a polygon holds no point at a height that is too far outside its floors, and none outside its edges
+pub too_far : (mesh : Mesh) (p : Point) (y : ℕ) (at : PolyRef) (polygon : Polygon) (gap : ℕ) → poly_at mesh at ≡ Some polygon → gap ≡ height_gap polygon y
+    → mesh.setting.agent.climb < gap → HoldsAt mesh p y at → ⊥
+too_far mesh p y at polygon gap there is beyond held =
+    let same = one_polygon mesh p y at at polygon refl there held in
+    omega (arith, held.near, beyond, is, ap (λ (d : Polygon). height_gap d y) same)
+
+pub outside : (mesh : Mesh) (p : Point) (y : ℕ) (at : PolyRef) (polygon : Polygon) → poly_at mesh at ≡ Some polygon → (Holds polygon p → ⊥)
+    → HoldsAt mesh p y at → ⊥
+outside mesh p y at polygon there never held =
+    never (subst (λ (d : Polygon). Holds d p) (one_polygon mesh p y at at polygon refl there held) held.holds)
 
 -- a polygon that does not hold the point changes nothing
 pub passed_over : (mesh : Mesh) (p : Point) (y : ℕ) (at : PolyRef) (best : Option Near) → (HoldsAt mesh p y at → ⊥)
@@ -57,16 +68,16 @@ no_later tile index a b m n at at' (inr there) least =
 pub left_alone : (mesh : Mesh) (p : Point) (y : ℕ) (at : PolyRef) (polygon : Polygon) (gap : ℕ) (best : Option Near) → poly_at mesh at ≡ Some polygon
     → gap ≡ height_gap polygon y → is_nearer gap best ≡ false → IsNearestBefore mesh p y at.tile at.index best
     → IsNearestBefore mesh p y at.tile (at.index + 1) best
-left_alone mesh p y at polygon gap None there is no found = absurd (true≢false no)
-left_alone mesh p y at polygon gap (Some near) there is no found =
-    let no_nearer : near.gap ≤ gap = ltb-false gap near.gap no in
+left_alone mesh p y at polygon gap None there is least found = absurd (true≢false least)
+left_alone mesh p y at polygon gap (Some near) there is least found =
+    let no_nearer : near.gap ≤ gap = ltb-false gap near.gap least in
     record {
       holding = found.holding;
       gap = found.gap;
       before = later_next at near.at found.before;
       least = λ other before held. before_next at other before (λ earlier. found.least other earlier held)
           (λ here.
-          let same : held.polygon ≡ polygon = gap_is mesh p y at polygon there (subst (HoldsAt mesh p y) here held) in
+          let same : held.polygon ≡ polygon = one_polygon mesh p y at other polygon here there held in
           no_later at.tile at.index near.at other near.gap (height_gap held.polygon y) (ap (λ (r : PolyRef). r.tile) here) (ap (λ (r : PolyRef). r.index) here) found.before
           (subst (λ (n : ℕ). near.gap ≤ n) (is ∙ ap (λ (d : Polygon). height_gap d y) (sym same)) no_nearer));
     }
@@ -81,7 +92,7 @@ taken mesh p y at polygon gap best there is near holds nearer found = record {
   before = inr (refl, omega arith);
   least = λ other before held. before_next at other before (λ earlier. farther best nearer found other earlier held)
       (λ here.
-      let same : held.polygon ≡ polygon = gap_is mesh p y at polygon there (subst (HoldsAt mesh p y) here held) in
+      let same : held.polygon ≡ polygon = one_polygon mesh p y at other polygon here there held in
       let level : gap ≡ height_gap held.polygon y = is ∙ ap (λ (d : Polygon). height_gap d y) (sym same) in
       inr (level, inr (ap (λ (r : PolyRef). r.tile) (sym here), omega (arith, ap (λ (r : PolyRef). r.index) (sym here)))));
 }
@@ -92,9 +103,9 @@ taken mesh p y at polygon gap best there is near holds nearer found = record {
 
     farther : (best : Option Near) → is_nearer gap best ≡ true → IsNearestBefore mesh p y at.tile at.index best
         → (other : PolyRef) → IsBefore at.tile at.index other → (held : HoldsAt mesh p y other) → IsNoLater gap at (height_gap held.polygon y) other
-    farther None yes found other earlier held = absurd (found other earlier held)
-    farther (Some near) yes found other earlier held =
-        inl (beyond near.gap (height_gap held.polygon y) near.at other (ltb-true gap near.gap yes) (found.least other earlier held))
+    farther None less found other earlier held = absurd (found other earlier held)
+    farther (Some near) less found other earlier held =
+        inl (beyond near.gap (height_gap held.polygon y) near.at other (ltb-true gap near.gap less) (found.least other earlier held))
 
 -- ---- from tile to tile
 

@@ -1,5 +1,5 @@
 -- The scan of a tile, of a row of tiles, and of the rows: what is passed over holds no polygon that holds the point.
-use Rattle.std.proofs.Common.{◌≡◌, ℕ, ◌+◌, ◌-◌, ◌*◌, ◌/◌, ◌%◌, ◌≤◌, ◌<◌, length, refl, sym, ap, subst, ◌∙◌, inl, inr, arith}
+use Rattle.std.proofs.Common.{◌≡◌, ℕ, ◌+◌, ◌-◌, ◌*◌, ◌/◌, ◌%◌, ◌≤◌, ◌<◌, ℤ, length, sym, ap, subst, ◌∙◌, inl, inr, arith}
 use Rattle.std.specs.Prelude.{All, Option, Some, None, slice_get, option_and_then}
 use Rattle.std.proofs.lemmas.Bool.{cases_lt}
 use Rattle.std.proofs.lemmas.Nat.{mod-mul-add, mul-le}
@@ -15,7 +15,7 @@ use Rattle.mesh_types.specs.declared.tile.TileMesh.{TileMesh}
 use Rattle.mesh_types.specs.declared.mesh.Mesh.{Mesh}
 use Rattle.mesh_types.specs.Located.{HoldsAt, IsLocated}
 use Rattle.mesh_types.specs.Right.{IsNowhere}
-use Rattle.mesh_types.specs.Soundness.{IsSound, polygon_count}
+use Rattle.mesh_types.specs.Soundness.{IsSound}
 use Rattle.mesh_types.specs.WholeMesh.{poly_at}
 use Rattle.mesh_types.proofs.MeshPolygons.{placed}
 use Rattle.mesh_locate.specs.declared.near.Near.{Near}
@@ -142,28 +142,41 @@ rows_over mesh p y rows are sound setting other held =
     let up = mul-le (other.tile / width + 1) width rows.end width (omega (arith, (are other held).end)) (omega arith) in
     omega (arith, up, column, one_more (other.tile / width) width)
 
-pub rows_located : (mesh : Mesh) (p : Point) (y : ℕ) (rows : Places) (near : Near) → AreRows mesh p y rows → IsSound mesh → IsSetting mesh.setting
-    → IsNearestBefore mesh p y (rows.end * tiles_in_row mesh.setting) 0 (Some near) → IsLocated mesh p y near.at
-rows_located mesh p y rows near are sound setting found =
-    located mesh p y (rows.end * tiles_in_row mesh.setting) near (rows_over mesh p y rows are sound setting) found
+-- after the last row, what was found is the polygon that locates the point, and where nothing was found no polygon holds it
+pub rows_located : (mesh : Mesh) (p : Point) (y row : ℕ) (rows : Places) (best : Option Near) (near : Near) → AreRows mesh p y rows → IsSound mesh
+    → IsSetting mesh.setting → row ≡ rows.end → IsNearestBefore mesh p y (row * tiles_in_row mesh.setting) 0 best → best ≡ Some near
+    → IsLocated mesh p y near.at
+rows_located mesh p y row rows best near are sound setting last found is =
+    located mesh p y (rows.end * tiles_in_row mesh.setting) near (rows_over mesh p y rows are sound setting)
+    (subst (λ (n : ℕ). IsNearestBefore mesh p y (n * tiles_in_row mesh.setting) 0 (Some near)) last
+    (subst (IsNearestBefore mesh p y (row * tiles_in_row mesh.setting) 0) is found))
 
-pub rows_nowhere : (mesh : Mesh) (p : Point) (y : ℕ) (rows : Places) → AreRows mesh p y rows → IsSound mesh → IsSetting mesh.setting
-    → IsNearestBefore mesh p y (rows.end * tiles_in_row mesh.setting) 0 None → IsNowhere mesh p y
-rows_nowhere mesh p y rows are sound setting found =
-    nowhere mesh p y (rows.end * tiles_in_row mesh.setting) (rows_over mesh p y rows are sound setting) found
+pub rows_nowhere : (mesh : Mesh) (p : Point) (y row : ℕ) (rows : Places) (best : Option Near) → AreRows mesh p y rows → IsSound mesh
+    → IsSetting mesh.setting → row ≡ rows.end → IsNearestBefore mesh p y (row * tiles_in_row mesh.setting) 0 best → best ≡ None
+    → IsNowhere mesh p y
+rows_nowhere mesh p y row rows best are sound setting last found is =
+    nowhere mesh p y (rows.end * tiles_in_row mesh.setting) (rows_over mesh p y rows are sound setting)
+    (subst (λ (n : ℕ). IsNearestBefore mesh p y (n * tiles_in_row mesh.setting) 0 None) last
+    (subst (IsNearestBefore mesh p y (row * tiles_in_row mesh.setting) 0) is found))
 
 -- ---- the places that were computed
 
-pub are_columns : (mesh : Mesh) (p : Point) (y : ℕ) (places : Places) → IsSound mesh → IsSetting mesh.setting → places.first ≤ places.end
-    → places.end ≤ tiles_in_row mesh.setting
-    → ((place : ℕ) → place < tiles_in_row mesh.setting → Reaches (16 * mesh.setting.tile) place p.x → IsOneOf places place) → AreColumns mesh p y places
-are_columns mesh p y places sound setting order few all = record {
+pub are_columns : (mesh : Mesh) (p : Point) (y count : ℕ) (at : ℤ) (places : Places) → IsSound mesh → IsSetting mesh.setting → count ≡ tiles_in_row mesh.setting
+    → at ≡ p.x → places.first ≤ places.end → places.end ≤ count
+    → ((place : ℕ) → place < count → Reaches (16 * mesh.setting.tile) place at → IsOneOf places place) → AreColumns mesh p y places
+are_columns mesh p y count at places sound setting columns is order few all = record {
   order = order;
-  inside = few;
-  all = λ other held. let at = held_in_tile mesh p y other sound setting held in all (other.tile % tiles_in_row mesh.setting) at.column at.across;
+  inside = omega (arith, few, columns);
+  all = λ other held.
+      let reached = held_in_tile mesh p y other sound setting held in
+      all (other.tile % tiles_in_row mesh.setting) (omega (arith, columns, reached.column))
+      (subst (Reaches (16 * mesh.setting.tile) (other.tile % tiles_in_row mesh.setting)) (sym is) reached.across);
 }
 
-pub are_rows : (mesh : Mesh) (p : Point) (y : ℕ) (places : Places) → IsSound mesh → IsSetting mesh.setting
-    → ((place : ℕ) → place < tile_rows mesh.setting → Reaches (16 * mesh.setting.tile) place p.z → IsOneOf places place) → AreRows mesh p y places
-are_rows mesh p y places sound setting all =
-    λ other held. let at = held_in_tile mesh p y other sound setting held in all (other.tile / tiles_in_row mesh.setting) at.row at.along
+pub are_rows : (mesh : Mesh) (p : Point) (y count : ℕ) (at : ℤ) (places : Places) → IsSound mesh → IsSetting mesh.setting → count ≡ tile_rows mesh.setting
+    → at ≡ p.z → ((place : ℕ) → place < count → Reaches (16 * mesh.setting.tile) place at → IsOneOf places place) → AreRows mesh p y places
+are_rows mesh p y count at places sound setting rows is all =
+    λ other held.
+    let reached = held_in_tile mesh p y other sound setting held in
+    all (other.tile / tiles_in_row mesh.setting) (omega (arith, rows, reached.row))
+    (subst (Reaches (16 * mesh.setting.tile) (other.tile / tiles_in_row mesh.setting)) (sym is) reached.along)

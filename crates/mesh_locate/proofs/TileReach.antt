@@ -1,11 +1,10 @@
 -- A polygon that holds a point stands in a tile whose closed square reaches the point.
-use Rattle.std.proofs.Common.{◌≡◌, ℕ, ◌+◌, ◌-◌, ◌*◌, ◌/◌, ◌%◌, ◌≤◌, ◌<◌, ℤ, pos, ◌+ℤ◌, ◌*ℤ◌, ◌≤ℤ◌, length, sym, ap, subst, ◌∙◌, arith}
+use Rattle.std.proofs.Common.{ℕ, ◌+◌, ◌-◌, ◌*◌, ◌/◌, ◌%◌, ◌≤◌, ◌<◌, ℤ, pos, ◌+ℤ◌, ◌*ℤ◌, ◌≤ℤ◌, subst, arith}
 use Rattle.std.specs.Prelude.{min}
 use Rattle.std.proofs.lemmas.Int.{ints}
 use Rattle.std.proofs.lemmas.Nat.{div_below, le-div, mul-le}
 use Rattle.std.proofs.Math.Nat.{mod-lt}
 use Rattle.nav_base.specs.declared.point.Point.{Point}
-use Rattle.nav_ground.specs.declared.setting.Setting.{Setting}
 use Rattle.nav_ground.specs.Limits.{IsSetting}
 use Rattle.nav_ground.specs.Tiling.{tiles_in_row, tile_rows, tile_count, tile_window}
 use Rattle.nav_ground.proofs.Places.{some_columns, row_is}
@@ -13,7 +12,7 @@ use Rattle.mesh_types.specs.declared.links.PolyRef.{PolyRef}
 use Rattle.mesh_types.specs.declared.mesh.Mesh.{Mesh}
 use Rattle.mesh_types.specs.Located.{HoldsAt}
 use Rattle.mesh_types.specs.Soundness.{IsSound}
-use Rattle.mesh_types.proofs.HeldPoints.{IsInScaledSquare, held_in_square}
+use Rattle.mesh_types.proofs.HeldPoints.{held_in_square}
 use Rattle.mesh_types.proofs.MeshPolygons.{placed}
 use Rattle.mesh_locate.specs.Places.{Reaches}
 

@@ -1,7 +1,6 @@
 -- ByHand: a mesh of two tiles of four columns a side, written out. Two equal triangles stand above each other in the left tile, and one in the
 -- right tile beside them.
 use Rattle.std.specs.Prelude.{ℕ, ◌+◌, pos, List, [], ◌∷◌, replicate, false}
-use Rattle.nav_base.specs.declared.point.Point.{Point}
 use Rattle.nav_ground.specs.declared.setting.Setting.{Setting}
 use Rattle.nav_ground.specs.declared.setting.MeshKind.TheVariants.{Strips}
 use Rattle.mesh_types.specs.declared.mesh.Mesh.{Mesh}

@@ -30,5 +30,6 @@ pub fn locate(mesh: &Mesh, p: Point, y: u32) -> Option<PolyRef>
     for row in rows.first..rows.end {
         nearest = nearest_in_row(mesh, row, columns, p, y, nearest);
     }
-    nearest.map(|near| near.at)
+    let near = nearest?;
+    Some(near.at)
 }
