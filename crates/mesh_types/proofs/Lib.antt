@@ -5,3 +5,9 @@ pub mod Sorting
 pub mod LinkOrderLaws
 pub mod RunLaws
 pub mod LinksInOrder
+pub mod HeldPoints
+pub mod PortalEnds
+pub mod MeshPolygons
+pub mod MeshLinks
+pub mod WalkChains
+pub mod RightLaws

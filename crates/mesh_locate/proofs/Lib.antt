@@ -1,0 +1,4 @@
+mod NearestLaws
+mod TileReach
+mod Scans
+mod HandMesh

@@ -1,0 +1,18 @@
+use Rattle.std.proofs.Common.{◌≡◌, ℕ, List, length, get_or, refl, ap, ◌∙◌, subst, arith}
+use Rattle.std.proofs.lemmas.Option.{slice_get_read}
+use Rattle.mesh_types.specs.declared.polygon.Polygon.{Polygon}
+use Rattle.mesh_types.specs.declared.tile.TileMesh.{TileMesh}
+use Rattle.mesh_locate.specs.Nearest.{IsNearestBefore}
+use Rattle.mesh_locate.proofs.Scans.{tile_done}
+use Rattle.mesh_locate.proofs.tiles.nearest_in_tile.Goals as goal
+
+pub returns : goal.returns
+returns c =
+    let mesh = c.args.mesh.now in
+    let tile = c.index-tiles-tile.result in
+    let is = c.index-tiles-tile.is ∙ ap (λ (tiles : List TileMesh). get_or tiles c.args.tile tile) c.as_slice-tiles.ensures in
+    let there = slice_get_read mesh.tiles (length mesh.tiles) c.args.tile tile refl c.requires.there is in
+    let polys = ap (λ (ps : List Polygon). length ps) (c.as_slice-polys.ensures ∙ ap (λ (d : TileMesh). d.polys) c.get.ensures) in
+    let last : c.loop-i.i ≡ length tile.polys = omega (arith, c.loop-i-test.false, c.loop-i.auto.i-end, polys) in
+    tile_done mesh c.args.p c.args.y c.args.tile tile c.loop-i.nearest there
+    (subst (λ (n : ℕ). IsNearestBefore mesh c.args.p c.args.y c.args.tile n c.loop-i.nearest) last c.loop-i.invariant)

@@ -1,0 +1,107 @@
+//! Whether a polygon holds a place, and which of two is nearer to it.
+
+ghost use Rattle.std.specs.Prelude.{◌≡◌, ◌↔◌, ◌<◌, ◌+◌, pos, ◌<ℤ◌, All, IsTrue, Some};
+ghost use Rattle.nav_base.specs.Point.{HasCoordinates, IsCellCorner, orient_of};
+ghost use Rattle.nav_base.specs.Convex.{place_after};
+ghost use Rattle.mesh_types.specs.BorderLinks.{scaled};
+ghost use Rattle.mesh_types.specs.Located.{Holds, height_gap};
+ghost use Rattle.mesh_types.specs.WholeMesh.{poly_at};
+ghost use Rattle.mesh_locate.specs.Nearest.{IsNearestBefore, is_nearer};
+
+use crate::near::Near;
+use mesh_types::{Mesh, PolyRef, Polygon};
+use nav_base::{Point, orient};
+
+/// What was found so far, or a polygon, if it holds the place and is nearer in height.
+pub fn nearer(
+    mesh: &Mesh,
+    at: PolyRef,
+    polygon: &Polygon,
+    p: Point,
+    y: u32,
+    best: Option<Near>,
+) -> Option<Near>
+    requires there { poly_at mesh.now at ≡ Some polygon.now }
+    requires corners { All IsCellCorner polygon.now.corners }
+    requires point { HasCoordinates p }
+    requires best { IsNearestBefore mesh.now p y at.tile at.index best }
+    ensures { IsNearestBefore mesh.now p y at.tile (at.index + 1) result }
+{
+    let gap = height_gap(polygon, y);
+    if gap > mesh.setting.agent.climb {
+        return best;
+    }
+    if !is_nearer(gap, best) {
+        return best;
+    }
+    if !holds(polygon, p) {
+        return best;
+    }
+    Some(Near { gap, at })
+}
+
+/// How far a height is outside the floors of a polygon.
+fn height_gap(polygon: &Polygon, y: u32) -> u32
+    ensures { result ≡ height_gap polygon.now y }
+{
+    let below = polygon.low.saturating_sub(y);
+    let above = y.saturating_sub(polygon.high);
+    below.max(above)
+}
+
+/// Whether a gap is less than that of what was found so far.
+fn is_nearer(gap: u32, best: Option<Near>) -> bool
+    ensures { result ≡ is_nearer gap best }
+{
+    match best {
+        Some(near) => gap < near.gap,
+        None => true,
+    }
+}
+
+/// Whether a polygon holds a point of the plane.
+fn holds(polygon: &Polygon, p: Point) -> bool
+    requires corners { All IsCellCorner polygon.now.corners }
+    requires point { HasCoordinates p }
+    ensures { IsTrue result ↔ Holds polygon.now p }
+{
+    let corners = polygon.corners.as_slice();
+    for edge in 0..corners.len() {
+        let after = next_place(corners.len(), edge);
+        if is_right(corners[edge], corners[after], p) {
+            return false;
+        }
+    }
+    true
+}
+
+/// Whether a point lies to the right of the edge from one corner to another.
+fn is_right(from: Point, to: Point, p: Point) -> bool
+    requires from { IsCellCorner from }
+    requires to { IsCellCorner to }
+    requires point { HasCoordinates p }
+    ensures { IsTrue result ↔ (orient_of (scaled from.x from.z) (scaled to.x to.z) p <ℤ pos 0) }
+{
+    orient(in_sixteenths(from), in_sixteenths(to), p) < 0
+}
+
+/// A corner, in sixteenths of a cell.
+fn in_sixteenths(corner: Point) -> Point
+    requires { IsCellCorner corner }
+    ensures value { result ≡ scaled corner.x corner.z }
+    ensures reach { HasCoordinates result }
+{
+    Point {
+        x: 16 * corner.x,
+        z: 16 * corner.z,
+    }
+}
+
+/// The place after this one, the first after the last.
+fn next_place(count: usize, place: usize) -> usize
+    requires { place < count }
+    ensures value { result ≡ place_after count place }
+    ensures there { result < count }
+{
+    if place + 1 == count { 0 } else { place + 1 }
+}

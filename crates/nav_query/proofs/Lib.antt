@@ -1,0 +1,2 @@
+mod ColumnParts
+mod MeshFloors

@@ -1,0 +1,23 @@
+-- Questions: which are answered so far, and what their answers cost.
+use Rattle.std.specs.Prelude.{◌<◌, ◌^◌, ⊤}
+use Rattle.nav_base.specs.declared.answers.Question.{Question}
+use Rattle.nav_base.specs.declared.answers.Question.TheVariants as questions
+use Rattle.nav_base.specs.Point.{HasCoordinates}
+use Rattle.mesh_types.specs.declared.answers.Answer.{Answer}
+use Rattle.mesh_types.specs.declared.answers.Answer.TheVariants.{Floors, Path, NoStart, NoGoal, NoPath, Reached, Wall}
+
+-- floors are asked of any column, and paths between points with coordinates; rays are not answered yet
+abbrev pub IsAnswerable : Question → Type 0
+IsAnswerable (questions.Floor x z) = ⊤
+IsAnswerable (questions.Path from from_y to to_y) = HasCoordinates from × HasCoordinates to
+IsAnswerable (questions.Ray from from_y to) = ⊥
+
+-- a path that was found costs less than 2 ^ 45
+abbrev pub HasLowCost : Answer → Type 0
+HasLowCost (Path found) = found.cost < 2 ^ 45
+HasLowCost (Floors floors) = ⊤
+HasLowCost NoStart = ⊤
+HasLowCost NoGoal = ⊤
+HasLowCost NoPath = ⊤
+HasLowCost (Reached at) = ⊤
+HasLowCost (Wall a b num den) = ⊤

@@ -1,0 +1,41 @@
+//! The answer to a question.
+
+ghost use Rattle.std.specs.Prelude.{IfOk};
+ghost use Rattle.nav_ground.specs.Limits.{IsSetting};
+ghost use Rattle.mesh_types.specs.Right.{IsRight};
+ghost use Rattle.mesh_types.specs.Soundness.{IsSound};
+ghost use Rattle.nav_query.specs.Questions.{HasLowCost, IsAnswerable};
+
+use crate::floors::floors;
+use crate::paths::path;
+use mesh_types::Mesh;
+use nav_base::Question;
+use nav_list::Items;
+use std::alloc::{AllocError, Global};
+
+/// An answer to a question that is right in a mesh. A path that is found costs less than 2^45. Only memory can be refused.
+pub fn answer(
+    alloc: Global,
+    mesh: &Mesh,
+    question: &Question,
+) -> Result<mesh_types::Answer, AllocError>
+    requires sound { IsSound mesh.now }
+    requires setting { IsSetting mesh.now.setting }
+    requires question { IsAnswerable question.now }
+    ensures right { IfOk result (λ answer. IsRight mesh.now question.now answer) }
+    ensures low_cost { IfOk result HasLowCost }
+{
+    match *question {
+        Question::Floor { x, z } => {
+            let floors = floors(alloc, mesh, x, z)?;
+            Ok(mesh_types::Answer::Floors(Items::from_vec(floors)))
+        }
+        Question::Path {
+            from,
+            from_y,
+            to,
+            to_y,
+        } => path(alloc, mesh, from, from_y, to, to_y),
+        Question::Ray { .. } => unreachable!(),
+    }
+}

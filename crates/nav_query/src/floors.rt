@@ -1,0 +1,38 @@
+//! The floors of a column of a mesh.
+
+ghost use Rattle.std.specs.Prelude.{◌≡◌, ◌↔◌, IfOk, IsTrue};
+ghost use Rattle.nav_ground.specs.Limits.{IsSetting};
+ghost use Rattle.layer_cut.specs.Tiles.{IsInField};
+ghost use Rattle.mesh_types.specs.Floors.{floors_at};
+ghost use Rattle.mesh_types.specs.Right.{free_of};
+ghost use Rattle.mesh_types.specs.Soundness.{IsSound};
+
+use crate::columns::push_floors;
+use layer_cut::tile_of;
+use mesh_types::Mesh;
+use nav_base::FloorAt;
+use nav_ground::Setting;
+use std::alloc::{AllocError, Global};
+
+/// The floors of the free cells of a column, from the bottom up; none where the column has no free cell or lies outside the field. It looks
+/// into the column's tile alone, by halving.
+pub fn floors(alloc: Global, mesh: &Mesh, x: u32, z: u32) -> Result<Vec<FloorAt>, AllocError>
+    requires sound { IsSound mesh.now }
+    requires setting { IsSetting mesh.now.setting }
+    ensures { IfOk result (λ floors. floors.items ≡ floors_at x z (free_of mesh.now.tiles)) }
+{
+    let mut floors = Vec::new(alloc);
+    if is_inside(&mesh.setting, x, z) {
+        let tiles = mesh.tiles.as_slice();
+        let tile = tiles[tile_of(&mesh.setting, x, z) as usize].get();
+        push_floors(&mut floors, tile.free.cells.as_slice(), x, z)?;
+    }
+    Ok(floors)
+}
+
+/// Whether a column lies in the field.
+fn is_inside(setting: &Setting, x: u32, z: u32) -> bool
+    ensures { IsTrue result ↔ IsInField setting.now x z }
+{
+    x < setting.width && z < setting.depth
+}
