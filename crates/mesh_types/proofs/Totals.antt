@@ -5,7 +5,7 @@ use Rattle.std.specs.List.{sum_by, count_by, range_with_len, flat_map, filter_ma
 use Rattle.std.proofs.lemmas.Bool.{false_from_ne_true}
 use Rattle.std.proofs.lemmas.List.Elements.{All-head, All-tail}
 use Rattle.std.proofs.lemmas.List.FromFn.{fill_by_all, get_or-range_with_len, length-range_with_len}
-use Rattle.std.proofs.lemmas.List.Sums.{sum_by-cons, sum_by-append, sum_by-le-sum_by}
+use Rattle.std.proofs.lemmas.List.Sums.{sum_by-cons, sum_by-append}
 use Rattle.mesh_types.proofs.Keyed.{count_yes, count_no}
 
 -- a sum over what is made of elements
@@ -71,19 +71,37 @@ sum_by-range_no_more f g first (suc count) each =
       sum_by-range_no_more f g (first + 1) count (λ k least most. each k (omega (arith, least)) (omega (arith, most))),
     )
 
+-- sums of equal terms are equal
+pub sum_by-same : {X : Type 0} (f g : X → ℕ) (xs : List X) → ((x : X) → f x ≡ g x) → sum_by f xs ≡ sum_by g xs
+sum_by-same f g [] same = refl
+sum_by-same f g (x ∷ xs) same = omega (arith, sum_by-cons f x xs, sum_by-cons g x xs, same x, sum_by-same f g xs same)
+
+pub sum_by-range_same : (f g : ℕ → ℕ) (first count : ℕ) → ((k : ℕ) → first ≤ k → k < first + count → f k ≡ g k)
+    → sum_by f (range_with_len first count) ≡ sum_by g (range_with_len first count)
+sum_by-range_same f g first zero same = refl
+sum_by-range_same f g first (suc count) same =
+    omega (
+      arith,
+      sum_by-cons f first (range_with_len (first + 1) count),
+      sum_by-cons g first (range_with_len (first + 1) count),
+      same first (omega arith) (omega arith),
+      sum_by-range_same f g (first + 1) count (λ k least most. same k (omega (arith, least)) (omega (arith, most))),
+    )
+
+-- a sum of sums, in either order
+pub sum_by-exchanged : {X Y : Type 0} (f : X → Y → ℕ) (xs : List X) (ys : List Y)
+    → sum_by (λ x. sum_by (f x) ys) xs ≡ sum_by (λ y. sum_by (λ x. f x y) xs) ys
+sum_by-exchanged f xs [] = sum_by-zero xs
+sum_by-exchanged f xs (y ∷ ys) =
+    sum_by-same (λ x. sum_by (f x) (y ∷ ys)) (λ x. f x y + sum_by (f x) ys) xs (λ x. sum_by-cons (f x) y ys)
+    ∙ sum_by-plus (λ x. f x y) (λ x. sum_by (f x) ys) xs
+    ∙ ap (λ n. sum_by (λ x. f x y) xs + n) (sum_by-exchanged f xs ys)
+    ∙ sym (sum_by-cons (λ y. sum_by (λ x. f x y) xs) y ys)
+
 -- what each of some shares has of each element is no more in all than what the elements have
 pub sum_by-shared : {X Y : Type 0} (f : X → Y → ℕ) (g : Y → ℕ) (xs : List X) (ys : List Y) → All (λ y. sum_by (λ x. f x y) xs ≤ g y) ys
     → sum_by (λ x. sum_by (f x) ys) xs ≤ sum_by g ys
-sum_by-shared f g xs [] each = omega (arith, sum_by-zero xs)
-sum_by-shared f g xs (y ∷ ys) each =
-    omega (
-      arith,
-      sum_by-le-sum_by (λ x. sum_by (f x) (y ∷ ys)) (λ x. f x y + sum_by (f x) ys) xs (λ x. omega (arith, sum_by-cons (f x) y ys)),
-      sum_by-plus (λ x. f x y) (λ x. sum_by (f x) ys) xs,
-      sum_by-cons g y ys,
-      All-head (λ y. sum_by (λ x. f x y) xs ≤ g y) y ys each,
-      sum_by-shared f g xs ys (All-tail (λ y. sum_by (λ x. f x y) xs ≤ g y) y ys each),
-    )
+sum_by-shared f g xs ys each = omega (arith, sum_by-exchanged f xs ys, sum_by-no_more (λ y. sum_by (λ x. f x y) xs) g ys each)
 
 -- where no element passes, and where of two elements not both pass
 none_pass : {X : Type 0} (p : X → Bool) (c : ℕ) (xs : List X) → All (λ x. p x ≡ false) xs → sum_by (λ x. cond (p x) c 0) xs ≡ 0
