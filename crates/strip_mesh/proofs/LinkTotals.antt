@@ -84,7 +84,7 @@ few_of_pair a b side entry other =
       arith,
       length-map (runs_of (meetings entry other)) (border_link a b side entry other),
       few_runs (meetings entry other) meets (λ place label there is. labelled_true (meets place) label
-      (sym (get_or-map-range_with_len (λ k. label_if (meets k)) 0 (length entry.pairs) place place None (omega (arith, there, many)) (omega arith)) ∙ is)),
+          (sym (get_or-map-range_with_len (λ k. label_if (meets k)) 0 (length entry.pairs) place place None (omega (arith, there, many)) (omega arith)) ∙ is)),
       ap (λ n. count_by meets (range_with_len 0 n)) many,
     )
 

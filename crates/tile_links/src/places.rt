@@ -10,11 +10,7 @@ use std::alloc::{AllocError, Global};
 use std::cmp::Ordering;
 
 /// The places of the entries of a rim along a side, by position and then by level. In the order n log n for n places.
-pub fn side_places(
-    alloc: Global,
-    rim: &[RimEdge],
-    side: u32,
-) -> Result<Vec<Place>, AllocError>
+pub fn side_places(alloc: Global, rim: &[RimEdge], side: u32) -> Result<Vec<Place>, AllocError>
     requires { All IsWithinField rim.now }
     ensures { IfOk result (λ places. ArePlaces side rim.now places.items) }
 {
