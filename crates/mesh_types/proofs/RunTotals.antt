@@ -2,7 +2,7 @@
 use Rattle.std.proofs.Common.{◌≡◌, ℕ, zero, suc, ◌+◌, ◌-◌, ◌<◌, ◌≤◌, Bool, true, false, List, [], ◌∷◌, drop, length, get_or, ap, ◌∙◌, sym, refl, subst, arith, Option, inl, inr}
 use Rattle.std.specs.Prelude.{None, Some, All, AllPairs, ◌==◌, ◌||◌, not, if◌then◌else◌, is_some}
 use Rattle.std.specs.List.{sum_by, count_by, filter_map, cons_option, prefix_len, range_with_len, between}
-use Rattle.std.proofs.lemmas.Bool.{cases_lt, both_ways, eq-eqb}
+use Rattle.std.proofs.lemmas.Bool.{cases_lt, both_ways, eq-eqb, ne_eqb}
 use Rattle.std.proofs.lemmas.List.Elements.{All-head, All-tail, All-nil}
 use Rattle.std.proofs.lemmas.List.Folds.{drop_split}
 use Rattle.std.proofs.lemmas.List.FromFn.{get_or-range_with_len, length-range_with_len}
@@ -20,10 +20,13 @@ BeginsAlone labels run = (k : ℕ) → k + 1 ≡ run.first → get_or labels k N
 -- the run that begins at a place, by the test that it passed
 begins_alone : (labels : List (Option ℕ)) (place label : ℕ) → (place == 0 || not (has_label label (get_or labels (place - 1) None))) ≡ true
     → (k : ℕ) → k + 1 ≡ place → get_or labels k None ≡ Some label → ⊥
-begins_alone labels zero label passes k is before = omega (arith, is)
-begins_alone labels (suc place) label passes k is before =
-    let at : get_or labels place None ≡ Some label = ap (λ n. get_or labels n None) {x = place} {y = k} (omega (arith, is)) ∙ before in
-    both_ways (not (has_label label (get_or labels place None))) (ap (λ o. not (has_label label o)) at ∙ ap not (eq-eqb label label refl)) passes
+begins_alone labels place label passes k is before =
+    let at : get_or labels (place - 1) None ≡ Some label = ap (λ n. get_or labels n None) {x = place - 1} {y = k} (omega (arith, is)) ∙ before in
+    both_ways (place == 0 || not (has_label label (get_or labels (place - 1) None)))
+    (ap (λ b. b || not (has_label label (get_or labels (place - 1) None))) (ne_eqb place 0 (λ none. omega (arith, is, none)))
+    ∙ ap (λ o. not (has_label label o)) at
+    ∙ ap not (eq-eqb label label refl))
+    passes
 
 found_run : (labels : List (Option ℕ)) (place : ℕ) (o : Option ℕ) (run : Run) → run_with labels place o ≡ Some run
     → (run.first ≡ place) × BeginsAlone labels run

@@ -107,9 +107,9 @@ sum_by-shared f g xs ys each = omega (arith, sum_by-exchanged f xs ys, sum_by-no
 none_pass : {X : Type 0} (p : X → Bool) (c : ℕ) (xs : List X) → All (λ x. p x ≡ false) xs → sum_by (λ x. cond (p x) c 0) xs ≡ 0
 none_pass p c [] each = refl
 none_pass p c (x ∷ xs) each =
-    sum_by-cons (λ y. cond (p y) c 0) x xs
-    ∙ ap (λ b. cond b c 0 + sum_by (λ y. cond (p y) c 0) xs) (All-head (λ y. p y ≡ false) x xs each)
-    ∙ none_pass p c xs (All-tail (λ y. p y ≡ false) x xs each)
+    let this = sum_by-cons (λ y. cond (p y) c 0) x xs
+    ∙ ap (λ b. cond b c 0 + sum_by (λ y. cond (p y) c 0) xs) (All-head (λ y. p y ≡ false) x xs each) in
+    omega (arith, this, none_pass p c xs (All-tail (λ y. p y ≡ false) x xs each))
 
 pub once : {X : Type 0} (p : X → Bool) (c : ℕ) (xs : List X) → AllPairs (λ a b. p a ≡ true → p b ≡ true → ⊥) xs
     → sum_by (λ x. cond (p x) c 0) xs ≤ c
