@@ -12,6 +12,7 @@ use Rattle.nav_ground.specs.declared.setting.Setting.{Setting}
 use Rattle.nav_ground.specs.declared.cell.Cell.{Cell}
 use Rattle.nav_ground.specs.declared.cell.FreeLayer.{FreeLayer}
 use Rattle.nav_ground.specs.Cells.{IsCut, IsInTile, opposite}
+use Rattle.nav_ground.specs.Tiling.{tile_window}
 use Rattle.mesh_types.specs.declared.label_runs.Run.{Run}
 use Rattle.mesh_types.specs.declared.links.Link.{Link}
 use Rattle.mesh_types.specs.declared.tile.LevelPair.{LevelPair}
@@ -137,7 +138,7 @@ few_between setting a b side of_a of_b =
     let Q : TileMesh → Type 0 = λ tile. length (border_links (strip_mesh_of setting of_a.free) tile side) ≤ length of_a.free.cells in
     subst P (sym of_a.is) (subst Q (sym of_b.is)
     (few_over_border (strip_mesh_of setting of_a.free) (strip_mesh_of setting of_b.free) side (length of_a.free.cells)
-    (few_positions _ of_a.free.cells side of_a.cut)
+    (few_positions (tile_window setting of_a.free.tile) of_a.free.cells side of_a.cut)
     (λ position pair. met_once setting of_b.free (opposite side) position pair (omega arith) of_b.cut of_b.in_tile)))
 
 few_over_side : (setting : Setting) (tiles : List TileMesh) (tile : TileMesh) (side : ℕ) → All (IsOfFree setting) tiles → IsOfFree setting tile
