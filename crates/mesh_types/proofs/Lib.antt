@@ -11,3 +11,7 @@ pub mod MeshPolygons
 pub mod MeshLinks
 pub mod WalkChains
 pub mod RightLaws
+pub mod Totals
+pub mod OneTile
+pub mod PolygonTotals
+pub mod RunTotals

@@ -1,1 +1,2 @@
 pub mod FreeInTile
+pub mod LinkTotals

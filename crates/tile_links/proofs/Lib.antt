@@ -7,3 +7,5 @@ pub mod SharedRuns
 pub mod BorderPortals
 pub mod SoundMeshes
 pub mod HandTiles
+pub mod PlaceOrder
+pub mod FoundLinks

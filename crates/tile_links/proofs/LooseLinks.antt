@@ -114,13 +114,13 @@ found_over setting tiles tile other side place is there =
     sym (ap (λ (found : Option TileMesh). option_map_or (λ (t : TileMesh). loose_links tile t side) found [])
     (ap (option_and_then (slice_get tiles)) is ∙ there))
 
--- what is found over one side more
-pub one_more_side : (f : ℕ → List Link) (side : ℕ) (old new : List Link) → old ≡ flat_map f (range_with_len 0 side) → new ≡ old ++ f side
-    → new ≡ flat_map f (range_with_len 0 (side + 1))
-one_more_side f side old new before pushed =
+-- what one number more gives
+pub one_more_gathered : {X : Type 0} (f : ℕ → List X) (n : ℕ) (old new : List X) → old ≡ flat_map f (range_with_len 0 n) → new ≡ old ++ f n
+    → new ≡ flat_map f (range_with_len 0 (n + 1))
+one_more_gathered f n old new before pushed =
     pushed
-    ∙ ap (λ links. links ++ f side) before
-    ∙ ap (λ links. flat_map f (range_with_len 0 side) ++ links) (sym (append-nil (f side)))
-    ∙ ap (λ n. flat_map f (range_with_len 0 side) ++ flat_map f (n ∷ [])) {x = side} {y = 0 + side} (omega arith)
-    ∙ sym (flat_map-append f (range_with_len 0 side) ((0 + side) ∷ []))
-    ∙ ap (flat_map f) (sym (range-push 0 side))
+    ∙ ap (λ xs. xs ++ f n) before
+    ∙ ap (λ xs. flat_map f (range_with_len 0 n) ++ xs) (sym (append-nil (f n)))
+    ∙ ap (λ k. flat_map f (range_with_len 0 n) ++ flat_map f (k ∷ [])) {x = n} {y = 0 + n} (omega arith)
+    ∙ sym (flat_map-append f (range_with_len 0 n) ((0 + n) ∷ []))
+    ∙ ap (flat_map f) (sym (range-push 0 n))

@@ -1,12 +1,12 @@
-use Rattle.std.proofs.Common.{◌<◌, arith, ap, ◌∙◌, get_or, length}
+use Rattle.std.proofs.Common.{◌<◌, ◌∙◌, arith, ap, get_or, length, take}
+use Rattle.std.specs.List.{flat_map}
 use Rattle.std.specs.Prelude.{◌==◌}
 use Rattle.std.specs.Global.{Vec}
 use Rattle.std.proofs.lemmas.Bool.{eq-eqb, ne_eqb}
-use Rattle.nav_ground.specs.Cells.{opposite}
 use Rattle.mesh_types.specs.declared.links.Link.{Link}
 use Rattle.mesh_types.specs.declared.tile.RimEdge.{RimEdge}
-use Rattle.mesh_types.specs.BorderLinks.{along_side}
-use Rattle.tile_links.specs.Loose.{entry_links}
+use Rattle.tile_links.specs.Loose.{placed_links}
+use Rattle.tile_links.proofs.FoundLinks.{gained}
 use Rattle.tile_links.proofs.RimEntries.{named_in, one_more_kept, one_more_left}
 use Rattle.tile_links.proofs.rim.push_links.Goals as goal
 use Rattle.tile_links.proofs.rim.push_links.Goals.{then-entry-side+in_ok-push_entry_links, else-entry-side}
@@ -24,7 +24,7 @@ loop-entry-preserved c =
     let i = c.loop-entry.entry-index in
     let entry : RimEdge = c.entry-item.result in
     let p = λ (entry : RimEdge). entry.side == side in
-    let f = λ (entry : RimEdge). entry_links a b side entry (along_side (opposite side) b.rim) in
+    let f = placed_links a b side c.loop-entry.places.items in
     let there : i < length a.rim = omega (arith, c.loop-entry-test.true, ap length c.as_slice-entry-items.ensures) in
     let is = c.entry-item.is ∙ ap (λ xs. get_or xs i entry) c.as_slice-entry-items.ensures in
     elim c.if-entry-side.branch [
