@@ -7,13 +7,13 @@ use Rattle.nav_base.specs.declared.point.Point.{Point}
 use Rattle.nav_base.specs.Point.{from_to, dot_of, cross_of, orient_of}
 use Rattle.nav_base.proofs.Polynomials.{number, sum, difference, product, opposite, equal}
 use Rattle.nav_base.proofs.PointTerms.{Place, place, coordinates, from_to_term, dot_term, cross_term, orient_term}
-use Rattle.nav_base.proofs.OrientLaws.{orient_of-turned, orient_of-end}
+use Rattle.nav_base.proofs.OrientLaws.{orient_of-end}
 use Rattle.nav_base.proofs.Signs.{product-not_negative, factor-zero}
 use Rattle.mesh_types.specs.declared.links.Portal.{Portal}
 use Rattle.mesh_types.specs.Chains.{IsFold}
 use Rattle.funnel_path.specs.Cone.{IsInside, IsInLine, LookOpposite}
-use Rattle.funnel_path.proofs.SideRules.{opposite-not_negative, opposite-positive, opposite-negative, opposite-zero, not_positive-signs, without, multiple-positive, multiple-negative}
-use Rattle.funnel_path.proofs.PointLaws.{length-not_negative, length-positive, faces}
+use Rattle.funnel_path.proofs.SideRules.{positive-weak, zero-at_least, positive-not_zero, opposite-negative, not_positive-signs, without, multiple-positive, multiple-negative}
+use Rattle.funnel_path.proofs.PointLaws.{dot_of-still, length-not_negative, length-positive, faces, turned-not_negative, turned-zero}
 use Rattle.funnel_path.proofs.LineLaws.{LieOnLine, HasParts, inside_parts, in_line-multiple, in_line_turned, on_one_line}
 
 -- the points of the equations below, as terms
@@ -88,31 +88,20 @@ folds_round a b c in_line opposite left right parts = record {
       (orient_of b.right b.left c) (cross_of (from_to b.right b.left) (from_to a.right a.left)) (right_part a.left a.right b.left b.right c) parts.on_line parts.wide parts.from_right opposite) right;
 }
 
-weak : (n : ℤ) → pos 0 <ℤ n → pos 0 ≤ℤ n
-weak n h = omega (arith, ints)
-
 -- they fold where a point lies inside both
 pub folds_inside : (a b : Portal) (c : Point) → IsInLine a b → LookOpposite a b → IsInside c a → IsInside c b → IsFold a b
 folds_inside a b c in_line opposite is is' =
     let parts = inside_parts c a is in
-    folds_round a b c in_line opposite (weak (dot_of (from_to a.right a.left) (from_to c a.left)) parts.to_left) (weak (dot_of (from_to a.right a.left) (from_to a.right c)) parts.from_right) (inside_parts c b is')
-
--- a way of no length
-still : (u c : Point) → dot_of u (from_to c c) ≡ pos 0
-unfolding dot_of
-still u c = equal (coordinates (u ∷ c ∷ [])) (dot_term p₀ (from_to_term p₁ p₁)) (number (pos 0)) refl
-
-zero-weak : (n : ℤ) → n ≡ pos 0 → pos 0 ≤ℤ n
-zero-weak n e = omega (arith, ints)
+    folds_round a b c in_line opposite (positive-weak (dot_of (from_to a.right a.left) (from_to c a.left)) parts.to_left) (positive-weak (dot_of (from_to a.right a.left) (from_to a.right c)) parts.from_right) (inside_parts c b is')
 
 -- and where an end of the first lies inside the second
 pub folds_at_left : (a b : Portal) → IsInLine a b → LookOpposite a b → IsInside a.left b → IsFold a b
 folds_at_left a b in_line opposite is =
-    folds_round a b a.left in_line opposite (zero-weak (dot_of (from_to a.right a.left) (from_to a.left a.left)) (still (from_to a.right a.left) a.left)) (length-not_negative (from_to a.right a.left)) (inside_parts a.left b is)
+    folds_round a b a.left in_line opposite (zero-at_least (dot_of (from_to a.right a.left) (from_to a.left a.left)) (dot_of-still (from_to a.right a.left) a.left)) (length-not_negative (from_to a.right a.left)) (inside_parts a.left b is)
 
 pub folds_at_right : (a b : Portal) → IsInLine a b → LookOpposite a b → IsInside a.right b → IsFold a b
 folds_at_right a b in_line opposite is =
-    folds_round a b a.right in_line opposite (length-not_negative (from_to a.right a.left)) (zero-weak (dot_of (from_to a.right a.left) (from_to a.right a.right)) (still (from_to a.right a.left) a.right)) (inside_parts a.right b is)
+    folds_round a b a.right in_line opposite (length-not_negative (from_to a.right a.left)) (zero-at_least (dot_of (from_to a.right a.left) (from_to a.right a.right)) (dot_of-still (from_to a.right a.left) a.right)) (inside_parts a.right b is)
 
 -- ---- in front of a portal whose right end lies inside the wedge
 
@@ -164,23 +153,14 @@ record AreZero (m n o : ℤ) : Type 0 where
 all_zero : (m n o : ℤ) → m +ℤ n +ℤ o ≡ pos 0 → pos 0 ≤ℤ m → pos 0 ≤ℤ n → pos 0 ≤ℤ o → AreZero m n o
 all_zero m n o none p q r = record { first = omega (arith, ints); second = omega (arith, ints); third = omega (arith, ints) }
 
-turned-not_negative : (a b c : Point) → orient_of b a c ≤ℤ pos 0 → pos 0 ≤ℤ orient_of a b c
-turned-not_negative a b c h = opposite-not_negative (orient_of a b c) (orient_of b a c) (orient_of-turned b a c) h
-
-turned-positive : (a b c : Point) → orient_of b a c <ℤ pos 0 → pos 0 <ℤ orient_of a b c
-turned-positive a b c h = opposite-positive (orient_of a b c) (orient_of b a c) (orient_of-turned b a c) h
-
-turned-zero : (a b c : Point) → orient_of b a c ≡ pos 0 → orient_of a b c ≡ pos 0
-turned-zero a b c h = opposite-zero (orient_of a b c) (orient_of b a c) (orient_of-turned b a c) h
-
 parts_zero : (apex : Point) (a b : Portal) → LooksBack apex a b
     → AreZero (orient_of a.left a.right b.right *ℤ orient_of b.left b.right apex) (orient_of apex a.right b.right *ℤ orient_of b.right b.left a.left) (orient_of apex b.right a.left *ℤ orient_of b.right b.left a.right)
 parts_zero apex a b is =
     all_zero (orient_of a.left a.right b.right *ℤ orient_of b.left b.right apex) (orient_of apex a.right b.right *ℤ orient_of b.right b.left a.left) (orient_of apex b.right a.left *ℤ orient_of b.right b.left a.right)
     (three_parts apex a.right a.left b.right b.left)
     (product-not_negative (orient_of a.left a.right b.right) (orient_of b.left b.right apex) (turned-not_negative a.left a.right b.right is.right_ahead) (turned-not_negative b.left b.right apex is.front))
-    (product-not_negative (orient_of apex a.right b.right) (orient_of b.right b.left a.left) (weak (orient_of apex a.right b.right) is.inside_right) is.left_behind)
-    (product-not_negative (orient_of apex b.right a.left) (orient_of b.right b.left a.right) (weak (orient_of apex b.right a.left) is.inside_left) is.right_behind)
+    (product-not_negative (orient_of apex a.right b.right) (orient_of b.right b.left a.left) (positive-weak (orient_of apex a.right b.right) is.inside_right) is.left_behind)
+    (product-not_negative (orient_of apex b.right a.left) (orient_of b.right b.left a.right) (positive-weak (orient_of apex b.right a.left) is.inside_left) is.right_behind)
 
 -- the first portal lies on the second one's line
 first_on_second : (apex : Point) (a b : Portal) → LooksBack apex a b → LieOnLine b.right b.left a.left a.right
@@ -194,12 +174,9 @@ in_front : (apex : Point) (a b : Portal) → b.left ≢ b.right → LooksBack ap
 in_front apex a b apart is =
     elim (not_positive-signs (orient_of b.right b.left apex) is.front) [
       | inr less ↦ less
-      | inl none ↦ absurd (positive (orient_of apex a.right a.left) (faces apex a.right a.left is.behind)
+      | inl none ↦ absurd (positive-not_zero (orient_of apex a.right a.left) (faces apex a.right a.left is.behind)
           (on_one_line b.right b.left apex a.right a.left (λ e. apart (sym e)) none (first_on_second apex a b is).right (first_on_second apex a b is).left))
     ]
-  where
-    positive : (n : ℤ) → pos 0 <ℤ n → n ≡ pos 0 → ⊥
-    positive n h e = omega (arith, ints)
 
 -- A portal whose right end lies strictly inside the wedge through the one before it, and that is not seen from behind, is seen from its front
 -- and folds back.
@@ -215,7 +192,7 @@ folds_back apex a b apart is = record {
     right_on_line = in_line.right;
     opposite = opposite_ways;
     left_inside = gap (dot_of (from_to a.left b.left) (from_to a.right a.left)) (dot_of (from_to a.right a.left) (from_to b.right b.left)) (dot_of (from_to a.right a.left) (from_to b.right a.left)) (left_gap a.left a.right b.left b.right)
-        opposite_ways (weak (dot_of (from_to a.right a.left) (from_to b.right a.left)) left_way);
+        opposite_ways (positive-weak (dot_of (from_to a.right a.left) (from_to b.right a.left)) left_way);
     right_inside = opposite-negative (dot_of (from_to a.right b.right) (from_to a.left a.right)) (dot_of (from_to a.right a.left) (from_to a.right b.right)) (right_gap_turned a.left a.right b.right) right_way;
   };
 }
@@ -230,10 +207,7 @@ folds_back apex a b apart is = record {
     wide = faces apex a.right a.left is.behind
 
     length : pos 0 <ℤ dot_of (from_to a.right a.left) (from_to a.right a.left)
-    length = length-positive a.right a.left (λ e. differ (orient_of apex a.right a.left) wide (ap (λ (p : Point). orient_of apex p a.left) e ∙ orient_of-end apex a.left))
-      where
-        differ : (n : ℤ) → pos 0 <ℤ n → n ≡ pos 0 → ⊥
-        differ n h e = omega (arith, ints)
+    length = length-positive a.right a.left (λ e. positive-not_zero (orient_of apex a.right a.left) wide (ap (λ (p : Point). orient_of apex p a.left) e ∙ orient_of-end apex a.left))
 
     opposite_ways : LookOpposite a b
     opposite_ways =

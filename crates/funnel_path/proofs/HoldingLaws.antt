@@ -7,13 +7,13 @@ use Rattle.nav_base.specs.declared.point.Point.{Point}
 use Rattle.nav_base.specs.Point.{from_to, dot_of, cross_of, orient_of}
 use Rattle.nav_base.proofs.Polynomials.{sum, difference, product, opposite, equal}
 use Rattle.nav_base.proofs.PointTerms.{Place, place, coordinates, from_to_term, dot_term, orient_term}
-use Rattle.nav_base.proofs.OrientLaws.{orient_of-turned, orient_of-fan, orient_of-ahead, dot_of-fan}
-use Rattle.nav_base.proofs.Signs.{product-positive, product-negative, factor-positive, factor-zero}
+use Rattle.nav_base.proofs.OrientLaws.{orient_of-rotated, orient_of-turned, orient_of-fan, orient_of-ahead, orient_of-order_beyond, dot_of-exchanged, dot_of-fan, dot_of-product}
+use Rattle.nav_base.proofs.Signs.{product-not_negative, product-not_positive, product-positive, product-negative, factor-positive, factor-zero}
 use Rattle.mesh_types.specs.declared.corner.Side.{Side}
 use Rattle.mesh_types.specs.declared.corner.Side.TheVariants.{L, R}
 use Rattle.mesh_types.specs.Taut.{IsStraightOn, IsHolding}
-use Rattle.funnel_path.proofs.SideRules.{opposite-negative, opposite-positive, opposite-zero, signs, not_negative-signs, not_positive-signs, difference-positive, difference-not_negative, zero-product, without, multiple-not_negative, factor-negative}
-use Rattle.funnel_path.proofs.PointLaws.{LiesBetweenRays, rays-meet, length-not_negative, length-zero, length-positive}
+use Rattle.funnel_path.proofs.SideRules.{positive-not_zero, opposite-negative, opposite-positive, opposite-zero, signs, not_negative-signs, not_positive-signs, difference-positive, difference-not_negative, zero-product, without, multiple-not_negative, factor-negative, product-negatives}
+use Rattle.funnel_path.proofs.PointLaws.{LiesBetweenRays, rays-meet, turned-zero, length-not_negative, length-zero, length-positive}
 
 -- the points of the equations below, as terms
 abbrev p₀ : Place
@@ -194,3 +194,104 @@ between_right b c r l q is apart good good' =
     from : IsGood (orient_of c b q) (dot_of (from_to c b) (from_to c q)) → IsHolding R b c q
     from (inl straight) = inl (record { on_line = opposite-zero (orient_of b c q) (orient_of c b q) (orient_of-turned c b q) straight.0; onward = straight.1 })
     from (inr side) = inr (opposite-negative (orient_of b c q) (orient_of c b q) (orient_of-turned c b q) side)
+
+-- ---- both ends of a portal
+
+-- For one who comes from b to c, ahead for the walk from s to t: of two points that are not behind c, where r is not to the right and l to
+-- the left of r, l is to the left.
+pub left_of_left : (s t b c r l : Point) → orient_of s t c <ℤ orient_of s t b → orient_of s t r ≤ℤ orient_of s t c → orient_of s t l ≤ℤ orient_of s t c
+    → pos 0 <ℤ orient_of c r l → pos 0 ≤ℤ orient_of b c r → pos 0 <ℤ orient_of b c l
+left_of_left s t b c r l ahead at_r at_l wide right =
+    factor_of (orient_of s t c -ℤ orient_of s t r) (orient_of b c l) (difference-not_negative (orient_of s t r) (orient_of s t c) at_r)
+    (rest ((orient_of s t b -ℤ orient_of s t c) *ℤ orient_of c r l) ((orient_of s t c -ℤ orient_of s t r) *ℤ orient_of b c l) ((orient_of s t c -ℤ orient_of s t l) *ℤ orient_of b c r) (orient_of-order_beyond s t b c r l)
+    (product-positive (orient_of s t b -ℤ orient_of s t c) (orient_of c r l) (difference-positive (orient_of s t c) (orient_of s t b) ahead) wide)
+    (product-not_negative (orient_of s t c -ℤ orient_of s t l) (orient_of b c r) (difference-not_negative (orient_of s t l) (orient_of s t c) at_l) right))
+  where
+    rest : (e m n : ℤ) → e ≡ m -ℤ n → pos 0 <ℤ e → pos 0 ≤ℤ n → pos 0 <ℤ m
+    rest e m n is h k = omega (arith, ints)
+
+    factor_of : (m n : ℤ) → pos 0 ≤ℤ m → pos 0 <ℤ (m *ℤ n) → pos 0 <ℤ n
+    factor_of m n h k = elim (not_negative-signs m h) [ inl zero ↦ absurd (positive-not_zero (m *ℤ n) k (zero-product m n zero)) | inr some ↦ factor-positive m n some k ]
+
+-- the sides of a portal's ends for one who bends on its line
+beside_multiple : (b c l r : Point) → dot_of (from_to c l) (from_to c r) *ℤ orient_of b c l ≡ dot_of (from_to c l) (from_to c l) *ℤ orient_of b c r +ℤ orient_of r l c *ℤ dot_of (from_to c l) (from_to b c)
+unfolding cross_of dot_of orient_of
+beside_multiple b c l r =
+    let u : Place = from_to_term p₁ p₂ in
+    equal (coordinates (b ∷ c ∷ l ∷ r ∷ [])) (product (dot_term u (from_to_term p₁ p₃)) (orient_term p₀ p₁ p₂))
+    (sum (product (dot_term u u) (orient_term p₀ p₁ p₃)) (product (orient_term p₃ p₂ p₁) (dot_term u (from_to_term p₀ p₁)))) refl
+
+beside : (b c l r : Point) → orient_of r l c ≡ pos 0 → dot_of (from_to c l) (from_to c r) *ℤ orient_of b c l ≡ dot_of (from_to c l) (from_to c l) *ℤ orient_of b c r
+beside b c l r on_line =
+    without (dot_of (from_to c l) (from_to c r) *ℤ orient_of b c l) (dot_of (from_to c l) (from_to c l) *ℤ orient_of b c r) (orient_of r l c) (dot_of (from_to c l) (from_to b c)) (beside_multiple b c l r) on_line
+
+-- A bend beside a portal is an end of it where the other end lies to one side, and this one not. This is so with l to the left,
+pub at_left_end : (b c l r : Point) → orient_of r l c ≡ pos 0 → pos 0 ≤ℤ dot_of (from_to c l) (from_to c r) → pos 0 ≤ℤ orient_of b c l → orient_of b c r <ℤ pos 0 → c ≡ l
+at_left_end b c l r on_line outside left right =
+    elim (not_negative-signs (dot_of (from_to c l) (from_to c l)) (length-not_negative (from_to c l))) [
+      | inl none ↦ length-zero c l none
+      | inr some ↦ absurd (apart (dot_of (from_to c l) (from_to c r) *ℤ orient_of b c l) (dot_of (from_to c l) (from_to c l) *ℤ orient_of b c r) (beside b c l r on_line)
+          (product-not_negative (dot_of (from_to c l) (from_to c r)) (orient_of b c l) outside left) (product-negative (dot_of (from_to c l) (from_to c l)) (orient_of b c r) some right))
+    ]
+  where
+    apart : (m n : ℤ) → m ≡ n → pos 0 ≤ℤ m → n <ℤ pos 0 → ⊥
+    apart m n e h k = omega (arith, ints)
+
+-- and with r to the right
+pub at_right_end : (b c l r : Point) → orient_of r l c ≡ pos 0 → pos 0 ≤ℤ dot_of (from_to c l) (from_to c r) → pos 0 <ℤ orient_of b c l → orient_of b c r ≤ℤ pos 0 → c ≡ r
+at_right_end b c l r on_line outside left right =
+    elim (not_negative-signs (dot_of (from_to c r) (from_to c r)) (length-not_negative (from_to c r))) [
+      | inl none ↦ length-zero c r none
+      | inr some ↦ absurd (apart (dot_of (from_to c r) (from_to c l) *ℤ orient_of b c r) (dot_of (from_to c r) (from_to c r) *ℤ orient_of b c l) (beside b c r l (turned-zero l r c on_line))
+          (product-not_positive (dot_of (from_to c r) (from_to c l)) (orient_of b c r) (subst (λ (n : ℤ). pos 0 ≤ℤ n) (dot_of-exchanged (from_to c r) (from_to c l)) outside) right)
+          (product-positive (dot_of (from_to c r) (from_to c r)) (orient_of b c l) some left))
+    ]
+  where
+    apart : (m n : ℤ) → m ≡ n → m ≤ℤ pos 0 → pos 0 <ℤ n → ⊥
+    apart m n e h k = omega (arith, ints)
+
+end_squares : (c l r : Point) → dot_of (from_to c l) (from_to c l) *ℤ dot_of (from_to c r) (from_to c r)
+    ≡ dot_of (from_to c l) (from_to c r) *ℤ dot_of (from_to c l) (from_to c r) +ℤ orient_of r l c *ℤ orient_of r l c
+unfolding cross_of dot_of orient_of
+end_squares c l r =
+    let u : Place = from_to_term p₀ p₁ in
+    let w : Place = from_to_term p₀ p₂ in
+    equal (coordinates (c ∷ l ∷ r ∷ [])) (product (dot_term u u) (dot_term w w)) (sum (product (dot_term u w) (dot_term u w)) (product (orient_term p₂ p₁ p₀) (orient_term p₂ p₁ p₀))) refl
+
+-- beside a portal, at neither end, its left end is not to the right where its right end is not
+pub both_ends : (b c l r : Point) → orient_of r l c ≡ pos 0 → pos 0 ≤ℤ dot_of (from_to c l) (from_to c r) → c ≢ l → c ≢ r → pos 0 ≤ℤ orient_of b c r → pos 0 ≤ℤ orient_of b c l
+both_ends b c l r on_line outside apart apart' right =
+    elim (not_negative-signs (dot_of (from_to c l) (from_to c r)) outside) [
+      | inl none ↦ absurd (positive-not_zero (dot_of (from_to c l) (from_to c l) *ℤ dot_of (from_to c r) (from_to c r))
+          (product-positive (dot_of (from_to c l) (from_to c l)) (dot_of (from_to c r) (from_to c r)) (length-positive c l apart) (length-positive c r apart'))
+          (without (dot_of (from_to c l) (from_to c l) *ℤ dot_of (from_to c r) (from_to c r)) (dot_of (from_to c l) (from_to c r) *ℤ dot_of (from_to c l) (from_to c r)) (orient_of r l c) (orient_of r l c) (end_squares c l r) on_line
+          ∙ zero-product (dot_of (from_to c l) (from_to c r)) (dot_of (from_to c l) (from_to c r)) none))
+      | inr more ↦ multiple-not_negative (dot_of (from_to c l) (from_to c r)) (orient_of b c l) (dot_of (from_to c l) (from_to c l)) (orient_of b c r) (beside b c l r on_line) more (length-not_negative (from_to c l)) right
+    ]
+
+-- two points straight on are not on both sides of the bend
+pub opposite_onward : (b c l r : Point) → dot_of (from_to c l) (from_to c r) <ℤ pos 0 → IsStraightOn b c l → IsStraightOn b c r → ⊥
+unfolding orient_of
+opposite_onward b c l r between left right =
+    apart (dot_of v v *ℤ dot_of u w) (dot_of u v *ℤ dot_of w v)
+    (*ℤ_comm (dot_of v v) (dot_of u w) ∙ without (dot_of u w *ℤ dot_of v v) (dot_of u v *ℤ dot_of w v) (cross_of u v) (cross_of w v) (dot_of-product u v w) (orient_of-rotated b c l ∙ left.on_line))
+    (product-not_positive (dot_of v v) (dot_of u w) (length-not_negative v) (below (dot_of u w) between))
+    (product-negatives (dot_of u v) (dot_of w v) (same (dot_of u v) (dot_of v u) (dot_of-exchanged v u) left.onward) (same (dot_of w v) (dot_of v w) (dot_of-exchanged v w) right.onward))
+  where
+    u : Point
+    u = from_to c l
+
+    w : Point
+    w = from_to c r
+
+    v : Point
+    v = from_to c b
+
+    below : (n : ℤ) → n <ℤ pos 0 → n ≤ℤ pos 0
+    below n h = omega (arith, ints)
+
+    same : (m n : ℤ) → m ≡ n → n <ℤ pos 0 → m <ℤ pos 0
+    same m n e h = omega (arith, ints)
+
+    apart : (m n : ℤ) → m ≡ n → m ≤ℤ pos 0 → pos 0 <ℤ n → ⊥
+    apart m n e h k = omega (arith, ints)

@@ -6,12 +6,12 @@ use Rattle.nav_base.specs.declared.point.Point.{Point}
 use Rattle.nav_base.specs.Point.{from_to, dot_of, cross_of, orient_of}
 use Rattle.nav_base.proofs.Polynomials.{sum, difference, product, equal}
 use Rattle.nav_base.proofs.PointTerms.{Place, place, coordinates, from_to_term, dot_term, cross_term, orient_term}
-use Rattle.nav_base.proofs.OrientLaws.{orient_of-start, orient_of-end, orient_of-between}
-use Rattle.nav_base.proofs.Signs.{product-not_negative, product-not_positive, product-positive, factor-zero}
+use Rattle.nav_base.proofs.OrientLaws.{dot_of-exchanged, orient_of-start, orient_of-end, orient_of-between}
+use Rattle.nav_base.proofs.Signs.{product-not_negative, product-not_positive, product-positive, product-negative, factor-zero}
 use Rattle.mesh_types.specs.declared.links.Portal.{Portal}
 use Rattle.funnel_path.specs.Cone.{IsInside, IsInLine, LookAlike, LookOpposite}
-use Rattle.funnel_path.proofs.SideRules.{signs, sum-zero, sum-positive, weighted-not_negative, weighted-not_positive, zero-product, without, multiple-not_positive, multiple-positive}
-use Rattle.funnel_path.proofs.PointLaws.{length-not_negative, length-positive, exchanged-not_negative}
+use Rattle.funnel_path.proofs.SideRules.{positive-weak, positive-not_zero, signs, sum-zero, sum-positive, weighted-not_negative, weighted-not_positive, zero-product, without, multiple-not_positive, multiple-positive}
+use Rattle.funnel_path.proofs.PointLaws.{dot_of-still, length-not_negative, length-positive, exchanged-not_negative}
 
 -- the points of the equations below, as terms
 abbrev p₀ : Place
@@ -61,14 +61,11 @@ parts_of a r l on_line between = record {
   on_line = on_line;
   from_right = right;
   to_left = left;
-  wide = sum-positive (dot_of (from_to r l) (from_to r l)) (dot_of (from_to r l) (from_to r a)) (dot_of (from_to r l) (from_to a l)) (whole_parts a r l) right (weak (dot_of (from_to r l) (from_to a l)) left);
+  wide = sum-positive (dot_of (from_to r l) (from_to r l)) (dot_of (from_to r l) (from_to r a)) (dot_of (from_to r l) (from_to a l)) (whole_parts a r l) right (positive-weak (dot_of (from_to r l) (from_to a l)) left);
 }
   where
     less : (e m n : ℤ) → e ≡ m -ℤ n → pos 0 ≤ℤ m → n <ℤ pos 0 → pos 0 <ℤ e
     less e m n is h k = omega (arith, ints)
-
-    weak : (n : ℤ) → pos 0 <ℤ n → pos 0 ≤ℤ n
-    weak n h = omega (arith, ints)
 
     right : pos 0 <ℤ dot_of (from_to r l) (from_to r a)
     right = less (dot_of (from_to r l) (from_to r a)) (dot_of (from_to a r) (from_to a r)) (dot_of (from_to a l) (from_to a r)) (from_right_parts a r l) (length-not_negative (from_to a r)) between
@@ -86,19 +83,16 @@ mean s t a r l on_line =
     without (dot_of (from_to r l) (from_to r l) *ℤ orient_of s t a) (dot_of (from_to r l) (from_to r a) *ℤ orient_of s t l +ℤ dot_of (from_to r l) (from_to a l) *ℤ orient_of s t r) (orient_of r l a) (dot_of (from_to s t) (from_to r l))
     (orient_of-between s t r l a) on_line
 
-weak : (n : ℤ) → pos 0 <ℤ n → pos 0 ≤ℤ n
-weak n h = omega (arith, ints)
-
 -- a point between two others lies behind what they lie behind, and ahead of what they lie ahead of
 pub between-not_negative : (s t a r l : Point) → HasParts a r l → pos 0 ≤ℤ orient_of s t l → pos 0 ≤ℤ orient_of s t r → pos 0 ≤ℤ orient_of s t a
 between-not_negative s t a r l is h k =
     weighted-not_negative (dot_of (from_to r l) (from_to r l)) (orient_of s t a) (dot_of (from_to r l) (from_to r a)) (orient_of s t l) (dot_of (from_to r l) (from_to a l)) (orient_of s t r) (mean s t a r l is.on_line) is.wide
-    (weak (dot_of (from_to r l) (from_to r a)) is.from_right) h (weak (dot_of (from_to r l) (from_to a l)) is.to_left) k
+    (positive-weak (dot_of (from_to r l) (from_to r a)) is.from_right) h (positive-weak (dot_of (from_to r l) (from_to a l)) is.to_left) k
 
 pub between-not_positive : (s t a r l : Point) → HasParts a r l → orient_of s t l ≤ℤ pos 0 → orient_of s t r ≤ℤ pos 0 → orient_of s t a ≤ℤ pos 0
 between-not_positive s t a r l is h k =
     weighted-not_positive (dot_of (from_to r l) (from_to r l)) (orient_of s t a) (dot_of (from_to r l) (from_to r a)) (orient_of s t l) (dot_of (from_to r l) (from_to a l)) (orient_of s t r) (mean s t a r l is.on_line) is.wide
-    (weak (dot_of (from_to r l) (from_to r a)) is.from_right) h (weak (dot_of (from_to r l) (from_to a l)) is.to_left) k
+    (positive-weak (dot_of (from_to r l) (from_to r a)) is.from_right) h (positive-weak (dot_of (from_to r l) (from_to a l)) is.to_left) k
 
 -- both of two points lie on the line from s to t
 pub record LieOnLine (s t l r : Point) : Type 0 where
@@ -116,8 +110,8 @@ between-behind s t a r l is at h k = record {
     none =
         sum-zero (dot_of (from_to r l) (from_to r a) *ℤ orient_of s t l) (dot_of (from_to r l) (from_to a l) *ℤ orient_of s t r)
         (sym (mean s t a r l is.on_line) ∙ *ℤ_comm (dot_of (from_to r l) (from_to r l)) (orient_of s t a) ∙ zero-product (orient_of s t a) (dot_of (from_to r l) (from_to r l)) at)
-        (product-not_negative (dot_of (from_to r l) (from_to r a)) (orient_of s t l) (weak (dot_of (from_to r l) (from_to r a)) is.from_right) h)
-        (product-not_negative (dot_of (from_to r l) (from_to a l)) (orient_of s t r) (weak (dot_of (from_to r l) (from_to a l)) is.to_left) k)
+        (product-not_negative (dot_of (from_to r l) (from_to r a)) (orient_of s t l) (positive-weak (dot_of (from_to r l) (from_to r a)) is.from_right) h)
+        (product-not_negative (dot_of (from_to r l) (from_to a l)) (orient_of s t r) (positive-weak (dot_of (from_to r l) (from_to a l)) is.to_left) k)
 
 pub between-ahead : (s t a r l : Point) → HasParts a r l → orient_of s t a ≡ pos 0 → orient_of s t l ≤ℤ pos 0 → orient_of s t r ≤ℤ pos 0 → LieOnLine s t l r
 between-ahead s t a r l is at h k = record {
@@ -132,8 +126,8 @@ between-ahead s t a r l is at h k = record {
     none =
         both (dot_of (from_to r l) (from_to r a) *ℤ orient_of s t l) (dot_of (from_to r l) (from_to a l) *ℤ orient_of s t r)
         (sym (mean s t a r l is.on_line) ∙ *ℤ_comm (dot_of (from_to r l) (from_to r l)) (orient_of s t a) ∙ zero-product (orient_of s t a) (dot_of (from_to r l) (from_to r l)) at)
-        (product-not_positive (dot_of (from_to r l) (from_to r a)) (orient_of s t l) (weak (dot_of (from_to r l) (from_to r a)) is.from_right) h)
-        (product-not_positive (dot_of (from_to r l) (from_to a l)) (orient_of s t r) (weak (dot_of (from_to r l) (from_to a l)) is.to_left) k)
+        (product-not_positive (dot_of (from_to r l) (from_to r a)) (orient_of s t l) (positive-weak (dot_of (from_to r l) (from_to r a)) is.from_right) h)
+        (product-not_positive (dot_of (from_to r l) (from_to a l)) (orient_of s t r) (positive-weak (dot_of (from_to r l) (from_to a l)) is.to_left) k)
 
 -- ---- what is seen from inside a portal
 
@@ -157,13 +151,13 @@ inside-left a r l q is ahead =
     exchanged-not_negative a q l
     (multiple-not_positive (dot_of (from_to r l) (from_to r l)) (orient_of a l q) (dot_of (from_to r l) (from_to a l)) (orient_of r l q)
     (sym (without (dot_of (from_to r l) (from_to a l) *ℤ orient_of r l q) (dot_of (from_to r l) (from_to r l) *ℤ orient_of a l q) (orient_of r l a) (dot_of (from_to r l) (from_to q l)) (left_side a r l q) is.on_line))
-    is.wide (weak (dot_of (from_to r l) (from_to a l)) is.to_left) ahead)
+    is.wide (positive-weak (dot_of (from_to r l) (from_to a l)) is.to_left) ahead)
 
 pub inside-right : (a r l q : Point) → HasParts a r l → orient_of r l q ≤ℤ pos 0 → orient_of a q r ≤ℤ pos 0
 inside-right a r l q is ahead =
     multiple-not_positive (dot_of (from_to r l) (from_to r l)) (orient_of a q r) (dot_of (from_to r l) (from_to r a)) (orient_of r l q)
     (sym (without (dot_of (from_to r l) (from_to r a) *ℤ orient_of r l q) (dot_of (from_to r l) (from_to r l) *ℤ orient_of a q r) (orient_of r l a) (dot_of (from_to r l) (from_to r q)) (right_side a r l q) is.on_line))
-    is.wide (weak (dot_of (from_to r l) (from_to r a)) is.from_right) ahead
+    is.wide (positive-weak (dot_of (from_to r l) (from_to r a)) is.from_right) ahead
 
 -- ---- lines
 
@@ -236,7 +230,7 @@ pub in_line-ways : (a b : Portal) → a.left ≢ a.right → b.left ≢ b.right 
 in_line-ways a b apart apart' is =
     elim (signs (dot_of (from_to a.right a.left) (from_to b.right b.left))) [
       | inl opposite ↦ inr opposite
-      | inr (inl none) ↦ absurd (positive (dot_of (from_to a.right a.left) (from_to a.right a.left) *ℤ dot_of (from_to b.right b.left) (from_to b.right b.left))
+      | inr (inl none) ↦ absurd (positive-not_zero (dot_of (from_to a.right a.left) (from_to a.right a.left) *ℤ dot_of (from_to b.right b.left) (from_to b.right b.left))
           (product-positive (dot_of (from_to a.right a.left) (from_to a.right a.left)) (dot_of (from_to b.right b.left) (from_to b.right b.left)) (length-positive a.right a.left (λ e. apart (sym e))) (length-positive b.right b.left (λ e. apart' (sym e))))
           (ways_square a.left a.right b.left b.right
           ∙ (λ i. zero-product (dot_of (from_to a.right a.left) (from_to b.right b.left)) (dot_of (from_to a.right a.left) (from_to b.right b.left)) none i
@@ -244,6 +238,28 @@ in_line-ways a b apart apart' is =
           +ℤ zero-product (orient_of a.left a.right b.right) (cross_of (from_to a.right a.left) (from_to b.right b.left)) is.right i)))
       | inr (inr alike) ↦ inl alike
     ]
+
+-- what lies behind two portals on one line lies on one side of both
+pub opposite_apart : (a b : Portal) (x : Point) → IsInLine a b → LookOpposite a b → pos 0 <ℤ orient_of a.right a.left x → pos 0 <ℤ orient_of b.right b.left x → ⊥
+opposite_apart a b x is opposite h k =
+    apart (orient_of a.right a.left x *ℤ dot_of (from_to a.right a.left) (from_to b.right b.left)) (dot_of (from_to a.right a.left) (from_to a.right a.left) *ℤ orient_of b.right b.left x)
+    (*ℤ_comm (orient_of a.right a.left x) (dot_of (from_to a.right a.left) (from_to b.right b.left)) ∙ in_line-multiple a b x is)
+    (product-negative (orient_of a.right a.left x) (dot_of (from_to a.right a.left) (from_to b.right b.left)) h opposite)
+    (product-not_negative (dot_of (from_to a.right a.left) (from_to a.right a.left)) (orient_of b.right b.left x) (length-not_negative (from_to a.right a.left)) (positive-weak (orient_of b.right b.left x) k))
   where
-    positive : (n : ℤ) → pos 0 <ℤ n → n ≡ pos 0 → ⊥
-    positive n h e = omega (arith, ints)
+    apart : (m n : ℤ) → m ≡ n → m <ℤ pos 0 → pos 0 ≤ℤ n → ⊥
+    apart m n e h k = omega (arith, ints)
+
+-- what lies inside a portal is neither of its ends
+pub inside-left_apart : (c l r : Point) → dot_of (from_to c l) (from_to c r) <ℤ pos 0 → l ≢ c
+inside-left_apart c l r between e =
+    none (dot_of (from_to c l) (from_to c r)) between (ap (λ (p : Point). dot_of (from_to c p) (from_to c r)) e ∙ dot_of-exchanged (from_to c r) (from_to c c) ∙ dot_of-still (from_to c r) c)
+  where
+    none : (n : ℤ) → n <ℤ pos 0 → n ≡ pos 0 → ⊥
+    none n h e = omega (arith, ints)
+
+pub inside-right_apart : (c l r : Point) → dot_of (from_to c l) (from_to c r) <ℤ pos 0 → r ≢ c
+inside-right_apart c l r between e = inside-left_apart c r l (same (dot_of (from_to c r) (from_to c l)) (dot_of (from_to c l) (from_to c r)) (dot_of-exchanged (from_to c l) (from_to c r)) between) e
+  where
+    same : (m n : ℤ) → m ≡ n → n <ℤ pos 0 → m <ℤ pos 0
+    same m n e h = omega (arith, ints)

@@ -6,9 +6,9 @@ use Rattle.nav_base.specs.declared.point.Point.{Point}
 use Rattle.nav_base.specs.Point.{from_to, dot_of, cross_of, orient_of}
 use Rattle.nav_base.proofs.Polynomials.{number, opposite, sum, difference, product, equal}
 use Rattle.nav_base.proofs.PointTerms.{Place, place, coordinates, from_to_term, dot_term, cross_term, orient_term}
-use Rattle.nav_base.proofs.OrientLaws.{orient_of-rotated, orient_of-turned, orient_of-exchanged, orient_of-start, orient_of-end, orient_of-still, orient_of-parts, orient_of-fan, orient_of-product, orient_of-order, orient_of-order_beyond, orient_of-between, orient_of-facing, dot_of-fan}
+use Rattle.nav_base.proofs.OrientLaws.{orient_of-rotated, orient_of-turned, orient_of-exchanged, orient_of-start, orient_of-still, orient_of-parts, orient_of-fan, orient_of-product, orient_of-order, orient_of-order_beyond, orient_of-between, orient_of-facing, dot_of-fan}
 use Rattle.nav_base.proofs.Signs.{square-not_negative, product-not_negative, product-not_positive, product-positive, factor-not_negative, factor-not_positive, factor-positive, factor-zero}
-use Rattle.funnel_path.proofs.SideRules.{opposite-not_negative, opposite-not_positive, opposite-positive, opposite-negative, opposite-zero, not_negative-signs, not_positive-signs, difference-positive, sum-not_negative, sum-positive, sum-zero, weighted-not_negative, weighted-not_positive, weighted-positive, weighted-positive_right, weighted_difference-positive, square-zero, zero-product, without, multiple-not_negative, multiple-not_positive, multiple-positive, multiple-negative}
+use Rattle.funnel_path.proofs.SideRules.{positive-not_zero, opposite-not_negative, opposite-not_positive, opposite-positive, opposite-negative, opposite-zero, not_negative-signs, not_positive-signs, difference-positive, sum-not_negative, sum-positive, sum-zero, weighted-not_negative, weighted-not_positive, weighted-positive, weighted-positive_right, weighted_difference-positive, square-zero, zero-product, without, multiple-not_negative, multiple-not_positive, multiple-positive, multiple-negative}
 
 -- the points of the equations below, as terms
 abbrev p₀ : Place
@@ -44,6 +44,13 @@ exchanged-negative a b c h = opposite-negative (orient_of a b c) (orient_of a c 
 pub exchanged-zero : (a b c : Point) → orient_of a c b ≡ pos 0 → orient_of a b c ≡ pos 0
 exchanged-zero a b c h = opposite-zero (orient_of a b c) (orient_of a c b) (orient_of-exchanged a c b) h
 
+-- the first and the second point exchanged
+pub turned-not_negative : (a b c : Point) → orient_of b a c ≤ℤ pos 0 → pos 0 ≤ℤ orient_of a b c
+turned-not_negative a b c h = opposite-not_negative (orient_of a b c) (orient_of b a c) (orient_of-turned b a c) h
+
+pub turned-zero : (a b c : Point) → orient_of b a c ≡ pos 0 → orient_of a b c ≡ pos 0
+turned-zero a b c h = opposite-zero (orient_of a b c) (orient_of b a c) (orient_of-turned b a c) h
+
 -- a portal from r to l that is seen from behind by a is seen from a with r to the right of l
 pub faces : (a r l : Point) → pos 0 <ℤ orient_of r l a → pos 0 <ℤ orient_of a r l
 faces a r l h = subst (λ (n : ℤ). pos 0 <ℤ n) (orient_of-rotated a r l) h
@@ -51,7 +58,19 @@ faces a r l h = subst (λ (n : ℤ). pos 0 <ℤ n) (orient_of-rotated a r l) h
 pub faces_back : (a r l : Point) → pos 0 <ℤ orient_of a r l → pos 0 <ℤ orient_of r l a
 faces_back a r l h = subst (λ (n : ℤ). pos 0 <ℤ n) (sym (orient_of-rotated a r l)) h
 
+-- a walk that turns at a point begins elsewhere than at its second and its third point
+pub turn-second : (a b c : Point) → pos 0 <ℤ orient_of a b c → a ≢ b
+turn-second a b c h e = positive-not_zero (orient_of a b c) h (ap (λ (p : Point). orient_of p b c) e ∙ orient_of-still b c)
+
+pub turn-third : (a b c : Point) → pos 0 <ℤ orient_of a b c → a ≢ c
+turn-third a b c h e = positive-not_zero (orient_of a b c) h (ap (λ (p : Point). orient_of p b c) e ∙ orient_of-start c b)
+
 -- ---- lengths
+
+-- a way of no length
+pub dot_of-still : (u c : Point) → dot_of u (from_to c c) ≡ pos 0
+unfolding dot_of
+dot_of-still u c = equal (coordinates (u ∷ c ∷ [])) (dot_term p₀ (from_to_term p₁ p₁)) (number (pos 0)) refl
 
 -- a square is not negative
 pub length-not_negative : (u : Point) → pos 0 ≤ℤ dot_of u u

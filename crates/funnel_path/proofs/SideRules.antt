@@ -22,6 +22,41 @@ opposite-negative m n is h = omega (arith, ints)
 pub opposite-zero : (m n : ℤ) → m ≡ neg_ℤ n → n ≡ pos 0 → m ≡ pos 0
 opposite-zero m n is h = omega (arith, ints)
 
+-- a weaker sign, and signs that exclude one another
+pub positive-weak : (n : ℤ) → pos 0 <ℤ n → pos 0 ≤ℤ n
+positive-weak n h = omega (arith, ints)
+
+pub negative-weak : (n : ℤ) → n <ℤ pos 0 → n ≤ℤ pos 0
+negative-weak n h = omega (arith, ints)
+
+pub zero-at_least : (n : ℤ) → n ≡ pos 0 → pos 0 ≤ℤ n
+zero-at_least n e = omega (arith, ints)
+
+pub zero-at_most : (n : ℤ) → n ≡ pos 0 → n ≤ℤ pos 0
+zero-at_most n e = omega (arith, ints)
+
+pub zero-both : (n : ℤ) → n ≤ℤ pos 0 → pos 0 ≤ℤ n → n ≡ pos 0
+zero-both n h k = omega (arith, ints)
+
+pub positive-not_zero : (n : ℤ) → pos 0 <ℤ n → n ≡ pos 0 → ⊥
+positive-not_zero n h e = omega (arith, ints)
+
+pub positive-not_below : (n : ℤ) → pos 0 <ℤ n → n ≤ℤ pos 0 → ⊥
+positive-not_below n h k = omega (arith, ints)
+
+pub negative-not_above : (n : ℤ) → n <ℤ pos 0 → pos 0 ≤ℤ n → ⊥
+negative-not_above n h k = omega (arith, ints)
+
+-- numbers on two sides of 0
+pub around-not_above : (m n : ℤ) → m ≤ℤ pos 0 → pos 0 ≤ℤ n → m ≤ℤ n
+around-not_above m n h k = omega (arith, ints)
+
+pub around-below : (m n : ℤ) → m ≤ℤ pos 0 → pos 0 <ℤ n → m <ℤ n
+around-below m n h k = omega (arith, ints)
+
+pub around-above : (m n : ℤ) → m <ℤ pos 0 → pos 0 ≤ℤ n → m <ℤ n
+around-above m n h k = omega (arith, ints)
+
 -- a number has one of three signs
 pub signs : (n : ℤ) → (n <ℤ pos 0) ⊎ ((n ≡ pos 0) ⊎ (pos 0 <ℤ n))
 signs (pos zero) = inr (inl refl)
@@ -61,6 +96,12 @@ sum-positive_right e m n is p q = omega (arith, ints)
 
 pub sum-negative : (e m n : ℤ) → e ≡ m +ℤ n → m <ℤ pos 0 → n ≤ℤ pos 0 → e <ℤ pos 0
 sum-negative e m n is p q = omega (arith, ints)
+
+-- a product of two negative numbers
+pub product-negatives : (m n : ℤ) → m <ℤ pos 0 → n <ℤ pos 0 → pos 0 <ℤ (m *ℤ n)
+product-negatives (pos m) n h k = absurd (omega (arith, ints))
+product-negatives (negsuc m) (pos n) h k = absurd (omega (arith, ints))
+product-negatives (negsuc m) (negsuc n) h k = product-positive (pos (suc m)) (pos (suc n)) (omega (arith, ints)) (omega (arith, ints))
 
 -- a sum of numbers that are not negative is 0 only where both are
 pub sum-zero : (m n : ℤ) → m +ℤ n ≡ pos 0 → pos 0 ≤ℤ m → pos 0 ≤ℤ n → (m ≡ pos 0) × (n ≡ pos 0)
