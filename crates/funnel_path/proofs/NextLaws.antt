@@ -11,7 +11,7 @@ use Rattle.mesh_types.specs.declared.corner.Corner.{Corner}
 use Rattle.mesh_types.specs.Chains.{IsAhead, IsBehind, IsChain, portal_at}
 use Rattle.mesh_types.specs.Taut.{IsNamed, end_of}
 use Rattle.funnel_path.specs.declared.wedge.Wedge.{Wedge}
-use Rattle.funnel_path.specs.Cone.{ArePassed, IsAheadOf, IsCornerNext, IsCornerThrough, IsEndFrom, IsFoldedBack, IsGoalNext, IsInWedge, IsLeftTurn, IsLook, IsNear, IsRightTurn, IsTurnedBack, is_all_passed, is_folded_back, is_in_wedge, is_left_turn, is_near, is_right_turn, is_turned_back, wedge_closes}
+use Rattle.funnel_path.specs.Cone.{ArePassed, IsAheadOf, IsCornerNext, IsCornerThrough, IsEndFrom, IsFoldedBack, IsGoalNext, IsInWedge, IsLeftTurn, IsLook, IsNear, IsRightTurn, IsTurnedBack, all_passed, folded_back, in_wedge, left_turn, near, right_turn, turned_back, through}
 use Rattle.funnel_path.proofs.PointLaws.{LiesBetweenRays, exchanged-positive}
 use Rattle.funnel_path.proofs.ChainLaws.{chain_ahead, chain_behind, chain_goal}
 use Rattle.funnel_path.proofs.PassedLaws.{passed_fewer}
@@ -167,20 +167,20 @@ folded_step start portals goal apex first ahead corner chain of folded =
 
 through_step : (start : Point) (portals : List Portal) (goal apex : Point) (first ahead : ℕ) (corner : Corner) → IsChain start portals goal → IsAheadOf apex portals first ahead
     → IsCornerThrough apex portals goal ahead corner → IsStep apex portals first corner
-through_step start portals goal apex first ahead corner chain of (is_left_turn turn) = left_step start portals goal apex first ahead corner chain of turn
-through_step start portals goal apex first ahead corner chain of (is_folded_back folded) = folded_step start portals goal apex first ahead corner chain of folded
-through_step start portals goal apex first ahead corner chain of (is_right_turn turn) = right_step start portals goal apex first ahead corner chain of turn
+through_step start portals goal apex first ahead corner chain of (left_turn turn) = left_step start portals goal apex first ahead corner chain of turn
+through_step start portals goal apex first ahead corner chain of (folded_back folded) = folded_step start portals goal apex first ahead corner chain of folded
+through_step start portals goal apex first ahead corner chain of (right_turn turn) = right_step start portals goal apex first ahead corner chain of turn
 
 -- the corner that comes next
 pub next_step : (start : Point) (portals : List Portal) (goal apex : Point) (first : ℕ) (corner : Corner) → IsChain start portals goal → IsCornerNext apex portals goal first corner → IsStep apex portals first corner
-next_step start portals goal apex first corner chain (is_near near) = near_step start portals goal apex first corner chain near
-next_step start portals goal apex first corner chain (is_turned_back turned) = turned_back_step start portals goal apex first corner chain turned
-next_step start portals goal apex first corner chain (wedge_closes ahead of turn) = through_step start portals goal apex first ahead corner chain of turn
+next_step start portals goal apex first corner chain (near at) = near_step start portals goal apex first corner chain at
+next_step start portals goal apex first corner chain (turned_back turned) = turned_back_step start portals goal apex first corner chain turned
+next_step start portals goal apex first corner chain (through ahead of turn) = through_step start portals goal apex first ahead corner chain of turn
 
 -- the goal
 pub next_goal : (start : Point) (portals : List Portal) (goal apex : Point) (first : ℕ) → IsChain start portals goal → IsGoalNext apex portals goal first
     → (ahead : ℕ) × IsSeen apex goal portals first ahead (length portals)
-next_goal start portals goal apex first chain (is_all_passed passed) =
+next_goal start portals goal apex first chain (all_passed passed) =
     (length portals, record {
       within = omega arith;
       passed = passed;
@@ -188,6 +188,6 @@ next_goal start portals goal apex first chain (is_all_passed passed) =
       apart = λ h. absurd (omega arith);
       last = λ m next. chain_goal start portals goal m chain next;
     })
-next_goal start portals goal apex first chain (is_in_wedge ahead of inside) =
+next_goal start portals goal apex first chain (in_wedge ahead of inside) =
     (ahead, seen_in_wedge apex goal portals first ahead (length portals) (length portals) inside.wedge of.passed inside.look (omega arith)
     (inside_closed apex inside.wedge goal inside.right_of_left inside.left_of_right) (inside_apart apex inside.wedge goal inside.left_of_right) (λ m next. chain_goal start portals goal m chain next))

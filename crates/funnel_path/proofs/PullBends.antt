@@ -68,7 +68,7 @@ held_as portals stops corners first last (inl (side, on)) = by on.held
     by (inr found) = by_end side found.0 found.1 found.2
 
 -- the same at other points
-held_at : (portals : List Portal) (corners : List Corner) (b b' c c' a a' : Point) (first last : ℕ) → b ≡ b' → c ≡ c' → a ≡ a' → IsHeldFor portals corners b c a first last → IsHeldFor portals corners b' c' a' first last
+pub held_at : (portals : List Portal) (corners : List Corner) (b b' c c' a a' : Point) (first last : ℕ) → b ≡ b' → c ≡ c' → a ≡ a' → IsHeldFor portals corners b c a first last → IsHeldFor portals corners b' c' a' first last
 held_at portals corners b b' c c' a a' first last is_b is_c is_a held =
     subst (λ (p : Point). IsHeldFor portals corners p c' a' first last) is_b (subst (λ (p : Point). IsHeldFor portals corners b p a' first last) is_c (subst (λ (p : Point). IsHeldFor portals corners b c p first last) is_a held))
 

@@ -124,9 +124,9 @@ pub record IsRightTurn (apex : Point) (portals : List Portal) (goal : Point) (ah
 
 -- the corner at which the wedge closes
 pub data IsCornerThrough (apex : Point) (portals : List Portal) (goal : Point) (ahead : ℕ) (corner : Corner) : Type 0 where
-  is_left_turn : IsLeftTurn apex portals goal ahead corner → IsCornerThrough apex portals goal ahead corner
-  is_folded_back : IsFoldedBack apex portals ahead corner → IsCornerThrough apex portals goal ahead corner
-  is_right_turn : IsRightTurn apex portals goal ahead corner → IsCornerThrough apex portals goal ahead corner
+  left_turn : IsLeftTurn apex portals goal ahead corner → IsCornerThrough apex portals goal ahead corner
+  folded_back : IsFoldedBack apex portals ahead corner → IsCornerThrough apex portals goal ahead corner
+  right_turn : IsRightTurn apex portals goal ahead corner → IsCornerThrough apex portals goal ahead corner
 
 -- the goal lies inside the wedge through all portals from `ahead` on
 pub record IsInWedge (apex : Point) (portals : List Portal) (goal : Point) (ahead : ℕ) : Type 0 where
@@ -170,15 +170,15 @@ pub record IsTurnedBack (apex : Point) (portals : List Portal) (first : ℕ) (co
 
 -- the corner that comes next
 pub data IsCornerNext (apex : Point) (portals : List Portal) (goal : Point) (first : ℕ) (corner : Corner) : Type 0 where
-  is_near : IsNear apex portals first corner → IsCornerNext apex portals goal first corner
-  is_turned_back : IsTurnedBack apex portals first corner → IsCornerNext apex portals goal first corner
-  wedge_closes : (ahead : ℕ) → IsAheadOf apex portals first ahead → IsCornerThrough apex portals goal ahead corner
+  near : IsNear apex portals first corner → IsCornerNext apex portals goal first corner
+  turned_back : IsTurnedBack apex portals first corner → IsCornerNext apex portals goal first corner
+  through : (ahead : ℕ) → IsAheadOf apex portals first ahead → IsCornerThrough apex portals goal ahead corner
       → IsCornerNext apex portals goal first corner
 
 -- the goal is seen: the apex lies inside all portals that are left, or the goal lies inside the wedge through them
 pub data IsGoalNext (apex : Point) (portals : List Portal) (goal : Point) (first : ℕ) : Type 0 where
-  is_all_passed : ArePassed apex portals first (length portals) → IsGoalNext apex portals goal first
-  is_in_wedge : (ahead : ℕ) → IsAheadOf apex portals first ahead → IsInWedge apex portals goal ahead → IsGoalNext apex portals goal first
+  all_passed : ArePassed apex portals first (length portals) → IsGoalNext apex portals goal first
+  in_wedge : (ahead : ℕ) → IsAheadOf apex portals first ahead → IsInWedge apex portals goal ahead → IsGoalNext apex portals goal first
 
 -- what comes next on a path that turned last at the apex: a corner, or the goal
 abbrev pub IsNext : Point → List Portal → Point → ℕ → Option Corner → Type 0
