@@ -10,6 +10,8 @@ pub mod PassedLaws
 pub mod WedgeLaws
 pub mod SightLaws
 pub mod TightLaws
+pub mod ConeLaws
 pub mod NextLaws
 pub mod PathLaws
 pub mod PullBends
+pub mod PullRuns

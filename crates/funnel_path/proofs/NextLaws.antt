@@ -1,8 +1,10 @@
 -- The next corner, and the goal, are seen from the apex.
-use Rattle.std.proofs.Common.{◌≡◌, ◌≢◌, ℕ, ◌+◌, ◌-◌, ◌≤◌, ◌<◌, ℤ, pos, ◌≤ℤ◌, ◌<ℤ◌, inl, inr, List, length, sym, ap, subst, ◌∙◌, arith}
+use Rattle.std.proofs.Common.{◌≡◌, ◌≢◌, ℕ, ◌+◌, ◌-◌, ◌≤◌, ◌<◌, ℤ, pos, ◌≤ℤ◌, ◌<ℤ◌, inl, inr, List, [], ◌∷◌, length, refl, sym, ap, subst, ◌∙◌, arith}
 use Rattle.std.proofs.lemmas.Int.{ints}
 use Rattle.nav_base.specs.declared.point.Point.{Point}
-use Rattle.nav_base.specs.Point.{orient_of}
+use Rattle.nav_base.specs.Point.{dot_of, from_to, orient_of}
+use Rattle.nav_base.proofs.Polynomials.{equal, number}
+use Rattle.nav_base.proofs.PointTerms.{coordinates, dot_term, from_to_term, place}
 use Rattle.nav_base.proofs.OrientLaws.{orient_of-end, orient_of-start, orient_of-still}
 use Rattle.mesh_types.specs.declared.links.Portal.{Portal}
 use Rattle.mesh_types.specs.declared.corner.Side.{Side}
@@ -11,7 +13,7 @@ use Rattle.mesh_types.specs.declared.corner.Corner.{Corner}
 use Rattle.mesh_types.specs.Chains.{IsAhead, IsBehind, IsChain, portal_at}
 use Rattle.mesh_types.specs.Taut.{IsNamed, end_of}
 use Rattle.funnel_path.specs.declared.wedge.Wedge.{Wedge}
-use Rattle.funnel_path.specs.Cone.{ArePassed, IsAheadOf, IsCornerNext, IsCornerThrough, IsEndFrom, IsFoldedBack, IsGoalNext, IsInWedge, IsLeftTurn, IsLook, IsNear, IsRightTurn, IsTurnedBack, all_passed, folded_back, in_wedge, left_turn, near, right_turn, turned_back, through}
+use Rattle.funnel_path.specs.Cone.{ArePassed, IsAheadOf, IsCornerNext, IsCornerThrough, IsEndFrom, IsFoldedBack, IsGoalNext, IsInWedge, IsInside, IsLeftTurn, IsLook, IsNear, IsRightTurn, IsTurnedBack, all_passed, folded_back, in_wedge, left_turn, near, right_turn, turned_back, through}
 use Rattle.funnel_path.proofs.PointLaws.{LiesBetweenRays, exchanged-positive}
 use Rattle.funnel_path.proofs.ChainLaws.{chain_ahead, chain_behind, chain_goal}
 use Rattle.funnel_path.proofs.PassedLaws.{passed_fewer}
@@ -191,3 +193,30 @@ next_goal start portals goal apex first chain (all_passed passed) =
 next_goal start portals goal apex first chain (in_wedge ahead of inside) =
     (ahead, seen_in_wedge apex goal portals first ahead (length portals) (length portals) inside.wedge of.passed inside.look (omega arith)
     (inside_closed apex inside.wedge goal inside.right_of_left inside.left_of_right) (inside_apart apex inside.wedge goal inside.left_of_right) (λ m next. chain_goal start portals goal m chain next))
+
+-- ---- a corner at the apex
+
+-- a way of no length
+still : (p v : Point) → dot_of (from_to p p) v ≡ pos 0
+unfolding dot_of
+still p v = equal (coordinates (p ∷ v ∷ [])) (dot_term (from_to_term (place 0) (place 0)) (place 1)) (number (pos 0)) refl
+
+-- an end of a portal does not lie inside it
+ends_apart : (apex : Point) (portal : Portal) → IsInside apex portal → apex ≢ portal.left
+ends_apart apex portal inside same =
+    between_ends_apart (dot_of (from_to apex portal.left) (from_to apex portal.right)) (ap (λ (p : Point). dot_of (from_to p portal.left) (from_to p portal.right)) same ∙ still portal.left (from_to portal.left portal.right)) inside.between
+  where
+    between_ends_apart : (n : ℤ) → n ≡ pos 0 → n <ℤ pos 0 → ⊥
+    between_ends_apart n e h = omega (arith, ints)
+
+through_apart : (apex : Point) (portals : List Portal) (goal : Point) (ahead : ℕ) (corner : Corner) → IsCornerThrough apex portals goal ahead corner → apex ≢ corner.at
+through_apart apex portals goal ahead corner (left_turn turn) same = left_apart apex turn.wedge turn.look.seen.wide (same ∙ ap (λ (c : Corner). c.at) turn.is_left)
+through_apart apex portals goal ahead corner (folded_back folded) same = inside_apart apex folded.wedge (portal_at portals corner.portal).right folded.left_of_right (same ∙ folded.at_end)
+through_apart apex portals goal ahead corner (right_turn turn) same = right_apart apex turn.wedge turn.look.seen.wide (same ∙ ap (λ (c : Corner). c.at) turn.is_right)
+
+-- so the next corner is at the apex only where the apex is an end of the next portal
+pub next_at_apex : (apex : Point) (portals : List Portal) (goal : Point) (first : ℕ) (corner : Corner) → IsCornerNext apex portals goal first corner → corner.at ≡ apex → IsNear apex portals first corner
+next_at_apex apex portals goal first corner (near at) same = at
+next_at_apex apex portals goal first corner (turned_back turned) same =
+    absurd (ends_apart apex (portal_at portals corner.portal) (turned.passed.inside corner.portal turned.from (omega arith)) (sym same ∙ turned.at_end))
+next_at_apex apex portals goal first corner (through ahead of turn) same = absurd (through_apart apex portals goal ahead corner turn (sym same))

@@ -49,6 +49,16 @@ between_ends apex wedge portal q wide through closed =
       from_left = ray-left apex wedge.right.at wedge.left.at q portal.left rays through.left_of_left (weak (orient_of apex wedge.right.at portal.left) through.left_of_right);
     }
 
+-- and a point strictly inside the wedge lies strictly between them
+pub inside_rays : (apex : Point) (wedge : Wedge) (portal : Portal) (q : Point) → pos 0 <ℤ orient_of apex wedge.right.at wedge.left.at → GoesThroughAll apex wedge portal
+    → orient_of apex wedge.left.at q <ℤ pos 0 → pos 0 <ℤ orient_of apex wedge.right.at q → (pos 0 <ℤ orient_of apex portal.right q) × (pos 0 <ℤ orient_of apex q portal.left)
+inside_rays apex wedge portal q wide through of_left of_right =
+    let inside = exchanged-positive apex q wedge.left.at of_left in
+    let rays : LiesBetweenRays apex wedge.right.at wedge.left.at q =
+        record { wide = wide; from_right = weak (orient_of apex wedge.right.at q) of_right; from_left = weak (orient_of apex q wedge.left.at) inside } in
+    (ray-right_strictly apex wedge.right.at wedge.left.at q portal.right rays of_right through.right_of_right through.right_of_left,
+    ray-left_strictly apex wedge.right.at wedge.left.at q portal.left rays inside through.left_of_left through.left_of_right)
+
 -- the right ray's corner is seen beyond the apex by each portal that the wedge goes through
 pub right_beyond : (apex : Point) (wedge : Wedge) (portal : Portal) → GoesThroughAll apex wedge portal → orient_of portal.right portal.left wedge.right.at <ℤ orient_of portal.right portal.left apex
 right_beyond apex wedge portal through =
