@@ -1,0 +1,17 @@
+pub mod ChainLaws
+pub mod StopLaws
+pub mod SideRules
+pub mod PointLaws
+pub mod LineLaws
+pub mod FoldLaws
+pub mod HoldingLaws
+pub mod InsideLaws
+pub mod PassedLaws
+pub mod WedgeLaws
+pub mod SightLaws
+pub mod TightLaws
+pub mod ConeLaws
+pub mod NextLaws
+pub mod PathLaws
+pub mod PullBends
+pub mod PullRuns

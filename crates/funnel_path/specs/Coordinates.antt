@@ -11,6 +11,6 @@ pub record HasEndCoordinates (portal : Portal) : Type 0 where
 
 -- every point of a chain has coordinates
 pub record HasChainCoordinates (start : Point) (portals : List Portal) (goal : Point) : Type 0 where
-  pub start : HasCoordinates start
-  pub portals : All HasEndCoordinates portals
-  pub goal : HasCoordinates goal
+  pub at_start : HasCoordinates start
+  pub at_ends : All HasEndCoordinates portals
+  pub at_goal : HasCoordinates goal

@@ -8,7 +8,6 @@ ghost use Rattle.nav_base.specs.Reach.{IsWithinReach};
 use nav_base::Point;
 
 /// The scalar product of the way from `a` to `b` and the way from `c` to `d`, in squares of a sixteenth.
-#[tactic(auto, unfolding(nav_base::specs::Point::dot_of))]
 pub(crate) fn dot(a: Point, b: Point, c: Point, d: Point) -> i64
     requires first { HasCoordinates a }
     requires second { HasCoordinates b }
