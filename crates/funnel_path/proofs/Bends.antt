@@ -69,16 +69,16 @@ opposite_side R = L
 
 -- what is known where one more corner comes at a bend that turns to a side
 pub data GoesOn (side : Side) (portals : List Portal) (goal b c : Point) (named : ℕ) (corner : Corner) : Type 0 where
-  folds : FoldsAt portals named → GoesOn side portals goal b c named corner
-  held : IsHolding corner.side b c (other_end_of corner.side (portal_at portals corner.portal)) → GoesOn side portals goal b c named corner
-  turns : (place : ℕ) → corner.side ≡ side → Turns side portals goal b c corner.portal place → GoesOn side portals goal b c named corner
-  either : corner.side ≡ opposite_side side → TurnsEither portals b c corner.portal → GoesOn side portals goal b c named corner
+  stays_folded : FoldsAt portals named → GoesOn side portals goal b c named corner
+  stays_held : IsHolding corner.side b c (other_end_of corner.side (portal_at portals corner.portal)) → GoesOn side portals goal b c named corner
+  stays_turning : (place : ℕ) → corner.side ≡ side → Turns side portals goal b c corner.portal place → GoesOn side portals goal b c named corner
+  becomes_either : corner.side ≡ opposite_side side → TurnsEither portals b c corner.portal → GoesOn side portals goal b c named corner
 
 -- and at one that may turn either way
 pub data GoesOnEither (portals : List Portal) (b c : Point) (named : ℕ) (corner : Corner) : Type 0 where
-  folds : FoldsAt portals named → GoesOnEither portals b c named corner
-  held : IsHolding corner.side b c (other_end_of corner.side (portal_at portals corner.portal)) → GoesOnEither portals b c named corner
-  either : TurnsEither portals b c corner.portal → GoesOnEither portals b c named corner
+  either_folded : FoldsAt portals named → GoesOnEither portals b c named corner
+  either_held : IsHolding corner.side b c (other_end_of corner.side (portal_at portals corner.portal)) → GoesOnEither portals b c named corner
+  either_still : TurnsEither portals b c corner.portal → GoesOnEither portals b c named corner
 
 -- ---- the way on
 

@@ -23,7 +23,7 @@ use Rattle.funnel_path.proofs.HoldingLaws.{at_left_end, between_left, both_ends,
 use Rattle.funnel_path.proofs.ChainLaws.{AreAhead, portal_or_goal-end, portal_or_goal-there}
 use Rattle.funnel_path.proofs.WedgeLaws.{right_beyond}
 use Rattle.funnel_path.proofs.BendLooks.{IsInLook, at_left_ray, at_right_ray, inside_look, look_between, look_last, place_ahead, as_near, nearer_left}
-use Rattle.funnel_path.proofs.Bends.{CrossesLeft, FoldsAt, GoesOn, TurnsEither, TurnsLeft, ahead_goes, crosses_left_ahead, crosses_left_end, crosses_left_holds, goes_ahead, folds, held, turns, either}
+use Rattle.funnel_path.proofs.Bends.{CrossesLeft, FoldsAt, GoesOn, TurnsEither, TurnsLeft, ahead_goes, crosses_left_ahead, crosses_left_end, crosses_left_holds, goes_ahead, stays_folded, stays_held, stays_turning, becomes_either}
 
 -- ---- the portals before the place
 
@@ -418,13 +418,13 @@ left_goes_on start portals goal b c named place corner chain is close at_bend = 
     at_end = sym at_bend ∙ close.at_end
 
     after : corner.portal ≡ place → AtPlace portals b c corner.portal corner.side → GoesOn L portals goal b c named corner
-    after same (holds it) = held it
-    after same (right_end sided it) = either sided it
+    after same (holds it) = stays_held it
+    after same (right_end sided it) = becomes_either sided it
 
     by : (corner.portal < place) ⊎ (place ≤ corner.portal) → (corner.portal ≡ place) ⊎ (corner.portal ≡ place → ⊥) → GoesOn L portals goal b c named corner
     by (inl before) other =
         let ended = near_end start portals goal b c named place corner chain is close before in
-        turns place ended.sided (record {
+        stays_turning place ended.sided (record {
           after = before;
           within = is.within;
           at_end = ended.at_end;
@@ -434,4 +434,4 @@ left_goes_on start portals goal b c named place corner chain is close at_bend = 
     by (inr past) (inl same) =
         after same (subst (λ (m : ℕ). AtPlace portals b c m corner.side) (sym same)
         (at_place start portals goal b c named place corner.side chain is (subst (λ (m : ℕ). m < length portals) same close.there) (subst (λ (m : ℕ). c ≡ end_of corner.side (portal_at portals m)) same at_end)))
-    by (inr past) (inr other) = folds (passed_folds start portals goal b c named place corner.portal chain is close.passed (omega arith) (omega (arith, close.there)))
+    by (inr past) (inr other) = stays_folded (passed_folds start portals goal b c named place corner.portal chain is close.passed (omega arith) (omega (arith, close.there)))

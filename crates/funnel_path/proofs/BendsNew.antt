@@ -16,17 +16,16 @@ use Rattle.funnel_path.specs.Corners.{IsNearerEnd}
 use Rattle.funnel_path.specs.Cone.{IsBeside, IsEndFrom, IsCornerNext, IsCornerThrough, IsFoldedBack, IsLeftTurn, IsNear, IsRightTurn, IsTurnedBack, folded_back, left_turn, near, right_turn, through, turned_back}
 use Rattle.funnel_path.proofs.SideRules.{positive-weak, zero-at_least}
 use Rattle.funnel_path.proofs.PointLaws.{behind-between, exchanged-zero}
-use Rattle.funnel_path.proofs.LineLaws.{inside-left_apart}
 use Rattle.funnel_path.proofs.HoldingLaws.{farther_end}
 use Rattle.funnel_path.proofs.ChainLaws.{AreBehind, chain_behind}
-use Rattle.funnel_path.proofs.BendLooks.{IsInLook, at_left_ray, at_right_ray, inside_look, look_between}
+use Rattle.funnel_path.proofs.BendLooks.{IsInLook, at_left_ray, at_right_ray, look_between}
 use Rattle.funnel_path.proofs.Bends.{FoldsAt, Turns, TurnsLeft, TurnsRight}
 
 -- what is known of a bend at its first corner
 pub data Begins (portals : List Portal) (goal b : Point) (corner : Corner) : Type 0 where
-  folds : FoldsAt portals corner.portal → Begins portals goal b corner
-  held : IsHolding corner.side b corner.at (other_end_of corner.side (portal_at portals corner.portal)) → Begins portals goal b corner
-  turns : (place : ℕ) → Turns corner.side portals goal b corner.at corner.portal place → Begins portals goal b corner
+  begins_folded : FoldsAt portals corner.portal → Begins portals goal b corner
+  begins_held : IsHolding corner.side b corner.at (other_end_of corner.side (portal_at portals corner.portal)) → Begins portals goal b corner
+  begins_turning : (place : ℕ) → Turns corner.side portals goal b corner.at corner.portal place → Begins portals goal b corner
 
 -- ---- the wedge's corners
 
@@ -119,33 +118,23 @@ at_side corner side b c portal e h = subst (λ (s : Side). IsHolding s b c (othe
 
 near_begins : (start : Point) (portals : List Portal) (goal b : Point) (first : ℕ) (corner : Corner) → IsChain start portals goal → IsNear b portals first corner → corner.at ≢ b → Begins portals goal b corner
 near_begins start portals goal b first corner chain close apart =
-    held (subst (λ (c : Point). IsHolding corner.side b c (other_end_of corner.side (portal_at portals corner.portal))) (sym close.at_end)
+    begins_held (subst (λ (c : Point). IsHolding corner.side b c (other_end_of corner.side (portal_at portals corner.portal))) (sym close.at_end)
     (farther_holds b (portal_at portals corner.portal) corner.side (chain.wide corner.portal close.there) close.beside close.nearer (λ e. apart (close.at_end ∙ sym e))))
 
 folded_back_begins : (portals : List Portal) (goal b : Point) (ahead : ℕ) (corner : Corner) → IsFoldedBack b portals ahead corner → Begins portals goal b corner
 folded_back_begins portals goal b ahead corner back =
     let portal = portal_at portals corner.portal in
-    held (at_side corner R b corner.at portal back.sided (subst (λ (c : Point). IsHolding R b c portal.left) (sym back.at_end) (inr (subst (λ (n : ℤ). n <ℤ pos 0) (orient_of-rotated b portal.right portal.left) back.front))))
+    begins_held (at_side corner R b corner.at portal back.sided (subst (λ (c : Point). IsHolding R b c portal.left) (sym back.at_end) (inr (subst (λ (n : ℤ). n <ℤ pos 0) (orient_of-rotated b portal.right portal.left) back.front))))
 
 through_begins : (start : Point) (portals : List Portal) (goal b : Point) (ahead : ℕ) (corner : Corner) → IsChain start portals goal → IsCornerThrough b portals goal ahead corner → Begins portals goal b corner
 through_begins start portals goal b ahead corner chain (left_turn turn) =
-    subst (Begins portals goal b) (sym turn.is_left) (turns turn.place (subst (λ (side : Side). Turns side portals goal b turn.wedge.left.at turn.wedge.left.portal turn.place) (sym turn.look.seen.left.sided) (left_turns start portals goal b ahead corner chain turn)))
+    subst (Begins portals goal b) (sym turn.is_left) (begins_turning turn.place (subst (λ (side : Side). Turns side portals goal b turn.wedge.left.at turn.wedge.left.portal turn.place) (sym turn.look.seen.left.sided) (left_turns start portals goal b ahead corner chain turn)))
 through_begins start portals goal b ahead corner chain (folded_back back) = folded_back_begins portals goal b ahead corner back
 through_begins start portals goal b ahead corner chain (right_turn turn) =
-    subst (Begins portals goal b) (sym turn.is_right) (turns turn.place (subst (λ (side : Side). Turns side portals goal b turn.wedge.right.at turn.wedge.right.portal turn.place) (sym turn.look.seen.right.sided) (right_turns start portals goal b ahead corner chain turn)))
+    subst (Begins portals goal b) (sym turn.is_right) (begins_turning turn.place (subst (λ (side : Side). Turns side portals goal b turn.wedge.right.at turn.wedge.right.portal turn.place) (sym turn.look.seen.right.sided) (right_turns start portals goal b ahead corner chain turn)))
 
 -- a corner away from the one before begins a bend
 pub begins : (start : Point) (portals : List Portal) (goal b : Point) (first : ℕ) (corner : Corner) → IsChain start portals goal → IsCornerNext b portals goal first corner → corner.at ≢ b → Begins portals goal b corner
 begins start portals goal b first corner chain (near it) apart = near_begins start portals goal b first corner chain it apart
-begins start portals goal b first corner chain (turned_back it) apart = folds (record { next = it.there; folds = it.folds })
+begins start portals goal b first corner chain (turned_back it) apart = begins_folded (record { next = it.there; folds = it.folds })
 begins start portals goal b first corner chain (through ahead ahead_of it) apart = through_begins start portals goal b ahead corner chain it
-
--- and a corner that is not away is the nearer end of a portal that one stands beside
-pub stays_near : (b : Point) (portals : List Portal) (goal : Point) (first : ℕ) (corner : Corner) → IsCornerNext b portals goal first corner → corner.at ≡ b → IsNear b portals first corner
-stays_near b portals goal first corner (near it) e = it
-stays_near b portals goal first corner (turned_back it) e =
-    absurd (inside-left_apart b (portal_at portals corner.portal).left (portal_at portals corner.portal).right (it.passed.inside corner.portal it.from (omega arith)).between (sym it.at_end ∙ e))
-stays_near b portals goal first corner (through ahead ahead_of (left_turn it)) e = absurd ((at_left_ray b portals ahead it.place it.wedge it.look).apart (sym (ap (λ (k : Corner). k.at) it.is_left) ∙ e))
-stays_near b portals goal first corner (through ahead ahead_of (folded_back it)) e =
-    absurd ((inside_look b portals ahead corner.portal it.wedge (portal_at portals corner.portal).right it.look it.right_of_left it.left_of_right).apart (sym it.at_end ∙ e))
-stays_near b portals goal first corner (through ahead ahead_of (right_turn it)) e = absurd ((at_right_ray b portals ahead it.place it.wedge it.look).apart (sym (ap (λ (k : Corner). k.at) it.is_right) ∙ e))

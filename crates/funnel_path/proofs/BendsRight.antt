@@ -22,7 +22,7 @@ use Rattle.funnel_path.proofs.HoldingLaws.{at_right_end, between_right, not_behi
 use Rattle.funnel_path.proofs.ChainLaws.{AreAhead, portal_or_goal-end, portal_or_goal-there}
 use Rattle.funnel_path.proofs.WedgeLaws.{left_beyond}
 use Rattle.funnel_path.proofs.BendLooks.{IsInLook, at_left_ray, at_right_ray, inside_look, look_between, look_last, place_ahead, nearer_right}
-use Rattle.funnel_path.proofs.Bends.{CrossesRight, GoesOn, TurnsEither, TurnsRight, crosses_right_ahead, crosses_right_end, crosses_right_holds, goes_ahead, held, turns, either}
+use Rattle.funnel_path.proofs.Bends.{CrossesRight, FoldsAt, GoesOn, TurnsEither, TurnsRight, crosses_right_ahead, crosses_right_end, crosses_right_holds, goes_ahead, stays_held, stays_turning, becomes_either}
 
 -- ---- the portals before the place
 
@@ -285,22 +285,22 @@ through_holds start portals goal b c named place ahead corner chain is begins tu
 
 -- a next corner elsewhere holds the bend on the right
 pub right_leaves : (start : Point) (portals : List Portal) (goal b c : Point) (named place : ℕ) (corner : Corner) → IsChain start portals goal → TurnsRight portals goal b c named place
-    → IsCornerNext c portals goal (named + 1) corner → corner.at ≢ c → IsHolding R b c corner.at
-right_leaves start portals goal b c named place corner chain is (near it) apart = near_holds start portals goal b c named place corner chain is it apart
+    → IsCornerNext c portals goal (named + 1) corner → corner.at ≢ c → IsHolding R b c corner.at ⊎ FoldsAt portals named
+right_leaves start portals goal b c named place corner chain is (near it) apart = inl (near_holds start portals goal b c named place corner chain is it apart)
 right_leaves start portals goal b c named place corner chain is (turned_back it) apart = absurd (turned_back_not start portals goal b c named place corner chain is it)
-right_leaves start portals goal b c named place corner chain is (through ahead begins it) apart = through_holds start portals goal b c named place ahead corner chain is begins it
+right_leaves start portals goal b c named place corner chain is (through ahead begins it) apart = inl (through_holds start portals goal b c named place ahead corner chain is begins it)
 
 -- and so does the goal
 pub right_arrives : (start : Point) (portals : List Portal) (goal b c : Point) (named place : ℕ) → IsChain start portals goal → TurnsRight portals goal b c named place
-    → IsGoalNext c portals goal (named + 1) → goal ≢ c → IsHolding R b c goal
+    → IsGoalNext c portals goal (named + 1) → goal ≢ c → IsHolding R b c goal ⊎ FoldsAt portals named
 right_arrives start portals goal b c named place chain is (all_passed passed) apart =
-    goal_holds start portals goal b c named place chain is (passed_before start portals goal b c named place (length portals) chain is passed (omega arith)) apart
+    inl (goal_holds start portals goal b c named place chain is (passed_before start portals goal b c named place (length portals) chain is passed (omega arith)) apart)
 right_arrives start portals goal b c named place chain is (in_wedge ahead begins seen) apart =
     let from = passed_before start portals goal b c named place ahead chain is begins.passed (omega (arith, begins.there)) in
-    elim (cases_lt place (length portals)) [
+    inl (elim (cases_lt place (length portals)) [
       | inl inner ↦ look_holds start portals goal b c named place ahead (length portals) goal chain is (inside_look c portals ahead (length portals) seen.wedge goal seen.look seen.right_of_left seen.left_of_right) from inner
       | inr past ↦ goal_holds start portals goal b c named place chain is past apart
-    ]
+    ])
 
 -- ---- the next corner, at the bend
 
@@ -360,8 +360,8 @@ right_goes_on start portals goal b c named place corner chain is close at_bend =
     at_end = sym at_bend ∙ close.at_end
 
     after : corner.portal ≡ place → AtPlace portals b c corner.portal corner.side → GoesOn R portals goal b c named corner
-    after same (holds it) = held it
-    after same (left_end sided it) = either sided it
+    after same (holds it) = stays_held it
+    after same (left_end sided it) = becomes_either sided it
 
     both : (n : ℕ) → place ≤ n → n ≤ place → n ≡ place
     both n h k = omega arith
@@ -369,7 +369,7 @@ right_goes_on start portals goal b c named place corner chain is close at_bend =
     by : (corner.portal < place) ⊎ (place ≤ corner.portal) → GoesOn R portals goal b c named corner
     by (inl before) =
         let ended = near_end start portals goal b c named place corner chain is close before in
-        turns place ended.sided (record {
+        stays_turning place ended.sided (record {
           after = before;
           within = is.within;
           at_end = ended.at_end;

@@ -15,3 +15,9 @@ pub mod NextLaws
 pub mod PathLaws
 pub mod PullBends
 pub mod PullRuns
+pub mod Bends
+pub mod BendLooks
+pub mod BendsNew
+pub mod BendsLeft
+pub mod BendsRight
+pub mod BendsEither
