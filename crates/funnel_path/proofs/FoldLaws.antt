@@ -76,32 +76,32 @@ part d x u v z w is none some some' h = multiple-negative d x u v (without (d *�
 pub folds_round : (a b : Portal) (c : Point) → IsInLine a b → LookOpposite a b
     → pos 0 ≤ℤ dot_of (from_to a.right a.left) (from_to c a.left) → pos 0 ≤ℤ dot_of (from_to a.right a.left) (from_to a.right c)
     → HasParts c b.right b.left → IsFold a b
-folds_round a b c in_line opposite left right parts = record {
+folds_round a b c in_line ways left right parts = record {
   left_on_line = in_line.left;
   right_on_line = in_line.right;
-  opposite = opposite;
+  opposite = ways;
   left_inside = gap (dot_of (from_to a.left b.left) (from_to a.right a.left)) (dot_of (from_to a.right a.left) (from_to c b.left)) (dot_of (from_to a.right a.left) (from_to c a.left)) (left_gap a.left a.right b.left c)
       (part (dot_of (from_to b.right b.left) (from_to b.right b.left)) (dot_of (from_to a.right a.left) (from_to c b.left)) (dot_of (from_to b.right b.left) (from_to c b.left)) (dot_of (from_to a.right a.left) (from_to b.right b.left))
-      (orient_of b.right b.left c) (cross_of (from_to a.right a.left) (from_to b.right b.left)) (left_part a.left a.right b.left b.right c) parts.on_line parts.wide parts.to_left opposite) left;
+      (orient_of b.right b.left c) (cross_of (from_to a.right a.left) (from_to b.right b.left)) (left_part a.left a.right b.left b.right c) parts.on_line parts.wide parts.to_left ways) left;
   right_inside = gap (dot_of (from_to a.right b.right) (from_to a.left a.right)) (dot_of (from_to a.right a.left) (from_to b.right c)) (dot_of (from_to a.right a.left) (from_to a.right c)) (right_gap a.left a.right b.right c)
       (part (dot_of (from_to b.right b.left) (from_to b.right b.left)) (dot_of (from_to a.right a.left) (from_to b.right c)) (dot_of (from_to b.right b.left) (from_to b.right c)) (dot_of (from_to a.right a.left) (from_to b.right b.left))
-      (orient_of b.right b.left c) (cross_of (from_to b.right b.left) (from_to a.right a.left)) (right_part a.left a.right b.left b.right c) parts.on_line parts.wide parts.from_right opposite) right;
+      (orient_of b.right b.left c) (cross_of (from_to b.right b.left) (from_to a.right a.left)) (right_part a.left a.right b.left b.right c) parts.on_line parts.wide parts.from_right ways) right;
 }
 
 -- they fold where a point lies inside both
 pub folds_inside : (a b : Portal) (c : Point) → IsInLine a b → LookOpposite a b → IsInside c a → IsInside c b → IsFold a b
-folds_inside a b c in_line opposite is is' =
+folds_inside a b c in_line ways is is' =
     let parts = inside_parts c a is in
-    folds_round a b c in_line opposite (positive-weak (dot_of (from_to a.right a.left) (from_to c a.left)) parts.to_left) (positive-weak (dot_of (from_to a.right a.left) (from_to a.right c)) parts.from_right) (inside_parts c b is')
+    folds_round a b c in_line ways (positive-weak (dot_of (from_to a.right a.left) (from_to c a.left)) parts.to_left) (positive-weak (dot_of (from_to a.right a.left) (from_to a.right c)) parts.from_right) (inside_parts c b is')
 
 -- and where an end of the first lies inside the second
 pub folds_at_left : (a b : Portal) → IsInLine a b → LookOpposite a b → IsInside a.left b → IsFold a b
-folds_at_left a b in_line opposite is =
-    folds_round a b a.left in_line opposite (zero-at_least (dot_of (from_to a.right a.left) (from_to a.left a.left)) (dot_of-still (from_to a.right a.left) a.left)) (length-not_negative (from_to a.right a.left)) (inside_parts a.left b is)
+folds_at_left a b in_line ways is =
+    folds_round a b a.left in_line ways (zero-at_least (dot_of (from_to a.right a.left) (from_to a.left a.left)) (dot_of-still (from_to a.right a.left) a.left)) (length-not_negative (from_to a.right a.left)) (inside_parts a.left b is)
 
 pub folds_at_right : (a b : Portal) → IsInLine a b → LookOpposite a b → IsInside a.right b → IsFold a b
-folds_at_right a b in_line opposite is =
-    folds_round a b a.right in_line opposite (length-not_negative (from_to a.right a.left)) (zero-at_least (dot_of (from_to a.right a.left) (from_to a.right a.right)) (dot_of-still (from_to a.right a.left) a.right)) (inside_parts a.right b is)
+folds_at_right a b in_line ways is =
+    folds_round a b a.right in_line ways (length-not_negative (from_to a.right a.left)) (zero-at_least (dot_of (from_to a.right a.left) (from_to a.right a.right)) (dot_of-still (from_to a.right a.left) a.right)) (inside_parts a.right b is)
 
 -- ---- in front of a portal whose right end lies inside the wedge
 

@@ -119,22 +119,22 @@ holds_either s t b c x ahead beyond apart =
 
 -- ---- between two points that hold a bend
 
--- a side and a scalar product of a point that holds: the side is positive, or 0 and the product negative
+-- the side and the scalar product of a point that holds: the side is positive, or 0 and the product negative
 abbrev IsGood : ℤ → ℤ → Type 0
-IsGood side product = ((side ≡ pos 0) × (product <ℤ pos 0)) ⊎ (pos 0 <ℤ side)
+IsGood side along = ((side ≡ pos 0) × (along <ℤ pos 0)) ⊎ (pos 0 <ℤ side)
 
 -- a weight times a side and times a product
-data Part (weight side product : ℤ) : Type 0 where
-  to_side : pos 0 <ℤ side → Part weight side product
-  onward : side ≡ pos 0 → product <ℤ pos 0 → Part weight side product
-  nothing : weight ≡ pos 0 → side ≡ pos 0 → product ≡ pos 0 → Part weight side product
+data Part (weight side along : ℤ) : Type 0 where
+  to_side : pos 0 <ℤ side → Part weight side along
+  onward : side ≡ pos 0 → along <ℤ pos 0 → Part weight side along
+  nothing : weight ≡ pos 0 → side ≡ pos 0 → along ≡ pos 0 → Part weight side along
 
 part_of : (a s t : ℤ) → pos 0 ≤ℤ a → IsGood s t → Part a (a *ℤ s) (a *ℤ t)
 part_of a s t h good =
     elim (not_negative-signs a h) [
       | inl none ↦ nothing none (zero-product a s none) (zero-product a t none)
       | inr some ↦ elim good [
-        | inl straight ↦ onward (*ℤ_comm a s ∙ zero-product s a straight.0) (product-negative a t some straight.1)
+        | inl ahead ↦ onward (*ℤ_comm a s ∙ zero-product s a ahead.0) (product-negative a t some ahead.1)
         | inr side ↦ to_side (product-positive a s some side)
       ]
     ]
@@ -154,7 +154,7 @@ mean_good : (d a b s s' s'' t t' t'' : ℤ) → d *ℤ s'' ≡ a *ℤ s +ℤ b *
     → IsGood s t → IsGood s' t' → IsGood s'' t''
 mean_good d a b s s' s'' t t' t'' e e' wide h k some good good' =
     elim (joined a b (a *ℤ s) (b *ℤ s') (d *ℤ s'') (a *ℤ t) (b *ℤ t') (d *ℤ t'') e e' some (part_of a s t h good) (part_of b s' t' k good')) [
-      | inl straight ↦ inl (factor-zero d s'' wide straight.0, factor-negative d t'' wide straight.1)
+      | inl ahead ↦ inl (factor-zero d s'' wide ahead.0, factor-negative d t'' wide ahead.1)
       | inr side ↦ inr (factor-positive d s'' wide side)
     ]
 
@@ -173,11 +173,11 @@ between_left b c r l q is apart good good' =
     (λ left right. apart (rays-meet c r l q is.wide right left)) (into r good) (into l good'))
   where
     into : (x : Point) → IsHolding L b c x → IsGood (orient_of b c x) (dot_of (from_to c b) (from_to c x))
-    into x (inl straight) = inl (straight.on_line, straight.onward)
+    into x (inl ahead) = inl (ahead.on_line, ahead.onward)
     into x (inr side) = inr side
 
     from : IsGood (orient_of b c q) (dot_of (from_to c b) (from_to c q)) → IsHolding L b c q
-    from (inl straight) = inl (record { on_line = straight.0; onward = straight.1 })
+    from (inl ahead) = inl (record { on_line = ahead.0; onward = ahead.1 })
     from (inr side) = inr side
 
 -- and the same on the right
@@ -188,11 +188,11 @@ between_right b c r l q is apart good good' =
     (λ left right. apart (rays-meet c r l q is.wide right left)) (into r good) (into l good'))
   where
     into : (x : Point) → IsHolding R b c x → IsGood (orient_of c b x) (dot_of (from_to c b) (from_to c x))
-    into x (inl straight) = inl (opposite-zero (orient_of c b x) (orient_of b c x) (orient_of-turned b c x) straight.on_line, straight.onward)
+    into x (inl ahead) = inl (opposite-zero (orient_of c b x) (orient_of b c x) (orient_of-turned b c x) ahead.on_line, ahead.onward)
     into x (inr side) = inr (opposite-positive (orient_of c b x) (orient_of b c x) (orient_of-turned b c x) side)
 
     from : IsGood (orient_of c b q) (dot_of (from_to c b) (from_to c q)) → IsHolding R b c q
-    from (inl straight) = inl (record { on_line = opposite-zero (orient_of b c q) (orient_of c b q) (orient_of-turned c b q) straight.0; onward = straight.1 })
+    from (inl ahead) = inl (record { on_line = opposite-zero (orient_of b c q) (orient_of c b q) (orient_of-turned c b q) ahead.0; onward = ahead.1 })
     from (inr side) = inr (opposite-negative (orient_of b c q) (orient_of c b q) (orient_of-turned c b q) side)
 
 -- ---- both ends of a portal
