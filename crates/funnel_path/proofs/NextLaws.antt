@@ -58,8 +58,8 @@ step_passed start portals goal apex first corner chain from named passed =
     }
 
 near_step : (start : Point) (portals : List Portal) (goal apex : Point) (first : ℕ) (corner : Corner) → IsChain start portals goal → IsNear apex portals first corner → IsStep apex portals first corner
-near_step start portals goal apex first corner chain near =
-    step_passed start portals goal apex first corner chain near.from (record { there = near.there; at_end = near.at_end }) near.passed
+near_step start portals goal apex first corner chain close =
+    step_passed start portals goal apex first corner chain close.from (record { there = close.there; at_end = close.at_end }) close.passed
 
 -- a corner on a side, by its end
 named_on : (portals : List Portal) (corner : Corner) (side : Side) → corner.portal < length portals → corner.side ≡ side → corner.at ≡ end_of side (portal_at portals corner.portal) → IsNamed portals corner
