@@ -1,0 +1,5 @@
+pub mod Coordinates
+pub mod Corners
+pub mod Cone
+pub mod Passings
+pub mod Wedges
