@@ -21,3 +21,5 @@ pub mod BendsNew
 pub mod BendsLeft
 pub mod BendsRight
 pub mod BendsEither
+pub mod PullStates
+pub mod PullLaws

@@ -8,10 +8,15 @@ use Rattle.mesh_types.specs.declared.corner.Corner.{Corner}
 use Rattle.mesh_types.specs.Chains.{IsChain, IsFold, portal_at}
 use Rattle.mesh_types.specs.Taut.{HasSide, IsFoldedOn, IsHolding, Stop, corner_of, corner_stop, other_end_of, some_corner, stop_at}
 use Rattle.funnel_path.specs.Cone.{IsCornerNext, IsGoalNext, IsNear}
+use Rattle.funnel_path.proofs.NextLaws.{next_at_apex}
 use Rattle.funnel_path.proofs.StopLaws.{length-more, stop_at-corner, stops_so_far}
 use Rattle.funnel_path.proofs.PullBends.{IsHeldFor, by_end, by_fold, by_next, held_for_alike}
 use Rattle.funnel_path.proofs.PullRuns.{IsAllStart, IsClosed, IsRun, alike_back, alike_more, corner_of-added, corner_of-kept, is_held, is_no_bend, run_longer, run_new, start_longer}
-use Rattle.funnel_path.proofs.Bends.{FoldsAt, GoesOn, GoesOnEither, Turns, TurnsEither, opposite_side, folds, held, turns, either}
+use Rattle.funnel_path.proofs.Bends.{FoldsAt, GoesOn, GoesOnEither, Turns, TurnsEither, opposite_side, becomes_either, either_folded, either_held, either_still, stays_folded, stays_held, stays_turning}
+use Rattle.funnel_path.proofs.BendsNew.{Begins, begins, begins_folded, begins_held, begins_turning}
+use Rattle.funnel_path.proofs.BendsLeft.{left_arrives, left_goes_on, left_leaves}
+use Rattle.funnel_path.proofs.BendsRight.{right_arrives, right_goes_on, right_leaves}
+use Rattle.funnel_path.proofs.BendsEither.{either_arrives, either_goes_on, either_leaves}
 
 -- the last run has the start, or is held whatever comes next, or turns to a side, of which it has a corner, or may turn to either
 pub data RunState (start : Point) (portals : List Portal) (goal : Point) (corners : List Corner) (apex : Point) (first : ℕ) : Type 0 where
@@ -166,13 +171,13 @@ goes_on R start portals goal b c named place corner chain turn near same = right
 turning_grows : (start : Point) (portals : List Portal) (goal : Point) (corners : List Corner) (apex b : Point) (first named from k : ℕ) (side : Side) (corner : Corner)
     → stop_at (stops_so_far start corners) (length corners) ≡ record { at = apex; number = first } → IsRun start corners apex b from → HasSide corners from (length corners) side k → named + 1 ≡ first
     → corner.at ≡ apex → GoesOn side portals goal b apex named corner → RunState start portals goal (corners ++ corner ∷ []) corner.at (corner.portal + 1)
-turning_grows start portals goal corners apex b first named from k side corner last run has after same (folds at) =
+turning_grows start portals goal corners apex b first named from k side corner last run has after same (stays_folded at) =
     settled b from (run_longer start corners corner apex b from same run) (held_by_fold start portals corners corner apex b first named from last same run after at)
-turning_grows start portals goal corners apex b first named from k side corner last run has after same (held holds) =
+turning_grows start portals goal corners apex b first named from k side corner last run has after same (stays_held holds) =
     settled b from (run_longer start corners corner apex b from same run) (held_by_end portals corners corner apex b from same (omega (arith, run.within)) holds)
-turning_grows start portals goal corners apex b first named from k side corner last run has after same (turns place sided still) =
+turning_grows start portals goal corners apex b first named from k side corner last run has after same (stays_turning place sided still) =
     turning b from corner.portal place k side (run_longer start corners corner apex b from same run) (more_has corners corner from k side run.some has) refl (moved (λ (p : Point). Turns side portals goal b p corner.portal place) apex corner.at same still)
-turning_grows start portals goal corners apex b first named from k side corner last run has after same (either sided both) =
+turning_grows start portals goal corners apex b first named from k side corner last run has after same (becomes_either sided both) =
     both_sides side k has sided
   where
     new_run : IsRun start (corners ++ corner ∷ []) corner.at b from
@@ -190,11 +195,11 @@ turning_grows start portals goal corners apex b first named from k side corner l
 either_grows : (start : Point) (portals : List Portal) (goal : Point) (corners : List Corner) (apex b : Point) (first named from k k' : ℕ) (corner : Corner)
     → stop_at (stops_so_far start corners) (length corners) ≡ record { at = apex; number = first } → IsRun start corners apex b from → HasSide corners from (length corners) L k → HasSide corners from (length corners) R k' → named + 1 ≡ first
     → corner.at ≡ apex → GoesOnEither portals b apex named corner → RunState start portals goal (corners ++ corner ∷ []) corner.at (corner.portal + 1)
-either_grows start portals goal corners apex b first named from k k' corner last run has has' after same (folds at) =
+either_grows start portals goal corners apex b first named from k k' corner last run has has' after same (either_folded at) =
     settled b from (run_longer start corners corner apex b from same run) (held_by_fold start portals corners corner apex b first named from last same run after at)
-either_grows start portals goal corners apex b first named from k k' corner last run has has' after same (held holds) =
+either_grows start portals goal corners apex b first named from k k' corner last run has has' after same (either_held holds) =
     settled b from (run_longer start corners corner apex b from same run) (held_by_end portals corners corner apex b from same (omega (arith, run.within)) holds)
-either_grows start portals goal corners apex b first named from k k' corner last run has has' after same (either still) =
+either_grows start portals goal corners apex b first named from k k' corner last run has has' after same (either_still still) =
     turning_either b from corner.portal k k' (run_longer start corners corner apex b from same run) (more_has corners corner from k L run.some has) (more_has corners corner from k' R run.some has') refl
     (moved (λ (p : Point). TurnsEither portals b p corner.portal) apex corner.at same still)
 
@@ -210,3 +215,24 @@ state_grows start portals goal corners apex first corner chain last (turning b f
 state_grows start portals goal corners apex first corner chain last (turning_either b from named k k' run has has' after still) next same =
     either_grows start portals goal corners apex b first named from k k' corner last run has has' after same
     (either_goes_on start portals goal b apex named corner chain still (subst (λ (n : ℕ). IsNear apex portals n corner) (sym after) (next_at_apex apex portals goal first corner next same)) same)
+
+-- ---- one more corner elsewhere
+
+begun : (start : Point) (portals : List Portal) (goal : Point) (corners : List Corner) (apex : Point) (corner : Corner) → IsRun start (corners ++ corner ∷ []) corner.at apex (length corners + 1)
+    → Begins portals goal apex corner → RunState start portals goal (corners ++ corner ∷ []) corner.at (corner.portal + 1)
+begun start portals goal corners apex corner run (begins_folded at) =
+    settled apex (length corners + 1) run (λ a. by_fold (record {
+      corner = length corners + 1;
+      from = omega arith;
+      to = omega (arith, length-more corners corner);
+      next = subst (λ (c : Corner). c.portal + 1 < length portals) (sym (corner_of-added corners corner)) at.next;
+      folds = subst (λ (c : Corner). IsFold (portal_at portals c.portal) (portal_at portals (c.portal + 1))) (sym (corner_of-added corners corner)) at.folds;
+    }))
+begun start portals goal corners apex corner run (begins_held holds) = settled apex (length corners + 1) run (λ a. new_holds portals corners corner apex corner.at a (length corners + 1) (omega arith) holds)
+begun start portals goal corners apex corner run (begins_turning place turn) =
+    turning apex (length corners + 1) corner.portal place (length corners + 1) corner.side run (new_has corners corner (length corners + 1) corner.side (omega arith) refl) refl turn
+
+pub state_begins : (start : Point) (portals : List Portal) (goal : Point) (corners : List Corner) (apex : Point) (first : ℕ) (corner : Corner) → IsChain start portals goal
+    → (stop_at (stops_so_far start corners) (length corners)).at ≡ apex → IsCornerNext apex portals goal first corner → corner.at ≢ apex → RunState start portals goal (corners ++ corner ∷ []) corner.at (corner.portal + 1)
+state_begins start portals goal corners apex first corner chain last next apart =
+    begun start portals goal corners apex corner (run_new start corners corner apex last apart) (begins start portals goal apex first corner chain next apart)
