@@ -1,6 +1,7 @@
 -- What each answer of the cone comes to: the portals passed over end, or the wedge closes.
-use Rattle.std.proofs.Common.{◌≡◌, ◌≢◌, ℕ, ◌+◌, ◌-◌, ◌≤◌, ◌<◌, ℤ, pos, ◌≤ℤ◌, ◌<ℤ◌, ◌⊎◌, inl, inr, List, length, refl, sym, ap, subst, ◌∙◌, arith}
-use Rattle.std.specs.Prelude.{Option, None, Some}
+use Rattle.std.proofs.Common.{◌≡◌, ◌≢◌, ℕ, ◌+◌, ◌-◌, ◌≤◌, ◌<◌, ℤ, pos, ◌≤ℤ◌, ◌<ℤ◌, ◌⊎◌, inl, inr, List, length, Bool, true, false, refl, sym, ap, subst, ◌∙◌, arith}
+use Rattle.std.specs.Prelude.{Option, None, Some, IsTrue, ◌↔◌}
+use Rattle.std.proofs.lemmas.Bool.{false≢true}
 use Rattle.std.proofs.lemmas.Int.{ints}
 use Rattle.nav_base.specs.declared.point.Point.{Point}
 use Rattle.nav_base.specs.Point.{dot_of, from_to, orient_of}
@@ -11,7 +12,7 @@ use Rattle.mesh_types.specs.Chains.{IsBehind, IsChain, IsFold, portal_at}
 use Rattle.mesh_types.specs.Taut.{end_of}
 use Rattle.funnel_path.specs.declared.wedge.Wedge.{Wedge}
 use Rattle.funnel_path.specs.Corners.{IsNearerCorner, IsNearerEnd, corner_at_end}
-use Rattle.funnel_path.specs.Cone.{ArePassed, GoesThroughAll, IsAheadOf, IsCornerThrough, IsFoldedBack, IsInWedge, IsInside, IsLeftTurn, IsLook, IsNear, IsRightTurn, IsTurnedBack, LookOpposite, folded_back, left_turn, portal_or_goal, right_turn}
+use Rattle.funnel_path.specs.Cone.{ArePassed, GoesThroughAll, IsAheadOf, IsCornerThrough, IsFoldedBack, IsInWedge, IsInside, IsLeftTurn, IsLook, IsNear, IsRightTurn, IsNext, IsThrough, IsTurnedBack, LookOpposite, folded_back, in_wedge, left_turn, through, portal_or_goal, right_turn}
 use Rattle.funnel_path.specs.Wedges.{ClosesFront, ClosesLeft, ClosesRight, GoalClosesRight, IsGoalInside, IsMet, IsMetBeforeGoal, IsNarrowed, StaysOpen, wedge_of}
 use Rattle.funnel_path.proofs.SideRules.{signs}
 use Rattle.funnel_path.proofs.PointLaws.{exchanged-negative, faces, order_in_half_plane}
@@ -70,6 +71,25 @@ turned_back_of start portals goal apex first m corner chain from there passed in
       at_end = refl;
       folds = passed_fold start portals goal apex m chain there (passed.inside m from (omega arith)) inside opposite;
     })
+
+-- the same by the place of the second
+pub turned_back_at : (start : Point) (portals : List Portal) (goal apex : Point) (first place : ℕ) (corner : Corner) → IsChain start portals goal → first < place → place < length portals → ArePassed apex portals first place
+    → IsInside apex (portal_at portals place) → LookOpposite (portal_at portals (place - 1)) (portal_at portals place) → corner ≡ corner_at_end L (portal_at portals (place - 1)) (place - 1) → IsTurnedBack apex portals first corner
+turned_back_at start portals goal apex first place corner chain from there passed inside opposite is =
+    turned_back_of start portals goal apex first (place - 1) corner chain (omega arith) (omega arith) (subst (ArePassed apex portals first) back passed) (subst (λ (n : ℕ). IsInside apex (portal_at portals n)) back inside)
+    (subst (λ (n : ℕ). LookOpposite (portal_at portals (place - 1)) (portal_at portals n)) back opposite) is
+  where
+    back : place ≡ place - 1 + 1
+    back = omega arith
+
+-- two portals that were found not to look opposite ways
+pub not_opposite : (portals : List Portal) (place m : ℕ) (found : Bool) → (IsTrue found ↔ LookOpposite (portal_at portals (place - 1)) (portal_at portals place)) → found ≡ false → m + 1 ≡ place
+    → LookOpposite (portal_at portals m) (portal_at portals (m + 1)) → ⊥
+not_opposite portals place m found is none next opposite =
+    false≢true (sym none ∙ is.1 (subst (λ (n : ℕ). LookOpposite (portal_at portals n) (portal_at portals place)) back (subst (λ (n : ℕ). LookOpposite (portal_at portals m) (portal_at portals n)) next opposite)))
+  where
+    back : m ≡ place - 1
+    back = omega arith
 
 -- ---- the wedge
 
@@ -241,3 +261,8 @@ met_before_goal start portals goal apex ahead wedge corner look (inr right) =
 -- the goal lies in it
 pub goal_inside : (portals : List Portal) (goal apex : Point) (ahead : ℕ) (wedge : Wedge) → IsLook apex portals ahead (length portals) wedge → IsMetBeforeGoal apex wedge goal None → IsInWedge apex portals goal ahead
 goal_inside portals goal apex ahead wedge look inside = record { wedge = wedge; look = look; right_of_left = inside.right_of_left; left_of_right = inside.left_of_right }
+
+-- what comes next where the apex lies behind a portal
+pub next_through : (portals : List Portal) (goal apex : Point) (first ahead : ℕ) (found : Option Corner) → IsAheadOf apex portals first ahead → IsThrough apex portals goal ahead found → IsNext apex portals goal first found
+next_through portals goal apex first ahead None begins seen = in_wedge ahead begins seen
+next_through portals goal apex first ahead (Some corner) begins closes = through ahead begins closes

@@ -197,7 +197,7 @@ next_goal start portals goal apex first chain (in_wedge ahead of inside) =
 -- ---- a corner at the apex
 
 -- a way of no length
-still : (p v : Point) → dot_of (from_to p p) v ≡ pos 0
+pub still : (p v : Point) → dot_of (from_to p p) v ≡ pos 0
 unfolding dot_of
 still p v = equal (coordinates (p ∷ v ∷ [])) (dot_term (from_to_term (place 0) (place 0)) (place 1)) (number (pos 0)) refl
 

@@ -11,7 +11,7 @@ use Rattle.funnel_path.specs.Cone.{IsCornerNext, IsGoalNext}
 use Rattle.funnel_path.proofs.SideRules.{not_negative-signs}
 use Rattle.funnel_path.proofs.PointLaws.{dot_of-still, length-not_negative, length-zero}
 use Rattle.funnel_path.proofs.StopLaws.{stops_so_far}
-use Rattle.funnel_path.proofs.NextLaws.{IsStep, next_goal, next_step}
+use Rattle.funnel_path.proofs.NextLaws.{next_goal, next_step, still}
 use Rattle.funnel_path.proofs.PathLaws.{IsThreaded, threaded_more, threaded_start, threaded_taut}
 use Rattle.funnel_path.proofs.PullRuns.{AreHeld, IsAllStart, held_goal, held_more, held_none, held_same}
 use Rattle.funnel_path.proofs.PullStates.{RunState, at_start, state_arrives, state_begins, state_grows, state_leaves}

@@ -8,15 +8,15 @@ use Rattle.mesh_types.specs.declared.corner.Corner.{Corner}
 use Rattle.mesh_types.specs.Chains.{IsChain, IsFold, portal_at}
 use Rattle.mesh_types.specs.Taut.{HasSide, IsFoldedOn, IsHolding, Stop, corner_of, corner_stop, other_end_of, some_corner, stop_at}
 use Rattle.funnel_path.specs.Cone.{IsCornerNext, IsGoalNext, IsNear}
-use Rattle.funnel_path.proofs.NextLaws.{next_at_apex}
 use Rattle.funnel_path.proofs.StopLaws.{length-more, stop_at-corner, stops_so_far}
 use Rattle.funnel_path.proofs.PullBends.{IsHeldFor, by_end, by_fold, by_next, held_for_alike}
 use Rattle.funnel_path.proofs.PullRuns.{IsAllStart, IsClosed, IsRun, alike_back, alike_more, corner_of-added, corner_of-kept, is_held, is_no_bend, run_longer, run_new, start_longer}
-use Rattle.funnel_path.proofs.Bends.{FoldsAt, GoesOn, GoesOnEither, Turns, TurnsEither, opposite_side, becomes_either, either_folded, either_held, either_still, stays_folded, stays_held, stays_turning}
-use Rattle.funnel_path.proofs.BendsNew.{Begins, begins, begins_folded, begins_held, begins_turning}
+use Rattle.funnel_path.proofs.Bends.{FoldsAt, GoesOn, GoesOnEither, Turns, TurnsEither, opposite_side, either_folded, either_held, either_still, stays_folded, stays_held, stays_turning, becomes_either}
 use Rattle.funnel_path.proofs.BendsLeft.{left_arrives, left_goes_on, left_leaves}
 use Rattle.funnel_path.proofs.BendsRight.{right_arrives, right_goes_on, right_leaves}
 use Rattle.funnel_path.proofs.BendsEither.{either_arrives, either_goes_on, either_leaves}
+use Rattle.funnel_path.proofs.BendsNew.{Begins, begins, begins_folded, begins_held, begins_turning}
+use Rattle.funnel_path.proofs.NextLaws.{next_at_apex}
 
 -- the last run has the start, or is held whatever comes next, or turns to a side, of which it has a corner, or may turn to either
 pub data RunState (start : Point) (portals : List Portal) (goal : Point) (corners : List Corner) (apex : Point) (first : ℕ) : Type 0 where
@@ -89,6 +89,17 @@ new_holds : (portals : List Portal) (corners : List Corner) (corner : Corner) (b
 new_holds portals corners corner b c a from within holds =
     by_end corner.side (length corners + 1) (new_has corners corner from corner.side within refl)
     (subst (λ (k : Corner). IsHolding corner.side b c (other_end_of corner.side (portal_at portals k.portal))) (sym (corner_of-added corners corner)) holds)
+
+-- so does the next one, where it folds back on it
+new_folds : (portals : List Portal) (corners : List Corner) (corner : Corner) → FoldsAt portals corner.portal → IsFoldedOn portals (corners ++ corner ∷ []) (length corners + 1) (length (corners ++ corner ∷ []))
+new_folds portals corners corner fold =
+    record {
+      corner = length corners + 1;
+      from = omega arith;
+      to = omega (arith, length-more corners corner);
+      next = subst (λ (k : Corner). k.portal + 1 < length portals) (sym (corner_of-added corners corner)) fold.next;
+      folds = subst (λ (k : Corner). IsFold (portal_at portals k.portal) (portal_at portals (k.portal + 1))) (sym (corner_of-added corners corner)) fold.folds;
+    }
 
 -- ---- the last run closes
 
@@ -216,23 +227,19 @@ state_grows start portals goal corners apex first corner chain last (turning_eit
     either_grows start portals goal corners apex b first named from k k' corner last run has has' after same
     (either_goes_on start portals goal b apex named corner chain still (subst (λ (n : ℕ). IsNear apex portals n corner) (sym after) (next_at_apex apex portals goal first corner next same)) same)
 
--- ---- one more corner elsewhere
+-- ---- a new run
 
-begun : (start : Point) (portals : List Portal) (goal : Point) (corners : List Corner) (apex : Point) (corner : Corner) → IsRun start (corners ++ corner ∷ []) corner.at apex (length corners + 1)
+begins_state : (start : Point) (portals : List Portal) (goal : Point) (corners : List Corner) (apex : Point) (corner : Corner) → IsRun start (corners ++ corner ∷ []) corner.at apex (length corners + 1)
     → Begins portals goal apex corner → RunState start portals goal (corners ++ corner ∷ []) corner.at (corner.portal + 1)
-begun start portals goal corners apex corner run (begins_folded at) =
-    settled apex (length corners + 1) run (λ a. by_fold (record {
-      corner = length corners + 1;
-      from = omega arith;
-      to = omega (arith, length-more corners corner);
-      next = subst (λ (c : Corner). c.portal + 1 < length portals) (sym (corner_of-added corners corner)) at.next;
-      folds = subst (λ (c : Corner). IsFold (portal_at portals c.portal) (portal_at portals (c.portal + 1))) (sym (corner_of-added corners corner)) at.folds;
-    }))
-begun start portals goal corners apex corner run (begins_held holds) = settled apex (length corners + 1) run (λ a. new_holds portals corners corner apex corner.at a (length corners + 1) (omega arith) holds)
-begun start portals goal corners apex corner run (begins_turning place turn) =
+begins_state start portals goal corners apex corner run (begins_folded at) =
+    settled apex (length corners + 1) run (λ a. by_fold (new_folds portals corners corner at))
+begins_state start portals goal corners apex corner run (begins_held holds) =
+    settled apex (length corners + 1) run (λ a. new_holds portals corners corner apex corner.at a (length corners + 1) (omega arith) holds)
+begins_state start portals goal corners apex corner run (begins_turning place turn) =
     turning apex (length corners + 1) corner.portal place (length corners + 1) corner.side run (new_has corners corner (length corners + 1) corner.side (omega arith) refl) refl turn
 
 pub state_begins : (start : Point) (portals : List Portal) (goal : Point) (corners : List Corner) (apex : Point) (first : ℕ) (corner : Corner) → IsChain start portals goal
-    → (stop_at (stops_so_far start corners) (length corners)).at ≡ apex → IsCornerNext apex portals goal first corner → corner.at ≢ apex → RunState start portals goal (corners ++ corner ∷ []) corner.at (corner.portal + 1)
+    → (stop_at (stops_so_far start corners) (length corners)).at ≡ apex → IsCornerNext apex portals goal first corner → corner.at ≢ apex
+    → RunState start portals goal (corners ++ corner ∷ []) corner.at (corner.portal + 1)
 state_begins start portals goal corners apex first corner chain last next apart =
-    begun start portals goal corners apex corner (run_new start corners corner apex last apart) (begins start portals goal apex first corner chain next apart)
+    begins_state start portals goal corners apex corner (run_new start corners corner apex last apart) (begins start portals goal apex first corner chain next apart)

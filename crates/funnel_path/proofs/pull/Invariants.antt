@@ -7,7 +7,7 @@ use Rattle.funnel_path.proofs.pull.Given as goal
 
 abbrev pub invariant-loop-corner : goal.invariant-loop-corner
 invariant-loop-corner l = record {
-  pulled : IsPulled l.start l.portals l.goal l.corners.items l.apex l.first;
+  pulled : IsPulled l.fn.start l.portals l.goal l.corners.items l.apex l.first;
   behind : l.first < length l.portals → IsBehind (portal_at l.portals l.first) l.apex;
   coordinates : HasCoordinates l.apex;
 }
