@@ -234,9 +234,9 @@ met_through start portals goal apex ahead place wedge corner chain there look (i
 met_through start portals goal apex ahead place wedge corner chain there look (inr (inr right)) = closes_right start portals goal apex ahead place wedge corner chain there look right
 
 -- before the goal
-pub met_before_goal : (start : Point) (portals : List Portal) (goal apex : Point) (ahead : ℕ) (wedge : Wedge) (corner : Corner) → IsLook apex portals ahead (length portals) wedge
+met_before_goal : (portals : List Portal) (goal apex : Point) (ahead : ℕ) (wedge : Wedge) (corner : Corner) → IsLook apex portals ahead (length portals) wedge
     → IsMetBeforeGoal apex wedge goal (Some corner) → IsCornerThrough apex portals goal ahead corner
-met_before_goal start portals goal apex ahead wedge corner look (inl left) =
+met_before_goal portals goal apex ahead wedge corner look (inl left) =
     left_turn (record {
       place = length portals;
       wedge = wedge;
@@ -244,7 +244,7 @@ met_before_goal start portals goal apex ahead wedge corner look (inl left) =
       is_left = left.is_left;
       closed = subst (λ (portal : Portal). pos 0 ≤ℤ orient_of apex wedge.left.at portal.right) (sym (portal_or_goal-end portals goal (length portals) (omega arith))) left.closed;
     })
-met_before_goal start portals goal apex ahead wedge corner look (inr right) =
+met_before_goal portals goal apex ahead wedge corner look (inr right) =
     right_turn (record {
       place = length portals;
       wedge = wedge;
@@ -259,8 +259,20 @@ met_before_goal start portals goal apex ahead wedge corner look (inr right) =
     same = sym (portal_or_goal-end portals goal (length portals) (omega arith))
 
 -- the goal lies in it
-pub goal_inside : (portals : List Portal) (goal apex : Point) (ahead : ℕ) (wedge : Wedge) → IsLook apex portals ahead (length portals) wedge → IsMetBeforeGoal apex wedge goal None → IsInWedge apex portals goal ahead
+goal_inside : (portals : List Portal) (goal apex : Point) (ahead : ℕ) (wedge : Wedge) → IsLook apex portals ahead (length portals) wedge → IsMetBeforeGoal apex wedge goal None → IsInWedge apex portals goal ahead
 goal_inside portals goal apex ahead wedge look inside = record { wedge = wedge; look = look; right_of_left = inside.right_of_left; left_of_right = inside.left_of_right }
+
+-- where the wedge goes through all portals from `ahead` on, it closes before the goal or the goal lies in it
+pub through_all : (portals : List Portal) (goal apex : Point) (ahead place : ℕ) (wedge : Wedge) (found : Option Corner) → length portals ≤ place → IsLook apex portals ahead place wedge → IsMetBeforeGoal apex wedge goal found
+    → IsThrough apex portals goal ahead found
+through_all portals goal apex ahead place wedge found all look met = by found met
+  where
+    whole : IsLook apex portals ahead (length portals) wedge
+    whole = subst (λ (n : ℕ). IsLook apex portals ahead n wedge) (omega (arith, look.within)) look
+
+    by : (found : Option Corner) → IsMetBeforeGoal apex wedge goal found → IsThrough apex portals goal ahead found
+    by None inside = goal_inside portals goal apex ahead wedge whole inside
+    by (Some corner) closes = met_before_goal portals goal apex ahead wedge corner whole closes
 
 -- what comes next where the apex lies behind a portal
 pub next_through : (portals : List Portal) (goal apex : Point) (first ahead : ℕ) (found : Option Corner) → IsAheadOf apex portals first ahead → IsThrough apex portals goal ahead found → IsNext apex portals goal first found

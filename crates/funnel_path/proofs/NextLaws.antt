@@ -2,7 +2,8 @@
 use Rattle.std.proofs.Common.{◌≡◌, ◌≢◌, ℕ, ◌+◌, ◌-◌, ◌≤◌, ◌<◌, ℤ, pos, ◌≤ℤ◌, ◌<ℤ◌, inl, inr, List, [], ◌∷◌, length, refl, sym, ap, subst, ◌∙◌, arith}
 use Rattle.std.proofs.lemmas.Int.{ints}
 use Rattle.nav_base.specs.declared.point.Point.{Point}
-use Rattle.nav_base.specs.Point.{dot_of, from_to, orient_of}
+use Rattle.std.specs.Prelude.{All}
+use Rattle.nav_base.specs.Point.{HasCoordinates, dot_of, from_to, orient_of}
 use Rattle.nav_base.proofs.Polynomials.{equal, number}
 use Rattle.nav_base.proofs.PointTerms.{coordinates, dot_term, from_to_term, place}
 use Rattle.nav_base.proofs.OrientLaws.{orient_of-end, orient_of-start, orient_of-still}
@@ -10,9 +11,10 @@ use Rattle.mesh_types.specs.declared.links.Portal.{Portal}
 use Rattle.mesh_types.specs.declared.corner.Side.{Side}
 use Rattle.mesh_types.specs.declared.corner.Side.TheVariants.{L, R}
 use Rattle.mesh_types.specs.declared.corner.Corner.{Corner}
-use Rattle.mesh_types.specs.Chains.{IsAhead, IsBehind, IsChain, portal_at}
+use Rattle.mesh_types.specs.Chains.{IsAhead, IsBehind, IsChain, portal_at, some_portal}
 use Rattle.mesh_types.specs.Taut.{IsNamed, end_of}
 use Rattle.funnel_path.specs.declared.wedge.Wedge.{Wedge}
+use Rattle.funnel_path.specs.Coordinates.{HasEndCoordinates}
 use Rattle.funnel_path.specs.Cone.{ArePassed, IsAheadOf, IsCornerNext, IsCornerThrough, IsEndFrom, IsFoldedBack, IsGoalNext, IsInWedge, IsInside, IsLeftTurn, IsLook, IsNear, IsRightTurn, IsTurnedBack, all_passed, folded_back, in_wedge, left_turn, near, right_turn, turned_back, through}
 use Rattle.funnel_path.proofs.PointLaws.{LiesBetweenRays, exchanged-positive}
 use Rattle.funnel_path.proofs.ChainLaws.{chain_ahead, chain_behind, chain_goal}
@@ -39,6 +41,14 @@ pub end_behind : (start : Point) (portals : List Portal) (goal : Point) (m : ℕ
     → IsBehind (portal_at portals (m + 1)) (end_of side (portal_at portals m))
 end_behind start portals goal m L chain there = (chain_behind start portals goal m chain there).left
 end_behind start portals goal m R chain there = (chain_behind start portals goal m chain there).right
+
+-- the end of a portal that a corner names has coordinates where all have
+pub named_coordinates : (portals : List Portal) (corner : Corner) → IsNamed portals corner → All HasEndCoordinates portals → HasCoordinates corner.at
+named_coordinates portals corner named all = subst HasCoordinates (sym named.at_end) (by corner.side (all corner.portal some_portal named.there))
+  where
+    by : (side : Side) → HasEndCoordinates (portal_at portals corner.portal) → HasCoordinates (end_of side (portal_at portals corner.portal))
+    by L ends = ends.left
+    by R ends = ends.right
 
 -- a corner to which all portals are passed over
 step_passed : (start : Point) (portals : List Portal) (goal apex : Point) (first : ℕ) (corner : Corner) → IsChain start portals goal → first ≤ corner.portal → IsNamed portals corner
