@@ -5,16 +5,16 @@ use Rattle.std.proofs.lemmas.Int.{ints}
 use Rattle.std.proofs.lemmas.Bool.{cases_eq, cases_lt}
 use Rattle.nav_base.specs.declared.point.Point.{Point}
 use Rattle.nav_base.specs.Point.{orient_of, dot_of, from_to}
-use Rattle.nav_base.proofs.OrientLaws.{orient_of-end, orient_of-start, orient_of-rotated}
+use Rattle.nav_base.proofs.OrientLaws.{orient_of-end, orient_of-start}
 use Rattle.mesh_types.specs.declared.links.Portal.{Portal}
 use Rattle.mesh_types.specs.declared.corner.Side.{Side}
 use Rattle.mesh_types.specs.declared.corner.Side.TheVariants.{L, R}
 use Rattle.mesh_types.specs.declared.corner.Corner.{Corner}
-use Rattle.mesh_types.specs.Chains.{IsAhead, IsBehind, IsChain, portal_at}
+use Rattle.mesh_types.specs.Chains.{IsAhead, IsChain, portal_at}
 use Rattle.mesh_types.specs.Taut.{IsHolding, end_of, other_end_of}
 use Rattle.funnel_path.specs.declared.wedge.Wedge.{Wedge}
 use Rattle.funnel_path.specs.Corners.{IsNearerEnd}
-use Rattle.funnel_path.specs.Cone.{portal_or_goal, ArePassed, GoesThroughAll, IsAheadOf, IsBeside, IsCornerNext, IsCornerThrough, IsFoldedBack, IsGoalNext, IsInLine, IsInside, IsInWedge, IsLeftTurn, IsLook, IsNear, IsRightTurn, IsTurnedBack, LookOpposite, all_passed, folded_back, in_wedge, left_turn, near, right_turn, through, turned_back}
+use Rattle.funnel_path.specs.Cone.{portal_or_goal, ArePassed, GoesThroughAll, IsAheadOf, IsBeside, IsCornerNext, IsCornerThrough, IsFoldedBack, IsGoalNext, IsInLine, IsInside, IsLeftTurn, IsLook, IsNear, IsRightTurn, IsTurnedBack, LookOpposite, all_passed, folded_back, in_wedge, left_turn, near, right_turn, through, turned_back}
 use Rattle.funnel_path.proofs.SideRules.{positive-weak, negative-weak, positive-not_zero, positive-not_below, negative-not_above, zero-both, around-not_above, around-below, around-above, signs}
 use Rattle.funnel_path.proofs.PointLaws.{LiesBetweenRays, order_against_walk, turn-second, turn-third, turned-zero}
 use Rattle.funnel_path.proofs.LineLaws.{LieOnLine, alike-behind, between-ahead, between-behind, between-not_positive, in_line-ways, inside_parts}
@@ -128,9 +128,9 @@ inside_opposite start portals goal b c named place chain is inner inside = recor
     same : pos 0 <ℤ dot_of (from_to before.right before.left) (from_to portal.right portal.left) → ⊥
     same alike =
         let behind = alike-behind before portal b (chain.wide (place - 1) (omega (arith, is.after, is.within))) in_line alike
-            (less (orient_of before.right before.left c) (orient_of before.right before.left b) on_line (crosses_left_ahead b c before crossed)) in
+        (less (orient_of before.right before.left c) (orient_of before.right before.left b) on_line (crosses_left_ahead b c before crossed)) in
         let left = more (orient_of b c portal.right) (orient_of b c portal.left) ends.closes
-            (ahead_goes b c portal (less' (orient_of portal.right portal.left c) (orient_of portal.right portal.left b) inside.on_line behind)) in
+        (ahead_goes b c portal (less' (orient_of portal.right portal.left c) (orient_of portal.right portal.left b) inside.on_line behind)) in
         positive-not_zero (orient_of b c portal.left) left
         (between-behind b c c portal.right portal.left (inside_parts c portal inside) (orient_of-end b c) (positive-weak (orient_of b c portal.left) left) ends.closes).left
 
