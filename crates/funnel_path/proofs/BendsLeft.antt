@@ -128,9 +128,9 @@ inside_opposite start portals goal b c named place chain is inner inside = recor
     same : pos 0 <ℤ dot_of (from_to before.right before.left) (from_to portal.right portal.left) → ⊥
     same alike =
         let behind = alike-behind before portal b (chain.wide (place - 1) (omega (arith, is.after, is.within))) in_line alike
-            (less (orient_of before.right before.left c) (orient_of before.right before.left b) on_line (crosses_left_ahead b c before crossed)) in
+        (less (orient_of before.right before.left c) (orient_of before.right before.left b) on_line (crosses_left_ahead b c before crossed)) in
         let left = more (orient_of b c portal.right) (orient_of b c portal.left) ends.closes
-            (ahead_goes b c portal (less' (orient_of portal.right portal.left c) (orient_of portal.right portal.left b) inside.on_line behind)) in
+        (ahead_goes b c portal (less' (orient_of portal.right portal.left c) (orient_of portal.right portal.left b) inside.on_line behind)) in
         positive-not_zero (orient_of b c portal.left) left
         (between-behind b c c portal.right portal.left (inside_parts c portal inside) (orient_of-end b c) (positive-weak (orient_of b c portal.left) left) ends.closes).left
 

@@ -192,17 +192,21 @@ next_step start portals goal apex first corner chain (through ahead of turn) = t
 -- the goal
 pub next_goal : (start : Point) (portals : List Portal) (goal apex : Point) (first : ℕ) → IsChain start portals goal → IsGoalNext apex portals goal first
     → (ahead : ℕ) × IsSeen apex goal portals first ahead (length portals)
-next_goal start portals goal apex first chain (all_passed passed) =
-    (length portals, record {
-      within = omega arith;
-      passed = passed;
-      between = λ m low high. absurd (omega arith);
-      apart = λ h. absurd (omega arith);
-      last = λ m next. chain_goal start portals goal m chain next;
-    })
-next_goal start portals goal apex first chain (in_wedge ahead of inside) =
-    (ahead, seen_in_wedge apex goal portals first ahead (length portals) (length portals) inside.wedge of.passed inside.look (omega arith)
-    (inside_closed apex inside.wedge goal inside.right_of_left inside.left_of_right) (inside_apart apex inside.wedge goal inside.left_of_right) (λ m next. chain_goal start portals goal m chain next))
+next_goal start portals goal apex first chain (all_passed passed) = (
+  length portals,
+  record {
+    within = omega arith;
+    passed = passed;
+    between = λ m low high. absurd (omega arith);
+    apart = λ h. absurd (omega arith);
+    last = λ m next. chain_goal start portals goal m chain next;
+  },
+)
+next_goal start portals goal apex first chain (in_wedge ahead of inside) = (
+  ahead,
+  seen_in_wedge apex goal portals first ahead (length portals) (length portals) inside.wedge of.passed inside.look (omega arith)
+      (inside_closed apex inside.wedge goal inside.right_of_left inside.left_of_right) (inside_apart apex inside.wedge goal inside.left_of_right) (λ m next. chain_goal start portals goal m chain next),
+)
 
 -- ---- a corner at the apex
 

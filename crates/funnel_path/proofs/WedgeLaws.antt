@@ -12,7 +12,7 @@ use Rattle.mesh_types.specs.Chains.{portal_at}
 use Rattle.funnel_path.specs.declared.wedge.Wedge.{Wedge}
 use Rattle.funnel_path.specs.Corners.{corner_at_end}
 use Rattle.funnel_path.specs.Cone.{GoesThroughAll, IsEndFrom, IsWedge}
-use Rattle.funnel_path.specs.Wedges.{IsLeftRay, IsNarrowed, IsRightRay, StaysOpen, wedge_of}
+use Rattle.funnel_path.specs.Wedges.{IsInFront, IsLeftRay, IsNarrowed, IsRightRay, StaysOpen, wedge_of}
 use Rattle.funnel_path.proofs.SideRules.{signs}
 use Rattle.funnel_path.proofs.PointLaws.{LiesBetweenRays, exchanged-negative, exchanged-not_negative, exchanged-not_positive, exchanged-positive, faces, faces_back, order_in_half_plane, ray-left, ray-left_strictly, ray-right, ray-right_strictly}
 
@@ -55,9 +55,10 @@ pub inside_rays : (apex : Point) (wedge : Wedge) (portal : Portal) (q : Point) �
 inside_rays apex wedge portal q wide through of_left of_right =
     let inside = exchanged-positive apex q wedge.left.at of_left in
     let rays : LiesBetweenRays apex wedge.right.at wedge.left.at q =
-        record { wide = wide; from_right = weak (orient_of apex wedge.right.at q) of_right; from_left = weak (orient_of apex q wedge.left.at) inside } in
-    (ray-right_strictly apex wedge.right.at wedge.left.at q portal.right rays of_right through.right_of_right through.right_of_left,
-    ray-left_strictly apex wedge.right.at wedge.left.at q portal.left rays inside through.left_of_left through.left_of_right)
+    record { wide = wide; from_right = weak (orient_of apex wedge.right.at q) of_right; from_left = weak (orient_of apex q wedge.left.at) inside } in (
+      ray-right_strictly apex wedge.right.at wedge.left.at q portal.right rays of_right through.right_of_right through.right_of_left,
+      ray-left_strictly apex wedge.right.at wedge.left.at q portal.left rays inside through.left_of_left through.left_of_right,
+    )
 
 -- the right ray's corner is seen beyond the apex by each portal that the wedge goes through
 pub right_beyond : (apex : Point) (wedge : Wedge) (portal : Portal) → GoesThroughAll apex wedge portal → orient_of portal.right portal.left wedge.right.at <ℤ orient_of portal.right portal.left apex
@@ -84,7 +85,7 @@ moved_left : (apex : Point) (wedge : Wedge) (corner : Corner) (portal : Portal) 
     → orient_of apex wedge.left.at corner.at ≤ℤ pos 0 → pos 0 <ℤ orient_of apex wedge.right.at corner.at → GoesThroughAll apex (record { left = corner; right = wedge.right }) portal
 moved_left apex wedge corner portal wide through at_left at_right =
     let rays : LiesBetweenRays apex wedge.right.at wedge.left.at corner.at =
-        record { wide = wide; from_right = weak (orient_of apex wedge.right.at corner.at) at_right; from_left = exchanged-not_negative apex corner.at wedge.left.at at_left } in
+    record { wide = wide; from_right = weak (orient_of apex wedge.right.at corner.at) at_right; from_left = exchanged-not_negative apex corner.at wedge.left.at at_left } in
     record {
       behind = through.behind;
       left_of_left = ray-left apex wedge.right.at wedge.left.at corner.at portal.left rays through.left_of_left (weak (orient_of apex wedge.right.at portal.left) through.left_of_right);
@@ -98,7 +99,7 @@ moved_right : (apex : Point) (wedge : Wedge) (corner : Corner) (portal : Portal)
     → pos 0 ≤ℤ orient_of apex wedge.right.at corner.at → pos 0 <ℤ orient_of apex corner.at wedge.left.at → GoesThroughAll apex (record { left = wedge.left; right = corner }) portal
 moved_right apex wedge corner portal wide through at_right at_left =
     let rays : LiesBetweenRays apex wedge.right.at wedge.left.at corner.at =
-        record { wide = wide; from_right = at_right; from_left = weak (orient_of apex corner.at wedge.left.at) at_left } in
+    record { wide = wide; from_right = at_right; from_left = weak (orient_of apex corner.at wedge.left.at) at_left } in
     record {
       behind = through.behind;
       left_of_left = through.left_of_left;
@@ -173,6 +174,15 @@ narrowed_through apex wedge narrower portal place wide stays behind is =
 
 -- ---- the portal at which the wedge stays open
 
+-- the apex lies behind a portal that has its right end to the left of the right ray and is not seen from its front
+pub not_in_front : (apex : Point) (wedge : Wedge) (portal : Portal) → (IsInFront apex wedge portal → ⊥) → pos 0 <ℤ orient_of apex wedge.right.at portal.right → pos 0 <ℤ orient_of portal.right portal.left apex
+not_in_front apex wedge portal not inside =
+    elim (signs (orient_of portal.right portal.left apex)) [
+      | inl less ↦ absurd (not (record { left_of_right = inside; front = weak_below (orient_of portal.right portal.left apex) less }))
+      | inr (inl none) ↦ absurd (not (record { left_of_right = inside; front = not_above (orient_of portal.right portal.left apex) none }))
+      | inr (inr more) ↦ more
+    ]
+
 -- the apex lies behind it, where the portal before it has both its ends ahead
 pub stays_behind : (apex : Point) (wedge : Wedge) (before portal : Portal) → GoesThroughAll apex wedge before → orient_of before.right before.left portal.left ≤ℤ pos 0
     → orient_of before.right before.left portal.right ≤ℤ pos 0 → StaysOpen apex wedge portal → pos 0 <ℤ orient_of portal.right portal.left apex
@@ -180,7 +190,7 @@ stays_behind apex wedge before portal through at_left at_right stays =
     elim (signs (orient_of apex wedge.right.at portal.right)) [
       | inl less ↦ outside (weak_below (orient_of apex wedge.right.at portal.right) less)
       | inr (inl none) ↦ outside (not_above (orient_of apex wedge.right.at portal.right) none)
-      | inr (inr more) ↦ stays.behind more
+      | inr (inr more) ↦ not_in_front apex wedge portal stays.behind more
     ]
   where
     beyond : (m n : ℤ) → m ≤ℤ pos 0 → pos 0 <ℤ n → m <ℤ n
