@@ -19,7 +19,7 @@ use Rattle.funnel_path.proofs.PointLaws.{exchanged-negative, faces, order_in_hal
 use Rattle.funnel_path.proofs.FoldLaws.{FoldsBack, folds_back}
 use Rattle.funnel_path.proofs.ChainLaws.{AreAhead, AreBehind, chain_ahead, chain_behind, portal_or_goal-end, portal_or_goal-there}
 use Rattle.funnel_path.proofs.PassedLaws.{passed_behind, passed_fold}
-use Rattle.funnel_path.proofs.WedgeLaws.{inside_rays, right_beyond, stays_behind, wedge_first, wedge_more}
+use Rattle.funnel_path.proofs.WedgeLaws.{inside_rays, not_in_front, right_beyond, stays_behind, wedge_first, wedge_more}
 
 -- ---- the portals passed over end
 
@@ -140,12 +140,12 @@ front_folds : (start : Point) (portals : List Portal) (goal apex : Point) (ahead
     → ClosesFront apex wedge (portal_at portals place) place corner → FoldsBack apex (portal_at portals (place - 1)) (portal_at portals place)
 front_folds start portals goal apex ahead place wedge corner chain there look closes =
     let by = neighbour start portals goal apex ahead place wedge chain there look in
-    let rays = inside_rays apex wedge (portal_at portals (place - 1)) (portal_at portals place).right look.seen.wide by.goes closes.right_of_left closes.left_of_right in
+    let rays = inside_rays apex wedge (portal_at portals (place - 1)) (portal_at portals place).right look.seen.wide by.goes closes.right_of_left closes.in_front.left_of_right in
     folds_back apex (portal_at portals (place - 1)) (portal_at portals place) (chain.wide place there) (record {
       behind = by.goes.behind;
       inside_right = rays.0;
       inside_left = rays.1;
-      front = closes.front;
+      front = closes.in_front.front;
       left_ahead = by.ahead.left;
       right_ahead = by.ahead.right;
       left_behind = by.behind.left;
@@ -163,7 +163,7 @@ closes_front start portals goal apex ahead place wedge corner chain there look c
       sided = refl;
       at_end = refl;
       right_of_left = closes.right_of_left;
-      left_of_right = closes.left_of_right;
+      left_of_right = closes.in_front.left_of_right;
       front = back.front;
       folds = back.folds;
     }))
@@ -175,7 +175,7 @@ right_outside start portals goal apex ahead place wedge corner chain there look 
     elim (signs (orient_of apex wedge.right.at portal.right)) [
       | inl less ↦ negative-weak (orient_of apex wedge.right.at portal.right) less
       | inr (inl none) ↦ zero-at_most (orient_of apex wedge.right.at portal.right) none
-      | inr (inr more) ↦ absurd (apart (orient_of apex portal.right portal.left) (faces apex portal.right portal.left (closes.behind more)) (exchanged-negative apex portal.right portal.left (turned more)))
+      | inr (inr more) ↦ absurd (apart (orient_of apex portal.right portal.left) (faces apex portal.right portal.left (not_in_front apex wedge portal closes.behind more)) (exchanged-negative apex portal.right portal.left (turned more)))
     ]
   where
     portal : Portal

@@ -12,7 +12,7 @@ use Rattle.mesh_types.specs.Chains.{portal_at}
 use Rattle.funnel_path.specs.declared.wedge.Wedge.{Wedge}
 use Rattle.funnel_path.specs.Corners.{corner_at_end}
 use Rattle.funnel_path.specs.Cone.{GoesThroughAll, IsEndFrom, IsWedge}
-use Rattle.funnel_path.specs.Wedges.{IsLeftRay, IsNarrowed, IsRightRay, StaysOpen, wedge_of}
+use Rattle.funnel_path.specs.Wedges.{IsInFront, IsLeftRay, IsNarrowed, IsRightRay, StaysOpen, wedge_of}
 use Rattle.funnel_path.proofs.SideRules.{signs, positive-weak, negative-weak, zero-at_least, zero-at_most}
 use Rattle.funnel_path.proofs.PointLaws.{LiesBetweenRays, exchanged-negative, exchanged-not_negative, exchanged-not_positive, exchanged-positive, faces, faces_back, order_in_half_plane, ray-left, ray-left_strictly, ray-right, ray-right_strictly, turn-second, turn-third}
 
@@ -184,6 +184,15 @@ narrowed_through apex wedge narrower portal place wide stays behind is =
 
 -- ---- the portal at which the wedge stays open
 
+-- the apex lies behind a portal that has its right end to the left of the right ray and is not seen from its front
+pub not_in_front : (apex : Point) (wedge : Wedge) (portal : Portal) → (IsInFront apex wedge portal → ⊥) → pos 0 <ℤ orient_of apex wedge.right.at portal.right → pos 0 <ℤ orient_of portal.right portal.left apex
+not_in_front apex wedge portal not inside =
+    elim (signs (orient_of portal.right portal.left apex)) [
+      | inl less ↦ absurd (not (record { left_of_right = inside; front = negative-weak (orient_of portal.right portal.left apex) less }))
+      | inr (inl none) ↦ absurd (not (record { left_of_right = inside; front = zero-at_most (orient_of portal.right portal.left apex) none }))
+      | inr (inr more) ↦ more
+    ]
+
 -- the apex lies behind it, where the portal before it has both its ends ahead
 pub stays_behind : (apex : Point) (wedge : Wedge) (before portal : Portal) → GoesThroughAll apex wedge before → orient_of before.right before.left portal.left ≤ℤ pos 0
     → orient_of before.right before.left portal.right ≤ℤ pos 0 → StaysOpen apex wedge portal → pos 0 <ℤ orient_of portal.right portal.left apex
@@ -191,7 +200,7 @@ stays_behind apex wedge before portal through at_left at_right stays =
     elim (signs (orient_of apex wedge.right.at portal.right)) [
       | inl less ↦ outside (negative-weak (orient_of apex wedge.right.at portal.right) less)
       | inr (inl none) ↦ outside (zero-at_most (orient_of apex wedge.right.at portal.right) none)
-      | inr (inr more) ↦ stays.behind more
+      | inr (inr more) ↦ not_in_front apex wedge portal stays.behind more
     ]
   where
     beyond : (m n : ℤ) → m ≤ℤ pos 0 → pos 0 <ℤ n → m <ℤ n
