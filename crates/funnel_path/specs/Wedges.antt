@@ -34,29 +34,33 @@ pub record IsNarrowed (apex : Point) (wedge : Wedge) (portal : Portal) (place : 
   pub left : IsLeftRay apex wedge portal place narrower.left
   pub right : IsRightRay apex wedge portal place narrower.right
 
+-- a portal has its right end to the left of the right ray, and the apex does not lie behind it
+pub record IsInFront (apex : Point) (wedge : Wedge) (portal : Portal) : Type 0 where
+  pub left_of_right : pos 0 <ℤ orient_of apex wedge.right.at portal.right
+  pub front : orient_of portal.right portal.left apex ≤ℤ pos 0
+
 -- a portal closes a wedge on the left: its right end is not to the right of the left ray
 pub record ClosesLeft (apex : Point) (wedge : Wedge) (right : Point) (corner : Corner) : Type 0 where
   pub is_left : corner ≡ wedge.left
   pub closed : pos 0 ≤ℤ orient_of apex wedge.left.at right
 
--- a portal whose right end lies inside the wedge has the apex on its line or before its front
+-- a portal whose right end lies inside the wedge does not have the apex behind it
 pub record ClosesFront (apex : Point) (wedge : Wedge) (portal : Portal) (place : ℕ) (corner : Corner) : Type 0 where
   pub is_end : corner ≡ corner_at_end R portal place
   pub right_of_left : orient_of apex wedge.left.at portal.right <ℤ pos 0
-  pub left_of_right : pos 0 <ℤ orient_of apex wedge.right.at portal.right
-  pub front : orient_of portal.right portal.left apex ≤ℤ pos 0
+  pub in_front : IsInFront apex wedge portal
 
 -- a portal closes a wedge on the right: its left end is not to the left of the right ray, and it does not close it otherwise
 pub record ClosesRight (apex : Point) (wedge : Wedge) (portal : Portal) (corner : Corner) : Type 0 where
   pub is_right : corner ≡ wedge.right
   pub right_of_left : orient_of apex wedge.left.at portal.right <ℤ pos 0
-  pub behind : pos 0 <ℤ orient_of apex wedge.right.at portal.right → pos 0 <ℤ orient_of portal.right portal.left apex
+  pub behind : ¬ IsInFront apex wedge portal
   pub closed : orient_of apex wedge.right.at portal.left ≤ℤ pos 0
 
 -- a portal leaves a wedge open
 pub record StaysOpen (apex : Point) (wedge : Wedge) (portal : Portal) : Type 0 where
   pub right_of_left : orient_of apex wedge.left.at portal.right <ℤ pos 0
-  pub behind : pos 0 <ℤ orient_of apex wedge.right.at portal.right → pos 0 <ℤ orient_of portal.right portal.left apex
+  pub behind : ¬ IsInFront apex wedge portal
   pub left_of_right : pos 0 <ℤ orient_of apex wedge.right.at portal.left
 
 -- the corner at which a wedge closes at the next portal, if it does

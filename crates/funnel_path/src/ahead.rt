@@ -1,7 +1,7 @@
 //! Looking for the first portal that the apex lies behind.
 
-ghost use Rattle.std.specs.Prelude.{◌↔◌, ◌<◌, ◌≤◌, IsTrue, All, length};
-ghost use Rattle.nav_base.specs.Point.{HasCoordinates};
+ghost use Rattle.std.specs.Prelude.{◌↔◌, ◌<◌, ◌≤◌, pos, ◌≤ℤ◌, ◌<ℤ◌, IsTrue, MatchBool, All, length};
+ghost use Rattle.nav_base.specs.Point.{HasCoordinates, dot_of, from_to};
 ghost use Rattle.mesh_types.specs.Chains.{IsBehind, portal_at};
 ghost use Rattle.funnel_path.specs.Coordinates.{HasEndCoordinates};
 ghost use Rattle.funnel_path.specs.Cone.{AreChained, LookOpposite};
@@ -29,7 +29,7 @@ pub(crate) fn pass_over(apex: Point, portals: &[Portal], first: usize) -> Passin
         if orient(portal.right, portal.left, apex) != 0 {
             return Passing::Behind(place);
         }
-        if dot(apex, portal.left, apex, portal.right) >= 0 {
+        if !is_inside(apex, portal) {
             return Passing::Turn(nearer_end(apex, portal, place));
         }
         if first < place && look_opposite(portals[place - 1], portal) {
@@ -37,6 +37,16 @@ pub(crate) fn pass_over(apex: Point, portals: &[Portal], first: usize) -> Passin
         }
     }
     Passing::Done
+}
+
+/// Whether the apex, which lies on a portal's line, lies strictly between its ends.
+fn is_inside(apex: Point, portal: Portal) -> bool
+    requires apex { HasCoordinates apex }
+    requires portal { HasEndCoordinates portal }
+    ensures { MatchBool result (dot_of (from_to apex portal.left) (from_to apex portal.right) <ℤ pos 0)
+        (pos 0 ≤ℤ dot_of (from_to apex portal.left) (from_to apex portal.right)) }
+{
+    dot(apex, portal.left, apex, portal.right) < 0
 }
 
 /// Whether two portals on one line look opposite ways.

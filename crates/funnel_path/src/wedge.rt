@@ -13,10 +13,10 @@ pub(crate) struct Wedge {
 }
 
 impl Wedge {
-    ghost use Rattle.std.specs.Prelude.{◌≡◌, ◌<◌, ◌^◌};
-    ghost use Rattle.nav_base.specs.Point.{HasCoordinates};
+    ghost use Rattle.std.specs.Prelude.{◌≡◌, ◌<◌, ◌^◌, pos, ◌≤ℤ◌, ◌<ℤ◌, ◌↔◌, IsTrue, MatchBool};
+    ghost use Rattle.nav_base.specs.Point.{HasCoordinates, orient_of};
     ghost use Rattle.funnel_path.specs.Coordinates.{HasEndCoordinates};
-    ghost use Rattle.funnel_path.specs.Wedges.{HasWedgeCoordinates, IsLeftRay, IsMet, IsMetBeforeGoal, IsNarrowed, IsRightRay, wedge_of};
+    ghost use Rattle.funnel_path.specs.Wedges.{HasWedgeCoordinates, IsInFront, IsLeftRay, IsMet, IsMetBeforeGoal, IsNarrowed, IsRightRay, wedge_of};
 
     /// The wedge through the portal at a place.
     pub(crate) fn of(portal: Portal, place: usize) -> Self
@@ -39,15 +39,13 @@ impl Wedge {
         requires place { place < 2 ^ 32 }
         ensures { IsMet apex self portal place result }
     {
-        if orient(apex, self.left.at, portal.right) >= 0 {
+        if self.closes_left(apex, portal.right) {
             return Some(self.left);
         }
-        if orient(apex, self.right.at, portal.right) > 0
-            && orient(portal.right, portal.left, apex) <= 0
-        {
+        if self.closes_front(apex, portal) {
             return Some(right_end(portal, place));
         }
-        if orient(apex, self.right.at, portal.left) <= 0 {
+        if self.closes_right(apex, portal.left) {
             return Some(self.right);
         }
         None
@@ -60,13 +58,43 @@ impl Wedge {
         requires goal { HasCoordinates goal }
         ensures { IsMetBeforeGoal apex self goal result }
     {
-        if orient(apex, self.left.at, goal) >= 0 {
+        if self.closes_left(apex, goal) {
             return Some(self.left);
         }
-        if orient(apex, self.right.at, goal) <= 0 {
+        if self.closes_right(apex, goal) {
             return Some(self.right);
         }
         None
+    }
+
+    /// Whether a point is not to the right of the left ray.
+    fn closes_left(self, apex: Point, p: Point) -> bool
+        requires wedge { HasWedgeCoordinates self }
+        requires apex { HasCoordinates apex }
+        requires point { HasCoordinates p }
+        ensures { MatchBool result (pos 0 ≤ℤ orient_of apex self.left.at p) (orient_of apex self.left.at p <ℤ pos 0) }
+    {
+        orient(apex, self.left.at, p) >= 0
+    }
+
+    /// Whether a point is not to the left of the right ray.
+    fn closes_right(self, apex: Point, p: Point) -> bool
+        requires wedge { HasWedgeCoordinates self }
+        requires apex { HasCoordinates apex }
+        requires point { HasCoordinates p }
+        ensures { MatchBool result (orient_of apex self.right.at p ≤ℤ pos 0) (pos 0 <ℤ orient_of apex self.right.at p) }
+    {
+        orient(apex, self.right.at, p) <= 0
+    }
+
+    /// Whether a portal has its right end to the left of the right ray, and the apex does not lie behind it.
+    fn closes_front(self, apex: Point, portal: Portal) -> bool
+        requires wedge { HasWedgeCoordinates self }
+        requires apex { HasCoordinates apex }
+        requires portal { HasEndCoordinates portal }
+        ensures { IsTrue result ↔ IsInFront apex self portal }
+    {
+        !self.closes_right(apex, portal.right) && !lies_behind(apex, portal)
     }
 
     /// The part of the wedge that goes through the portal at a place as well.
@@ -112,4 +140,17 @@ impl Wedge {
             self.right
         }
     }
+}
+
+ghost use Rattle.std.specs.Prelude.{pos, ◌≤ℤ◌, ◌<ℤ◌, MatchBool};
+ghost use Rattle.nav_base.specs.Point.{HasCoordinates, orient_of};
+ghost use Rattle.funnel_path.specs.Coordinates.{HasEndCoordinates};
+
+/// Whether the apex lies behind a portal.
+fn lies_behind(apex: Point, portal: Portal) -> bool
+    requires apex { HasCoordinates apex }
+    requires portal { HasEndCoordinates portal }
+    ensures { MatchBool result (pos 0 <ℤ orient_of portal.right portal.left apex) (orient_of portal.right portal.left apex ≤ℤ pos 0) }
+{
+    orient(portal.right, portal.left, apex) > 0
 }

@@ -1,7 +1,6 @@
 -- Each way out of the loop comes to what it says, and each portal that stays is passed over.
-use Rattle.std.proofs.Common.{◌≡◌, ◌-◌, length, subst, inl, inr, arith}
+use Rattle.std.proofs.Common.{◌≡◌, length, subst, inl, inr, arith}
 use Rattle.std.proofs.lemmas.Int.{ints}
-use Rattle.mesh_types.specs.Chains.{some_portal}
 use Rattle.funnel_path.specs.Cone.{ArePassed}
 use Rattle.funnel_path.proofs.PassedLaws.{passed_more}
 use Rattle.funnel_path.proofs.ConeLaws.{ahead_of, near_of, not_opposite, turned_back_at}
@@ -14,30 +13,21 @@ returns-then-orient-ne0 c =
     ahead_of chained.leads.start c.args.portals.now chained.goal c.args.apex c.args.first c.loop-place.place chained.leads.chain c.loop-place.auto.place c.loop-place-test.true c.requires.behind c.loop-place.invariant
     (λ e. omega (arith, ints))
 
-pub nearer_end-requires-clause-portal : goal.nearer_end-requires-clause-portal
-nearer_end-requires-clause-portal c = c.requires.coordinates c.loop-place.place some_portal c.loop-place-test.true
-
-pub returns-then-dot-ge0 : goal.returns-then-dot-ge0
-returns-then-dot-ge0 c =
-    inl (near_of c.args.portals.now c.args.apex c.args.first c.loop-place.place c.nearer_end.result c.loop-place.auto.place c.loop-place-test.true c.loop-place.invariant (omega (arith, ints)) (omega (arith, ints)) c.nearer_end.ensures)
-
-pub look_opposite-requires-clause-first : goal.look_opposite-requires-clause-first
-look_opposite-requires-clause-first c = c.requires.coordinates (c.loop-place.place - 1) some_portal (omega arith)
-
-pub look_opposite-requires-clause-second : goal.look_opposite-requires-clause-second
-look_opposite-requires-clause-second c = c.requires.coordinates c.loop-place.place some_portal c.loop-place-test.true
+pub returns-then-not-is_inside : goal.returns-then-not-is_inside
+returns-then-not-is_inside c =
+    inl (near_of c.args.portals.now c.args.apex c.args.first c.loop-place.place c.nearer_end.result c.loop-place.auto.place c.loop-place-test.true c.loop-place.invariant (omega (arith, ints)) c.if-not-is_inside.ensures c.nearer_end.ensures)
 
 pub returns-then-look_opposite : goal.returns-then-look_opposite
 returns-then-look_opposite c =
     let chained = c.requires.chained in
     inr (turned_back_at chained.leads.start c.args.portals.now chained.goal c.args.apex c.args.first c.loop-place.place c.left_end.result chained.leads.chain c.if-first-place.true c.loop-place-test.true c.loop-place.invariant
-    (record { on_line = omega (arith, ints); between = omega (arith, ints) }) (c.look_opposite.ensures.0 c.if-look_opposite.true) c.left_end.ensures)
+    (record { on_line = omega (arith, ints); between = c.if-not-is_inside.ensures }) (c.look_opposite.ensures.0 c.if-look_opposite.true) c.left_end.ensures)
 
 pub loop-place-preserved : goal.loop-place-preserved
 loop-place-preserved c =
     let chained = c.requires.chained in
     passed_more chained.leads.start c.args.portals.now chained.goal c.args.apex c.args.first c.loop-place.place chained.leads.chain c.loop-place-test.true c.loop-place.invariant
-    (record { on_line = omega (arith, ints); between = omega (arith, ints) })
+    (record { on_line = omega (arith, ints); between = c.if-not-is_inside.ensures })
     (elim c.else-first-place.branch [
       | else-first-place-via-then-first-place+else-look_opposite w ↦ λ m low next. not_opposite c.args.portals.now c.loop-place.place m w.look_opposite.result w.look_opposite.ensures w.if-look_opposite.false next
       | else-first-place-via-else-first-place w ↦ λ m low next opposite. omega arith
