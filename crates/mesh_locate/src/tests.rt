@@ -1,6 +1,6 @@
 //! Where places lie in a small mesh by hand.
 
-ghost use Rattle.std.specs.Prelude.{◌≡◌, ◌≤◌, IfOk};
+ghost use Rattle.std.specs.Prelude.{◌≡◌, ◌≤◌, [], IfOk};
 ghost use Rattle.mesh_locate.specs.ByHand.{hand_mesh, hand_polygon, hand_tile};
 
 use crate::locate;
