@@ -1,16 +1,14 @@
 -- What is seen from a bend, whichever way it turns: points of the wedge, the portal before the one where a look ends, and the nearer end of a
 -- portal that the bend is an end of.
-use Rattle.std.proofs.Common.{◌≡◌, ◌≢◌, ℕ, ◌+◌, ◌-◌, ◌≤◌, ◌<◌, ℤ, pos, ◌≤ℤ◌, ◌<ℤ◌, List, length, ap, sym, subst, ◌∙◌, refl, arith}
+use Rattle.std.proofs.Common.{◌≡◌, ◌≢◌, ℕ, ◌-◌, ◌≤◌, ◌<◌, ℤ, pos, ◌≤ℤ◌, ◌<ℤ◌, List, length, ap, sym, subst, ◌∙◌, refl, arith}
 use Rattle.std.proofs.lemmas.Int.{ints}
 use Rattle.nav_base.specs.declared.point.Point.{Point}
-use Rattle.nav_base.specs.Point.{orient_of, dot_of, from_to}
+use Rattle.nav_base.specs.Point.{orient_of, from_to}
 use Rattle.nav_base.proofs.OrientLaws.{orient_of-end}
 use Rattle.mesh_types.specs.declared.links.Portal.{Portal}
 use Rattle.mesh_types.specs.declared.corner.Side.{Side}
 use Rattle.mesh_types.specs.declared.corner.Side.TheVariants.{L, R}
-use Rattle.mesh_types.specs.declared.corner.Corner.{Corner}
 use Rattle.mesh_types.specs.Chains.{IsChain, portal_at}
-use Rattle.mesh_types.specs.Taut.{end_of, other_end_of}
 use Rattle.funnel_path.specs.declared.wedge.Wedge.{Wedge}
 use Rattle.funnel_path.specs.Corners.{IsNearerEnd, square_between}
 use Rattle.funnel_path.specs.Cone.{portal_or_goal, GoesThroughAll, IsLook}

@@ -1,16 +1,16 @@
 -- What is known of the last bend of a path while the path is being found: which way it turns, where that is settled, and where it is not.
-use Rattle.std.proofs.Common.{◌≡◌, ◌≢◌, ℕ, ◌+◌, ◌-◌, ◌≤◌, ◌<◌, ℤ, pos, ◌+ℤ◌, ◌-ℤ◌, ◌≤ℤ◌, ◌<ℤ◌, ◌⊎◌, inl, inr, List, length, ap, sym, subst, ◌∙◌, refl, arith}
+use Rattle.std.proofs.Common.{◌≡◌, ◌≢◌, ℕ, ◌+◌, ◌≤◌, ◌<◌, ℤ, pos, ◌-ℤ◌, ◌≤ℤ◌, ◌<ℤ◌, List, length, arith}
 use Rattle.std.proofs.lemmas.Int.{ints}
 use Rattle.nav_base.specs.declared.point.Point.{Point}
-use Rattle.nav_base.specs.Point.{orient_of, dot_of, from_to}
+use Rattle.nav_base.specs.Point.{orient_of}
 use Rattle.nav_base.proofs.OrientLaws.{orient_of-end, orient_of-start, orient_of-facing}
 use Rattle.mesh_types.specs.declared.links.Portal.{Portal}
 use Rattle.mesh_types.specs.declared.corner.Side.{Side}
 use Rattle.mesh_types.specs.declared.corner.Side.TheVariants.{L, R}
 use Rattle.mesh_types.specs.declared.corner.Corner.{Corner}
-use Rattle.mesh_types.specs.Chains.{IsAhead, IsBehind, IsChain, IsFold, portal_at}
+use Rattle.mesh_types.specs.Chains.{IsAhead, IsBehind, IsFold, portal_at}
 use Rattle.mesh_types.specs.Taut.{IsHolding, end_of, other_end_of}
-use Rattle.funnel_path.specs.Cone.{portal_or_goal, IsInside, LookOpposite}
+use Rattle.funnel_path.specs.Cone.{portal_or_goal}
 use Rattle.funnel_path.proofs.SideRules.{zero-at_most, around-not_above, around-above, around-below}
 use Rattle.funnel_path.proofs.HoldingLaws.{holds_left, holds_right}
 

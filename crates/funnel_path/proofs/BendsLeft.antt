@@ -5,16 +5,16 @@ use Rattle.std.proofs.lemmas.Int.{ints}
 use Rattle.std.proofs.lemmas.Bool.{cases_eq, cases_lt}
 use Rattle.nav_base.specs.declared.point.Point.{Point}
 use Rattle.nav_base.specs.Point.{orient_of, dot_of, from_to}
-use Rattle.nav_base.proofs.OrientLaws.{orient_of-end, orient_of-start, orient_of-rotated}
+use Rattle.nav_base.proofs.OrientLaws.{orient_of-end, orient_of-start}
 use Rattle.mesh_types.specs.declared.links.Portal.{Portal}
 use Rattle.mesh_types.specs.declared.corner.Side.{Side}
 use Rattle.mesh_types.specs.declared.corner.Side.TheVariants.{L, R}
 use Rattle.mesh_types.specs.declared.corner.Corner.{Corner}
-use Rattle.mesh_types.specs.Chains.{IsAhead, IsBehind, IsChain, portal_at}
+use Rattle.mesh_types.specs.Chains.{IsAhead, IsChain, portal_at}
 use Rattle.mesh_types.specs.Taut.{IsHolding, end_of, other_end_of}
 use Rattle.funnel_path.specs.declared.wedge.Wedge.{Wedge}
 use Rattle.funnel_path.specs.Corners.{IsNearerEnd}
-use Rattle.funnel_path.specs.Cone.{portal_or_goal, ArePassed, GoesThroughAll, IsAheadOf, IsBeside, IsCornerNext, IsCornerThrough, IsFoldedBack, IsGoalNext, IsInLine, IsInside, IsInWedge, IsLeftTurn, IsLook, IsNear, IsRightTurn, IsTurnedBack, LookOpposite, all_passed, folded_back, in_wedge, left_turn, near, right_turn, through, turned_back}
+use Rattle.funnel_path.specs.Cone.{portal_or_goal, ArePassed, GoesThroughAll, IsAheadOf, IsBeside, IsCornerNext, IsCornerThrough, IsFoldedBack, IsGoalNext, IsInLine, IsInside, IsLeftTurn, IsLook, IsNear, IsRightTurn, IsTurnedBack, LookOpposite, all_passed, folded_back, in_wedge, left_turn, near, right_turn, through, turned_back}
 use Rattle.funnel_path.proofs.SideRules.{positive-weak, negative-weak, positive-not_zero, positive-not_below, negative-not_above, zero-both, around-not_above, around-below, around-above, signs}
 use Rattle.funnel_path.proofs.PointLaws.{LiesBetweenRays, order_against_walk, turn-second, turn-third, turned-zero}
 use Rattle.funnel_path.proofs.LineLaws.{LieOnLine, alike-behind, between-ahead, between-behind, between-not_positive, in_line-ways, inside_parts}

@@ -1,19 +1,18 @@
 -- A corner away from the one before begins a bend: it is held by the other end of its portal, or its portal is folded back on, or it turns to
 -- the corner's side.
-use Rattle.std.proofs.Common.{◌≡◌, ◌≢◌, ℕ, zero, suc, ◌+◌, ◌-◌, ◌≤◌, ◌<◌, ℤ, pos, ◌≤ℤ◌, ◌<ℤ◌, inl, inr, List, length, ap, sym, subst, ◌∙◌, refl, arith}
-use Rattle.std.proofs.lemmas.Int.{ints}
+use Rattle.std.proofs.Common.{◌≡◌, ◌≢◌, ℕ, zero, suc, ◌+◌, ◌-◌, ◌≤◌, ◌<◌, ℤ, pos, ◌≤ℤ◌, ◌<ℤ◌, inl, inr, List, ap, sym, subst, ◌∙◌, arith}
 use Rattle.nav_base.specs.declared.point.Point.{Point}
-use Rattle.nav_base.specs.Point.{orient_of, dot_of, from_to}
+use Rattle.nav_base.specs.Point.{orient_of, from_to}
 use Rattle.nav_base.proofs.OrientLaws.{orient_of-end, orient_of-start, orient_of-rotated, dot_of-exchanged}
 use Rattle.mesh_types.specs.declared.links.Portal.{Portal}
 use Rattle.mesh_types.specs.declared.corner.Side.{Side}
 use Rattle.mesh_types.specs.declared.corner.Side.TheVariants.{L, R}
 use Rattle.mesh_types.specs.declared.corner.Corner.{Corner}
 use Rattle.mesh_types.specs.Chains.{IsBehind, IsChain, portal_at}
-use Rattle.mesh_types.specs.Taut.{IsHolding, IsStraightOn, end_of, other_end_of}
+use Rattle.mesh_types.specs.Taut.{IsHolding, end_of, other_end_of}
 use Rattle.funnel_path.specs.declared.wedge.Wedge.{Wedge}
 use Rattle.funnel_path.specs.Corners.{IsNearerEnd}
-use Rattle.funnel_path.specs.Cone.{IsBeside, IsEndFrom, IsCornerNext, IsCornerThrough, IsFoldedBack, IsLeftTurn, IsNear, IsRightTurn, IsTurnedBack, folded_back, left_turn, near, right_turn, through, turned_back}
+use Rattle.funnel_path.specs.Cone.{IsBeside, IsEndFrom, IsCornerNext, IsCornerThrough, IsFoldedBack, IsLeftTurn, IsNear, IsRightTurn, folded_back, left_turn, near, right_turn, through, turned_back}
 use Rattle.funnel_path.proofs.SideRules.{positive-weak, zero-at_least}
 use Rattle.funnel_path.proofs.PointLaws.{behind-between, exchanged-zero}
 use Rattle.funnel_path.proofs.HoldingLaws.{farther_end}

@@ -4,17 +4,16 @@ use Rattle.std.proofs.Common.{◌≡◌, ◌≢◌, ℕ, ◌+◌, ◌-◌, ◌�
 use Rattle.std.proofs.lemmas.Int.{ints}
 use Rattle.std.proofs.lemmas.Bool.{cases_eq, cases_lt}
 use Rattle.nav_base.specs.declared.point.Point.{Point}
-use Rattle.nav_base.specs.Point.{orient_of, dot_of, from_to}
-use Rattle.nav_base.proofs.OrientLaws.{orient_of-end, orient_of-start, orient_of-rotated}
+use Rattle.nav_base.specs.Point.{orient_of}
+use Rattle.nav_base.proofs.OrientLaws.{orient_of-end}
 use Rattle.mesh_types.specs.declared.links.Portal.{Portal}
 use Rattle.mesh_types.specs.declared.corner.Side.{Side}
 use Rattle.mesh_types.specs.declared.corner.Side.TheVariants.{L, R}
 use Rattle.mesh_types.specs.declared.corner.Corner.{Corner}
-use Rattle.mesh_types.specs.Chains.{IsAhead, IsBehind, IsChain, portal_at}
+use Rattle.mesh_types.specs.Chains.{IsAhead, IsChain, portal_at}
 use Rattle.mesh_types.specs.Taut.{IsHolding, IsStraightOn, end_of, other_end_of}
 use Rattle.funnel_path.specs.declared.wedge.Wedge.{Wedge}
-use Rattle.funnel_path.specs.Corners.{IsNearerEnd}
-use Rattle.funnel_path.specs.Cone.{portal_or_goal, ArePassed, GoesThroughAll, IsAheadOf, IsBeside, IsCornerNext, IsCornerThrough, IsFoldedBack, IsGoalNext, IsInLine, IsInside, IsInWedge, IsLeftTurn, IsLook, IsNear, IsRightTurn, IsTurnedBack, LookOpposite, all_passed, folded_back, in_wedge, left_turn, near, right_turn, through, turned_back}
+use Rattle.funnel_path.specs.Cone.{portal_or_goal, ArePassed, GoesThroughAll, IsAheadOf, IsCornerNext, IsCornerThrough, IsFoldedBack, IsGoalNext, IsInside, IsLeftTurn, IsLook, IsNear, IsRightTurn, IsTurnedBack, all_passed, folded_back, in_wedge, left_turn, near, right_turn, through, turned_back}
 use Rattle.funnel_path.proofs.SideRules.{positive-weak, negative-not_above, not_positive-signs, around-not_above, around-below}
 use Rattle.funnel_path.proofs.PointLaws.{LiesBetweenRays, exchanged-negative, order_against_walk, turn-second, turn-third}
 use Rattle.funnel_path.proofs.LineLaws.{LieOnLine, between-ahead, inside-left_apart, inside-right_apart, inside_parts, opposite_apart}

@@ -1,22 +1,22 @@
 -- What each answer of the cone comes to: the portals passed over end, or the wedge closes.
-use Rattle.std.proofs.Common.{◌≡◌, ◌≢◌, ℕ, ◌+◌, ◌-◌, ◌≤◌, ◌<◌, ℤ, pos, ◌≤ℤ◌, ◌<ℤ◌, ◌⊎◌, inl, inr, List, length, Bool, true, false, refl, sym, ap, subst, ◌∙◌, arith}
+use Rattle.std.proofs.Common.{◌≡◌, ◌≢◌, ℕ, ◌+◌, ◌-◌, ◌≤◌, ◌<◌, ℤ, pos, ◌≤ℤ◌, ◌<ℤ◌, inl, inr, List, length, Bool, false, refl, sym, ap, subst, ◌∙◌, arith}
 use Rattle.std.specs.Prelude.{Option, None, Some, IsTrue, ◌↔◌}
 use Rattle.std.proofs.lemmas.Bool.{false≢true}
 use Rattle.std.proofs.lemmas.Int.{ints}
 use Rattle.nav_base.specs.declared.point.Point.{Point}
 use Rattle.nav_base.specs.Point.{dot_of, from_to, orient_of}
 use Rattle.mesh_types.specs.declared.links.Portal.{Portal}
-use Rattle.mesh_types.specs.declared.corner.Side.TheVariants.{L, R}
+use Rattle.mesh_types.specs.declared.corner.Side.TheVariants.{L}
 use Rattle.mesh_types.specs.declared.corner.Corner.{Corner}
-use Rattle.mesh_types.specs.Chains.{IsBehind, IsChain, IsFold, portal_at}
+use Rattle.mesh_types.specs.Chains.{IsBehind, IsChain, portal_at}
 use Rattle.mesh_types.specs.Taut.{end_of}
 use Rattle.funnel_path.specs.declared.wedge.Wedge.{Wedge}
 use Rattle.funnel_path.specs.Corners.{IsNearerCorner, IsNearerEnd, corner_at_end}
-use Rattle.funnel_path.specs.Cone.{ArePassed, GoesThroughAll, IsAheadOf, IsCornerThrough, IsFoldedBack, IsInWedge, IsInside, IsLeftTurn, IsLook, IsNear, IsRightTurn, IsNext, IsThrough, IsTurnedBack, LookOpposite, folded_back, in_wedge, left_turn, through, portal_or_goal, right_turn}
-use Rattle.funnel_path.specs.Wedges.{ClosesFront, ClosesLeft, ClosesRight, GoalClosesRight, IsGoalInside, IsMet, IsMetBeforeGoal, IsNarrowed, StaysOpen, wedge_of}
+use Rattle.funnel_path.specs.Cone.{ArePassed, GoesThroughAll, IsAheadOf, IsCornerThrough, IsFoldedBack, IsInWedge, IsInside, IsLook, IsNear, IsNext, IsThrough, IsTurnedBack, LookOpposite, folded_back, in_wedge, left_turn, through, portal_or_goal, right_turn}
+use Rattle.funnel_path.specs.Wedges.{ClosesFront, ClosesLeft, ClosesRight, IsMet, IsMetBeforeGoal, IsNarrowed, StaysOpen, wedge_of}
 use Rattle.funnel_path.proofs.SideRules.{signs}
 use Rattle.funnel_path.proofs.PointLaws.{exchanged-negative, faces, order_in_half_plane}
-use Rattle.funnel_path.proofs.FoldLaws.{FoldsBack, LooksBack, folds_back}
+use Rattle.funnel_path.proofs.FoldLaws.{FoldsBack, folds_back}
 use Rattle.funnel_path.proofs.ChainLaws.{AreAhead, AreBehind, chain_ahead, chain_behind, portal_or_goal-end, portal_or_goal-there}
 use Rattle.funnel_path.proofs.PassedLaws.{passed_behind, passed_fold}
 use Rattle.funnel_path.proofs.WedgeLaws.{inside_rays, not_in_front, right_beyond, stays_behind, wedge_first, wedge_more}

@@ -1,6 +1,6 @@
 -- Points that hold a bend: the farther end of a portal from beside it, what is not behind for one who goes ahead, and what lies in a wedge
 -- between two that hold it.
-use Rattle.std.proofs.Common.{◌≡◌, ◌≢◌, ℤ, pos, ◌+ℤ◌, ◌-ℤ◌, ◌*ℤ◌, ◌≤ℤ◌, ◌<ℤ◌, ◌⊎◌, inl, inr, List, [], ◌∷◌, ap, sym, subst, ◌∙◌, refl, arith}
+use Rattle.std.proofs.Common.{◌≡◌, ◌≢◌, ℤ, pos, ◌+ℤ◌, ◌-ℤ◌, ◌*ℤ◌, ◌≤ℤ◌, ◌<ℤ◌, ◌⊎◌, inl, inr, [], ◌∷◌, ap, sym, subst, ◌∙◌, refl, arith}
 use Rattle.std.proofs.lemmas.Int.{ints}
 use lib.IntN.{neg_ℤ, *ℤ_comm}
 use Rattle.nav_base.specs.declared.point.Point.{Point}
@@ -9,7 +9,6 @@ use Rattle.nav_base.proofs.Polynomials.{sum, difference, product, opposite, equa
 use Rattle.nav_base.proofs.PointTerms.{Place, place, coordinates, from_to_term, dot_term, orient_term}
 use Rattle.nav_base.proofs.OrientLaws.{orient_of-rotated, orient_of-turned, orient_of-fan, orient_of-ahead, orient_of-order_beyond, dot_of-exchanged, dot_of-fan, dot_of-product}
 use Rattle.nav_base.proofs.Signs.{product-not_negative, product-not_positive, product-positive, product-negative, factor-positive, factor-zero}
-use Rattle.mesh_types.specs.declared.corner.Side.{Side}
 use Rattle.mesh_types.specs.declared.corner.Side.TheVariants.{L, R}
 use Rattle.mesh_types.specs.Taut.{IsStraightOn, IsHolding}
 use Rattle.funnel_path.proofs.SideRules.{positive-not_zero, opposite-negative, opposite-positive, opposite-zero, signs, not_negative-signs, not_positive-signs, difference-positive, difference-not_negative, zero-product, without, multiple-not_negative, factor-negative, product-negatives}

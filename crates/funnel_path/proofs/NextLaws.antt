@@ -1,5 +1,5 @@
 -- The next corner, and the goal, are seen from the apex.
-use Rattle.std.proofs.Common.{◌≡◌, ◌≢◌, ℕ, ◌+◌, ◌-◌, ◌≤◌, ◌<◌, ℤ, pos, ◌≤ℤ◌, ◌<ℤ◌, inl, inr, List, [], ◌∷◌, length, refl, sym, ap, subst, ◌∙◌, arith}
+use Rattle.std.proofs.Common.{◌≡◌, ◌≢◌, ℕ, ◌+◌, ◌≤◌, ◌<◌, ℤ, pos, ◌≤ℤ◌, ◌<ℤ◌, List, [], ◌∷◌, length, refl, sym, ap, subst, ◌∙◌, arith}
 use Rattle.std.proofs.lemmas.Int.{ints}
 use Rattle.nav_base.specs.declared.point.Point.{Point}
 use Rattle.std.specs.Prelude.{All}
@@ -15,8 +15,8 @@ use Rattle.mesh_types.specs.Chains.{IsAhead, IsBehind, IsChain, portal_at, some_
 use Rattle.mesh_types.specs.Taut.{IsNamed, end_of}
 use Rattle.funnel_path.specs.declared.wedge.Wedge.{Wedge}
 use Rattle.funnel_path.specs.Coordinates.{HasEndCoordinates}
-use Rattle.funnel_path.specs.Cone.{ArePassed, IsAheadOf, IsCornerNext, IsCornerThrough, IsEndFrom, IsFoldedBack, IsGoalNext, IsInWedge, IsInside, IsLeftTurn, IsLook, IsNear, IsRightTurn, IsTurnedBack, all_passed, folded_back, in_wedge, left_turn, near, right_turn, turned_back, through}
-use Rattle.funnel_path.proofs.PointLaws.{LiesBetweenRays, exchanged-positive}
+use Rattle.funnel_path.specs.Cone.{ArePassed, IsAheadOf, IsCornerNext, IsCornerThrough, IsEndFrom, IsFoldedBack, IsGoalNext, IsInside, IsLeftTurn, IsLook, IsNear, IsRightTurn, IsTurnedBack, all_passed, folded_back, in_wedge, left_turn, near, right_turn, turned_back, through}
+use Rattle.funnel_path.proofs.PointLaws.{exchanged-positive}
 use Rattle.funnel_path.proofs.ChainLaws.{chain_ahead, chain_behind, chain_goal}
 use Rattle.funnel_path.proofs.PassedLaws.{passed_fewer}
 use Rattle.funnel_path.proofs.WedgeLaws.{IsInClosed, between_ends}

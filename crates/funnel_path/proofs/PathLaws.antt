@@ -1,13 +1,13 @@
 -- The path so far: what `pull` keeps while it adds one corner after the other, and what it comes to once the goal is seen.
-use Rattle.std.proofs.Common.{◌≡◌, ◌≢◌, ℕ, ◌+◌, ◌-◌, ◌≤◌, ◌<◌, ◌⊎◌, inl, inr, List, [], ◌∷◌, ◌++◌, length, get_or, refl, sym, ap, subst, ◌∙◌, arith}
+use Rattle.std.proofs.Common.{◌≡◌, ℕ, ◌+◌, ◌≤◌, ◌<◌, ◌⊎◌, inl, inr, List, [], ◌∷◌, ◌++◌, length, get_or, refl, sym, subst, ◌∙◌, arith}
 use Rattle.std.specs.Prelude.{AllPairs}
-use Rattle.std.proofs.lemmas.Bool.{cases_eq, cases_lt}
+use Rattle.std.proofs.lemmas.Bool.{cases_lt}
 use Rattle.std.proofs.lemmas.List.{get_or_append_left, get_or_default}
 use Rattle.std.proofs.Math.Seq.{get_or-append_seam}
 use Rattle.nav_base.specs.declared.point.Point.{Point}
 use Rattle.mesh_types.specs.declared.links.Portal.{Portal}
 use Rattle.mesh_types.specs.declared.corner.Corner.{Corner}
-use Rattle.mesh_types.specs.Chains.{IsChain, portal_at}
+use Rattle.mesh_types.specs.Chains.{IsChain}
 use Rattle.mesh_types.specs.Taut.{AreInTurn, IsBend, IsHeld, IsNamed, IsTaut, IsTight, Stop, corner_stop, some_corner, stop_at, stops_of}
 use Rattle.funnel_path.proofs.StopLaws.{corner-added, corner-kept, goal_stop, length-more, length-stops_of, stop_at-added, stop_at-goal, stop_at-kept, stop_at-so_far, stops_so_far}
 use Rattle.funnel_path.proofs.SightLaws.{IsSeen}

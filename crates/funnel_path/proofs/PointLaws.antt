@@ -1,14 +1,14 @@
 -- Points that are seen from one another: what the signs of a few sides and scalar products say of the others.
-use Rattle.std.proofs.Common.{◌≡◌, ◌≢◌, ℤ, pos, ◌+ℤ◌, ◌-ℤ◌, ◌*ℤ◌, ◌≤ℤ◌, ◌<ℤ◌, ◌⊎◌, inl, inr, List, [], ◌∷◌, ap, sym, subst, ◌∙◌, refl, arith}
+use Rattle.std.proofs.Common.{◌≡◌, ◌≢◌, ℤ, pos, ◌+ℤ◌, ◌-ℤ◌, ◌*ℤ◌, ◌≤ℤ◌, ◌<ℤ◌, inl, inr, [], ◌∷◌, ap, sym, subst, ◌∙◌, refl, arith}
 use Rattle.std.proofs.lemmas.Int.{ints}
-use lib.IntN.{neg_ℤ, *ℤ_comm}
+use lib.IntN.{*ℤ_comm}
 use Rattle.nav_base.specs.declared.point.Point.{Point}
 use Rattle.nav_base.specs.Point.{from_to, dot_of, cross_of, orient_of}
-use Rattle.nav_base.proofs.Polynomials.{number, opposite, sum, difference, product, equal}
-use Rattle.nav_base.proofs.PointTerms.{Place, place, coordinates, from_to_term, dot_term, cross_term, orient_term}
-use Rattle.nav_base.proofs.OrientLaws.{orient_of-rotated, orient_of-turned, orient_of-exchanged, orient_of-start, orient_of-still, orient_of-parts, orient_of-fan, orient_of-product, orient_of-order, orient_of-order_beyond, orient_of-between, orient_of-facing, dot_of-fan}
-use Rattle.nav_base.proofs.Signs.{square-not_negative, product-not_negative, product-not_positive, product-positive, factor-not_negative, factor-not_positive, factor-positive, factor-zero}
-use Rattle.funnel_path.proofs.SideRules.{positive-not_zero, opposite-not_negative, opposite-not_positive, opposite-positive, opposite-negative, opposite-zero, not_negative-signs, not_positive-signs, difference-positive, sum-not_negative, sum-positive, sum-zero, weighted-not_negative, weighted-not_positive, weighted-positive, weighted-positive_right, weighted_difference-positive, square-zero, zero-product, without, multiple-not_negative, multiple-not_positive, multiple-positive, multiple-negative}
+use Rattle.nav_base.proofs.Polynomials.{number, sum, product, equal}
+use Rattle.nav_base.proofs.PointTerms.{Place, place, coordinates, from_to_term, dot_term, orient_term}
+use Rattle.nav_base.proofs.OrientLaws.{orient_of-rotated, orient_of-turned, orient_of-exchanged, orient_of-start, orient_of-still, orient_of-parts, orient_of-fan, orient_of-product, orient_of-order, orient_of-order_beyond, dot_of-fan}
+use Rattle.nav_base.proofs.Signs.{square-not_negative, product-not_negative, product-not_positive, factor-not_negative, factor-not_positive, factor-zero}
+use Rattle.funnel_path.proofs.SideRules.{positive-not_zero, opposite-not_negative, opposite-not_positive, opposite-positive, opposite-negative, opposite-zero, not_negative-signs, difference-positive, sum-not_negative, sum-zero, weighted-not_negative, weighted-positive_right, weighted_difference-positive, square-zero, zero-product}
 
 -- the points of the equations below, as terms
 abbrev p₀ : Place

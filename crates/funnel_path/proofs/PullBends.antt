@@ -1,12 +1,11 @@
 -- The bends of the path so far: those that are closed are held, and what is known of the last run of stops at one point.
-use Rattle.std.proofs.Common.{◌≡◌, ◌≢◌, ℕ, zero, suc, ◌+◌, ◌-◌, ◌≤◌, ◌<◌, ◌⊎◌, inl, inr, List, [], ◌∷◌, ◌++◌, length, get_or, refl, sym, ap, subst, ◌∙◌, arith}
-use Rattle.std.proofs.lemmas.Bool.{cases_eq, cases_lt}
+use Rattle.std.proofs.Common.{◌≡◌, ℕ, ◌+◌, ◌-◌, ◌≤◌, ◌<◌, ◌⊎◌, inl, inr, List, length, sym, ap, subst, ◌∙◌, arith}
 use Rattle.nav_base.specs.declared.point.Point.{Point}
 use Rattle.mesh_types.specs.declared.links.Portal.{Portal}
 use Rattle.mesh_types.specs.declared.corner.Side.{Side}
 use Rattle.mesh_types.specs.declared.corner.Corner.{Corner}
 use Rattle.mesh_types.specs.Chains.{IsFold, portal_at}
-use Rattle.mesh_types.specs.Taut.{HasSide, IsBend, IsFoldedOn, IsHeld, IsHeldOn, IsHolding, Stop, corner_of, other_end_of, some_corner, stop_at}
+use Rattle.mesh_types.specs.Taut.{HasSide, IsBend, IsFoldedOn, IsHeld, IsHolding, Stop, corner_of, other_end_of, stop_at}
 
 -- ---- stops and corners that two paths have in common
 

@@ -1,11 +1,11 @@
 -- What `pull` keeps: the path so far is tight, its closed bends are held, and the last run's state is known; and the taut path that it comes to.
-use Rattle.std.proofs.Common.{◌≡◌, ◌≢◌, ℕ, ◌+◌, ◌≤◌, ◌<◌, ℤ, pos, ◌<ℤ◌, ◌⊎◌, inl, inr, List, [], ◌∷◌, ◌++◌, length, refl, sym, ap, subst, ◌∙◌, arith}
+use Rattle.std.proofs.Common.{◌≡◌, ◌≢◌, ℕ, ◌+◌, ◌≤◌, ℤ, pos, ◌<ℤ◌, ◌⊎◌, inl, inr, List, [], ◌∷◌, ◌++◌, length, refl, sym, ap, subst, ◌∙◌, arith}
 use Rattle.std.proofs.lemmas.Int.{ints}
 use Rattle.nav_base.specs.declared.point.Point.{Point}
-use Rattle.nav_base.specs.Point.{HasCoordinates, dot_of, from_to}
+use Rattle.nav_base.specs.Point.{dot_of, from_to}
 use Rattle.mesh_types.specs.declared.links.Portal.{Portal}
 use Rattle.mesh_types.specs.declared.corner.Corner.{Corner}
-use Rattle.mesh_types.specs.Chains.{IsBehind, IsChain, portal_at}
+use Rattle.mesh_types.specs.Chains.{IsChain}
 use Rattle.mesh_types.specs.Taut.{IsTaut, Stop, stop_at}
 use Rattle.funnel_path.specs.Cone.{IsCornerNext, IsGoalNext}
 use Rattle.funnel_path.proofs.SideRules.{not_negative-signs}
@@ -13,7 +13,7 @@ use Rattle.funnel_path.proofs.PointLaws.{length-not_negative, length-zero}
 use Rattle.funnel_path.proofs.StopLaws.{stops_so_far}
 use Rattle.funnel_path.proofs.NextLaws.{next_goal, next_step, still}
 use Rattle.funnel_path.proofs.PathLaws.{IsThreaded, threaded_more, threaded_start, threaded_taut}
-use Rattle.funnel_path.proofs.PullRuns.{AreHeld, IsAllStart, held_goal, held_more, held_none, held_same}
+use Rattle.funnel_path.proofs.PullRuns.{AreHeld, held_goal, held_more, held_none, held_same}
 use Rattle.funnel_path.proofs.PullStates.{RunState, at_start, state_arrives, state_begins, state_grows, state_leaves}
 
 pub record IsPulled (start : Point) (portals : List Portal) (goal : Point) (corners : List Corner) (apex : Point) (first : ℕ) : Type 0 where

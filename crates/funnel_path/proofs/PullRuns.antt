@@ -1,13 +1,11 @@
 -- The last run of stops at one point: how one more corner continues it or closes it, and what a bend that ends with it is.
 use Rattle.std.proofs.Common.{◌≡◌, ◌≢◌, ℕ, ◌+◌, ◌-◌, ◌≤◌, ◌<◌, ◌⊎◌, inl, inr, List, [], ◌∷◌, ◌++◌, length, get_or, refl, sym, ap, subst, ◌∙◌, arith}
-use Rattle.std.proofs.lemmas.Bool.{cases_eq, cases_lt, cases_order}
+use Rattle.std.proofs.lemmas.Bool.{cases_lt, cases_order}
 use Rattle.nav_base.specs.declared.point.Point.{Point}
 use Rattle.mesh_types.specs.declared.links.Portal.{Portal}
-use Rattle.mesh_types.specs.declared.corner.Side.{Side}
 use Rattle.mesh_types.specs.declared.corner.Corner.{Corner}
-use Rattle.mesh_types.specs.Chains.{portal_at}
-use Rattle.mesh_types.specs.Taut.{HasSide, IsBend, IsHeld, IsHolding, Stop, corner_of, corner_stop, other_end_of, some_corner, stop_at, stops_of}
-use Rattle.funnel_path.proofs.StopLaws.{corner-added, corner-kept, goal_stop, length-more, length-stops_of, length-stops_so_far, stop_at-added, stop_at-corner, stop_at-goal, stop_at-kept, stop_at-so_far, stops_so_far}
+use Rattle.mesh_types.specs.Taut.{IsBend, IsHeld, Stop, corner_of, some_corner, stop_at, stops_of}
+use Rattle.funnel_path.proofs.StopLaws.{corner-added, corner-kept, length-more, length-stops_of, length-stops_so_far, stop_at-added, stop_at-goal, stop_at-kept, stop_at-so_far, stops_so_far}
 use Rattle.funnel_path.proofs.PullBends.{AreAlike, IsHeldFor, bend_alike, held_alike, held_at, held_for_alike, held_of}
 
 -- ---- what one more corner, and the goal, leave as it was

@@ -1,12 +1,12 @@
 -- What is known of the last run while a path is pulled, and how the next corner, or the goal, settles it.
-use Rattle.std.proofs.Common.{◌≡◌, ◌≢◌, ℕ, ◌+◌, ◌-◌, ◌≤◌, ◌<◌, ◌⊎◌, inl, inr, List, [], ◌∷◌, ◌++◌, length, get_or, refl, sym, ap, subst, ◌∙◌, arith}
+use Rattle.std.proofs.Common.{◌≡◌, ◌≢◌, ℕ, ◌+◌, ◌-◌, ◌≤◌, ◌<◌, ◌⊎◌, inl, inr, List, [], ◌∷◌, ◌++◌, length, refl, sym, ap, subst, ◌∙◌, arith}
 use Rattle.nav_base.specs.declared.point.Point.{Point}
 use Rattle.mesh_types.specs.declared.links.Portal.{Portal}
 use Rattle.mesh_types.specs.declared.corner.Side.{Side}
 use Rattle.mesh_types.specs.declared.corner.Side.TheVariants.{L, R}
 use Rattle.mesh_types.specs.declared.corner.Corner.{Corner}
 use Rattle.mesh_types.specs.Chains.{IsChain, IsFold, portal_at}
-use Rattle.mesh_types.specs.Taut.{HasSide, IsFoldedOn, IsHolding, Stop, corner_of, corner_stop, other_end_of, some_corner, stop_at}
+use Rattle.mesh_types.specs.Taut.{HasSide, IsFoldedOn, IsHolding, Stop, corner_of, other_end_of, stop_at}
 use Rattle.funnel_path.specs.Cone.{IsCornerNext, IsGoalNext, IsNear}
 use Rattle.funnel_path.proofs.StopLaws.{length-more, stop_at-corner, stops_so_far}
 use Rattle.funnel_path.proofs.PullBends.{IsHeldFor, by_end, by_fold, by_next, held_for_alike}

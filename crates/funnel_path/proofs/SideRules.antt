@@ -1,8 +1,8 @@
 -- The signs of the parts of an equation between products, over plain numbers, so that no product is seen elsewhere.
-use Rattle.std.proofs.Common.{◌≡◌, ◌≢◌, ℤ, pos, negsuc, ◌+ℤ◌, ◌-ℤ◌, ◌*ℤ◌, ◌≤ℤ◌, ◌<ℤ◌, ◌⊎◌, inl, inr, ap, sym, ◌∙◌, zero, suc, refl, arith}
+use Rattle.std.proofs.Common.{◌≡◌, ℤ, pos, negsuc, ◌+ℤ◌, ◌-ℤ◌, ◌*ℤ◌, ◌≤ℤ◌, ◌<ℤ◌, ◌⊎◌, inl, inr, ap, ◌∙◌, zero, suc, refl, arith}
 use Rattle.std.proofs.lemmas.Int.{ints}
 use lib.IntN.{neg_ℤ, *ℤ_comm, *ℤ-zero}
-use Rattle.nav_base.proofs.Signs.{square-not_negative, product-not_negative, product-not_positive, product-positive, product-negative, factor-not_negative, factor-not_positive, factor-positive, factor-zero}
+use Rattle.nav_base.proofs.Signs.{product-not_negative, product-not_positive, product-positive, product-negative, factor-not_negative, factor-not_positive, factor-positive}
 
 -- ---- one number
 

@@ -1,10 +1,10 @@
 -- The stops of a path: the start, the corners one after the other, and the goal; and what one more corner changes.
-use Rattle.std.proofs.Common.{◌≡◌, ℕ, zero, suc, ◌+◌, ◌-◌, ◌≤◌, ◌<◌, List, [], ◌∷◌, ◌++◌, length, map, get_or, refl, sym, ap, subst, ◌∙◌, inl, inr, arith, length-append}
+use Rattle.std.proofs.Common.{◌≡◌, ℕ, zero, suc, ◌+◌, ◌≤◌, ◌<◌, List, [], ◌∷◌, ◌++◌, length, map, get_or, refl, sym, ap, ◌∙◌, arith, length-append}
 use Rattle.std.proofs.lemmas.List.{get_or-map, get_or_append_left, get_or-append-add, length-map}
 use Rattle.nav_base.specs.declared.point.Point.{Point}
 use Rattle.mesh_types.specs.declared.links.Portal.{Portal}
 use Rattle.mesh_types.specs.declared.corner.Corner.{Corner}
-use Rattle.mesh_types.specs.Taut.{Stop, corner_stop, corner_of, some_corner, some_stop, stop_at, stops_of}
+use Rattle.mesh_types.specs.Taut.{Stop, corner_stop, some_corner, some_stop, stop_at, stops_of}
 
 abbrev pub start_stop : Point → Stop
 start_stop start = record { at = start; number = 0 }

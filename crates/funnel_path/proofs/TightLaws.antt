@@ -1,5 +1,5 @@
 -- Tight segments, by the two stops at their ends.
-use Rattle.std.proofs.Common.{◌≡◌, ◌≢◌, ℕ, ◌+◌, ◌≤◌, ◌<◌, List, length, sym, subst, arith}
+use Rattle.std.proofs.Common.{◌≡◌, ◌≢◌, ℕ, ◌+◌, ◌≤◌, ◌<◌, List, sym, subst, arith}
 use Rattle.nav_base.specs.declared.point.Point.{Point}
 use Rattle.mesh_types.specs.declared.links.Portal.{Portal}
 use Rattle.mesh_types.specs.Chains.{IsChain, portal_at}

@@ -1,6 +1,6 @@
 -- What one sees who looks ahead through a chain from an apex, the point where the path turned last: the portals that the apex lies inside,
 -- the wedge through those after them, and the next corner.
-use Rattle.std.specs.Prelude.{◌≡◌, ℕ, ◌+◌, ◌-◌, ◌<◌, ◌≤◌, ℤ, pos, ◌≤ℤ◌, ◌<ℤ◌, List, length, get_or, Option, None, Some}
+use Rattle.std.specs.Prelude.{◌≡◌, ℕ, ◌+◌, ◌-◌, ◌<◌, ◌≤◌, pos, ◌≤ℤ◌, ◌<ℤ◌, List, length, get_or, Option, None, Some}
 use Rattle.nav_base.specs.declared.point.Point.{Point}
 use Rattle.nav_base.specs.Point.{orient_of, dot_of, from_to}
 use Rattle.mesh_types.specs.declared.links.Portal.{Portal}

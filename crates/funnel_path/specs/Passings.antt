@@ -2,7 +2,6 @@
 use Rattle.std.specs.Prelude.{ℕ, ◌⊎◌, List, length}
 use Rattle.nav_base.specs.declared.point.Point.{Point}
 use Rattle.mesh_types.specs.declared.links.Portal.{Portal}
-use Rattle.mesh_types.specs.declared.corner.Corner.{Corner}
 use Rattle.funnel_path.specs.declared.passing.Passing.{Passing}
 use Rattle.funnel_path.specs.declared.passing.Passing.TheVariants.{Done, Behind, Turn}
 use Rattle.funnel_path.specs.Cone.{ArePassed, IsAheadOf, IsNear, IsTurnedBack}

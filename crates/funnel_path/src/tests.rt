@@ -173,6 +173,22 @@ fn goes_straight_where_nothing_is_in_the_way(rt: HostRuntime) -> Result<(), Fail
     let portals = [portal(-8, 0, 8, 0), portal(-8, 8, 8, 8)];
     let corners: [Corner; 0] = [];
     assert!(rt; pulls(alloc, at(0, -8), &portals, at(0, 16), &corners)?);
+    // three portals, crosswise
+    let portals = [
+        portal(16, 32, 80, 32),
+        portal(16, 48, 80, 48),
+        portal(16, 64, 80, 64),
+    ];
+    let corners: [Corner; 0] = [];
+    assert!(rt; pulls(alloc, at(24, 24), &portals, at(72, 72), &corners)?);
+    // the start lies inside the first of three
+    let portals = [
+        portal(16, 32, 80, 32),
+        portal(16, 48, 80, 48),
+        portal(16, 64, 80, 64),
+    ];
+    let corners: [Corner; 0] = [];
+    assert!(rt; pulls(alloc, at(48, 32), &portals, at(48, 72), &corners)?);
     // start and goal at one point of the portal
     let portals = [portal(16, 48, 80, 48)];
     let corners: [Corner; 0] = [];
@@ -238,6 +254,15 @@ fn turns_at_ends(rt: HostRuntime) -> Result<(), Fail> {
     ];
     let corners = [right(48, 96, 4), right(64, 96, 5)];
     assert!(rt; pulls(alloc, at(40, 24), &portals, at(72, 24), &corners)?);
+    // down, to the right, and up again
+    let portals = [
+        portal(48, 48, 16, 48),
+        portal(64, 48, 64, 32),
+        portal(80, 48, 112, 48),
+        portal(80, 64, 112, 64),
+    ];
+    let corners = [left(48, 48, 0), left(64, 48, 1), left(80, 48, 2)];
+    assert!(rt; pulls(alloc, at(40, 56), &portals, at(88, 72), &corners)?);
     Ok(())
 }
 

@@ -1,7 +1,5 @@
 -- One more corner keeps the path pulled, and once the goal is seen it is taut.
-use Rattle.std.proofs.Common.{◌+◌, List, length, sym, subst, arith}
-use Rattle.nav_base.specs.declared.point.Point.{Point}
-use Rattle.nav_base.specs.Point.{HasCoordinates}
+use Rattle.std.proofs.Common.{◌+◌, List, sym, subst}
 use Rattle.mesh_types.specs.declared.corner.Corner.{Corner}
 use Rattle.mesh_types.specs.Chains.{IsBehind, portal_at}
 use Rattle.funnel_path.proofs.NextLaws.{end_behind, named_coordinates, next_step}

@@ -1,5 +1,5 @@
 -- The path so far is pulled, and the apex is where its last corner or the start is.
-use Rattle.std.proofs.Common.{◌-◌, ◌<◌, ◌≤◌, length}
+use Rattle.std.proofs.Common.{◌-◌, ◌<◌, length}
 use Rattle.nav_base.specs.Point.{HasCoordinates}
 use Rattle.mesh_types.specs.Chains.{IsBehind, portal_at}
 use Rattle.funnel_path.proofs.PullLaws.{IsPulled}

@@ -1,5 +1,5 @@
 -- Each way out of the loop comes to what it says, and each portal that stays is passed over.
-use Rattle.std.proofs.Common.{◌≡◌, ◌-◌, length, subst, inl, inr, arith}
+use Rattle.std.proofs.Common.{◌≡◌, length, subst, inl, inr, arith}
 use Rattle.std.proofs.lemmas.Int.{ints}
 use Rattle.funnel_path.specs.Cone.{ArePassed}
 use Rattle.funnel_path.proofs.PassedLaws.{passed_more}
