@@ -4,7 +4,6 @@ use Rattle.std.proofs.Common.{◌≡◌, ◌≢◌, ℕ, ◌-◌, ◌≤◌, ◌
 use Rattle.std.proofs.lemmas.Int.{ints}
 use Rattle.nav_base.specs.declared.point.Point.{Point}
 use Rattle.nav_base.specs.Point.{orient_of, from_to}
-use Rattle.nav_base.proofs.OrientLaws.{orient_of-end}
 use Rattle.mesh_types.specs.declared.links.Portal.{Portal}
 use Rattle.mesh_types.specs.declared.corner.Side.{Side}
 use Rattle.mesh_types.specs.declared.corner.Side.TheVariants.{L, R}
@@ -12,10 +11,9 @@ use Rattle.mesh_types.specs.Chains.{IsChain, portal_at}
 use Rattle.funnel_path.specs.declared.wedge.Wedge.{Wedge}
 use Rattle.funnel_path.specs.Corners.{IsNearerEnd, square_between}
 use Rattle.funnel_path.specs.Cone.{portal_or_goal, GoesThroughAll, IsLook}
-use Rattle.funnel_path.proofs.SideRules.{positive-weak, negative-weak, zero-at_least}
-use Rattle.funnel_path.proofs.PointLaws.{LiesBetweenRays, dot_of-still, exchanged-not_negative, length-not_negative, length-zero, turn-second, turn-third}
+use Rattle.funnel_path.proofs.PointLaws.{LiesBetweenRays, dot_of-still, length-not_negative, length-zero}
 use Rattle.funnel_path.proofs.ChainLaws.{AreAhead, chain_after}
-use Rattle.funnel_path.proofs.WedgeLaws.{IsInClosed, between_ends}
+use Rattle.funnel_path.proofs.WedgeLaws.{IsInClosed, between_ends, inside_apart, inside_closed, left_apart, left_closed, right_apart, right_closed}
 
 -- a point of the wedge through the portals before `end`, other than the bend
 pub record IsInLook (c : Point) (portals : List Portal) (ahead end : ℕ) (q : Point) : Type 0 where
@@ -30,29 +28,17 @@ look_between c portals ahead end q m looked from before =
     between_ends c looked.wedge (portal_at portals m) q looked.look.seen.wide (looked.look.seen.through m from before) looked.closed
 
 pub at_left_ray : (c : Point) (portals : List Portal) (ahead end : ℕ) (wedge : Wedge) → IsLook c portals ahead end wedge → IsInLook c portals ahead end wedge.left.at
-at_left_ray c portals ahead end wedge look = record {
-  wedge = wedge;
-  look = look;
-  closed = record { from_right = positive-weak (orient_of c wedge.right.at wedge.left.at) look.seen.wide; from_left = zero-at_least (orient_of c wedge.left.at wedge.left.at) (orient_of-end c wedge.left.at) };
-  apart = λ e. turn-third c wedge.right.at wedge.left.at look.seen.wide (sym e);
-}
+at_left_ray c portals ahead end wedge look =
+    record { wedge = wedge; look = look; closed = left_closed c wedge look.seen.wide; apart = λ e. left_apart c wedge look.seen.wide (sym e) }
 
 pub at_right_ray : (c : Point) (portals : List Portal) (ahead end : ℕ) (wedge : Wedge) → IsLook c portals ahead end wedge → IsInLook c portals ahead end wedge.right.at
-at_right_ray c portals ahead end wedge look = record {
-  wedge = wedge;
-  look = look;
-  closed = record { from_right = zero-at_least (orient_of c wedge.right.at wedge.right.at) (orient_of-end c wedge.right.at); from_left = positive-weak (orient_of c wedge.right.at wedge.left.at) look.seen.wide };
-  apart = λ e. turn-second c wedge.right.at wedge.left.at look.seen.wide (sym e);
-}
+at_right_ray c portals ahead end wedge look =
+    record { wedge = wedge; look = look; closed = right_closed c wedge look.seen.wide; apart = λ e. right_apart c wedge look.seen.wide (sym e) }
 
 pub inside_look : (c : Point) (portals : List Portal) (ahead end : ℕ) (wedge : Wedge) (q : Point) → IsLook c portals ahead end wedge
     → orient_of c wedge.left.at q <ℤ pos 0 → pos 0 <ℤ orient_of c wedge.right.at q → IsInLook c portals ahead end q
-inside_look c portals ahead end wedge q look right_of_left left_of_right = record {
-  wedge = wedge;
-  look = look;
-  closed = record { from_right = positive-weak (orient_of c wedge.right.at q) left_of_right; from_left = exchanged-not_negative c q wedge.left.at (negative-weak (orient_of c wedge.left.at q) right_of_left) };
-  apart = λ e. turn-third c wedge.right.at q left_of_right (sym e);
-}
+inside_look c portals ahead end wedge q look right_of_left left_of_right =
+    record { wedge = wedge; look = look; closed = inside_closed c wedge q right_of_left left_of_right; apart = λ e. inside_apart c wedge q left_of_right (sym e) }
 
 -- the wedge goes through the last portal before `end`
 pub look_last : (c : Point) (portals : List Portal) (ahead end : ℕ) (wedge : Wedge) → IsLook c portals ahead end wedge → GoesThroughAll c wedge (portal_at portals (end - 1))

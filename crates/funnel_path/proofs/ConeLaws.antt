@@ -14,7 +14,7 @@ use Rattle.funnel_path.specs.declared.wedge.Wedge.{Wedge}
 use Rattle.funnel_path.specs.Corners.{IsNearerCorner, IsNearerEnd, corner_at_end}
 use Rattle.funnel_path.specs.Cone.{ArePassed, GoesThroughAll, IsAheadOf, IsCornerThrough, IsFoldedBack, IsInWedge, IsInside, IsLook, IsNear, IsNext, IsThrough, IsTurnedBack, LookOpposite, folded_back, in_wedge, left_turn, through, portal_or_goal, right_turn}
 use Rattle.funnel_path.specs.Wedges.{ClosesFront, ClosesLeft, ClosesRight, IsMet, IsMetBeforeGoal, IsNarrowed, StaysOpen, wedge_of}
-use Rattle.funnel_path.proofs.SideRules.{signs}
+use Rattle.funnel_path.proofs.SideRules.{negative-weak, positive-weak, signs, zero-at_most}
 use Rattle.funnel_path.proofs.PointLaws.{exchanged-negative, faces, order_in_half_plane}
 use Rattle.funnel_path.proofs.FoldLaws.{FoldsBack, folds_back}
 use Rattle.funnel_path.proofs.ChainLaws.{AreAhead, AreBehind, chain_ahead, chain_behind, portal_or_goal-end, portal_or_goal-there}
@@ -173,8 +173,8 @@ right_outside : (start : Point) (portals : List Portal) (goal apex : Point) (ahe
     → ClosesRight apex wedge (portal_at portals place) corner → orient_of apex wedge.right.at (portal_at portals place).right ≤ℤ pos 0
 right_outside start portals goal apex ahead place wedge corner chain there look closes =
     elim (signs (orient_of apex wedge.right.at portal.right)) [
-      | inl less ↦ weak_below (orient_of apex wedge.right.at portal.right) less
-      | inr (inl none) ↦ not_above (orient_of apex wedge.right.at portal.right) none
+      | inl less ↦ negative-weak (orient_of apex wedge.right.at portal.right) less
+      | inr (inl none) ↦ zero-at_most (orient_of apex wedge.right.at portal.right) none
       | inr (inr more) ↦ absurd (apart (orient_of apex portal.right portal.left) (faces apex portal.right portal.left (not_in_front apex wedge portal closes.behind more)) (exchanged-negative apex portal.right portal.left (turned more)))
     ]
   where
@@ -187,15 +187,6 @@ right_outside start portals goal apex ahead place wedge corner chain there look 
     by : IsNeighbour portals apex wedge place
     by = neighbour start portals goal apex ahead place wedge chain there look
 
-    weak : (n : ℤ) → pos 0 <ℤ n → pos 0 ≤ℤ n
-    weak n h = omega (arith, ints)
-
-    weak_below : (n : ℤ) → n <ℤ pos 0 → n ≤ℤ pos 0
-    weak_below n h = omega (arith, ints)
-
-    not_above : (n : ℤ) → n ≡ pos 0 → n ≤ℤ pos 0
-    not_above n e = omega (arith, ints)
-
     apart : (n : ℤ) → pos 0 <ℤ n → n <ℤ pos 0 → ⊥
     apart n h k = omega (arith, ints)
 
@@ -206,7 +197,7 @@ right_outside start portals goal apex ahead place wedge corner chain there look 
     turned more =
         order_in_half_plane before.right before.left apex wedge.right.at portal.left portal.right (right_beyond apex wedge before by.goes)
         (beyond (orient_of before.right before.left portal.left) (orient_of before.right before.left apex) by.ahead.left by.goes.behind) (beyond (orient_of before.right before.left portal.right) (orient_of before.right before.left apex) by.ahead.right by.goes.behind)
-        closes.closed (weak (orient_of apex wedge.right.at portal.right) more) (beyond (orient_of apex wedge.right.at portal.left) (orient_of apex wedge.right.at portal.right) closes.closed more)
+        closes.closed (positive-weak (orient_of apex wedge.right.at portal.right) more) (beyond (orient_of apex wedge.right.at portal.left) (orient_of apex wedge.right.at portal.right) closes.closed more)
 
 closes_right : (start : Point) (portals : List Portal) (goal apex : Point) (ahead place : ℕ) (wedge : Wedge) (corner : Corner) → IsChain start portals goal → place < length portals → IsLook apex portals ahead place wedge
     → ClosesRight apex wedge (portal_at portals place) corner → IsCornerThrough apex portals goal ahead corner

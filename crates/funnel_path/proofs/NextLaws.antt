@@ -1,12 +1,9 @@
 -- The next corner, and the goal, are seen from the apex.
-use Rattle.std.proofs.Common.{◌≡◌, ◌≢◌, ℕ, ◌+◌, ◌≤◌, ◌<◌, ℤ, pos, ◌≤ℤ◌, ◌<ℤ◌, List, [], ◌∷◌, length, refl, sym, ap, subst, ◌∙◌, arith}
-use Rattle.std.proofs.lemmas.Int.{ints}
+use Rattle.std.proofs.Common.{◌≡◌, ◌≢◌, ℕ, ◌+◌, ◌≤◌, ◌<◌, pos, ◌<ℤ◌, List, length, sym, ap, subst, ◌∙◌, arith}
 use Rattle.nav_base.specs.declared.point.Point.{Point}
 use Rattle.std.specs.Prelude.{All}
-use Rattle.nav_base.specs.Point.{HasCoordinates, dot_of, from_to, orient_of}
-use Rattle.nav_base.proofs.Polynomials.{equal, number}
-use Rattle.nav_base.proofs.PointTerms.{coordinates, dot_term, from_to_term, place}
-use Rattle.nav_base.proofs.OrientLaws.{orient_of-end, orient_of-start, orient_of-still}
+use Rattle.nav_base.specs.Point.{HasCoordinates, orient_of}
+use Rattle.nav_base.proofs.PointTerms.{place}
 use Rattle.mesh_types.specs.declared.links.Portal.{Portal}
 use Rattle.mesh_types.specs.declared.corner.Side.{Side}
 use Rattle.mesh_types.specs.declared.corner.Side.TheVariants.{L, R}
@@ -15,11 +12,11 @@ use Rattle.mesh_types.specs.Chains.{IsAhead, IsBehind, IsChain, portal_at, some_
 use Rattle.mesh_types.specs.Taut.{IsNamed, end_of}
 use Rattle.funnel_path.specs.declared.wedge.Wedge.{Wedge}
 use Rattle.funnel_path.specs.Coordinates.{HasEndCoordinates}
-use Rattle.funnel_path.specs.Cone.{ArePassed, IsAheadOf, IsCornerNext, IsCornerThrough, IsEndFrom, IsFoldedBack, IsGoalNext, IsInside, IsLeftTurn, IsLook, IsNear, IsRightTurn, IsTurnedBack, all_passed, folded_back, in_wedge, left_turn, near, right_turn, turned_back, through}
-use Rattle.funnel_path.proofs.PointLaws.{exchanged-positive}
+use Rattle.funnel_path.specs.Cone.{ArePassed, IsAheadOf, IsCornerNext, IsCornerThrough, IsEndFrom, IsFoldedBack, IsGoalNext, IsLeftTurn, IsLook, IsNear, IsRightTurn, IsTurnedBack, all_passed, folded_back, in_wedge, left_turn, near, right_turn, turned_back, through}
 use Rattle.funnel_path.proofs.ChainLaws.{chain_ahead, chain_behind, chain_goal}
 use Rattle.funnel_path.proofs.PassedLaws.{passed_fewer}
-use Rattle.funnel_path.proofs.WedgeLaws.{IsInClosed, between_ends}
+use Rattle.funnel_path.proofs.LineLaws.{inside-left_apart}
+use Rattle.funnel_path.proofs.WedgeLaws.{IsInClosed, between_ends, inside_apart, inside_closed, left_apart, left_closed, right_apart, right_closed}
 use Rattle.funnel_path.proofs.SightLaws.{IsSeen}
 
 -- a corner that comes next: it is an end of a portal that lies ahead, and it is seen
@@ -94,40 +91,6 @@ seen_in_wedge apex q portals first ahead place end wedge passed look before clos
       apart = λ h. apart;
       last = last;
     }
-
-weak : (n : ℤ) → pos 0 <ℤ n → pos 0 ≤ℤ n
-weak n h = omega (arith, ints)
-
-none : (n : ℤ) → n ≡ pos 0 → pos 0 ≤ℤ n
-none n e = omega (arith, ints)
-
-apart_by : (n : ℤ) → n ≡ pos 0 → pos 0 <ℤ n → ⊥
-apart_by n e h = omega (arith, ints)
-
--- the rays' own corners, and a point strictly inside
-left_closed : (apex : Point) (wedge : Wedge) → pos 0 <ℤ orient_of apex wedge.right.at wedge.left.at → IsInClosed apex wedge wedge.left.at
-left_closed apex wedge wide =
-    record { from_right = weak (orient_of apex wedge.right.at wedge.left.at) wide; from_left = none (orient_of apex wedge.left.at wedge.left.at) (orient_of-end apex wedge.left.at) }
-
-left_apart : (apex : Point) (wedge : Wedge) → pos 0 <ℤ orient_of apex wedge.right.at wedge.left.at → apex ≢ wedge.left.at
-left_apart apex wedge wide same =
-    apart_by (orient_of apex wedge.right.at wedge.left.at) (ap (orient_of apex wedge.right.at) (sym same) ∙ orient_of-start apex wedge.right.at) wide
-
-right_closed : (apex : Point) (wedge : Wedge) → pos 0 <ℤ orient_of apex wedge.right.at wedge.left.at → IsInClosed apex wedge wedge.right.at
-right_closed apex wedge wide =
-    record { from_right = none (orient_of apex wedge.right.at wedge.right.at) (orient_of-end apex wedge.right.at); from_left = weak (orient_of apex wedge.right.at wedge.left.at) wide }
-
-right_apart : (apex : Point) (wedge : Wedge) → pos 0 <ℤ orient_of apex wedge.right.at wedge.left.at → apex ≢ wedge.right.at
-right_apart apex wedge wide same =
-    apart_by (orient_of apex wedge.right.at wedge.left.at) (ap (λ (p : Point). orient_of apex p wedge.left.at) (sym same) ∙ orient_of-still apex wedge.left.at) wide
-
-pub inside_closed : (apex : Point) (wedge : Wedge) (q : Point) → orient_of apex wedge.left.at q <ℤ pos 0 → pos 0 <ℤ orient_of apex wedge.right.at q → IsInClosed apex wedge q
-inside_closed apex wedge q of_left of_right =
-    record { from_right = weak (orient_of apex wedge.right.at q) of_right; from_left = weak (orient_of apex q wedge.left.at) (exchanged-positive apex q wedge.left.at of_left) }
-
-inside_apart : (apex : Point) (wedge : Wedge) (q : Point) → pos 0 <ℤ orient_of apex wedge.right.at q → apex ≢ q
-inside_apart apex wedge q of_right same =
-    apart_by (orient_of apex wedge.right.at q) (ap (orient_of apex wedge.right.at) (sym same) ∙ orient_of-start apex wedge.right.at) of_right
 
 -- a corner of the wedge
 step_end : (start : Point) (portals : List Portal) (goal apex : Point) (first ahead place : ℕ) (side : Side) (wedge : Wedge) (corner : Corner) → IsChain start portals goal → IsAheadOf apex portals first ahead
@@ -210,19 +173,6 @@ next_goal start portals goal apex first chain (in_wedge ahead of inside) = (
 
 -- ---- a corner at the apex
 
--- a way of no length
-pub still : (p v : Point) → dot_of (from_to p p) v ≡ pos 0
-unfolding dot_of
-still p v = equal (coordinates (p ∷ v ∷ [])) (dot_term (from_to_term (place 0) (place 0)) (place 1)) (number (pos 0)) refl
-
--- an end of a portal does not lie inside it
-ends_apart : (apex : Point) (portal : Portal) → IsInside apex portal → apex ≢ portal.left
-ends_apart apex portal inside same =
-    between_ends_apart (dot_of (from_to apex portal.left) (from_to apex portal.right)) (ap (λ (p : Point). dot_of (from_to p portal.left) (from_to p portal.right)) same ∙ still portal.left (from_to portal.left portal.right)) inside.between
-  where
-    between_ends_apart : (n : ℤ) → n ≡ pos 0 → n <ℤ pos 0 → ⊥
-    between_ends_apart n e h = omega (arith, ints)
-
 through_apart : (apex : Point) (portals : List Portal) (goal : Point) (ahead : ℕ) (corner : Corner) → IsCornerThrough apex portals goal ahead corner → apex ≢ corner.at
 through_apart apex portals goal ahead corner (left_turn turn) same = left_apart apex turn.wedge turn.look.seen.wide (same ∙ ap (λ (c : Corner). c.at) turn.is_left)
 through_apart apex portals goal ahead corner (folded_back folded) same = inside_apart apex folded.wedge (portal_at portals corner.portal).right folded.left_of_right (same ∙ folded.at_end)
@@ -232,5 +182,5 @@ through_apart apex portals goal ahead corner (right_turn turn) same = right_apar
 pub next_at_apex : (apex : Point) (portals : List Portal) (goal : Point) (first : ℕ) (corner : Corner) → IsCornerNext apex portals goal first corner → corner.at ≡ apex → IsNear apex portals first corner
 next_at_apex apex portals goal first corner (near at) same = at
 next_at_apex apex portals goal first corner (turned_back turned) same =
-    absurd (ends_apart apex (portal_at portals corner.portal) (turned.passed.inside corner.portal turned.from (omega arith)) (sym same ∙ turned.at_end))
+    absurd (inside-left_apart apex (portal_at portals corner.portal).left (portal_at portals corner.portal).right (turned.passed.inside corner.portal turned.from (omega arith)).between (sym turned.at_end ∙ same))
 next_at_apex apex portals goal first corner (through ahead of turn) same = absurd (through_apart apex portals goal ahead corner turn (sym same))

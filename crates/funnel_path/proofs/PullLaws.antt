@@ -9,9 +9,9 @@ use Rattle.mesh_types.specs.Chains.{IsChain}
 use Rattle.mesh_types.specs.Taut.{IsTaut, Stop, stop_at}
 use Rattle.funnel_path.specs.Cone.{IsCornerNext, IsGoalNext}
 use Rattle.funnel_path.proofs.SideRules.{not_negative-signs}
-use Rattle.funnel_path.proofs.PointLaws.{length-not_negative, length-zero}
+use Rattle.funnel_path.proofs.PointLaws.{dot_of-still, length-not_negative, length-zero}
 use Rattle.funnel_path.proofs.StopLaws.{stops_so_far}
-use Rattle.funnel_path.proofs.NextLaws.{next_goal, next_step, still}
+use Rattle.funnel_path.proofs.NextLaws.{next_goal, next_step}
 use Rattle.funnel_path.proofs.PathLaws.{IsThreaded, threaded_more, threaded_start, threaded_taut}
 use Rattle.funnel_path.proofs.PullRuns.{AreHeld, held_goal, held_more, held_none, held_same}
 use Rattle.funnel_path.proofs.PullStates.{RunState, at_start, state_arrives, state_begins, state_grows, state_leaves}
@@ -33,7 +33,7 @@ same_or_apart : (p q : Point) → (p ≡ q) ⊎ (p ≢ q)
 same_or_apart p q =
     elim (not_negative-signs (dot_of (from_to p q) (from_to p q)) (length-not_negative (from_to p q))) [
       | inl none ↦ inl (length-zero p q none)
-      | inr some ↦ inr (λ same. apart (dot_of (from_to p q) (from_to p q)) (ap (λ (r : Point). dot_of (from_to p r) (from_to p r)) (sym same) ∙ still p (from_to p p)) some)
+      | inr some ↦ inr (λ same. apart (dot_of (from_to p q) (from_to p q)) (ap (λ (r : Point). dot_of (from_to p r) (from_to p r)) (sym same) ∙ dot_of-still (from_to p p) p) some)
     ]
   where
     apart : (n : ℤ) → n ≡ pos 0 → pos 0 <ℤ n → ⊥

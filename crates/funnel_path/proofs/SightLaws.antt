@@ -11,6 +11,7 @@ use Rattle.mesh_types.specs.Soundness.{along}
 use Rattle.mesh_types.specs.Chains.{IsAhead, IsBehind, IsChain, portal_at}
 use Rattle.mesh_types.specs.Taut.{GoesThrough, IsNoFurther, IsReached, LiesOn, LiesOnLine, end_of}
 use Rattle.funnel_path.specs.Cone.{ArePassed}
+use Rattle.funnel_path.proofs.SideRules.{positive-weak}
 use Rattle.funnel_path.proofs.PointLaws.{LiesBetweenRays, ahead-between, exchanged-not_positive, exchanged-zero, faces_back, length-not_negative, rays-meet}
 use Rattle.funnel_path.proofs.LineLaws.{alike-ahead, inside-left, inside-right, inside_parts}
 use Rattle.funnel_path.proofs.InsideLaws.{inside_along, inside_lies}
@@ -25,18 +26,12 @@ pub record IsSeen (apex q : Point) (portals : List Portal) (first ahead end : �
   pub apart : ahead < end → apex ≢ q
   pub last : (m : ℕ) → m + 1 ≡ end → IsAhead (portal_at portals m) q
 
-weak : (n : ℤ) → pos 0 <ℤ n → pos 0 ≤ℤ n
-weak n h = omega (arith, ints)
-
-weak_below : (n : ℤ) → n <ℤ pos 0 → n ≤ℤ pos 0
-weak_below n h = omega (arith, ints)
-
 -- the apex lies behind each of those portals
 seen_behind : (apex q : Point) (portals : List Portal) (first ahead end m : ℕ) → IsSeen apex q portals first ahead end → first ≤ m → m < end → IsBehind (portal_at portals m) apex
 seen_behind apex q portals first ahead end m seen low high =
     elim (cases_lt m ahead) [
       | inl passed ↦ on_line (orient_of (portal_at portals m).right (portal_at portals m).left apex) (seen.passed.inside m low passed).on_line
-      | inr from ↦ weak (orient_of (portal_at portals m).right (portal_at portals m).left apex) (faces_back apex (portal_at portals m).right (portal_at portals m).left (seen.between m from high).wide)
+      | inr from ↦ positive-weak (orient_of (portal_at portals m).right (portal_at portals m).left apex) (faces_back apex (portal_at portals m).right (portal_at portals m).left (seen.between m from high).wide)
     ]
   where
     on_line : (n : ℤ) → n ≡ pos 0 → pos 0 ≤ℤ n
@@ -122,8 +117,8 @@ seen_reached apex q portals first ahead end m seen low high apart on =
     portal = portal_at portals m
 
     begins : (side : Side) → pos 0 <ℤ along apex q (end_of side portal) → (pos 0 ≤ℤ along apex q portal.left) ⊎ (pos 0 ≤ℤ along apex q portal.right)
-    begins L h = inl (weak (along apex q portal.left) h)
-    begins R h = inr (weak (along apex q portal.right) h)
+    begins L h = inl (positive-weak (along apex q portal.left) h)
+    begins R h = inr (positive-weak (along apex q portal.right) h)
 
     below : (n k : ℤ) → n <ℤ pos 0 → pos 0 ≤ℤ k → n ≤ℤ k
     below n k h j = omega (arith, ints)

@@ -1,5 +1,5 @@
 -- How a wedge narrows: it goes on through all portals that it went through, and through one more.
-use Rattle.std.proofs.Common.{◌≡◌, ℕ, ◌+◌, ◌≤◌, ◌<◌, ℤ, pos, ◌+ℤ◌, ◌≤ℤ◌, ◌<ℤ◌, ◌⊎◌, inl, inr, List, refl, sym, subst, arith}
+use Rattle.std.proofs.Common.{◌≡◌, ◌≢◌, ℕ, ◌+◌, ◌≤◌, ◌<◌, ℤ, pos, ◌+ℤ◌, ◌≤ℤ◌, ◌<ℤ◌, ◌⊎◌, inl, inr, List, refl, sym, subst, arith}
 use Rattle.std.proofs.lemmas.Int.{ints}
 use Rattle.std.proofs.lemmas.Bool.{cases_eq}
 use Rattle.nav_base.specs.declared.point.Point.{Point}
@@ -13,20 +13,8 @@ use Rattle.funnel_path.specs.declared.wedge.Wedge.{Wedge}
 use Rattle.funnel_path.specs.Corners.{corner_at_end}
 use Rattle.funnel_path.specs.Cone.{GoesThroughAll, IsEndFrom, IsWedge}
 use Rattle.funnel_path.specs.Wedges.{IsInFront, IsLeftRay, IsNarrowed, IsRightRay, StaysOpen, wedge_of}
-use Rattle.funnel_path.proofs.SideRules.{signs}
-use Rattle.funnel_path.proofs.PointLaws.{LiesBetweenRays, exchanged-negative, exchanged-not_negative, exchanged-not_positive, exchanged-positive, faces, faces_back, order_in_half_plane, ray-left, ray-left_strictly, ray-right, ray-right_strictly}
-
-weak : (n : ℤ) → pos 0 <ℤ n → pos 0 ≤ℤ n
-weak n h = omega (arith, ints)
-
-weak_below : (n : ℤ) → n <ℤ pos 0 → n ≤ℤ pos 0
-weak_below n h = omega (arith, ints)
-
-not_below : (n : ℤ) → n ≡ pos 0 → pos 0 ≤ℤ n
-not_below n e = omega (arith, ints)
-
-not_above : (n : ℤ) → n ≡ pos 0 → n ≤ℤ pos 0
-not_above n e = omega (arith, ints)
+use Rattle.funnel_path.proofs.SideRules.{signs, positive-weak, negative-weak, zero-at_least, zero-at_most}
+use Rattle.funnel_path.proofs.PointLaws.{LiesBetweenRays, exchanged-negative, exchanged-not_negative, exchanged-not_positive, exchanged-positive, faces, faces_back, order_in_half_plane, ray-left, ray-left_strictly, ray-right, ray-right_strictly, turn-second, turn-third}
 
 -- ---- the rays in the wedge
 
@@ -34,6 +22,28 @@ not_above n e = omega (arith, ints)
 pub record IsInClosed (apex : Point) (wedge : Wedge) (q : Point) : Type 0 where
   pub from_right : pos 0 ≤ℤ orient_of apex wedge.right.at q
   pub from_left : pos 0 ≤ℤ orient_of apex q wedge.left.at
+
+-- the corners on its rays lie in it, and each point strictly inside; they differ from the apex
+pub left_closed : (apex : Point) (wedge : Wedge) → pos 0 <ℤ orient_of apex wedge.right.at wedge.left.at → IsInClosed apex wedge wedge.left.at
+left_closed apex wedge wide =
+    record { from_right = positive-weak (orient_of apex wedge.right.at wedge.left.at) wide; from_left = zero-at_least (orient_of apex wedge.left.at wedge.left.at) (orient_of-end apex wedge.left.at) }
+
+pub left_apart : (apex : Point) (wedge : Wedge) → pos 0 <ℤ orient_of apex wedge.right.at wedge.left.at → apex ≢ wedge.left.at
+left_apart apex wedge wide = turn-third apex wedge.right.at wedge.left.at wide
+
+pub right_closed : (apex : Point) (wedge : Wedge) → pos 0 <ℤ orient_of apex wedge.right.at wedge.left.at → IsInClosed apex wedge wedge.right.at
+right_closed apex wedge wide =
+    record { from_right = zero-at_least (orient_of apex wedge.right.at wedge.right.at) (orient_of-end apex wedge.right.at); from_left = positive-weak (orient_of apex wedge.right.at wedge.left.at) wide }
+
+pub right_apart : (apex : Point) (wedge : Wedge) → pos 0 <ℤ orient_of apex wedge.right.at wedge.left.at → apex ≢ wedge.right.at
+right_apart apex wedge wide = turn-second apex wedge.right.at wedge.left.at wide
+
+pub inside_closed : (apex : Point) (wedge : Wedge) (q : Point) → orient_of apex wedge.left.at q <ℤ pos 0 → pos 0 <ℤ orient_of apex wedge.right.at q → IsInClosed apex wedge q
+inside_closed apex wedge q of_left of_right =
+    record { from_right = positive-weak (orient_of apex wedge.right.at q) of_right; from_left = positive-weak (orient_of apex q wedge.left.at) (exchanged-positive apex q wedge.left.at of_left) }
+
+pub inside_apart : (apex : Point) (wedge : Wedge) (q : Point) → pos 0 <ℤ orient_of apex wedge.right.at q → apex ≢ q
+inside_apart apex wedge q of_right = turn-third apex wedge.right.at q of_right
 
 between : (apex : Point) (wedge : Wedge) (q : Point) → pos 0 <ℤ orient_of apex wedge.right.at wedge.left.at → IsInClosed apex wedge q → LiesBetweenRays apex wedge.right.at wedge.left.at q
 between apex wedge q wide closed = record { wide = wide; from_right = closed.from_right; from_left = closed.from_left }
@@ -45,8 +55,8 @@ between_ends apex wedge portal q wide through closed =
     let rays = between apex wedge q wide closed in
     record {
       wide = faces apex portal.right portal.left through.behind;
-      from_right = ray-right apex wedge.right.at wedge.left.at q portal.right rays through.right_of_right (weak_below (orient_of apex wedge.left.at portal.right) through.right_of_left);
-      from_left = ray-left apex wedge.right.at wedge.left.at q portal.left rays through.left_of_left (weak (orient_of apex wedge.right.at portal.left) through.left_of_right);
+      from_right = ray-right apex wedge.right.at wedge.left.at q portal.right rays through.right_of_right (negative-weak (orient_of apex wedge.left.at portal.right) through.right_of_left);
+      from_left = ray-left apex wedge.right.at wedge.left.at q portal.left rays through.left_of_left (positive-weak (orient_of apex wedge.right.at portal.left) through.left_of_right);
     }
 
 -- and a point strictly inside the wedge lies strictly between them
@@ -55,7 +65,7 @@ pub inside_rays : (apex : Point) (wedge : Wedge) (portal : Portal) (q : Point) �
 inside_rays apex wedge portal q wide through of_left of_right =
     let inside = exchanged-positive apex q wedge.left.at of_left in
     let rays : LiesBetweenRays apex wedge.right.at wedge.left.at q =
-    record { wide = wide; from_right = weak (orient_of apex wedge.right.at q) of_right; from_left = weak (orient_of apex q wedge.left.at) inside } in (
+    record { wide = wide; from_right = positive-weak (orient_of apex wedge.right.at q) of_right; from_left = positive-weak (orient_of apex q wedge.left.at) inside } in (
       ray-right_strictly apex wedge.right.at wedge.left.at q portal.right rays of_right through.right_of_right through.right_of_left,
       ray-left_strictly apex wedge.right.at wedge.left.at q portal.left rays inside through.left_of_left through.left_of_right,
     )
@@ -85,10 +95,10 @@ moved_left : (apex : Point) (wedge : Wedge) (corner : Corner) (portal : Portal) 
     → orient_of apex wedge.left.at corner.at ≤ℤ pos 0 → pos 0 <ℤ orient_of apex wedge.right.at corner.at → GoesThroughAll apex (record { left = corner; right = wedge.right }) portal
 moved_left apex wedge corner portal wide through at_left at_right =
     let rays : LiesBetweenRays apex wedge.right.at wedge.left.at corner.at =
-    record { wide = wide; from_right = weak (orient_of apex wedge.right.at corner.at) at_right; from_left = exchanged-not_negative apex corner.at wedge.left.at at_left } in
+    record { wide = wide; from_right = positive-weak (orient_of apex wedge.right.at corner.at) at_right; from_left = exchanged-not_negative apex corner.at wedge.left.at at_left } in
     record {
       behind = through.behind;
-      left_of_left = ray-left apex wedge.right.at wedge.left.at corner.at portal.left rays through.left_of_left (weak (orient_of apex wedge.right.at portal.left) through.left_of_right);
+      left_of_left = ray-left apex wedge.right.at wedge.left.at corner.at portal.left rays through.left_of_left (positive-weak (orient_of apex wedge.right.at portal.left) through.left_of_right);
       right_of_left = exchanged-negative apex corner.at portal.right (ray-right_strictly apex wedge.right.at wedge.left.at corner.at portal.right rays at_right through.right_of_right through.right_of_left);
       right_of_right = through.right_of_right;
       left_of_right = through.left_of_right;
@@ -99,12 +109,12 @@ moved_right : (apex : Point) (wedge : Wedge) (corner : Corner) (portal : Portal)
     → pos 0 ≤ℤ orient_of apex wedge.right.at corner.at → pos 0 <ℤ orient_of apex corner.at wedge.left.at → GoesThroughAll apex (record { left = wedge.left; right = corner }) portal
 moved_right apex wedge corner portal wide through at_right at_left =
     let rays : LiesBetweenRays apex wedge.right.at wedge.left.at corner.at =
-    record { wide = wide; from_right = at_right; from_left = weak (orient_of apex corner.at wedge.left.at) at_left } in
+    record { wide = wide; from_right = at_right; from_left = positive-weak (orient_of apex corner.at wedge.left.at) at_left } in
     record {
       behind = through.behind;
       left_of_left = through.left_of_left;
       right_of_left = through.right_of_left;
-      right_of_right = exchanged-not_positive apex corner.at portal.right (ray-right apex wedge.right.at wedge.left.at corner.at portal.right rays through.right_of_right (weak_below (orient_of apex wedge.left.at portal.right) through.right_of_left));
+      right_of_right = exchanged-not_positive apex corner.at portal.right (ray-right apex wedge.right.at wedge.left.at corner.at portal.right rays through.right_of_right (negative-weak (orient_of apex wedge.left.at portal.right) through.right_of_left));
       left_of_right = ray-left_strictly apex wedge.right.at wedge.left.at corner.at portal.left rays at_left through.left_of_left through.left_of_right;
     }
 
@@ -122,14 +132,14 @@ half_narrowed apex wedge portal place left wide stays behind (inr (further, same
     subst (IsHalfNarrowed apex wedge portal) (sym same) (record {
       wide = wide;
       before = exchanged-positive apex portal.right wedge.left.at stays.right_of_left;
-      left_of_left = weak (orient_of apex wedge.left.at portal.left) further;
+      left_of_left = positive-weak (orient_of apex wedge.left.at portal.left) further;
       keeps = λ other through. through;
     })
 half_narrowed apex wedge portal place left wide stays behind (inl (nearer, same)) =
     subst (IsHalfNarrowed apex wedge portal) (sym same) (record {
       wide = stays.left_of_right;
       before = faces apex portal.right portal.left behind;
-      left_of_left = not_below (orient_of apex portal.left portal.left) (orient_of-end apex portal.left);
+      left_of_left = zero-at_least (orient_of apex portal.left portal.left) (orient_of-end apex portal.left);
       keeps = λ other through. moved_left apex wedge (corner_at_end L portal place) other wide through nearer stays.left_of_right;
     })
 
@@ -148,7 +158,7 @@ fully apex wedge portal place left right stays behind half (inr (further, same))
         behind = behind;
         left_of_left = half.left_of_left;
         right_of_left = exchanged-negative apex left.at portal.right half.before;
-        right_of_right = weak_below (orient_of apex wedge.right.at portal.right) further;
+        right_of_right = negative-weak (orient_of apex wedge.right.at portal.right) further;
         left_of_right = stays.left_of_right;
       };
       keeps = half.keeps;
@@ -160,7 +170,7 @@ fully apex wedge portal place left right stays behind half (inl (nearer, same)) 
         behind = behind;
         left_of_left = half.left_of_left;
         right_of_left = exchanged-negative apex left.at portal.right half.before;
-        right_of_right = not_above (orient_of apex portal.right portal.right) (orient_of-end apex portal.right);
+        right_of_right = zero-at_most (orient_of apex portal.right portal.right) (orient_of-end apex portal.right);
         left_of_right = faces apex portal.right portal.left behind;
       };
       keeps = λ other through. moved_right apex (record { left = left; right = wedge.right }) (corner_at_end R portal place) other half.wide (half.keeps other through) nearer half.before;
@@ -178,8 +188,8 @@ narrowed_through apex wedge narrower portal place wide stays behind is =
 pub not_in_front : (apex : Point) (wedge : Wedge) (portal : Portal) → (IsInFront apex wedge portal → ⊥) → pos 0 <ℤ orient_of apex wedge.right.at portal.right → pos 0 <ℤ orient_of portal.right portal.left apex
 not_in_front apex wedge portal not inside =
     elim (signs (orient_of portal.right portal.left apex)) [
-      | inl less ↦ absurd (not (record { left_of_right = inside; front = weak_below (orient_of portal.right portal.left apex) less }))
-      | inr (inl none) ↦ absurd (not (record { left_of_right = inside; front = not_above (orient_of portal.right portal.left apex) none }))
+      | inl less ↦ absurd (not (record { left_of_right = inside; front = negative-weak (orient_of portal.right portal.left apex) less }))
+      | inr (inl none) ↦ absurd (not (record { left_of_right = inside; front = zero-at_most (orient_of portal.right portal.left apex) none }))
       | inr (inr more) ↦ more
     ]
 
@@ -188,8 +198,8 @@ pub stays_behind : (apex : Point) (wedge : Wedge) (before portal : Portal) → G
     → orient_of before.right before.left portal.right ≤ℤ pos 0 → StaysOpen apex wedge portal → pos 0 <ℤ orient_of portal.right portal.left apex
 stays_behind apex wedge before portal through at_left at_right stays =
     elim (signs (orient_of apex wedge.right.at portal.right)) [
-      | inl less ↦ outside (weak_below (orient_of apex wedge.right.at portal.right) less)
-      | inr (inl none) ↦ outside (not_above (orient_of apex wedge.right.at portal.right) none)
+      | inl less ↦ outside (negative-weak (orient_of apex wedge.right.at portal.right) less)
+      | inr (inl none) ↦ outside (zero-at_most (orient_of apex wedge.right.at portal.right) none)
       | inr (inr more) ↦ not_in_front apex wedge portal stays.behind more
     ]
   where
@@ -200,7 +210,7 @@ stays_behind apex wedge before portal through at_left at_right stays =
     outside h =
         faces_back apex portal.right portal.left (order_in_half_plane before.right before.left apex wedge.right.at portal.right portal.left (right_beyond apex wedge before through)
         (beyond (orient_of before.right before.left portal.right) (orient_of before.right before.left apex) at_right through.behind) (beyond (orient_of before.right before.left portal.left) (orient_of before.right before.left apex) at_left through.behind)
-        h (weak (orient_of apex wedge.right.at portal.left) stays.left_of_right) (beyond (orient_of apex wedge.right.at portal.right) (orient_of apex wedge.right.at portal.left) h stays.left_of_right))
+        h (positive-weak (orient_of apex wedge.right.at portal.left) stays.left_of_right) (beyond (orient_of apex wedge.right.at portal.right) (orient_of apex wedge.right.at portal.left) h stays.left_of_right))
 
 -- ---- the wedge through portals of a list
 
@@ -227,9 +237,9 @@ wedge_first apex portals ahead behind =
     goes : GoesThroughAll apex (wedge_of portal ahead) portal
     goes = record {
       behind = behind;
-      left_of_left = not_below (orient_of apex portal.left portal.left) (orient_of-end apex portal.left);
+      left_of_left = zero-at_least (orient_of apex portal.left portal.left) (orient_of-end apex portal.left);
       right_of_left = exchanged-negative apex portal.left portal.right wide;
-      right_of_right = not_above (orient_of apex portal.right portal.right) (orient_of-end apex portal.right);
+      right_of_right = zero-at_most (orient_of apex portal.right portal.right) (orient_of-end apex portal.right);
       left_of_right = wide;
     }
 
