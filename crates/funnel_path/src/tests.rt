@@ -163,7 +163,7 @@ fn pulls(
 }
 
 #[test]
-fn goes_straight_where_nothing_is_in_the_way(rt: HostRuntime) -> Result<(), Fail> {
+fn goes_straight_through(rt: HostRuntime) -> Result<(), Fail> {
     let alloc = rt.alloc();
     // no portals
     let portals: [Portal; 0] = [];
@@ -182,13 +182,14 @@ fn goes_straight_where_nothing_is_in_the_way(rt: HostRuntime) -> Result<(), Fail
     let corners: [Corner; 0] = [];
     assert!(rt; pulls(alloc, at(24, 24), &portals, at(72, 72), &corners)?);
     // the start lies inside the first of three
-    let portals = [
-        portal(16, 32, 80, 32),
-        portal(16, 48, 80, 48),
-        portal(16, 64, 80, 64),
-    ];
     let corners: [Corner; 0] = [];
     assert!(rt; pulls(alloc, at(48, 32), &portals, at(48, 72), &corners)?);
+    Ok(())
+}
+
+#[test]
+fn goes_straight_on_lines(rt: HostRuntime) -> Result<(), Fail> {
+    let alloc = rt.alloc();
     // start and goal at one point of the portal
     let portals = [portal(16, 48, 80, 48)];
     let corners: [Corner; 0] = [];
@@ -239,6 +240,12 @@ fn turns_at_ends(rt: HostRuntime) -> Result<(), Fail> {
     let portals = [portal(0, 8, 8, 8), portal(0, 16, 8, 16)];
     let corners = [left(0, 16, 1)];
     assert!(rt; pulls(alloc, at(0, 0), &portals, at(0, 24), &corners)?);
+    Ok(())
+}
+
+#[test]
+fn turns_round_several_ends(rt: HostRuntime) -> Result<(), Fail> {
+    let alloc = rt.alloc();
     // a half turn round two ends
     let portals = [
         portal(16, 32, 48, 32),
@@ -274,27 +281,21 @@ fn names_an_end_at_the_start_or_the_goal(rt: HostRuntime) -> Result<(), Fail> {
     let corners = [left(0, 8, 0)];
     assert!(rt; pulls(alloc, at(0, 8), &portals, at(8, 16), &corners)?);
     // the right end
-    let portals = [portal(0, 8, 16, 8)];
     let corners = [right(16, 8, 0)];
     assert!(rt; pulls(alloc, at(16, 8), &portals, at(8, 16), &corners)?);
     // the goal is the left end
-    let portals = [portal(0, 8, 16, 8)];
     let corners = [left(0, 8, 0)];
     assert!(rt; pulls(alloc, at(8, 0), &portals, at(0, 8), &corners)?);
     // the right end
-    let portals = [portal(0, 8, 16, 8)];
     let corners = [right(16, 8, 0)];
     assert!(rt; pulls(alloc, at(8, 0), &portals, at(16, 8), &corners)?);
     // the start lies beside the portal, on its line
-    let portals = [portal(0, 8, 16, 8)];
     let corners = [right(16, 8, 0)];
     assert!(rt; pulls(alloc, at(24, 8), &portals, at(8, 16), &corners)?);
     // on the other side
-    let portals = [portal(0, 8, 16, 8)];
     let corners = [left(0, 8, 0)];
     assert!(rt; pulls(alloc, at(-8, 8), &portals, at(8, 16), &corners)?);
     // the goal lies beside the portal, on its line
-    let portals = [portal(0, 8, 16, 8)];
     let corners = [right(16, 8, 0)];
     assert!(rt; pulls(alloc, at(8, 0), &portals, at(24, 8), &corners)?);
     // and there is another portal
@@ -331,6 +332,12 @@ fn turns_round_shared_ends(rt: HostRuntime) -> Result<(), Fail> {
     ];
     let corners = [right(0, 0, 2)];
     assert!(rt; pulls(alloc, at(-8, -8), &portals, at(16, 12), &corners)?);
+    Ok(())
+}
+
+#[test]
+fn turns_on_a_spiral(rt: HostRuntime) -> Result<(), Fail> {
+    let alloc = rt.alloc();
     // two turns of a spiral
     let portals = [
         portal(0, 0, 16, 0),
