@@ -1,6 +1,6 @@
--- A play under way: what is written so far and what is still to come make the whole play text.
-use Rattle.std.proofs.Common.{◌≡◌, ℕ, ◌+◌, ◌<◌, ◌≤◌, List, ◌++◌, length, take, drop, ap, ◌∙◌, sym, subst, get_or, append_assoc}
-use Rattle.std.proofs.lemmas.List.{at_drop_more, at_drop_all}
+-- A play under way: what is written so far and what may still come make a text of the whole play.
+use Rattle.std.proofs.Common.{◌≡◌, ℕ, ◌+◌, ◌<◌, ◌≤◌, List, ◌++◌, length, take, drop, ap, ◌∙◌, sym, subst, refl, [], ◌∷◌, get_or, append_assoc}
+use Rattle.std.proofs.lemmas.List.{drop_more, drop_all}
 use Rattle.std.proofs.lemmas.Option.{slice_get-get_or}
 use Rattle.nav_ground.specs.declared.shape.Shape.{Shape}
 use Rattle.nav_ground.specs.declared.shape.Shape.TheVariants.{Block, Cylinder, AreaBlock, AreaCylinder}
@@ -12,44 +12,65 @@ use Rattle.nav_script.specs.declared.script.Way.TheVariants.{Play}
 use Rattle.nav_script.specs.Limits.{IsScript, IsLine, IsObstacle}
 use Rattle.nav_script.specs.Lanes.{adds_before}
 use Rattle.nav_record.specs.Texts.{done_text}
-use Rattle.nav_play.specs.PlayRecord.{PlayState, text_from, said, state_after}
+use Rattle.nav_play.specs.PlayRecord.{PlayState, AddsSome, IsTextFrom, IsSaid, state_after}
 use Rattle.nav_play.specs.Players.{IsPlayable}
 
--- after some of the lines: the text so far, then what the lines that are left write, is what all lines write from the first state;
--- and the current lane is one of the lanes
+-- after some of the lines: whatever the lines that are left may write, behind the text so far it makes a text of all lines from the first
+-- state; and the current lane is one of the lanes
 pub record IsUnderWay (first : PlayState) (lines : List Line) (done : ℕ) (state : PlayState) (text : List ℕ) (lanes : ℕ) : Type 0 where
-  pub text_is : text_from first lines ≡ text ++ text_from state (drop done lines)
+  pub goes_on : (rest : List ℕ) → IsTextFrom state (drop done lines) rest → IsTextFrom first lines (text ++ rest)
   pub all_lanes : length state.adds ≡ lanes
   pub lane : state.lane < lanes
+
+-- no line was played
+pub before_lines : (first : PlayState) (lines : List Line) (state : PlayState) (text : List ℕ) (lanes : ℕ) → state ≡ first → text ≡ []
+    → length state.adds ≡ lanes → state.lane < lanes → IsUnderWay first lines 0 state text lanes
+before_lines first lines state text lanes same empty all lane =
+    let S : PlayState → List ℕ → Type 0 = λ s t. (rest : List ℕ) → IsTextFrom s lines rest → IsTextFrom first lines (t ++ rest) in
+    let F : PlayState → Type 0 = λ s. S s text in
+    let T : List ℕ → Type 0 = λ t. S first t in
+    record { goes_on = subst F (sym same) (subst T (sym empty) (λ rest to_come. to_come)); all_lanes = all; lane = lane }
+
+-- what a line says, and then a text of the lines behind it
+line_and_rest : (state next : PlayState) (this : Line) (lines : List Line) (said rest : List ℕ) → IsSaid state this said
+    → next ≡ state_after state this → IsTextFrom next lines rest → IsTextFrom state (this ∷ lines) (said ++ rest)
+unfolding IsTextFrom
+line_and_rest state next this lines said rest fits next_is to_come =
+    let S : PlayState → Type 0 = λ s. IsTextFrom s lines rest in
+    record { said = said; rest = rest; parts = refl; said_fits = fits; rest_fits = subst S next_is to_come }
 
 -- one more line
 pub one_line : (first : PlayState) (lines items : List Line) (done : ℕ) (state next : PlayState) (text more : List ℕ) (lanes : ℕ) (d : Line)
     → IsUnderWay first lines done state text lanes
     → items ≡ lines
     → done < length items
-    → more ≡ text ++ said state (get_or items done d)
+    → AddsSome (IsSaid state (get_or items done d)) text more
     → next ≡ state_after state (get_or items done d)
     → length next.adds ≡ length state.adds
     → next.lane < length next.adds
     → IsUnderWay first lines (done + 1) next more lanes
-unfolding text_from
-one_line first lines items done state next text more lanes d way same there said_is next_is kept lane =
+one_line first lines items done state next text more lanes d way same there adds next_is kept lane =
     let P : List Line → Type 0 = λ xs. done < length xs in
     let L : ℕ → Type 0 = λ n. next.lane < n in
-    let there' = subst P same there in
+    let W : List ℕ → Type 0 = λ xs. IsTextFrom first lines xs in
+    let I : List Line → Type 0 = λ xs. IsSaid state (get_or xs done d) adds.said in
     let this = get_or lines done d in
-    let rest = drop (done + 1) lines in
-    let said_is' = said_is ∙ ap (λ xs. text ++ said state (get_or xs done d)) same in
+    let left = drop_more lines done d (subst P same there) in
     let next_is' = next_is ∙ ap (λ xs. state_after state (get_or xs done d)) same in
     record {
-      text_is = way.text_is
-          ∙ ap (λ to_come. text ++ to_come) (at_drop_more (text_from state) lines done d there')
-          ∙ sym (append_assoc text (said state this) (text_from (state_after state this) rest))
-          ∙ ap (λ t. t ++ text_from (state_after state this) rest) (sym said_is')
-          ∙ ap (λ s. more ++ text_from s rest) (sym next_is');
+      goes_on = λ rest to_come.
+          let R : List Line → Type 0 = λ xs. IsTextFrom state xs (adds.said ++ rest) in
+          let all = line_and_rest state next this (drop (done + 1) lines) adds.said rest (subst I same adds.fits) next_is' to_come in
+          subst W (sym (append_assoc text adds.said rest) ∙ ap (λ t. t ++ rest) (sym adds.written))
+          (way.goes_on (adds.said ++ rest) (subst R (sym left) all));
       all_lanes = kept ∙ way.all_lanes;
       lane = subst L (kept ∙ way.all_lanes) lane;
     }
+
+-- the end alone is a text of no lines
+at_end : (state : PlayState) → IsTextFrom state [] (done_text state.book.published (length state.book.history))
+unfolding IsTextFrom
+at_end state = refl
 
 -- no line is left
 pub no_line : (first : PlayState) (lines items : List Line) (done : ℕ) (state : PlayState) (text more : List ℕ) (lanes k n : ℕ)
@@ -59,14 +80,16 @@ pub no_line : (first : PlayState) (lines items : List Line) (done : ℕ) (state 
     → k ≡ state.book.published
     → n ≡ length state.book.history
     → more ≡ text ++ done_text k n
-    → more ≡ text_from first lines
-unfolding text_from
+    → IsTextFrom first lines more
 no_line first lines items done state text more lanes k n way same end k_is n_is done_is =
     let P : List Line → Type 0 = λ xs. length xs ≤ done in
-    done_is
-    ∙ ap (λ k'. text ++ done_text k' n) k_is
-    ∙ ap (λ n'. text ++ done_text state.book.published n') n_is
-    ∙ sym (way.text_is ∙ ap (λ to_come. text ++ to_come) (at_drop_all (text_from state) lines done (subst P same end)))
+    let W : List ℕ → Type 0 = λ xs. IsTextFrom first lines xs in
+    let R : List Line → Type 0 = λ xs. IsTextFrom state xs (done_text state.book.published (length state.book.history)) in
+    let none = drop_all done lines (subst P same end) in
+    let whole = way.goes_on _ (subst R (sym none) (at_end state)) in
+    let more_is : more ≡ text ++ done_text state.book.published (length state.book.history) =
+    done_is ∙ ap (λ k'. text ++ done_text k' n) k_is ∙ ap (λ n'. text ++ done_text state.book.published n') n_is in
+    subst W (sym more_is) whole
 
 -- an obstacle of a script is within its limits
 obstacle_fits : (shape : Shape) → IsObstacle shape → IsShape shape

@@ -1,5 +1,5 @@
--- What a play of a script writes: line by line the answers of the book, and then how far the play came.
-use Rattle.std.specs.Prelude.{ℕ, ◌+◌, ◌-◌, ◌==◌, if◌then◌else◌, List, [], ◌∷◌, ◌++◌, length, replicate, slice_get, slice_set, get_or, unwrap_or}
+-- What a play of a script may write: line by line the answers of the book, and then how far the play came.
+use Rattle.std.specs.Prelude.{◌≡◌, ℕ, ◌+◌, ◌-◌, ◌==◌, if◌then◌else◌, List, [], ◌∷◌, ◌++◌, length, replicate, slice_get, slice_set, get_or, unwrap_or}
 use Rattle.nav_base.specs.declared.answers.Question.{Question}
 use Rattle.nav_base.specs.declared.answers.Question.TheVariants.{Floor, Path, Ray}
 use Rattle.nav_ground.specs.declared.setting.Setting.{Setting}
@@ -69,25 +69,25 @@ number_in adds lane j = unwrap_or (slice_get (adds_of adds lane) (j - 1)) 0
 abbrev pub drop_request : PlayState → ℕ → Request
 drop_request state j = requests.Remove (number_in state.adds state.lane j)
 
--- the answer to a question, with the length that it was asked at; ways and rays are not built yet
-abbrev pub answer_text : BookState → Question → List ℕ
-answer_text book (Floor x z) = floors_text book.published (floors_at x z (published_layers book))
-answer_text book (Path from from_y to to_y) = []
-answer_text book (Ray from from_y to) = []
+-- what may be written after a question: the answer, with the length that it was asked at; ways and rays are not built yet
+abbrev pub IsAnswered : BookState → Question → List ℕ → Type 0
+IsAnswered book (Floor x z) text = text ≡ floors_text book.published (floors_at x z (published_layers book))
+IsAnswered book (Path from from_y to to_y) text = text ≡ []
+IsAnswered book (Ray from from_y to) text = text ≡ []
 
--- what is written after a line
-abbrev pub said : PlayState → Line → List ℕ
-said state (Lane lane) = []
-said state (Ask question) = answer_text state.book question
-said state (Add shape) = request_text state.book (requests.Add shape)
-said state (Remove number) = request_text state.book (requests.Remove number)
-said state (Undo j) = request_text state.book (drop_request state j)
-said state Settle = step_text (Settled (length state.book.history))
-said state Aim = []
-said state (Claim worker) = []
-said state (Back worker) = []
-said state (Submit worker) = []
-said state Publish = []
+-- what may be written after a line; only questions leave a choice
+abbrev pub IsSaid : PlayState → Line → List ℕ → Type 0
+IsSaid state (Lane lane) text = text ≡ []
+IsSaid state (Ask question) text = IsAnswered state.book question text
+IsSaid state (Add shape) text = text ≡ request_text state.book (requests.Add shape)
+IsSaid state (Remove number) text = text ≡ request_text state.book (requests.Remove number)
+IsSaid state (Undo j) text = text ≡ request_text state.book (drop_request state j)
+IsSaid state Settle text = text ≡ step_text (Settled (length state.book.history))
+IsSaid state Aim text = text ≡ []
+IsSaid state (Claim worker) text = text ≡ []
+IsSaid state (Back worker) text = text ≡ []
+IsSaid state (Submit worker) text = text ≡ []
+IsSaid state Publish text = text ≡ []
 
 -- the state after a line
 abbrev pub state_after : PlayState → Line → PlayState
@@ -106,11 +106,25 @@ state_after state (Back worker) = state
 state_after state (Submit worker) = state
 state_after state Publish = state
 
--- what the lines that are left write, one after another, and then the published length and the length of the history
-unfoldable pub text_from : PlayState → List Line → List ℕ
-text_from state [] = done_text state.book.published (length state.book.history)
-text_from state (line ∷ lines) = said state line ++ text_from (state_after state line) lines
+-- a text is one that fits, and behind it another that fits
+pub record IsJoined (Front Back : List ℕ → Type 0) (text : List ℕ) : Type 0 where
+  pub said : List ℕ
+  pub rest : List ℕ
+  pub parts : text ≡ said ++ rest
+  pub said_fits : Front said
+  pub rest_fits : Back rest
 
--- the play text of a script over a field
-abbrev pub play_text : Setting → Field → Script → List ℕ
-play_text setting field script = text_from (first_state (ground_of setting field) script.lanes) script.lines
+-- behind what was written before stands one text more, and that fits
+pub record AddsSome (Fits : List ℕ → Type 0) (before after : List ℕ) : Type 0 where
+  pub said : List ℕ
+  pub written : after ≡ before ++ said
+  pub fits : Fits said
+
+-- what the lines that are left may write, one after another, and then the published length and the length of the history
+unfoldable pub IsTextFrom : PlayState → List Line → List ℕ → Type 0
+IsTextFrom state [] text = text ≡ done_text state.book.published (length state.book.history)
+IsTextFrom state (line ∷ lines) text = IsJoined (IsSaid state line) (IsTextFrom (state_after state line) lines) text
+
+-- what a play of a script over a field may write
+abbrev pub IsPlayText : Setting → Field → Script → List ℕ → Type 0
+IsPlayText setting field script text = IsTextFrom (first_state (ground_of setting field) script.lanes) script.lines text

@@ -3,7 +3,7 @@
 ghost use Rattle.std.specs.Prelude.{◌≡◌, ◌<◌, ◌++◌, IfOk, OnOk, OnErr, IsTrue, length};
 ghost use Rattle.nav_ground.specs.History.{IsRequest};
 ghost use Rattle.nav_play.specs.Built.{is_built_line, is_built_question};
-ghost use Rattle.nav_play.specs.PlayRecord.{PlayState, said, state_after, answer_text, request_text, requested, number_got, number_added};
+ghost use Rattle.nav_play.specs.PlayRecord.{PlayState, AddsSome, IsSaid, IsAnswered, state_after, request_text, requested, number_got, number_added};
 ghost use Rattle.nav_play.specs.Players.{player_state, IsPlayable};
 
 use crate::lanes::Lanes;
@@ -29,7 +29,7 @@ impl Player {
         requires built { IsTrue (is_built_line line.now) }
         requires playable { IsPlayable (length self.old.adds) line.now }
         requires lane { self.old.lane < length self.old.adds }
-        ensures text { OnOk result (self.new.text.items ≡ self.old.text.items ++ said (player_state self.old) line.now) }
+        ensures text { OnOk result (AddsSome (IsSaid (player_state self.old) line.now) self.old.text.items self.new.text.items) }
         ensures state { OnOk result (player_state self.new ≡ state_after (player_state self.old) line.now) }
         ensures lane { OnOk result (self.new.lane < length self.new.adds) }
         ensures lanes { OnOk result (length self.new.adds ≡ length self.old.adds) }
@@ -65,7 +65,7 @@ impl Player {
     /// Answers a question from the published cells.
     fn ask(&mut self, alloc: Global, question: &Question) -> Result<(), AllocError>
         requires { IsTrue (is_built_question question.now) }
-        ensures text { OnOk result (self.new.text.items ≡ self.old.text.items ++ answer_text self.old.book question.now) }
+        ensures text { OnOk result (AddsSome (IsAnswered self.old.book question.now) self.old.text.items self.new.text.items) }
         ensures state { player_state self.new ≡ player_state self.old }
     {
         match *question {

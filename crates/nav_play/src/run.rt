@@ -5,7 +5,7 @@ ghost use Rattle.nav_ground.specs.Limits.{IsSetting};
 ghost use Rattle.nav_ground.specs.Fields.{IsField};
 ghost use Rattle.nav_ground.specs.Grounds.{IsSized};
 ghost use Rattle.nav_play.specs.Built.{IsBuilt};
-ghost use Rattle.nav_play.specs.PlayRecord.{play_text};
+ghost use Rattle.nav_play.specs.PlayRecord.{IsPlayText};
 ghost use Rattle.nav_script.specs.Limits.{IsScript};
 ghost use Rattle.nav_script.specs.declared.script.Way.TheVariants.{Play};
 
@@ -44,7 +44,7 @@ pub fn play<R: Wait, L: Ledger>(
     requires sized { IsSized setting field }
     requires script { IsScript Play script.now }
     requires built { IsBuilt setting script.now }
-    ensures text { IfOk result (λ text. text.bytes.items ≡ play_text setting field script.now) }
+    ensures text { IfOk result (λ text. IsPlayText setting field script.now text.bytes.items) }
     ensures steps { steps.new ≡ steps.old }
 {
     let ground = Arc::new(alloc, ground(alloc, setting, field)?)?;

@@ -39,7 +39,7 @@ pub ended_well : (held_before held_after : Option (List ℕ)) (faults_before fau
 ended_well held_before held_after faults_before faults_after text due status ended calm =
     elim ended [ inl whole ↦ whole.0 | inr part ↦ absurd (calm part.1) ]
 
--- the play text of what was read is due
+-- a play text of what was read is due
 pub play_due : (before after : Option (List ℕ)) (input bytes written text : List ℕ) → GivesAll before after input → length input ≤ input_limit
     → bytes ≡ input → written ≡ text → IsPlayed bytes text → IsPlayDue before after written
 play_due before after input bytes written text gave short same as_text played =

@@ -12,7 +12,7 @@ pub record TellsFault (bytes text : List ℕ) : Type 0 where
   pub wrong : IsFault bytes fault
   pub told : text ≡ fault_text fault
 
--- the answer is right: a play text is that of the input, and a fault line tells a fault of it
+-- the answer is right: a play text is one of the input, and a fault line tells a fault of it
 abbrev pub IsRight : List ℕ → Answer → Type 0
 IsRight bytes (Played text) = IsPlayed bytes text.items
 IsRight bytes (Fault text) = TellsFault bytes text.items

@@ -1,11 +1,11 @@
--- Inputs: a field text and a script text behind it, what their play writes, and what is wrong with a text that is no input.
+-- Inputs: a field text and a script text behind it, what their play may write, and what is wrong with a text that is no input.
 use Rattle.std.specs.Prelude.{◌≡◌, ℕ, ◌+◌, ◌++◌, ◌⊎◌, List, length}
 use Rattle.nav_ground.specs.declared.setting.Setting.{Setting}
 use Rattle.nav_ground.specs.declared.field.Field.{Field}
 use Rattle.nav_ground.specs.Limits.{IsSetting}
 use Rattle.nav_ground.specs.Fields.{IsField}
 use Rattle.nav_play.specs.Built.{IsBuilt}
-use Rattle.nav_play.specs.PlayRecord.{play_text}
+use Rattle.nav_play.specs.PlayRecord.{IsPlayText}
 use Rattle.nav_script.specs.declared.script.Script.{Script}
 use Rattle.nav_script.specs.declared.script.Way.TheVariants.{Play}
 use Rattle.nav_script.specs.Limits.{IsScriptText}
@@ -42,14 +42,14 @@ pub record IsPlay (input : List ℕ) : Type 0 where
   pub there : IsInput input setting field script
   pub built : IsBuilt setting script
 
--- the text is what the play of the input writes
+-- a play text of the input: one that its play may write
 pub record IsPlayed (input text : List ℕ) : Type 0 where
   pub setting : Setting
   pub field : Field
   pub script : Script
   pub there : IsInput input setting field script
   pub built : IsBuilt setting script
-  pub text_is : text ≡ play_text setting field script
+  pub written : IsPlayText setting field script text
 
 -- the input does not begin with a field text: the fault is that of its first line that fails
 abbrev pub IsFieldFault : List ℕ → TextFault → Type 0

@@ -8,7 +8,7 @@ use Rattle.nav_text.specs.declared.fault.TextFault.{TextFault}
 use Rattle.navd.specs.Inputs.{IsPlayed, IsFault, input_limit}
 use Rattle.navd.specs.Words.{IsForm}
 
--- the whole input was read, and this text is its play text
+-- the whole input was read, and this text is a play text of it
 pub record IsPlayDue (before after : Option (List ℕ)) (text : List ℕ) : Type 0 where
   pub input : List ℕ
   pub read : GivesAll before after input
@@ -25,7 +25,7 @@ pub record IsFaultDue (before after : Option (List ℕ)) (text : List ℕ) : Typ
   pub told : text ≡ fault_text fault
 
 -- the text is what the run owed its sink: after words in no form the usage line, with nothing read; after words in a form the line that says
--- that too many bytes were read, or the play text or the fault of the whole input
+-- that too many bytes were read, or a play text or the fault of the whole input
 abbrev pub IsDue : List (String Global) → Option (List ℕ) → Option (List ℕ) → List ℕ → Type 0
 IsDue words before after text =
     ((¬ IsForm words) × (after ≡ before) × (text ≡ usage_text))

@@ -1,4 +1,4 @@
-//! The answer to an input: its play text, or the line of its fault.
+//! The answer to an input: a play text of it, or the line of its fault.
 
 ghost use Rattle.std.specs.Prelude.{◌≡◌, ◌≤◌, length};
 ghost use Rattle.navd.specs.Inputs.{IsPlay, input_limit};
@@ -16,7 +16,7 @@ use std::sync::ledger::Ledger;
 /// What an input is answered with.
 #[derive(Drop)]
 pub(crate) enum Answer {
-    /// Its play text.
+    /// A play text of it.
     Played(Vec<u8>),
     /// The line of its fault.
     Fault(Vec<u8>),

@@ -24,7 +24,7 @@ const MOST: usize = 67108864;
 
 /// Runs the program on the words behind its name: reads the whole input from the source and writes one text to the sink.
 ///
-/// For the word `play` the text is the play text of the input: for each line of its script in order what the history and the published
+/// For the word `play` the text is a play text of the input: for each line of its script in order what the history and the published
 /// cells answer, then how far the play came. A text that is no input, or that asks for what is not built yet, is told by the line of its fault.
 /// The text is made whole before its first byte is written. Refusals go in the order Usage, ReadFault, TooLong, BadText;
 /// WriteFault comes in place of any status whose text could not be written, and OutOfMemory only before the first write.

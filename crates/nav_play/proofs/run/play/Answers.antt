@@ -1,6 +1,10 @@
-use Rattle.std.proofs.Common.{arith}
-use Rattle.nav_play.proofs.Runs.{line_playable, one_line, no_line}
+use Rattle.std.proofs.Common.{arith, rules}
+use Rattle.std.proofs.lemmas.Grind.{common_steps}
+use Rattle.nav_play.proofs.Runs.{line_playable, before_lines, one_line, no_line}
 use Rattle.nav_play.proofs.run.play.Goals as goal
+
+pub loop-line-init : goal.loop-line-init
+loop-line-init g c = before_lines _ _ _ _ _ (first_of (search rules, cc, grind (arith, common_steps))) (search rules) (first_of (search rules, grind (arith, common_steps))) (first_of (search rules, grind (arith, common_steps)))
 
 pub step-requires-clause-playable : goal.step-requires-clause-playable
 step-requires-clause-playable g c =
