@@ -67,6 +67,7 @@ pub(crate) fn link_at(mesh: &Mesh, step: Step) -> Link
 }
 
 /// A mesh that is searched for walks to a goal.
+#[derive(Clone, Copy)]
 pub(crate) struct MeshGraph<'a> {
     pub(crate) mesh: &'a Mesh,
     /// The middle of the goal's polygon, in sixteenths of a cell.

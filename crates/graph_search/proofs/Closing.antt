@@ -13,7 +13,7 @@ use Rattle.graph_search.specs.Walks.{arc_of}
 use Rattle.graph_search.specs.Visited.{IsSeen, IsClosed, IsWritten}
 use Rattle.graph_search.specs.Entries.{entry}
 use Rattle.graph_search.specs.Searching.{IsStepTo, IsTree, IsEntry, IsKnown, IsClosing, IsRelaxed, AreRelaxed, AllRelaxed, AreBeingRelaxed, closed_as, sum_open}
-use Rattle.graph_search.proofs.Members.{contains_cases, sum_falls}
+use Rattle.graph_search.proofs.Members.{contains_cases, sum_falls, counted, not_counted}
 use Rattle.graph_search.proofs.Writing.{written_or_kept}
 
 abbrev Entry : Type 0
@@ -200,14 +200,6 @@ module _ (vertices : List Vertex) (estimate : Vertex → ℕ) (at : Vertex → V
           sum_falls (λ v. if (at v).rank == 0 then count v else 0) (λ v. if (at' v).rank == 0 then count v else 0) (count vertex) vertices vertex
           no_more_open one_less (known.there vertex first_seen)
         where
-          counted : (n k : ℕ) → n ≡ 0 → (if n == 0 then k else 0) ≡ k
-          counted zero k is = refl
-          counted (suc n) k is = absurd (omega (arith, is))
-
-          not_counted : (n k : ℕ) → 0 < n → (if n == 0 then k else 0) ≡ 0
-          not_counted zero k some = absurd (omega (arith, some))
-          not_counted (suc n) k some = refl
-
           one_less : (if (at' vertex).rank == 0 then count vertex else 0) + count vertex ≤ (if (at vertex).rank == 0 then count vertex else 0)
           one_less =
               let before = counted (at vertex).rank (count vertex) unclosed in

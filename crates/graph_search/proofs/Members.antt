@@ -1,7 +1,8 @@
 -- Elements of lists, and sums over them.
 use Rattle.std.proofs.Common.{◌≡◌, ◌≢◌, ℕ, zero, suc, ◌+◌, ◌*◌, ◌<◌, ◌≤◌, ◌⊎◌, List, [], ◌∷◌, length, refl, sym, subst, inl, inr, arith}
-use Rattle.std.specs.Prelude.{Contains, slice_index_or, All}
+use Rattle.std.specs.Prelude.{Contains, slice_index_or, ◌==◌, if◌then◌else◌}
 use Rattle.std.specs.List.{sum_by}
+use Rattle.std.proofs.lemmas.Bool.{cond-true, cond-false, eq-eqb, ne_eqb}
 use Rattle.std.proofs.lemmas.List.Sums.{sum_by-cons}
 
 -- an element of a list is its first or one of the others
@@ -40,3 +41,10 @@ sum_falls {X = X} f g d (y ∷ ys) x no_more less held =
           let rest = sum_falls f g d ys x no_more less later in
           omega (arith, sum_by-cons f y ys, sum_by-cons g y ys, no_more y, rest)
     ]
+
+-- what is counted where a number is 0
+pub counted : (n k : ℕ) → n ≡ 0 → (if n == 0 then k else 0) ≡ k
+counted n k is = cond-true (n == 0) k 0 (eq-eqb n 0 is)
+
+pub not_counted : (n k : ℕ) → 0 < n → (if n == 0 then k else 0) ≡ 0
+not_counted n k some = cond-false (n == 0) k 0 (ne_eqb n 0 (λ is. omega (arith, is, some)))

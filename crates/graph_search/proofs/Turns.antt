@@ -1,5 +1,5 @@
 -- The turns of a search, whole.
-use Rattle.std.proofs.Common.{◌≡◌, ◌≢◌, ℕ, ◌+◌, ◌-◌, ◌*◌, ◌^◌, ◌<◌, ◌≤◌, ◌⊎◌, List, [], ◌∷◌, length, get_or, zero, suc, refl, sym, subst, ap, ◌∙◌, inl, inr, arith}
+use Rattle.std.proofs.Common.{◌≡◌, ◌≢◌, ℕ, ◌+◌, ◌-◌, ◌*◌, ◌^◌, ◌<◌, ◌≤◌, ◌⊎◌, List, [], ◌∷◌, length, get_or, refl, sym, subst, ap, ◌∙◌, inl, inr, arith}
 use Rattle.std.specs.Prelude.{Contains, All, ◌==◌, if◌then◌else◌}
 use Rattle.std.specs.List.Sorted.{IsPermutation}
 use Rattle.std.specs.declared.cmp.Reverse.{Reverse}
@@ -18,7 +18,7 @@ use Rattle.graph_search.specs.Walks.{Walks, cost_of, IsCheapest, IsApart, IsSear
 use Rattle.graph_search.specs.Visited.{IsSeen, IsClosed, IsWritten}
 use Rattle.graph_search.specs.Entries.{entry}
 use Rattle.graph_search.specs.Searching.{IsTree, IsEntry, IsKnown, IsClosing, IsRelaxed, AreRelaxed, AllRelaxed, AreBeingRelaxed, KeepsRanks, IsBegun, IsWalkTo, closed_as, sum_open}
-use Rattle.graph_search.proofs.Members.{contains_first, sum_falls}
+use Rattle.graph_search.proofs.Members.{contains_first, sum_falls, counted, not_counted}
 use Rattle.graph_search.proofs.Closing.{first_seen, first_key, known-closed, closing, tree-closed, relaxing, sum_open-closed, known-dropped}
 use Rattle.graph_search.proofs.Relaxing.{sum_open-kept}
 use Rattle.graph_search.proofs.Stopping.{none_cheaper, none_apart}
@@ -39,14 +39,17 @@ pub record IsBetween (vertices : List Vertex) (arcs : Vertex → List Arc) (esti
 abbrev pub work : List Vertex → (Vertex → List Arc) → (Vertex → Visit) → List Entry → ℕ
 work vertices arcs at waiting = length waiting + sum_open (λ v. length (arcs v)) at vertices
 
--- a number that is not counted is counted as 0, and none as more than 1
+-- no number is counted as more than 1
 one : (n : ℕ) → (if n == 0 then 1 else 0) ≤ 1
-one zero = omega arith
-one (suc n) = omega arith
-
-one_open : (n : ℕ) → n ≡ 0 → (if n == 0 then 1 else 0) ≡ 1
-one_open zero is = refl
-one_open (suc n) is = absurd (omega (arith, is))
+one n =
+    elim (cases_eq n 0) [
+      | inl is ↦
+          let all = counted n 1 is in
+          omega (arith, all)
+      | inr some ↦
+          let none = not_counted n 1 (omega (arith, some)) in
+          omega (arith, none)
+    ]
 
 -- at the beginning
 pub between-begun : (vertices : List Vertex) (arcs : Vertex → List Arc) (estimate : Vertex → ℕ) (heaviest : ℕ) (start to : Vertex) (at : Vertex → Visit)
@@ -125,7 +128,7 @@ module _ (vertices : List Vertex) (arcs : Vertex → List Arc) (estimate : Verte
       -- there are more vertices than were closed
       pub closed-fewer : closed + 1 ≤ length vertices
       closed-fewer =
-          let some = sum_falls (λ v. if (at v).rank == 0 then 1 else 0) (λ v. 0) 1 vertices vertex (λ v. omega arith) (omega (arith, one_open (at vertex).rank unclosed)) vertex-member in
+          let some = sum_falls (λ v. if (at v).rank == 0 then 1 else 0) (λ v. 0) 1 vertices vertex (λ v. omega arith) (omega (arith, counted (at vertex).rank 1 unclosed)) vertex-member in
           omega (arith, some, between.few)
 
       -- where the vertex is the goal, its cost is that of the cheapest walks
