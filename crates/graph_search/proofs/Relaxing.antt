@@ -359,7 +359,7 @@ module _ (vertices : List Vertex) (arcs : Vertex → List Arc) (estimate : Verte
       own-better : Better (at vertex).cost (arc_of arcs own_step)
       own-better better written waits =
           let ranks' = ranks-kept vertices arcs estimate heaviest searchable vertex member place below-listed at (closed * heaviest) following.closing limit-fits
-              waiting waiting' closed following.known better at' written waits in
+          waiting waiting' closed following.known better at' written waits in
           let longer = length_permutation _ _ waits in
           record {
             known = known-better vertices arcs estimate heaviest searchable vertex member place below-listed at (closed * heaviest) following.closing limit-fits

@@ -1,6 +1,6 @@
 -- The turns of a search, whole.
 use Rattle.std.proofs.Common.{◌≡◌, ◌≢◌, ℕ, ◌+◌, ◌-◌, ◌*◌, ◌^◌, ◌<◌, ◌≤◌, ◌⊎◌, List, [], ◌∷◌, length, get_or, refl, sym, subst, ap, ◌∙◌, inl, inr, arith}
-use Rattle.std.specs.Prelude.{Contains, All, ◌==◌, if◌then◌else◌}
+use Rattle.std.specs.Prelude.{Contains, All, ◌==◌, if◌then◌else◌, Option, Some, None, IfNone}
 use Rattle.std.specs.List.Sorted.{IsPermutation}
 use Rattle.std.specs.declared.cmp.Reverse.{Reverse}
 use Rattle.std.proofs.lemmas.Nat.{mul-le}
@@ -25,6 +25,11 @@ use Rattle.graph_search.proofs.Stopping.{none_cheaper, none_apart}
 
 abbrev Entry : Type 0
 Entry = Reverse (ℕ × Vertex)
+
+-- where an option is no `Some`, what holds of `None` holds
+pub none_left : {X : Type 0} (found : Option X) (P : Type 0) → ((x : X) → found ≡ Some x → ⊥) → IfNone found P → P
+none_left None P no_some held = held
+none_left (Some x) P no_some held = absurd (no_some x refl)
 
 -- what holds between two turns: the tree, what is known, the goal is not closed, and no more vertices are closed than there are
 pub record IsBetween (vertices : List Vertex) (arcs : Vertex → List Arc) (estimate : Vertex → ℕ) (heaviest : ℕ) (start to : Vertex)

@@ -20,7 +20,7 @@ estimate-requires-clause-there g c =
 pub overflow_add-key : goal.overflow_add-key
 overflow_add-key g c =
     let fits = key-fits _ _ _ _ c.requires.searchable c.args.from c.requires.there c.args.self.now.closed c.requires.few c.args.arcs.now c.requires.arcs c.loop-place.place
-        c.loop-place-test.true _ _ _ _ c.get-cost.result.cost (ap (λ (u : Visit). u.cost) c.get-cost.ensures) c.loop-place.invariant.following in
+    c.loop-place-test.true _ _ _ _ c.get-cost.result.cost (ap (λ (u : Visit). u.cost) c.get-cost.ensures) c.loop-place.invariant.following in
     omega (arith, fits, c.estimate.ensures)
 
 pub loop-place-preserved : goal.loop-place-preserved
