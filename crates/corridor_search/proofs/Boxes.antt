@@ -1,11 +1,13 @@
 -- The box of a polygon: its corners lie in it, so do the ends of the portals on its edges, and its middle is not far from them.
-use Rattle.std.proofs.Common.{◌≡◌, ℕ, zero, suc, ◌<◌, ◌≤◌, ◌+◌, ◌*◌, ℤ, pos, negsuc, ◌+ℤ◌, ◌-ℤ◌, ◌*ℤ◌, ◌≤ℤ◌, ◌<ℤ◌, Bool, true, false, cond, List, [], ◌∷◌, ◌++◌, length, map, get_or, refl, sym, subst, ap, ◌∙◌, inl, inr, arith, tests}
+use Rattle.std.proofs.Common.{◌≡◌, ℕ, zero, suc, ◌<◌, ◌≤◌, ◌+◌, ◌*◌, ℤ, pos, negsuc, ◌+ℤ◌, ◌-ℤ◌, ◌*ℤ◌, ◌≤ℤ◌, ◌<ℤ◌, Bool, true, false, cond, List, [], ◌∷◌, ◌++◌, length, map, take, get_or, refl, sym, subst, ap, ◌∙◌, inl, inr, arith, tests}
 use Rattle.std.specs.Prelude.{All, int_lt}
 use Rattle.std.specs.List.{fold}
 use Rattle.std.specs.Int.{int_min, int_max}
 use Rattle.std.proofs.lemmas.Int.{ints, clamps}
-use Rattle.std.proofs.lemmas.List.{get_or-map, length-map}
+use Rattle.std.proofs.lemmas.List.{get_or-map, length-map, map_more}
+use Rattle.std.proofs.lemmas.List.Sums.{fold_push}
 use Rattle.std.proofs.lemmas.List.Elements.{All-map}
+use lib.IntN.{*ℤ_comm, *ℤ-zero}
 use Rattle.nav_base.specs.declared.point.Point.{Point}
 use Rattle.nav_base.specs.Point.{from_to, dot_of, cross_of, orient_of}
 use Rattle.nav_base.specs.Convex.{corner_at, place_after}
@@ -46,6 +48,15 @@ greatest_bound k first [] high each = high
 greatest_bound k first (x ∷ xs) high each =
     let here : x ≤ℤ k = each 0 x (omega arith) in
     greatest_bound k (int_max first x) xs (omega (arith, ints, clamps)) (λ i d there. each (suc i) d (omega (arith, there)))
+
+-- one number more
+pub least-more : (c : Point → ℤ) (corners : List Point) (i : ℕ) (d : Point) (first : ℤ) → i < length corners
+    → least_of first (map c (take (i + 1) corners)) ≡ int_min (least_of first (map c (take i corners))) (c (get_or corners i d))
+least-more c corners i d first there = ap (least_of first) (map_more c corners i d there) ∙ fold_push int_min first (map c (take i corners)) (c (get_or corners i d))
+
+pub greatest-more : (c : Point → ℤ) (corners : List Point) (i : ℕ) (d : Point) (first : ℤ) → i < length corners
+    → greatest_of first (map c (take (i + 1) corners)) ≡ int_max (greatest_of first (map c (take i corners))) (c (get_or corners i d))
+greatest-more c corners i d first there = ap (greatest_of first) (map_more c corners i d there) ∙ fold_push int_max first (map c (take i corners)) (c (get_or corners i d))
 
 -- along one axis: the least and the greatest coordinate of corners
 module _ (c : Point → ℤ) (corners : List Point) where
@@ -144,7 +155,7 @@ mean_z u v p k =
 module _ (e d d' o y a b c k : ℤ) (long : pos 0 <ℤ e) (after : pos 0 ≤ℤ d) (before : pos 0 ≤ℤ d') (line : o ≡ pos 0)
     (mean : e *ℤ (c -ℤ k) ≡ d *ℤ (a -ℤ k) +ℤ d' *ℤ (b -ℤ k) +ℤ o *ℤ y) where
   none : o *ℤ y ≡ pos 0
-  none = ap (λ (n : ℤ). n *ℤ y) line
+  none = ap (λ (n : ℤ). n *ℤ y) line ∙ *ℤ_comm (pos 0) y ∙ *ℤ-zero y
 
   mean-above : k ≤ℤ a → k ≤ℤ b → k ≤ℤ c
   mean-above ha hb =
@@ -154,7 +165,7 @@ module _ (e d d' o y a b c k : ℤ) (long : pos 0 <ℤ e) (after : pos 0 ≤ℤ 
       apart c whole
     where
       joined : (n p q r : ℤ) → n ≡ p +ℤ q +ℤ r → r ≡ pos 0 → pos 0 ≤ℤ p → pos 0 ≤ℤ q → pos 0 ≤ℤ n
-      joined n p q r is zero hp hq = omega (arith, ints)
+      joined n p q r is nothing hp hq = omega (arith, ints)
 
       apart : (c : ℤ) → pos 0 ≤ℤ (c -ℤ k) → k ≤ℤ c
       apart c h = omega (arith, ints)
@@ -167,7 +178,7 @@ module _ (e d d' o y a b c k : ℤ) (long : pos 0 <ℤ e) (after : pos 0 ≤ℤ 
       apart c whole
     where
       joined : (n p q r : ℤ) → n ≡ p +ℤ q +ℤ r → r ≡ pos 0 → p ≤ℤ pos 0 → q ≤ℤ pos 0 → n ≤ℤ pos 0
-      joined n p q r is zero hp hq = omega (arith, ints)
+      joined n p q r is nothing hp hq = omega (arith, ints)
 
       apart : (c : ℤ) → (c -ℤ k) ≤ℤ pos 0 → c ≤ℤ k
       apart c h = omega (arith, ints)

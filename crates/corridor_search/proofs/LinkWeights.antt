@@ -15,7 +15,7 @@ use Rattle.nav_base.specs.Deviation.{square_of}
 use Rattle.nav_base.specs.Root.{ceil_sqrt_of}
 use Rattle.nav_base.proofs.RootLaws.{ceil_sqrt_of-at_most}
 use Rattle.nav_base.proofs.Sizes.{dot_of-bound}
-use Rattle.nav_base.proofs.LengthLaws.{ceil_sqrt_of-from_to}
+use Rattle.nav_base.proofs.LengthLaws.{ceil_sqrt_of-from_to, square-absolute}
 use Rattle.nav_base.proofs.ConvexLaws.{place_after-in}
 use Rattle.nav_ground.specs.declared.setting.Setting.{Setting}
 use Rattle.nav_ground.specs.Limits.{IsSetting, IsArea, is_cost}
@@ -190,3 +190,8 @@ module _ (mesh : Mesh) (link : Link) (sound : IsSound mesh) (setting : IsSetting
       let whole = mul-le (max 1 length) 1 (max 1 length) (slice_index mesh.setting.costs through.enters.area) (omega arith) cost in
       let same = weight-is mesh link through.leaves through.enters through.is_left through.is_entered in
       omega (arith, from, to, way, whole, same)
+
+-- the square of a vector's length, by its parts
+pub square_of-parts : (v : Point) → square_of v ≡ unsigned_abs v.x * unsigned_abs v.x + unsigned_abs v.z * unsigned_abs v.z
+unfolding dot_of
+square_of-parts v = ap unsigned_abs (λ i. square-absolute v.x i +ℤ square-absolute v.z i)

@@ -15,13 +15,13 @@ kept_passes p xs x held = All-contains (λ y. p y ≡ true) (filter p xs) x (fil
 -- an element that passes is kept
 pub kept_if_passes : {X : Type 0} (p : X → Bool) (xs : List X) (x : X) → p x ≡ true → Contains xs x → Contains (filter p xs) x
 kept_if_passes p [] x passes held = absurd (contains_none x held)
-kept_if_passes {X = X} p (y ∷ ys) x passes held = by_test (p y) refl (contains_cases y x ys held)
+kept_if_passes {X = X} p (y ∷ ys) x passes held = by_test (p y) refl (contains_cases y x ys held) (kept_if_passes p ys x passes)
   where
-    by_test : (b : Bool) → p y ≡ b → ((y ≡ x) ⊎ Contains ys x) → Contains (cond b (y ∷ filter p ys) (filter p ys)) x
-    by_test true is (inl same) = subst (λ (z : X). Contains (z ∷ filter p ys) x) (sym same) (contains_first x (filter p ys))
-    by_test true is (inr later) = contains_later y x (filter p ys) (kept_if_passes p ys x passes later)
-    by_test false is (inl same) = absurd (both_ways (p y) is (ap p same ∙ passes))
-    by_test false is (inr later) = kept_if_passes p ys x passes later
+    by_test : (b : Bool) → p y ≡ b → ((y ≡ x) ⊎ Contains ys x) → (Contains ys x → Contains (filter p ys) x) → Contains (cond b (y ∷ filter p ys) (filter p ys)) x
+    by_test true is (inl same) rest = subst (λ (z : X). Contains (z ∷ filter p ys) x) (sym same) (contains_first x (filter p ys))
+    by_test true is (inr later) rest = contains_later y x (filter p ys) (rest later)
+    by_test false is (inl same) rest = absurd (both_ways (p y) is (ap p same ∙ passes))
+    by_test false is (inr later) rest = rest later
 
 -- functions that agree at each element make one list
 pub map_agree : {X Y : Type 0} (f g : X → Y) (xs : List X) → All (λ x. f x ≡ g x) xs → map f xs ≡ map g xs

@@ -8,9 +8,9 @@ ghost use Rattle.graph_search.specs.declared.arcs.Step.{Step};
 ghost use Rattle.corridor_search.specs.MeshGraphs.{IsThere, IsApart, IsOver, link_of};
 
 use crate::mesh_graph::{MeshGraph, link_at, vertex_at};
-use crate::weights::centre;
+use crate::weights::{centre, polygon_at};
 use graph_search::{Step, cheapest_walk};
-use mesh_types::{Corridor, Link, Mesh, PolyRef, poly};
+use mesh_types::{Corridor, Link, Mesh, PolyRef};
 use nav_list::Items;
 use std::alloc::{AllocError, Global};
 
@@ -30,7 +30,7 @@ pub fn cheapest(
     ensures none { IfOk result (λ answer. IfNone answer (IsApart mesh.now from to)) }
     ensures few { IfOk result (λ answer. IfSome answer (λ corridor. corridor.cost < 2 ^ 45)) }
 {
-    let goal = centre(poly(mesh, to).unwrap());
+    let goal = centre(polygon_at(mesh, to));
     let graph = MeshGraph { mesh, goal };
     match cheapest_walk(alloc, &graph, vertex_at(from), vertex_at(to))? {
         Some(walk) => {

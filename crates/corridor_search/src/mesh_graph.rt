@@ -6,9 +6,9 @@ ghost use Rattle.mesh_types.specs.declared.links.Link.{Link};
 ghost use Rattle.mesh_types.specs.Soundness.{IsSound};
 ghost use Rattle.corridor_search.specs.MeshGraphs.{vertex_of, polygon_of, IsThere, IsInField, inner_links, outer_links, links_from, link_of, arc_by};
 
-use crate::weights::{centre, distance, weight};
+use crate::weights::{centre, distance, polygon_at, weight};
 use graph_search::{Arc, Graph, Step, Vertex};
-use mesh_types::{Link, Mesh, PolyRef, poly};
+use mesh_types::{Link, Mesh, PolyRef};
 use nav_base::Point;
 use std::alloc::AllocError;
 
@@ -23,7 +23,7 @@ pub(crate) fn vertex_at(at: PolyRef) -> Vertex
 }
 
 /// The polygon of a vertex.
-fn polygon_at(vertex: Vertex) -> PolyRef
+fn reference(vertex: Vertex) -> PolyRef
     ensures { result ≡ polygon_of vertex }
 {
     PolyRef {
@@ -57,7 +57,7 @@ pub(crate) fn link_at(mesh: &Mesh, step: Step) -> Link
     requires { step.place < length (links_from mesh.now (polygon_of step.from)) }
     ensures { result ≡ link_of mesh.now step }
 {
-    let at = polygon_at(step.from);
+    let at = reference(step.from);
     let inside = inner(mesh, at);
     if step.place < inside.len() {
         inside[step.place]
@@ -88,14 +88,14 @@ impl Graph for MeshGraph<'_> {
     ghost heaviest = { λ _. 2897000 };
 
     fn push_arcs(&self, from: Vertex, found: &mut Vec<Arc>) -> Result<(), AllocError> {
-        let at = polygon_at(from);
-        let middle = centre(poly(self.mesh, at).unwrap());
+        let at = reference(from);
+        let middle = centre(polygon_at(self.mesh, at));
         push_over(self.mesh, middle, inner(self.mesh, at), found)?;
         push_over(self.mesh, middle, outer(self.mesh, at), found)
     }
 
     fn estimate(&self, from: Vertex) -> u64 {
-        let middle = centre(poly(self.mesh, polygon_at(from)).unwrap());
+        let middle = centre(polygon_at(self.mesh, reference(from)));
         u64::from(distance(middle, self.goal))
     }
 }
