@@ -7,15 +7,17 @@ use Rattle.std.proofs.lemmas.List.Sums.{sum_by-cons}
 use Rattle.mesh_types.specs.declared.links.PolyRef.{PolyRef}
 use Rattle.mesh_types.specs.declared.links.Link.{Link}
 use Rattle.mesh_types.specs.declared.mesh.Mesh.{Mesh}
-use Rattle.mesh_types.specs.Corridors.{weight_of, WalksTo, cost_of, IsLinkOf}
+use Rattle.mesh_types.specs.declared.corridor.Corridor.{Corridor}
+use Rattle.mesh_types.specs.Corridors.{weight_of, WalksTo, cost_of, IsCheapest}
 use Rattle.mesh_types.specs.Soundness.{IsSound}
 use Rattle.graph_search.specs.declared.arcs.Vertex.{Vertex}
 use Rattle.graph_search.specs.declared.arcs.Arc.{Arc}
 use Rattle.graph_search.specs.declared.arcs.Step.{Step}
+use Rattle.graph_search.specs.declared.arcs.Walk.{Walk}
 use Rattle.graph_search.specs.Walks as graph
 use Rattle.graph_search.specs.Walks.{no_arc, arc_of, Walks}
 use Rattle.graph_search.proofs.Stopping.{cost_of-cons}
-use Rattle.corridor_search.specs.MeshGraphs.{IsOver, vertex_of, polygon_of, links_from, arc_over, arcs_from, no_link, link_of}
+use Rattle.corridor_search.specs.MeshGraphs.{IsOver, IsApart, vertex_of, polygon_of, links_from, arc_over, arcs_from, no_link, link_of}
 use Rattle.corridor_search.proofs.Sound.{IsLeading, leads, leaves-listed}
 
 -- the arc of a step is that of its link
@@ -77,3 +79,23 @@ links-steps mesh (link ∷ links) from to walk =
   where
     at_place : (mesh : Mesh) (link : Link) (held : Contains (links_from mesh link.from) link) → slice_index_or (links_from mesh link.from) held.0 no_link ≡ link
     at_place mesh link held = get_or_default (links_from mesh link.from) held.0 no_link link held.1 ∙ held.2
+
+-- the links of a cheapest walk are a corridor
+pub corridor-cheapest : (mesh : Mesh) (from to : PolyRef) (walk : Walk) (corridor : Corridor) → IsSound mesh
+    → graph.IsCheapest (arcs_from mesh) (vertex_of from) (vertex_of to) walk → corridor.cost ≡ walk.cost → corridor.links ≡ map (link_of mesh) walk.steps.items
+    → IsCheapest mesh from to corridor
+corridor-cheapest mesh from to walk corridor sound found cost links = record {
+  walks = subst (λ (ls : List Link). WalksTo mesh from ls to) (sym links) (links-walk mesh walk.steps.items from to sound found.walks);
+  cost =
+      cost ∙ found.adds_up ∙ links-cost mesh walk.steps.items (vertex_of from) (vertex_of to) found.walks ∙ ap (cost_of mesh) (sym links);
+  least = λ ls other.
+      let steps = links-steps mesh ls from to other in
+      let least = found.least steps.steps steps.walks in
+      omega (arith, cost, least, steps.costs);
+}
+
+-- where no steps join two vertices, no links join their polygons
+pub none-joined : (mesh : Mesh) (from to : PolyRef) → graph.IsApart (arcs_from mesh) (vertex_of from) (vertex_of to) → IsApart mesh from to
+none-joined mesh from to apart links walk =
+    let steps = links-steps mesh links from to walk in
+    apart steps.steps steps.walks

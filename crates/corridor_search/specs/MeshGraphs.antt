@@ -90,6 +90,10 @@ weight_from mesh centre at =
 abbrev pub estimate_from : Mesh → Point → PolyRef → ℕ
 estimate_from mesh goal at = option_map_or (λ (polygon : Polygon). ceil_sqrt_of (square_of (from_to (centre_of polygon.corners) goal))) (poly_at mesh at) 0
 
+-- the same for all vertices
+abbrev pub estimates_of : Mesh → Point → Vertex → ℕ
+estimates_of mesh goal v = estimate_from mesh goal (polygon_of v)
+
 -- a point between the corners (0, 0) and (1024, 1024) of the largest field, in sixteenths
 pub record IsInField (p : Point) : Type 0 where
   pub left : pos 0 ≤ℤ p.x

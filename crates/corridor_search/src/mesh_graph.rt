@@ -75,7 +75,7 @@ pub(crate) struct MeshGraph<'a> {
 }
 
 impl Graph for MeshGraph<'_> {
-    ghost use Rattle.corridor_search.specs.MeshGraphs.{IsSearched, vertices_of, arcs_from, estimate_from, polygon_of};
+    ghost use Rattle.corridor_search.specs.MeshGraphs.{IsSearched, vertices_of, arcs_from, estimates_of};
 
     ghost is_sound = { λ g. IsSearched g.mesh.now g.goal };
 
@@ -83,7 +83,7 @@ impl Graph for MeshGraph<'_> {
 
     ghost arcs = { λ g. arcs_from g.mesh.now };
 
-    ghost estimates = { λ g v. estimate_from g.mesh.now g.goal (polygon_of v) };
+    ghost estimates = { λ g. estimates_of g.mesh.now g.goal };
 
     ghost heaviest = { λ _. 2897000 };
 
