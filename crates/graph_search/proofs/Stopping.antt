@@ -1,5 +1,5 @@
 -- Where a search stops: no walk is cheaper, or there is none.
-use Rattle.std.proofs.Common.{◌≡◌, ◌≢◌, ℕ, zero, suc, ◌+◌, ◌*◌, ◌<◌, ◌≤◌, ◌⊎◌, List, [], ◌∷◌, length, refl, sym, subst, ap, ◌∙◌, inl, inr, arith}
+use Rattle.std.proofs.Common.{◌≡◌, ℕ, ◌+◌, ◌≤◌, List, [], ◌∷◌, sym, subst, ap, inl, inr, arith}
 use Rattle.std.specs.Prelude.{Contains, All}
 use Rattle.std.specs.declared.cmp.Reverse.{Reverse}
 use Rattle.std.proofs.lemmas.Bool.{cases_eq}
@@ -12,7 +12,7 @@ use Rattle.graph_search.specs.declared.visits.Visit.{Visit}
 use Rattle.graph_search.specs.Walks.{no_arc, arc_of, Walks, cost_of, IsApart, IsSearchable}
 use Rattle.graph_search.specs.Visited.{IsSeen, IsClosed}
 use Rattle.graph_search.specs.Entries.{entry}
-use Rattle.graph_search.specs.Searching.{IsKnown, IsRelaxed, AllRelaxed}
+use Rattle.graph_search.specs.Searching.{IsKnown, AllRelaxed}
 use Rattle.graph_search.proofs.Members.{contains_none}
 
 abbrev Entry : Type 0

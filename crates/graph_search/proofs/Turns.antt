@@ -1,5 +1,5 @@
 -- The turns of a search, whole.
-use Rattle.std.proofs.Common.{◌≡◌, ◌≢◌, ℕ, ◌+◌, ◌-◌, ◌*◌, ◌^◌, ◌<◌, ◌≤◌, ◌⊎◌, List, [], ◌∷◌, length, get_or, refl, sym, subst, ap, ◌∙◌, inl, inr, arith}
+use Rattle.std.proofs.Common.{◌≡◌, ◌≢◌, ℕ, ◌+◌, ◌*◌, ◌<◌, ◌≤◌, List, [], ◌∷◌, length, get_or, refl, sym, subst, ap, ◌∙◌, inl, inr, arith}
 use Rattle.std.specs.Prelude.{Contains, All, ◌==◌, if◌then◌else◌, Option, Some, None, IfNone}
 use Rattle.std.specs.List.Sorted.{IsPermutation}
 use Rattle.std.specs.declared.cmp.Reverse.{Reverse}
@@ -17,7 +17,7 @@ use Rattle.graph_search.specs.declared.visits.Visit.{Visit}
 use Rattle.graph_search.specs.Walks.{Walks, cost_of, IsCheapest, IsApart, IsSearchable}
 use Rattle.graph_search.specs.Visited.{IsSeen, IsClosed, IsWritten}
 use Rattle.graph_search.specs.Entries.{entry}
-use Rattle.graph_search.specs.Searching.{IsTree, IsEntry, IsKnown, IsClosing, IsRelaxed, AreRelaxed, AllRelaxed, AreBeingRelaxed, KeepsRanks, IsBegun, IsWalkTo, closed_as, sum_open}
+use Rattle.graph_search.specs.Searching.{IsTree, IsEntry, IsKnown, IsClosing, AllRelaxed, AreBeingRelaxed, KeepsRanks, IsBegun, IsWalkTo, closed_as, sum_open}
 use Rattle.graph_search.proofs.Members.{contains_first, sum_falls, counted, not_counted}
 use Rattle.graph_search.proofs.Closing.{first_seen, first_key, known-closed, closing, tree-closed, relaxing, sum_open-closed, known-dropped}
 use Rattle.graph_search.proofs.Relaxing.{sum_open-kept}

@@ -1,5 +1,5 @@
 -- What is known of the vertices when it was written of one of them.
-use Rattle.std.proofs.Common.{◌≡◌, ◌≢◌, ℕ, ◌⊎◌, true, false, ap, sym, ◌∙◌, inl, inr}
+use Rattle.std.proofs.Common.{◌≡◌, ◌≢◌, ◌⊎◌, true, false, ap, sym, ◌∙◌, inl, inr}
 use Rattle.std.specs.Prelude.{◌==◌, ◌&&◌, not}
 use Rattle.std.proofs.lemmas.Bool.{cases_eq, both_ways, not-true, and_from, and_parts, eq-eqb, eqb-true}
 use Rattle.graph_search.specs.declared.arcs.Vertex.{Vertex}

@@ -1,4 +1,4 @@
-use Rattle.std.proofs.Common.{◌≡◌, ℕ, ◌+◌, ◌*◌, ◌<◌, ◌≤◌, ◌∷◌, ◌++◌, ◌∙◌, List, arith, sym, ap, subst, length}
+use Rattle.std.proofs.Common.{◌≡◌, ℕ, ◌+◌, ◌*◌, ◌≤◌, ◌++◌, ◌∙◌, List, arith, sym, ap, subst, length}
 use Rattle.std.specs.BinaryHeap.{heap_items}
 use Rattle.graph_search.specs.declared.arcs.Arc.{Arc}
 use Rattle.graph_search.specs.declared.visits.Visit.{Visit}
