@@ -1,5 +1,4 @@
 use Rattle.std.proofs.Common.{List, ap, ◌∙◌, get_or}
-use Rattle.nav_ground.specs.declared.cell.FreeLayer.{FreeLayer}
 use Rattle.mesh_types.specs.declared.tile.TileMesh.{TileMesh}
 use Rattle.nav_query.proofs.MeshFloors.{floors_found, no_floors_found}
 use Rattle.nav_query.proofs.floors.floors.Goals as goal
