@@ -1,2 +1,4 @@
 mod ColumnParts
 mod MeshFloors
+mod FewLinks
+mod PathParts

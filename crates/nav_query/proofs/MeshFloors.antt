@@ -1,5 +1,5 @@
 -- The floors of a column stand in the free cells of its tile alone.
-use Rattle.std.proofs.Common.{◌≡◌, ℕ, zero, suc, ◌<◌, ◌≤◌, Bool, true, false, List, [], ◌∷◌, ◌++◌, length, map, filter, get_or, ℤ, pos, ◌≤ℤ◌, int_le, refl, sym, ap, ◌∙◌, subst, arith}
+use Rattle.std.proofs.Common.{◌≡◌, ℕ, zero, suc, ◌<◌, Bool, true, false, List, [], ◌∷◌, ◌++◌, length, map, get_or, ℤ, pos, ◌≤ℤ◌, int_le, refl, sym, ap, ◌∙◌, subst, arith}
 use Rattle.std.specs.List.{All, flat_map}
 use Rattle.std.specs.Prelude.{◌==◌}
 use Rattle.std.proofs.lemmas.Int.{ints}
@@ -111,3 +111,18 @@ tile_floors mesh x z tile sound limits inside there is =
     (in_window_is mesh.setting k x z limits inside (omega (arith, below', sound.tiles.each)) ∙ ne_eqb k (tile_at mesh.setting x z) other))
     ∙ ap (λ (free : FreeLayer). map floor_of (column_of x z free.cells))
     (get_or-map (λ (t : TileMesh). t.free) mesh.tiles (tile_at mesh.setting x z) tile tile.free there ∙ ap (λ (t : TileMesh). t.free) (sym is))
+
+-- what was read of a tile of the mesh
+pub floors_found : (mesh : Mesh) (x z t : ℕ) (tile : TileMesh) (cells : List Cell) (before after : List FloorAt) → IsSound mesh → IsSetting mesh.setting
+    → IsInField mesh.setting x z → t ≡ tile_at mesh.setting x z → t < tile_count mesh.setting → tile ≡ get_or mesh.tiles t tile → cells ≡ tile.free.cells
+    → before ≡ [] → after ≡ before ++ map floor_of (column_of x z cells) → after ≡ floors_at x z (free_of mesh.tiles)
+floors_found mesh x z t tile cells before after sound limits inside at there is cells_are none read =
+    read
+    ∙ ap (λ floors. floors ++ map floor_of (column_of x z cells)) none
+    ∙ ap (λ (cs : List Cell). map floor_of (column_of x z cs)) cells_are
+    ∙ sym (tile_floors mesh x z tile sound limits inside (omega (arith, there, at, sound.tiles.each)) (subst (λ n. tile ≡ get_or mesh.tiles n tile) at is))
+
+pub no_floors_found : (mesh : Mesh) (x z : ℕ) (inside : Bool) (after : List FloorAt) → IsSound mesh → IsSetting mesh.setting
+    → (IsInField mesh.setting x z → inside ≡ true) → inside ≡ false → after ≡ [] → after ≡ floors_at x z (free_of mesh.tiles)
+no_floors_found mesh x z inside after sound limits complete outside none =
+    none ∙ sym (no_floors mesh x z sound limits (λ is. both_ways inside outside (complete is)))
