@@ -83,7 +83,7 @@ looked_up entry other place weight is =
     let first = eqb-true (other.first + i) position (and_parts (other.first + i == position) _ at_i).0 in
     let second = eqb-true (other.first + j) position (and_parts (other.first + j == position) _ at_j).0 in
     omega (arith, less, first, second)) in
-    let at : get_or places k 0 ≡ k = get_or-range_with_len 0 (length other.pairs) k 0 is.inside in
+    let at : get_or places k 0 ≡ k = get_or-range_with_len 0 (length other.pairs) k 0 is.inside ∙ omega arith in
     let passes : test k ≡ true =
     and_from (other.first + k == position) _ (eq-eqb (other.first + k) position (omega (arith, is.begins))) (eq-eqb _ level is.level) in
     let this : cond (test (get_or places k 0)) weight 0 ≡ weight = ap (λ n. cond (test n) weight 0) at ∙ ap (λ b. cond b weight 0) passes in
@@ -103,17 +103,14 @@ looked_up_weight p a b side entry other place there = by_run (run_at entry other
     test : ℕ → Bool
     test k = is_at_place (entry.first + place) (pair_of entry place).other (place_of 0 other k)
 
-    nothing : (k : ℕ) → cond (test k) 0 0 ≡ 0
-    nothing k = by_test (test k)
-      where
-        by_test : (b : Bool) → cond b 0 0 ≡ 0
-        by_test true = refl
-        by_test false = refl
+    nothing : (b : Bool) → ◌≡◌ {A = ℕ} (cond b 0 0) 0
+    nothing true = refl
+    nothing false = refl
 
     by_run : (o : Option Run) → run_at entry other place ≡ o
         → sum_by (λ k. cond (test k) (count_by p (map (border_link a b side entry other) (cons_option o []))) 0) (range_with_len 0 (length other.pairs))
         ≡ count_by p (map (border_link a b side entry other) (cons_option o []))
-    by_run None is = sum_by-same (λ k. cond (test k) 0 0) (λ k. 0) (range_with_len 0 (length other.pairs)) nothing ∙ sum_by-zero (range_with_len 0 (length other.pairs))
+    by_run None is = sum_by-same (λ k. cond (test k) 0 0) (λ k. 0) (range_with_len 0 (length other.pairs)) (λ k. nothing (test k)) ∙ sum_by-zero (range_with_len 0 (length other.pairs))
     by_run (Some run) is = looked_up entry other place _ (begun_met entry other place run there is)
 
 -- the links along the runs of two entries, by the places where the runs begin

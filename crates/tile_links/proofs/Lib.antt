@@ -9,3 +9,4 @@ pub mod SoundMeshes
 pub mod HandTiles
 pub mod PlaceOrder
 pub mod FoundLinks
+pub mod RimTables

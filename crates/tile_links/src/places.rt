@@ -1,6 +1,7 @@
 //! The places of a rim along a side, in an order in which those with one position and level are found at once.
 
 ghost use Rattle.std.specs.Prelude.{◌≡◌, ◌++◌, ◌∷◌, [], ◌==◌, if◌then◌else◌, IfOk, OnOk, All, filter};
+ghost use Rattle.std.specs.List.Sorted.{IsPermutation};
 ghost use Rattle.tile_links.specs.Across.{IsWithinField};
 ghost use Rattle.tile_links.specs.RimPlaces.{ArePlaces, AreInOrder, place_cmp, entry_places, is_before_place, is_at_place};
 
@@ -62,7 +63,7 @@ fn push_entry_places(
 /// Puts places in order.
 fn order_places(places: &mut [Place])
     ensures order { AreInOrder places.new }
-    ensures all { Rattle.std.specs.List.Sorted.IsPermutation places.old places.new }
+    ensures all { IsPermutation places.old places.new }
 {
     places.sort_unstable_by(|a, b| place_order(a, b))
 }

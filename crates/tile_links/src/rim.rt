@@ -4,7 +4,7 @@ ghost use Rattle.std.specs.Prelude.{◌≡◌, ◌<◌, ◌++◌, IfOk, OnOk, Li
 ghost use Rattle.nav_ground.specs.Cells.{opposite};
 ghost use Rattle.mesh_types.specs.BorderLinks.{border_links};
 ghost use Rattle.tile_links.specs.Across.{AreAcross, IsNamed};
-ghost use Rattle.tile_links.specs.RimPlaces.{ArePlaces};
+ghost use Rattle.tile_links.specs.RimPlaces.{ArePlaces, entry_of};
 ghost use Rattle.tile_links.specs.Loose.{loose_links, placed_links, place_links, HasGained};
 
 use crate::meetings::push_run_link;
@@ -46,9 +46,10 @@ pub fn push_links(
 {
     let facing = (side % 4 + 2) % 4;
     let places = side_places(alloc, b.rim.as_slice(), facing)?;
+    let across = places.as_slice();
     for entry in a.rim.as_slice() {
         if entry.side == side {
-            push_entry_links(links, a, b, side, entry, places.as_slice())?;
+            push_entry_links(links, a, b, side, entry, across)?;
         }
     }
     Ok(())
@@ -91,8 +92,16 @@ fn push_place_links(
     let level = entry.pairs.as_slice()[place].other;
     let across = places_at(places, entry.first + place as u32, level);
     for found in across {
-        let other = &b.rim.as_slice()[found.entry];
+        let other = entry_at(b.rim.as_slice(), found.entry);
         push_run_link(links, a, b, side, entry, other, place)?;
     }
     Ok(())
+}
+
+/// The entry of a rim with a number.
+fn entry_at(rim: &[RimEdge], number: usize) -> &RimEdge
+    requires { number < length rim.now }
+    ensures { result.now ≡ entry_of rim.now number }
+{
+    &rim[number]
 }
