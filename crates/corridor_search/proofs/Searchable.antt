@@ -1,14 +1,10 @@
 -- A sound mesh is a graph that may be searched.
-use Rattle.std.proofs.Common.{◌≡◌, ℕ, ◌<◌, ◌≤◌, ◌+◌, ◌*◌, ◌-◌, ◌^◌, List, [], ◌∷◌, ◌++◌, length, map, get_or, refl, sym, subst, ap, ◌∙◌, arith}
-use Rattle.std.specs.Prelude.{All, Contains, Some, Option}
-use Rattle.std.specs.Option.{option_map_or}
+use Rattle.std.proofs.Common.{◌≡◌, ◌≤◌, ◌+◌, ◌++◌, length, map, get_or, sym, subst, ap, ◌∙◌, arith}
+use Rattle.std.specs.Prelude.{All, Contains, Some}
 use Rattle.std.proofs.lemmas.Nat.{mul-le}
 use Rattle.std.proofs.lemmas.List.Elements.{All-map, Contains-get_or, Contains-append_left, Contains-append_right}
 use Rattle.std.proofs.lemmas.List.{map-append}
 use Rattle.nav_base.specs.declared.point.Point.{Point}
-use Rattle.nav_base.specs.Point.{from_to}
-use Rattle.nav_base.specs.Deviation.{square_of}
-use Rattle.nav_base.specs.Root.{ceil_sqrt_of}
 use Rattle.mesh_types.specs.declared.links.PolyRef.{PolyRef}
 use Rattle.mesh_types.specs.declared.links.Link.{Link}
 use Rattle.mesh_types.specs.declared.polygon.Polygon.{Polygon}
@@ -20,7 +16,7 @@ use Rattle.graph_search.specs.declared.arcs.Vertex.{Vertex}
 use Rattle.graph_search.specs.declared.arcs.Arc.{Arc}
 use Rattle.graph_search.specs.Walks.{IsSearchable}
 use Rattle.corridor_search.specs.MeshGraphs.{IsThere, IsSearched, vertex_of, polygon_of, vertices_of, inner_links, outer_links, links_from, arc_over, arcs_from, arc_by, estimate_from, estimates_of}
-use Rattle.corridor_search.proofs.Sound.{IsLeading, leads}
+use Rattle.corridor_search.proofs.Sound.{leads}
 use Rattle.corridor_search.proofs.Vertices.{vertices-count, there-contains}
 use Rattle.corridor_search.proofs.LinkWeights.{weight-by, weight-most, estimate-falls, estimate-most}
 use Rattle.corridor_search.proofs.Lists.{map_agree}

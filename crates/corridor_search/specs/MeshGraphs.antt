@@ -1,5 +1,5 @@
 -- The mesh as a graph: its polygons are the vertices, by tile and place, and its links are the arcs.
-use Rattle.std.specs.Prelude.{◌≡◌, ℕ, ◌+◌, ◌*◌, ◌<◌, max, ℤ, pos, ◌≤ℤ◌, List, [], ◌∷◌, ◌++◌, length, map, slice_get, slice_index, slice_index_or, All, Some}
+use Rattle.std.specs.Prelude.{◌≡◌, ℕ, ◌+◌, ◌*◌, ◌<◌, max, pos, ◌≤ℤ◌, List, [], ◌∷◌, ◌++◌, length, map, slice_get, slice_index, slice_index_or, Some}
 use Rattle.std.specs.List.{range_with_len}
 use Rattle.std.specs.Option.{option_map_or}
 use Rattle.nav_base.specs.declared.point.Point.{Point}
