@@ -1,0 +1,55 @@
+//! The cheapest corridor between two polygons.
+
+ghost use Rattle.std.specs.Prelude.{◌≡◌, ◌<◌, ◌^◌, IfOk, IfSome, IfNone, All, map, length};
+ghost use Rattle.nav_ground.specs.Limits.{IsSetting};
+ghost use Rattle.mesh_types.specs.Soundness.{IsSound};
+ghost use Rattle.mesh_types.specs.Corridors.{IsCheapest};
+ghost use Rattle.graph_search.specs.declared.arcs.Step.{Step};
+ghost use Rattle.corridor_search.specs.MeshGraphs.{IsThere, IsApart, IsOver, link_of};
+
+use crate::mesh_graph::{MeshGraph, link_at, vertex_at};
+use crate::weights::{centre, polygon_at};
+use graph_search::{Step, cheapest_walk};
+use mesh_types::{Corridor, Link, Mesh, PolyRef};
+use nav_list::Items;
+use std::alloc::{AllocError, Global};
+
+/// A corridor from one polygon to another, a walk over links that no other such walk undercuts; none exactly where no walk joins the two.
+/// From a polygon to itself it has no links and costs 0.
+pub fn cheapest(
+    alloc: Global,
+    mesh: &Mesh,
+    from: PolyRef,
+    to: PolyRef,
+) -> Result<Option<Corridor>, AllocError>
+    requires sound { IsSound mesh.now }
+    requires setting { IsSetting mesh.now.setting }
+    requires from { IsThere mesh.now from }
+    requires to { IsThere mesh.now to }
+    ensures found { IfOk result (λ answer. IfSome answer (λ corridor. IsCheapest mesh.now from to corridor)) }
+    ensures none { IfOk result (λ answer. IfNone answer (IsApart mesh.now from to)) }
+    ensures few { IfOk result (λ answer. IfSome answer (λ corridor. corridor.cost < 2 ^ 45)) }
+{
+    let goal = centre(polygon_at(mesh, to));
+    let graph = MeshGraph { mesh, goal };
+    match cheapest_walk(alloc, &graph, vertex_at(from), vertex_at(to))? {
+        Some(walk) => {
+            let links = links_along(alloc, mesh, walk.steps.as_slice())?;
+            let cost = walk.cost;
+            Ok(Some(Corridor { cost, links }))
+        }
+        None => Ok(None),
+    }
+}
+
+/// The links that steps take, in order.
+fn links_along(alloc: Global, mesh: &Mesh, steps: &[Step]) -> Result<Items<Link>, AllocError>
+    requires { All (λ (step : Step). IsOver mesh.now step) steps.now }
+    ensures { IfOk result (λ links. links ≡ map (link_of mesh.now) steps.now) }
+{
+    let mut links = Vec::with_capacity(alloc, steps.len())?;
+    for step in steps {
+        links.push(link_at(mesh, *step))?;
+    }
+    Ok(Items::from_vec(links))
+}

@@ -1,0 +1,11 @@
+//! Corridors: cheapest walks over the links of a mesh from one polygon to another.
+//!
+//! A link costs the distance between the middles of its two polygons, in sixteenths of a cell and rounded up, at least 1, times the cost of
+//! the area that it enters. The search goes toward the goal first: it adds to what a walk costs so far the distance that is left.
+#![tactic(auto)]
+
+mod corridors;
+mod mesh_graph;
+mod weights;
+
+pub use corridors::cheapest;

@@ -1,0 +1,9 @@
+pub mod Members
+pub mod Pages
+pub mod Keys
+pub mod Writing
+pub mod Closing
+pub mod Relaxing
+pub mod Stopping
+pub mod WayBack
+pub mod Turns

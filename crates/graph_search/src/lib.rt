@@ -1,0 +1,16 @@
+//! Cheapest walks in a finite graph with whole weights: one search, Dijkstra's, which an estimate of what is left to go makes the search A*.
+//!
+//! A graph is whatever implements `Graph`: it names its vertices by block and place, and gives the arcs that leave a vertex when a search
+//! comes to it. Weights may be 0, and an estimate must be consistent: it falls along an arc by no more than the arc's weight. A search takes
+//! memory for the blocks that it comes to, and for nothing else.
+#![tactic(auto)]
+
+mod arcs;
+mod graph;
+mod search;
+mod visits;
+mod waiting;
+
+pub use arcs::{Arc, Step, Vertex, Walk};
+pub use graph::Graph;
+pub use search::cheapest_walk;
