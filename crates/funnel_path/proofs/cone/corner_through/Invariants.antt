@@ -1,0 +1,6 @@
+-- The wedge goes through the portals so far.
+use Rattle.funnel_path.specs.Cone.{IsLook}
+use Rattle.funnel_path.proofs.cone.corner_through.Given as goal
+
+abbrev pub invariant-loop-place : goal.invariant-loop-place
+invariant-loop-place l = IsLook l.apex l.portals l.ahead l.place l.wedge

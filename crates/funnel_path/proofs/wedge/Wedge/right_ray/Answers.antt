@@ -1,0 +1,7 @@
+-- The right ray stays.
+use Rattle.std.proofs.Common.{refl, inr, arith}
+use Rattle.std.proofs.lemmas.Int.{ints}
+use Rattle.funnel_path.proofs.wedge.Wedge.right_ray.Goals as goal
+
+pub returns-else-orient-ge0 : goal.returns-else-orient-ge0
+returns-else-orient-ge0 c = inr (omega (arith, ints), refl)
