@@ -1,5 +1,5 @@
 -- What was there before is kept where more was appended, and then a part of more.
-use Rattle.std.proofs.Common.{◌≡◌, ℕ, ◌+◌, ◌≤◌, List, ◌++◌, length, take, ap, ◌∙◌, sym, arith, append_assoc, Ok, Err}
+use Rattle.std.proofs.Common.{◌≡◌, ℕ, ◌≤◌, List, ◌++◌, length, take, ap, ◌∙◌, sym, arith, Ok, Err}
 use Rattle.std.specs.Prelude.{Result, OnErr}
 use Rattle.std.proofs.lemmas.List.{take-take, length-append}
 use Rattle.std.proofs.Math.Seq.{take-append_seam}
@@ -13,11 +13,3 @@ still_kept old more now then is kept =
 pub on_err : {T E P : Type 0} (r : Result T E) → P → OnErr r P
 on_err (Ok value) holds = tt
 on_err (Err error) holds = holds
-
--- three parts, one after the other
-pub appended : (old first second third mid later new : List ℕ) → mid ≡ old ++ first → later ≡ mid ++ second → new ≡ later ++ third
-    → new ≡ old ++ (first ++ second ++ third)
-appended old first second third mid later new begun more end =
-    end
-    ∙ ap (λ xs. xs ++ third) (more ∙ ap (λ xs. xs ++ second) begun ∙ append_assoc old first second)
-    ∙ append_assoc old (first ++ second) third

@@ -75,7 +75,7 @@ first_line_text k found =
     ++ codes " " ++ decimal (length found.turns) ++ codes "\n"
 
 abbrev pub path_text : ℕ → PathFound → List ℕ
-path_text k found = first_line_text k found ++ flat_map link_text found.links ++ flat_map turn_text found.turns
+path_text k found = first_line_text k found ++ (flat_map link_text found.links ++ flat_map turn_text found.turns)
 
 -- an answer, with the length of the version that was read
 abbrev pub answer_text : ℕ → Answer → List ℕ

@@ -16,8 +16,7 @@ pub fn append_path(out: &mut Vec<u8>, k: u32, found: &PathFound) -> Result<(), A
     ensures err { OnErr result (take (vec_len out.old) out.new.items ≡ out.old.items) }
 {
     append_first_line(out, k, found)?;
-    append_links(out, found.links.as_slice())?;
-    append_turns(out, found.turns.as_slice())
+    append_steps(out, found)
 }
 
 /// Appends the line of a path: its cost, the polygon in which it begins, and how many links and turns it has.
@@ -37,6 +36,15 @@ fn append_start(out: &mut Vec<u8>, k: u32, cost: u64, first: PolyRef) -> Result<
     append_number(out, b"path ", k, b" ")?;
     out.extend_from_slice(Buffer::new().format(cost).as_bytes())?;
     append_numbers(out, b" ", first.tile, b" ", first.index, b"")
+}
+
+/// Appends the lines of the links, and then those of the turns.
+fn append_steps(out: &mut Vec<u8>, found: &PathFound) -> Result<(), AllocError>
+    ensures ok { OnOk result (out.new.items ≡ out.old.items ++ (flat_map link_text found.now.links ++ flat_map turn_text found.now.turns)) }
+    ensures err { OnErr result (take (vec_len out.old) out.new.items ≡ out.old.items) }
+{
+    append_links(out, found.links.as_slice())?;
+    append_turns(out, found.turns.as_slice())
 }
 
 /// Appends a line for each link: the polygon that it enters, and the left and the right end of its portal.
