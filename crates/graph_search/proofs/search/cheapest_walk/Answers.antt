@@ -54,8 +54,8 @@ returns-then-eq-clause-few g c =
     (turn-tree _ _ _ _ c.requires.searchable c.args.from c.args.to _ _ _ c.loop-vertex.invariant c.in-Some.field-0-0 c.in-Some.vertex _ c.in-Some.ensures.taken c.in-Some.ensures.least
     unclosed _ _ c.in_ok-close.ensures.written c.in_ok-close.ensures.closed))).1
 
-pub push_arcs-requires-clause-there : goal.push_arcs-requires-clause-there
-push_arcs-requires-clause-there g c =
+pub push_ends-requires-clause-there : goal.push_ends-requires-clause-there
+push_ends-requires-clause-there g c =
     vertex-member _ _ _ _ c.requires.searchable c.args.from c.args.to _ _ _ c.loop-vertex.invariant c.in-Some.field-0-0 c.in-Some.vertex _ c.in-Some.ensures.taken c.in-Some.ensures.least
     (sym (ap (λ (u : Visit). u.rank) c.get.ensures) ∙ c.if-get-ne0.false)
 
@@ -84,15 +84,13 @@ relax-requires-clause-closing g c =
 
 pub loop-vertex-smaller : goal.loop-vertex-smaller
 loop-vertex-smaller g c =
-    let listed : c.as_slice.result.now ≡ g.G.Graph.arcs c.args.graph.now c.in-Some.vertex =
-    c.as_slice.ensures.value ∙ c.in_ok-push_arcs.ensures ∙ ap (λ (arcs : List Arc). arcs ++ g.G.Graph.arcs c.args.graph.now c.in-Some.vertex) c.clear.ensures.items in
     let rest : length (heap_items c.close.new.self.waiting.heap) ≡ length (heap_items c.pop.new.self.heap) =
     ap (λ (waiting : Waiting). length (heap_items waiting.heap)) c.in_ok-close.ensures.waiting in
-    let count : length c.as_slice.result.now ≡ length (g.G.Graph.arcs c.args.graph.now c.in-Some.vertex) = ap length listed in
-    let more : length (heap_items c.relax.new.self.waiting.heap) ≤ length (heap_items c.close.new.self.waiting.heap) + length c.as_slice.result.now = c.in_ok-relax.ensures.more in
+    let more : length (heap_items c.relax.new.self.waiting.heap) ≤ length (heap_items c.close.new.self.waiting.heap) + length (g.G.Graph.arcs c.args.graph.now c.in-Some.vertex) =
+    c.in_ok-relax.ensures.more in
     work-turned _ _ _ _ c.requires.searchable c.args.from c.args.to _ _ _ c.loop-vertex.invariant c.in-Some.field-0-0 c.in-Some.vertex _ c.in-Some.ensures.taken c.in-Some.ensures.least
     (sym (ap (λ (u : Visit). u.rank) c.get.ensures) ∙ c.if-get-ne0.false) _ _ c.in_ok-close.ensures.written c.in_ok-close.ensures.closed _ _ c.in_ok-relax.ensures.ranks
-    (omega (arith, more, rest, count))
+    (omega (arith, more, rest))
 
 pub loop-vertex-preserved : goal.loop-vertex-preserved
 loop-vertex-preserved g c =
