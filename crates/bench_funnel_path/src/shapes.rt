@@ -1,6 +1,6 @@
 //! The chains: rows of portals that stand upright, one to the right of the other, so that the left end of each is its upper one.
 
-ghost use Rattle.std.specs.Prelude.{◌≡◌, ◌<◌, ◌≤◌, pos, ◌-ℤ◌, ◌*ℤ◌, IfOk};
+ghost use Rattle.std.specs.Prelude.{◌≡◌, ◌≤◌, IfOk};
 ghost use Rattle.bench_funnel_path.specs.Rows.{CanBePulled, IsSlope, upright_at};
 
 use crate::chain::Chain;
@@ -31,7 +31,7 @@ fn upright(across: u32, high: u32, low: i32) -> Portal
     }
 }
 
-/// A straight corridor, 512 sixteenths wide, with a portal at each sixteenth cell border. From the start in the middle the goal is seen.
+/// A straight corridor, 512 sixteenths wide, with a portal at each cell. The goal is seen from the start.
 pub fn straight(alloc: Global, count: u32) -> Result<Chain, AllocError>
     requires { count ≤ 4000 }
     ensures { IfOk result CanBePulled }
@@ -62,9 +62,9 @@ fn next_slope(before: u32, slope: Slope) -> Slope
     }
 }
 
-/// A way along a wall that bends to the left at nearly every portal, open as far as the border to its right. Each of its first 2000 portals
-/// stands at a corner of the wall, and from each corner one sees the right ends of all portals that follow, while the goal is hidden behind the next
-/// corner: so each cone looks at all portals that are left.
+/// A way along a wall, from its foot to above its top, open to the border on the right. The wall bends to the left at each portal, up to
+/// about 2000 of them, and each bend is a corner of the path: from there the right ends of all portals that follow are seen, and the goal is
+/// hidden by the next bend alone. So each cone looks at all portals that are left.
 pub fn turn(alloc: Global, count: u32) -> Result<Chain, AllocError>
     requires { count ≤ 4000 }
     ensures { IfOk result CanBePulled }
