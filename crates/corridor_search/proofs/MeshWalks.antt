@@ -21,10 +21,10 @@ use Rattle.corridor_search.specs.MeshGraphs.{IsOver, IsApart, vertex_of, polygon
 use Rattle.corridor_search.proofs.Sound.{leads, leaves-listed}
 
 -- the arc of a step is that of its link
-step-there : (mesh : Mesh) (step : Step) → step.place < length (arcs_from mesh step.from) → step.place < length (links_from mesh (polygon_of step.from))
+pub step-there : (mesh : Mesh) (step : Step) → step.place < length (arcs_from mesh step.from) → step.place < length (links_from mesh (polygon_of step.from))
 step-there mesh step below = subst (λ (n : ℕ). step.place < n) (length-map (links_from mesh (polygon_of step.from)) (arc_over mesh)) below
 
-arc-over-link : (mesh : Mesh) (step : Step) → step.place < length (arcs_from mesh step.from) → arc_of (arcs_from mesh) step ≡ arc_over mesh (link_of mesh step)
+pub arc-over-link : (mesh : Mesh) (step : Step) → step.place < length (arcs_from mesh step.from) → arc_of (arcs_from mesh) step ≡ arc_over mesh (link_of mesh step)
 arc-over-link mesh step below = get_or-map (arc_over mesh) (links_from mesh (polygon_of step.from)) step.place no_link no_arc (step-there mesh step below)
 
 -- what a walk costs, by its first link

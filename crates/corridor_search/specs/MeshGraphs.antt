@@ -107,9 +107,9 @@ pub record IsSearched (mesh : Mesh) (goal : Point) : Type 0 where
   pub setting : IsSetting mesh.setting
   pub in_field : IsInField goal
 
--- the arc of a link that leaves a polygon with a given middle
-abbrev pub arc_by : Mesh → Point → Link → Arc
-arc_by mesh middle link = record { to = vertex_of link.to; weight = weight_from mesh middle link.to }
+-- the vertex of the polygon that a link enters
+abbrev pub end_of : Link → Vertex
+end_of link = vertex_of link.to
 
 -- a step takes a link that leaves its polygon
 pub record IsOver (mesh : Mesh) (step : Step) : Type 0 where

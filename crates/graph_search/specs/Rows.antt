@@ -1,5 +1,5 @@
--- Small graphs that are given as rows, for the tests: where an arc begins, where it ends, and its weight, in one block.
-use Rattle.std.specs.Prelude.{ℕ, Bool, IsTrue, nat_lt, ◌==◌, ◌&&◌, List, map, filter}
+-- Small graphs that are given as rows, for the tests: for each vertex of one block the arcs that leave it, by where they end and their weight.
+use Rattle.std.specs.Prelude.{ℕ, Bool, IsTrue, nat_lt, ◌&&◌, List, [], map, slice_index_or}
 use Rattle.std.specs.List.{list_all, range_with_len}
 use Rattle.graph_search.specs.declared.arcs.Vertex.{Vertex}
 use Rattle.graph_search.specs.declared.arcs.Arc.{Arc}
@@ -12,20 +12,20 @@ vertex_at place = record { block = 0; place = place }
 abbrev pub ten_vertices : List Vertex
 ten_vertices = map vertex_at (range_with_len 0 10)
 
--- a row's arc ends at one of the ten vertices, and weighs less than 100
-abbrev pub is_row : ℕ × ℕ × ℕ → Bool
-is_row row = nat_lt row.1 10 && nat_lt row.2 100
+-- an arc ends at one of the ten vertices, and weighs less than 100
+abbrev pub is_pair : ℕ × ℕ → Bool
+is_pair pair = nat_lt pair.0 10 && nat_lt pair.1 100
 
-abbrev pub row_arc : ℕ × ℕ × ℕ → Arc
-row_arc row = record { to = vertex_at row.1; weight = row.2 }
+-- all of them do
+pub record AreRows (rows : List (List (ℕ × ℕ))) : Type 0 where
+  pub pass : IsTrue (list_all (list_all is_pair) rows)
+
+abbrev pub pair_arc : ℕ × ℕ → Arc
+pair_arc pair = record { to = vertex_at pair.0; weight = pair.1 }
 
 -- the arcs that leave a vertex
-abbrev pub row_arcs : List (ℕ × ℕ × ℕ) → Vertex → List Arc
-row_arcs rows v = map row_arc (filter (λ row. row.0 == v.place) rows)
-
--- all rows are such
-pub record AreRows (rows : List (ℕ × ℕ × ℕ)) : Type 0 where
-  pub pass : IsTrue (list_all is_row rows)
+abbrev pub row_arcs : List (List (ℕ × ℕ)) → Vertex → List Arc
+row_arcs rows v = map pair_arc (slice_index_or rows v.place [])
 
 -- an estimate of 0
 abbrev pub none_left : Vertex → ℕ
