@@ -1,1 +1,3 @@
 pub mod FreeInTile
+pub mod GroundTiles
+pub mod SameCells
