@@ -102,3 +102,8 @@ pub found_free : (whole : Ground) (history : List Entry) (k tile : ℕ) (mesh : 
 found_free whole history k tile mesh d rules' there same is =
     ap (λ (t : TileMesh). t.free) (is ∙ ap (λ (m : Mesh). get_or m.tiles tile d) same)
     ∙ free_under whole history k tile d d.free rules' there
+
+pub length-tiles_of_build : (whole : Ground) (history : List Entry) (k : ℕ) (mesh : Mesh) → IsGround whole → mesh ≡ build_of whole history k
+    → length mesh.tiles ≡ tile_count whole.setting
+length-tiles_of_build whole history k mesh rules' same =
+    ap (λ (m : Mesh). length m.tiles) same ∙ ap length (tiles_of_build whole history k) ∙ length-tiles_under whole (shapes_alive history k) rules'
