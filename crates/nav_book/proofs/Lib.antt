@@ -4,3 +4,4 @@ pub mod Histories
 pub mod ColumnParts
 pub mod Layers
 pub mod TileFloors
+pub mod GroundTiles

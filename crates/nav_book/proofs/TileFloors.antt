@@ -51,7 +51,7 @@ cell_elsewhere window x z cell outside inside =
     both_ways (is_in_window window x z) outside (sym here ∙ inside))
 
 -- the free layer of a tile
-free_at : (whole : Ground) (shapes : List Shape) (tile : ℕ) (d : FreeLayer) → IsGround whole → tile < tile_count whole.setting
+pub free_at : (whole : Ground) (shapes : List Shape) (tile : ℕ) (d : FreeLayer) → IsGround whole → tile < tile_count whole.setting
     → get_or (free_layers_of whole.layers shapes) tile d ≡ free_layer_of (layer_of whole.setting whole.field tile) shapes
 free_at whole shapes tile d rules' there =
     let e = layer_of whole.setting whole.field tile in

@@ -7,8 +7,10 @@ use Rattle.nav_ground.specs.declared.history.Reply.{Reply}
 use Rattle.nav_ground.specs.declared.history.Request.{Request}
 use Rattle.nav_ground.specs.FreeCells.{free_layers_of}
 use Rattle.nav_ground.specs.History.{reply_to, shapes_alive}
+use Rattle.mesh_types.specs.declared.mesh.Mesh.{Mesh}
+use Rattle.mesh_types.specs.Builds.{build_of}
 
--- a book: the ground, the history of requests, and how many of its entries the published free cells show
+-- a book: the ground, the history of requests, and how many of its entries the published mesh shows
 pub record BookState : Type 0 where
   pub whole : Ground
   pub history : List Entry
@@ -25,8 +27,12 @@ after_request state lane request = record state {
 }
 
 -- the book after all its entries were published
-abbrev pub after_settle : BookState → BookState
-after_settle state = record state { published = length state.history }
+abbrev pub after_renewal : BookState → BookState
+after_renewal state = record state { published = length state.history }
+
+-- the mesh that a book shows: that of its ground with the obstacles that are alive after the published entries
+abbrev pub published_mesh : BookState → Mesh
+published_mesh state = build_of state.whole state.history state.published
 
 -- the free cells that a book shows: those of each layer under the shapes that are alive after the published entries
 abbrev pub published_layers : BookState → List FreeLayer

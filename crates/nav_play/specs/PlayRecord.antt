@@ -11,7 +11,7 @@ use Rattle.nav_ground.specs.declared.history.Reply.TheVariants.{Added, Removed, 
 use Rattle.nav_ground.specs.declared.history.Request.{Request}
 use Rattle.nav_ground.specs.declared.history.Request.TheVariants as requests
 use Rattle.nav_ground.specs.Layers.{layers_of}
-use Rattle.nav_book.specs.BookState.{BookState, next_reply, after_request, after_settle, published_layers}
+use Rattle.nav_book.specs.BookState.{BookState, next_reply, after_request, after_renewal, published_layers}
 use Rattle.nav_book.specs.Columns.{floors_at}
 use Rattle.nav_record.specs.declared.step.StepAnswer.TheVariants.{Settled, HistoryFull}
 use Rattle.nav_record.specs.Texts.{reply_text, step_text, floors_text, done_text}
@@ -99,7 +99,7 @@ state_after state (Add shape) = record state {
 }
 state_after state (Remove number) = record state { book = requested state.book state.lane (requests.Remove number) }
 state_after state (Undo j) = record state { book = requested state.book state.lane (drop_request state j) }
-state_after state Settle = record state { book = after_settle state.book }
+state_after state Settle = record state { book = after_renewal state.book }
 state_after state Aim = state
 state_after state (Claim worker) = state
 state_after state (Back worker) = state
