@@ -1,19 +1,18 @@
 -- The tile meshes of a ground under obstacles are tiles of its setting, and make its mesh.
-use Rattle.std.proofs.Common.{◌≡◌, ℕ, ◌<◌, ◌≤◌, List, ◌++◌, length, get_or, ap, ◌∙◌, refl, sym, arith}
+use Rattle.std.proofs.Common.{◌≡◌, ℕ, ◌<◌, ◌≤◌, List, ◌++◌, length, get_or, ap, ◌∙◌, sym, subst, arith}
 use Rattle.std.specs.List.{All}
 use Rattle.std.proofs.lemmas.List.{length-map, get_or-map}
 use Rattle.std.proofs.lemmas.List.Elements.{All-map, All-weaker}
-use Rattle.nav_ground.specs.declared.cell.FreeLayer.{FreeLayer}
 use Rattle.nav_ground.specs.declared.cell.Layer.{Layer}
 use Rattle.nav_ground.specs.declared.history.Entry.{Entry}
 use Rattle.nav_ground.specs.declared.history.Ground.{Ground}
 use Rattle.nav_ground.specs.declared.setting.Setting.{Setting}
 use Rattle.nav_ground.specs.declared.shape.Shape.{Shape}
-use Rattle.nav_ground.specs.FreeCells.{free_layer_of, free_layers_of}
+use Rattle.nav_ground.specs.FreeCells.{free_layer_of}
 use Rattle.nav_ground.specs.Grounds.{IsGround, IsLayerOf}
 use Rattle.nav_ground.specs.History.{shapes_alive}
 use Rattle.nav_ground.specs.Layers.{layer_of}
-use Rattle.nav_ground.specs.Limits.{IsShape}
+use Rattle.nav_ground.specs.Limits.{IsSetting, IsShape}
 use Rattle.nav_ground.specs.Tiling.{tile_count}
 use Rattle.nav_ground.proofs.AliveLaws.{shapes_alive-append}
 use Rattle.nav_ground.proofs.FreeLayers.{free_layer_cut}
@@ -28,7 +27,6 @@ use Rattle.mesh_types.proofs.PolygonTotals.{few_polygons_under}
 use Rattle.strip_mesh.proofs.FitLaws.{strip_mesh_fits}
 use Rattle.tile_build.specs.Meshes.{tiles_under}
 use Rattle.tile_build.proofs.FreeInTile.{free_in_tile}
-use Rattle.nav_book.proofs.TileFloors.{free_at}
 
 -- each is fit for the setting
 tile_fits : (setting : Setting) (shapes : List Shape) (layer : Layer) → All IsShape shapes → IsLayerOf setting layer
@@ -76,34 +74,13 @@ pub build_from : (whole : Ground) (history : List Entry) (k : ℕ) (tiles : List
 unfolding build_of
 build_from whole history k tiles mesh same is = is ∙ ap (mesh_of whole.setting) same
 
-pub tiles_of_build : (whole : Ground) (history : List Entry) (k : ℕ) → (build_of whole history k).tiles ≡ tiles_under whole (shapes_alive history k)
-unfolding build_of mesh_of
-tiles_of_build whole history k = refl
-
 -- entries after those that a mesh shows do not change it
 pub build_of-append : (whole : Ground) (history more : List Entry) (k : ℕ) → k ≤ length history → build_of whole (history ++ more) k ≡ build_of whole history k
 unfolding build_of
 build_of-append whole history more k within = ap (mesh_under whole) (shapes_alive-append history more k within)
 
--- the free cells of a tile
-pub free_under : (whole : Ground) (history : List Entry) (k tile : ℕ) (d : TileMesh) (e : FreeLayer) → IsGround whole → tile < tile_count whole.setting
-    → (get_or (build_of whole history k).tiles tile d).free ≡ get_or (free_layers_of whole.layers (shapes_alive history k)) tile e
-unfolding strip_mesh_of
-free_under whole history k tile d e rules' there =
-    let shapes = shapes_alive history k in
-    ap (λ tiles. (get_or tiles tile d).free) (tiles_of_build whole history k)
-    ∙ ap (λ (t : TileMesh). t.free) (tile_under whole shapes tile d rules' there)
-    ∙ sym (free_at whole shapes tile e rules' there)
-
--- those of a tile that was found among the tiles of a mesh
-pub found_free : (whole : Ground) (history : List Entry) (k tile : ℕ) (mesh : Mesh) (d : TileMesh) → IsGround whole → tile < tile_count whole.setting
-    → mesh ≡ build_of whole history k → d ≡ get_or mesh.tiles tile d
-    → d.free ≡ get_or (free_layers_of whole.layers (shapes_alive history k)) tile d.free
-found_free whole history k tile mesh d rules' there same is =
-    ap (λ (t : TileMesh). t.free) (is ∙ ap (λ (m : Mesh). get_or m.tiles tile d) same)
-    ∙ free_under whole history k tile d d.free rules' there
-
-pub length-tiles_of_build : (whole : Ground) (history : List Entry) (k : ℕ) (mesh : Mesh) → IsGround whole → mesh ≡ build_of whole history k
-    → length mesh.tiles ≡ tile_count whole.setting
-length-tiles_of_build whole history k mesh rules' same =
-    ap (λ (m : Mesh). length m.tiles) same ∙ ap length (tiles_of_build whole history k) ∙ length-tiles_under whole (shapes_alive history k) rules'
+-- and keep its setting
+pub setting_of_build : (whole : Ground) (history : List Entry) (k : ℕ) (mesh : Mesh) → IsGround whole → mesh ≡ build_of whole history k
+    → IsSetting mesh.setting
+unfolding build_of mesh_of
+setting_of_build whole history k mesh rules' same = subst IsSetting (sym (ap (λ (m : Mesh). m.setting) same)) rules'.setting

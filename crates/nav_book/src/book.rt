@@ -5,18 +5,16 @@ ghost use Rattle.std.specs.Arc.{arc_value};
 ghost use Rattle.nav_ground.specs.Grounds.{IsGround};
 ghost use Rattle.nav_ground.specs.History.{IsRequest, IsHistory, shapes_alive};
 ghost use Rattle.nav_ground.specs.Limits.{IsShape};
-ghost use Rattle.layer_cut.specs.Tiles.{IsInField};
+ghost use Rattle.mesh_types.specs.Right.{IsRight};
 ghost use Rattle.mesh_types.specs.Soundness.{IsSound};
 ghost use Rattle.tile_build.specs.Meshes.{tiles_under};
-ghost use Rattle.nav_book.specs.BookState.{BookState, next_reply, after_request, after_renewal, published_layers, published_mesh};
-ghost use Rattle.nav_book.specs.Columns.{floors_at};
+ghost use Rattle.nav_query.specs.Questions.{HasLowCost, IsAnswerable};
+ghost use Rattle.nav_book.specs.BookState.{BookState, next_reply, after_request, after_renewal, published_mesh};
 
-use crate::columns::push_floors;
 use crate::live::{Live, answer, shapes};
-use layer_cut::tile_of;
-use mesh_types::{Mesh, TileMesh};
-use nav_base::FloorAt;
-use nav_ground::{Entry, Ground, HISTORY_LIMIT, Reply, Request, Setting, Shape};
+use mesh_types::{Answer, Mesh, TileMesh};
+use nav_base::Question;
+use nav_ground::{Entry, Ground, HISTORY_LIMIT, Reply, Request, Shape};
 use nav_list::Items;
 use nav_share::Shared;
 use std::alloc::{AllocError, Global};
@@ -131,19 +129,16 @@ impl Book {
         Ok(len)
     }
 
-    /// The floors of the free cells of a column as they were last published, from the bottom up; none where the column has no free cell or
-    /// lies outside the field. It looks into the column's tile alone, by halving.
-    pub fn floors(&self, alloc: Global, x: u32, z: u32) -> Result<Vec<FloorAt>, AllocError>
-        ensures { IfOk result (λ floors. floors.items ≡ floors_at x z (published_layers self.now)) }
+    /// The published length, and an answer to the question that is right in the mesh as it was last published. A path that is found costs
+    /// less than 2^45.
+    pub fn ask(&self, alloc: Global, question: &Question) -> Result<(u32, Answer), AllocError>
+        requires { IsAnswerable question.now }
+        ensures published { IfOk result (λ told. told.0 ≡ self.now.published) }
+        ensures right { IfOk result (λ told. IsRight (published_mesh self.now) question.now told.1) }
+        ensures low_cost { IfOk result (λ told. HasLowCost told.1) }
     {
-        let mut floors = Vec::new(alloc);
-        let setting = &self.level.setting;
-        if is_inside(setting, x, z) {
-            let tiles = self.mesh.tiles.as_slice();
-            let tile = tiles[tile_of(setting, x, z) as usize].get();
-            push_floors(&mut floors, tile.free.cells.as_slice(), x, z)?;
-        }
-        Ok(floors)
+        let answer = nav_query::answer(alloc, &self.mesh, question)?;
+        Ok((self.published, answer))
     }
 
     /// The ground, as it is without obstacles.
@@ -184,11 +179,4 @@ impl Book {
     {
         self.entries.as_slice()
     }
-}
-
-/// Whether a column lies in the field.
-fn is_inside(setting: &Setting, x: u32, z: u32) -> bool
-    ensures { IsTrue result ↔ IsInField setting.now x z }
-{
-    x < setting.width && z < setting.depth
 }

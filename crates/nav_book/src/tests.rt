@@ -8,7 +8,8 @@ ghost use Rattle.tile_build.specs.Meshes.{IsOfStrips};
 
 use crate::{Book, HistoryFull};
 use layer_cut::ground;
-use nav_base::FloorAt;
+use mesh_types::{Answer, PathFound, PolyRef};
+use nav_base::{FloorAt, Point, Question};
 use nav_ground::{
     AREAS, Agent, Entry, Field, Ground, HISTORY_LIMIT, MeshKind, Reply, Request, Setting, Shape,
     Span,
@@ -121,6 +122,14 @@ fn renewed<L: Ledger>(book: &mut Book, alloc: Global, blank: Blank) -> Result<u3
     book.renew(alloc, tiles)
 }
 
+/// The floors of a column, as the book answers.
+fn floors(book: &Book, alloc: Global, x: u32, z: u32) -> Result<Items<FloorAt>, AllocError> {
+    match book.ask(alloc, &Question::Floor { x, z })?.1 {
+        Answer::Floors(floors) => Ok(floors),
+        _ => Ok(Items::new(alloc)),
+    }
+}
+
 // A book may go from one thread to another.
 fn sent<T: Send>(value: T) -> T {
     value
@@ -193,8 +202,8 @@ fn publishes_floors(rt: HostRuntime) -> Result<(), Fail> {
             );
             assert_eq!(rt; book.published(), book.length());
         }
-        assert_eq!(rt; book.floors(alloc, 1, 1)?.first().copied(), first);
-        assert_eq!(rt; book.floors(alloc, 2, 1)?.first().copied(), second);
+        assert_eq!(rt; floors(&book, alloc, 1, 1)?.get(0).copied(), first);
+        assert_eq!(rt; floors(&book, alloc, 2, 1)?.get(0).copied(), second);
     }
     // The columns of the edge and those outside have no cells, and each other column has one.
     for (x, z, count) in [
@@ -209,8 +218,35 @@ fn publishes_floors(rt: HostRuntime) -> Result<(), Fail> {
         (1, 4, 0),
         (5000, 2, 0),
     ] {
-        assert_eq!(rt; book.floors(alloc, x, z)?.len(), count, "at {x} {z}");
+        assert_eq!(rt; floors(&book, alloc, x, z)?.len(), count, "at {x} {z}");
     }
+    Ok(())
+}
+
+#[test]
+fn answers_from_the_published_mesh(rt: HostRuntime) -> Result<(), Fail> {
+    let alloc = rt.alloc();
+    let mut book = opened::<Brand>(alloc, Blank::new(1))?;
+    // The tile of the columns 1 to 3 has the strips of the rows 1 and 2, each from 16 to 64 of x.
+    let question = Question::Path {
+        from: Point { x: 24, z: 24 },
+        from_y: 10,
+        to: Point { x: 40, z: 24 },
+        to_y: 10,
+    };
+    let stays = Answer::Path(PathFound {
+        first: PolyRef { tile: 0, index: 0 },
+        cost: 0,
+        links: Items::new(alloc),
+        turns: Items::new(alloc),
+    });
+    assert_eq!(rt; book.ask(alloc, &question)?, (0, stays));
+    // The goal is covered once the request is published, and not before.
+    let _answer = book.request(0, request_of(Asked::Block(2)));
+    assert_eq!(rt; book.ask(alloc, &question)?.0, 0);
+    assert!(rt; book.ask(alloc, &question)?.1 != Answer::NoGoal);
+    renewed::<Brand>(&mut book, alloc, Blank::new(1))?;
+    assert_eq!(rt; book.ask(alloc, &question)?, (1, Answer::NoGoal));
     Ok(())
 }
 
