@@ -68,12 +68,14 @@ side_text R = codes "R"
 abbrev pub turn_text : Corner → List ℕ
 turn_text turn = codes "turn " ++ point_text turn.at ++ codes " " ++ side_text turn.side ++ codes " " ++ decimal turn.portal ++ codes "\n"
 
--- a path: its cost, its first polygon, and how many links and turns it has; then a line for each link, and a line for each turn
+-- a path: its cost, its first polygon, and how many links and turns it has; then a line for each link, and then one for each turn
+abbrev pub first_line_text : ℕ → PathFound → List ℕ
+first_line_text k found =
+    codes "path " ++ decimal k ++ codes " " ++ decimal found.cost ++ codes " " ++ poly_text found.first ++ codes " " ++ decimal (length found.links)
+    ++ codes " " ++ decimal (length found.turns) ++ codes "\n"
+
 abbrev pub path_text : ℕ → PathFound → List ℕ
-path_text k found =
-    (codes "path " ++ decimal k ++ codes " " ++ decimal found.cost ++ codes " " ++ poly_text found.first ++ codes " " ++ decimal (length found.links)
-    ++ codes " " ++ decimal (length found.turns) ++ codes "\n")
-    ++ flat_map link_text found.links ++ flat_map turn_text found.turns
+path_text k found = first_line_text k found ++ (flat_map link_text found.links ++ flat_map turn_text found.turns)
 
 -- an answer, with the length of the version that was read
 abbrev pub answer_text : ℕ → Answer → List ℕ

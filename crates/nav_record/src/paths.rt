@@ -1,8 +1,8 @@
 //! Paths and walks. Where memory is refused a part of the lines may stand at the end.
-ghost use Rattle.std.specs.Prelude.{◌≡◌, ◌++◌, length, take, codes, decimal, OnOk, OnErr, vec_len};
+ghost use Rattle.std.specs.Prelude.{◌≡◌, ◌≤◌, ◌++◌, length, take, codes, decimal, OnOk, OnErr, vec_len};
 ghost use Rattle.std.specs.Fmt.{signed_decimal};
 ghost use Rattle.std.specs.List.{flat_map};
-ghost use Rattle.nav_record.specs.Texts.{poly_text, point_text, link_text, turn_text, path_text};
+ghost use Rattle.nav_record.specs.Texts.{poly_text, point_text, link_text, turn_text, first_line_text, path_text};
 
 use crate::append::{append_number, append_numbers, append_pair};
 use itoa::Buffer;
@@ -16,21 +16,35 @@ pub fn append_path(out: &mut Vec<u8>, k: u32, found: &PathFound) -> Result<(), A
     ensures err { OnErr result (take (vec_len out.old) out.new.items ≡ out.old.items) }
 {
     append_first_line(out, k, found)?;
-    append_links(out, found.links.as_slice())?;
-    append_turns(out, found.turns.as_slice())
+    append_steps(out, found)
 }
 
 /// Appends the line of a path: its cost, the polygon in which it begins, and how many links and turns it has.
 fn append_first_line(out: &mut Vec<u8>, k: u32, found: &PathFound) -> Result<(), AllocError>
+    ensures ok { OnOk result (out.new.items ≡ out.old.items ++ first_line_text k found.now) }
+    ensures err { OnErr result (take (vec_len out.old) out.new.items ≡ out.old.items) }
+{
+    append_start(out, k, found.cost, found.first)?;
+    append_pair(out, b" ", found.links.len(), b" ", found.turns.len(), b"\n")
+}
+
+fn append_start(out: &mut Vec<u8>, k: u32, cost: u64, first: PolyRef) -> Result<(), AllocError>
     ensures ok { OnOk result (out.new.items ≡ out.old.items
-        ++ (codes "path " ++ decimal k ++ codes " " ++ decimal found.now.cost ++ codes " " ++ poly_text found.now.first ++ codes " "
-        ++ decimal (length found.now.links) ++ codes " " ++ decimal (length found.now.turns) ++ codes "\n")) }
+        ++ (codes "path " ++ decimal k ++ codes " " ++ decimal cost ++ codes " " ++ poly_text first)) }
     ensures err { OnErr result (take (vec_len out.old) out.new.items ≡ out.old.items) }
 {
     append_number(out, b"path ", k, b" ")?;
-    out.extend_from_slice(Buffer::new().format(found.cost).as_bytes())?;
-    append_numbers(out, b" ", found.first.tile, b" ", found.first.index, b"")?;
-    append_pair(out, b" ", found.links.len(), b" ", found.turns.len(), b"\n")
+    out.extend_from_slice(Buffer::new().format(cost).as_bytes())?;
+    append_numbers(out, b" ", first.tile, b" ", first.index, b"")
+}
+
+/// Appends the lines of the links, and then those of the turns.
+fn append_steps(out: &mut Vec<u8>, found: &PathFound) -> Result<(), AllocError>
+    ensures ok { OnOk result (out.new.items ≡ out.old.items ++ (flat_map link_text found.now.links ++ flat_map turn_text found.now.turns)) }
+    ensures err { OnErr result (take (vec_len out.old) out.new.items ≡ out.old.items) }
+{
+    append_links(out, found.links.as_slice())?;
+    append_turns(out, found.turns.as_slice())
 }
 
 /// Appends a line for each link: the polygon that it enters, and the left and the right end of its portal.
@@ -48,10 +62,18 @@ fn append_link(out: &mut Vec<u8>, link: &Link) -> Result<(), AllocError>
     ensures ok { OnOk result (out.new.items ≡ out.old.items ++ link_text link.now) }
     ensures err { OnErr result (take (vec_len out.old) out.new.items ≡ out.old.items) }
 {
-    let portal = link.portal;
     append_numbers(out, b"link ", link.to.tile, b" ", link.to.index, b"")?;
-    append_pair(out, b" ", portal.left.x, b" ", portal.left.z, b"")?;
-    append_pair(out, b" ", portal.right.x, b" ", portal.right.z, b"\n")
+    append_point(out, link.portal.left, b"")?;
+    append_point(out, link.portal.right, b"\n")
+}
+
+/// Appends a space, a point and a word, or nothing where memory is refused. The word has at most 16 bytes.
+fn append_point(out: &mut Vec<u8>, p: Point, after: &[u8]) -> Result<(), AllocError>
+    requires { length after.now ≤ 16 }
+    ensures ok { OnOk result (out.new.items ≡ out.old.items ++ (codes " " ++ point_text p ++ after.now)) }
+    ensures err { OnErr result (out.new.items ≡ out.old.items) }
+{
+    append_pair(out, b" ", p.x, b" ", p.z, after)
 }
 
 /// Appends a line for each turn: where it is, at which end of which portal.
@@ -98,8 +120,16 @@ pub fn append_wall(
         ++ point_text b ++ codes " " ++ signed_decimal num ++ codes " " ++ signed_decimal den ++ codes "\n")) }
     ensures err { OnErr result (take (vec_len out.old) out.new.items ≡ out.old.items) }
 {
-    append_number(out, b"wall ", k, b"")?;
-    append_pair(out, b" ", a.x, b" ", a.z, b"")?;
-    append_pair(out, b" ", b.x, b" ", b.z, b"")?;
+    append_edge(out, k, a, b)?;
     append_pair(out, b" ", num, b" ", den, b"\n")
+}
+
+fn append_edge(out: &mut Vec<u8>, k: u32, a: Point, b: Point) -> Result<(), AllocError>
+    ensures ok { OnOk result (out.new.items ≡ out.old.items
+        ++ (codes "wall " ++ decimal k ++ codes " " ++ point_text a ++ codes " " ++ point_text b)) }
+    ensures err { OnErr result (take (vec_len out.old) out.new.items ≡ out.old.items) }
+{
+    append_number(out, b"wall ", k, b"")?;
+    append_point(out, a, b"")?;
+    append_point(out, b, b"")
 }
