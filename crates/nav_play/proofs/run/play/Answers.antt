@@ -1,7 +1,8 @@
-use Rattle.std.proofs.Common.{arith}
+use Rattle.std.proofs.Common.{◌+◌, arith}
+use Rattle.nav_ground.specs.Tiling.{tile_count}
 use Rattle.nav_play.proofs.Runs.{line_playable, no_line}
 use Rattle.nav_play.proofs.StepCounts.{within_all}
-use Rattle.nav_play.proofs.Playing.{one_line_played, of_strips}
+use Rattle.nav_play.proofs.Playing.{line_steps, one_line_played, of_strips}
 use Rattle.nav_play.proofs.run.play.Goals as goal
 
 pub step-requires-clause-playable : goal.step-requires-clause-playable
@@ -22,4 +23,10 @@ returns-clause-text g c =
     c.published.ensures.value c.length.ensures c.in_ok-write_done.ensures.ok
 
 pub returns-clause-steps : goal.returns-clause-steps
-returns-clause-steps g c = within_all _ _ _ _ _ c.loop-line.invariant.steps
+returns-clause-steps g c =
+    within_all (tile_count c.args.setting) c.loop-line.line-index c.args.steps.now c.loop-line.steps c.args.script.now.lines c.loop-line.invariant.steps
+
+pub returns-in_err-step-clause-steps : goal.returns-in_err-step-clause-steps
+returns-in_err-step-clause-steps g c =
+    within_all (tile_count c.args.setting) (c.loop-line.line-index + 1) c.args.steps.now _ c.args.script.now.lines
+    (line_steps _ _ _ _ _ _ _ _ _ _ _ c.loop-line.invariant c.as_slice-line-items.ensures c.loop-line-test.true c.step.ensures.steps)
