@@ -1,5 +1,5 @@
 -- The tile meshes of a ground under obstacles are tiles of its setting, and make its mesh.
-use Rattle.std.proofs.Common.{◌≡◌, ℕ, ◌<◌, ◌≤◌, List, ◌++◌, length, get_or, ap, ◌∙◌, sym, subst, arith}
+use Rattle.std.proofs.Common.{◌≡◌, ℕ, ◌<◌, ◌≤◌, List, ◌++◌, length, get_or, ap, ◌∙◌, refl, sym, subst, arith}
 use Rattle.std.specs.List.{All}
 use Rattle.std.proofs.lemmas.List.{length-map, get_or-map}
 use Rattle.std.proofs.lemmas.List.Elements.{All-map, All-weaker}
@@ -74,12 +74,16 @@ pub build_from : (whole : Ground) (history : List Entry) (k : ℕ) (tiles : List
 unfolding build_of
 build_from whole history k tiles mesh same is = is ∙ ap (mesh_of whole.setting) same
 
+pub tiles_of_build : (whole : Ground) (history : List Entry) (k : ℕ) → (build_of whole history k).tiles ≡ tiles_under whole (shapes_alive history k)
+unfolding build_of mesh_of
+tiles_of_build whole history k = refl
+
 -- entries after those that a mesh shows do not change it
 pub build_of-append : (whole : Ground) (history more : List Entry) (k : ℕ) → k ≤ length history → build_of whole (history ++ more) k ≡ build_of whole history k
 unfolding build_of
 build_of-append whole history more k within = ap (mesh_under whole) (shapes_alive-append history more k within)
 
--- and keep its setting
+-- it has the ground's setting
 pub setting_of_build : (whole : Ground) (history : List Entry) (k : ℕ) (mesh : Mesh) → IsGround whole → mesh ≡ build_of whole history k
     → IsSetting mesh.setting
 unfolding build_of mesh_of

@@ -1,5 +1,5 @@
 -- A play under way on its ground, with the steps that it took.
-use Rattle.std.proofs.Common.{◌≡◌, ℕ, ◌+◌, ◌<◌, List, length, get_or, ap, ◌∙◌, sym, subst}
+use Rattle.std.proofs.Common.{◌≡◌, ℕ, ◌+◌, ◌<◌, List, [], length, get_or, ap, ◌∙◌, sym, subst, arith}
 use Rattle.nav_ground.specs.declared.field.Field.{Field}
 use Rattle.nav_ground.specs.declared.history.Ground.{Ground}
 use Rattle.nav_ground.specs.declared.setting.Setting.{Setting}
@@ -11,7 +11,7 @@ use Rattle.tile_build.specs.Meshes.{IsOfStrips}
 use Rattle.nav_play.specs.Built.{IsBuilt}
 use Rattle.nav_play.specs.PlayRecord.{PlayState, AddsSome, IsSaid, ground_of, state_after}
 use Rattle.nav_play.specs.Work.{most_for, most_steps}
-use Rattle.nav_play.proofs.Runs.{IsUnderWay, one_line}
+use Rattle.nav_play.proofs.Runs.{IsUnderWay, before_lines, one_line}
 use Rattle.nav_play.proofs.StepCounts.{most_up_to, one_line_more, whole_stays, within_all}
 
 -- the play is under way, its ground is the one that it began with, and its steps are those of the beginning and of the lines so far at most
@@ -19,6 +19,16 @@ pub record IsPlaying (first : PlayState) (lines : List Line) (done : ℕ) (state
   pub way : IsUnderWay first lines done state text lanes
   pub whole : state.book.whole ≡ first.book.whole
   pub steps : HasRisenAtMost (most_up_to (tile_count first.book.whole.setting) lines done) before after
+
+-- no line was played: the steps are those of the beginning
+pub no_line_played : (first : PlayState) (lines : List Line) (state : PlayState) (text : List ℕ) (lanes before after : ℕ) → state ≡ first → text ≡ []
+    → length state.adds ≡ lanes → state.lane < lanes → HasRisenAtMost (tile_count first.book.whole.setting) before after
+    → IsPlaying first lines 0 state text lanes before after
+no_line_played first lines state text lanes before after same empty all lane steps = record {
+  way = before_lines first lines state text lanes same empty all lane;
+  whole = ap (λ (s : PlayState). s.book.whole) same;
+  steps = record { least = steps.least; most_risen = omega (arith, steps.most_risen) };
+}
 
 -- the steps of one more line
 pub line_steps : (first : PlayState) (lines items : List Line) (done : ℕ) (state : PlayState) (text : List ℕ) (lanes before after later : ℕ) (d : Line)

@@ -3,10 +3,11 @@
 ghost use Rattle.std.specs.Prelude.{◌≡◌, ◌<◌, ◌++◌, IfOk, OnOk, OnErr, IsTrue, length};
 ghost use Rattle.nav_ground.specs.History.{IsRequest};
 ghost use Rattle.nav_ground.specs.Tiling.{tile_count};
-ghost use Rattle.nav_play.specs.Built.{is_built_line, is_built_question};
+ghost use Rattle.nav_play.specs.Built.{is_built_line};
 ghost use Rattle.nav_play.specs.PlayRecord.{PlayState, AddsSome, IsSaid, IsAnswered, state_after, request_text, requested, number_got, number_added};
 ghost use Rattle.nav_play.specs.Players.{player_state, IsPlayable};
 ghost use Rattle.nav_play.specs.Work.{most_for};
+ghost use Rattle.nav_query.specs.Questions.{IsAnswerable};
 ghost use Rattle.nav_steps.specs.Counts.{HasRisenAtMost};
 ghost use Rattle.tile_build.specs.Meshes.{IsOfStrips};
 
@@ -15,7 +16,7 @@ use crate::publication::settle;
 use nav_base::Question;
 use nav_book::{Book, HistoryFull};
 use nav_ground::{Reply, Request};
-use nav_record::{StepAnswer, write_floors, write_reply, write_step};
+use nav_record::{StepAnswer, write_answer, write_reply, write_step};
 use nav_script::Line;
 use nav_steps::Steps;
 use std::alloc::{AllocError, Global};
@@ -78,17 +79,12 @@ impl Player {
 
     /// Answers a question from the published mesh.
     fn ask(&mut self, alloc: Global, question: &Question) -> Result<(), AllocError>
-        requires { IsTrue (is_built_question question.now) }
+        requires { IsAnswerable question.now }
         ensures text { OnOk result (AddsSome (IsAnswered self.old.book question.now) self.old.text.items self.new.text.items) }
         ensures state { player_state self.new ≡ player_state self.old }
     {
-        match *question {
-            Question::Floor { x, z } => {
-                let floors = self.book.floors(alloc, x, z)?;
-                write_floors(&mut self.text, self.book.published(), floors.as_slice())
-            }
-            Question::Path { .. } | Question::Ray { .. } => unreachable!(),
-        }
+        let (k, answer) = self.book.ask(alloc, question)?;
+        write_answer(&mut self.text, k, &answer)
     }
 
     /// Makes a request of the current lane and writes what became of it. Gives the number of the obstacle that it added, or 0.

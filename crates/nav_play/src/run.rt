@@ -28,7 +28,7 @@ use tile_build::build_tiles;
 #[derive(Drop)]
 pub struct PlayText {
     pub bytes: Vec<u8>,
-    /// Entries and published length; no way is asked for so far, so the rest is 0. Nothing is promised of these numbers yet.
+    /// Entries and published length; the rest is 0 so far. Nothing is promised of these numbers yet.
     pub totals: Totals,
 }
 
@@ -76,7 +76,7 @@ pub fn play<R: Wait, L: Ledger>(
     })
 }
 
-/// The totals of a play without ways.
+/// The totals of a play: so far entries and published length are counted alone.
 fn totals_of(entries: u32, published: u32) -> Totals
     ensures entries { result.entries ≡ entries }
     ensures published { result.published ≡ published }
