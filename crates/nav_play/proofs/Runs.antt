@@ -1,6 +1,7 @@
 -- A play under way: what is written so far and what may still come make a text of the whole play.
-use Rattle.std.proofs.Common.{◌≡◌, ℕ, ◌+◌, ◌<◌, ◌≤◌, Bool, true, IsTrue, List, ◌++◌, length, take, drop, ap, ◌∙◌, sym, subst, refl, [], ◌∷◌, get_or, append_assoc, ⊎_elim, arith}
+use Rattle.std.proofs.Common.{◌≡◌, ℕ, ◌+◌, ◌<◌, ◌≤◌, true, IsTrue, ℤ, pos, ◌≤ℤ◌, List, ◌++◌, length, take, drop, ap, ◌∙◌, sym, subst, refl, [], ◌∷◌, get_or, append_assoc, ⊎_elim, arith}
 use Rattle.std.proofs.lemmas.List.{drop_more, drop_all}
+use Rattle.std.proofs.lemmas.Int.{ints}
 use Rattle.std.proofs.lemmas.Bool.{both_ways, cases_Bool, false≢true}
 use Rattle.std.proofs.lemmas.List.Folds.{list_all_at}
 use Rattle.std.proofs.lemmas.Option.{slice_get-get_or}
@@ -8,7 +9,7 @@ use Rattle.std.specs.List.{list_all}
 use Rattle.nav_base.specs.declared.answers.Question.{Question}
 use Rattle.nav_base.specs.declared.answers.Question.TheVariants.{Floor, Path, Ray}
 use Rattle.nav_base.specs.declared.point.Point.{Point}
-use Rattle.nav_base.specs.Point.{HasCoordinates}
+use Rattle.nav_base.specs.Point.{HasCoordinates, IsCoordinate}
 use Rattle.nav_ground.specs.declared.shape.Shape.{Shape}
 use Rattle.nav_ground.specs.declared.shape.Shape.TheVariants.{Block, Cylinder, AreaBlock, AreaCylinder}
 use Rattle.nav_ground.specs.Limits.{IsShape}
@@ -107,16 +108,17 @@ obstacle_fits (Cylinder cx cz r y0 y1) fits = fits
 obstacle_fits (AreaBlock area x0 x1 y0 y1 z0 z1) none = elim none [ ]
 obstacle_fits (AreaCylinder area cx cz r y0 y1) none = elim none [ ]
 
--- a place that a script names is a point with coordinates, and its questions that are built can be answered
-place_fits : (point : Point) → IsPlace point → HasCoordinates point
-place_fits point place = record {
-  across = record { low = omega (arith, place.x_least); high = omega (arith, place.x_most) };
-  along = record { low = omega (arith, place.z_least); high = omega (arith, place.z_most) };
-}
+-- a place that a script names is a point with coordinates
+coordinate : (n : ℤ) → pos 0 ≤ℤ n → n ≤ℤ pos 16384 → IsCoordinate n
+coordinate n least most = record { low = grind (arith, ints); high = grind (arith, ints) }
 
+place_fits : (point : Point) → IsPlace point → HasCoordinates point
+place_fits point place = record { across = coordinate point.x place.x_least place.x_most; along = coordinate point.z place.z_least place.z_most }
+
+-- and a question of a script that is built can be answered
 answerable : (question : Question) → is_built_question question ≡ true → IsQuestion question → IsAnswerable question
 answerable (Floor x z) built fits = tt
-answerable (Path from from_y to to_y) built fits = (place_fits from fits.0, place_fits to fits.2.0)
+answerable (Path from from_y to to_y) built fits = (place_fits from fits.0, place_fits to fits.2)
 answerable (Ray from from_y to) built fits = absurd (false≢true built)
 
 playable : (lanes workers before : ℕ) (line : Line) → is_built_line line ≡ true → IsLine Play lanes workers before line → IsPlayable lanes line
