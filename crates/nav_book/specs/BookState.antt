@@ -1,14 +1,14 @@
 -- What a book is seen as, and what its calls make of that.
 use Rattle.std.specs.Prelude.{ℕ, List, [], ◌∷◌, ◌++◌, length}
-use Rattle.nav_ground.specs.declared.cell.FreeLayer.{FreeLayer}
 use Rattle.nav_ground.specs.declared.history.Entry.{Entry}
 use Rattle.nav_ground.specs.declared.history.Ground.{Ground}
 use Rattle.nav_ground.specs.declared.history.Reply.{Reply}
 use Rattle.nav_ground.specs.declared.history.Request.{Request}
-use Rattle.nav_ground.specs.FreeCells.{free_layers_of}
-use Rattle.nav_ground.specs.History.{reply_to, shapes_alive}
+use Rattle.nav_ground.specs.History.{reply_to}
+use Rattle.mesh_types.specs.declared.mesh.Mesh.{Mesh}
+use Rattle.mesh_types.specs.Builds.{build_of}
 
--- a book: the ground, the history of requests, and how many of its entries the published free cells show
+-- a book: the ground, the history of requests, and how many of its entries the published mesh shows
 pub record BookState : Type 0 where
   pub whole : Ground
   pub history : List Entry
@@ -25,9 +25,9 @@ after_request state lane request = record state {
 }
 
 -- the book after all its entries were published
-abbrev pub after_settle : BookState → BookState
-after_settle state = record state { published = length state.history }
+abbrev pub after_renewal : BookState → BookState
+after_renewal state = record state { published = length state.history }
 
--- the free cells that a book shows: those of each layer under the shapes that are alive after the published entries
-abbrev pub published_layers : BookState → List FreeLayer
-published_layers state = free_layers_of state.whole.layers (shapes_alive state.history state.published)
+-- the mesh that a book shows: that of its ground with the obstacles that are alive after the published entries
+abbrev pub published_mesh : BookState → Mesh
+published_mesh state = build_of state.whole state.history state.published

@@ -1,4 +1,3 @@
 pub mod LiveTable
-pub mod Columns
 pub mod BookState
 pub mod Representation

@@ -1,25 +1,26 @@
-//! The book: its history, and the free cells that were last published.
+//! The book: its history, and the mesh that was last published.
 
 ghost use Rattle.std.specs.Prelude.{◌≡◌, ◌↔◌, ◌+◌, ◌≤◌, [], length, map, IsErr, IsTrue, IfOk, IfErr, OnOk, OnErr, All};
 ghost use Rattle.std.specs.Arc.{arc_value};
-ghost use Rattle.nav_ground.specs.Cells.{IsLayer};
-ghost use Rattle.nav_ground.specs.FreeCells.{free_layers_of};
 ghost use Rattle.nav_ground.specs.Grounds.{IsGround};
-ghost use Rattle.nav_ground.specs.History.{IsRequest, IsHistory};
+ghost use Rattle.nav_ground.specs.History.{IsRequest, IsHistory, shapes_alive};
 ghost use Rattle.nav_ground.specs.Limits.{IsShape};
-ghost use Rattle.layer_cut.specs.Tiles.{IsInField};
-ghost use Rattle.nav_book.specs.BookState.{BookState, next_reply, after_request, after_settle, published_layers};
-ghost use Rattle.nav_book.specs.Columns.{floors_at};
+ghost use Rattle.mesh_types.specs.Right.{IsRight};
+ghost use Rattle.mesh_types.specs.Soundness.{IsSound};
+ghost use Rattle.tile_build.specs.Meshes.{tiles_under};
+ghost use Rattle.nav_query.specs.Questions.{HasLowCost, IsAnswerable};
+ghost use Rattle.nav_book.specs.BookState.{BookState, next_reply, after_request, after_renewal, published_mesh};
 
-use crate::columns::push_floors;
 use crate::live::{Live, answer, shapes};
-use layer_cut::tile_of;
-use nav_base::FloorAt;
-use nav_ground::{Entry, FreeLayer, Ground, HISTORY_LIMIT, Layer, Reply, Request, Setting, Shape};
-use obstacle_mark::mark;
+use mesh_types::{Answer, Mesh, TileMesh};
+use nav_base::Question;
+use nav_ground::{Entry, Ground, HISTORY_LIMIT, Reply, Request, Shape};
+use nav_list::Items;
+use nav_share::Shared;
 use std::alloc::{AllocError, Global};
 use std::marker::Model;
 use std::sync::Arc;
+use tile_links::joined;
 
 /// The history has as many entries as a history can have; nothing was appended.
 #[derive(Clone, Copy, PartialEq, Eq, Debug)]
@@ -28,13 +29,13 @@ pub struct HistoryFull {
     pub len: u32,
 }
 
-/// The history of the requests to a ground, and the free cells as they were last published.
+/// The history of the requests to a ground, and the mesh as it was last published.
 #[derive(Drop)]
 pub struct Book {
     level: Arc<Ground>,
     entries: Vec<Entry>,
     live: Vec<Live>,
-    layers: Vec<FreeLayer>,
+    mesh: Mesh,
     published: u32,
 }
 
@@ -51,20 +52,25 @@ impl Model for Book {
 }
 
 impl Book {
-    /// The book of a ground, with no entries, which shows all cells free. It takes the room for a whole history and for as many live
-    /// obstacles as the setting allows, so that requests take no memory.
-    pub fn begin(alloc: Global, level: Arc<Ground>) -> Result<Book, AllocError>
-        requires { IsGround (arc_value level) }
+    /// The book of a ground, with no entries, which shows the ground without obstacles: the tiles are those. It takes the room for a
+    /// whole history and for as many live obstacles as the setting allows, so that requests take no memory.
+    pub fn begin(
+        alloc: Global,
+        level: Arc<Ground>,
+        tiles: Items<Shared<TileMesh>>,
+    ) -> Result<Book, AllocError>
+        requires level { IsGround (arc_value level) }
+        requires tiles { tiles ≡ tiles_under (arc_value level) [] }
         ensures { IfOk result (λ book. book ≡ record { whole = arc_value level; history = []; published = 0 }) }
     {
         let entries = Vec::with_capacity(alloc, HISTORY_LIMIT as usize)?;
         let live = Vec::with_capacity(alloc, level.setting.limit as usize)?;
-        let layers = marked(alloc, level.layers.as_slice(), &[])?;
+        let mesh = joined(alloc, &level.setting, tiles)?;
         Ok(Book {
             level,
             entries,
             live,
-            layers,
+            mesh,
             published: 0,
         })
     }
@@ -96,35 +102,59 @@ impl Book {
         Ok((number, reply))
     }
 
-    /// Publishes the free cells under the obstacles that are alive after the whole history, and gives the history's length.
+    /// The shapes of the obstacles that are alive after the whole history, in the order of their numbers.
+    pub fn alive(&self, alloc: Global) -> Result<Vec<Shape>, AllocError>
+        ensures shapes { IfOk result (λ shapes. shapes.items ≡ shapes_alive self.now.history (length self.now.history)) }
+        ensures limits { IfOk result (λ shapes. All IsShape shapes.items) }
+    {
+        shapes(alloc, self.live.as_slice())
+    }
+
+    /// Publishes the whole history, and gives its length: the tiles are those of the ground under the obstacles that are alive after it.
     /// Where memory is refused, nothing has changed.
-    pub fn settle(&mut self, alloc: Global) -> Result<u32, AllocError>
-        ensures published { OnOk result (self.new ≡ after_settle self.old) }
+    pub fn renew(
+        &mut self,
+        alloc: Global,
+        tiles: Items<Shared<TileMesh>>,
+    ) -> Result<u32, AllocError>
+        requires { tiles ≡ tiles_under self.old.whole (shapes_alive self.old.history (length self.old.history)) }
+        ensures published { OnOk result (self.new ≡ after_renewal self.old) }
         ensures length { IfOk result (λ published. published ≡ length self.old.history) }
         ensures refused { OnErr result (self.new ≡ self.old) }
     {
+        let mesh = joined(alloc, &self.level.setting, tiles)?;
         let len = self.length();
-        if self.published == len {
-            return Ok(len);
-        }
-        let shapes = shapes(alloc, self.live.as_slice())?;
-        self.layers = marked(alloc, self.level.layers.as_slice(), shapes.as_slice())?;
+        self.mesh = mesh;
         self.published = len;
         Ok(len)
     }
 
-    /// The floors of the free cells of a column as they were last published, from the bottom up; none where the column has no free cell or
-    /// lies outside the field. It looks into the column's tile alone, by halving.
-    pub fn floors(&self, alloc: Global, x: u32, z: u32) -> Result<Vec<FloorAt>, AllocError>
-        ensures { IfOk result (λ floors. floors.items ≡ floors_at x z (published_layers self.now)) }
+    /// The published length, and an answer to the question that is right in the mesh as it was last published. A path that is found costs
+    /// less than 2^45.
+    pub fn ask(&self, alloc: Global, question: &Question) -> Result<(u32, Answer), AllocError>
+        requires { IsAnswerable question.now }
+        ensures published { IfOk result (λ told. told.0 ≡ self.now.published) }
+        ensures right { IfOk result (λ told. IsRight (published_mesh self.now) question.now told.1) }
+        ensures low_cost { IfOk result (λ told. HasLowCost told.1) }
     {
-        let mut floors = Vec::new(alloc);
-        let setting = &self.level.setting;
-        if is_inside(setting, x, z) {
-            let layer = &self.layers[tile_of(setting, x, z) as usize];
-            push_floors(&mut floors, layer.cells.as_slice(), x, z)?;
-        }
-        Ok(floors)
+        let answer = nav_query::answer(alloc, &self.mesh, question)?;
+        Ok((self.published, answer))
+    }
+
+    /// The ground, as it is without obstacles.
+    pub fn level(&self) -> &Ground
+        ensures value { result.now ≡ self.now.whole }
+        ensures rules { IsGround self.now.whole }
+    {
+        &self.level
+    }
+
+    /// The mesh as it was last published.
+    pub fn mesh(&self) -> &Mesh
+        ensures value { result.now ≡ published_mesh self.now }
+        ensures sound { IsSound (published_mesh self.now) }
+    {
+        &self.mesh
     }
 
     /// How many entries the history has.
@@ -134,7 +164,7 @@ impl Book {
         self.entries.len() as u32
     }
 
-    /// How many entries the published free cells show.
+    /// How many entries the published mesh shows.
     pub fn published(&self) -> u32
         ensures value { result ≡ self.now.published }
         ensures within { result ≤ length self.now.history }
@@ -149,25 +179,4 @@ impl Book {
     {
         self.entries.as_slice()
     }
-}
-
-/// Whether a column lies in the field.
-fn is_inside(setting: &Setting, x: u32, z: u32) -> bool
-    ensures { IsTrue result ↔ IsInField setting.now x z }
-{
-    x < setting.width && z < setting.depth
-}
-
-/// The free cells of each layer under a list of shapes.
-fn marked(alloc: Global, layers: &[Layer], shapes: &[Shape]) -> Result<Vec<FreeLayer>, AllocError>
-    requires layers { All IsLayer layers.now }
-    requires near { All (λ (layer : Layer). layer.radius ≡ 0) layers.now }
-    requires shapes { All IsShape shapes.now }
-    ensures { IfOk result (λ free. free.items ≡ free_layers_of layers.now shapes.now) }
-{
-    let mut free = Vec::with_capacity(alloc, layers.len())?;
-    for layer in layers {
-        free.push(mark(alloc, layer, shapes)?)?;
-    }
-    Ok(free)
 }

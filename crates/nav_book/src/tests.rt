@@ -1,22 +1,27 @@
 //! Runs of a book over a small flat ground. What is wanted was worked out by hand.
 
-ghost use Rattle.std.specs.Prelude.{◌≡◌, IfOk};
-ghost use Rattle.std.specs.Arc.{arc_value};
+ghost use Rattle.std.specs.Prelude.{◌≡◌, ◌<◌, IfOk};
 ghost use Rattle.nav_ground.specs.Fields.{IsField};
 ghost use Rattle.nav_ground.specs.Grounds.{IsGround};
 ghost use Rattle.nav_ground.specs.History.{IsRequest};
+ghost use Rattle.tile_build.specs.Meshes.{IsOfStrips};
 
 use crate::{Book, HistoryFull};
 use layer_cut::ground;
-use nav_base::FloorAt;
+use mesh_types::{Answer, PathFound, PolyRef};
+use nav_base::{FloorAt, Point, Question};
 use nav_ground::{
     AREAS, Agent, Entry, Field, Ground, HISTORY_LIMIT, MeshKind, Reply, Request, Setting, Shape,
     Span,
 };
 use nav_list::Items;
+use nav_steps::Steps;
 use std::alloc::{AllocError, Global};
+use std::marker::Brand;
 use std::sync::Arc;
+use std::sync::ledger::{Blank, Ledger};
 use std::test::Fail;
+use tile_build::{build_tiles, renew_tiles};
 
 /// What a table asks for: a block over the column (x, 1), a block there that sets the area 5, or that a number goes.
 #[derive(Clone, Copy, PartialEq, Eq, Debug)]
@@ -74,10 +79,14 @@ fn small_field(alloc: Global) -> Result<Field, AllocError>
     })
 }
 
-/// The ground of that field in two tiles, where two obstacles may be alive.
-fn small_ground(alloc: Global) -> Result<Arc<Ground>, AllocError>
-    ensures { IfOk result (λ level. IsGround (arc_value level)) }
+/// The book of the ground of that field in two tiles, where two obstacles may be alive.
+fn opened<L: Ledger>(alloc: Global, blank: Blank) -> Result<Book, AllocError>
+    requires name { blank.name ≡ L.name }
+    requires parts { blank.parts ≡ L.parts }
+    requires some { 0 < blank.parts }
+    ensures { IfOk result (λ book. IsOfStrips book.whole.setting) }
 {
+    let mut steps = Steps::<L>::new(blank);
     let setting = Setting {
         width: 7,
         depth: 4,
@@ -93,8 +102,32 @@ fn small_ground(alloc: Global) -> Result<Arc<Ground>, AllocError>
         costs: [1; AREAS],
         clear: false,
     };
-    let field = small_field(alloc)?;
-    Ok(Arc::new(alloc, ground(alloc, setting, field)?)?)
+    let level = ground(alloc, setting, small_field(alloc)?)?;
+    let tiles = build_tiles(alloc, &level, &[], &mut steps)?;
+    Book::begin(alloc, Arc::new(alloc, level)?, tiles)
+}
+
+/// Publishes the whole history of a book.
+fn renewed<L: Ledger>(book: &mut Book, alloc: Global, blank: Blank) -> Result<u32, AllocError>
+    requires name { blank.name ≡ L.name }
+    requires parts { blank.parts ≡ L.parts }
+    requires some { 0 < blank.parts }
+    requires strips { IsOfStrips book.old.whole.setting }
+    ensures { book.new.whole ≡ book.old.whole }
+{
+    let mut steps = Steps::<L>::new(blank);
+    let shapes = book.alive(alloc)?;
+    let standing = book.mesh().tiles.as_slice();
+    let tiles = renew_tiles(alloc, book.level(), shapes.as_slice(), standing, &mut steps)?;
+    book.renew(alloc, tiles)
+}
+
+/// The floors of a column, as the book answers.
+fn floors(book: &Book, alloc: Global, x: u32, z: u32) -> Result<Items<FloorAt>, AllocError> {
+    match book.ask(alloc, &Question::Floor { x, z })?.1 {
+        Answer::Floors(floors) => Ok(floors),
+        _ => Ok(Items::new(alloc)),
+    }
 }
 
 // A book may go from one thread to another.
@@ -105,7 +138,7 @@ fn sent<T: Send>(value: T) -> T {
 #[test]
 fn answers_requests(rt: HostRuntime) -> Result<(), Fail> {
     let alloc = rt.alloc();
-    let mut book = Book::begin(alloc, small_ground(alloc)?)?;
+    let mut book = opened::<Brand>(alloc, Blank::new(1))?;
     let cases = [
         (1, Asked::Block(1), Reply::Added { number: 1 }),
         (2, Asked::Area(2), Reply::Added { number: 2 }),
@@ -139,7 +172,7 @@ fn answers_requests(rt: HostRuntime) -> Result<(), Fail> {
 #[test]
 fn publishes_floors(rt: HostRuntime) -> Result<(), Fail> {
     let alloc = rt.alloc();
-    let mut book = Book::begin(alloc, small_ground(alloc)?)?;
+    let mut book = opened::<Brand>(alloc, Blank::new(1))?;
     let bare = FloorAt { y: 10, area: 63 };
     // What is asked, whether the book settles then, and the floors of the columns (1, 1) and (2, 1).
     let cases = [
@@ -163,11 +196,14 @@ fn publishes_floors(rt: HostRuntime) -> Result<(), Fail> {
     for (asked, settles, first, second) in cases {
         let _answer = book.request(0, request_of(asked));
         if settles {
-            assert_eq!(rt; book.settle(alloc)?, book.length());
-            assert_eq!(rt; book.settle(alloc)?, book.published());
+            assert_eq!(rt;
+                renewed::<Brand>(&mut book, alloc, Blank::new(1))?,
+                book.length()
+            );
+            assert_eq!(rt; book.published(), book.length());
         }
-        assert_eq!(rt; book.floors(alloc, 1, 1)?.first().copied(), first);
-        assert_eq!(rt; book.floors(alloc, 2, 1)?.first().copied(), second);
+        assert_eq!(rt; floors(&book, alloc, 1, 1)?.get(0).copied(), first);
+        assert_eq!(rt; floors(&book, alloc, 2, 1)?.get(0).copied(), second);
     }
     // The columns of the edge and those outside have no cells, and each other column has one.
     for (x, z, count) in [
@@ -182,20 +218,50 @@ fn publishes_floors(rt: HostRuntime) -> Result<(), Fail> {
         (1, 4, 0),
         (5000, 2, 0),
     ] {
-        assert_eq!(rt; book.floors(alloc, x, z)?.len(), count, "at {x} {z}");
+        assert_eq!(rt; floors(&book, alloc, x, z)?.len(), count, "at {x} {z}");
     }
+    Ok(())
+}
+
+#[test]
+fn answers_from_the_published_mesh(rt: HostRuntime) -> Result<(), Fail> {
+    let alloc = rt.alloc();
+    let mut book = opened::<Brand>(alloc, Blank::new(1))?;
+    // The tile of the columns 1 to 3 has the strips of the rows 1 and 2, each from 16 to 64 of x.
+    let question = Question::Path {
+        from: Point { x: 24, z: 24 },
+        from_y: 10,
+        to: Point { x: 40, z: 24 },
+        to_y: 10,
+    };
+    let stays = Answer::Path(PathFound {
+        first: PolyRef { tile: 0, index: 0 },
+        cost: 0,
+        links: Items::new(alloc),
+        turns: Items::new(alloc),
+    });
+    assert_eq!(rt; book.ask(alloc, &question)?, (0, stays));
+    // The goal is covered once the request is published, and not before.
+    let _answer = book.request(0, request_of(Asked::Block(2)));
+    assert_eq!(rt; book.ask(alloc, &question)?.0, 0);
+    assert!(rt; book.ask(alloc, &question)?.1 != Answer::NoGoal);
+    renewed::<Brand>(&mut book, alloc, Blank::new(1))?;
+    assert_eq!(rt; book.ask(alloc, &question)?, (1, Answer::NoGoal));
     Ok(())
 }
 
 #[test]
 fn fills_its_history(rt: HostRuntime) -> Result<(), Fail> {
     let alloc = rt.alloc();
-    let mut book = sent(Book::begin(alloc, small_ground(alloc)?)?);
+    let mut book = sent(opened::<Brand>(alloc, Blank::new(1))?);
     for _ in 0..HISTORY_LIMIT {
         assert!(rt; book.request(0, Request::Remove(1)).is_ok());
     }
     let full = HistoryFull { len: HISTORY_LIMIT };
     assert_eq!(rt; book.request(0, Request::Remove(1)), Err(full));
-    assert_eq!(rt; book.settle(alloc)?, HISTORY_LIMIT);
+    assert_eq!(rt;
+        renewed::<Brand>(&mut book, alloc, Blank::new(1))?,
+        HISTORY_LIMIT
+    );
     Ok(())
 }

@@ -1,2 +1,4 @@
 pub mod Lists
 pub mod Runs
+pub mod StepCounts
+pub mod Playing

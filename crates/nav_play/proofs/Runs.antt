@@ -1,7 +1,15 @@
 -- A play under way: what is written so far and what may still come make a text of the whole play.
-use Rattle.std.proofs.Common.{◌≡◌, ℕ, ◌+◌, ◌<◌, ◌≤◌, List, ◌++◌, length, take, drop, ap, ◌∙◌, sym, subst, refl, [], ◌∷◌, get_or, append_assoc}
+use Rattle.std.proofs.Common.{◌≡◌, ℕ, ◌+◌, ◌<◌, ◌≤◌, true, IsTrue, ℤ, pos, ◌≤ℤ◌, List, ◌++◌, length, take, drop, ap, ◌∙◌, sym, subst, refl, [], ◌∷◌, get_or, append_assoc, ⊎_elim, arith}
 use Rattle.std.proofs.lemmas.List.{drop_more, drop_all}
+use Rattle.std.proofs.lemmas.Int.{ints}
+use Rattle.std.proofs.lemmas.Bool.{both_ways, cases_Bool, false≢true}
+use Rattle.std.proofs.lemmas.List.Folds.{list_all_at}
 use Rattle.std.proofs.lemmas.Option.{slice_get-get_or}
+use Rattle.std.specs.List.{list_all}
+use Rattle.nav_base.specs.declared.answers.Question.{Question}
+use Rattle.nav_base.specs.declared.answers.Question.TheVariants.{Floor, Path, Ray}
+use Rattle.nav_base.specs.declared.point.Point.{Point}
+use Rattle.nav_base.specs.Point.{HasCoordinates, IsCoordinate}
 use Rattle.nav_ground.specs.declared.shape.Shape.{Shape}
 use Rattle.nav_ground.specs.declared.shape.Shape.TheVariants.{Block, Cylinder, AreaBlock, AreaCylinder}
 use Rattle.nav_ground.specs.Limits.{IsShape}
@@ -9,9 +17,11 @@ use Rattle.nav_script.specs.declared.line.Line.{Line}
 use Rattle.nav_script.specs.declared.line.Line.TheVariants.{Lane, Ask, Add, Remove, Undo, Settle, Aim, Claim, Back, Submit, Publish}
 use Rattle.nav_script.specs.declared.script.Script.{Script}
 use Rattle.nav_script.specs.declared.script.Way.TheVariants.{Play}
-use Rattle.nav_script.specs.Limits.{IsScript, IsLine, IsObstacle}
+use Rattle.nav_query.specs.Questions.{IsAnswerable}
+use Rattle.nav_script.specs.Limits.{IsScript, IsLine, IsObstacle, IsPlace, IsQuestion}
 use Rattle.nav_script.specs.Lanes.{adds_before}
 use Rattle.nav_record.specs.Texts.{done_text}
+use Rattle.nav_play.specs.Built.{is_built_line, is_built_question}
 use Rattle.nav_play.specs.PlayRecord.{PlayState, AddsSome, IsTextFrom, IsSaid, state_after}
 use Rattle.nav_play.specs.Players.{IsPlayable}
 
@@ -98,26 +108,46 @@ obstacle_fits (Cylinder cx cz r y0 y1) fits = fits
 obstacle_fits (AreaBlock area x0 x1 y0 y1 z0 z1) none = elim none [ ]
 obstacle_fits (AreaCylinder area cx cz r y0 y1) none = elim none [ ]
 
-playable : (lanes workers before : ℕ) (line : Line) → IsLine Play lanes workers before line → IsPlayable lanes line
-playable lanes workers before (Lane lane) fits = fits
-playable lanes workers before (Ask question) fits = tt
-playable lanes workers before (Add shape) fits = obstacle_fits shape fits
-playable lanes workers before (Remove number) fits = tt
-playable lanes workers before (Undo back) fits = tt
-playable lanes workers before Settle fits = tt
-playable lanes workers before Aim fits = tt
-playable lanes workers before (Claim worker) fits = tt
-playable lanes workers before (Back worker) fits = tt
-playable lanes workers before (Submit worker) fits = tt
-playable lanes workers before Publish fits = tt
+-- a place that a script names is a point with coordinates
+coordinate : (n : ℤ) → pos 0 ≤ℤ n → n ≤ℤ pos 16384 → IsCoordinate n
+coordinate n least most = record { low = grind (arith, ints); high = grind (arith, ints) }
 
--- each line of a script can be played
-pub line_playable : (script : Script) (items : List Line) (k lanes : ℕ) (d : Line) → IsScript Play script → items ≡ script.lines → k < length items
-    → lanes ≡ script.lanes → IsPlayable lanes (get_or items k d)
-line_playable script items k lanes d rules same there all =
+place_fits : (point : Point) → IsPlace point → HasCoordinates point
+place_fits point place = record { across = coordinate point.x place.x_least place.x_most; along = coordinate point.z place.z_least place.z_most }
+
+-- and a question of a script that is built can be answered
+answerable : (question : Question) → is_built_question question ≡ true → IsQuestion question → IsAnswerable question
+answerable (Floor x z) built fits = tt
+answerable (Path from from_y to to_y) built fits = (place_fits from fits.0, place_fits to fits.2)
+answerable (Ray from from_y to) built fits = absurd (false≢true built)
+
+playable : (lanes workers before : ℕ) (line : Line) → is_built_line line ≡ true → IsLine Play lanes workers before line → IsPlayable lanes line
+playable lanes workers before (Lane lane) built fits = fits
+playable lanes workers before (Ask question) built fits = answerable question built fits
+playable lanes workers before (Add shape) built fits = obstacle_fits shape fits
+playable lanes workers before (Remove number) built fits = tt
+playable lanes workers before (Undo back) built fits = tt
+playable lanes workers before Settle built fits = tt
+playable lanes workers before Aim built fits = tt
+playable lanes workers before (Claim worker) built fits = tt
+playable lanes workers before (Back worker) built fits = tt
+playable lanes workers before (Submit worker) built fits = tt
+playable lanes workers before Publish built fits = tt
+
+built_at : (lines : List Line) (k : ℕ) (d : Line) → k < length lines → list_all is_built_line lines ≡ true → is_built_line (get_or lines k d) ≡ true
+built_at lines k d there all =
+    ⊎_elim (λ yes. yes) (λ no. absurd (both_ways (list_all is_built_line lines) (list_all_at is_built_line lines k d there no) all))
+    (cases_Bool (is_built_line (get_or lines k d)))
+
+-- each line of a script that is built can be played
+pub line_playable : (script : Script) (items : List Line) (k lanes : ℕ) (d : Line) → IsScript Play script → IsTrue (list_all is_built_line script.lines)
+    → items ≡ script.lines → k < length items → lanes ≡ script.lanes → IsPlayable lanes (get_or items k d)
+line_playable script items k lanes d rules built same there all =
     let P : List Line → Type 0 = λ xs. k < length xs in
     let Q : List Line → Type 0 = λ xs. IsPlayable lanes (get_or xs k d) in
     let R : ℕ → Type 0 = λ n. IsPlayable n (get_or script.lines k d) in
-    let found = slice_get-get_or script.lines k d (subst P same there) in
+    let there' = subst P same there in
+    let found = slice_get-get_or script.lines k d there' in
     let fits = rules.each k (get_or script.lines k d) found in
-    subst Q (sym same) (subst R (sym all) (playable script.lanes script.workers (adds_before (take k script.lines)) (get_or script.lines k d) fits))
+    subst Q (sym same) (subst R (sym all)
+    (playable script.lanes script.workers (adds_before (take k script.lines)) (get_or script.lines k d) (built_at script.lines k d there' built) fits))

@@ -1,4 +1,4 @@
--- Which plays are built so far: those over meshes of strips whose lines ask for obstacles and floors.
+-- Which plays are built so far: those over meshes of strips whose lines ask for obstacles, floors and paths.
 use Rattle.std.specs.Prelude.{◌≡◌, Bool, false, true, IsTrue}
 use Rattle.std.specs.List.{list_all}
 use Rattle.nav_base.specs.declared.answers.Question.{Question}
@@ -10,10 +10,10 @@ use Rattle.nav_script.specs.declared.line.Line.{Line}
 use Rattle.nav_script.specs.declared.line.Line.TheVariants.{Lane, Ask, Add, Remove, Undo, Settle, Aim, Claim, Back, Submit, Publish}
 use Rattle.nav_script.specs.declared.script.Script.{Script}
 
--- floors are answered; ways and rays are not yet
+-- floors and paths are answered; rays are not yet
 abbrev pub is_built_question : Question → Bool
 is_built_question (Floor x z) = true
-is_built_question (Path from from_y to to_y) = false
+is_built_question (Path from from_y to to_y) = true
 is_built_question (Ray from from_y to) = false
 
 -- lanes, requests and `settle` are played; the single steps of workers are not yet

@@ -1,3 +1,4 @@
 pub mod Built
 pub mod PlayRecord
 pub mod Players
+pub mod Work

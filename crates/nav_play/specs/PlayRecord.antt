@@ -1,7 +1,6 @@
 -- What a play of a script may write: line by line the answers of the book, and then how far the play came.
 use Rattle.std.specs.Prelude.{◌≡◌, ℕ, ◌+◌, ◌-◌, ◌==◌, if◌then◌else◌, List, [], ◌∷◌, ◌++◌, length, replicate, slice_get, slice_set, get_or, unwrap_or}
 use Rattle.nav_base.specs.declared.answers.Question.{Question}
-use Rattle.nav_base.specs.declared.answers.Question.TheVariants.{Floor, Path, Ray}
 use Rattle.nav_ground.specs.declared.setting.Setting.{Setting}
 use Rattle.nav_ground.specs.declared.field.Field.{Field}
 use Rattle.nav_ground.specs.declared.history.TheConstants.{HISTORY_LIMIT}
@@ -11,10 +10,11 @@ use Rattle.nav_ground.specs.declared.history.Reply.TheVariants.{Added, Removed, 
 use Rattle.nav_ground.specs.declared.history.Request.{Request}
 use Rattle.nav_ground.specs.declared.history.Request.TheVariants as requests
 use Rattle.nav_ground.specs.Layers.{layers_of}
-use Rattle.nav_book.specs.BookState.{BookState, next_reply, after_request, after_settle, published_layers}
-use Rattle.nav_book.specs.Columns.{floors_at}
+use Rattle.mesh_types.specs.declared.answers.Answer.{Answer}
+use Rattle.mesh_types.specs.Right.{IsRight}
+use Rattle.nav_book.specs.BookState.{BookState, next_reply, after_request, after_renewal, published_mesh}
 use Rattle.nav_record.specs.declared.step.StepAnswer.TheVariants.{Settled, HistoryFull}
-use Rattle.nav_record.specs.Texts.{reply_text, step_text, floors_text, done_text}
+use Rattle.nav_record.specs.Texts.{reply_text, step_text, answer_text, done_text}
 use Rattle.nav_script.specs.declared.line.Line.{Line}
 use Rattle.nav_script.specs.declared.line.Line.TheVariants.{Lane, Ask, Add, Remove, Undo, Settle, Aim, Claim, Back, Submit, Publish}
 use Rattle.nav_script.specs.declared.script.Script.{Script}
@@ -69,11 +69,11 @@ number_in adds lane j = unwrap_or (slice_get (adds_of adds lane) (j - 1)) 0
 abbrev pub drop_request : PlayState → ℕ → Request
 drop_request state j = requests.Remove (number_in state.adds state.lane j)
 
--- what may be written after a question: the answer, with the length that it was asked at; ways and rays are not built yet
-abbrev pub IsAnswered : BookState → Question → List ℕ → Type 0
-IsAnswered book (Floor x z) text = text ≡ floors_text book.published (floors_at x z (published_layers book))
-IsAnswered book (Path from from_y to to_y) text = text ≡ []
-IsAnswered book (Ray from from_y to) text = text ≡ []
+-- what may be written after a question: an answer that is right in the published mesh, with the length that it was asked at
+pub record IsAnswered (book : BookState) (question : Question) (text : List ℕ) : Type 0 where
+  pub answer : Answer
+  pub right : IsRight (published_mesh book) question answer
+  pub written : text ≡ answer_text book.published answer
 
 -- what may be written after a line; only questions leave a choice
 abbrev pub IsSaid : PlayState → Line → List ℕ → Type 0
@@ -99,7 +99,7 @@ state_after state (Add shape) = record state {
 }
 state_after state (Remove number) = record state { book = requested state.book state.lane (requests.Remove number) }
 state_after state (Undo j) = record state { book = requested state.book state.lane (drop_request state j) }
-state_after state Settle = record state { book = after_settle state.book }
+state_after state Settle = record state { book = after_renewal state.book }
 state_after state Aim = state
 state_after state (Claim worker) = state
 state_after state (Back worker) = state

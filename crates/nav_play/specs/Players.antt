@@ -1,6 +1,7 @@
 -- What a player is seen as, and which lines it can play.
 use Rattle.std.specs.Prelude.{ℕ, ◌<◌, ⊤}
 use Rattle.nav_ground.specs.Limits.{IsShape}
+use Rattle.nav_query.specs.Questions.{IsAnswerable}
 use Rattle.nav_play.specs.declared.player.Player.{Player}
 use Rattle.nav_play.specs.PlayRecord.{PlayState}
 use Rattle.nav_script.specs.declared.line.Line.{Line}
@@ -10,10 +11,10 @@ use Rattle.nav_script.specs.declared.line.Line.TheVariants.{Lane, Ask, Add, Remo
 abbrev pub player_state : Player → PlayState
 player_state player = record { book = player.book; lane = player.lane; adds = player.adds }
 
--- a line names a lane that is there, and an obstacle within its limits
+-- a line names a lane that is there, an obstacle within its limits, or a question that can be answered
 abbrev pub IsPlayable : ℕ → Line → Type 0
 IsPlayable lanes (Lane lane) = lane < lanes
-IsPlayable lanes (Ask question) = ⊤
+IsPlayable lanes (Ask question) = IsAnswerable question
 IsPlayable lanes (Add shape) = IsShape shape
 IsPlayable lanes (Remove number) = ⊤
 IsPlayable lanes (Undo back) = ⊤

@@ -2,17 +2,25 @@
 
 ghost use Rattle.std.specs.Prelude.{◌≡◌, ◌<◌, ◌++◌, IfOk, OnOk, OnErr, IsTrue, length};
 ghost use Rattle.nav_ground.specs.History.{IsRequest};
-ghost use Rattle.nav_play.specs.Built.{is_built_line, is_built_question};
+ghost use Rattle.nav_ground.specs.Tiling.{tile_count};
+ghost use Rattle.nav_play.specs.Built.{is_built_line};
 ghost use Rattle.nav_play.specs.PlayRecord.{PlayState, AddsSome, IsSaid, IsAnswered, state_after, request_text, requested, number_got, number_added};
 ghost use Rattle.nav_play.specs.Players.{player_state, IsPlayable};
+ghost use Rattle.nav_play.specs.Work.{most_for};
+ghost use Rattle.nav_query.specs.Questions.{IsAnswerable};
+ghost use Rattle.nav_steps.specs.Counts.{HasRisenAtMost};
+ghost use Rattle.tile_build.specs.Meshes.{IsOfStrips};
 
 use crate::lanes::Lanes;
+use crate::publication::settle;
 use nav_base::Question;
 use nav_book::{Book, HistoryFull};
 use nav_ground::{Reply, Request};
-use nav_record::{StepAnswer, write_floors, write_reply, write_step};
+use nav_record::{StepAnswer, write_answer, write_reply, write_step};
 use nav_script::Line;
+use nav_steps::Steps;
 use std::alloc::{AllocError, Global};
+use std::sync::ledger::Ledger;
 
 /// The book, the lane of the next request, what the add lines of each lane got, and the text so far.
 #[derive(Drop)]
@@ -25,14 +33,21 @@ pub(crate) struct Player {
 
 impl Player {
     /// Plays one line and writes what it is answered.
-    pub(crate) fn step(&mut self, alloc: Global, line: &Line) -> Result<(), AllocError>
+    pub(crate) fn step<L: Ledger>(
+        &mut self,
+        alloc: Global,
+        line: &Line,
+        steps: &mut Steps<L>,
+    ) -> Result<(), AllocError>
         requires built { IsTrue (is_built_line line.now) }
         requires playable { IsPlayable (length self.old.adds) line.now }
         requires lane { self.old.lane < length self.old.adds }
+        requires strips { IsOfStrips self.old.book.whole.setting }
         ensures text { OnOk result (AddsSome (IsSaid (player_state self.old) line.now) self.old.text.items self.new.text.items) }
         ensures state { OnOk result (player_state self.new ≡ state_after (player_state self.old) line.now) }
         ensures lane { OnOk result (self.new.lane < length self.new.adds) }
         ensures lanes { OnOk result (length self.new.adds ≡ length self.old.adds) }
+        ensures steps { HasRisenAtMost (most_for (tile_count self.old.book.whole.setting) line.now) steps.old steps.new }
     {
         match *line {
             Line::Lane(lane) => {
@@ -54,7 +69,7 @@ impl Player {
                 Ok(())
             }
             Line::Settle => {
-                let k = self.book.settle(alloc)?;
+                let k = settle(&mut self.book, alloc, steps)?;
                 write_step(&mut self.text, &StepAnswer::Settled { k })
             }
             Line::Aim | Line::Claim(_) | Line::Back(_) | Line::Submit(_) | Line::Publish =>
@@ -62,19 +77,14 @@ impl Player {
         }
     }
 
-    /// Answers a question from the published cells.
+    /// Answers a question from the published mesh.
     fn ask(&mut self, alloc: Global, question: &Question) -> Result<(), AllocError>
-        requires { IsTrue (is_built_question question.now) }
+        requires { IsAnswerable question.now }
         ensures text { OnOk result (AddsSome (IsAnswered self.old.book question.now) self.old.text.items self.new.text.items) }
         ensures state { player_state self.new ≡ player_state self.old }
     {
-        match *question {
-            Question::Floor { x, z } => {
-                let floors = self.book.floors(alloc, x, z)?;
-                write_floors(&mut self.text, self.book.published(), floors.as_slice())
-            }
-            Question::Path { .. } | Question::Ray { .. } => unreachable!(),
-        }
+        let (k, answer) = self.book.ask(alloc, question)?;
+        write_answer(&mut self.text, k, &answer)
     }
 
     /// Makes a request of the current lane and writes what became of it. Gives the number of the obstacle that it added, or 0.

@@ -6,8 +6,10 @@ ghost use Rattle.nav_ground.specs.Fields.{IsField};
 ghost use Rattle.nav_ground.specs.Grounds.{IsSized};
 ghost use Rattle.nav_play.specs.Built.{IsBuilt};
 ghost use Rattle.nav_play.specs.PlayRecord.{IsPlayText};
+ghost use Rattle.nav_play.specs.Work.{most_steps};
 ghost use Rattle.nav_script.specs.Limits.{IsScript};
 ghost use Rattle.nav_script.specs.declared.script.Way.TheVariants.{Play};
+ghost use Rattle.nav_steps.specs.Counts.{HasRisenAtMost};
 
 use crate::lanes::Lanes;
 use crate::player::Player;
@@ -20,17 +22,19 @@ use nav_steps::Steps;
 use std::alloc::{AllocError, Global};
 use std::sync::ledger::Ledger;
 use std::sync::{Arc, Wait};
+use tile_build::build_tiles;
 
 /// The text of a play, and what came to pass in it.
 #[derive(Drop)]
 pub struct PlayText {
     pub bytes: Vec<u8>,
-    /// Entries and published length; no way is asked for so far and no mesh is made, so the rest is 0. Nothing is promised of these numbers yet.
+    /// Entries and published length; the rest is 0 so far. Nothing is promised of these numbers yet.
     pub totals: Totals,
 }
 
 /// Plays a script over a field: for each script line in order what it is answered, and then the published length and the history's length.
-/// No step is taken so far, since no tile is built. Only memory can be refused.
+/// It takes one step for each tile that it builds: all of them at its beginning, and at each `settle` line those whose free cells have changed.
+/// Only memory can be refused.
 pub fn play<R: Wait, L: Ledger>(
     rt: &R,
     alloc: Global,
@@ -45,10 +49,11 @@ pub fn play<R: Wait, L: Ledger>(
     requires script { IsScript Play script.now }
     requires built { IsBuilt setting script.now }
     ensures text { IfOk result (λ text. IsPlayText setting field script.now text.bytes.items) }
-    ensures steps { steps.new ≡ steps.old }
+    ensures steps { HasRisenAtMost (most_steps setting script.now) steps.old steps.new }
 {
-    let ground = Arc::new(alloc, ground(alloc, setting, field)?)?;
-    let book = Book::begin(alloc, ground)?;
+    let level = ground(alloc, setting, field)?;
+    let tiles = build_tiles(alloc, &level, &[], steps)?;
+    let book = Book::begin(alloc, Arc::new(alloc, level)?, tiles)?;
     let mut player = Player {
         book,
         lane: 0,
@@ -56,7 +61,7 @@ pub fn play<R: Wait, L: Ledger>(
         text: Vec::new(alloc),
     };
     for line in script.lines.as_slice() {
-        player.step(alloc, line)?;
+        player.step(alloc, line, steps)?;
     }
     write_done(
         &mut player.text,
@@ -71,7 +76,7 @@ pub fn play<R: Wait, L: Ledger>(
     })
 }
 
-/// The totals of a play without ways.
+/// The totals of a play: so far entries and published length are counted alone.
 fn totals_of(entries: u32, published: u32) -> Totals
     ensures entries { result.entries ≡ entries }
     ensures published { result.published ≡ published }

@@ -9,8 +9,8 @@ use nav_base::Question;
 use nav_ground::{MeshKind, Setting};
 use nav_script::{Line, Script};
 
-/// Whether this play is built so far: agents keep their radius from walls alone, the mesh is one of strips, and no line asks for a way, a
-/// ray or a single step of a worker. It takes one pass over the lines, and no memory.
+/// Whether this play is built so far: agents keep their radius from walls alone, the mesh is one of strips, and no line asks for a ray or a
+/// single step of a worker. It takes one pass over the lines, and no memory.
 pub fn built(setting: &Setting, script: &Script) -> bool
     ensures { IsTrue result ↔ IsBuilt setting.now script.now }
 {
@@ -56,7 +56,7 @@ fn is_answered(question: &Question) -> bool
     ensures { result ≡ is_built_question question.now }
 {
     match *question {
-        Question::Floor { .. } => true,
-        Question::Path { .. } | Question::Ray { .. } => false,
+        Question::Floor { .. } | Question::Path { .. } => true,
+        Question::Ray { .. } => false,
     }
 }

@@ -5,3 +5,4 @@ pub mod Readings
 pub mod Answers
 pub mod Outcomes
 pub mod Endings
+pub mod StepCounts

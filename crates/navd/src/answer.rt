@@ -3,6 +3,7 @@
 ghost use Rattle.std.specs.Prelude.{◌≡◌, ◌≤◌, length};
 ghost use Rattle.navd.specs.Inputs.{IsPlay, input_limit};
 ghost use Rattle.navd.specs.Answers.{IsRight, IsPlayedUnless, IsLineOf};
+ghost use Rattle.navd.specs.StepCounts.{HasStepped};
 
 use crate::input::{Input, InputRefusal, read_input};
 use nav_play::{PlayText, built, play};
@@ -33,7 +34,7 @@ pub(crate) fn answer_to<R: Wait, L: Ledger>(
     requires { length bytes.now ≤ input_limit }
     ensures right { IsRight bytes.now result }
     ensures complete { IsPlay bytes.now → IsPlayedUnless result }
-    ensures steps { steps.new ≡ steps.old }
+    ensures steps { HasStepped bytes.now steps.old steps.new }
 {
     let input = match read_input(alloc, bytes) {
         Ok(input) => input,

@@ -108,7 +108,7 @@ fn ends_with_the_status_of_its_cause(rt: HostRuntime) -> Result<(), Fail> {
         ),
         (
             "play",
-            b"path 24 24 10 72 72 10\n",
+            b"ray 24 24 10 24 0\n",
             Status::BadText,
             b"fault 0 0\n",
         ),
@@ -241,28 +241,60 @@ enum Over {
     Spans(&'static [u8]),
     /// A deck at height 40 over the rows 1 to 3.
     Deck,
+    /// Walls of height 40 in every column but (1, 1).
+    Walls,
+    /// A floor at height 14 from row 3 on.
+    Step,
 }
 
-fn built_level(
-    alloc: Global,
+/// A square field: its side and that of its tiles, the agent's radius, the `cost` lines, and what stands there.
+#[derive(Clone, Copy)]
+struct Level {
     side: u32,
     tile: u32,
     radius: u32,
+    costs: &'static [u8],
     over: Over,
-    script: &[u8],
-) -> Result<Vec<u8>, AllocError>
-    requires { side < 100 }
+}
+
+fn square(side: u32, tile: u32, radius: u32, over: Over) -> Level
+    ensures { result.side ≡ side }
 {
+    Level {
+        side,
+        tile,
+        radius,
+        costs: b"",
+        over,
+    }
+}
+
+fn built_level(alloc: Global, level: Level, script: &[u8]) -> Result<Vec<u8>, AllocError>
+    requires { level.side < 100 }
+{
+    let Level {
+        side,
+        tile,
+        radius,
+        costs,
+        over,
+    } = level;
     let mut text = Vec::new(alloc);
     text.extend_from_slice(format!(in alloc;
         "nav 1\nsize {side} {side}\ntile {tile}\n"
     )?.as_bytes())?;
     text.extend_from_slice(format!(in alloc; "agent 10 4 {radius}\n")?.as_bytes())?;
     text.extend_from_slice(b"error 169\nmesh strips\nlimit 4\n")?;
+    text.extend_from_slice(costs)?;
     let columns = if over == Over::Void { 0 } else { side * side };
     for i in 0..columns {
         let (x, z) = (i % side, i / side);
-        text.extend_from_slice(format!(in alloc; "span {x} {z} 0 10 63\n")?.as_bytes())?;
+        let (top, area) = match over {
+            Over::Walls if x != 1 || z != 1 => (40, 0),
+            Over::Step if 3 <= z => (14, 63),
+            _ => (10, 63),
+        };
+        text.extend_from_slice(format!(in alloc; "span {x} {z} 0 {top} {area}\n")?.as_bytes())?;
         match over {
             Over::Spans(spans) if x == 2 && z == 2 => text.extend_from_slice(spans)?,
             Over::Deck if 1 <= z && z <= 3 => {
@@ -360,11 +392,122 @@ fn finds_floors(rt: HostRuntime) -> Result<(), Fail> {
     ];
     for (side, tile, radius, over, script, text) in cases {
         assert!(rt; side < 100);
-        let level = built_level(alloc, side, tile, radius, over, script)?;
+        let level = built_level(alloc, square(side, tile, radius, over), script)?;
         let ran = run_once(&rt, alloc, "play", level, (100, 0), (100, 0))?;
         assert_eq!(rt; ran.status, Status::Ok);
         assert_eq!(rt; ran.held.as_slice(), text);
     }
+    Ok(())
+}
+
+/// Runs the script over the level, which ends well, and gives what the sink holds.
+fn played<R: Threads + Wait + Sync>(
+    rt: &R,
+    alloc: Global,
+    level: Level,
+    script: &[u8],
+) -> Result<Ran, AllocError>
+    requires { level.side < 100 }
+{
+    let text = built_level(alloc, level, script)?;
+    run_once(rt, alloc, "play", text, (100, 0), (100, 0))
+}
+
+const ACROSS: &[u8] = b"floor 1 1\nfloor 0 0\npath 24 24 10 72 72 10\n";
+
+#[test]
+fn finds_paths(rt: HostRuntime) -> Result<(), Fail> {
+    let alloc = rt.alloc();
+    let room = square(6, 6, 0, Over::Sky);
+    // The level, the script; the play text. Each of these paths is the only right one.
+    let cases: [(Level, &[u8], &[u8]); 8] = [
+        // The strips of the rows 1 to 4 are 16 sixteenths apart.
+        (
+            room,
+            ACROSS,
+            b"floors 0 1 10 63\nfloors 0 0\npath 0 48 0 0 3 0\nlink 0 1 16 32 80 32\nlink 0 2 16 48 80 48\nlink 0 3 16 64 80 64\ndone 0 0\n",
+        ),
+        // And three times that where their area costs 3.
+        (
+            Level {
+                side: 6,
+                tile: 6,
+                radius: 0,
+                costs: b"cost 63 3\n",
+                over: Over::Sky,
+            },
+            ACROSS,
+            b"floors 0 1 10 63\nfloors 0 0\npath 0 144 0 0 3 0\nlink 0 1 16 32 80 32\nlink 0 2 16 48 80 48\nlink 0 3 16 64 80 64\ndone 0 0\n",
+        ),
+        // One polygon, in a tile of another side than the field.
+        (
+            square(3, 4, 0, Over::Walls),
+            b"path 24 24 10 24 24 10\n",
+            b"path 0 0 0 0 0 0\ndone 0 0\n",
+        ),
+        // On a bridge, under it, and from the road to its deck.
+        (
+            square(6, 6, 0, Over::Deck),
+            b"floor 2 2\npath 24 40 40 72 40 40\npath 24 40 10 24 72 10\npath 24 40 10 24 40 40\n",
+            b"floors 0 2 10 63 40 63\npath 0 0 0 2 0 0\npath 0 32 0 1 2 0\nlink 0 3 16 48 80 48\nlink 0 4 16 64 80 64\nnopath 0\ndone 0 0\n",
+        ),
+        // A block across the room, and then none.
+        (
+            room,
+            b"add block 0 5 0 100 2 2\nsettle\npath 24 24 10 72 72 10\nremove 1\nsettle\npath 24 24 10 72 72 10\n",
+            b"entry 1 added\nsettled 1\nnopath 1\nentry 2 removed\nsettled 2\npath 2 48 0 0 3 0\nlink 0 1 16 32 80 32\nlink 0 2 16 48 80 48\nlink 0 3 16 64 80 64\ndone 2 2\n",
+        ),
+        // Round the end of a wall.
+        (
+            square(8, 8, 0, Over::Sky),
+            b"add block 3 3 0 100 1 5\nsettle\npath 40 24 10 72 24 10\n",
+            b"entry 1 added\nsettled 1\npath 1 193 0 0 10 2\nlink 0 2 16 32 48 32\nlink 0 4 16 48 48 48\nlink 0 6 16 64 48 64\nlink 0 8 16 80 48 80\nlink 0 10 16 96 48 96\nlink 0 9 112 96 64 96\nlink 0 7 112 80 64 80\nlink 0 5 112 64 64 64\nlink 0 3 112 48 64 48\nlink 0 1 112 32 64 32\nturn 48 96 R 4\nturn 64 96 R 5\ndone 1 1\n",
+        ),
+        // A point on an edge is located in the first of the two polygons; no polygon holds the corner of the field.
+        (
+            room,
+            b"path 48 32 10 48 32 10\npath 48 32 10 48 72 10\npath 24 24 10 0 0 10\npath 0 0 10 24 24 10\n",
+            b"path 0 0 0 0 0 0\npath 0 48 0 0 3 0\nlink 0 1 16 32 80 32\nlink 0 2 16 48 80 48\nlink 0 3 16 64 80 64\nnogoal 0\nnostart 0\ndone 0 0\n",
+        ),
+        // Two heights at one point on the edge of a step.
+        (
+            square(6, 6, 0, Over::Step),
+            b"path 48 48 10 48 48 14\n",
+            b"path 0 16 0 1 1 0\nlink 0 2 16 48 80 48\ndone 0 0\n",
+        ),
+    ];
+    for (level, script, text) in cases {
+        assert!(rt; level.side < 100);
+        let ran = played(&rt, alloc, level, script)?;
+        assert_eq!(rt; ran.status, Status::Ok);
+        assert_eq!(rt; ran.held.as_slice(), text);
+    }
+    Ok(())
+}
+
+#[test]
+fn finds_a_path_over_four_tiles(rt: HostRuntime) -> Result<(), Fail> {
+    let alloc = rt.alloc();
+    // The block is the corner cell of a tile. Round it lead two corridors of one cost, each over two borders, and either is right.
+    let script = b"add block 3 4 0 100 3 4\nsettle\npath 40 56 10 88 72 10\n";
+    let ran = played(&rt, alloc, square(8, 4, 0, Over::Sky), script)?;
+    assert_eq!(rt; ran.status, Status::Ok);
+    assert!(rt;
+        ran.held
+            .as_slice()
+            .starts_with(b"entry 1 added\nsettled 1\npath 1 100 0 2 4 ")
+    );
+    assert!(rt; ran.held.as_slice().ends_with(b"\ndone 1 1\n"));
+    Ok(())
+}
+
+#[test]
+fn leaves_what_was_written_of_an_answer(rt: HostRuntime) -> Result<(), Fail> {
+    let alloc = rt.alloc();
+    let text = built_level(alloc, square(6, 6, 0, Over::Sky), ACROSS)?;
+    let ran = run_once(&rt, alloc, "play", text, (100, 0), (8, 2))?;
+    assert_eq!(rt; ran.status, Status::WriteFault);
+    assert_eq!(rt; ran.held.as_slice(), b"floors 0".as_slice());
     Ok(())
 }
 

@@ -8,6 +8,7 @@ ghost use Rattle.navd.specs.Inputs.{IsPlay, input_limit};
 ghost use Rattle.navd.specs.Outcomes.{HasPlayed, HasTold, HasBroken};
 ghost use Rattle.navd.specs.Words.{IsForm};
 ghost use Rattle.navd.specs.Endings.{HasEnded};
+ghost use Rattle.navd.specs.StepCounts.{HasRunStepped};
 
 use crate::answer::{Answer, answer_to};
 use crate::status::Status;
@@ -25,7 +26,7 @@ const MOST: usize = 67108864;
 /// Runs the program on the words behind its name: reads the whole input from the source and writes one text to the sink.
 ///
 /// For the word `play` the text is a play text of the input: for each line of its script in order what the history and the published
-/// cells answer, then how far the play came. A text that is no input, or that asks for what is not built yet, is told by the line of its fault.
+/// mesh answer, then how far the play came. A text that is no input, or that asks for what is not built yet, is told by the line of its fault.
 /// The text is made whole before its first byte is written. Refusals go in the order Usage, ReadFault, TooLong, BadText;
 /// WriteFault comes in place of any status whose text could not be written, and OutOfMemory only before the first write.
 #[tactic(auto, using(crate::proofs::TopLaws::took_none, crate::proofs::TopLaws::took_within, crate::proofs::TopLaws::took_many, crate::proofs::TopLaws::took_all))]
@@ -70,8 +71,8 @@ pub fn navd<R: Threads + Wait + Sync, S: Source, K: Sink, G: Gate + Sync, L: Led
     // At most the bytes of the longest input and one more are gone from the source.
     ensures took { TookAtMost (S.left source.old) (S.left source.new) (input_limit + 1) }
 
-    // No tile is built so far.
-    ensures steps { steps.new ≡ steps.old }
+    // Steps are taken for a play that was read alone: one for each tile, and one more at most for each tile at each `settle` line.
+    ensures steps { HasRunStepped (S.left source.old) (S.left source.new) steps.old steps.new }
 {
     if !is_form(words) {
         return finish(sink, b"fault usage\n", Status::Usage);

@@ -1,2 +1,4 @@
 pub mod FreeInTile
 pub mod LinkTotals
+pub mod GroundTiles
+pub mod SameCells

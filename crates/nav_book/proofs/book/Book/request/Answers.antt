@@ -3,7 +3,7 @@ use Rattle.std.specs.Arc.{arc_value}
 use Rattle.std.proofs.lemmas.List.{length_push}
 use Rattle.nav_ground.specs.declared.history.Entry.{Entry}
 use Rattle.nav_ground.specs.declared.history.TheConstants.{HISTORY_LIMIT}
-use Rattle.nav_ground.proofs.AliveLaws.{shapes_alive-append}
+use Rattle.nav_book.proofs.GroundTiles.{build_of-append}
 use Rattle.nav_book.proofs.Histories.{request_kept}
 use Rattle.nav_book.proofs.Tables.{table_rises}
 use Rattle.nav_book.proofs.book.Book.request.Goals as goal
@@ -28,7 +28,8 @@ invariant_of-self c =
       live_few = answered.few_after;
       live_room = rw answered.room_after c.self.invariant.live_room;
       published = rw (c.push_reserved.ensures.items, length_push) (omega (arith, c.self.invariant.published));
-      layers = rw (c.push_reserved.ensures.items, shapes_alive-append history _ c.self.inside.published c.self.invariant.published) c.self.invariant.layers;
+      mesh = rw (c.push_reserved.ensures.items, build_of-append (arc_value c.self.inside.level) history _ c.self.inside.published c.self.invariant.published) c.self.invariant.mesh;
+      sound = c.self.invariant.sound;
     }
 
 pub returns-clause-reply : goal.returns-clause-reply

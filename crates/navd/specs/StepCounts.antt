@@ -1,0 +1,34 @@
+-- Step counts: how many tiles a run builds at most.
+use Rattle.std.specs.Prelude.{◌≡◌, ℕ, ◌≤◌, ◌⊎◌, List, length, Option}
+use Rattle.nav_ground.specs.declared.setting.Setting.{Setting}
+use Rattle.nav_ground.specs.declared.field.Field.{Field}
+use Rattle.nav_io.specs.Causes.{GivesAll}
+use Rattle.nav_play.specs.Built.{IsBuilt}
+use Rattle.nav_play.specs.Work.{most_steps}
+use Rattle.nav_script.specs.declared.script.Script.{Script}
+use Rattle.nav_steps.specs.Counts.{HasRisenAtMost}
+use Rattle.navd.specs.Inputs.{IsInput, input_limit}
+
+-- the input asks for a play that is built, and no more steps were taken than that play may take
+pub record IsPlayStepped (input : List ℕ) (before after : ℕ) : Type 0 where
+  pub setting : Setting
+  pub field : Field
+  pub script : Script
+  pub there : IsInput input setting field script
+  pub built : IsBuilt setting script
+  pub steps : HasRisenAtMost (most_steps setting script) before after
+
+-- no step was taken, or those of the play of an input
+abbrev pub HasStepped : List ℕ → ℕ → ℕ → Type 0
+HasStepped input before after = (after ≡ before) ⊎ IsPlayStepped input before after
+
+-- the whole input was read, and no more steps were taken than its play may take
+pub record IsReadStepped (left_before left_after : Option (List ℕ)) (before after : ℕ) : Type 0 where
+  pub input : List ℕ
+  pub read : GivesAll left_before left_after input
+  pub short : length input ≤ input_limit
+  pub steps : IsPlayStepped input before after
+
+-- no step was taken, or those of the play of the input that was read
+abbrev pub HasRunStepped : Option (List ℕ) → Option (List ℕ) → ℕ → ℕ → Type 0
+HasRunStepped left_before left_after before after = (after ≡ before) ⊎ IsReadStepped left_before left_after before after
