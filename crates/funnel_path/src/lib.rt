@@ -29,8 +29,8 @@ use std::alloc::{AllocError, Global};
 ///
 /// The path goes from the start straight to the first corner, from each corner straight to the next, and from the last one to the goal. It
 /// goes through every portal, and each of its bends is held by an end of a portal, or by a portal on which the next one folds back. Each
-/// corner names its portal by its place from 0, later ones a greater one; several corners may stand at one point. The only allocation is
-/// the answer.
+/// corner names its portal by its place from 0, and no later one names a lesser place; several corners may stand at one point. The only
+/// allocation is the answer.
 pub fn pull(
     alloc: Global,
     start: Point,

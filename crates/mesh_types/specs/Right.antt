@@ -79,13 +79,13 @@ IsRight mesh (questions.Floor x z) answer = IsRightFloors mesh x z answer
 IsRight mesh (questions.Path from from_y to to_y) answer = IsRightPath mesh from from_y to to_y answer
 IsRight mesh (questions.Ray from from_y to) answer = ⊥
 
--- two answers are alike: of one kind, with the same floors, or the same first polygon and the same cost
+-- two answers are alike: of one kind, with the same floors, or the same first polygon and the same cost, or in all parts
 abbrev pub AreAlike : Answer → Answer → Type 0
 AreAlike (Floors a) (Floors b) = a ≡ b
 AreAlike (Path a) (Path b) = (a.first ≡ b.first) × (a.cost ≡ b.cost)
 AreAlike NoStart NoStart = ⊤
 AreAlike NoGoal NoGoal = ⊤
 AreAlike NoPath NoPath = ⊤
-AreAlike (Reached a) (Reached b) = ⊤
-AreAlike (Wall a b m n) (Wall a' b' m' n') = ⊤
+AreAlike (Reached a) (Reached b) = a ≡ b
+AreAlike (Wall a b m n) (Wall a' b' m' n') = (a ≡ a') × (b ≡ b') × (m ≡ m') × (n ≡ n')
 AreAlike _ _ = ⊥

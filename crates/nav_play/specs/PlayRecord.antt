@@ -75,7 +75,7 @@ pub record IsAnswered (book : BookState) (question : Question) (text : List ℕ)
   pub right : IsRight (published_mesh book) question answer
   pub written : text ≡ answer_text book.published answer
 
--- what may be written after a line; only questions leave a choice
+-- what may be written after a line; only questions leave a choice, and the single steps of workers are not built yet
 abbrev pub IsSaid : PlayState → Line → List ℕ → Type 0
 IsSaid state (Lane lane) text = text ≡ []
 IsSaid state (Ask question) text = IsAnswered state.book question text
@@ -83,11 +83,11 @@ IsSaid state (Add shape) text = text ≡ request_text state.book (requests.Add s
 IsSaid state (Remove number) text = text ≡ request_text state.book (requests.Remove number)
 IsSaid state (Undo j) text = text ≡ request_text state.book (drop_request state j)
 IsSaid state Settle text = text ≡ step_text (Settled (length state.book.history))
-IsSaid state Aim text = text ≡ []
-IsSaid state (Claim worker) text = text ≡ []
-IsSaid state (Back worker) text = text ≡ []
-IsSaid state (Submit worker) text = text ≡ []
-IsSaid state Publish text = text ≡ []
+IsSaid state Aim text = ⊥
+IsSaid state (Claim worker) text = ⊥
+IsSaid state (Back worker) text = ⊥
+IsSaid state (Submit worker) text = ⊥
+IsSaid state Publish text = ⊥
 
 -- the state after a line
 abbrev pub state_after : PlayState → Line → PlayState

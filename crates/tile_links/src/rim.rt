@@ -15,7 +15,7 @@ use std::alloc::{AllocError, Global};
 
 /// The links from tile `a` to tile `b`, which lies across a side of `a`: for each rim entry of the one on that side and each of the other
 /// on the opposite side, one for each maximal run of positions where they meet, in the order of links. In the order n log n for n positions
-/// of the two rims and links.
+/// of the two rims and links where no two entries of a rim have one position and level, as in every tile that is built.
 #[tactic(auto, unfolding(mesh_types::specs::BorderLinks::border_links))]
 pub fn rim_links(
     alloc: Global,
