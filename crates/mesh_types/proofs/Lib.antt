@@ -5,3 +5,7 @@ pub mod Sorting
 pub mod LinkOrderLaws
 pub mod RunLaws
 pub mod LinksInOrder
+pub mod Totals
+pub mod OneTile
+pub mod PolygonTotals
+pub mod RunTotals

@@ -12,3 +12,5 @@ pub mod Corridors
 pub mod Located
 pub mod Chains
 pub mod Taut
+pub mod Floors
+pub mod Right

@@ -119,6 +119,10 @@ pub record IsFit (setting : Setting) (tile : TileMesh) : Type 0 where
 abbrev pub polygon_count : List TileMesh → ℕ
 polygon_count tiles = sum_by (λ (tile : TileMesh). length tile.polys) tiles
 
+-- how many links a mesh has: those inside its tiles, and those over their borders
+abbrev pub link_count : Mesh → ℕ
+link_count mesh = sum_by (λ (tile : TileMesh). length tile.links) mesh.tiles + sum_by (λ (links : List Link). length links) mesh.cross
+
 -- one tile mesh for each tile, in order, each fit for the setting, with at most 8000000 polygons together
 pub record AreTiles (setting : Setting) (tiles : List TileMesh) : Type 0 where
   pub each : length tiles ≡ tile_count setting

@@ -8,6 +8,7 @@
 //! With x drawn to the right and z upward, polygons are listed counterclockwise, and an edge has its outside on its right.
 #![tactic(auto)]
 
+mod answers;
 mod corner;
 mod corners;
 mod corridor;
@@ -20,6 +21,7 @@ mod polygon;
 mod strip;
 mod tile;
 
+pub use answers::{Answer, PathFound, RayAnswer};
 pub use corner::{Corner, Side};
 pub use corners::Corners;
 pub use corridor::Corridor;

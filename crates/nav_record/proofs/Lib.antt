@@ -1,2 +1,3 @@
 pub mod FloorLaws
 pub mod OneLineLaws
+pub mod Kept

@@ -13,7 +13,7 @@ use Rattle.nav_text.specs.Lines.{is_line}
 use Rattle.nav_record.specs.declared.step.StepAnswer.{StepAnswer}
 use Rattle.nav_record.specs.declared.step.StepAnswer.TheVariants.{Aim, Claimed, NoTile, Busy, Idle, Back, Taken, Stale, Published, Same, NotYet, Settled, HistoryFull}
 use Rattle.nav_record.specs.OneLine.{IsOneLine}
-use Rattle.nav_record.specs.Texts.{reply_text, step_text, floor_text, floors_text, done_text, fault_text, usage_text, too_long_text}
+use Rattle.nav_record.specs.Texts.{reply_text, step_text, floor_text, floors_text, done_text, fault_text}
 
 -- a glyph is no line feed
 glyph_plain : (small : Bool) (d : ℕ) → not (eqb (cond small (48 + d) (87 + d)) 10) ≡ true
@@ -78,12 +78,6 @@ done_line k n = numbered_twice (codes "done ") (codes " ") k n refl refl
 
 pub fault_line : (fault : TextFault) → IsOneLine (fault_text fault)
 fault_line fault = numbered_twice (codes "fault ") (codes " ") fault.line fault.kind refl refl
-
-pub usage_line : IsOneLine usage_text
-usage_line = (codes "fault usage", refl, refl)
-
-pub too_long_line : IsOneLine too_long_text
-too_long_line = (codes "fault too long", refl, refl)
 
 floors_plain : (floors : List FloorAt) → is_line (flat_map floor_text floors) ≡ true
 floors_plain [] = refl

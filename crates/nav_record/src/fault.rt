@@ -1,7 +1,7 @@
 //! Faults of the input, as the output tells them.
 ghost use Rattle.std.specs.Prelude.{◌≡◌, ◌+◌, ◌≤◌, ◌++◌, length, IsOk, OnOk, OnErr, vec_len, vec_capacity};
 ghost use Rattle.nav_record.specs.OneLine.{IsOneLine};
-ghost use Rattle.nav_record.specs.Texts.{fault_text, usage_text, too_long_text};
+ghost use Rattle.nav_record.specs.Texts.{fault_text};
 
 use crate::append::append_numbers;
 use nav_text::TextFault;
@@ -17,28 +17,4 @@ pub fn write_fault(out: &mut Vec<u8>, fault: &TextFault) -> Result<(), AllocErro
     ensures line { IsOneLine (fault_text fault.now) }
 {
     append_numbers(out, b"fault ", fault.line, b" ", fault.kind, b"\n")
-}
-
-/// Appends the line of a call with the wrong arguments.
-#[tactic(auto, using(crate::proofs::OneLineLaws::usage_line))]
-pub fn write_usage(out: &mut Vec<u8>) -> Result<(), AllocError>
-    ensures ok { OnOk result (out.new.items ≡ out.old.items ++ usage_text) }
-    ensures err { OnErr result (out.new.items ≡ out.old.items) }
-    ensures room { vec_len out.old + length usage_text ≤ vec_capacity out.old → IsOk result }
-    // The text is one line.
-    ensures line { IsOneLine usage_text }
-{
-    out.extend_from_slice(b"fault usage\n")
-}
-
-/// Appends the line of an input that is longer than any that is read.
-#[tactic(auto, using(crate::proofs::OneLineLaws::too_long_line))]
-pub fn write_too_long(out: &mut Vec<u8>) -> Result<(), AllocError>
-    ensures ok { OnOk result (out.new.items ≡ out.old.items ++ too_long_text) }
-    ensures err { OnErr result (out.new.items ≡ out.old.items) }
-    ensures room { vec_len out.old + length too_long_text ≤ vec_capacity out.old → IsOk result }
-    // The text is one line.
-    ensures line { IsOneLine too_long_text }
-{
-    out.extend_from_slice(b"fault too long\n")
 }

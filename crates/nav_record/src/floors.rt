@@ -27,7 +27,7 @@ pub fn write_floors(out: &mut Vec<u8>, k: u32, floors: &[FloorAt]) -> Result<(),
 }
 
 /// The same, but where memory is refused a part of the line may stand at the end.
-fn append_floors(out: &mut Vec<u8>, k: u32, floors: &[FloorAt]) -> Result<(), AllocError>
+pub fn append_floors(out: &mut Vec<u8>, k: u32, floors: &[FloorAt]) -> Result<(), AllocError>
     ensures ok { OnOk result (out.new.items ≡ out.old.items ++ floors_text k floors.now) }
     ensures err { OnErr result (take (vec_len out.old) out.new.items ≡ out.old.items) }
     ensures room { vec_len out.old + length (floors_text k floors.now) ≤ vec_capacity out.old → IsOk result }

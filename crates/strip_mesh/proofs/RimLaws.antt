@@ -16,7 +16,7 @@ use Rattle.mesh_types.specs.StripMeshes.{some_cell, first_of, strip_polygon, is_
 use Rattle.mesh_types.proofs.RunLaws.{IsRunOf}
 use Rattle.strip_mesh.proofs.RowLaws.{IsRow}
 
-at_most : (a b : ℤ) → int_le a b ≡ true → a ≤ℤ b
+pub at_most : (a b : ℤ) → int_le a b ≡ true → a ≤ℤ b
 at_most a b h = grind (arith, ints)
 
 exactly : (w : ℤ) (a b : ℕ) → w ≤ℤ pos a → pos b ≤ℤ w → a ≡ b → pos a ≡ w
@@ -25,13 +25,13 @@ exactly w a b low high e = omega (arith, ints)
 exactly_next : (w : ℤ) (a b : ℕ) → w ≤ℤ pos a → pos b ≤ℤ w → a ≤ b → pos (b + 1) ≡ w +ℤ pos 1
 exactly_next w a b low high e = omega (arith, ints)
 
-squeezed : (w : ℤ) (a b : ℕ) → w ≤ℤ pos a → pos b ≤ℤ w → b ≤ a
+pub squeezed : (w : ℤ) (a b : ℕ) → w ≤ℤ pos a → pos b ≤ℤ w → b ≤ a
 squeezed w a b low high = omega (arith, ints)
 
 no_more : (a b : ℕ) → a ≤ b → pos a ≤ℤ pos b
 no_more a b h = omega (arith, ints)
 
-labelled_true : (b : Bool) (label : ℕ) → label_if b ≡ Some label → b ≡ true
+pub labelled_true : (b : Bool) (label : ℕ) → label_if b ≡ Some label → b ≡ true
 labelled_true true label h = refl
 labelled_true false label h = absurd cc
 

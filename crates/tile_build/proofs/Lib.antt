@@ -1,3 +1,4 @@
 pub mod FreeInTile
 pub mod GroundTiles
 pub mod SameCells
+pub mod LinkTotals

@@ -1,11 +1,12 @@
 -- Links as they are found: what holds of each, and that they are those of the definition, put in order.
-use Rattle.std.proofs.Common.{◌≡◌, ℕ, ◌+◌, ◌<◌, List, [], ◌∷◌, ◌++◌, length, get_or, ap, ◌∙◌, sym, refl, arith}
+use Rattle.std.proofs.Common.{◌≡◌, ℕ, ◌+◌, ◌<◌, List, [], ◌∷◌, ◌++◌, map, length, take, drop, get_or, ap, ◌∙◌, sym, refl, arith}
 use Rattle.std.specs.Prelude.{All, Some, None, Option, slice_get, ◌==◌, option_and_then}
 use Rattle.std.specs.Option.{option_map_or}
 use Rattle.std.specs.List.{flat_map, range_with_len}
 use Rattle.std.proofs.lemmas.Bool.{eqb-true}
-use Rattle.std.proofs.lemmas.Grind.{flat_map-append}
-use Rattle.std.proofs.lemmas.List.{append-nil}
+use Rattle.std.proofs.Math.Seq.{take-append_seam}
+use Rattle.std.proofs.lemmas.List.{append_assoc, flat_map_more, take_more}
+use Rattle.std.proofs.lemmas.List.FromFn.{map-range_with_len_more}
 use Rattle.std.proofs.lemmas.Option.{slice_get_within}
 use Rattle.std.proofs.lemmas.List.Elements.{All-head, All-tail, All-append, All-map, All-filter, All-nil, filter_passes}
 use Rattle.nav_ground.specs.declared.setting.Setting.{Setting}
@@ -19,8 +20,8 @@ use Rattle.mesh_types.specs.LinkOrder.{ordered_links}
 use Rattle.mesh_types.specs.BorderLinks.{along_side, border_link, border_links, meetings}
 use Rattle.mesh_types.specs.WholeMesh.{tile_across, links_over, cross_links}
 use Rattle.mesh_types.specs.Soundness.{IsFit, IsRimOf}
-use Rattle.mesh_types.proofs.LinksInOrder.{ordered_links-parts}
-use Rattle.tile_links.specs.Loose.{pair_links, entry_links, loose_links, loose_over}
+use Rattle.mesh_types.proofs.LinksInOrder.{ordered_links-parts, ordered_links-same}
+use Rattle.tile_links.specs.Loose.{pair_links, entry_links, loose_links, loose_over, HasGained}
 
 -- what holds of all parts holds of the whole
 pub All-flat_map : {X Y : Type 0} (P : Y → Type 0) (f : X → List Y) (xs : List X) → All (λ x. All P (f x)) xs → All P (flat_map f xs)
@@ -114,13 +115,45 @@ found_over setting tiles tile other side place is there =
     sym (ap (λ (found : Option TileMesh). option_map_or (λ (t : TileMesh). loose_links tile t side) found [])
     (ap (option_and_then (slice_get tiles)) is ∙ there))
 
--- what is found over one side more
-pub one_more_side : (f : ℕ → List Link) (side : ℕ) (old new : List Link) → old ≡ flat_map f (range_with_len 0 side) → new ≡ old ++ f side
-    → new ≡ flat_map f (range_with_len 0 (side + 1))
-one_more_side f side old new before pushed =
+-- what one number more gives, and one element more
+pub one_more_gathered : {X : Type 0} (f : ℕ → List X) (n : ℕ) (start made new : List X) → made ≡ start ++ flat_map f (range_with_len 0 n) → new ≡ made ++ f n
+    → new ≡ start ++ flat_map f (range_with_len 0 (n + 1))
+one_more_gathered f n start made new before pushed =
     pushed
-    ∙ ap (λ links. links ++ f side) before
-    ∙ ap (λ links. flat_map f (range_with_len 0 side) ++ links) (sym (append-nil (f side)))
-    ∙ ap (λ n. flat_map f (range_with_len 0 side) ++ flat_map f (n ∷ [])) {x = side} {y = 0 + side} (omega arith)
-    ∙ sym (flat_map-append f (range_with_len 0 side) ((0 + side) ∷ []))
-    ∙ ap (flat_map f) (sym (range-push 0 side))
+    ∙ ap (λ xs. xs ++ f n) before
+    ∙ flat_map_more f start (range_with_len 0 n) n
+    ∙ ap (λ k. start ++ flat_map f (range_with_len 0 n ++ k ∷ [])) {x = n} {y = 0 + n} (omega arith)
+    ∙ ap (λ ks. start ++ flat_map f ks) (sym (range-push 0 n))
+
+pub one_more_taken : {X Y : Type 0} (f : X → List Y) (xs : List X) (i : ℕ) (d : X) (start made new : List Y) → i < length xs
+    → made ≡ start ++ flat_map f (take i xs) → new ≡ made ++ f (get_or xs i d) → new ≡ start ++ flat_map f (take (i + 1) xs)
+one_more_taken f xs i d start made new there before pushed =
+    pushed
+    ∙ ap (λ ys. ys ++ f (get_or xs i d)) before
+    ∙ flat_map_more f start (take i xs) (get_or xs i d)
+    ∙ ap (λ ys. start ++ flat_map f ys) (sym (take_more xs i d there))
+
+pub one_more_mapped : {X : Type 0} (f : ℕ → X) (n : ℕ) (x : X) (start made new : List X) → made ≡ start ++ map f (range_with_len 0 n) → new ≡ made ++ x ∷ []
+    → x ≡ f n → new ≡ start ++ map f (range_with_len 0 (n + 1))
+one_more_mapped {X = X} f n x start made new before pushed is =
+    pushed
+    ∙ ap (λ (y : X). made ++ y ∷ []) is
+    ∙ ap (λ (xs : List X). xs ++ f n ∷ []) before
+    ∙ append_assoc start (map f (range_with_len 0 n)) (f n ∷ [])
+    ∙ ap (λ (xs : List X). start ++ xs) (sym (map-range_with_len_more f 0 n n (omega arith)))
+
+-- a vector that was written through a slice as a whole
+pub written_back : {X : Type 0} (len : ℕ) (items lent new : List X) → len ≡ length items → lent ≡ items → length new ≡ length lent
+    → take len (new ++ drop (length new) items) ≡ new
+written_back len items lent new count same kept =
+    ap (λ i. take i (new ++ drop (length new) items)) (count ∙ sym (ap length same) ∙ sym kept)
+    ∙ take-append_seam new (drop (length new) items)
+
+-- the same of links that were put in order
+pub ordered_back : (len : ℕ) (items lent new links : List Link) → len ≡ length items → lent ≡ items → length new ≡ length lent → new ≡ ordered_links lent
+    → HasGained [] links items → take len (new ++ drop (length new) items) ≡ ordered_links links
+ordered_back len items lent new links count same kept order gained =
+    written_back len items lent new count same kept
+    ∙ order
+    ∙ ap ordered_links same
+    ∙ ordered_links-same items links gained

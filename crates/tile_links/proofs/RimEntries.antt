@@ -16,7 +16,7 @@ use Rattle.mesh_types.specs.declared.polygon.Polygon.{Polygon}
 use Rattle.mesh_types.specs.declared.tile.RimEdge.{RimEdge}
 use Rattle.mesh_types.specs.declared.tile.TileMesh.{TileMesh}
 use Rattle.mesh_types.specs.Soundness.{IsFit, IsPolygon, IsRimOf, RunsOver}
-use Rattle.tile_links.specs.Across.{IsNamed}
+use Rattle.tile_links.specs.Across.{IsNamed, IsWithinField}
 
 -- positions that an edge between cell corners runs over lie in the largest field
 within_field : (side : ℕ) (u v : Point) (first end : ℕ) → IsCellCorner u → IsCellCorner v → RunsOver side u v first end → end ≤ 1024
@@ -43,6 +43,10 @@ named setting tile entry polys rim =
       z = record { least = first.bottom; most = first.top };
       positions = λ some. within_field entry.side _ _ entry.first (entry.first + length entry.pairs) first next (rim.runs some);
     }
+
+-- so the positions of all entries do
+pub rim_within_field : (setting : Setting) (tile : TileMesh) → IsFit setting tile → All IsWithinField tile.rim
+rim_within_field setting tile fit k d there = (named setting tile (get_or tile.rim k d) fit.polys (fit.rim k d there)).positions
 
 pub named_in : (setting : Setting) (tile : TileMesh) (entries : List RimEdge) (i : ℕ) (entry : RimEdge) → IsFit setting tile → entries ≡ tile.rim
     → i < length entries → entry ≡ get_or entries i entry → IsNamed tile entry

@@ -1,3 +1,4 @@
 pub mod Across
+pub mod RimPlaces
 pub mod Loose
 pub mod ByHand

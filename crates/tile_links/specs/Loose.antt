@@ -1,6 +1,6 @@
 -- Loose: the links over a border as they are found, before they are put in order.
-use Rattle.std.specs.Prelude.{ℕ, List, [], map, slice_get, Option, None, slice_index_or, option_and_then}
-use Rattle.std.specs.List.{flat_map}
+use Rattle.std.specs.Prelude.{◌≡◌, ℕ, ◌+◌, Bool, List, [], ◌++◌, map, filter, length, slice_get, Option, None, slice_index_or, option_and_then}
+use Rattle.std.specs.List.{count_by, flat_map, cons_option, range_with_len}
 use Rattle.std.specs.Option.{option_map_or}
 use Rattle.nav_ground.specs.declared.setting.Setting.{Setting}
 use Rattle.nav_ground.specs.Cells.{opposite}
@@ -11,6 +11,8 @@ use Rattle.mesh_types.specs.declared.label_runs.Run.{Run}
 use Rattle.mesh_types.specs.Runs.{runs_of, run_with}
 use Rattle.mesh_types.specs.BorderLinks.{along_side, border_link, meetings}
 use Rattle.mesh_types.specs.WholeMesh.{tile_across}
+use Rattle.tile_links.specs.declared.place.Place.{Place}
+use Rattle.tile_links.specs.RimPlaces.{entry_of, pair_of, is_at_place}
 
 -- the maximal run that begins at a place of an entry where it meets another, if one does
 abbrev pub run_at : RimEdge → RimEdge → ℕ → Option Run
@@ -36,3 +38,22 @@ loose_links a b side = links_from a b side (along_side side a.rim)
 abbrev pub loose_over : Setting → List TileMesh → TileMesh → ℕ → List Link
 loose_over setting tiles tile side =
     option_map_or (λ (other : TileMesh). loose_links tile other side) (option_and_then (slice_get tiles) (tile_across setting tile.tile side)) []
+
+-- the link from an entry along the run that begins at one of its places where it meets the entry of a place across, if one does
+abbrev pub run_links : TileMesh → TileMesh → ℕ → RimEdge → ℕ → Place → List Link
+run_links a b side entry place found =
+    map (border_link a b side entry (entry_of b.rim found.entry)) (cons_option (run_at entry (entry_of b.rim found.entry) place) [])
+
+-- the links from an entry along the runs that begin at one of its places, by the places across that have its position and the level that it
+-- leads to
+abbrev pub place_links : TileMesh → TileMesh → ℕ → RimEdge → List Place → ℕ → List Link
+place_links a b side entry places place =
+    flat_map (run_links a b side entry place) (filter (is_at_place (entry.first + place) (pair_of entry place).other) places)
+
+-- the links from an entry, place by place
+abbrev pub placed_links : TileMesh → TileMesh → ℕ → List Place → RimEdge → List Link
+placed_links a b side places entry = flat_map (place_links a b side entry places) (range_with_len 0 (length entry.pairs))
+
+-- a list has become another by these links more, in whatever order
+abbrev pub HasGained : List Link → List Link → List Link → Type 0
+HasGained old more new = (p : Link → Bool) → count_by p new ≡ count_by p (old ++ more)

@@ -5,7 +5,7 @@ ghost use Rattle.nav_ground.specs.Limits.{IsSetting};
 ghost use Rattle.nav_ground.specs.Tiling.{tile_count};
 ghost use Rattle.mesh_types.specs.Soundness.{AreTiles, IsFit, IsSound};
 ghost use Rattle.mesh_types.specs.WholeMesh.{tile_across, cross_links, mesh_of};
-ghost use Rattle.tile_links.specs.Loose.{loose_over};
+ghost use Rattle.tile_links.specs.Loose.{loose_over, HasGained};
 
 use crate::rim::push_links;
 use mesh_types::{Link, Links, Mesh, TileMesh, order_links};
@@ -74,14 +74,15 @@ pub fn cross_links(
 {
     let mut links = Vec::new(alloc);
     for side in 0..4 {
-        push_side_links(&mut links, setting, tiles, tile, side)?;
+        push_side_links(alloc, &mut links, setting, tiles, tile, side)?;
     }
     order_links(links.as_mut_slice());
     Links::new(alloc, links, tile.polys.len() as u32)
 }
 
-/// Appends the links that leave a tile over one of its sides.
+/// Appends the links that leave a tile over one of its sides, in the order in which they are found.
 fn push_side_links(
+    alloc: Global,
     links: &mut Vec<Link>,
     setting: &Setting,
     tiles: &[Shared<TileMesh>],
@@ -92,10 +93,10 @@ fn push_side_links(
     requires tiles { AreTiles setting.now tiles.now }
     requires tile { IsFit setting.now tile.now }
     requires side { side < 4 }
-    ensures { OnOk result (links.new.items ≡ links.old.items ++ loose_over setting.now tiles.now tile.now side) }
+    ensures { OnOk result (HasGained links.old.items (loose_over setting.now tiles.now tile.now side) links.new.items) }
 {
     if let Some(other) = across(setting, tile.tile, side) {
-        push_links(links, tile, tiles[other as usize].get(), side)?;
+        push_links(alloc, links, tile, tiles[other as usize].get(), side)?;
     }
     Ok(())
 }

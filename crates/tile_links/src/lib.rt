@@ -10,6 +10,8 @@
 
 mod join;
 mod meetings;
+mod place;
+mod places;
 mod portals;
 mod rim;
 

@@ -1,59 +1,19 @@
 //! Where two rim entries meet: the runs of positions at which each names the other's level.
 
-ghost use Rattle.std.specs.Prelude.{◌≡◌, ℕ, ◌+◌, ◌<◌, ◌≤◌, ◌++◌, [], map, drop, length, OnOk, IfSome, None};
+ghost use Rattle.std.specs.Prelude.{◌≡◌, ◌+◌, ◌<◌, ◌≤◌, ◌++◌, [], map, drop, length, OnOk, IfSome};
 ghost use Rattle.std.specs.List.{prefix_len, cons_option};
 ghost use Rattle.mesh_types.specs.Runs.{has_label};
 ghost use Rattle.mesh_types.specs.BorderLinks.{are_meeting, pair_at, meetings, border_link};
 ghost use Rattle.tile_links.specs.Across.{IsNamed, IsWithinField};
-ghost use Rattle.tile_links.specs.Loose.{pair_links, run_at};
+ghost use Rattle.tile_links.specs.Loose.{run_at};
 
 use crate::portals::border_link;
 use mesh_types::{LevelPair, Link, RimEdge, Run, TileMesh};
 use std::alloc::AllocError;
 
-/// Appends the links from an entry of tile `a` on a side to an entry of tile `b` across: one for each maximal run of positions where they
-/// meet. Only positions that both have are looked at.
-#[tactic(auto, unfolding(mesh_types::specs::Runs::runs_of))]
-pub fn push_pair_links(
-    links: &mut Vec<Link>,
-    a: &TileMesh,
-    b: &TileMesh,
-    side: u32,
-    entry: &RimEdge,
-    other: &RimEdge,
-) -> Result<(), AllocError>
-    requires entry { IsNamed a.now entry.now }
-    requires other { IsWithinField other.now }
-    ensures { OnOk result (links.new.items ≡ links.old.items ++ pair_links a.now b.now side entry.now other.now) }
-{
-    for place in shared_from(entry, other)..shared_to(entry, other) {
-        push_run_link(links, a, b, side, entry, other, place)?;
-    }
-    Ok(())
-}
-
-/// How many places of an entry come before the positions of another.
-fn shared_from(entry: &RimEdge, other: &RimEdge) -> usize
-    ensures most { result ≤ length entry.now.pairs }
-    ensures none { (k : ℕ) → k < result → pair_at other.now (entry.now.first + k) ≡ None }
-{
-    let before = other.first.saturating_sub(entry.first) as usize;
-    before.min(entry.pairs.len())
-}
-
-/// The place of an entry from which on no position is another's.
-fn shared_to(entry: &RimEdge, other: &RimEdge) -> usize
-    requires { IsWithinField other.now }
-    ensures most { result ≤ length entry.now.pairs }
-    ensures none { (k : ℕ) → result ≤ k → k < length entry.now.pairs → pair_at other.now (entry.now.first + k) ≡ None }
-{
-    let end = other.first as usize + other.pairs.len();
-    end.saturating_sub(entry.first as usize)
-        .min(entry.pairs.len())
-}
-
-/// Appends the link along the run that begins at a place of an entry, if one does.
-fn push_run_link(
+/// Appends the link from an entry of tile `a` on a side to an entry of tile `b` across along the run of positions where they meet that begins
+/// at a place of the entry, if one does.
+pub fn push_run_link(
     links: &mut Vec<Link>,
     a: &TileMesh,
     b: &TileMesh,

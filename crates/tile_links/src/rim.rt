@@ -1,17 +1,21 @@
 //! The links from a tile to the tile across one of its sides.
 
-ghost use Rattle.std.specs.Prelude.{◌≡◌, ◌++◌, IfOk, OnOk, List};
+ghost use Rattle.std.specs.Prelude.{◌≡◌, ◌<◌, ◌++◌, IfOk, OnOk, List, length};
 ghost use Rattle.nav_ground.specs.Cells.{opposite};
-ghost use Rattle.mesh_types.specs.BorderLinks.{along_side, border_links};
+ghost use Rattle.mesh_types.specs.BorderLinks.{border_links};
 ghost use Rattle.tile_links.specs.Across.{AreAcross, IsNamed};
-ghost use Rattle.tile_links.specs.Loose.{entry_links, loose_links};
+ghost use Rattle.tile_links.specs.RimPlaces.{ArePlaces, entry_of};
+ghost use Rattle.tile_links.specs.Loose.{loose_links, placed_links, place_links, HasGained};
 
-use crate::meetings::push_pair_links;
+use crate::meetings::push_run_link;
+use crate::place::Place;
+use crate::places::{places_at, side_places};
 use mesh_types::{Link, RimEdge, TileMesh, order_links};
 use std::alloc::{AllocError, Global};
 
 /// The links from tile `a` to tile `b`, which lies across a side of `a`: for each rim entry of the one on that side and each of the other
-/// on the opposite side, one for each maximal run of positions where they meet, in the order of links.
+/// on the opposite side, one for each maximal run of positions where they meet, in the order of links. In the order n log n for n positions
+/// of the two rims and links.
 #[tactic(auto, unfolding(mesh_types::specs::BorderLinks::border_links))]
 pub fn rim_links(
     alloc: Global,
@@ -23,47 +27,81 @@ pub fn rim_links(
     ensures { IfOk result (λ links. links.items ≡ border_links a.now b.now side) }
 {
     let mut links = Vec::new(alloc);
-    push_links(&mut links, a, b, side)?;
+    push_links(alloc, &mut links, a, b, side)?;
     order_links(links.as_mut_slice());
     Ok(links)
 }
 
-/// Appends the links from tile `a` to tile `b` across a side of `a`, entry by entry.
+/// Appends the links from tile `a` to tile `b` across a side of `a`, in the order in which they are found: the places across are put in
+/// order first, so that those that a place of `a` leads to are looked up.
 pub fn push_links(
+    alloc: Global,
     links: &mut Vec<Link>,
     a: &TileMesh,
     b: &TileMesh,
     side: u32,
 ) -> Result<(), AllocError>
     requires { AreAcross a.now b.now side }
-    ensures { OnOk result (links.new.items ≡ links.old.items ++ loose_links a.now b.now side) }
+    ensures { OnOk result (HasGained links.old.items (loose_links a.now b.now side) links.new.items) }
 {
+    let facing = (side % 4 + 2) % 4;
+    let places = side_places(alloc, b.rim.as_slice(), facing)?;
+    let across = places.as_slice();
     for entry in a.rim.as_slice() {
         if entry.side == side {
-            push_entry_links(links, a, b, side, entry)?;
+            push_entry_links(links, a, b, side, entry, across)?;
         }
     }
     Ok(())
 }
 
-/// Appends the links from an entry of tile `a` on a side to the entries of tile `b` on the opposite side.
+/// Appends the links from an entry of tile `a` on a side, by the places of tile `b` on the opposite side.
 fn push_entry_links(
     links: &mut Vec<Link>,
     a: &TileMesh,
     b: &TileMesh,
     side: u32,
     entry: &RimEdge,
+    places: &[Place],
 ) -> Result<(), AllocError>
-    requires across { AreAcross a.now b.now side }
     requires entry { IsNamed a.now entry.now }
-    ensures { OnOk result (links.new.items ≡ links.old.items
-        ++ entry_links a.now b.now side entry.now (along_side (opposite side) b.now.rim)) }
+    requires places { ArePlaces (opposite side) b.now.rim places.now }
+    ensures { OnOk result (links.new.items ≡ links.old.items ++ placed_links a.now b.now side places.now entry.now) }
 {
-    let facing = (side % 4 + 2) % 4;
-    for other in b.rim.as_slice() {
-        if other.side == facing {
-            push_pair_links(links, a, b, side, entry, other)?;
-        }
+    for place in 0..entry.pairs.len() {
+        push_place_links(links, a, b, side, entry, places, place)?;
     }
     Ok(())
+}
+
+/// Appends the links from an entry along the runs that begin at one of its places.
+fn push_place_links(
+    links: &mut Vec<Link>,
+    a: &TileMesh,
+    b: &TileMesh,
+    side: u32,
+    entry: &RimEdge,
+    places: &[Place],
+    place: usize,
+) -> Result<(), AllocError>
+    requires entry { IsNamed a.now entry.now }
+    requires places { ArePlaces (opposite side) b.now.rim places.now }
+    requires there { place < length entry.now.pairs }
+    ensures { OnOk result (links.new.items ≡ links.old.items ++ place_links a.now b.now side entry.now places.now place) }
+{
+    let level = entry.pairs.as_slice()[place].other;
+    let across = places_at(places, entry.first + place as u32, level);
+    for found in across {
+        let other = entry_at(b.rim.as_slice(), found.entry);
+        push_run_link(links, a, b, side, entry, other, place)?;
+    }
+    Ok(())
+}
+
+/// The entry of a rim with a number.
+fn entry_at(rim: &[RimEdge], number: usize) -> &RimEdge
+    requires { number < length rim.now }
+    ensures { result.now ≡ entry_of rim.now number }
+{
+    &rim[number]
 }

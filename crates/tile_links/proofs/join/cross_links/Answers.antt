@@ -1,6 +1,5 @@
-use Rattle.std.proofs.Common.{◌≡◌, ℕ, ◌<◌, ◌++◌, ◌∙◌, sym, ap, subst, arith, length, take, drop, List}
+use Rattle.std.proofs.Common.{◌≡◌, ℕ, ◌<◌, ◌++◌, [], ◌∙◌, sym, refl, ap, subst, arith, length, take, drop, List}
 use Rattle.std.specs.List.{flat_map, range_with_len}
-use Rattle.std.proofs.Math.Seq.{take-append_seam}
 use Rattle.std.proofs.lemmas.List.Elements.{All-weaker}
 use Rattle.std.proofs.lemmas.Result.{IfOk-weaker}
 use Rattle.mesh_types.specs.declared.links.Link.{Link}
@@ -8,28 +7,27 @@ use Rattle.mesh_types.specs.LinkIndex.{AreOrderedLinks, AreBelow}
 use Rattle.mesh_types.specs.LinkOrder.{ordered_links}
 use Rattle.mesh_types.specs.WholeMesh.{cross_links}
 use Rattle.mesh_types.proofs.LinksInOrder.{ordered_links-polygons, All-ordered_links}
-use Rattle.tile_links.specs.Loose.{loose_over}
-use Rattle.tile_links.proofs.LooseLinks.{one_more_side, all_leave_tile, cross_links_found}
+use Rattle.tile_links.specs.Loose.{loose_over, HasGained}
+use Rattle.tile_links.proofs.FoundLinks.{gained_more}
+use Rattle.tile_links.proofs.LooseLinks.{one_more_gathered, ordered_back, all_leave_tile, cross_links_found}
 use Rattle.tile_links.proofs.join.cross_links.Goals as goal
-
--- a vector all of whose elements were written through a slice
-written_back : (n : ℕ) (old new : List Link) → n ≡ length new → take n (new ++ drop (length new) old) ≡ new
-written_back n old new same =
-    ap (λ i. take i (new ++ drop (length new) old)) same ∙ take-append_seam new (drop (length new) old)
 
 -- the links as they are handed on
 made : (f : ℕ → List Link) (len side : ℕ) (items lent new : List Link) → len ≡ length items → lent ≡ items → length new ≡ length lent
-    → new ≡ ordered_links lent → items ≡ flat_map f (range_with_len 0 side) → side ≡ 4
+    → new ≡ ordered_links lent → HasGained [] (flat_map f (range_with_len 0 side)) items → side ≡ 4
     → take len (new ++ drop (length new) items) ≡ ordered_links (flat_map f (range_with_len 0 4))
-made f len side items lent new count same kept order found all =
-    written_back len items new (count ∙ sym (ap length same) ∙ sym kept)
-    ∙ order
-    ∙ ap ordered_links (same ∙ found ∙ ap (λ n. flat_map f (range_with_len 0 n)) all)
+made f len side items lent new count same kept order gained all =
+    ordered_back len items lent new (flat_map f (range_with_len 0 side)) count same kept order gained
+    ∙ ap (λ n. ordered_links (flat_map f (range_with_len 0 n))) all
 
 pub loop-side-preserved : goal.loop-side-preserved
 loop-side-preserved c =
-    one_more_side (loose_over c.args.setting.now c.args.tiles.now c.args.tile.now) c.loop-side.side c.loop-side.links.items c.push_side_links.new.links.items
-    c.loop-side.invariant c.in_ok-push_side_links.ensures
+    let f = loose_over c.args.setting.now c.args.tiles.now c.args.tile.now in
+    let side = c.loop-side.side in
+    let more = gained_more [] (flat_map f (range_with_len 0 side)) (f side) c.loop-side.links.items c.push_side_links.new.links.items
+    c.loop-side.invariant c.in_ok-push_side_links.ensures in
+    let all = one_more_gathered f side [] (flat_map f (range_with_len 0 side)) (flat_map f (range_with_len 0 side) ++ f side) refl refl in
+    subst (λ links. HasGained [] links c.push_side_links.new.links.items) all more
 
 pub new-requires-clause-order : goal.new-requires-clause-order
 new-requires-clause-order c =

@@ -1,8 +1,8 @@
-use Rattle.std.proofs.Common.{◌<◌, ◌++◌, ◌∙◌, sym, ap, subst, arith, length, refl}
+use Rattle.std.proofs.Common.{◌<◌, ◌∙◌, sym, ap, subst, arith, length, refl}
 use Rattle.std.proofs.lemmas.Option.{slice_get_read}
 use Rattle.mesh_types.specs.declared.tile.TileMesh.{TileMesh}
 use Rattle.tile_links.specs.Across.{AreAcross}
-use Rattle.tile_links.specs.Loose.{loose_links}
+use Rattle.tile_links.specs.Loose.{loose_links, HasGained}
 use Rattle.tile_links.proofs.TilesAcross.{across_there, across_of}
 use Rattle.tile_links.proofs.LooseLinks.{found_over}
 use Rattle.tile_links.proofs.join.push_side_links.Goals as goal
@@ -24,8 +24,7 @@ pub returns-in_ok-push_links : goal.returns-in_ok-push_links
 returns-in_ok-push_links c =
     let there = across_there c.args.setting.now c.args.tile.now.tile c.args.side c.in-Some.other c.requires.tile.in_tile.there c.requires.side (sym c.in-Some.ensures) in
     let below : c.in-Some.other < length c.args.tiles.now = omega (arith, there, c.requires.tiles.each) in
-    c.in_ok-push_links.ensures
-    ∙ ap (λ (other : TileMesh). c.args.links.now.items ++ loose_links c.args.tile.now other c.args.side) c.get.ensures
-    ∙ ap (λ links. c.args.links.now.items ++ links)
-    (found_over c.args.setting.now c.args.tiles.now c.args.tile.now c.index-tiles-other.result c.args.side c.in-Some.other (sym c.in-Some.ensures)
-    (slice_get_read c.args.tiles.now (length c.args.tiles.now) c.in-Some.other c.index-tiles-other.result refl below c.index-tiles-other.is))
+    let same = ap (λ (other : TileMesh). loose_links c.args.tile.now other c.args.side) c.get.ensures
+    ∙ found_over c.args.setting.now c.args.tiles.now c.args.tile.now c.index-tiles-other.result c.args.side c.in-Some.other (sym c.in-Some.ensures)
+    (slice_get_read c.args.tiles.now (length c.args.tiles.now) c.in-Some.other c.index-tiles-other.result refl below c.index-tiles-other.is) in
+    subst (λ links. HasGained c.args.links.now.items links c.push_links.new.links.items) same c.in_ok-push_links.ensures

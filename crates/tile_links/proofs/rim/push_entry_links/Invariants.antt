@@ -1,10 +1,8 @@
-use Rattle.std.proofs.Common.{◌≡◌, ◌++◌, take}
-use Rattle.nav_ground.specs.Cells.{opposite}
-use Rattle.mesh_types.specs.BorderLinks.{along_side}
-use Rattle.tile_links.specs.Loose.{entry_links}
+use Rattle.std.proofs.Common.{◌≡◌, ◌++◌}
+use Rattle.std.specs.List.{flat_map, range_with_len}
+use Rattle.tile_links.specs.Loose.{place_links}
 use Rattle.tile_links.proofs.rim.push_entry_links.Given as goal
 
--- the links to the entries so far
-abbrev pub invariant-loop-other : goal.invariant-loop-other
-invariant-loop-other l =
-    l.links.items ≡ l.initial.links.items ++ entry_links l.a l.b l.side l.entry (along_side (opposite l.side) (take l.other-index l.b.rim))
+-- the links from the places so far
+abbrev pub invariant-loop-place : goal.invariant-loop-place
+invariant-loop-place l = l.links.items ≡ l.initial.links.items ++ flat_map (place_links l.a l.b l.side l.entry l.places) (range_with_len 0 l.place)

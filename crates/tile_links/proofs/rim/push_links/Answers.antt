@@ -1,13 +1,18 @@
-use Rattle.std.proofs.Common.{◌<◌, arith, ap, ◌∙◌, get_or, length}
-use Rattle.std.specs.Prelude.{◌==◌}
+use Rattle.std.proofs.Common.{◌<◌, ◌++◌, ◌∙◌, arith, ap, sym, subst, get_or, length}
+use Rattle.std.specs.List.{flat_map}
+use Rattle.std.specs.Prelude.{◌==◌, All}
 use Rattle.std.specs.Global.{Vec}
 use Rattle.std.proofs.lemmas.Bool.{eq-eqb, ne_eqb}
+use Rattle.std.proofs.lemmas.List.{take_all}
 use Rattle.nav_ground.specs.Cells.{opposite}
 use Rattle.mesh_types.specs.declared.links.Link.{Link}
 use Rattle.mesh_types.specs.declared.tile.RimEdge.{RimEdge}
 use Rattle.mesh_types.specs.BorderLinks.{along_side}
-use Rattle.tile_links.specs.Loose.{entry_links}
-use Rattle.tile_links.proofs.RimEntries.{named_in, one_more_kept, one_more_left}
+use Rattle.tile_links.specs.Across.{IsWithinField}
+use Rattle.tile_links.specs.Loose.{placed_links}
+use Rattle.tile_links.proofs.FoundLinks.{gained}
+use Rattle.tile_links.proofs.RimEntries.{named_in, rim_within_field, one_more_kept, one_more_left}
+use Rattle.tile_links.proofs.RimTables.{same_places}
 use Rattle.tile_links.proofs.rim.push_links.Goals as goal
 use Rattle.tile_links.proofs.rim.push_links.Goals.{then-entry-side+in_ok-push_entry_links, else-entry-side}
 
@@ -24,7 +29,7 @@ loop-entry-preserved c =
     let i = c.loop-entry.entry-index in
     let entry : RimEdge = c.entry-item.result in
     let p = λ (entry : RimEdge). entry.side == side in
-    let f = λ (entry : RimEdge). entry_links a b side entry (along_side (opposite side) b.rim) in
+    let f = placed_links a b side c.as_slice-across.result.now in
     let there : i < length a.rim = omega (arith, c.loop-entry-test.true, ap length c.as_slice-entry-items.ensures) in
     let is = c.entry-item.is ∙ ap (λ xs. get_or xs i entry) c.as_slice-entry-items.ensures in
     elim c.if-entry-side.branch [
@@ -37,3 +42,22 @@ loop-entry-preserved c =
           (ne_eqb entry.side side w.if-entry-side.false) c.loop-entry.invariant
           (ap (λ (v : Vec Link). v.items) w.links-is)
     ]
+
+pub side_places-requires : goal.side_places-requires
+side_places-requires c =
+    subst (All IsWithinField) (sym c.as_slice.ensures) (rim_within_field c.requires.setting c.args.b.now c.requires.second_fit)
+
+pub push_entry_links-requires-clause-places : goal.push_entry_links-requires-clause-places
+push_entry_links-requires-clause-places c =
+    same_places _ (opposite c.args.side) c.as_slice.result.now c.args.b.now.rim c.in_ok-places.places.items c.as_slice-across.result.now
+    c.in_ok-places.ensures (omega arith) c.as_slice.ensures (sym c.as_slice-across.ensures.value)
+
+pub returns : goal.returns
+returns c =
+    let a = c.args.a.now in
+    let are = same_places _ (opposite c.args.side) c.as_slice.result.now c.args.b.now.rim c.in_ok-places.places.items c.as_slice-across.result.now
+    c.in_ok-places.ensures (omega arith) c.as_slice.ensures (sym c.as_slice-across.ensures.value) in
+    gained a c.args.b.now c.args.side c.as_slice-across.result.now c.args.links.now.items c.loop-entry.links.items are.all
+    (c.loop-entry.invariant
+    ∙ ap (λ rim. c.args.links.now.items ++ flat_map (placed_links a c.args.b.now c.args.side c.as_slice-across.result.now) (along_side c.args.side rim))
+    (take_all c.loop-entry.entry-index a.rim (omega (arith, c.loop-entry-test.false, ap length c.as_slice-entry-items.ensures))))

@@ -1,0 +1,80 @@
+-- Right: which answers to a question are right in a mesh. The kind of a right answer is determined by the question, and so are its floors,
+-- its first polygon and its cost; of several corridors of least cost, and of several taut lines through one, any is right.
+use Rattle.std.specs.Prelude.{◌≡◌, ℕ, List, map}
+use Rattle.nav_base.specs.declared.point.Point.{Point}
+use Rattle.nav_base.specs.declared.answers.Question.{Question}
+use Rattle.nav_base.specs.declared.answers.Question.TheVariants as questions
+use Rattle.nav_ground.specs.declared.cell.FreeLayer.{FreeLayer}
+use Rattle.mesh_types.specs.declared.answers.Answer.{Answer}
+use Rattle.mesh_types.specs.declared.answers.Answer.TheVariants.{Floors, Path, NoStart, NoGoal, NoPath, Reached, Wall}
+use Rattle.mesh_types.specs.declared.answers.PathFound.{PathFound}
+use Rattle.mesh_types.specs.declared.links.Link.{Link}
+use Rattle.mesh_types.specs.declared.links.PolyRef.{PolyRef}
+use Rattle.mesh_types.specs.declared.links.Portal.{Portal}
+use Rattle.mesh_types.specs.declared.mesh.Mesh.{Mesh}
+use Rattle.mesh_types.specs.declared.tile.TileMesh.{TileMesh}
+use Rattle.mesh_types.specs.Corridors.{WalksTo, IsCheapest}
+use Rattle.mesh_types.specs.Floors.{floors_at}
+use Rattle.mesh_types.specs.Located.{HoldsAt, IsLocated}
+use Rattle.mesh_types.specs.Taut.{IsTaut}
+
+-- the free cells of the tiles
+abbrev pub free_of : List TileMesh → List FreeLayer
+free_of tiles = map (λ (tile : TileMesh). tile.free) tiles
+
+-- the portals of a walk, one for each link
+abbrev pub portals_of : List Link → List Portal
+portals_of links = map (λ (link : Link). link.portal) links
+
+-- no polygon holds a point at a height
+abbrev pub IsNowhere : Mesh → Point → ℕ → Type 0
+IsNowhere mesh p y = (at : PolyRef) → HoldsAt mesh p y at → ⊥
+
+-- the start is held, and the goal is not
+pub record HasNoGoal (mesh : Mesh) (from : Point) (from_y : ℕ) (to : Point) (to_y : ℕ) : Type 0 where
+  pub first : PolyRef
+  pub start : IsLocated mesh from from_y first
+  pub no_goal : IsNowhere mesh to to_y
+
+-- both are held, and no walk leads from the polygon that locates the one to the polygon that locates the other
+pub record HasNoPath (mesh : Mesh) (from : Point) (from_y : ℕ) (to : Point) (to_y : ℕ) : Type 0 where
+  pub first : PolyRef
+  pub start : IsLocated mesh from from_y first
+  pub last : PolyRef
+  pub goal : IsLocated mesh to to_y last
+  pub no_walk : (links : List Link) → WalksTo mesh first links last → ⊥
+
+-- a path begins in the polygon that locates the start; its links are a corridor from there to the polygon that locates the goal, of the cost
+-- that it says, and its line is taut in the portals of those links
+pub record IsPath (mesh : Mesh) (from : Point) (from_y : ℕ) (to : Point) (to_y : ℕ) (found : PathFound) : Type 0 where
+  pub start : IsLocated mesh from from_y found.first
+  pub last : PolyRef
+  pub goal : IsLocated mesh to to_y last
+  pub cheapest : IsCheapest mesh found.first last (record { cost = found.cost; links = found.links })
+  pub taut : IsTaut from (portals_of found.links) to found.turns
+
+-- right answers to the question for a path
+abbrev pub IsRightPath : Mesh → Point → ℕ → Point → ℕ → Answer → Type 0
+IsRightPath mesh from from_y to to_y NoStart = IsNowhere mesh from from_y
+IsRightPath mesh from from_y to to_y NoGoal = HasNoGoal mesh from from_y to to_y
+IsRightPath mesh from from_y to to_y NoPath = HasNoPath mesh from from_y to to_y
+IsRightPath mesh from from_y to to_y (Path found) = IsPath mesh from from_y to to_y found
+IsRightPath mesh from from_y to to_y (Floors floors) = ⊥
+IsRightPath mesh from from_y to to_y (Reached at) = ⊥
+IsRightPath mesh from from_y to to_y (Wall a b num den) = ⊥
+
+-- right answers to the question for the floors of a column: those of its free cells
+abbrev pub IsRightFloors : Mesh → ℕ → ℕ → Answer → Type 0
+IsRightFloors mesh x z (Floors floors) = floors ≡ floors_at x z (free_of mesh.tiles)
+IsRightFloors mesh x z NoStart = ⊥
+IsRightFloors mesh x z NoGoal = ⊥
+IsRightFloors mesh x z NoPath = ⊥
+IsRightFloors mesh x z (Path found) = ⊥
+IsRightFloors mesh x z (Reached at) = ⊥
+IsRightFloors mesh x z (Wall a b num den) = ⊥
+
+-- an answer to a question is right in a mesh; rays are not built yet, and no answer to one is right so far
+abbrev pub IsRight : Mesh → Question → Answer → Type 0
+IsRight mesh (questions.Floor x z) answer = IsRightFloors mesh x z answer
+IsRight mesh (questions.Path from from_y to to_y) answer = IsRightPath mesh from from_y to to_y answer
+IsRight mesh (questions.Ray from from_y to) answer = ⊥

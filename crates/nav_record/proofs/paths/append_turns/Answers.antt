@@ -1,0 +1,13 @@
+use Rattle.std.proofs.Common.{◌∙◌, ap, take, sym}
+use Rattle.std.specs.List.{flat_map}
+use Rattle.nav_record.specs.Texts.{turn_text}
+use Rattle.nav_record.proofs.Kept.{still_kept, on_err}
+use Rattle.nav_record.proofs.paths.append_turns.Goals as goal
+
+pub returns-in_err-append_turn-clause-err : goal.returns-in_err-append_turn-clause-err
+returns-in_err-append_turn-clause-err c =
+    on_err c.from_residual.result
+    (ap (λ n. take n c.append_turn.new.out.items) c.args.out.now.ok.0
+    ∙ still_kept c.args.out.now.items (flat_map turn_text (take c.loop-turn.turn-index c.args.turns.now)) c.loop-turn.out.items c.append_turn.new.out.items
+    c.loop-turn.invariant
+    (ap (λ n. take n c.append_turn.new.out.items) (sym c.loop-turn.out.ok.0) ∙ c.in_err-append_turn.ensures.err))

@@ -1,0 +1,39 @@
+//! Answers to questions.
+ghost use Rattle.std.specs.Prelude.{◌≡◌, ◌++◌, take, OnOk, OnErr, vec_len};
+ghost use Rattle.nav_record.specs.Texts.{answer_text};
+
+use crate::append::append_number;
+use crate::floors::append_floors;
+use crate::paths::{append_path, append_reached, append_wall};
+use mesh_types::Answer;
+use std::alloc::AllocError;
+
+/// Appends the lines of an answer; `k` is the length of the version that was read. A path has a line of its own, one for each link and one
+/// for each turn; every other answer is one line. Points are in sixteenths of a cell.
+pub fn write_answer(out: &mut Vec<u8>, k: u32, answer: &Answer) -> Result<(), AllocError>
+    ensures ok { OnOk result (out.new.items ≡ out.old.items ++ answer_text k answer.now) }
+    ensures err { OnErr result (out.new.items ≡ out.old.items) }
+{
+    let len = out.len();
+    let written = append_answer(out, k, answer);
+    if written.is_err() {
+        out.truncate(len);
+    }
+    written
+}
+
+/// The same, but where memory is refused a part of the lines may stand at the end.
+fn append_answer(out: &mut Vec<u8>, k: u32, answer: &Answer) -> Result<(), AllocError>
+    ensures ok { OnOk result (out.new.items ≡ out.old.items ++ answer_text k answer.now) }
+    ensures err { OnErr result (take (vec_len out.old) out.new.items ≡ out.old.items) }
+{
+    match answer {
+        Answer::Floors(floors) => append_floors(out, k, floors.as_slice()),
+        Answer::Path(found) => append_path(out, k, found),
+        Answer::NoStart => append_number(out, b"nostart ", k, b"\n"),
+        Answer::NoGoal => append_number(out, b"nogoal ", k, b"\n"),
+        Answer::NoPath => append_number(out, b"nopath ", k, b"\n"),
+        Answer::Reached(at) => append_reached(out, k, *at),
+        Answer::Wall { a, b, num, den } => append_wall(out, k, *a, *b, *num, *den),
+    }
+}

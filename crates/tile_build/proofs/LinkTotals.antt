@@ -1,0 +1,79 @@
+-- The mesh of a ground has at most 16000000 links, whatever the obstacles.
+use Rattle.std.proofs.Common.{◌≡◌, ℕ, zero, suc, ◌≤◌, List, map, length, get_or, refl, subst, arith, Some}
+use Rattle.std.specs.Prelude.{All}
+use Rattle.std.proofs.lemmas.List.Elements.{All-map}
+use Rattle.std.proofs.lemmas.List.Sums.{sum_by-le-sum_by}
+use Rattle.std.proofs.lemmas.Option.{none-some, same_Some, option_and_then_some, slice_get_within, get_or_from_slice_get}
+use Rattle.nav_ground.specs.declared.cell.Layer.{Layer}
+use Rattle.nav_ground.specs.declared.shape.Shape.{Shape}
+use Rattle.nav_ground.specs.declared.history.Entry.{Entry}
+use Rattle.nav_ground.specs.declared.history.Ground.{Ground}
+use Rattle.nav_ground.specs.declared.history.Request.{Request}
+use Rattle.nav_ground.specs.declared.history.Request.TheVariants.{Add, Remove}
+use Rattle.nav_ground.specs.Limits.{IsShape}
+use Rattle.nav_ground.specs.Grounds.{IsGround}
+use Rattle.nav_ground.specs.FreeCells.{free_layer_of}
+use Rattle.nav_ground.specs.History.{IsRequest, entry_at, shape_in, shape_of, alive_after, shapes_alive}
+use Rattle.nav_ground.proofs.FreeLayers.{free_layer_cut}
+use Rattle.nav_ground.proofs.LayerLaws.{IsLayerOf-from_ground}
+use Rattle.mesh_types.specs.declared.tile.TileMesh.{TileMesh}
+use Rattle.mesh_types.specs.StripMeshes.{strip_mesh_of}
+use Rattle.mesh_types.specs.Builds.{tile_mesh_of, mesh_under, build_of}
+use Rattle.mesh_types.specs.Soundness.{link_count}
+use Rattle.mesh_types.proofs.PolygonTotals.{few_cells_of_ground, few_free}
+use Rattle.mesh_types.proofs.RunLaws.{All-found}
+use Rattle.mesh_types.proofs.Totals.{sum_by-map}
+use Rattle.strip_mesh.proofs.LinkTotals.{IsOfFree, few_links}
+use Rattle.tile_build.proofs.FreeInTile.{free_in_tile}
+
+-- every tile of the mesh is the mesh of free cells
+tiles_of_free : (whole : Ground) (shapes : List Shape) → IsGround whole → All IsShape shapes
+    → All (IsOfFree whole.setting) (map (λ (layer : Layer). tile_mesh_of whole.setting layer shapes) whole.layers)
+tiles_of_free whole shapes rules' limits =
+    All-map (IsOfFree whole.setting) (λ (layer : Layer). tile_mesh_of whole.setting layer shapes) whole.layers
+    (λ k d there.
+    let layer : Layer = get_or whole.layers k d in
+    let of_layer = IsLayerOf-from_ground whole rules' k d there in
+    record {
+      free = free_layer_of layer shapes;
+      cut = free_layer_cut layer shapes of_layer.rules.cells limits;
+      in_tile = free_in_tile whole.setting layer shapes of_layer.inside;
+      is = refl;
+    })
+
+pub few_links_under : (whole : Ground) (shapes : List Shape) → IsGround whole → All IsShape shapes → link_count (mesh_under whole shapes) ≤ 16000000
+unfolding strip_mesh_of
+few_links_under whole shapes rules' limits =
+    omega (
+      arith,
+      few_links whole.setting (map (λ (layer : Layer). tile_mesh_of whole.setting layer shapes) whole.layers) (tiles_of_free whole shapes rules' limits),
+      sum_by-map (λ (tile : TileMesh). length tile.free.cells) (λ (layer : Layer). tile_mesh_of whole.setting layer shapes) whole.layers,
+      sum_by-le-sum_by (λ (layer : Layer). length (tile_mesh_of whole.setting layer shapes).free.cells) (λ (layer : Layer). length layer.cells) whole.layers
+          (λ layer. few_free layer shapes),
+      few_cells_of_ground whole rules',
+    )
+
+-- the shape of an obstacle of a history is within its limits
+shape_asked : (request : Request) (shape : Shape) → IsRequest request → shape_in request ≡ Some shape → IsShape shape
+shape_asked (Add other) shape limits here = subst IsShape (same_Some other shape here) limits
+shape_asked (Remove number) shape limits here = absurd (none-some shape here)
+
+shape_limits : (history : List Entry) (number : ℕ) (shape : Shape) → All (λ (entry : Entry). IsRequest entry.request) history
+    → shape_of history number ≡ Some shape → IsShape shape
+shape_limits history number shape requests found =
+    option_and_then_some (λ (entry : Entry). shape_in entry.request) (entry_at history number) shape found
+    (λ entry there here. shape_asked entry.request shape (asked number entry there) here)
+  where
+    asked : (n : ℕ) (entry : Entry) → entry_at history n ≡ Some entry → IsRequest entry.request
+    asked zero entry there = absurd (none-some entry there)
+    asked (suc place) entry there =
+        subst (λ (e : Entry). IsRequest e.request) (get_or_from_slice_get history place entry entry there)
+        (requests place entry (slice_get_within history place entry there))
+
+-- the mesh of a ground and a history has at most 16000000 links
+pub few_links_of_build : (whole : Ground) (history : List Entry) (k : ℕ) → IsGround whole → All (λ (entry : Entry). IsRequest entry.request) history
+    → link_count (build_of whole history k) ≤ 16000000
+unfolding build_of
+few_links_of_build whole history k rules' requests =
+    few_links_under whole (shapes_alive history k) rules'
+    (All-found (shape_of history) IsShape (alive_after history k) (λ i d there shape found. shape_limits history _ shape requests found))

@@ -1,0 +1,144 @@
+-- Places in order: those with one position and level stand together.
+use Rattle.std.proofs.Common.{◌≡◌, ℕ, ◌+◌, ◌<◌, ◌≤◌, ◌⊎◌, Bool, true, false, List, ◌++◌, length, take, drop, filter, get_or, ap, ◌∙◌, sym, arith, tests, inl, inr}
+use Rattle.std.specs.Prelude.{All}
+use Rattle.std.specs.List.{AllWithin}
+use Rattle.std.specs.List.Sorted.{IsPartitionedBy, IsPartitionPoint}
+use Rattle.std.specs.Ordering.{is_lt, nat_cmp, ordering_then, on}
+use Rattle.std.specs.declared.cmp.Ordering.{Ordering}
+use Rattle.std.specs.declared.cmp.Ordering.TheVariants.{Less, Equal}
+use Rattle.std.specs.Cmp.{IsStrictWeakOrder, IsTotalOrder, nat_cmp_is}
+use Rattle.std.proofs.lemmas.Bool.{both_ways, cases_order}
+use Rattle.std.proofs.lemmas.Cmp.{then_total, on_total, nat_cmp_total}
+use Rattle.std.proofs.lemmas.List.{take-append-drop, append-nil, get_or-take, get_or-drop, length-take, length-drop}
+use Rattle.std.proofs.lemmas.List.Elements.{filter-append}
+use Rattle.std.proofs.lemmas.List.MinMax.{ranks_by}
+use Rattle.std.proofs.lemmas.List.Sorted.{sorted_far}
+use Rattle.nav_ground.proofs.Selections.{filter_all, filter_none}
+use Rattle.tile_links.specs.declared.place.Place.{Place}
+use Rattle.tile_links.specs.RimPlaces.{place_cmp, AreInOrder, is_before_place, is_at_place}
+
+place_total : IsTotalOrder place_cmp
+place_total =
+    then_total {R = on (λ (p : Place). p.position) nat_cmp} {S = on (λ (p : Place). p.level) nat_cmp}
+    (on_total (λ (p : Place). p.position) nat_cmp_total) (on_total (λ (p : Place). p.level) nat_cmp_total)
+
+abbrev pub comes_before : Place → Place → Bool
+comes_before a b = is_lt (place_cmp a b)
+
+pub places_order : IsStrictWeakOrder comes_before
+places_order = ranks_by place_total (λ (place : Place). place)
+
+-- a place that another does not come before has no later position, and no later level at one position
+IsNotAfter : Place → Place → Type 0
+IsNotAfter a b = (a.position < b.position) ⊎ ((a.position ≡ b.position) × (a.level ≤ b.level))
+
+later_position : (a b : Place) → b.position < a.position → comes_before b a ≡ true
+later_position a b less = ap (λ (o : Ordering). is_lt (ordering_then o (nat_cmp b.level a.level))) (sym (nat_cmp_is b.position a.position Less less))
+
+later_level : (a b : Place) → b.position ≡ a.position → b.level < a.level → comes_before b a ≡ true
+later_level a b same less =
+    ap (λ (o : Ordering). is_lt (ordering_then o (nat_cmp b.level a.level))) (sym (nat_cmp_is b.position a.position Equal same))
+    ∙ ap (λ (o : Ordering). is_lt o) (sym (nat_cmp_is b.level a.level Less less))
+
+not_after : (a b : Place) → comes_before b a ≡ false → IsNotAfter a b
+unfolding IsNotAfter
+not_after a b after = elim (cases_order a.position b.position) [
+  | inr (inl less) ↦ inl less
+  | inr (inr more) ↦ absurd (both_ways (comes_before b a) after (later_position a b more))
+  | inl same ↦ elim (cases_order a.level b.level) [
+    | inl equal ↦ inr (same, omega (arith, equal))
+    | inr (inl less) ↦ inr (same, omega (arith, less))
+    | inr (inr more) ↦ absurd (both_ways (comes_before b a) after (later_level a b (sym same) more))
+  ]
+]
+
+-- the tests, as facts
+before_is : (position level : ℕ) (place : Place) → is_before_place position level place ≡ true
+    → (place.position < position) ⊎ ((place.position ≡ position) × (place.level < level))
+before_is position level place h = grind (arith, tests)
+
+before_from : (position level : ℕ) (place : Place) → (place.position < position) ⊎ ((place.position ≡ position) × (place.level < level))
+    → is_before_place position level place ≡ true
+before_from position level place h = grind (arith, tests)
+
+at_is : (position level : ℕ) (place : Place) → is_at_place position level place ≡ true → (place.position ≡ position) × (place.level ≡ level)
+at_is position level place h = grind (arith, tests)
+
+at_from : (position level : ℕ) (place : Place) → place.position ≡ position → place.level ≡ level → is_at_place position level place ≡ true
+at_from position level place h k = grind (arith, tests)
+
+early_not_at : (position level : ℕ) (place : Place) → is_before_place position level place ≡ true → is_at_place position level place ≡ false
+early_not_at position level place h = grind (arith, tests)
+
+before_still : (a b : Place) (position level : ℕ) → IsNotAfter a b → (b.position < position) ⊎ ((b.position ≡ position) × (b.level < level))
+    → (a.position < position) ⊎ ((a.position ≡ position) × (a.level < level))
+unfolding IsNotAfter
+before_still a b position level near early = grind arith
+
+at_still : (a b : Place) (position level : ℕ) → IsNotAfter a b → b.position ≡ position → b.level ≡ level
+    → ((a.position < position) ⊎ ((a.position ≡ position) × (a.level < level)) → ⊥) → (a.position ≡ position) × (a.level ≡ level)
+unfolding IsNotAfter
+at_still a b position level (inl less) at_position at_level late = absurd (late (inl (omega (arith, less, at_position))))
+at_still a b position level (inr (same, most)) at_position at_level late = elim (cases_order a.level level) [
+  | inl equal ↦ (same ∙ at_position, equal)
+  | inr (inl less) ↦ absurd (late (inr (same ∙ at_position, less)))
+  | inr (inr more) ↦ absurd (omega (arith, more, most, at_level))
+]
+
+-- so those that come before a position and level stand first,
+pub before_first : (position level : ℕ) (places : List Place) → AreInOrder places → IsPartitionedBy (is_before_place position level) places
+before_first position level places order i j d le there later =
+    let a : Place = get_or places i d in
+    let b : Place = get_or places j d in
+    before_from position level a
+    (before_still a b position level (not_after a b (sorted_far comes_before places_order places order i j d le there)) (before_is position level b later))
+
+-- of the others those that have them,
+pub at_first : (position level : ℕ) (places : List Place) (first : ℕ) → AreInOrder places
+    → AllWithin (λ (place : Place). is_before_place position level place ≡ false) places first (length places)
+    → IsPartitionedBy (is_at_place position level) (drop first places)
+at_first position level places first order others i j d le inside later =
+    let there : first + j < length places = omega (arith, inside, length-drop first places) in
+    let a : Place = get_or places (first + i) d in
+    let b : Place = get_or places (first + j) d in
+    let at = at_is position level b (ap (is_at_place position level) (sym (get_or-drop first places j d)) ∙ later) in
+    let near = not_after a b (sorted_far comes_before places_order places order (first + i) (first + j) d (omega (arith, le)) there) in
+    let late : is_before_place position level a ≡ false = others (first + i) d (omega arith) (omega (arith, le, there)) in
+    let same = at_still a b position level near at.0 at.1 (λ early. both_ways (is_before_place position level a) late (before_from position level a early)) in
+    ap (is_at_place position level) (get_or-drop first places i d) ∙ at_from position level a same.0 same.1
+
+-- and the slice between is the places that have them
+pub found_at : (position level : ℕ) (places : List Place) (first count : ℕ)
+    → IsPartitionPoint (λ (place : Place). is_before_place position level place ≡ true) (λ (place : Place). is_before_place position level place ≡ false) places first
+    → IsPartitionPoint (λ (place : Place). is_at_place position level place ≡ true) (λ (place : Place). is_at_place position level place ≡ false) (drop first places) count
+    → take count (drop first places) ≡ filter (is_at_place position level) places
+found_at position level places first count point place =
+    sym (ap (filter inside) (sym (take-append-drop first places))
+    ∙ filter-append inside (take first places) rest
+    ∙ ap (λ (ps : List Place). ps ++ filter inside rest) (filter_none inside (take first places) early)
+    ∙ ap (filter inside) (sym (take-append-drop count rest))
+    ∙ filter-append inside (take count rest) (drop count rest)
+    ∙ ap (λ (ps : List Place). ps ++ filter inside (drop count rest)) (filter_all inside (take count rest) there)
+    ∙ ap (λ (ps : List Place). take count rest ++ ps) (filter_none inside (drop count rest) late)
+    ∙ append-nil (take count rest))
+  where
+    inside : Place → Bool
+    inside = is_at_place position level
+
+    rest : List Place
+    rest = drop first places
+
+    early : All (λ (p : Place). is_at_place position level p ≡ false) (take first places)
+    early k d within =
+        let below : k < first = omega (arith, within, length-take first places) in
+        ap inside (get_or-take first places k d below) ∙ early_not_at position level (get_or places k d) (point.0 k d (omega arith) below)
+
+    there : All (λ (p : Place). is_at_place position level p ≡ true) (take count (drop first places))
+    there k d within =
+        let below : k < count = omega (arith, within, length-take count (drop first places)) in
+        ap inside (get_or-take count (drop first places) k d below) ∙ place.0 k d (omega arith) below
+
+    late : All (λ (p : Place). is_at_place position level p ≡ false) (drop count (drop first places))
+    late k d within =
+        ap inside (get_or-drop count (drop first places) k d)
+        ∙ place.1 (count + k) d (omega arith) (omega (arith, within, length-drop count (drop first places)))
