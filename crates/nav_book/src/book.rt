@@ -6,12 +6,13 @@ ghost use Rattle.nav_ground.specs.Grounds.{IsGround};
 ghost use Rattle.nav_ground.specs.History.{IsRequest, IsHistory, shapes_alive};
 ghost use Rattle.nav_ground.specs.Limits.{IsShape};
 ghost use Rattle.layer_cut.specs.Tiles.{IsInField};
-ghost use Rattle.mesh_types.specs.Soundness.{IsSound};
+ghost use Rattle.mesh_types.specs.Soundness.{IsSound, link_count, polygon_count};
 ghost use Rattle.tile_build.specs.Meshes.{tiles_under};
 ghost use Rattle.nav_book.specs.BookState.{BookState, next_reply, after_request, after_renewal, published_layers, published_mesh};
 ghost use Rattle.nav_book.specs.Columns.{floors_at};
 
 use crate::columns::push_floors;
+use crate::counts::{links, polygons};
 use crate::live::{Live, answer, shapes};
 use layer_cut::tile_of;
 use mesh_types::{Mesh, TileMesh};
@@ -160,6 +161,14 @@ impl Book {
         ensures sound { IsSound (published_mesh self.now) }
     {
         &self.mesh
+    }
+
+    /// How many polygons and how many links the mesh has as it was last published; a link leads one way.
+    pub fn mesh_counts(&self) -> (u32, u32)
+        ensures polygons { result.0 ≡ polygon_count (published_mesh self.now).tiles }
+        ensures links { result.1 ≡ link_count (published_mesh self.now) }
+    {
+        (polygons(self.mesh.tiles.as_slice()), links(&self.mesh))
     }
 
     /// How many entries the history has.
