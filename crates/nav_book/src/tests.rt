@@ -4,7 +4,6 @@ ghost use Rattle.std.specs.Prelude.{◌≡◌, ◌<◌, IfOk};
 ghost use Rattle.nav_ground.specs.Fields.{IsField};
 ghost use Rattle.nav_ground.specs.Grounds.{IsGround};
 ghost use Rattle.nav_ground.specs.History.{IsRequest};
-ghost use Rattle.tile_build.specs.Meshes.{IsOfStrips};
 
 use crate::{Book, HistoryFull};
 use layer_cut::ground;
@@ -84,7 +83,6 @@ fn opened<L: Ledger>(alloc: Global, blank: Blank) -> Result<Book, AllocError>
     requires name { blank.name ≡ L.name }
     requires parts { blank.parts ≡ L.parts }
     requires some { 0 < blank.parts }
-    ensures { IfOk result (λ book. IsOfStrips book.whole.setting) }
 {
     let mut steps = Steps::<L>::new(blank);
     let setting = Setting {
@@ -112,13 +110,16 @@ fn renewed<L: Ledger>(book: &mut Book, alloc: Global, blank: Blank) -> Result<u3
     requires name { blank.name ≡ L.name }
     requires parts { blank.parts ≡ L.parts }
     requires some { 0 < blank.parts }
-    requires strips { IsOfStrips book.old.whole.setting }
-    ensures { book.new.whole ≡ book.old.whole }
 {
     let mut steps = Steps::<L>::new(blank);
+    let level = book.level();
+    match level.setting.mesh {
+        MeshKind::Strips => (),
+        MeshKind::Contours => return Ok(0),
+    }
     let shapes = book.alive(alloc)?;
     let standing = book.mesh().tiles.as_slice();
-    let tiles = renew_tiles(alloc, book.level(), shapes.as_slice(), standing, &mut steps)?;
+    let tiles = renew_tiles(alloc, level, shapes.as_slice(), standing, &mut steps)?;
     book.renew(alloc, tiles)
 }
 
