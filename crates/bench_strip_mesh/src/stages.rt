@@ -1,0 +1,117 @@
+//! The stages of a mesh.
+
+ghost use Rattle.std.specs.Prelude.{◌≡◌, ◌<◌, ◌↔◌, IsTrue, take};
+ghost use Rattle.nav_ground.specs.Limits.{IsSetting};
+ghost use Rattle.nav_ground.specs.Fields.{IsField};
+ghost use Rattle.span_text.specs.FieldText.{IsFieldText};
+ghost use Rattle.tile_build.specs.Meshes.{IsOfStrips};
+
+use layer_cut::ground;
+use mesh_types::{Mesh, TileMesh, copy_mesh};
+use nav_book::Book;
+use nav_ground::{MeshKind, Setting};
+use nav_list::Items;
+use nav_share::Shared;
+use nav_steps::Steps;
+use span_text::FieldText;
+use std::alloc::{AllocError, Global};
+use std::sync::Arc;
+use std::sync::ledger::{Blank, Ledger};
+use tile_build::build_tiles;
+
+/// What was made.
+#[derive(Clone, Copy)]
+pub struct Made {
+    pub spans: usize,
+    pub tiles: usize,
+    pub polygons: usize,
+    pub links: usize,
+}
+
+/// Goes on from a text that was read, up to a stage, and then makes copies of the mesh.
+pub fn staged<L: Ledger>(
+    alloc: Global,
+    read: FieldText,
+    bytes: &[u8],
+    stage: u32,
+    copies: u32,
+    blank: Blank,
+) -> Result<Made, AllocError>
+    requires setting { IsSetting read.setting }
+    requires field { IsField read.field }
+    requires text { IsFieldText (take read.used bytes.now) read.setting read.field }
+    requires name { blank.name ≡ L.name }
+    requires parts { blank.parts ≡ L.parts }
+    requires some { 0 < blank.parts }
+{
+    let mut made = Made {
+        spans: read.field.spans.len(),
+        tiles: 0,
+        polygons: 0,
+        links: 0,
+    };
+    if stage < 2 {
+        return Ok(made);
+    }
+    let whole = ground(alloc, read.setting, read.field)?;
+    made.tiles = whole.layers.len();
+    if stage < 3 || !is_of_strips(&whole.setting) {
+        return Ok(made);
+    }
+    let mut steps = Steps::<L>::new(blank);
+    let tiles = build_tiles(alloc, &whole, &[], &mut steps)?;
+    count_tiles(&mut made, tiles.as_slice());
+    if stage < 4 {
+        return Ok(made);
+    }
+    let book = Book::begin(alloc, Arc::new(alloc, whole)?, tiles)?;
+    count_cross(&mut made, book.mesh());
+    make_copies(alloc, book.mesh(), copies)?;
+    Ok(made)
+}
+
+fn is_of_strips(setting: &Setting) -> bool
+    ensures { IsTrue result ↔ IsOfStrips setting.now }
+{
+    matches!(setting.mesh, MeshKind::Strips)
+}
+
+fn count_tiles(made: &mut Made, tiles: &[Shared<TileMesh>]) {
+    for tile in tiles {
+        made.polygons = made.polygons.wrapping_add(tile.get().polys.len());
+        made.links = made.links.wrapping_add(tile.get().links.len());
+    }
+}
+
+fn count_cross(made: &mut Made, mesh: &Mesh) {
+    for links in mesh.cross.as_slice() {
+        made.links = made.links.wrapping_add(links.get().len());
+    }
+}
+
+fn make_copies(alloc: Global, mesh: &Mesh, copies: u32) -> Result<(), AllocError> {
+    for place in 0..copies {
+        let _ = copy_with(alloc, mesh, place as usize)?;
+    }
+    Ok(())
+}
+
+/// A copy of a mesh in which a tile is replaced by the first.
+fn copy_with(alloc: Global, mesh: &Mesh, place: usize) -> Result<Mesh, AllocError> {
+    let Mesh {
+        setting,
+        tiles,
+        cross,
+    } = copy_mesh(alloc, mesh)?;
+    let mut tiles = tiles.into_vec();
+    if 0 < tiles.len() {
+        let count = tiles.len();
+        let tile = tiles[0].share()?;
+        tiles[place % count] = tile;
+    }
+    Ok(Mesh {
+        setting,
+        tiles: Items::from_vec(tiles),
+        cross,
+    })
+}
