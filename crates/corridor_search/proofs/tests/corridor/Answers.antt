@@ -1,6 +1,5 @@
 use Rattle.std.proofs.Common.{arith, sym, subst}
 use Rattle.nav_ground.specs.Limits.{IsSetting}
-use Rattle.mesh_types.specs.declared.links.PolyRef.{PolyRef}
 use Rattle.mesh_types.specs.declared.mesh.Mesh.{Mesh}
 use Rattle.mesh_types.specs.Soundness.{IsSound}
 use Rattle.corridor_search.specs.MeshGraphs.{IsThere}
