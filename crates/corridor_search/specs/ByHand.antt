@@ -1,6 +1,6 @@
 -- ByHand: a mesh of two tiles of four columns a side, written out. Each tile is two triangles, and links lead from the upper triangle of the
 -- left tile to its lower one, over the border to the lower triangle of the right tile, whose area costs 3, and on to the upper one.
-use Rattle.std.specs.Prelude.{ℕ, ◌+◌, pos, List, [], ◌∷◌, replicate, false}
+use Rattle.std.specs.Prelude.{ℕ, pos, [], ◌∷◌, replicate, false}
 use Rattle.nav_base.specs.declared.point.Point.{Point}
 use Rattle.nav_ground.specs.declared.setting.Setting.{Setting}
 use Rattle.nav_ground.specs.declared.setting.MeshKind.TheVariants.{Strips}

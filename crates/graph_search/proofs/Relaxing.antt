@@ -1,5 +1,5 @@
 -- An arc of the vertex that was closed last is followed.
-use Rattle.std.proofs.Common.{◌≡◌, ◌≢◌, ℕ, ◌+◌, ◌*◌, ◌<◌, ◌≤◌, ◌⊎◌, List, ◌∷◌, length, get_or, refl, sym, subst, ap, ◌∙◌, inl, inr, arith}
+use Rattle.std.proofs.Common.{◌≡◌, ◌≢◌, ℕ, ◌+◌, ◌*◌, ◌<◌, ◌≤◌, ◌⊎◌, List, ◌∷◌, length, refl, sym, subst, ap, ◌∙◌, inl, inr, arith}
 use Rattle.std.specs.Prelude.{Contains, All, ◌==◌, if◌then◌else◌}
 use Rattle.std.specs.List.Sorted.{IsPermutation}
 use Rattle.std.specs.declared.cmp.Reverse.{Reverse}
@@ -328,11 +328,8 @@ module _ (vertices : List Vertex) (arcs : Vertex → List Arc) (estimate : Verte
 
   module _ (at : Vertex → Visit) (waiting : List Entry) (known : IsKnown vertices estimate at waiting (closed * heaviest) closed)
       (closing : IsClosing estimate heaviest at (closed * heaviest) vertex) (relaxing : AreBeingRelaxed arcs at vertex place) where
-    pub through-fits : (at vertex).cost + (arc_of arcs own_step).weight ≤ closed * heaviest
+    through-fits : (at vertex).cost + (arc_of arcs own_step).weight ≤ closed * heaviest
     through-fits = omega (arith, weight-no_more vertices arcs estimate heaviest searchable vertex member place below, closing.room)
-
-    pub sum-fits : (at vertex).cost + (arc_of arcs own_step).weight < 18446744073709551616
-    sum-fits = omega (arith, through-fits, limit-fits)
 
     pub key-fits : (at vertex).cost + (arc_of arcs own_step).weight + estimate to < 18446744073709551616
     key-fits = omega (arith, through-fits, mul-le closed heaviest (length vertices) heaviest few (omega arith), searchable.small to end-member)
@@ -350,14 +347,6 @@ module _ (vertices : List Vertex) (arcs : Vertex → List Arc) (estimate : Verte
       ranks = record { same = λ v. refl };
       more = omega arith;
     }
-
-    -- to a closed vertex it does: that has no more cost and estimate than the one that the arc leaves
-    pub following-closed : IsClosed (at to) → IsFollowing vertices arcs estimate heaviest vertex closed at waiting at waiting (place + 1) 1
-    following-closed is_closed =
-        let estimates : estimate vertex ≤ (arc_of arcs own_step).weight + estimate to =
-        subst (λ (v : Vertex). estimate vertex ≤ (arc_of arcs own_step).weight + estimate v) enters
-        (estimate-no_more vertices arcs estimate heaviest searchable vertex member place below) in
-        following-no_less (omega (arith, closing.greatest to is_closed, estimates))
 
     -- or it leads to less
     module _ (at' : Vertex → Visit) (waiting' : List Entry) where

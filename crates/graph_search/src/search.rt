@@ -34,7 +34,8 @@ pub fn cheapest_walk<G: Graph>(
     let mut search = Search::begin(alloc, from, graph.estimate(from))?;
     let mut ends = Vec::new(alloc);
     while let Some((_, vertex)) = search.waiting.pop() {
-        if search.visits.get(vertex).rank != 0 {
+        let rank = search.visits.get(vertex).rank;
+        if rank != 0 {
             continue;
         }
         search.close(alloc, vertex)?;
