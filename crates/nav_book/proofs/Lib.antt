@@ -5,3 +5,4 @@ pub mod ColumnParts
 pub mod Layers
 pub mod TileFloors
 pub mod GroundTiles
+pub mod FlatFields
