@@ -15,7 +15,8 @@ use nav_list::Items;
 use std::alloc::{AllocError, Global};
 
 /// A corridor from one polygon to another, a walk over links that no other such walk undercuts; none exactly where no walk joins the two.
-/// From a polygon to itself it has no links and costs 0.
+/// From a polygon to itself it has no links and costs 0. Costs are in sixteenths of a cell times the costs of areas, and less than 2^45. Only
+/// memory can be refused.
 pub fn cheapest(
     alloc: Global,
     mesh: &Mesh,

@@ -82,6 +82,8 @@ impl Graph for MeshGraph<'_> {
 
     ghost estimates = { λ g. estimates_of g.mesh.now g.goal };
 
+    /// The middles of two linked polygons are at most the side of a tile apart along each axis: 128 cells, 2048 sixteenths. Rounded up, that
+    /// is 2897 across, at a cost of at most 1000.
     ghost heaviest = { λ _. 2897000 };
 
     fn push_ends(&self, from: Vertex, ends: &mut Vec<Vertex>) -> Result<(), AllocError> {

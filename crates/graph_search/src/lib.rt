@@ -1,8 +1,8 @@
 //! Cheapest walks in a finite graph with whole weights: one search, Dijkstra's, which an estimate of what is left to go makes the search A*.
 //!
 //! A graph is whatever implements `Graph`: it names its vertices by block and place, and gives the arcs that leave a vertex when a search
-//! comes to it. Weights may be 0, and an estimate must be consistent: it falls along an arc by no more than the arc's weight. A search takes
-//! memory for the blocks that it comes to, and for nothing else.
+//! comes to it. Weights may be 0, and an estimate must be consistent: it falls along an arc by no more than the arc's weight. What a search
+//! knows is kept block by block, and memory for a block is taken only when the search comes to it.
 #![tactic(auto)]
 
 mod arcs;

@@ -16,8 +16,9 @@ use crate::visits::{UNSEEN, Visit, Visits};
 use crate::waiting::Waiting;
 use std::alloc::{AllocError, Global};
 
-/// A walk from one vertex to another that no other such walk undercuts; none exactly where no walk joins the two. It takes time for the
-/// vertices whose least cost and estimate together are no greater than that cost, and for their arcs, and memory for their blocks.
+/// A walk from one vertex to another that no other such walk undercuts; none exactly where no walk joins the two. Only memory can be
+/// refused. Vertices are closed in the order of their least cost and estimate together, up to the goal's; each arc of a closed vertex is
+/// looked at once.
 pub fn cheapest_walk<G: Graph>(
     alloc: Global,
     graph: &G,
