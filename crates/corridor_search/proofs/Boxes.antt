@@ -1,7 +1,6 @@
 -- The box of a polygon: its corners lie in it, so do the ends of the portals on its edges, and its middle is not far from them.
-use Rattle.std.proofs.Common.{◌≡◌, ℕ, zero, suc, ◌<◌, ◌≤◌, ◌+◌, ◌*◌, ℤ, pos, negsuc, ◌+ℤ◌, ◌-ℤ◌, ◌*ℤ◌, ◌≤ℤ◌, ◌<ℤ◌, Bool, true, false, cond, List, [], ◌∷◌, ◌++◌, length, map, take, get_or, refl, sym, subst, ap, ◌∙◌, inl, inr, arith, tests}
-use Rattle.std.specs.Prelude.{All, int_lt}
-use Rattle.std.specs.List.{fold}
+use Rattle.std.proofs.Common.{◌≡◌, ℕ, zero, suc, ◌<◌, ◌+◌, ℤ, pos, ◌+ℤ◌, ◌-ℤ◌, ◌*ℤ◌, ◌≤ℤ◌, ◌<ℤ◌, List, [], ◌∷◌, ◌++◌, length, map, take, get_or, refl, sym, subst, ap, ◌∙◌, arith}
+use Rattle.std.specs.Prelude.{All}
 use Rattle.std.specs.Int.{int_min, int_max}
 use Rattle.std.proofs.lemmas.Int.{ints, clamps}
 use Rattle.std.proofs.lemmas.List.{get_or-map, length-map, map_more}
@@ -10,7 +9,7 @@ use Rattle.std.proofs.lemmas.List.Elements.{All-map}
 use lib.IntN.{*ℤ_comm, *ℤ-zero}
 use Rattle.nav_base.specs.declared.point.Point.{Point}
 use Rattle.nav_base.specs.Point.{from_to, dot_of, cross_of, orient_of}
-use Rattle.nav_base.specs.Convex.{corner_at, place_after}
+use Rattle.nav_base.specs.Convex.{corner_at}
 use Rattle.nav_base.proofs.Polynomials.{at, sum, difference, product, equal}
 use Rattle.nav_base.proofs.PointTerms.{place, coordinates, from_to_term, dot_term, orient_term}
 use Rattle.nav_base.proofs.Signs.{product-not_negative, product-not_positive, factor-not_negative, factor-not_positive}

@@ -1,7 +1,6 @@
 -- What links weigh: no more than a tile's side across, at the greatest cost of an area; and the estimate falls by no more.
-use Rattle.std.proofs.Common.{◌≡◌, ℕ, zero, suc, ◌<◌, ◌≤◌, ◌+◌, ◌*◌, ◌-◌, max, min, ℤ, pos, negsuc, ◌+ℤ◌, ◌-ℤ◌, ◌*ℤ◌, ◌≤ℤ◌, List, [], ◌∷◌, length, map, get_or, refl, sym, subst, ap, ◌∙◌, inl, inr, Bool, true, arith}
-use Rattle.std.specs.Prelude.{All, IsTrue, slice_get, slice_index, Some, None, Option, nat_le, ◌&&◌, unsigned_abs}
-use Rattle.std.specs.List.{list_all}
+use Rattle.std.proofs.Common.{◌≡◌, ℕ, ◌<◌, ◌≤◌, ◌+◌, ◌*◌, ◌-◌, max, min, ℤ, pos, ◌+ℤ◌, ◌-ℤ◌, ◌*ℤ◌, ◌≤ℤ◌, length, refl, subst, ap, ◌∙◌, arith}
+use Rattle.std.specs.Prelude.{All, slice_index, Some, None, Option, unsigned_abs}
 use Rattle.std.specs.Option.{option_map_or}
 use Rattle.std.proofs.lemmas.Int.{ints}
 use Rattle.std.proofs.lemmas.Nat.{mul-le}
@@ -9,8 +8,8 @@ use Rattle.std.proofs.lemmas.Bool.{and_parts, leb-true}
 use Rattle.std.proofs.lemmas.List.Sums.{AllPass-from_list_all}
 use Rattle.std.proofs.lemmas.Option.{slice_get_within, get_or_from_slice_get}
 use Rattle.nav_base.specs.declared.point.Point.{Point}
-use Rattle.nav_base.specs.Point.{IsCellCorner, IsWithin, from_to, dot_of}
-use Rattle.nav_base.specs.Convex.{corner_at, place_after}
+use Rattle.nav_base.specs.Point.{IsWithin, from_to, dot_of}
+use Rattle.nav_base.specs.Convex.{place_after}
 use Rattle.nav_base.specs.Deviation.{square_of}
 use Rattle.nav_base.specs.Root.{ceil_sqrt_of}
 use Rattle.nav_base.proofs.RootLaws.{ceil_sqrt_of-at_most}
@@ -23,11 +22,10 @@ use Rattle.nav_ground.specs.Tiling.{corner_x, corner_z, tile_window}
 use Rattle.mesh_types.specs.declared.links.PolyRef.{PolyRef}
 use Rattle.mesh_types.specs.declared.links.Link.{Link}
 use Rattle.mesh_types.specs.declared.polygon.Polygon.{Polygon}
-use Rattle.mesh_types.specs.declared.tile.TileMesh.{TileMesh}
 use Rattle.mesh_types.specs.declared.mesh.Mesh.{Mesh}
 use Rattle.mesh_types.specs.WholeMesh.{poly_at}
 use Rattle.mesh_types.specs.Corridors.{centre_of, step_cost, weight_of}
-use Rattle.mesh_types.specs.Soundness.{IsPolygon, IsPortalOut, IsPortalIn, IsInSquare, IsSound, LeadsThrough, edge_begin, edge_end}
+use Rattle.mesh_types.specs.Soundness.{IsPolygon, IsInSquare, IsSound, LeadsThrough, edge_begin, edge_end}
 use Rattle.corridor_search.specs.MeshGraphs.{IsInField, weight_from, estimate_from}
 use Rattle.corridor_search.proofs.Boxes.{low, high, low-corner, high-corner, low-bound, high-bound, IsOn, begin_on, end_on, on_above_x, on_below_x, on_above_z, on_below_z}
 use Rattle.corridor_search.proofs.Sound.{placed, tile-fit, polygon-rules}

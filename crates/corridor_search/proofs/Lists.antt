@@ -1,8 +1,8 @@
--- Lists: what a filter keeps, and maps that agree.
-use Rattle.std.proofs.Common.{◌≡◌, ℕ, ◌<◌, ◌+◌, Bool, true, false, cond, List, [], ◌∷◌, ◌++◌, length, map, filter, refl, sym, subst, ap, ◌∙◌, ◌⊎◌, inl, inr, arith}
-use Rattle.std.specs.Prelude.{Contains, All}
+-- What a filter of a list keeps.
+use Rattle.std.proofs.Common.{◌≡◌, Bool, true, false, cond, List, [], ◌∷◌, filter, refl, sym, subst, ap, ◌∙◌, ◌⊎◌, inl, inr}
+use Rattle.std.specs.Prelude.{Contains}
 use Rattle.std.proofs.lemmas.Bool.{both_ways}
-use Rattle.std.proofs.lemmas.List.Elements.{All-contains, All-contains_itself, All-filter, All-head, All-tail, filter_passes}
+use Rattle.std.proofs.lemmas.List.Elements.{All-contains, All-contains_itself, All-filter, filter_passes}
 use Rattle.graph_search.proofs.Members.{contains_cases, contains_first, contains_later, contains_none}
 
 -- what a filter kept is an element, and passes
@@ -22,9 +22,3 @@ kept_if_passes {X = X} p (y ∷ ys) x passes held = by_test (p y) refl (contains
     by_test true is (inr later) rest = contains_later y x (filter p ys) (rest later)
     by_test false is (inl same) rest = absurd (both_ways (p y) is (ap p same ∙ passes))
     by_test false is (inr later) rest = rest later
-
--- functions that agree at each element make one list
-pub map_agree : {X Y : Type 0} (f g : X → Y) (xs : List X) → All (λ x. f x ≡ g x) xs → map f xs ≡ map g xs
-map_agree f g [] each = refl
-map_agree {X = X} {Y = Y} f g (x ∷ xs) each =
-    λ i. All-head (λ (y : X). f y ≡ g y) x xs each i ∷ map_agree f g xs (All-tail (λ (y : X). f y ≡ g y) x xs each) i

@@ -1,5 +1,5 @@
 -- Walks over the arcs of a mesh are walks over its links.
-use Rattle.std.proofs.Common.{◌≡◌, ℕ, ◌<◌, ◌≤◌, ◌+◌, List, [], ◌∷◌, ◌++◌, length, map, get_or, refl, sym, subst, ap, ◌∙◌, arith}
+use Rattle.std.proofs.Common.{◌≡◌, ℕ, ◌<◌, ◌+◌, List, [], ◌∷◌, length, map, refl, sym, subst, ap, ◌∙◌, arith}
 use Rattle.std.specs.Prelude.{All, Contains, slice_index_or}
 use Rattle.std.proofs.lemmas.List.{get_or-map, length-map, get_or_default}
 use Rattle.std.proofs.lemmas.List.Elements.{All-cons, All-nil, Contains-get_or}
@@ -18,13 +18,13 @@ use Rattle.graph_search.specs.Walks as graph
 use Rattle.graph_search.specs.Walks.{no_arc, arc_of, Walks}
 use Rattle.graph_search.proofs.Stopping.{cost_of-cons}
 use Rattle.corridor_search.specs.MeshGraphs.{IsOver, IsApart, vertex_of, polygon_of, links_from, arc_over, arcs_from, no_link, link_of}
-use Rattle.corridor_search.proofs.Sound.{IsLeading, leads, leaves-listed}
+use Rattle.corridor_search.proofs.Sound.{leads, leaves-listed}
 
 -- the arc of a step is that of its link
-step-there : (mesh : Mesh) (step : Step) → step.place < length (arcs_from mesh step.from) → step.place < length (links_from mesh (polygon_of step.from))
+pub step-there : (mesh : Mesh) (step : Step) → step.place < length (arcs_from mesh step.from) → step.place < length (links_from mesh (polygon_of step.from))
 step-there mesh step below = subst (λ (n : ℕ). step.place < n) (length-map (links_from mesh (polygon_of step.from)) (arc_over mesh)) below
 
-arc-over-link : (mesh : Mesh) (step : Step) → step.place < length (arcs_from mesh step.from) → arc_of (arcs_from mesh) step ≡ arc_over mesh (link_of mesh step)
+pub arc-over-link : (mesh : Mesh) (step : Step) → step.place < length (arcs_from mesh step.from) → arc_of (arcs_from mesh) step ≡ arc_over mesh (link_of mesh step)
 arc-over-link mesh step below = get_or-map (arc_over mesh) (links_from mesh (polygon_of step.from)) step.place no_link no_arc (step-there mesh step below)
 
 -- what a walk costs, by its first link

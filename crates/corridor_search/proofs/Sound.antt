@@ -1,5 +1,5 @@
 -- What soundness says of the polygons and the links of a mesh.
-use Rattle.std.proofs.Common.{◌≡◌, ℕ, ◌<◌, ◌≤◌, ◌⊎◌, true, List, [], ◌∷◌, ◌++◌, length, get_or, refl, sym, subst, ap, ◌∙◌, inl, inr, arith}
+use Rattle.std.proofs.Common.{◌≡◌, ℕ, ◌⊎◌, true, List, [], refl, sym, subst, ap, ◌∙◌, inl, inr}
 use Rattle.std.specs.Prelude.{Contains, All, slice_get, Option, Some, None, option_and_then, ◌==◌}
 use Rattle.std.specs.Option.{option_map_or}
 use Rattle.std.proofs.lemmas.Bool.{eqb-true, eq-eqb}
@@ -13,7 +13,7 @@ use Rattle.mesh_types.specs.declared.mesh.Mesh.{Mesh}
 use Rattle.mesh_types.specs.LinkIndex.{leaving_of}
 use Rattle.mesh_types.specs.WholeMesh.{poly_at}
 use Rattle.mesh_types.specs.Corridors.{IsLinkOf}
-use Rattle.mesh_types.specs.Soundness.{IsPolygon, IsInSquare, IsInnerLink, IsCrossLink, IsFit, IsSound, LeadsThrough}
+use Rattle.mesh_types.specs.Soundness.{IsPolygon, IsInnerLink, IsCrossLink, IsFit, IsSound, LeadsThrough}
 use Rattle.graph_search.proofs.Members.{contains_none}
 use Rattle.corridor_search.specs.MeshGraphs.{inner_links, outer_links, links_from}
 use Rattle.corridor_search.proofs.Lists.{kept_element, kept_passes, kept_if_passes}

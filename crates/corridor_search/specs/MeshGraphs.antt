@@ -1,5 +1,5 @@
 -- The mesh as a graph: its polygons are the vertices, by tile and place, and its links are the arcs.
-use Rattle.std.specs.Prelude.{◌≡◌, ℕ, ◌+◌, ◌*◌, ◌<◌, max, ℤ, pos, ◌≤ℤ◌, List, [], ◌∷◌, ◌++◌, length, map, slice_get, slice_index, slice_index_or, All, Some}
+use Rattle.std.specs.Prelude.{◌≡◌, ℕ, ◌+◌, ◌*◌, ◌<◌, max, pos, ◌≤ℤ◌, List, [], ◌∷◌, ◌++◌, length, map, slice_get, slice_index, slice_index_or, Some}
 use Rattle.std.specs.List.{range_with_len}
 use Rattle.std.specs.Option.{option_map_or}
 use Rattle.nav_base.specs.declared.point.Point.{Point}
@@ -107,9 +107,9 @@ pub record IsSearched (mesh : Mesh) (goal : Point) : Type 0 where
   pub setting : IsSetting mesh.setting
   pub in_field : IsInField goal
 
--- the arc of a link that leaves a polygon with a given middle
-abbrev pub arc_by : Mesh → Point → Link → Arc
-arc_by mesh middle link = record { to = vertex_of link.to; weight = weight_from mesh middle link.to }
+-- the vertex of the polygon that a link enters
+abbrev pub end_of : Link → Vertex
+end_of link = vertex_of link.to
 
 -- a step takes a link that leaves its polygon
 pub record IsOver (mesh : Mesh) (step : Step) : Type 0 where

@@ -9,3 +9,6 @@ mod mesh_graph;
 mod weights;
 
 pub use corridors::cheapest;
+
+#[cfg(test)]
+mod tests;

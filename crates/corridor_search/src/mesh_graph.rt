@@ -1,13 +1,10 @@
 //! The mesh as a graph.
 
-ghost use Rattle.std.specs.Prelude.{◌≡◌, ◌++◌, ◌<◌, All, OnOk, map, length};
-ghost use Rattle.nav_ground.specs.Limits.{IsSetting};
-ghost use Rattle.mesh_types.specs.declared.links.Link.{Link};
-ghost use Rattle.mesh_types.specs.Soundness.{IsSound};
-ghost use Rattle.corridor_search.specs.MeshGraphs.{vertex_of, polygon_of, IsThere, IsInField, inner_links, outer_links, links_from, link_of, arc_by};
+ghost use Rattle.std.specs.Prelude.{◌≡◌, ◌++◌, ◌<◌, OnOk, map, length};
+ghost use Rattle.corridor_search.specs.MeshGraphs.{vertex_of, polygon_of, inner_links, outer_links, links_from, link_of, end_of};
 
 use crate::weights::{centre, distance, polygon_at, weight};
-use graph_search::{Arc, Graph, Step, Vertex};
+use graph_search::{Graph, Step, Vertex};
 use mesh_types::{Link, Mesh, PolyRef};
 use nav_base::Point;
 use std::alloc::AllocError;
@@ -87,11 +84,15 @@ impl Graph for MeshGraph<'_> {
 
     ghost heaviest = { λ _. 2897000 };
 
-    fn push_arcs(&self, from: Vertex, found: &mut Vec<Arc>) -> Result<(), AllocError> {
+    fn push_ends(&self, from: Vertex, ends: &mut Vec<Vertex>) -> Result<(), AllocError> {
         let at = reference(from);
-        let middle = centre(polygon_at(self.mesh, at));
-        push_over(self.mesh, middle, inner(self.mesh, at), found)?;
-        push_over(self.mesh, middle, outer(self.mesh, at), found)
+        push_entered(inner(self.mesh, at), ends)?;
+        push_entered(outer(self.mesh, at), ends)
+    }
+
+    fn weight(&self, step: Step, to: Vertex) -> u64 {
+        let middle = centre(polygon_at(self.mesh, reference(step.from)));
+        weight(self.mesh, middle, reference(to))
     }
 
     fn estimate(&self, from: Vertex) -> u64 {
@@ -100,25 +101,12 @@ impl Graph for MeshGraph<'_> {
     }
 }
 
-/// Appends the arcs of links that leave a polygon with a given middle.
-fn push_over(
-    mesh: &Mesh,
-    middle: Point,
-    links: &[Link],
-    found: &mut Vec<Arc>,
-) -> Result<(), AllocError>
-    requires sound { IsSound mesh.now }
-    requires setting { IsSetting mesh.now.setting }
-    requires middle { IsInField middle }
-    requires there { All (λ (link : Link). IsThere mesh.now link.to) links.now }
-    ensures { OnOk result (found.new.items ≡ found.old.items ++ map (arc_by mesh.now middle) links.now) }
+/// Appends the vertices of the polygons that links enter.
+fn push_entered(links: &[Link], ends: &mut Vec<Vertex>) -> Result<(), AllocError>
+    ensures { OnOk result (ends.new.items ≡ ends.old.items ++ map end_of links.now) }
 {
     for link in links {
-        let arc = Arc {
-            to: vertex_at(link.to),
-            weight: weight(mesh, middle, link.to),
-        };
-        found.push(arc)?;
+        ends.push(vertex_at(link.to))?;
     }
     Ok(())
 }

@@ -7,3 +7,4 @@ pub mod Relaxing
 pub mod Stopping
 pub mod WayBack
 pub mod Turns
+pub mod RowGraphs

@@ -1,5 +1,5 @@
 -- An arc of the vertex that was closed last is followed.
-use Rattle.std.proofs.Common.{◌≡◌, ◌≢◌, ℕ, ◌+◌, ◌*◌, ◌<◌, ◌≤◌, ◌⊎◌, List, ◌∷◌, length, get_or, refl, sym, subst, ap, ◌∙◌, inl, inr, arith}
+use Rattle.std.proofs.Common.{◌≡◌, ◌≢◌, ℕ, ◌+◌, ◌*◌, ◌<◌, ◌≤◌, ◌⊎◌, List, ◌∷◌, length, refl, sym, subst, ap, ◌∙◌, inl, inr, arith}
 use Rattle.std.specs.Prelude.{Contains, All, ◌==◌, if◌then◌else◌}
 use Rattle.std.specs.List.Sorted.{IsPermutation}
 use Rattle.std.specs.declared.cmp.Reverse.{Reverse}
@@ -14,7 +14,7 @@ use Rattle.graph_search.specs.declared.visits.Visit.{Visit}
 use Rattle.graph_search.specs.Walks.{no_arc, arc_of, IsSearchable}
 use Rattle.graph_search.specs.Visited.{IsSeen, IsClosed, IsWritten}
 use Rattle.graph_search.specs.Entries.{entry}
-use Rattle.graph_search.specs.Searching.{IsStepTo, IsTree, IsEntry, IsKnown, IsClosing, IsRelaxed, AreRelaxed, AllRelaxed, AreBeingRelaxed, KeepsRanks, sum_open}
+use Rattle.graph_search.specs.Searching.{IsStepTo, IsTree, IsEntry, IsKnown, IsClosing, IsRelaxed, AreRelaxed, AllRelaxed, AreBeingRelaxed, IsFollowing, KeepsRanks, sum_open}
 use Rattle.graph_search.proofs.Members.{contains_first, contains_later, sum_no_more}
 use Rattle.graph_search.proofs.Writing.{written_or_kept, same_or_not}
 
@@ -125,9 +125,6 @@ module _ (vertices : List Vertex) (arcs : Vertex → List Arc) (estimate : Verte
 
       kept-cost : (v : Vertex) → IsClosed (at v) → (at' v).cost ≡ (at v).cost
       kept-cost v is_closed = ap (λ (u : Visit). u.cost) (kept-closed v is_closed)
-
-      pub cost-kept : (at' vertex).cost ≡ (at vertex).cost
-      cost-kept = kept-cost vertex closing.closed
 
       -- no cost rises
       cost_no_more : (v : Vertex) → (at' v).cost ≤ (at v).cost
@@ -287,94 +284,95 @@ module _ (vertices : List Vertex) (arcs : Vertex → List Arc) (estimate : Verte
               by_step v same (inr held) =
                   inr (subst (λ (last : Step). IsStepTo arcs at' v last) (sym (ap (λ (u : Visit). u.last) same)) (moved v (at v).last same held))
 
--- the first arcs of a vertex were followed: what holds from then on, and what has changed since
-pub record IsFollowing (vertices : List Vertex) (arcs : Vertex → List Arc) (estimate : Vertex → ℕ) (heaviest : ℕ) (vertex : Vertex) (closed : ℕ)
-    (before : Vertex → Visit) (waited : List Entry) (at : Vertex → Visit) (waiting : List Entry) (place : ℕ) : Type 0 where
-  pub known : IsKnown vertices estimate at waiting (closed * heaviest) closed
-  pub closing : IsClosing estimate heaviest at (closed * heaviest) vertex
-  pub relaxing : AreBeingRelaxed arcs at vertex place
-  pub tree : (start : Vertex) → IsTree arcs start before → IsTree arcs start at
-  pub ranks : KeepsRanks before at
-  pub more : length waiting ≤ length waited + place
-  pub own : (at vertex).cost ≡ (before vertex).cost
+-- one arc after others
+pub following-then : (vertices : List Vertex) (arcs : Vertex → List Arc) (estimate : Vertex → ℕ) (heaviest : ℕ) (vertex : Vertex) (closed : ℕ)
+    (before : Vertex → Visit) (waited : List Entry) (at : Vertex → Visit) (waiting : List Entry) (at' : Vertex → Visit) (waiting' : List Entry) (place : ℕ)
+    → IsFollowing vertices arcs estimate heaviest vertex closed before waited at waiting place place
+    → IsFollowing vertices arcs estimate heaviest vertex closed at waiting at' waiting' (place + 1) 1
+    → IsFollowing vertices arcs estimate heaviest vertex closed before waited at' waiting' (place + 1) (place + 1)
+following-then vertices arcs estimate heaviest vertex closed before waited at waiting at' waiting' place first next = record {
+  known = next.known;
+  closing = next.closing;
+  relaxing = next.relaxing;
+  tree = λ start tree. next.tree start (first.tree start tree);
+  ranks = record { same = λ v. next.ranks.same v ∙ first.ranks.same v };
+  more = omega (arith, first.more, next.more);
+}
+
+-- none so far
+pub following-none : (vertices : List Vertex) (arcs : Vertex → List Arc) (estimate : Vertex → ℕ) (heaviest : ℕ) (vertex : Vertex) (closed : ℕ)
+    (at : Vertex → Visit) (waiting : List Entry) → IsKnown vertices estimate at waiting (closed * heaviest) closed
+    → IsClosing estimate heaviest at (closed * heaviest) vertex → AreBeingRelaxed arcs at vertex 0
+    → IsFollowing vertices arcs estimate heaviest vertex closed at waiting at waiting 0 0
+following-none vertices arcs estimate heaviest vertex closed at waiting known closing relaxing = record {
+  known = known;
+  closing = closing;
+  relaxing = relaxing;
+  tree = λ start tree. tree;
+  ranks = record { same = λ v. refl };
+  more = omega arith;
+}
 
 module _ (vertices : List Vertex) (arcs : Vertex → List Arc) (estimate : Vertex → ℕ) (heaviest : ℕ) (searchable : IsSearchable vertices arcs estimate heaviest)
-    (vertex : Vertex) (member : Contains vertices vertex) (closed : ℕ) (few : closed ≤ length vertices)
-    (listed : List Arc) (listed_is : listed ≡ arcs vertex) (place : ℕ) (there : place < length listed) where
-  below-listed : place < length (arcs vertex)
-  below-listed = subst (λ (xs : List Arc). place < length xs) listed_is there
-
-  abbrev listed_arc : Arc
-  listed_arc = get_or listed place no_arc
-
+    (vertex : Vertex) (member : Contains vertices vertex) (place : ℕ) (below : place < length (arcs vertex)) (to : Vertex)
+    (enters : (arc_of arcs (record { from = vertex; place = place })).to ≡ to) (closed : ℕ) (few : closed ≤ length vertices) where
   abbrev own_step : Step
   own_step = record { from = vertex; place = place }
 
-  same_arc : arc_of arcs own_step ≡ listed_arc
-  same_arc = ap (λ (xs : List Arc). get_or xs place no_arc) (sym listed_is)
-
-  pub listed-member : Contains vertices listed_arc.to
-  listed-member =
-      subst (λ (a : Arc). Contains vertices a.to) same_arc (enters-member vertices arcs estimate heaviest searchable vertex member place below-listed)
+  pub end-member : Contains vertices to
+  end-member = subst (Contains vertices) enters (enters-member vertices arcs estimate heaviest searchable vertex member place below)
 
   -- no sum is too great
   limit-fits : closed * heaviest < 18446744073709551615
   limit-fits = omega (arith, mul-le closed heaviest (length vertices) heaviest few (omega arith), searchable.small vertex member)
 
-  module _ (before : Vertex → Visit) (waited : List Entry) (at : Vertex → Visit) (waiting : List Entry) (cost : ℕ) (before_is : cost ≡ (before vertex).cost)
-      (following : IsFollowing vertices arcs estimate heaviest vertex closed before waited at waiting place) where
-    cost_is : cost ≡ (at vertex).cost
-    cost_is = before_is ∙ sym following.own
+  module _ (at : Vertex → Visit) (waiting : List Entry) (known : IsKnown vertices estimate at waiting (closed * heaviest) closed)
+      (closing : IsClosing estimate heaviest at (closed * heaviest) vertex) (relaxing : AreBeingRelaxed arcs at vertex place) where
+    through-fits : (at vertex).cost + (arc_of arcs own_step).weight ≤ closed * heaviest
+    through-fits = omega (arith, weight-no_more vertices arcs estimate heaviest searchable vertex member place below, closing.room)
 
-    pub through-fits : cost + listed_arc.weight ≤ closed * heaviest
-    through-fits =
-        let weight : listed_arc.weight ≤ heaviest = subst (λ (a : Arc). a.weight ≤ heaviest) same_arc (weight-no_more vertices arcs estimate heaviest searchable vertex member place below-listed) in
-        omega (arith, weight, cost_is, following.closing.room)
+    pub key-fits : (at vertex).cost + (arc_of arcs own_step).weight + estimate to < 18446744073709551616
+    key-fits = omega (arith, through-fits, mul-le closed heaviest (length vertices) heaviest few (omega arith), searchable.small to end-member)
 
-    pub key-fits : cost + listed_arc.weight + estimate listed_arc.to < 18446744073709551616
-    key-fits =
-        omega (arith, through-fits, mul-le closed heaviest (length vertices) heaviest few (omega arith), searchable.small listed_arc.to listed-member)
-
-    pub following-no_less : (at listed_arc.to).cost ≤ cost + listed_arc.weight
-        → IsFollowing vertices arcs estimate heaviest vertex closed before waited at waiting (place + 1)
+    -- the arc leads to no less cost than is known
+    pub following-no_less : (at to).cost ≤ (at vertex).cost + (arc_of arcs own_step).weight
+        → IsFollowing vertices arcs estimate heaviest vertex closed at waiting at waiting (place + 1) 1
     following-no_less no_less = record {
-      known = following.known;
-      closing = following.closing;
+      known = known;
+      closing = closing;
       relaxing =
-          relaxing-no_less vertices arcs estimate heaviest searchable vertex member place below-listed at (closed * heaviest) following.closing limit-fits following.relaxing
-          (subst (λ (a : Arc). (at a.to).cost ≤ (at vertex).cost + a.weight) (sym same_arc) (omega (arith, no_less, cost_is)));
-      tree = following.tree;
-      ranks = following.ranks;
-      more = omega (arith, following.more);
-      own = following.own;
+          relaxing-no_less vertices arcs estimate heaviest searchable vertex member place below at (closed * heaviest) closing limit-fits relaxing
+          (subst (λ (v : Vertex). (at v).cost ≤ (at vertex).cost + (arc_of arcs own_step).weight) (sym enters) no_less);
+      tree = λ start tree. tree;
+      ranks = record { same = λ v. refl };
+      more = omega arith;
     }
 
+    -- or it leads to less
     module _ (at' : Vertex → Visit) (waiting' : List Entry) where
-      abbrev Better : ℕ → Arc → Type 0
-      Better n a =
-          n + a.weight < (at a.to).cost → IsWritten at a.to (record { cost = n + a.weight; rank = 0; last = own_step }) at'
-          → IsPermutation (entry (n + a.weight + estimate a.to) a.to ∷ waiting) waiting'
-          → IsFollowing vertices arcs estimate heaviest vertex closed before waited at' waiting' (place + 1)
+      abbrev Better : Vertex → Type 0
+      Better v =
+          (at vertex).cost + (arc_of arcs own_step).weight < (at v).cost
+          → IsWritten at v (record { cost = (at vertex).cost + (arc_of arcs own_step).weight; rank = 0; last = own_step }) at'
+          → IsPermutation (entry ((at vertex).cost + (arc_of arcs own_step).weight + estimate v) v ∷ waiting) waiting'
+          → IsFollowing vertices arcs estimate heaviest vertex closed at waiting at' waiting' (place + 1) 1
 
-      own-better : Better (at vertex).cost (arc_of arcs own_step)
+      own-better : Better (arc_of arcs own_step).to
       own-better better written waits =
-          let ranks' = ranks-kept vertices arcs estimate heaviest searchable vertex member place below-listed at (closed * heaviest) following.closing limit-fits
-          waiting waiting' closed following.known better at' written waits in
           let longer = length_permutation _ _ waits in
           record {
-            known = known-better vertices arcs estimate heaviest searchable vertex member place below-listed at (closed * heaviest) following.closing limit-fits
-                waiting waiting' closed following.known better at' written waits;
-            closing = closing-better vertices arcs estimate heaviest searchable vertex member place below-listed at (closed * heaviest) following.closing limit-fits
-                waiting waiting' closed following.known better at' written waits;
-            relaxing = relaxing-better vertices arcs estimate heaviest searchable vertex member place below-listed at (closed * heaviest) following.closing limit-fits
-                waiting waiting' closed following.known better at' written waits following.relaxing;
-            tree = λ start tree. tree-better vertices arcs estimate heaviest searchable vertex member place below-listed at (closed * heaviest) following.closing limit-fits
-                waiting waiting' closed following.known better at' written waits start (following.tree start tree);
-            ranks = record { same = λ v. ranks'.same v ∙ following.ranks.same v };
-            more = omega (arith, longer, following.more);
-            own = cost-kept vertices arcs estimate heaviest searchable vertex member place below-listed at (closed * heaviest) following.closing limit-fits
-                waiting waiting' closed following.known better at' written waits ∙ following.own;
+            known = known-better vertices arcs estimate heaviest searchable vertex member place below at (closed * heaviest) closing limit-fits
+                waiting waiting' closed known better at' written waits;
+            closing = closing-better vertices arcs estimate heaviest searchable vertex member place below at (closed * heaviest) closing limit-fits
+                waiting waiting' closed known better at' written waits;
+            relaxing = relaxing-better vertices arcs estimate heaviest searchable vertex member place below at (closed * heaviest) closing limit-fits
+                waiting waiting' closed known better at' written waits relaxing;
+            tree = tree-better vertices arcs estimate heaviest searchable vertex member place below at (closed * heaviest) closing limit-fits
+                waiting waiting' closed known better at' written waits;
+            ranks = ranks-kept vertices arcs estimate heaviest searchable vertex member place below at (closed * heaviest) closing limit-fits
+                waiting waiting' closed known better at' written waits;
+            more = omega (arith, longer);
           }
 
-      pub following-better : Better cost listed_arc
-      following-better = subst (λ (n : ℕ). Better n listed_arc) (sym cost_is) (subst (λ (a : Arc). Better (at vertex).cost a) same_arc own-better)
+      pub following-better : Better to
+      following-better = subst Better enters own-better

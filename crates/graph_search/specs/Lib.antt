@@ -2,3 +2,4 @@ pub mod Walks
 pub mod Entries
 pub mod Visited
 pub mod Searching
+pub mod Rows

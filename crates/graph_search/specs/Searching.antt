@@ -1,5 +1,5 @@
 -- What a search keeps from step to step: `at` is what it knows of each vertex, and `waiting` are the entries of those still to be closed.
-use Rattle.std.specs.Prelude.{◌≡◌, ◌≢◌, ℕ, ◌+◌, ◌<◌, ◌≤◌, ◌⊎◌, ◌==◌, if◌then◌else◌, List, length, All, Contains}
+use Rattle.std.specs.Prelude.{◌≡◌, ◌≢◌, ℕ, ◌+◌, ◌*◌, ◌<◌, ◌≤◌, ◌⊎◌, ◌==◌, if◌then◌else◌, List, length, All, Contains}
 use Rattle.std.specs.List.{sum_by}
 use Rattle.std.specs.declared.cmp.Reverse.{Reverse}
 use Rattle.graph_search.specs.declared.arcs.Vertex.{Vertex}
@@ -71,6 +71,16 @@ pub record AreBeingRelaxed (arcs : Vertex → List Arc) (at : Vertex → Visit) 
 -- no rank has changed
 pub record KeepsRanks (old new : Vertex → Visit) : Type 0 where
   pub same : (v : Vertex) → (new v).rank ≡ (old v).rank
+
+-- the first arcs of a vertex were followed: what holds from then on, and what has changed since something was known before
+pub record IsFollowing (vertices : List Vertex) (arcs : Vertex → List Arc) (estimate : Vertex → ℕ) (heaviest : ℕ) (vertex : Vertex) (closed : ℕ)
+    (before : Vertex → Visit) (waited : List (Reverse (ℕ × Vertex))) (at : Vertex → Visit) (waiting : List (Reverse (ℕ × Vertex))) (count added : ℕ) : Type 0 where
+  pub known : IsKnown vertices estimate at waiting (closed * heaviest) closed
+  pub closing : IsClosing estimate heaviest at (closed * heaviest) vertex
+  pub relaxing : AreBeingRelaxed arcs at vertex count
+  pub tree : (start : Vertex) → IsTree arcs start before → IsTree arcs start at
+  pub ranks : KeepsRanks before at
+  pub more : length waiting ≤ length waited + added
 
 -- a vertex as it is when it is closed
 abbrev pub closed_as : ℕ → Visit → Visit

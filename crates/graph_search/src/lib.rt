@@ -14,3 +14,6 @@ mod waiting;
 pub use arcs::{Arc, Step, Vertex, Walk};
 pub use graph::Graph;
 pub use search::cheapest_walk;
+
+#[cfg(test)]
+mod tests;

@@ -5,12 +5,12 @@ ghost use Rattle.std.specs.BinaryHeap.{heap_items};
 ghost use Rattle.std.specs.List.Sorted.{IsPermutation};
 ghost use Rattle.graph_search.specs.declared.arcs.Vertex.{Vertex};
 ghost use Rattle.graph_search.specs.declared.arcs.Arc.{Arc};
-ghost use Rattle.graph_search.specs.Walks.{IsCheapest, IsApart, IsSearchable};
+ghost use Rattle.graph_search.specs.Walks.{arc_of, ends_of, IsCheapest, IsApart, IsSearchable};
 ghost use Rattle.graph_search.specs.Visited.{visit_at, IsClosed, IsWritten};
 ghost use Rattle.graph_search.specs.Entries.{entry};
-ghost use Rattle.graph_search.specs.Searching.{IsTree, IsRanked, IsKnown, IsClosing, AllRelaxed, AreBeingRelaxed, KeepsRanks, IsBegun, IsWalkTo, closed_as};
+ghost use Rattle.graph_search.specs.Searching.{IsTree, IsRanked, IsKnown, IsClosing, AllRelaxed, AreBeingRelaxed, IsFollowing, KeepsRanks, IsBegun, IsWalkTo, closed_as};
 
-use crate::arcs::{Arc, Step, Vertex, Walk};
+use crate::arcs::{Step, Vertex, Walk};
 use crate::graph::Graph;
 use crate::visits::{UNSEEN, Visit, Visits};
 use crate::waiting::Waiting;
@@ -32,18 +32,19 @@ pub fn cheapest_walk<G: Graph>(
     ensures none { IfOk result (λ answer. IfNone answer (IsApart (G.arcs graph.now) from to)) }
 {
     let mut search = Search::begin(alloc, from, graph.estimate(from))?;
-    let mut arcs = Vec::new(alloc);
+    let mut ends = Vec::new(alloc);
     while let Some((_, vertex)) = search.waiting.pop() {
-        if search.visits.get(vertex).rank != 0 {
+        let rank = search.visits.get(vertex).rank;
+        if rank != 0 {
             continue;
         }
         search.close(alloc, vertex)?;
         if vertex == to {
             return Ok(Some(walk_to(alloc, &search.visits, from, to)?));
         }
-        arcs.clear();
-        graph.push_arcs(vertex, &mut arcs)?;
-        search.relax(alloc, graph, vertex, arcs.as_slice())?;
+        ends.clear();
+        graph.push_ends(vertex, &mut ends)?;
+        search.relax(alloc, graph, vertex, ends.as_slice())?;
     }
     Ok(None)
 }
@@ -96,19 +97,18 @@ impl Search {
         Ok(())
     }
 
-    /// Follows the arcs of a vertex that was just closed: where one leads to a vertex at less cost than was known, that is written, and
-    /// the vertex waits with it.
+    /// Follows the arcs of a vertex that was just closed.
     fn relax<G: Graph>(
         &mut self,
         alloc: Global,
         graph: &G,
         from: Vertex,
-        arcs: &[Arc],
+        ends: &[Vertex],
     ) -> Result<(), AllocError>
         requires sound { G.is_sound graph.now }
         requires searchable { IsSearchable (G.vertices graph.now) (G.arcs graph.now) (G.estimates graph.now) (G.heaviest graph.now) }
         requires there { Contains (G.vertices graph.now) from }
-        requires arcs { arcs.now ≡ G.arcs graph.now from }
+        requires ends { ends.now ≡ ends_of (G.arcs graph.now from) }
         requires few { self.old.closed ≤ length (G.vertices graph.now) }
         requires known { IsKnown (G.vertices graph.now) (G.estimates graph.now) (visit_at self.old.visits)
             (heap_items self.old.waiting.heap) (self.old.closed * G.heaviest graph.now) self.old.closed }
@@ -121,25 +121,58 @@ impl Search {
         ensures tree { OnOk result ((start : Vertex) → IsTree (G.arcs graph.now) start (visit_at self.old.visits)
             → IsTree (G.arcs graph.now) start (visit_at self.new.visits)) }
         ensures ranks { OnOk result (KeepsRanks (visit_at self.old.visits) (visit_at self.new.visits)) }
-        ensures more { OnOk result (length (heap_items self.new.waiting.heap) ≤ length (heap_items self.old.waiting.heap) + length arcs.now) }
+        ensures more { OnOk result (length (heap_items self.new.waiting.heap)
+            ≤ length (heap_items self.old.waiting.heap) + length (G.arcs graph.now from)) }
         ensures closed { self.new.closed ≡ self.old.closed }
     {
-        let cost = self.visits.get(from).cost;
-        for (place, arc) in arcs.iter().enumerate() {
-            let through = cost + arc.weight;
-            if through < self.visits.get(arc.to).cost {
-                let last = Step { from, place };
-                let rank = 0;
-                let better = Visit {
-                    cost: through,
-                    rank,
-                    last,
-                };
-                self.visits.set(alloc, arc.to, better)?;
-                let key = through + graph.estimate(arc.to);
-                self.waiting.push(key, arc.to)?;
-            }
+        for (place, to) in ends.iter().enumerate() {
+            self.follow(alloc, graph, Step { from, place }, *to)?;
         }
+        Ok(())
+    }
+
+    /// Follows an arc of a vertex that was just closed: where it leads to a vertex at less cost than was known, that is written, and the
+    /// vertex waits with it.
+    fn follow<G: Graph>(
+        &mut self,
+        alloc: Global,
+        graph: &G,
+        last: Step,
+        to: Vertex,
+    ) -> Result<(), AllocError>
+        requires sound { G.is_sound graph.now }
+        requires searchable { IsSearchable (G.vertices graph.now) (G.arcs graph.now) (G.estimates graph.now) (G.heaviest graph.now) }
+        requires there { Contains (G.vertices graph.now) last.from }
+        requires place { last.place < length (G.arcs graph.now last.from) }
+        requires end { (arc_of (G.arcs graph.now) last).to ≡ to }
+        requires few { self.old.closed ≤ length (G.vertices graph.now) }
+        requires known { IsKnown (G.vertices graph.now) (G.estimates graph.now) (visit_at self.old.visits)
+            (heap_items self.old.waiting.heap) (self.old.closed * G.heaviest graph.now) self.old.closed }
+        requires closing { IsClosing (G.estimates graph.now) (G.heaviest graph.now) (visit_at self.old.visits)
+            (self.old.closed * G.heaviest graph.now) last.from }
+        requires relaxing { AreBeingRelaxed (G.arcs graph.now) (visit_at self.old.visits) last.from last.place }
+        ensures followed { OnOk result (IsFollowing (G.vertices graph.now) (G.arcs graph.now) (G.estimates graph.now) (G.heaviest graph.now)
+            last.from self.old.closed (visit_at self.old.visits) (heap_items self.old.waiting.heap)
+            (visit_at self.new.visits) (heap_items self.new.waiting.heap) (last.place + 1) 1) }
+        ensures closed { self.new.closed ≡ self.old.closed }
+    {
+        let known = self.visits.get(to);
+        if known.rank != 0 {
+            return Ok(());
+        }
+        let through = self.visits.get(last.from).cost + graph.weight(last, to);
+        if known.cost <= through {
+            return Ok(());
+        }
+        let rank = 0;
+        let better = Visit {
+            cost: through,
+            rank,
+            last,
+        };
+        self.visits.set(alloc, to, better)?;
+        let key = through + graph.estimate(to);
+        self.waiting.push(key, to)?;
         Ok(())
     }
 }

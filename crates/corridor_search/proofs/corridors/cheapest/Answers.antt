@@ -1,4 +1,4 @@
-use Rattle.std.proofs.Common.{◌≡◌, ℕ, ◌*◌, ◌≤◌, List, All, Contains, length, arith, sym, ap, subst, map, refl, ◌∙◌}
+use Rattle.std.proofs.Common.{◌*◌, ◌≤◌, List, All, Contains, length, arith, sym, ap, subst, map, refl, ◌∙◌}
 use Rattle.std.specs.Prelude.{Option, IfSome, IfNone}
 use Rattle.std.proofs.lemmas.Nat.{mul-le}
 use Rattle.graph_search.specs.declared.arcs.Vertex.{Vertex}

@@ -1,6 +1,5 @@
-use Rattle.std.proofs.Common.{◌≡◌, ℕ, ◌+◌, ◌*◌, ◌≤◌, ◌++◌, ◌∙◌, List, arith, sym, ap, subst, length}
+use Rattle.std.proofs.Common.{◌≡◌, ℕ, ◌+◌, ◌*◌, ◌≤◌, ◌∙◌, arith, sym, ap, subst, length}
 use Rattle.std.specs.BinaryHeap.{heap_items}
-use Rattle.graph_search.specs.declared.arcs.Arc.{Arc}
 use Rattle.graph_search.specs.declared.visits.Visit.{Visit}
 use Rattle.graph_search.specs.declared.waiting.Waiting.{Waiting}
 use Rattle.graph_search.specs.Visited.{visit_at, IsClosed}
@@ -15,32 +14,32 @@ loop-vertex-init g c =
     between-begun _ _ _ _ c.args.from c.args.to _ _ c.estimate.result _ c.requires.there c.in_ok-search.ensures.begun c.estimate.ensures c.in_ok-search.ensures.waiting
     c.in_ok-search.ensures.closed
 
-pub loop-vertex-smaller-then-get-ne0 : goal.loop-vertex-smaller-then-get-ne0
-loop-vertex-smaller-then-get-ne0 g c =
+pub loop-vertex-smaller-then-rank-ne0 : goal.loop-vertex-smaller-then-rank-ne0
+loop-vertex-smaller-then-rank-ne0 g c =
     work-dropped _ _ _ _ c.requires.searchable c.args.from c.args.to _ _ _ c.loop-vertex.invariant c.in-Some.field-0-0 c.in-Some.vertex (heap_items c.pop.new.self.heap)
     c.in-Some.ensures.taken
 
-pub loop-vertex-preserved-then-get-ne0 : goal.loop-vertex-preserved-then-get-ne0
-loop-vertex-preserved-then-get-ne0 g c =
-    let rank = ap (λ (u : Visit). u.rank) c.get.ensures in
-    let is_closed : IsClosed (visit_at c.loop-vertex.search.visits c.in-Some.vertex) = omega (arith, rank, c.if-get-ne0.true) in
+pub loop-vertex-preserved-then-rank-ne0 : goal.loop-vertex-preserved-then-rank-ne0
+loop-vertex-preserved-then-rank-ne0 g c =
+    let rank = ap (λ (u : Visit). u.rank) c.get-rank.ensures in
+    let is_closed : IsClosed (visit_at c.loop-vertex.search.visits c.in-Some.vertex) = omega (arith, rank, c.if-rank-ne0.true) in
     between-dropped _ _ _ _ c.requires.searchable c.args.from c.args.to _ _ _ c.loop-vertex.invariant c.in-Some.field-0-0 c.in-Some.vertex _ c.in-Some.ensures.taken is_closed
 
 pub close-requires : goal.close-requires
 close-requires g c =
     let fewer = closed-fewer _ _ _ _ c.requires.searchable c.args.from c.args.to _ _ _ c.loop-vertex.invariant c.in-Some.field-0-0 c.in-Some.vertex _ c.in-Some.ensures.taken
-    c.in-Some.ensures.least (sym (ap (λ (u : Visit). u.rank) c.get.ensures) ∙ c.if-get-ne0.false) in
+    c.in-Some.ensures.least (sym (ap (λ (u : Visit). u.rank) c.get-rank.ensures) ∙ c.if-rank-ne0.false) in
     omega (arith, fewer, c.requires.searchable.few)
 
 pub walk_to-requires-clause-ranked : goal.walk_to-requires-clause-ranked
 walk_to-requires-clause-ranked g c =
     ranked-tree _ _ _
     (turn-tree _ _ _ _ c.requires.searchable c.args.from c.args.to _ _ _ c.loop-vertex.invariant c.in-Some.field-0-0 c.in-Some.vertex _ c.in-Some.ensures.taken c.in-Some.ensures.least
-    (sym (ap (λ (u : Visit). u.rank) c.get.ensures) ∙ c.if-get-ne0.false) _ _ c.in_ok-close.ensures.written c.in_ok-close.ensures.closed)
+    (sym (ap (λ (u : Visit). u.rank) c.get-rank.ensures) ∙ c.if-rank-ne0.false) _ _ c.in_ok-close.ensures.written c.in_ok-close.ensures.closed)
 
 pub returns-then-eq-clause-found : goal.returns-then-eq-clause-found
 returns-then-eq-clause-found g c =
-    let unclosed = sym (ap (λ (u : Visit). u.rank) c.get.ensures) ∙ c.if-get-ne0.false in
+    let unclosed = sym (ap (λ (u : Visit). u.rank) c.get-rank.ensures) ∙ c.if-rank-ne0.false in
     (cheapest _ _ _ _ c.requires.searchable c.args.from c.args.to _ _ _ c.loop-vertex.invariant c.in-Some.field-0-0 c.in-Some.vertex _ c.in-Some.ensures.taken c.in-Some.ensures.least
     unclosed (same_if _ _ c.if-eq.ensures) _ c.in_ok-close.ensures.written c.in_ok-walk_to.field-0 (c.in_ok-walk_to.ensures (g.G.Graph.arcs c.args.graph.now)
     (turn-tree _ _ _ _ c.requires.searchable c.args.from c.args.to _ _ _ c.loop-vertex.invariant c.in-Some.field-0-0 c.in-Some.vertex _ c.in-Some.ensures.taken c.in-Some.ensures.least
@@ -48,26 +47,26 @@ returns-then-eq-clause-found g c =
 
 pub returns-then-eq-clause-few : goal.returns-then-eq-clause-few
 returns-then-eq-clause-few g c =
-    let unclosed = sym (ap (λ (u : Visit). u.rank) c.get.ensures) ∙ c.if-get-ne0.false in
+    let unclosed = sym (ap (λ (u : Visit). u.rank) c.get-rank.ensures) ∙ c.if-rank-ne0.false in
     (cheapest _ _ _ _ c.requires.searchable c.args.from c.args.to _ _ _ c.loop-vertex.invariant c.in-Some.field-0-0 c.in-Some.vertex _ c.in-Some.ensures.taken c.in-Some.ensures.least
     unclosed (same_if _ _ c.if-eq.ensures) _ c.in_ok-close.ensures.written c.in_ok-walk_to.field-0 (c.in_ok-walk_to.ensures (g.G.Graph.arcs c.args.graph.now)
     (turn-tree _ _ _ _ c.requires.searchable c.args.from c.args.to _ _ _ c.loop-vertex.invariant c.in-Some.field-0-0 c.in-Some.vertex _ c.in-Some.ensures.taken c.in-Some.ensures.least
     unclosed _ _ c.in_ok-close.ensures.written c.in_ok-close.ensures.closed))).1
 
-pub push_arcs-requires-clause-there : goal.push_arcs-requires-clause-there
-push_arcs-requires-clause-there g c =
+pub push_ends-requires-clause-there : goal.push_ends-requires-clause-there
+push_ends-requires-clause-there g c =
     vertex-member _ _ _ _ c.requires.searchable c.args.from c.args.to _ _ _ c.loop-vertex.invariant c.in-Some.field-0-0 c.in-Some.vertex _ c.in-Some.ensures.taken c.in-Some.ensures.least
-    (sym (ap (λ (u : Visit). u.rank) c.get.ensures) ∙ c.if-get-ne0.false)
+    (sym (ap (λ (u : Visit). u.rank) c.get-rank.ensures) ∙ c.if-rank-ne0.false)
 
 pub relax-requires-clause-there : goal.relax-requires-clause-there
 relax-requires-clause-there g c =
     vertex-member _ _ _ _ c.requires.searchable c.args.from c.args.to _ _ _ c.loop-vertex.invariant c.in-Some.field-0-0 c.in-Some.vertex _ c.in-Some.ensures.taken c.in-Some.ensures.least
-    (sym (ap (λ (u : Visit). u.rank) c.get.ensures) ∙ c.if-get-ne0.false)
+    (sym (ap (λ (u : Visit). u.rank) c.get-rank.ensures) ∙ c.if-rank-ne0.false)
 
 pub relax-requires-clause-few : goal.relax-requires-clause-few
 relax-requires-clause-few g c =
     turn-few _ _ _ _ c.requires.searchable c.args.from c.args.to _ _ _ c.loop-vertex.invariant c.in-Some.field-0-0 c.in-Some.vertex _ c.in-Some.ensures.taken c.in-Some.ensures.least
-    (sym (ap (λ (u : Visit). u.rank) c.get.ensures) ∙ c.if-get-ne0.false) _ _ c.in_ok-close.ensures.written c.in_ok-close.ensures.closed
+    (sym (ap (λ (u : Visit). u.rank) c.get-rank.ensures) ∙ c.if-rank-ne0.false) _ _ c.in_ok-close.ensures.written c.in_ok-close.ensures.closed
 
 pub relax-requires-clause-known : goal.relax-requires-clause-known
 relax-requires-clause-known g c =
@@ -75,24 +74,22 @@ relax-requires-clause-known g c =
     (λ (waiting : Waiting). IsKnown (g.G.Graph.vertices c.args.graph.now) (g.G.Graph.estimates c.args.graph.now) (visit_at c.close.new.self.visits) (heap_items waiting.heap)
     (c.close.new.self.closed * g.G.Graph.heaviest c.args.graph.now) c.close.new.self.closed) (sym c.in_ok-close.ensures.waiting)
     (turn-known _ _ _ _ c.requires.searchable c.args.from c.args.to _ _ _ c.loop-vertex.invariant c.in-Some.field-0-0 c.in-Some.vertex _ c.in-Some.ensures.taken c.in-Some.ensures.least
-    (sym (ap (λ (u : Visit). u.rank) c.get.ensures) ∙ c.if-get-ne0.false) _ _ c.in_ok-close.ensures.written c.in_ok-close.ensures.closed)
+    (sym (ap (λ (u : Visit). u.rank) c.get-rank.ensures) ∙ c.if-rank-ne0.false) _ _ c.in_ok-close.ensures.written c.in_ok-close.ensures.closed)
 
 pub relax-requires-clause-closing : goal.relax-requires-clause-closing
 relax-requires-clause-closing g c =
     turn-closing _ _ _ _ c.requires.searchable c.args.from c.args.to _ _ _ c.loop-vertex.invariant c.in-Some.field-0-0 c.in-Some.vertex _ c.in-Some.ensures.taken c.in-Some.ensures.least
-    (sym (ap (λ (u : Visit). u.rank) c.get.ensures) ∙ c.if-get-ne0.false) _ _ c.in_ok-close.ensures.written c.in_ok-close.ensures.closed
+    (sym (ap (λ (u : Visit). u.rank) c.get-rank.ensures) ∙ c.if-rank-ne0.false) _ _ c.in_ok-close.ensures.written c.in_ok-close.ensures.closed
 
 pub loop-vertex-smaller : goal.loop-vertex-smaller
 loop-vertex-smaller g c =
-    let listed : c.as_slice.result.now ≡ g.G.Graph.arcs c.args.graph.now c.in-Some.vertex =
-    c.as_slice.ensures.value ∙ c.in_ok-push_arcs.ensures ∙ ap (λ (arcs : List Arc). arcs ++ g.G.Graph.arcs c.args.graph.now c.in-Some.vertex) c.clear.ensures.items in
     let rest : length (heap_items c.close.new.self.waiting.heap) ≡ length (heap_items c.pop.new.self.heap) =
     ap (λ (waiting : Waiting). length (heap_items waiting.heap)) c.in_ok-close.ensures.waiting in
-    let count : length c.as_slice.result.now ≡ length (g.G.Graph.arcs c.args.graph.now c.in-Some.vertex) = ap length listed in
-    let more : length (heap_items c.relax.new.self.waiting.heap) ≤ length (heap_items c.close.new.self.waiting.heap) + length c.as_slice.result.now = c.in_ok-relax.ensures.more in
+    let more : length (heap_items c.relax.new.self.waiting.heap) ≤ length (heap_items c.close.new.self.waiting.heap) + length (g.G.Graph.arcs c.args.graph.now c.in-Some.vertex) =
+    c.in_ok-relax.ensures.more in
     work-turned _ _ _ _ c.requires.searchable c.args.from c.args.to _ _ _ c.loop-vertex.invariant c.in-Some.field-0-0 c.in-Some.vertex _ c.in-Some.ensures.taken c.in-Some.ensures.least
-    (sym (ap (λ (u : Visit). u.rank) c.get.ensures) ∙ c.if-get-ne0.false) _ _ c.in_ok-close.ensures.written c.in_ok-close.ensures.closed _ _ c.in_ok-relax.ensures.ranks
-    (omega (arith, more, rest, count))
+    (sym (ap (λ (u : Visit). u.rank) c.get-rank.ensures) ∙ c.if-rank-ne0.false) _ _ c.in_ok-close.ensures.written c.in_ok-close.ensures.closed _ _ c.in_ok-relax.ensures.ranks
+    (omega (arith, more, rest))
 
 pub loop-vertex-preserved : goal.loop-vertex-preserved
 loop-vertex-preserved g c =
@@ -100,11 +97,11 @@ loop-vertex-preserved g c =
     (λ (n : ℕ). IsBetween (g.G.Graph.vertices c.args.graph.now) (g.G.Graph.arcs c.args.graph.now) (g.G.Graph.estimates c.args.graph.now) (g.G.Graph.heaviest c.args.graph.now) c.args.from
     c.args.to (visit_at c.relax.new.self.visits) (heap_items c.relax.new.self.waiting.heap) n) (sym c.relax.ensures.closed)
     (between-turned _ _ _ _ c.requires.searchable c.args.from c.args.to _ _ _ c.loop-vertex.invariant c.in-Some.field-0-0 c.in-Some.vertex _ c.in-Some.ensures.taken c.in-Some.ensures.least
-    (sym (ap (λ (u : Visit). u.rank) c.get.ensures) ∙ c.if-get-ne0.false) _ _ c.in_ok-close.ensures.written c.in_ok-close.ensures.closed _ _ c.in_ok-relax.ensures.ranks
+    (sym (ap (λ (u : Visit). u.rank) c.get-rank.ensures) ∙ c.if-rank-ne0.false) _ _ c.in_ok-close.ensures.written c.in_ok-close.ensures.closed _ _ c.in_ok-relax.ensures.ranks
     (apart_if_not _ _ c.if-eq.ensures)
     (c.in_ok-relax.ensures.tree c.args.from
     (turn-tree _ _ _ _ c.requires.searchable c.args.from c.args.to _ _ _ c.loop-vertex.invariant c.in-Some.field-0-0 c.in-Some.vertex _ c.in-Some.ensures.taken c.in-Some.ensures.least
-    (sym (ap (λ (u : Visit). u.rank) c.get.ensures) ∙ c.if-get-ne0.false) _ _ c.in_ok-close.ensures.written c.in_ok-close.ensures.closed))
+    (sym (ap (λ (u : Visit). u.rank) c.get-rank.ensures) ∙ c.if-rank-ne0.false) _ _ c.in_ok-close.ensures.written c.in_ok-close.ensures.closed))
     c.in_ok-relax.ensures.known c.in_ok-relax.ensures.relaxed)
 
 pub returns-clause-none : goal.returns-clause-none

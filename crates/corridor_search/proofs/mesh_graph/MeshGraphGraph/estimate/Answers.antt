@@ -1,5 +1,4 @@
 use Rattle.std.proofs.Common.{sym, subst}
-use Rattle.mesh_types.specs.declared.links.PolyRef.{PolyRef}
 use Rattle.corridor_search.specs.MeshGraphs.{IsThere}
 use Rattle.corridor_search.proofs.Vertices.{contains-there}
 use Rattle.corridor_search.proofs.mesh_graph.MeshGraphGraph.estimate.Goals as goal
