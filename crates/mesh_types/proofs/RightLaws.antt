@@ -1,6 +1,5 @@
 -- What is right for a question is determined: its kind, its floors, its first polygon and its cost.
 use Rattle.std.proofs.Common.{◌≡◌, ℕ, sym, subst, ◌∙◌, inl, inr, arith}
-use Rattle.std.specs.Prelude.{⊤}
 use Rattle.nav_base.specs.declared.point.Point.{Point}
 use Rattle.nav_base.specs.declared.answers.Question.{Question}
 use Rattle.nav_base.specs.declared.answers.Question.TheVariants as questions
@@ -12,7 +11,7 @@ use Rattle.mesh_types.specs.declared.mesh.Mesh.{Mesh}
 use Rattle.mesh_types.specs.declared.corridor.Corridor.{Corridor}
 use Rattle.mesh_types.specs.Corridors.{IsCheapest, WalksTo}
 use Rattle.mesh_types.specs.Located.{IsLocated, IsNoLater, height_gap}
-use Rattle.mesh_types.specs.Right.{HasNoPath, IsPath, IsRight, IsRightFloors, IsRightPath}
+use Rattle.mesh_types.specs.Right.{AreAlike, HasNoPath, IsPath, IsRight, IsRightFloors, IsRightPath}
 
 -- of two polygons each is no later than the other
 no_later_both : (m n : ℕ) (a b : PolyRef) → IsNoLater m a n b → IsNoLater n b m a → a ≡ b
@@ -29,17 +28,6 @@ no_later_both m n a b (inr (same, inr less)) (inr (same', inr more)) =
 pub one_located : (mesh : Mesh) (p : Point) (y : ℕ) (a b : PolyRef) → IsLocated mesh p y a → IsLocated mesh p y b → a ≡ b
 one_located mesh p y a b is is' =
     no_later_both (height_gap is.holding.polygon y) (height_gap is'.holding.polygon y) a b (is.first b is'.holding) (is'.first a is.holding)
-
--- two answers are alike: of one kind, and the same but for which corridor of least cost and which taut line they give
-abbrev pub AreAlike : Answer → Answer → Type 0
-AreAlike (Floors a) (Floors b) = a ≡ b
-AreAlike (Path a) (Path b) = (a.first ≡ b.first) × (a.cost ≡ b.cost)
-AreAlike NoStart NoStart = ⊤
-AreAlike NoGoal NoGoal = ⊤
-AreAlike NoPath NoPath = ⊤
-AreAlike (Reached a) (Reached b) = ⊤
-AreAlike (Wall a b m n) (Wall a' b' m' n') = ⊤
-AreAlike _ _ = ⊥
 
 -- two corridors between the same polygons cost the same
 one_cost : (mesh : Mesh) (from to : PolyRef) (a b : Corridor) → IsCheapest mesh from to a → IsCheapest mesh from to b → a.cost ≡ b.cost

@@ -1,6 +1,6 @@
 -- Right: which answers to a question are right in a mesh. The kind of a right answer is determined by the question, and so are its floors,
 -- its first polygon and its cost; of several corridors of least cost, and of several taut lines through one, any is right.
-use Rattle.std.specs.Prelude.{◌≡◌, ℕ, List, map}
+use Rattle.std.specs.Prelude.{◌≡◌, ℕ, List, map, ⊤}
 use Rattle.nav_base.specs.declared.point.Point.{Point}
 use Rattle.nav_base.specs.declared.answers.Question.{Question}
 use Rattle.nav_base.specs.declared.answers.Question.TheVariants as questions
@@ -78,3 +78,14 @@ abbrev pub IsRight : Mesh → Question → Answer → Type 0
 IsRight mesh (questions.Floor x z) answer = IsRightFloors mesh x z answer
 IsRight mesh (questions.Path from from_y to to_y) answer = IsRightPath mesh from from_y to to_y answer
 IsRight mesh (questions.Ray from from_y to) answer = ⊥
+
+-- two answers are alike: of one kind, with the same floors, or the same first polygon and the same cost
+abbrev pub AreAlike : Answer → Answer → Type 0
+AreAlike (Floors a) (Floors b) = a ≡ b
+AreAlike (Path a) (Path b) = (a.first ≡ b.first) × (a.cost ≡ b.cost)
+AreAlike NoStart NoStart = ⊤
+AreAlike NoGoal NoGoal = ⊤
+AreAlike NoPath NoPath = ⊤
+AreAlike (Reached a) (Reached b) = ⊤
+AreAlike (Wall a b m n) (Wall a' b' m' n') = ⊤
+AreAlike _ _ = ⊥

@@ -2,7 +2,8 @@
 
 ghost use Rattle.std.specs.Prelude.{IfOk};
 ghost use Rattle.nav_ground.specs.Limits.{IsSetting};
-ghost use Rattle.mesh_types.specs.Right.{IsRight};
+ghost use Rattle.mesh_types.specs.declared.answers.Answer.{Answer};
+ghost use Rattle.mesh_types.specs.Right.{AreAlike, IsRight};
 ghost use Rattle.mesh_types.specs.Soundness.{IsSound};
 ghost use Rattle.nav_query.specs.Questions.{HasLowCost, IsAnswerable};
 
@@ -14,6 +15,7 @@ use nav_list::Items;
 use std::alloc::{AllocError, Global};
 
 /// An answer to a question that is right in a mesh. A path that is found costs less than 2^45. Only memory can be refused.
+#[tactic(auto, using(mesh_types::proofs::RightLaws::alike))]
 pub fn answer(
     alloc: Global,
     mesh: &Mesh,
@@ -24,6 +26,9 @@ pub fn answer(
     requires question { IsAnswerable question.now }
     ensures right { IfOk result (λ answer. IsRight mesh.now question.now answer) }
     ensures low_cost { IfOk result HasLowCost }
+
+    // Every right answer is of this kind, with the same floors, or the same first polygon and cost.
+    ensures only { IfOk result (λ answer. (other : Answer) → IsRight mesh.now question.now other → AreAlike answer other) }
 {
     match *question {
         Question::Floor { x, z } => {

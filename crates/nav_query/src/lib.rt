@@ -13,3 +13,6 @@ mod floors;
 mod paths;
 
 pub use answering::answer;
+
+#[cfg(test)]
+mod tests;

@@ -1,0 +1,16 @@
+use Rattle.std.proofs.Common.{sym, subst}
+use Rattle.std.proofs.lemmas.Result.{IfOk-weaker}
+use Rattle.nav_base.specs.declared.answers.Question.{Question}
+use Rattle.mesh_types.specs.declared.answers.Answer.{Answer}
+use Rattle.mesh_types.specs.Right.{AreAlike, IsRight, IsRightPath}
+use Rattle.mesh_types.proofs.RightLaws.{alike}
+use Rattle.nav_query.proofs.answering.answer.Goals as goal
+
+pub returns-in-Path-clause-only : goal.returns-in-Path-clause-only
+returns-in-Path-clause-only c =
+    let mesh = c.args.mesh.now in
+    IfOk-weaker c.path.result (λ (answer : Answer). IsRightPath mesh c.in-Path.from c.in-Path.from_y c.in-Path.to c.in-Path.to_y answer)
+    (λ (answer : Answer). (other : Answer) → IsRight mesh c.args.question.now other → AreAlike answer other)
+    (λ answer right other right'. alike mesh c.args.question.now answer other
+    (subst (λ (question : Question). IsRight mesh question answer) (sym c.in-Path.is) right) right')
+    c.path.ensures.right
