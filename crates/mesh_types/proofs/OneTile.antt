@@ -1,5 +1,5 @@
 -- A column lies in the rectangle of one tile at most.
-use Rattle.std.proofs.Common.{◌≡◌, ℕ, ◌+◌, ◌-◌, ◌*◌, ◌/◌, ◌%◌, ◌<◌, ◌≤◌, min, true, pos, ◌≤ℤ◌, ap, ◌∙◌, sym, arith, inl, inr, add-mul}
+use Rattle.std.proofs.Common.{◌≡◌, ℕ, ◌+◌, ◌-◌, ◌*◌, ◌/◌, ◌%◌, ◌≤◌, min, true, pos, ◌≤ℤ◌, ap, ◌∙◌, sym, arith, inl, inr, add-mul}
 use Rattle.std.proofs.Math.Nat.{mul-le-mul_right, div-add-mod}
 use Rattle.std.proofs.lemmas.Bool.{cases_lt}
 use Rattle.std.proofs.lemmas.Int.{ints}

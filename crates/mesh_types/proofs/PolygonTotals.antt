@@ -1,5 +1,5 @@
 -- A ground has no more cells than its field has spans, and its mesh no more polygons.
-use Rattle.std.proofs.Common.{◌≡◌, ℕ, ◌<◌, ◌≤◌, cond, List, length, get_or, ap, arith}
+use Rattle.std.proofs.Common.{ℕ, ◌≤◌, cond, List, length, get_or, ap, arith}
 use Rattle.std.specs.List.{sum_by, range_with_len}
 use Rattle.std.proofs.lemmas.List.{length-map}
 use Rattle.std.proofs.lemmas.List.Sums.{length-filter, count_by-le-length, sum_by-le-sum_by}

@@ -1,9 +1,9 @@
 -- Maximal runs lie apart, so that together they have no more than the whole.
 use Rattle.std.proofs.Common.{◌≡◌, ℕ, zero, suc, ◌+◌, ◌-◌, ◌<◌, ◌≤◌, Bool, true, false, List, [], ◌∷◌, drop, length, get_or, ap, ◌∙◌, sym, refl, subst, arith, Option, inl, inr}
-use Rattle.std.specs.Prelude.{None, Some, All, AllPairs, ◌==◌, ◌||◌, not, if◌then◌else◌, is_some}
+use Rattle.std.specs.Prelude.{None, Some, All, AllPairs, ◌==◌, ◌||◌, not, if◌then◌else◌}
 use Rattle.std.specs.List.{sum_by, count_by, filter_map, cons_option, prefix_len, range_with_len, between}
 use Rattle.std.proofs.lemmas.Bool.{cases_lt, both_ways, eq-eqb, ne_eqb}
-use Rattle.std.proofs.lemmas.List.Elements.{All-head, All-tail, All-nil}
+use Rattle.std.proofs.lemmas.List.Elements.{All-head, All-tail}
 use Rattle.std.proofs.lemmas.List.Folds.{drop_split}
 use Rattle.std.proofs.lemmas.List.FromFn.{get_or-range_with_len, length-range_with_len}
 use Rattle.std.proofs.lemmas.List.Kept.{AllPairs-cons}

@@ -2,3 +2,4 @@ pub mod Rows
 pub mod Tables
 pub mod Histories
 pub mod GroundTiles
+pub mod FlatFields

@@ -6,11 +6,12 @@ ghost use Rattle.nav_ground.specs.Grounds.{IsGround};
 ghost use Rattle.nav_ground.specs.History.{IsRequest, IsHistory, shapes_alive};
 ghost use Rattle.nav_ground.specs.Limits.{IsShape};
 ghost use Rattle.mesh_types.specs.Right.{IsRight};
-ghost use Rattle.mesh_types.specs.Soundness.{IsSound};
+ghost use Rattle.mesh_types.specs.Soundness.{IsSound, link_count, polygon_count};
 ghost use Rattle.tile_build.specs.Meshes.{tiles_under};
 ghost use Rattle.nav_query.specs.Questions.{HasLowCost, IsAnswerable};
 ghost use Rattle.nav_book.specs.BookState.{BookState, next_reply, after_request, after_renewal, published_mesh};
 
+use crate::counts::{links, polygons};
 use crate::live::{Live, answer, shapes};
 use mesh_types::{Answer, Mesh, TileMesh};
 use nav_base::Question;
@@ -155,6 +156,14 @@ impl Book {
         ensures sound { IsSound (published_mesh self.now) }
     {
         &self.mesh
+    }
+
+    /// How many polygons and how many links the mesh has as it was last published; a link leads one way.
+    pub fn mesh_counts(&self) -> (u32, u32)
+        ensures polygons { result.0 ≡ polygon_count (published_mesh self.now).tiles }
+        ensures links { result.1 ≡ link_count (published_mesh self.now) }
+    {
+        (polygons(self.mesh.tiles.as_slice()), links(&self.mesh))
     }
 
     /// How many entries the history has.

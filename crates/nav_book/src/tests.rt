@@ -1,10 +1,9 @@
-//! Runs of a book over a small flat ground. What is wanted was worked out by hand.
+//! Runs of books over small flat grounds. What is wanted was worked out by hand.
 
-ghost use Rattle.std.specs.Prelude.{◌≡◌, ◌<◌, IfOk};
+ghost use Rattle.std.specs.Prelude.{◌≡◌, ◌<◌, ◌≤◌, IfOk};
 ghost use Rattle.nav_ground.specs.Fields.{IsField};
 ghost use Rattle.nav_ground.specs.Grounds.{IsGround};
 ghost use Rattle.nav_ground.specs.History.{IsRequest};
-ghost use Rattle.tile_build.specs.Meshes.{IsOfStrips};
 
 use crate::{Book, HistoryFull};
 use layer_cut::ground;
@@ -56,41 +55,51 @@ fn request_of(asked: Asked) -> Request
     }
 }
 
-/// A field of 7 by 4 columns with the one top 10.
-fn small_field(alloc: Global) -> Result<Field, AllocError>
+/// A field with one span over each column, all with the top 10.
+fn flat_field(alloc: Global, width: u32, depth: u32) -> Result<Field, AllocError>
+    requires wide { (1 ≤ width) × (width ≤ 1024) }
+    requires deep { (1 ≤ depth) × (depth ≤ 1024) }
     ensures rules { IfOk result IsField }
-    ensures width { IfOk result (λ field. field.width ≡ 7) }
-    ensures depth { IfOk result (λ field. field.depth ≡ 4) }
+    ensures width { IfOk result (λ field. field.width ≡ width) }
+    ensures depth { IfOk result (λ field. field.depth ≡ depth) }
 {
     let mut spans = Vec::new(alloc);
-    for i in 0..28u32 {
+    for i in 0..width * depth {
         spans.push(Span {
-            x: i % 7,
-            z: i / 7,
+            x: i % width,
+            z: i / width,
             bottom: 0,
             top: 10,
             area: 63,
         })?;
     }
     Ok(Field {
-        width: 7,
-        depth: 4,
+        width,
+        depth,
         spans: Items::from_vec(spans),
     })
 }
 
-/// The book of the ground of that field in two tiles, where two obstacles may be alive.
-fn opened<L: Ledger>(alloc: Global, blank: Blank) -> Result<Book, AllocError>
+/// The book of the ground of a flat field in tiles of a size, where two obstacles may be alive.
+fn opened<L: Ledger>(
+    alloc: Global,
+    width: u32,
+    depth: u32,
+    tile: u32,
+    blank: Blank,
+) -> Result<Book, AllocError>
+    requires wide { (1 ≤ width) × (width ≤ 1024) }
+    requires deep { (1 ≤ depth) × (depth ≤ 1024) }
+    requires tile { (4 ≤ tile) × (tile ≤ 128) }
     requires name { blank.name ≡ L.name }
     requires parts { blank.parts ≡ L.parts }
     requires some { 0 < blank.parts }
-    ensures { IfOk result (λ book. IsOfStrips book.whole.setting) }
 {
     let mut steps = Steps::<L>::new(blank);
     let setting = Setting {
-        width: 7,
-        depth: 4,
-        tile: 4,
+        width,
+        depth,
+        tile,
         agent: Agent {
             height: 10,
             climb: 4,
@@ -102,7 +111,7 @@ fn opened<L: Ledger>(alloc: Global, blank: Blank) -> Result<Book, AllocError>
         costs: [1; AREAS],
         clear: false,
     };
-    let level = ground(alloc, setting, small_field(alloc)?)?;
+    let level = ground(alloc, setting, flat_field(alloc, width, depth)?)?;
     let tiles = build_tiles(alloc, &level, &[], &mut steps)?;
     Book::begin(alloc, Arc::new(alloc, level)?, tiles)
 }
@@ -112,13 +121,16 @@ fn renewed<L: Ledger>(book: &mut Book, alloc: Global, blank: Blank) -> Result<u3
     requires name { blank.name ≡ L.name }
     requires parts { blank.parts ≡ L.parts }
     requires some { 0 < blank.parts }
-    requires strips { IsOfStrips book.old.whole.setting }
-    ensures { book.new.whole ≡ book.old.whole }
 {
     let mut steps = Steps::<L>::new(blank);
+    let level = book.level();
+    match level.setting.mesh {
+        MeshKind::Strips => (),
+        MeshKind::Contours => return Ok(0),
+    }
     let shapes = book.alive(alloc)?;
     let standing = book.mesh().tiles.as_slice();
-    let tiles = renew_tiles(alloc, book.level(), shapes.as_slice(), standing, &mut steps)?;
+    let tiles = renew_tiles(alloc, level, shapes.as_slice(), standing, &mut steps)?;
     book.renew(alloc, tiles)
 }
 
@@ -138,7 +150,7 @@ fn sent<T: Send>(value: T) -> T {
 #[test]
 fn answers_requests(rt: HostRuntime) -> Result<(), Fail> {
     let alloc = rt.alloc();
-    let mut book = opened::<Brand>(alloc, Blank::new(1))?;
+    let mut book = opened::<Brand>(alloc, 7, 4, 4, Blank::new(1))?;
     let cases = [
         (1, Asked::Block(1), Reply::Added { number: 1 }),
         (2, Asked::Area(2), Reply::Added { number: 2 }),
@@ -172,7 +184,7 @@ fn answers_requests(rt: HostRuntime) -> Result<(), Fail> {
 #[test]
 fn publishes_floors(rt: HostRuntime) -> Result<(), Fail> {
     let alloc = rt.alloc();
-    let mut book = opened::<Brand>(alloc, Blank::new(1))?;
+    let mut book = opened::<Brand>(alloc, 7, 4, 4, Blank::new(1))?;
     let bare = FloorAt { y: 10, area: 63 };
     // What is asked, whether the book settles then, and the floors of the columns (1, 1) and (2, 1).
     let cases = [
@@ -226,7 +238,7 @@ fn publishes_floors(rt: HostRuntime) -> Result<(), Fail> {
 #[test]
 fn answers_from_the_published_mesh(rt: HostRuntime) -> Result<(), Fail> {
     let alloc = rt.alloc();
-    let mut book = opened::<Brand>(alloc, Blank::new(1))?;
+    let mut book = opened::<Brand>(alloc, 7, 4, 4, Blank::new(1))?;
     // The tile of the columns 1 to 3 has the strips of the rows 1 and 2, each from 16 to 64 of x.
     let question = Question::Path {
         from: Point { x: 24, z: 24 },
@@ -251,9 +263,20 @@ fn answers_from_the_published_mesh(rt: HostRuntime) -> Result<(), Fail> {
 }
 
 #[test]
+fn counts_polygons_and_links(rt: HostRuntime) -> Result<(), Fail> {
+    let alloc = rt.alloc();
+    // One tile of four strips; four tiles of three strips each, with as many links inside tiles as over borders.
+    let one = opened::<Brand>(alloc, 6, 6, 6, Blank::new(1))?;
+    assert_eq!(rt; one.mesh_counts(), (4, 6));
+    let four = opened::<Brand>(alloc, 8, 8, 4, Blank::new(1))?;
+    assert_eq!(rt; four.mesh_counts(), (12, 32));
+    Ok(())
+}
+
+#[test]
 fn fills_its_history(rt: HostRuntime) -> Result<(), Fail> {
     let alloc = rt.alloc();
-    let mut book = sent(opened::<Brand>(alloc, Blank::new(1))?);
+    let mut book = sent(opened::<Brand>(alloc, 7, 4, 4, Blank::new(1))?);
     for _ in 0..HISTORY_LIMIT {
         assert!(rt; book.request(0, Request::Remove(1)).is_ok());
     }

@@ -3,7 +3,7 @@ use Rattle.std.proofs.Common.{◌≡◌, ℕ, zero, suc, ◌+◌, ◌<◌, ◌�
 use Rattle.std.specs.Prelude.{◌==◌, All, AllPairs, nat_lt, if◌then◌else◌}
 use Rattle.std.specs.List.{sum_by, range_with_len}
 use Rattle.std.proofs.lemmas.Bool.{cases_lt, lt-ltb, le-ltb, cond-true, cond-false, eq-eqb, eqb-true}
-use Rattle.std.proofs.lemmas.List.Elements.{All-head, All-tail, All-nil}
+use Rattle.std.proofs.lemmas.List.Elements.{All-nil}
 use Rattle.std.proofs.lemmas.List.FromFn.{fill_by_all}
 use Rattle.std.proofs.lemmas.List.Kept.{AllPairs-cons}
 use Rattle.std.proofs.lemmas.List.Sums.{sum_by-cons}
@@ -11,7 +11,7 @@ use Rattle.nav_ground.specs.declared.cell.Cell.{Cell}
 use Rattle.nav_ground.specs.Cells.{IsCells, IsCut}
 use Rattle.mesh_types.specs.StripMeshes.{some_cell, strip_runs}
 use Rattle.mesh_types.proofs.Totals.{sum_by-map, sum_by-range_no_more, sum_by-shared, sum_by-numbers, once_in_range}
-use Rattle.mono_regions.specs.Indices.{cell_at, along, indices_from, run_at, firsts_below, index_runs, owner_of}
+use Rattle.mono_regions.specs.Indices.{cell_at, along, indices_from, firsts_below, index_runs, owner_of}
 use Rattle.mono_regions.proofs.Chains.{along_after}
 use Rattle.mono_regions.proofs.Owners.{firsts_small, run_count}
 use Rattle.mono_regions.proofs.RunLaws.{runs_are, runs_indices}

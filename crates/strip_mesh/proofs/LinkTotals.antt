@@ -1,5 +1,5 @@
 -- How many links tiles of strips have: inside each no more than four times its free cells, and over its borders no more than that again.
-use Rattle.std.proofs.Common.{◌≡◌, ℕ, ◌+◌, ◌*◌, ◌<◌, ◌≤◌, Bool, true, cond, List, [], ◌∷◌, map, length, get_or, ap, ◌∙◌, sym, refl, subst, arith, Option}
+use Rattle.std.proofs.Common.{◌≡◌, ℕ, ◌+◌, ◌*◌, ◌≤◌, Bool, true, cond, List, [], ◌∷◌, map, length, get_or, ap, ◌∙◌, sym, refl, subst, arith, Option}
 use Rattle.std.specs.Prelude.{All, Some, None, slice_get, option_and_then}
 use Rattle.std.specs.List.{sum_by, count_by, range_with_len, flat_map}
 use Rattle.std.specs.Option.{option_map_or}
@@ -13,7 +13,6 @@ use Rattle.nav_ground.specs.declared.cell.Cell.{Cell}
 use Rattle.nav_ground.specs.declared.cell.FreeLayer.{FreeLayer}
 use Rattle.nav_ground.specs.Cells.{IsCut, IsInTile, opposite}
 use Rattle.nav_ground.specs.Tiling.{tile_window}
-use Rattle.mesh_types.specs.declared.label_runs.Run.{Run}
 use Rattle.mesh_types.specs.declared.links.Link.{Link}
 use Rattle.mesh_types.specs.declared.tile.LevelPair.{LevelPair}
 use Rattle.mesh_types.specs.declared.tile.RimEdge.{RimEdge}

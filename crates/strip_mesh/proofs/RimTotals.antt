@@ -1,5 +1,5 @@
 -- What the rim of a tile has along a side: no more positions than there are free cells, and each position and level at most once.
-use Rattle.std.proofs.Common.{◌≡◌, ℕ, zero, suc, ◌+◌, ◌-◌, ◌<◌, ◌≤◌, ◌⊎◌, Bool, true, false, cond, List, [], ◌∷◌, map, length, get_or, ap, ◌∙◌, sym, refl, subst, arith, Option, inl, inr}
+use Rattle.std.proofs.Common.{◌≡◌, ℕ, zero, suc, ◌+◌, ◌-◌, ◌<◌, ◌≤◌, Bool, true, false, cond, List, [], map, length, get_or, ap, ◌∙◌, sym, refl, subst, arith, Option, inl, inr}
 use Rattle.std.specs.Prelude.{All, Some, None, ◌==◌, ◌&&◌, nat_le, slice_get, if◌then◌else◌}
 use Rattle.std.specs.List.{sum_by, range_with_len, flat_map, between}
 use Rattle.std.specs.Option.{option_map_or}

@@ -1,7 +1,6 @@
 -- The mesh of a ground has at most 16000000 links, whatever the obstacles.
-use Rattle.std.proofs.Common.{◌≡◌, ℕ, zero, suc, ◌<◌, ◌≤◌, List, map, length, get_or, refl, subst, arith, Some}
+use Rattle.std.proofs.Common.{◌≡◌, ℕ, zero, suc, ◌≤◌, List, map, length, get_or, refl, subst, arith, Some}
 use Rattle.std.specs.Prelude.{All}
-use Rattle.std.specs.List.{sum_by}
 use Rattle.std.proofs.lemmas.List.Elements.{All-map}
 use Rattle.std.proofs.lemmas.List.Sums.{sum_by-le-sum_by}
 use Rattle.std.proofs.lemmas.Option.{none-some, same_Some, option_and_then_some, slice_get_within, get_or_from_slice_get}
@@ -21,7 +20,7 @@ use Rattle.mesh_types.specs.declared.tile.TileMesh.{TileMesh}
 use Rattle.mesh_types.specs.StripMeshes.{strip_mesh_of}
 use Rattle.mesh_types.specs.Builds.{tile_mesh_of, mesh_under, build_of}
 use Rattle.mesh_types.specs.Soundness.{link_count}
-use Rattle.mesh_types.proofs.PolygonTotals.{cell_count, few_cells_of_ground, few_free}
+use Rattle.mesh_types.proofs.PolygonTotals.{few_cells_of_ground, few_free}
 use Rattle.mesh_types.proofs.RunLaws.{All-found}
 use Rattle.mesh_types.proofs.Totals.{sum_by-map}
 use Rattle.strip_mesh.proofs.LinkTotals.{IsOfFree, few_links}

@@ -1,6 +1,6 @@
 -- The links that are found by places are those of the definition, each as often, in another order.
 use Rattle.std.proofs.Common.{◌≡◌, ℕ, ◌+◌, ◌-◌, ◌<◌, ◌≤◌, Bool, true, false, cond, List, [], ◌∷◌, ◌++◌, map, filter, length, get_or, Option, ap, ◌∙◌, sym, refl, arith}
-use Rattle.std.specs.Prelude.{Some, None, ◌==◌, ◌&&◌, nat_le, slice_get, if◌then◌else◌}
+use Rattle.std.specs.Prelude.{Some, None, ◌==◌, nat_le, slice_get, if◌then◌else◌}
 use Rattle.std.specs.List.{sum_by, count_by, flat_map, filter_map, cons_option, range_with_len}
 use Rattle.std.specs.List.Sorted.{IsPermutation}
 use Rattle.std.proofs.lemmas.Bool.{and_parts, and_from, eq-eqb, eqb-true, leb-true, le-leb}
@@ -19,7 +19,7 @@ use Rattle.mesh_types.specs.BorderLinks.{pair_at, are_meeting, meetings, along_s
 use Rattle.mesh_types.proofs.Totals.{sum_by-map, sum_by-flat_map, sum_by-filter, sum_by-zero, sum_by-same, sum_by-range_same, sum_by-exchanged, sum_by-numbers, once_in_range}
 use Rattle.tile_links.specs.declared.place.Place.{Place}
 use Rattle.tile_links.specs.RimPlaces.{some_entry, some_pair, pair_of, entry_of, place_of, entry_places, places_along, side_places, is_at_place}
-use Rattle.tile_links.specs.Loose.{run_at, pair_links, entry_links, links_from, loose_links, run_links, place_links, placed_links, HasGained}
+use Rattle.tile_links.specs.Loose.{run_at, pair_links, entry_links, loose_links, run_links, place_links, placed_links, HasGained}
 use Rattle.tile_links.proofs.MeetingPlaces.{length-meetings, meeting_at}
 
 -- a place of an entry where it meets another: the other has there the level that the one leads to

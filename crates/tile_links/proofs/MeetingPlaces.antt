@@ -1,16 +1,13 @@
 -- Where two rim entries meet, place by place, and the links along the runs of such places.
-use Rattle.std.proofs.Common.{◌≡◌, ℕ, zero, suc, ◌+◌, ◌-◌, ◌<◌, ◌≤◌, true, false, List, [], ◌++◌, map, drop, length, get_or, Option, ap, ◌∙◌, sym, refl, arith, append_assoc}
+use Rattle.std.proofs.Common.{◌≡◌, ℕ, ◌+◌, ◌<◌, ◌≤◌, true, false, drop, length, get_or, Option, ap, ◌∙◌, refl, arith}
 use Rattle.std.specs.Prelude.{None, Some}
-use Rattle.std.specs.List.{prefix_len, filter_map, cons_option, range_with_len}
-use Rattle.std.proofs.lemmas.List.{map-append, append-nil}
+use Rattle.std.specs.List.{prefix_len}
 use Rattle.std.proofs.lemmas.List.FromFn.{get_or-map-range_with_len, length-map-range_with_len}
 use Rattle.std.proofs.lemmas.List.Sums.{prefix_len-drop_yes, prefix_len-drop_no, prefix_len-drop_all}
 use Rattle.mesh_types.specs.declared.tile.LevelPair.{LevelPair}
 use Rattle.mesh_types.specs.declared.tile.RimEdge.{RimEdge}
-use Rattle.mesh_types.specs.Runs.{has_label, label_if, run_with}
+use Rattle.mesh_types.specs.Runs.{has_label, label_if}
 use Rattle.mesh_types.specs.BorderLinks.{are_meeting, pair_at, meetings}
-use Rattle.mesh_types.proofs.Labels.{one_more_place}
-use Rattle.tile_links.specs.Loose.{run_at}
 
 -- there is a label for each place
 pub length-meetings : (a b : RimEdge) → length (meetings a b) ≡ length a.pairs

@@ -1,5 +1,5 @@
 -- The places of a rim: which entries they name, and that they are handed out in order.
-use Rattle.std.proofs.Common.{◌≡◌, ℕ, ◌+◌, ◌<◌, ◌≤◌, Bool, true, false, List, [], ◌++◌, map, filter, length, take, drop, get_or, ap, ◌∙◌, sym, subst, arith}
+use Rattle.std.proofs.Common.{◌≡◌, ℕ, ◌<◌, Bool, true, false, List, [], ◌++◌, filter, length, take, drop, get_or, ap, ◌∙◌, sym, subst, arith}
 use Rattle.std.specs.Prelude.{All, ◌==◌, if◌then◌else◌}
 use Rattle.std.specs.List.{flat_map, range_with_len}
 use Rattle.std.specs.List.Sorted.{IsPermutation}

@@ -1,4 +1,4 @@
-use Rattle.std.proofs.Common.{◌<◌, ◌++◌, ◌∙◌, arith, ap, sym, subst, get_or, length, take}
+use Rattle.std.proofs.Common.{◌<◌, ◌++◌, ◌∙◌, arith, ap, sym, subst, get_or, length}
 use Rattle.std.specs.List.{flat_map}
 use Rattle.std.specs.Prelude.{◌==◌, All}
 use Rattle.std.specs.Global.{Vec}

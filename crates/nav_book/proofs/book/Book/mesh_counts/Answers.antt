@@ -1,0 +1,16 @@
+use Rattle.std.proofs.Common.{◌∙◌, ap, arith}
+use Rattle.std.specs.Arc.{arc_value}
+use Rattle.mesh_types.specs.Soundness.{link_count, polygon_count}
+use Rattle.tile_build.proofs.LinkTotals.{few_links_of_build}
+use Rattle.nav_book.proofs.book.Book.mesh_counts.Goals as goal
+
+pub polygons-requires : goal.polygons-requires
+polygons-requires c = omega (arith, ap polygon_count c.as_slice.ensures, c.self.invariant.sound.tiles.few)
+
+pub links-requires : goal.links-requires
+links-requires c =
+    omega (
+      arith,
+      ap link_count c.self.invariant.mesh,
+      few_links_of_build (arc_value c.self.inside.level) c.self.inside.entries.items c.self.inside.published c.self.invariant.level c.self.invariant.history.requests,
+    )
