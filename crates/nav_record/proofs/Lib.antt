@@ -1,3 +1,2 @@
-pub mod FloorLaws
 pub mod OneLineLaws
 pub mod Kept

@@ -1,11 +1,9 @@
 -- Each text of one answer is one line.
-use Rattle.std.proofs.Common.{◌≡◌, ◌∙◌, refl, sym, append_assoc, cond, nat_lt, zero, suc, ℕ, ◌+◌, ◌%◌, ◌/◌, Bool, true, false, List, [], ◌∷◌, ◌++◌, length, codes, decimal, arith, not, eqb, ◌==◌}
-use Rattle.std.specs.List.{flat_map}
+use Rattle.std.proofs.Common.{◌≡◌, ◌∙◌, refl, sym, append_assoc, cond, nat_lt, zero, suc, ℕ, ◌+◌, ◌%◌, ◌/◌, Bool, true, false, List, [], ◌∷◌, ◌++◌, codes, decimal, arith, not, eqb, ◌==◌}
 use Rattle.std.specs.Fmt.{digits, digits_onto, digit_glyph}
 use Rattle.std.proofs.lemmas.Bool.{and_from}
 use Rattle.std.proofs.lemmas.Bool.Decides.{nat_tests}
 use Rattle.std.proofs.lemmas.List.Folds.{list_all-append}
-use Rattle.nav_base.specs.declared.answers.FloorAt.{FloorAt}
 use Rattle.nav_ground.specs.declared.history.Reply.{Reply}
 use Rattle.nav_ground.specs.declared.history.Reply.TheVariants.{Added, Removed, Full, Dead}
 use Rattle.nav_text.specs.declared.fault.TextFault.{TextFault}
@@ -13,7 +11,7 @@ use Rattle.nav_text.specs.Lines.{is_line}
 use Rattle.nav_record.specs.declared.step.StepAnswer.{StepAnswer}
 use Rattle.nav_record.specs.declared.step.StepAnswer.TheVariants.{Aim, Claimed, NoTile, Busy, Idle, Back, Taken, Stale, Published, Same, NotYet, Settled, HistoryFull}
 use Rattle.nav_record.specs.OneLine.{IsOneLine}
-use Rattle.nav_record.specs.Texts.{reply_text, step_text, floor_text, floors_text, done_text, fault_text}
+use Rattle.nav_record.specs.Texts.{reply_text, step_text, done_text, fault_text}
 
 -- a glyph is no line feed
 glyph_plain : (small : Bool) (d : ℕ) → not (eqb (cond small (48 + d) (87 + d)) 10) ≡ true
@@ -78,22 +76,3 @@ done_line k n = numbered_twice (codes "done ") (codes " ") k n refl refl
 
 pub fault_line : (fault : TextFault) → IsOneLine (fault_text fault)
 fault_line fault = numbered_twice (codes "fault ") (codes " ") fault.line fault.kind refl refl
-
-floors_plain : (floors : List FloorAt) → is_line (flat_map floor_text floors) ≡ true
-floors_plain [] = refl
-floors_plain (floor ∷ more) =
-    let number = is_line-append (codes " ") (decimal floor.y) refl (is_line-decimal floor.y) in
-    let front = is_line-append (codes " " ++ decimal floor.y) (codes " ") number refl in
-    is_line-append (floor_text floor) (flat_map floor_text more)
-    (is_line-append (codes " " ++ decimal floor.y ++ codes " ") (decimal floor.area) front (is_line-decimal floor.area)) (floors_plain more)
-
-pub floors_line : (k : ℕ) (floors : List FloorAt) → IsOneLine (floors_text k floors)
-floors_line k floors =
-    let count = length floors in
-    let number = is_line-append (codes "floors ") (decimal k) refl (is_line-decimal k) in
-    let front = is_line-append (codes "floors " ++ decimal k) (codes " ") number refl in
-    let both = is_line-append (codes "floors " ++ decimal k ++ codes " ") (decimal count) front (is_line-decimal count) in (
-      codes "floors " ++ decimal k ++ codes " " ++ decimal count ++ flat_map floor_text floors,
-      refl,
-      is_line-append (codes "floors " ++ decimal k ++ codes " " ++ decimal count) (flat_map floor_text floors) both (floors_plain floors),
-    )

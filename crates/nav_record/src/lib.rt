@@ -1,7 +1,8 @@
 //! The lines of the output: what became of requests, questions and steps, faults and ends.
 //!
 //! Each function appends the whole lines of one answer to the bytes that are written so far, exactly as its definition in `specs/`
-//! spells them, or appends nothing where memory is refused. It asks for no memory where the vector has the room.
+//! spells them, or appends nothing where memory is refused. The writers of replies, steps, faults and ends write one line, and ask for no
+//! memory where the vector has the room.
 #![tactic(auto)]
 
 mod answer;
@@ -17,7 +18,6 @@ mod totals;
 pub use answer::write_answer;
 pub use done::write_done;
 pub use fault::write_fault;
-pub use floors::write_floors;
 pub use reply::write_reply;
 pub use step::{StepAnswer, write_step};
 pub use totals::Totals;

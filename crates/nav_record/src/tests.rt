@@ -63,20 +63,13 @@ fn writes_the_other_lines(rt: HostRuntime) -> Result<(), AllocError> {
     write_reply(&mut out, 2, &Reply::Full { live: 1024 })?;
     write_reply(&mut out, 65536, &Reply::Removed)?;
     write_reply(&mut out, 4, &Reply::Dead { number: 4294967295 })?;
-    write_floors(&mut out, 0, &[])?;
-    write_floors(
-        &mut out,
-        3,
-        &[FloorAt { y: 0, area: 63 }, FloorAt { y: 8191, area: 1 }],
-    )?;
     write_done(&mut out, 0, 4294967295)?;
     write_fault(
         &mut out,
         &TextFault::new(4294967295, FaultKind::TooManyLines),
     )?;
     write_fault(&mut out, &TextFault { line: 0, kind: 0 })?;
-    let wanted =
-        "entry 1 added\nentry 2 full 1024\nentry 65536 removed\nentry 4 dead 4294967295\nfloors 0 0\nfloors 3 2 0 63 8191 1\n\
+    let wanted = "entry 1 added\nentry 2 full 1024\nentry 65536 removed\nentry 4 dead 4294967295\n\
         done 0 4294967295\nfault 4294967295 11\nfault 0 0\n";
     assert_eq!(rt; out.as_slice(), wanted.as_bytes());
     Ok(())
@@ -90,12 +83,14 @@ fn writes_answers(rt: HostRuntime) -> Result<(), AllocError> {
     };
     let a = Point { x: -1, z: 0 };
     let b = Point { x: 16384, z: 32 };
-    let floors = Vec::from_array(rt.alloc(), [FloorAt { y: 8191, area: 63 }])?;
+    let floors = [FloorAt { y: 0, area: 63 }, FloorAt { y: 8191, area: 1 }];
+    let floors = Vec::from_array(rt.alloc(), floors)?;
     for (answer, wanted) in [
         (
             Answer::Floors(Items::from_vec(floors)),
-            "floors 3 1 8191 63\n",
+            "floors 3 2 0 63 8191 1\n",
         ),
+        (Answer::Floors(Items::new(rt.alloc())), "floors 3 0\n"),
         (Answer::NoStart, "nostart 3\n"),
         (Answer::NoGoal, "nogoal 3\n"),
         (Answer::NoPath, "nopath 3\n"),

@@ -249,7 +249,7 @@ enum Over {
 
 /// A square field: its side and that of its tiles, the agent's radius, the `cost` lines, and what stands there.
 #[derive(Clone, Copy)]
-struct Level {
+struct SquareField {
     side: u32,
     tile: u32,
     radius: u32,
@@ -257,10 +257,10 @@ struct Level {
     over: Over,
 }
 
-fn square(side: u32, tile: u32, radius: u32, over: Over) -> Level
+fn square(side: u32, tile: u32, radius: u32, over: Over) -> SquareField
     ensures { result.side ≡ side }
 {
-    Level {
+    SquareField {
         side,
         tile,
         radius,
@@ -269,10 +269,10 @@ fn square(side: u32, tile: u32, radius: u32, over: Over) -> Level
     }
 }
 
-fn built_level(alloc: Global, level: Level, script: &[u8]) -> Result<Vec<u8>, AllocError>
+fn built_level(alloc: Global, level: SquareField, script: &[u8]) -> Result<Vec<u8>, AllocError>
     requires { level.side < 100 }
 {
-    let Level {
+    let SquareField {
         side,
         tile,
         radius,
@@ -404,7 +404,7 @@ fn finds_floors(rt: HostRuntime) -> Result<(), Fail> {
 fn played<R: Threads + Wait + Sync>(
     rt: &R,
     alloc: Global,
-    level: Level,
+    level: SquareField,
     script: &[u8],
 ) -> Result<Ran, AllocError>
     requires { level.side < 100 }
@@ -420,7 +420,7 @@ fn finds_paths(rt: HostRuntime) -> Result<(), Fail> {
     let alloc = rt.alloc();
     let room = square(6, 6, 0, Over::Sky);
     // The level, the script; the play text. Each of these paths is the only right one.
-    let cases: [(Level, &[u8], &[u8]); 8] = [
+    let cases: [(SquareField, &[u8], &[u8]); 8] = [
         // The strips of the rows 1 to 4 are 16 sixteenths apart.
         (
             room,
@@ -429,7 +429,7 @@ fn finds_paths(rt: HostRuntime) -> Result<(), Fail> {
         ),
         // And three times that where their area costs 3.
         (
-            Level {
+            SquareField {
                 side: 6,
                 tile: 6,
                 radius: 0,

@@ -26,7 +26,10 @@ const MOST: usize = 67108864;
 /// Runs the program on the words behind its name: reads the whole input from the source and writes one text to the sink.
 ///
 /// For the word `play` the text is a play text of the input: for each line of its script in order what the history and the published
-/// mesh answer, then how far the play came. A text that is no input, or that asks for what is not built yet, is told by the line of its fault.
+/// mesh answer, then how far the play came. What stands after a question is right in the mesh that is published then: the floors of the free
+/// cells of a column; or, for a path, a corridor of links that no other walk undercuts, with its cost, and a line that is taut in its portals;
+/// that no polygon holds the start, or the goal, exactly where none does; or that there is no path, exactly where no walk of links joins the
+/// two polygons. A text that is no input, or that asks for what is not built yet, is told by the line of its fault.
 /// The text is made whole before its first byte is written. Refusals go in the order Usage, ReadFault, TooLong, BadText;
 /// WriteFault comes in place of any status whose text could not be written, and OutOfMemory only before the first write.
 #[tactic(auto, using(crate::proofs::TopLaws::took_none, crate::proofs::TopLaws::took_within, crate::proofs::TopLaws::took_many, crate::proofs::TopLaws::took_all))]
