@@ -1,5 +1,5 @@
 // Runs of the whole program over sources and sinks in memory. What is wanted was worked out by hand.
-ghost use Rattle.std.specs.Prelude.{◌<◌};
+ghost use Rattle.std.specs.Prelude.{◌≡◌, ◌<◌};
 
 use crate::{Status, run};
 use nav_io::{MemorySink, MemorySource};
