@@ -10,9 +10,9 @@ use Rattle.nav_steps.specs.Counts.{HasRisenAtMost}
 use Rattle.tile_build.specs.Meshes.{IsOfStrips}
 use Rattle.nav_play.specs.Built.{IsBuilt}
 use Rattle.nav_play.specs.PlayRecord.{PlayState, ground_of, said, state_after}
-use Rattle.nav_play.specs.Work.{most_for, most_steps}
+use Rattle.nav_play.specs.Work.{most_for}
 use Rattle.nav_play.proofs.Runs.{IsUnderWay, one_line}
-use Rattle.nav_play.proofs.StepCounts.{most_up_to, one_line_more, whole_stays, within_all}
+use Rattle.nav_play.proofs.StepCounts.{most_up_to, one_line_more, whole_stays}
 
 -- the play is under way, its ground is the one that it began with, and its steps are those of the beginning and of the lines so far at most
 pub record IsPlaying (first : PlayState) (lines : List Line) (done : ℕ) (state : PlayState) (text : List ℕ) (lanes before after : ℕ) : Type 0 where
