@@ -1,6 +1,6 @@
 -- Flat fields: one span over each column.
-use Rattle.std.proofs.Common.{◌≡◌, ℕ, ◌+◌, ◌*◌, ◌/◌, ◌%◌, ◌<◌, ◌≤◌, List, length, map, get_or, ap, sym, subst, arith, inl, inr, mod-lt, mul-le-mul, mul-le-mul_right, mul_comm, div-lt_iff_lt-mul}
-use Rattle.std.specs.List.{All, AllPairs, range_with_len}
+use Rattle.std.proofs.Common.{ℕ, ◌+◌, ◌*◌, ◌/◌, ◌%◌, ◌<◌, ◌≤◌, List, map, get_or, ap, arith, inl, inr, mod-lt, mul-le-mul, mul-le-mul_right, mul_comm, div-lt_iff_lt-mul}
+use Rattle.std.specs.List.{range_with_len}
 use Rattle.std.proofs.lemmas.Bool.{cases_order}
 use Rattle.std.proofs.lemmas.List.Elements.{All-map}
 use Rattle.std.proofs.lemmas.List.FromFn.{get_or-range_with_len, length-range_with_len, length-map-range_with_len}

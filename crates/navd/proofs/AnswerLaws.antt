@@ -1,5 +1,5 @@
 -- The answer to an input.
-use Rattle.std.proofs.Common.{◌≡◌, ℕ, List, subst, sym, inl, inr, ◌⊎◌}
+use Rattle.std.proofs.Common.{◌≡◌, ℕ, List, subst, sym, inl, inr}
 use Rattle.std.specs.Prelude.{Result, Ok, Err}
 use Rattle.nav_ground.specs.declared.setting.Setting.{Setting}
 use Rattle.nav_ground.specs.declared.field.Field.{Field}
@@ -11,8 +11,8 @@ use Rattle.navd.specs.declared.answer.Answer.TheVariants.{Played, Fault, OutOfMe
 use Rattle.navd.specs.declared.input.Input.{Input}
 use Rattle.navd.specs.declared.input.InputRefusal.{InputRefusal}
 use Rattle.navd.specs.declared.input.InputRefusal.TheVariants as input_refusals
-use Rattle.navd.specs.Answers.{IsRight, IsPlayedUnless, IsLineOf}
-use Rattle.navd.specs.Inputs.{IsInput, IsPlay, IsFault, IsNotBuilt}
+use Rattle.navd.specs.Answers.{IsRight, IsLineOf}
+use Rattle.navd.specs.Inputs.{IsInput, IsPlay, IsFault}
 use Rattle.navd.specs.Readings.{IsReadAs, IsInputFault}
 
 -- a line that tells a fault of the input is a right answer

@@ -1,8 +1,8 @@
 -- How a run ends.
-use Rattle.std.proofs.Common.{◌≡◌, ℕ, ◌+◌, ◌≤◌, List, [], length, arith, subst, sym, ◌∙◌, inl, inr, ◌⊎◌}
+use Rattle.std.proofs.Common.{◌≡◌, ℕ, ◌+◌, ◌≤◌, List, [], length, arith, subst, sym, ◌∙◌, inl, inr}
 use Rattle.std.specs.Prelude.{Option, Some, None, IfSome, String}
 use Rattle.std.specs.declared.alloc.Global.{Global}
-use Rattle.nav_io.specs.Causes.{Rose, GivesAll, AppendsPrefix, TookMany, TookAtMost}
+use Rattle.nav_io.specs.Causes.{Rose, GivesAll, TookMany, TookAtMost}
 use Rattle.std.proofs.KnownBytes.{Consumes-nil}
 use Rattle.nav_io.proofs.Laws.{GivesAll-known}
 use Rattle.navd.specs.declared.status.Status.{Status}

@@ -6,6 +6,7 @@ pub mod PortalLaws
 pub mod RowLaws
 pub mod PolygonLaws
 pub mod LinkLaws
+pub mod AwayLaws
 pub mod RimLaws
 pub mod FitLaws
 pub mod Literals

@@ -12,6 +12,7 @@ use crate::rim::rim;
 use crate::tile_strips::TileStrips;
 use mesh_types::TileMesh;
 use nav_ground::{FreeLayer, Setting, tile_bounds};
+use nav_list::Duplicate;
 use std::alloc::{AllocError, Global};
 
 /// The mesh of a tile from its free cells: a rectangle for each strip, the links between the strips, and the rim. The mesh keeps a copy of
@@ -27,25 +28,43 @@ pub fn strip_mesh(
     ensures value { IfOk result (λ tile. tile ≡ strip_mesh_of setting.now free.now) }
     ensures fit { IfOk result (IsFit setting.now) }
 {
+    let free = free.duplicate(alloc)?;
+    let mesh = mesh(alloc, free, setting)?;
+    Ok(mesh)
+}
+
+/// What `strip_mesh` does, of free cells that the mesh takes over.
+pub fn strip_mesh_over(
+    alloc: Global,
+    free: FreeLayer,
+    setting: &Setting,
+) -> Result<TileMesh, AllocError>
+    requires setting { IsSetting setting.now }
+    requires cells { IsCut free.cells }
+    requires tile { IsInTile setting.now free.tile free.cells }
+    ensures value { IfOk result (λ tile. tile ≡ strip_mesh_of setting.now free) }
+    ensures fit { IfOk result (IsFit setting.now) }
+{
     let mesh = mesh(alloc, free, setting)?;
     Ok(mesh)
 }
 
 /// The mesh, part by part.
 #[tactic(auto, unfolding(mesh_types::specs::StripMeshes::strip_mesh_of))]
-fn mesh(alloc: Global, free: &FreeLayer, setting: &Setting) -> Result<TileMesh, AllocError>
+fn mesh(alloc: Global, free: FreeLayer, setting: &Setting) -> Result<TileMesh, AllocError>
     requires setting { IsSetting setting.now }
-    requires cells { IsCut free.now.cells }
-    requires tile { IsInTile setting.now free.now.tile free.now.cells }
-    ensures { IfOk result (λ tile. tile ≡ strip_mesh_of setting.now free.now) }
+    requires cells { IsCut free.cells }
+    requires tile { IsInTile setting.now free.tile free.cells }
+    ensures { IfOk result (λ tile. tile ≡ strip_mesh_of setting.now free) }
 {
-    let window = tile_bounds(setting, free.tile);
+    let tile = free.tile;
+    let window = tile_bounds(setting, tile);
     let strips = TileStrips::new(alloc, free)?;
     let polys = polygons(alloc, &strips)?;
     let links = inner_links(alloc, &strips)?;
     let rim = rim(alloc, &strips, &window)?;
     Ok(TileMesh {
-        tile: free.tile,
+        tile,
         free: strips.free,
         polys,
         links,

@@ -14,7 +14,7 @@ mod portals;
 mod rim;
 mod tile_strips;
 
-pub use build::strip_mesh;
+pub use build::{strip_mesh, strip_mesh_over};
 
 #[cfg(test)]
 mod tests;

@@ -1,11 +1,11 @@
 //! What the rim of a tile offers to the tiles across its sides.
 
-ghost use Rattle.std.specs.Prelude.{◌≡◌, ◌<◌, ◌≤◌, ◌+◌, ◌++◌, IfOk, OnOk, All, length, map, slice_index, slice_index_or, slice_range};
+ghost use Rattle.std.specs.Prelude.{◌≡◌, ◌<◌, ◌≤◌, ◌+◌, ◌++◌, false, [], IfOk, OnOk, All, length, map, slice_index, slice_index_or, slice_range};
 ghost use Rattle.std.specs.List.{between, flat_map, range_with_len};
 ghost use Rattle.nav_ground.specs.declared.cell.Cell.{Cell};
 ghost use Rattle.nav_ground.specs.Cells.{IsCell, IsCells};
 ghost use Rattle.mesh_types.specs.StripMeshes.{strip_rim, strip_rim_over, is_crossing, outside_of, some_cell};
-ghost use Rattle.mesh_types.specs.Runs.{label_if};
+ghost use Rattle.mesh_types.specs.Runs.{label_if, runs_of};
 ghost use Rattle.mono_regions.specs.Indices.{cell_at, AreIndices};
 ghost use Rattle.strip_mesh.specs.Indexed.{AreIndexed, runs_in, run_in};
 ghost use Rattle.strip_mesh.specs.Strips.{pair_at};
@@ -68,6 +68,9 @@ fn push_rim_over(
     requires edge { edge < 4 }
     ensures { OnOk result (rim.new.items ≡ rim.old.items ++ strip_rim_over window.now (runs_in strips.now) strip edge) }
 {
+    if !may_reach(strips, window, strip, 3 - edge) {
+        return Ok(());
+    }
     label_crossing(strips, window, strip, edge, labels)?;
     let parts = runs(alloc, labels.as_slice())?;
     let parts = parts.as_slice();
@@ -75,6 +78,17 @@ fn push_rim_over(
         rim.push(rim_edge(alloc, strips, strip, edge, *part)?)?;
     }
     Ok(())
+}
+
+/// Whether a strip may have cells along the side of the tile in a direction: where its first cell does not lie there no other does, but
+/// for the side toward x + 1, which the last cell comes to.
+fn may_reach(strips: &TileStrips, window: &Window, strip: u32, dir: u32) -> bool
+    requires rules { AreIndexed strips.now }
+    requires there { strip < length (runs_in strips.now) }
+    requires dir { dir < 4 }
+    ensures { result ≡ false → runs_of (map (λ (cell : Cell). label_if (is_crossing window.now dir cell)) (run_in strips.now strip)) ≡ [] }
+{
+    dir == 2 || is_at_side(window, dir, strips.first(strip).at)
 }
 
 /// Which cells of a strip have a kept neighbour across the side of the tile that an edge lies on.

@@ -6,7 +6,7 @@ ghost use Rattle.cell_table.specs.Table.{neighbour};
 use cell_table::neighbour_table;
 use mono_regions::{StripIndex, strip_index};
 use nav_ground::{Cell, FreeLayer};
-use nav_list::{Duplicate, Items};
+use nav_list::Items;
 use std::alloc::{AllocError, Global};
 
 /// What a mesh of strips is made from.
@@ -26,13 +26,12 @@ impl TileStrips {
     ghost use Rattle.mono_regions.specs.Indices.{cell_at, AreIndices};
     ghost use Rattle.strip_mesh.specs.Indexed.{AreIndexed, runs_in, run_in};
 
-    /// The strips of a tile, of whose free cells a copy is made.
-    pub fn new(alloc: Global, free: &FreeLayer) -> Result<TileStrips, AllocError>
-        requires { IsCut free.now.cells }
+    /// The strips of a tile from its free cells, which it takes over.
+    pub fn new(alloc: Global, free: FreeLayer) -> Result<TileStrips, AllocError>
+        requires { IsCut free.cells }
         ensures rules { IfOk result (λ strips. AreIndexed strips) }
-        ensures free { IfOk result (λ strips. strips.free ≡ free.now) }
+        ensures free { IfOk result (λ strips. strips.free ≡ free) }
     {
-        let free = free.duplicate(alloc)?;
         let table = neighbour_table(alloc, free.cells.as_slice())?;
         let index = strip_index(alloc, free.cells.as_slice(), table.as_slice())?;
         Ok(TileStrips {

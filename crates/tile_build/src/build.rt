@@ -13,7 +13,7 @@ use nav_steps::Steps;
 use obstacle_mark::mark;
 use std::alloc::{AllocError, Global};
 use std::sync::ledger::Ledger;
-use strip_mesh::strip_mesh;
+use strip_mesh::strip_mesh_over;
 
 /// The mesh of a layer under a list of shapes. It takes one step, also where memory is refused. So far every tile is built as strips.
 pub fn build_tile<L: Ledger>(
@@ -34,5 +34,5 @@ pub fn build_tile<L: Ledger>(
 {
     steps.tick();
     let free = mark(alloc, layer, shapes)?;
-    strip_mesh(alloc, &free, setting)
+    strip_mesh_over(alloc, free, setting)
 }

@@ -16,7 +16,7 @@ use nav_steps::Steps;
 use obstacle_mark::mark;
 use std::alloc::{AllocError, Global};
 use std::sync::ledger::Ledger;
-use strip_mesh::strip_mesh;
+use strip_mesh::strip_mesh_over;
 
 /// The mesh of a layer under a list of shapes, where a mesh of that layer stands. Where the free cells are those of the mesh that stands,
 /// that mesh is shared and no step is taken; else the mesh is built, which takes one step, also where memory is refused.
@@ -44,6 +44,6 @@ pub(crate) fn renew_tile<L: Ledger>(
         return Ok(standing.share()?);
     }
     steps.tick();
-    let tile = strip_mesh(alloc, &free, setting)?;
+    let tile = strip_mesh_over(alloc, free, setting)?;
     Ok(Shared::new(alloc, tile)?)
 }

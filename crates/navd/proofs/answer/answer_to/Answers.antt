@@ -1,4 +1,4 @@
-use Rattle.std.proofs.Common.{◌≡◌, ℕ, ap, ◌∙◌, Err, refl, rules, arith}
+use Rattle.std.proofs.Common.{ap, ◌∙◌, Err, refl, rules, arith}
 use Rattle.std.proofs.lemmas.Grind.{common_steps}
 use Rattle.navd.proofs.AnswerLaws.{line_right, input_wrong, no_fault, no_play, not_built}
 use Rattle.navd.proofs.answer.answer_to.Goals as goal

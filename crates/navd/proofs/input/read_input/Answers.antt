@@ -1,4 +1,4 @@
-use Rattle.std.proofs.Common.{◌≡◌, ℕ, ◌+◌, ◌≤◌, length, take, arith, inr, ap, ◌∙◌, subst, Err}
+use Rattle.std.proofs.Common.{◌+◌, ◌≤◌, length, take, arith, inr, ap, ◌∙◌, subst, Err}
 use Rattle.std.proofs.lemmas.List.{length-take-le}
 use Rattle.nav_text.specs.declared.fault.TextFault.{TextFault}
 use Rattle.navd.specs.Readings.{IsInputFault}

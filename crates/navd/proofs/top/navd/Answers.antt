@@ -1,6 +1,6 @@
-use Rattle.std.proofs.Common.{rules, ◌≡◌, ℕ, subst, sym, inl, inr}
+use Rattle.std.proofs.Common.{rules, subst, sym, inl, inr}
 use Rattle.navd.specs.Inputs.{IsPlay}
-use Rattle.navd.proofs.TopLaws.{broken, ended_well, play_due, fault_due, no_play_known, play_known, quiet_ends}
+use Rattle.navd.proofs.TopLaws.{broken, ended_well, play_due, fault_due, no_play_known, quiet_ends}
 use Rattle.navd.proofs.top.navd.Goals as goal
 
 pub returns-in-Played-clause-write_fault : goal.returns-in-Played-clause-write_fault

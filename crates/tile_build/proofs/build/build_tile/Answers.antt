@@ -4,7 +4,7 @@ use Rattle.nav_ground.specs.Cells.{IsInTile}
 use Rattle.tile_build.proofs.FreeInTile.{free_in_tile}
 use Rattle.tile_build.proofs.build.build_tile.Goals as goal
 
-pub strip_mesh-requires-clause-tile : goal.strip_mesh-requires-clause-tile
-strip_mesh-requires-clause-tile g c =
+pub strip_mesh_over-requires-clause-tile : goal.strip_mesh_over-requires-clause-tile
+strip_mesh_over-requires-clause-tile g c =
     subst (λ (free : FreeLayer). IsInTile c.args.setting.now free.tile free.cells) (sym c.in_ok-free.ensures.free)
     (free_in_tile c.args.setting.now c.args.layer.now c.args.shapes.now c.requires.layer.inside)

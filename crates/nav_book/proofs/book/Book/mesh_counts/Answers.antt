@@ -1,4 +1,4 @@
-use Rattle.std.proofs.Common.{◌∙◌, ap, arith}
+use Rattle.std.proofs.Common.{ap, arith}
 use Rattle.std.specs.Arc.{arc_value}
 use Rattle.mesh_types.specs.Soundness.{link_count, polygon_count}
 use Rattle.tile_build.proofs.LinkTotals.{few_links_of_build}
