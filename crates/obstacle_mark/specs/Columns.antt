@@ -1,5 +1,5 @@
 -- Columns by number, so that places in order have columns in order.
-use Rattle.std.specs.Prelude.{ℕ, ◌+◌, ◌-◌, ◌*◌, ◌<◌, ◌≤◌, ◌==◌, if◌then◌else◌, List, length, All, slice_index_or}
+use Rattle.std.specs.Prelude.{◌≡◌, ℕ, ◌+◌, ◌-◌, ◌*◌, ◌<◌, ◌≤◌, ◌==◌, nat_lt, Bool, ◌&&◌, ◌||◌, if◌then◌else◌, List, length, All, slice_index_or}
 use Rattle.std.specs.List.Sorted.{IsNonDecreasingBy}
 use Rattle.nav_ground.specs.declared.cell.CellRef.{CellRef}
 
@@ -29,3 +29,11 @@ pub record ArePlaces (places : List CellRef) : Type 0 where
 pub record IsPassed (places : List CellRef) (n column : ℕ) : Type 0 where
   pub most : n ≤ length places
   pub before : (k : ℕ) (d : CellRef) → k < n → column_of (slice_index_or places k d) < column
+
+-- a place comes before a column, in the order of cells: by z, then by x
+abbrev pub is_before : ℕ → ℕ → CellRef → Bool
+is_before x z at = nat_lt at.z z || (at.z == z && nat_lt at.x x)
+
+-- a place lies in a row of columns, given by its z, from one x on and before another
+abbrev pub IsInRow : ℕ → ℕ → ℕ → CellRef → Type 0
+IsInRow first end z at = (at.z ≡ z) × (first ≤ at.x) × (at.x < end)
