@@ -1,5 +1,5 @@
 -- Cells in order stand row by row.
-use Rattle.std.proofs.Common.{◌≡◌, ℕ, ◌<◌, ◌≤◌, ◌⊎◌, true, false, inl, inr, List, get_or, length, arith, tests, subst}
+use Rattle.std.proofs.Common.{◌≡◌, ℕ, ◌<◌, ◌≤◌, ◌⊎◌, true, false, inl, inr, List, get_or, arith, tests, subst}
 use Rattle.std.specs.Prelude.{AllPairs}
 use Rattle.std.specs.List.Sorted.{IsNonDecreasingBy, IsPartitionedBy}
 use Rattle.std.proofs.lemmas.Bool.{cases_lt}

@@ -1,4 +1,4 @@
-use Rattle.std.proofs.Common.{◌≡◌, ℕ, ◌≤◌, get_or, ap, arith}
+use Rattle.std.proofs.Common.{ap, arith}
 use Rattle.nav_ground.specs.declared.cell.Cell.{Cell}
 use Rattle.obstacle_mark.proofs.Rows.{rows_rise}
 use Rattle.obstacle_mark.proofs.areas.first_row.Goals as goal
