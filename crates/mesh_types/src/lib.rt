@@ -17,7 +17,9 @@ mod link_list;
 mod link_order;
 mod links;
 mod mesh;
+mod outline;
 mod polygon;
+mod region;
 mod strip;
 mod tile;
 
@@ -30,7 +32,9 @@ pub use link_list::Links;
 pub use link_order::order_links;
 pub use links::{Link, PolyRef, Portal};
 pub use mesh::{Mesh, copy_mesh, copy_tile, poly};
+pub use outline::{Outline, Piece, Simplified, Triangle};
 pub use polygon::Polygon;
+pub use region::{Code, Region, Regions, UnitEdge};
 pub use strip::Strip;
 pub use tile::{LevelPair, RimEdge, TileMesh};
 
