@@ -14,3 +14,4 @@ pub mod Chains
 pub mod Taut
 pub mod Floors
 pub mod Right
+pub mod Rings
