@@ -2,9 +2,11 @@
 ghost use Rattle.std.specs.Prelude.{◌≡◌, ◌<◌};
 
 use crate::{Status, run};
+use nav_base::push_number;
 use nav_io::{MemorySink, MemorySource};
 use std::alloc::{AllocError, Global};
 use std::marker::Brand;
+use std::process::Abort;
 use std::sync::Wait;
 use std::sync::ledger::Blank;
 use std::test::Fail;
@@ -14,17 +16,12 @@ const PLAYED: &[u8] = b"floors 0 1 10 63\nentry 1 added\nsettled 1\nfloors 1 0\n
 
 /// A flat field of 6 by 6 columns with its floor at height 10 and so many obstacles at once, and a script of so many lanes behind it.
 fn level_with(alloc: Global, limit: u32, lanes: u32, script: &[u8]) -> Result<Vec<u8>, AllocError> {
-    let mut text = Vec::new(alloc);
-    text.extend_from_slice(b"nav 1\nsize 6 6\ntile 6\nagent 10 4 0\nerror 169\nmesh strips\n")?;
-    text.extend_from_slice(format!(in alloc; "limit {limit}\n")?.as_bytes())?;
-    for i in 0..36u32 {
-        let x = i % 6;
-        let z = i / 6;
-        text.extend_from_slice(format!(in alloc; "span {x} {z} 0 10 63\n")?.as_bytes())?;
-    }
-    text.extend_from_slice(format!(in alloc; "end\nscript {lanes} 1\n")?.as_bytes())?;
-    text.extend_from_slice(script)?;
-    Ok(text)
+    let room = SquareField {
+        limit,
+        lanes,
+        ..square(6, 6, 0, Over::Sky)
+    };
+    built_level(alloc, room, script)
 }
 
 fn level(alloc: Global, script: &[u8]) -> Result<Vec<u8>, AllocError> {
@@ -83,6 +80,19 @@ fn run_once<R: Threads + Wait + Sync>(
     Ok(Ran { status, held })
 }
 
+/// The run ended with a status, and the sink holds these bytes.
+fn check(rt: &impl Abort, ran: Ran, status: Status, held: &[u8]) {
+    assert_eq!(rt; ran.status, status);
+    assert_eq!(rt; ran.held.as_slice(), held);
+}
+
+/// The run ended well, and what the sink holds begins and ends with these bytes.
+fn check_ends(rt: &impl Abort, ran: Ran, first: &[u8], last: &[u8]) {
+    assert_eq!(rt; ran.status, Status::Ok);
+    assert!(rt; ran.held.as_slice().starts_with(first));
+    assert!(rt; ran.held.as_slice().ends_with(last));
+}
+
 #[test]
 fn ends_with_the_status_of_its_cause(rt: HostRuntime) -> Result<(), Fail> {
     let alloc = rt.alloc();
@@ -115,8 +125,7 @@ fn ends_with_the_status_of_its_cause(rt: HostRuntime) -> Result<(), Fail> {
     ];
     for (word, script, status, held) in cases {
         let ran = run_once(&rt, alloc, word, level(alloc, script)?, (100, 0), (8, 0))?;
-        assert_eq!(rt; ran.status, status);
-        assert_eq!(rt; ran.held.as_slice(), held);
+        check(&rt, ran, status, held);
     }
     Ok(())
 }
@@ -136,8 +145,7 @@ fn tells_each_failing_call(rt: HostRuntime) -> Result<(), Fail> {
             (1, call as u32),
             (8, 0),
         )?;
-        assert_eq!(rt; ran.status, Status::ReadFault);
-        assert_eq!(rt; ran.held.len(), 0);
+        check(&rt, ran, Status::ReadFault, b"");
     }
     Ok(())
 }
@@ -154,8 +162,7 @@ fn leaves_what_was_written(rt: HostRuntime) -> Result<(), Fail> {
             (100, 0),
             (1, call as u32),
         )?;
-        assert_eq!(rt; ran.status, Status::WriteFault);
-        assert!(rt; ran.held.as_slice() == &PLAYED[..call - 1]);
+        check(&rt, ran, Status::WriteFault, &PLAYED[..call - 1]);
     }
     Ok(())
 }
@@ -171,8 +178,7 @@ fn reads_no_more_than_it_may(rt: HostRuntime) -> Result<(), Fail> {
     for (length, status, held) in cases {
         let feeds = vec![in alloc; b'\n'; length]?;
         let ran = run_once(&rt, alloc, "play", feeds, (1000000, 0), (8, 0))?;
-        assert_eq!(rt; ran.status, status);
-        assert_eq!(rt; ran.held.as_slice(), held);
+        check(&rt, ran, status, held);
     }
     Ok(())
 }
@@ -225,8 +231,7 @@ fn plays_scripts(rt: HostRuntime) -> Result<(), Fail> {
             (100, 0),
             (100, 0),
         )?;
-        assert_eq!(rt; ran.status, Status::Ok);
-        assert_eq!(rt; ran.held.as_slice(), text);
+        check(&rt, ran, Status::Ok, text);
     }
     Ok(())
 }
@@ -247,14 +252,17 @@ enum Over {
     Step,
 }
 
-/// A square field: its side and that of its tiles, the agent's radius, the `cost` lines, and what stands there.
+/// A square field: its side and that of its tiles, the agent's radius, how many obstacles at once, the `cost` lines, what stands there, and
+/// the lanes of the script.
 #[derive(Clone, Copy)]
 struct SquareField {
     side: u32,
     tile: u32,
     radius: u32,
+    limit: u32,
     costs: &'static [u8],
     over: Over,
+    lanes: u32,
 }
 
 fn square(side: u32, tile: u32, radius: u32, over: Over) -> SquareField
@@ -264,46 +272,62 @@ fn square(side: u32, tile: u32, radius: u32, over: Over) -> SquareField
         side,
         tile,
         radius,
+        limit: 4,
         costs: b"",
         over,
+        lanes: 1,
     }
+}
+
+/// Appends a line of a word and numbers.
+fn push_line(text: &mut Vec<u8>, word: &[u8], numbers: &[u32]) -> Result<(), AllocError> {
+    text.extend_from_slice(word)?;
+    for number in numbers {
+        text.push(b' ')?;
+        push_number(text, i64::from(*number))?;
+    }
+    text.push(b'\n')?;
+    Ok(())
+}
+
+fn push_header(text: &mut Vec<u8>, level: &SquareField) -> Result<(), AllocError> {
+    push_line(text, b"nav", &[1])?;
+    push_line(text, b"size", &[level.side, level.side])?;
+    push_line(text, b"tile", &[level.tile])?;
+    push_line(text, b"agent", &[10, 4, level.radius])?;
+    text.extend_from_slice(b"error 169\nmesh strips\n")?;
+    push_line(text, b"limit", &[level.limit])?;
+    text.extend_from_slice(level.costs)?;
+    Ok(())
+}
+
+/// Appends the spans of one column.
+fn push_column(text: &mut Vec<u8>, over: Over, x: u32, z: u32) -> Result<(), AllocError> {
+    let (top, area) = match over {
+        Over::Void => return Ok(()),
+        Over::Walls if x != 1 || z != 1 => (40, 0),
+        Over::Step if 3 <= z => (14, 63),
+        _ => (10, 63),
+    };
+    push_line(text, b"span", &[x, z, 0, top, area])?;
+    match over {
+        Over::Spans(spans) if x == 2 && z == 2 => text.extend_from_slice(spans)?,
+        Over::Deck if 1 <= z && z <= 3 => push_line(text, b"span", &[x, z, 30, 40, 63])?,
+        _ => (),
+    }
+    Ok(())
 }
 
 fn built_level(alloc: Global, level: SquareField, script: &[u8]) -> Result<Vec<u8>, AllocError>
     requires { level.side < 100 }
 {
-    let SquareField {
-        side,
-        tile,
-        radius,
-        costs,
-        over,
-    } = level;
     let mut text = Vec::new(alloc);
-    text.extend_from_slice(format!(in alloc;
-        "nav 1\nsize {side} {side}\ntile {tile}\n"
-    )?.as_bytes())?;
-    text.extend_from_slice(format!(in alloc; "agent 10 4 {radius}\n")?.as_bytes())?;
-    text.extend_from_slice(b"error 169\nmesh strips\nlimit 4\n")?;
-    text.extend_from_slice(costs)?;
-    let columns = if over == Over::Void { 0 } else { side * side };
-    for i in 0..columns {
-        let (x, z) = (i % side, i / side);
-        let (top, area) = match over {
-            Over::Walls if x != 1 || z != 1 => (40, 0),
-            Over::Step if 3 <= z => (14, 63),
-            _ => (10, 63),
-        };
-        text.extend_from_slice(format!(in alloc; "span {x} {z} 0 {top} {area}\n")?.as_bytes())?;
-        match over {
-            Over::Spans(spans) if x == 2 && z == 2 => text.extend_from_slice(spans)?,
-            Over::Deck if 1 <= z && z <= 3 => {
-                text.extend_from_slice(format!(in alloc; "span {x} {z} 30 40 63\n")?.as_bytes())?;
-            }
-            _ => (),
-        }
+    push_header(&mut text, &level)?;
+    for i in 0..level.side * level.side {
+        push_column(&mut text, level.over, i % level.side, i / level.side)?;
     }
-    text.extend_from_slice(b"end\nscript 1 1\n")?;
+    text.extend_from_slice(b"end\n")?;
+    push_line(&mut text, b"script", &[level.lanes, 1])?;
     text.extend_from_slice(script)?;
     Ok(text)
 }
@@ -394,8 +418,7 @@ fn finds_floors(rt: HostRuntime) -> Result<(), Fail> {
         assert!(rt; side < 100);
         let level = built_level(alloc, square(side, tile, radius, over), script)?;
         let ran = run_once(&rt, alloc, "play", level, (100, 0), (100, 0))?;
-        assert_eq!(rt; ran.status, Status::Ok);
-        assert_eq!(rt; ran.held.as_slice(), text);
+        check(&rt, ran, Status::Ok, text);
     }
     Ok(())
 }
@@ -430,11 +453,8 @@ fn finds_paths(rt: HostRuntime) -> Result<(), Fail> {
         // And three times that where their area costs 3.
         (
             SquareField {
-                side: 6,
-                tile: 6,
-                radius: 0,
                 costs: b"cost 63 3\n",
-                over: Over::Sky,
+                ..room
             },
             ACROSS,
             b"floors 0 1 10 63\nfloors 0 0\npath 0 144 0 0 3 0\nlink 0 1 16 32 80 32\nlink 0 2 16 48 80 48\nlink 0 3 16 64 80 64\ndone 0 0\n",
@@ -479,8 +499,7 @@ fn finds_paths(rt: HostRuntime) -> Result<(), Fail> {
     for (level, script, text) in cases {
         assert!(rt; level.side < 100);
         let ran = played(&rt, alloc, level, script)?;
-        assert_eq!(rt; ran.status, Status::Ok);
-        assert_eq!(rt; ran.held.as_slice(), text);
+        check(&rt, ran, Status::Ok, text);
     }
     Ok(())
 }
@@ -491,13 +510,12 @@ fn finds_a_path_over_four_tiles(rt: HostRuntime) -> Result<(), Fail> {
     // The block is the corner cell of a tile. Round it lead two corridors of one cost, each over two borders, and either is right.
     let script = b"add block 3 4 0 100 3 4\nsettle\npath 40 56 10 88 72 10\n";
     let ran = played(&rt, alloc, square(8, 4, 0, Over::Sky), script)?;
-    assert_eq!(rt; ran.status, Status::Ok);
-    assert!(rt;
-        ran.held
-            .as_slice()
-            .starts_with(b"entry 1 added\nsettled 1\npath 1 100 0 2 4 ")
+    check_ends(
+        &rt,
+        ran,
+        b"entry 1 added\nsettled 1\npath 1 100 0 2 4 ",
+        b"\ndone 1 1\n",
     );
-    assert!(rt; ran.held.as_slice().ends_with(b"\ndone 1 1\n"));
     Ok(())
 }
 
@@ -506,8 +524,7 @@ fn leaves_what_was_written_of_an_answer(rt: HostRuntime) -> Result<(), Fail> {
     let alloc = rt.alloc();
     let text = built_level(alloc, square(6, 6, 0, Over::Sky), ACROSS)?;
     let ran = run_once(&rt, alloc, "play", text, (100, 0), (8, 2))?;
-    assert_eq!(rt; ran.status, Status::WriteFault);
-    assert_eq!(rt; ran.held.as_slice(), b"floors 0".as_slice());
+    check(&rt, ran, Status::WriteFault, b"floors 0".as_slice());
     Ok(())
 }
 
@@ -523,16 +540,11 @@ fn fills_a_history(rt: HostRuntime) -> Result<(), Fail> {
         (4096, 0),
         (4096, 0),
     )?;
-    assert_eq!(rt; ran.status, Status::Ok);
-    assert!(rt;
-        ran.held
-            .as_slice()
-            .starts_with(b"entry 1 added\nentry 2 full 1\n")
-    );
-    assert!(rt;
-        ran.held
-            .as_slice()
-            .ends_with(b"entry 65536 full 1\nhistory full 65536\ndone 0 65536\n")
+    check_ends(
+        &rt,
+        ran,
+        b"entry 1 added\nentry 2 full 1\n",
+        b"entry 65536 full 1\nhistory full 65536\ndone 0 65536\n",
     );
 
     let settles = lines(alloc, 300001, b"settle\n")?;
@@ -544,7 +556,6 @@ fn fills_a_history(rt: HostRuntime) -> Result<(), Fail> {
         (4096, 0),
         (4096, 0),
     )?;
-    assert_eq!(rt; ran.status, Status::BadText);
-    assert_eq!(rt; ran.held.as_slice(), b"fault 300046 11\n".as_slice());
+    check(&rt, ran, Status::BadText, b"fault 300046 11\n".as_slice());
     Ok(())
 }
