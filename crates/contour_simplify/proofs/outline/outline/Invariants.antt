@@ -1,0 +1,11 @@
+use Rattle.std.proofs.Common.{◌≡◌, take}
+use Rattle.std.specs.List.{flat_map}
+use Rattle.mesh_types.specs.Simplified.{left_of_run, codes_of_run, runs_between}
+use Rattle.contour_simplify.proofs.outline.outline.Given as goal
+
+-- what the runs so far leave
+abbrev pub invariant-loop-run : goal.invariant-loop-run
+invariant-loop-run l = record {
+  corners : l.corners.items ≡ flat_map (left_of_run l.error l.round) (take l.run (runs_between l.stops));
+  codes : l.codes.items ≡ flat_map (codes_of_run l.error l.edges) (take l.run (runs_between l.stops));
+}
