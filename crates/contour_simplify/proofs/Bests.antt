@@ -6,12 +6,12 @@ use Rattle.std.proofs.lemmas.List.{get_or_default}
 use Rattle.std.proofs.lemmas.List.Folds.{list_any_at, list_any_none}
 use Rattle.std.proofs.lemmas.List.MinMax.{IsFirstBest-none, IsFirstBest-keeps, IsFirstBest-takes}
 use Rattle.std.proofs.lemmas.List.Sums.{prefix_len_is}
-use Rattle.mesh_types.specs.Simplified.{first_best}
+use Rattle.mesh_types.specs.Simplified.{first_best_place}
 
 module _ {X : Type 0} (beats : X → X → Bool) where
   -- the place that a loop over all of them ends with is the first that none beats
-  pub best_is : (xs : List X) (place : ℕ) (d : X) → IsFirstBest beats xs (length xs) place → first_best beats xs ≡ place
-  unfolding first_best
+  pub best_is : (xs : List X) (place : ℕ) (d : X) → IsFirstBest beats xs (length xs) place → first_best_place beats xs ≡ place
+  unfolding first_best_place
   best_is xs place d best =
       prefix_len_is (λ x. list_any (λ y. beats y x) xs) xs place d (omega (arith, best.0))
       (λ k before. list_any_at (λ y. beats y (get_or xs k d)) xs place d best.0 (best.2 k d before))
@@ -40,7 +40,7 @@ module _ {X : Type 0} (beats : X → X → Bool) where
       one_more order xs d (suc i) before.0 there (subst (λ n. IsFirstBest beats xs n before.0) {x = i + 1} {y = suc i} (omega arith) before.1)
 
   -- where there are elements, one of them is the first that none beats
-  pub best_there : IsStrictWeakOrder beats → (xs : List X) (d : X) → 0 < length xs → first_best beats xs < length xs
+  pub best_there : IsStrictWeakOrder beats → (xs : List X) (d : X) → 0 < length xs → first_best_place beats xs < length xs
   best_there order xs d some =
       let last : ℕ = length xs - 1 in
       let found = some_best order xs d last (omega (arith, some)) in

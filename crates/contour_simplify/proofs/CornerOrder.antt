@@ -10,7 +10,7 @@ use Rattle.nav_base.specs.declared.point.Point.{Point}
 use Rattle.mesh_types.specs.LinkOrder.{point_cmp}
 use Rattle.mesh_types.specs.Simplified.{is_before}
 
-corner_total : IsTotalOrder point_cmp
+pub corner_total : IsTotalOrder point_cmp
 corner_total =
     then_total {R = on (λ (p : Point). p.x) int_cmp} {S = on (λ (p : Point). p.z) int_cmp}
     (on_total (λ (p : Point). p.x) int_cmp_total) (on_total (λ (p : Point). p.z) int_cmp_total)

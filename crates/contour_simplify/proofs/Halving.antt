@@ -7,7 +7,7 @@ use Rattle.std.proofs.lemmas.List.Elements.{All-push, All-take, All-drop}
 use Rattle.std.proofs.lemmas.List.Sums.{sum_by-append}
 use Rattle.nav_base.specs.declared.point.Point.{Point}
 use Rattle.nav_base.specs.Point.{IsCellCorner}
-use Rattle.mesh_types.specs.Simplified.{first_best, deviates_more, deviates_over, kept_walking}
+use Rattle.mesh_types.specs.Simplified.{first_best_place, deviates_more, deviates_over, kept_walking}
 use Rattle.contour_simplify.specs.declared.run.Half.{Half}
 use Rattle.contour_simplify.specs.Halves.{IsHalf, IsPart, IsStraight, IsSplit}
 use Rattle.contour_simplify.proofs.Bests.{best_there}
@@ -22,7 +22,7 @@ some_if p [] is = absurd cc
 some_if p (x ∷ xs) is = omega arith
 
 split_there : (error : ℕ) (a : Point) (inner : List Point) (b : Point) → list_any (deviates_over error a b) inner ≡ true
-    → first_best (deviates_more a b) inner < length inner
+    → first_best_place (deviates_more a b) inner < length inner
 split_there error a inner b is = best_there (deviates_more a b) (deviations_order a b) inner a (some_if (deviates_over error a b) inner is)
 
 -- more depth than there are inner corners changes nothing
@@ -35,13 +35,13 @@ enough error zero (suc n) a (p ∷ inner) b first second = absurd (omega (arith,
 enough error (suc m) zero a [] b first second = refl
 enough error (suc m) zero a (p ∷ inner) b first second = absurd (omega (arith, second))
 enough error (suc m) (suc n) a inner b first second =
-    let place : ℕ = first_best (deviates_more a b) inner in
+    let place : ℕ = first_best_place (deviates_more a b) inner in
     let at : Point = get_or inner place a in
     halves_alike (list_any (deviates_over error a b) inner) refl place refl
     (λ shorter. enough error m n a (take place inner) at (omega (arith, first, shorter, length-take-le place inner (omega (arith, shorter)))) (omega (arith, second, shorter, length-take-le place inner (omega (arith, shorter)))))
     (λ shorter. enough error m n at (drop (place + 1) inner) b (omega (arith, first, shorter, length-drop (place + 1) inner)) (omega (arith, second, shorter, length-drop (place + 1) inner)))
   where
-    halves_alike : (test : Bool) → list_any (deviates_over error a b) inner ≡ test → (place : ℕ) → first_best (deviates_more a b) inner ≡ place
+    halves_alike : (test : Bool) → list_any (deviates_over error a b) inner ≡ test → (place : ℕ) → first_best_place (deviates_more a b) inner ≡ place
         → (place < length inner → kept_walking m error a (take place inner) (get_or inner place a) ≡ kept_walking n error a (take place inner) (get_or inner place a))
         → (place < length inner → kept_walking m error (get_or inner place a) (drop (place + 1) inner) b ≡ kept_walking n error (get_or inner place a) (drop (place + 1) inner) b)
         → (if test then kept_walking m error a (take place inner) (get_or inner place a) ++ get_or inner place a ∷ kept_walking m error (get_or inner place a) (drop (place + 1) inner) b else [])
@@ -53,7 +53,7 @@ enough error (suc m) (suc n) a inner b first second =
 
 -- the halves of what is kept
 halved : (error : ℕ) (a : Point) (inner : List Point) (b : Point) (place : ℕ) (d : Point) → list_any (deviates_over error a b) inner ≡ true
-    → first_best (deviates_more a b) inner ≡ place
+    → first_best_place (deviates_more a b) inner ≡ place
     → whole error a inner b ≡ whole error a (take place inner) (get_or inner place d) ++ get_or inner place d ∷ whole error (get_or inner place d) (drop (place + 1) inner) b
 unfolding kept_walking
 halved error a inner b place d is best =

@@ -3,3 +3,7 @@ pub mod Deviations
 pub mod CornerOrder
 pub mod Mirrored
 pub mod Halving
+pub mod Edges
+pub mod Rising
+pub mod Outlines
+pub mod Searches

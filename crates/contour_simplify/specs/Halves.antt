@@ -3,7 +3,7 @@ use Rattle.std.specs.Prelude.{ℕ, ◌≡◌, ◌<◌, true, false, List, length
 use Rattle.std.specs.List.{list_any}
 use Rattle.nav_base.specs.declared.point.Point.{Point}
 use Rattle.nav_base.specs.Point.{IsCellCorner}
-use Rattle.mesh_types.specs.Simplified.{first_best, deviates_more, deviates_over}
+use Rattle.mesh_types.specs.Simplified.{first_best_place, deviates_more, deviates_over}
 use Rattle.contour_simplify.specs.declared.run.Half.{Half}
 
 -- all corners of the half are corners of cells
@@ -26,4 +26,4 @@ pub record IsStraight (error : ℕ) (half : Half) : Type 0 where
 pub record IsSplit (error : ℕ) (half : Half) (place : ℕ) : Type 0 where
   pub some : list_any (deviates_over error half.first half.last) half.inner.now ≡ true
   pub there : place < length half.inner.now
-  pub best : first_best (deviates_more half.first half.last) half.inner.now ≡ place
+  pub best : first_best_place (deviates_more half.first half.last) half.inner.now ≡ place

@@ -5,6 +5,7 @@
 //! its lesser end, so that the two regions on its sides keep the same corners of it. Corners are in whole cells.
 #![tactic(auto)]
 
+mod kept;
 mod outline;
 mod run;
 mod stops;

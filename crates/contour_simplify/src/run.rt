@@ -4,12 +4,14 @@ ghost use Rattle.std.specs.Prelude.{◌≡◌, ◌+◌, ◌<◌, IfOk, All, leng
 ghost use Rattle.std.specs.List.{IsFirstBest};
 ghost use Rattle.nav_base.specs.declared.point.Point.{Point};
 ghost use Rattle.nav_base.specs.Point.{IsCellCorner};
+ghost use Rattle.mesh_types.specs.LinkOrder.{point_cmp};
 ghost use Rattle.mesh_types.specs.Rings.{AreApart};
 ghost use Rattle.mesh_types.specs.Simplified.{is_before, deviates_more, kept_walking, kept_inside};
 ghost use Rattle.contour_simplify.specs.Halves.{IsHalf, IsPart, IsStraight, IsSplit};
 
 use nav_base::{Point, dev, exceeds, less};
 use std::alloc::{AllocError, Global};
+use std::cmp::Ordering;
 
 /// A part of a run as it is walked: its ends, and the corners between them.
 #[derive(Clone, Copy)]
@@ -139,5 +141,12 @@ fn farthest(half: Half<'_>) -> usize
 pub(crate) fn is_before(a: Point, b: Point) -> bool
     ensures { result ≡ is_before a b }
 {
-    a.x.cmp(&b.x).then(a.z.cmp(&b.z)).is_lt()
+    corner_order(&a, &b).is_lt()
+}
+
+/// The order of two corners: by x, then by z.
+pub(crate) fn corner_order(a: &Point, b: &Point) -> Ordering
+    ensures { result ≡ point_cmp a.now b.now }
+{
+    a.x.cmp(&b.x).then(a.z.cmp(&b.z))
 }

@@ -1,8 +1,8 @@
 //! The places of a contour that are kept at first.
 
-ghost use Rattle.std.specs.Prelude.{◌≡◌, ◌<◌, ◌↔◌, IfOk, IsTrue, length, [], ◌∷◌};
-ghost use Rattle.mesh_types.specs.Rings.{beginnings};
-ghost use Rattle.mesh_types.specs.Simplified.{is_same, changes, extremes, kept_places, stops};
+ghost use Rattle.std.specs.Prelude.{◌≡◌, ◌+◌, ◌^◌, ◌<◌, ◌↔◌, IfOk, IsTrue, length, [], ◌∷◌};
+ghost use Rattle.mesh_types.specs.Rings.{IsRing, beginnings};
+ghost use Rattle.mesh_types.specs.Simplified.{is_same, does_change, place_before, changes, extremes, kept_places, stops};
 
 use crate::run::is_before;
 use mesh_types::{Code, UnitEdge};
@@ -10,7 +10,9 @@ use std::alloc::{AllocError, Global};
 
 /// The kept places of a contour in order, and the first of them again, a round later.
 pub(crate) fn stops(alloc: Global, edges: &[UnitEdge]) -> Result<Vec<usize>, AllocError>
-    requires { 0 < length edges.now }
+    requires ring { IsRing edges.now }
+    requires some { 0 < length edges.now }
+    requires few { length edges.now + length edges.now < 2 ^ 64 }
     ensures { IfOk result (λ places. places.items ≡ stops edges.now) }
 {
     let mut places = kept_places(alloc, edges)?;
@@ -40,12 +42,29 @@ fn changes(alloc: Global, edges: &[UnitEdge]) -> Result<Vec<usize>, AllocError>
 {
     let mut places = Vec::new(alloc);
     for place in 0..edges.len() {
-        let before = if place == 0 { edges.len() } else { place } - 1;
-        if !is_same(edges[before].code, edges[place].code) {
+        if does_change(edges, place) {
             places.push(place)?;
         }
     }
     Ok(places)
+}
+
+/// Whether the edge that ends at a place and the edge that begins there have different codes.
+fn does_change(edges: &[UnitEdge], place: usize) -> bool
+    requires { place < length edges.now }
+    ensures { result ≡ does_change edges.now place }
+{
+    let before = place_before(edges.len(), place);
+    !is_same(edges[before].code, edges[place].code)
+}
+
+/// The place before another on the way round.
+fn place_before(count: usize, place: usize) -> usize
+    requires { place < count }
+    ensures value { result ≡ place_before count place }
+    ensures there { result < count }
+{
+    if place == 0 { count - 1 } else { place - 1 }
 }
 
 /// Whether two codes are the same.

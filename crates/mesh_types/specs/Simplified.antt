@@ -1,7 +1,7 @@
 -- Simplified: contours with fewer corners.
-use Rattle.std.specs.Prelude.{ℕ, zero, suc, pos, ◌+◌, ◌-◌, ◌*◌, Bool, true, false, not, nat_lt, ◌==◌, if◌then◌else◌, List, [], ◌∷◌, ◌++◌, length, map, take, drop, get_or, filter, reverse, replicate, min, max}
+use Rattle.std.specs.Prelude.{ℕ, zero, suc, pos, ◌+◌, ◌-◌, ◌*◌, Bool, true, false, not, nat_lt, ◌==◌, if◌then◌else◌, List, [], ◌∷◌, ◌++◌, length, map, take, drop, get_or, filter, reverse, min, max}
 use Rattle.std.specs.List.{prefix_len, list_any, range_with_len, flat_map, slice_range, zip}
-use Rattle.std.specs.Ordering.{is_lt}
+use Rattle.std.specs.Ordering.{is_lt, is_eq}
 use Rattle.nav_base.specs.declared.point.Point.{Point}
 use Rattle.nav_base.specs.declared.deviation.Deviation.{Deviation}
 use Rattle.nav_base.specs.Deviation.{deviation_of}
@@ -18,8 +18,8 @@ abbrev pub is_before : Point → Point → Bool
 is_before a b = is_lt (point_cmp a b)
 
 -- the first place whose element none beats
-unfoldable pub first_best : {X : Type 0} → (X → X → Bool) → List X → ℕ
-first_best beats xs = prefix_len (λ x. list_any (λ y. beats y x) xs) xs
+unfoldable pub first_best_place : {X : Type 0} → (X → X → Bool) → List X → ℕ
+first_best_place beats xs = prefix_len (λ x. list_any (λ y. beats y x) xs) xs
 
 -- p deviates more than q from the segment from a to b
 abbrev pub deviates_more : Point → Point → Point → Point → Bool
@@ -34,7 +34,7 @@ deviates_over error a b p = nat_lt (error * (deviation_of a b p).den) (100 * (de
 unfoldable pub kept_walking : ℕ → ℕ → Point → List Point → Point → List Point
 kept_walking zero error a inner b = []
 kept_walking (suc depth) error a inner b =
-    let place = first_best (deviates_more a b) inner in
+    let place = first_best_place (deviates_more a b) inner in
     let at = get_or inner place a in
     if list_any (deviates_over error a b) inner
     then kept_walking depth error a (take place inner) at ++ at ∷ kept_walking depth error at (drop (place + 1) inner) b
@@ -64,15 +64,19 @@ code_at edges place = (get_or edges place (record { from = origin; to = origin; 
 abbrev pub place_before : ℕ → ℕ → ℕ
 place_before count place = (if place == 0 then count else place) - 1
 
--- the places where the edge that ends and the edge that begins have different codes
+-- the edge that ends at a place and the edge that begins there have different codes
+abbrev pub does_change : List UnitEdge → ℕ → Bool
+does_change edges place = not (is_same (code_at edges (place_before (length edges) place)) (code_at edges place))
+
+-- the places where the code changes
 abbrev pub changes : List UnitEdge → List ℕ
-changes edges = filter (λ place. not (is_same (code_at edges (place_before (length edges) place)) (code_at edges place))) (range_with_len 0 (length edges))
+changes edges = filter (does_change edges) (range_with_len 0 (length edges))
 
 -- the places of the least and of the greatest corner, in order
 abbrev pub extremes : List Point → List ℕ
 extremes corners =
-    let least = first_best is_before corners in
-    let greatest = first_best (λ p q. is_before q p) corners in
+    let least = first_best_place is_before corners in
+    let greatest = first_best_place (λ p q. is_before q p) corners in
     min least greatest ∷ max least greatest ∷ []
 
 -- the places that are kept at first: where the code changes, and those of the least and the greatest corner where it never does
@@ -98,20 +102,29 @@ left_of_run error corners run =
 abbrev pub runs_between : List ℕ → List (ℕ × ℕ)
 runs_between places = zip places (drop 1 places)
 
--- the corners of the outline
-unfoldable pub outline_corners : ℕ → List UnitEdge → List Point
-outline_corners error edges = flat_map (left_of_run error (twice_round edges)) (runs_between (stops edges))
+-- all corners that are kept: those that the runs leave
+unfoldable pub kept_corners : ℕ → List UnitEdge → List Point
+kept_corners error edges = flat_map (left_of_run error (twice_round edges)) (runs_between (stops edges))
 
--- the code of a run for each corner that it leaves
-unfoldable pub codes_of_run : ℕ → List UnitEdge → ℕ × ℕ → List Code
-codes_of_run error edges run = replicate (length (left_of_run error (twice_round edges) run)) (code_at edges run.0)
+-- the codes of edges
+abbrev pub codes_of : List UnitEdge → List Code
+codes_of edges = map (λ (edge : UnitEdge). edge.code) edges
 
--- the codes of the outline
-unfoldable pub outline_codes : ℕ → List UnitEdge → List Code
-outline_codes error edges = flat_map (codes_of_run error edges) (runs_between (stops edges))
+-- the corner is one of these
+abbrev pub is_among : List Point → Point → Bool
+is_among corners corner = list_any (λ other. is_eq (point_cmp other corner)) corners
 
--- the simplified contour: flat where fewer than three corners are left
+-- the edge begins at one of these corners
+abbrev pub begins_among : List Point → UnitEdge → Bool
+begins_among corners edge = is_among corners edge.from
+
+-- the edges that begin at kept corners, in the contour's order
+unfoldable pub kept_edges : ℕ → List UnitEdge → List UnitEdge
+kept_edges error edges = filter (begins_among (kept_corners error edges)) edges
+
+-- The simplified contour: the kept corners in the contour's order, each with the code of the edge that begins there; flat where there are fewer than three.
 unfoldable pub simplified_of : ℕ → List UnitEdge → Simplified
 simplified_of error edges =
-    if nat_lt (length (outline_corners error edges)) 3 then Flat
-    else Outline (record { corners = outline_corners error edges; codes = outline_codes error edges })
+    let kept = kept_edges error edges in
+    if nat_lt (length kept) 3 then Flat
+    else Outline (record { corners = beginnings kept; codes = codes_of kept })

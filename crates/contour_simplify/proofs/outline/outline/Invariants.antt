@@ -1,11 +1,12 @@
 use Rattle.std.proofs.Common.{◌≡◌, take}
-use Rattle.std.specs.List.{flat_map}
-use Rattle.mesh_types.specs.Simplified.{left_of_run, codes_of_run, runs_between}
+use Rattle.std.specs.Prelude.{filter}
+use Rattle.mesh_types.specs.Rings.{beginnings}
+use Rattle.mesh_types.specs.Simplified.{begins_among, codes_of}
 use Rattle.contour_simplify.proofs.outline.outline.Given as goal
 
--- what the runs so far leave
-abbrev pub invariant-loop-run : goal.invariant-loop-run
-invariant-loop-run l = record {
-  corners : l.corners.items ≡ flat_map (left_of_run l.error l.round) (take l.run (runs_between l.stops));
-  codes : l.codes.items ≡ flat_map (codes_of_run l.error l.edges) (take l.run (runs_between l.stops));
+-- the kept edges of those so far
+abbrev pub invariant-loop-edge : goal.invariant-loop-edge
+invariant-loop-edge l = record {
+  corners : l.corners.items ≡ beginnings (filter (begins_among l.kept) (take l.edge-index l.edges));
+  codes : l.codes.items ≡ codes_of (filter (begins_among l.kept) (take l.edge-index l.edges));
 }
