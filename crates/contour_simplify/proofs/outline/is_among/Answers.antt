@@ -7,6 +7,6 @@ use Rattle.contour_simplify.proofs.outline.is_among.Goals as goal
 
 pub returns : goal.returns
 returns c =
-    c.is_ok.ensures
+    c.is_ok.ensures.value
     ∙ found_among c.args.corners.now c.args.corner c.binary_search_by.result c.requires c.binary_search_by.ensures.bound
     (c.binary_search_by.ensures.position (λ (other : Point). point_cmp other c.args.corner) (always_returns_same _ _ _ (λ a r f k. search rules)))
