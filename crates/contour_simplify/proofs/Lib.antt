@@ -7,3 +7,4 @@ pub mod Edges
 pub mod Rising
 pub mod Outlines
 pub mod Searches
+pub mod Literals

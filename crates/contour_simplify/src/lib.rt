@@ -13,5 +13,5 @@ mod stops;
 pub use outline::simplify;
 pub use run::simplify_run;
 
-//
-//mod tests;
+#[cfg(test)]
+mod tests;
