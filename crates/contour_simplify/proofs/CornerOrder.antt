@@ -1,6 +1,6 @@
 -- The order of corners: by x, then by z.
-use Rattle.std.proofs.Common.{◌≡◌, Bool, true, false, ap, ◌∙◌, sym, refl, ℤ}
-use Rattle.std.specs.Ordering.{is_lt, int_cmp, ordering_then, ordering_reverse, on}
+use Rattle.std.proofs.Common.{◌≡◌, false, ap, ◌∙◌, sym, refl, ℤ}
+use Rattle.std.specs.Ordering.{int_cmp, ordering_then, ordering_reverse, on}
 use Rattle.std.specs.declared.cmp.Ordering.{Ordering}
 use Rattle.std.specs.declared.cmp.Ordering.TheVariants.{Less, Equal, Greater}
 use Rattle.std.specs.Cmp.{IsStrictWeakOrder, IsTotalOrder}

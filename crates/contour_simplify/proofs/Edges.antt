@@ -1,5 +1,5 @@
 -- Loops over the edges of a contour.
-use Rattle.std.proofs.Common.{◌≡◌, ℕ, ◌+◌, ◌<◌, Bool, true, false, cond, List, [], ◌∷◌, ◌++◌, length, get_or, map, arith, refl, sym, ap, ◌∙◌}
+use Rattle.std.proofs.Common.{◌≡◌, ℕ, ◌+◌, ◌<◌, Bool, true, false, cond, List, [], ◌∷◌, ◌++◌, length, get_or, arith, sym, ap, ◌∙◌}
 use Rattle.std.specs.Prelude.{filter}
 use Rattle.std.specs.List.{IsFirstBest, range_with_len}
 use Rattle.std.specs.Cmp.{IsStrictWeakOrder}
@@ -9,7 +9,6 @@ use Rattle.std.proofs.lemmas.List.MinMax.{IsFirstBest-keeps, IsFirstBest-takes}
 use Rattle.nav_base.specs.declared.point.Point.{Point}
 use Rattle.mesh_types.specs.declared.region.UnitEdge.{UnitEdge}
 use Rattle.mesh_types.specs.Rings.{beginnings}
-use Rattle.contour_simplify.proofs.Bests.{best_is}
 
 place_next : (p : ℕ → Bool) (place : ℕ) → filter p (range_with_len 0 (place + 1)) ≡ filter p (range_with_len 0 place) ++ cond (p place) (place ∷ []) []
 place_next p place =

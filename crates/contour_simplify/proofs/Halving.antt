@@ -60,9 +60,13 @@ halved error a inner b place d is best =
     let there : place < length inner = omega (arith, best, split_there error a inner b is) in
     let size : length (take place inner) ≡ place = length-take-le place inner (omega (arith, there)) in
     enough error (length inner) (suc (length inner)) a inner b (omega arith) (omega arith)
-    ∙ rw (is, best, get_or_default inner place a d there,
-        enough error (length inner) (length (take place inner)) a (take place inner) (get_or inner place d) (omega (arith, there, size)) (omega arith),
-        enough error (length inner) (length (drop (place + 1) inner)) (get_or inner place d) (drop (place + 1) inner) b (omega (arith, length-drop (place + 1) inner)) (omega arith)) refl
+    ∙ rw (
+      is,
+      best,
+      get_or_default inner place a d there,
+      enough error (length inner) (length (take place inner)) a (take place inner) (get_or inner place d) (omega (arith, there, size)) (omega arith),
+      enough error (length inner) (length (drop (place + 1) inner)) (get_or inner place d) (drop (place + 1) inner) b (omega (arith, length-drop (place + 1) inner)) (omega arith),
+    ) refl
 
 straight : (error : ℕ) (a : Point) (inner : List Point) (b : Point) → list_any (deviates_over error a b) inner ≡ false → whole error a inner b ≡ []
 unfolding kept_walking
@@ -106,8 +110,14 @@ pub smaller : (half before after : Half) (place : ℕ) (a b : Point) → place <
     → IsPart before half.first (take place half.inner.now) a → IsPart after b (drop (place + 1) half.inner.now) half.last
     → size_of before + size_of after < size_of half
 smaller half before after place a b there first second =
-    omega (arith, there, ap (λ (ps : List Point). length ps) first.between, ap (λ (ps : List Point). length ps) second.between,
-    length-take-le place half.inner.now (omega (arith, there)), length-drop (place + 1) half.inner.now)
+    omega (
+      arith,
+      there,
+      ap (λ (ps : List Point). length ps) first.between,
+      ap (λ (ps : List Point). length ps) second.between,
+      length-take-le place half.inner.now (omega (arith, there)),
+      length-drop (place + 1) half.inner.now,
+    )
 
 -- the corners of a half are corners of the half that is split
 part_corners : (part : Half) (a : Point) (inner : List Point) (b : Point) → IsPart part a inner b → IsCellCorner a → All IsCellCorner inner → IsCellCorner b → IsHalf part
@@ -126,10 +136,10 @@ pub walked_split : (error : ℕ) (kept : List Point) (rest : List Half) (half be
 walked_split error kept rest half before after place d all told is first second =
     let left : List Half → List Point = flat_map (left_of error) in
     ap (λ ps. kept ++ ps) (top_first (left_of error) (rest ++ after ∷ []) before
-        ∙ ap (λ ps. left_of error before ++ ps) (top_first (left_of error) rest after)
-        ∙ sym (append_assoc (left_of error before) (left_of error after) (left (reverse rest)))
-        ∙ ap (λ ps. ps ++ left (reverse rest)) (sym (left_split error half before after place d is first second))
-        ∙ sym (top_first (left_of error) rest half))
+    ∙ ap (λ ps. left_of error before ++ ps) (top_first (left_of error) rest after)
+    ∙ sym (append_assoc (left_of error before) (left_of error after) (left (reverse rest)))
+    ∙ ap (λ ps. ps ++ left (reverse rest)) (sym (left_split error half before after place d is first second))
+    ∙ sym (top_first (left_of error) rest half))
     ∙ told
 
 -- a half is taken from the stack, and its last corner is kept

@@ -1,5 +1,5 @@
 -- Rings that are written out: tests by computation show that they are rings.
-use Rattle.std.proofs.Common.{◌≡◌, Bool, true, false, List, [], ◌∷◌, length, arith, ap, ◌∙◌, sym, refl, pos}
+use Rattle.std.proofs.Common.{◌≡◌, Bool, true, List, [], ◌∷◌, arith, ap, ◌∙◌, sym, pos}
 use Rattle.std.specs.Prelude.{All, not, ◌&&◌, take, drop, ◌++◌}
 use Rattle.std.specs.List.{AllPairs, list_all}
 use Rattle.std.specs.Ordering.{is_eq}

@@ -1,7 +1,7 @@
 -- A run keeps the same corners from both of its sides.
-use Rattle.std.proofs.Common.{◌≡◌, ℕ, Bool, true, false, List, length, ap, ◌∙◌, sym, refl}
+use Rattle.std.proofs.Common.{◌≡◌, ℕ, Bool, true, false, List, length, refl}
 use Rattle.std.specs.Prelude.{reverse, if◌then◌else◌}
-use Rattle.std.proofs.lemmas.Bool.{both_ways, true_from_ne_false}
+use Rattle.std.proofs.lemmas.Bool.{both_ways}
 use Rattle.std.proofs.lemmas.List.{length-reverse, reverse-reverse}
 use Rattle.nav_base.specs.declared.point.Point.{Point}
 use Rattle.mesh_types.specs.Rings.{AreApart}

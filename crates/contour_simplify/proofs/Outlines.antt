@@ -1,10 +1,10 @@
 -- Outlines: what the runs leave, one after the other.
-use Rattle.std.proofs.Common.{◌≡◌, ℕ, ◌+◌, ◌-◌, ◌<◌, ◌≤◌, Bool, true, false, List, [], ◌∷◌, ◌++◌, length, get_or, map, take, drop, arith, refl, sym, subst, ap, ◌∙◌}
+use Rattle.std.proofs.Common.{◌≡◌, ℕ, ◌+◌, ◌-◌, ◌<◌, ◌≤◌, Bool, true, false, List, [], ◌∷◌, ◌++◌, length, get_or, take, drop, arith, refl, sym, ap, ◌∙◌}
 use Rattle.std.specs.Prelude.{All, nat_lt, if◌then◌else◌, ◌↔◌, filter}
 use Rattle.std.specs.List.Sorted.{IsPermutation}
 use Rattle.std.specs.Ordering.{is_eq}
-use Rattle.std.specs.List.{flat_map, zip}
-use Rattle.std.proofs.lemmas.Bool.{le-ltb, lt-ltb, ltb-true, ltb-false}
+use Rattle.std.specs.List.{flat_map}
+use Rattle.std.proofs.lemmas.Bool.{ltb-true, ltb-false}
 use Rattle.std.proofs.lemmas.List.{take_more, take_all, length-drop, length-map, get_or-drop, append-nil}
 use Rattle.std.proofs.lemmas.List.Concat.{flat_map-append}
 use Rattle.std.proofs.lemmas.List.Elements.{All-append, filter_agree}
@@ -33,9 +33,13 @@ runs_more f stops run done next there before is =
     let pair : get_or (runs_between stops) run (0, 0) ≡ (get_or stops run 0, get_or stops (run + 1) 0) =
     get_or-zip stops (drop 1 stops) run (0, 0) (omega (arith, there)) (omega (arith, there, length-drop 1 stops)) ∙ ap (λ (k : ℕ). (get_or stops run 0, k)) rest in
     is
-    ∙ rw (before, take_more (runs_between stops) run (0, 0) (omega (arith, there, runs_count stops)), pair,
-        flat_map-append f (take run (runs_between stops)) ((get_or stops run 0, get_or stops (run + 1) 0) ∷ []),
-        append-nil (f (get_or stops run 0, get_or stops (run + 1) 0))) refl
+    ∙ rw (
+      before,
+      take_more (runs_between stops) run (0, 0) (omega (arith, there, runs_count stops)),
+      pair,
+      flat_map-append f (take run (runs_between stops)) ((get_or stops run 0, get_or stops (run + 1) 0) ∷ []),
+      append-nil (f (get_or stops run 0, get_or stops (run + 1) 0)),
+    ) refl
 
 -- all runs
 pub runs_all : (stops : List ℕ) (run : ℕ) → length stops - 1 ≤ run → take run (runs_between stops) ≡ runs_between stops

@@ -1,10 +1,10 @@
 -- The places that are kept at first: they rise.
-use Rattle.std.proofs.Common.{◌≡◌, ℕ, zero, suc, ◌+◌, ◌<◌, ◌≤◌, ◌⊎◌, inl, inr, Bool, true, false, List, [], ◌∷◌, ◌++◌, length, get_or, map, take, drop, arith, refl, sym, subst, ap, ◌∙◌}
-use Rattle.std.specs.Prelude.{All, filter, min, max, if◌then◌else◌, ◌==◌}
+use Rattle.std.proofs.Common.{◌≡◌, ℕ, ◌+◌, ◌<◌, inl, inr, Bool, true, false, List, [], ◌∷◌, ◌++◌, length, get_or, map, take, arith, refl, sym, ap, ◌∙◌}
+use Rattle.std.specs.Prelude.{All, min, max, if◌then◌else◌, ◌==◌}
 use Rattle.std.specs.List.{AllPairs, range_with_len, list_any}
 use Rattle.std.specs.Cmp.{IsStrictWeakOrder}
-use Rattle.std.proofs.lemmas.Bool.{cases_order, cases_lt, both_ways, eqb-false, eqb-true}
-use Rattle.std.proofs.lemmas.List.{get_or-map, length-map, get_or_default, get_or_append_left, length_push, get_or_push, length-append}
+use Rattle.std.proofs.lemmas.Bool.{cases_order, cases_lt, both_ways, eqb-false}
+use Rattle.std.proofs.lemmas.List.{length-map, get_or_append_left, length_push, get_or_push, length-append}
 use Rattle.std.proofs.lemmas.List.Elements.{All-filter, All-cons, All-nil}
 use Rattle.std.proofs.lemmas.List.Kept.{AllPairs-filter}
 use Rattle.std.proofs.lemmas.List.Folds.{list_any_at}
@@ -13,7 +13,7 @@ use Rattle.std.proofs.lemmas.List.MinMax.{IsStrictWeakOrder-flip}
 use Rattle.std.proofs.lemmas.List.Sums.{prefix_len_stops}
 use Rattle.nav_base.specs.declared.point.Point.{Point}
 use Rattle.mesh_types.specs.declared.region.UnitEdge.{UnitEdge}
-use Rattle.mesh_types.specs.Rings.{IsRing, AreApart, beginnings, endings}
+use Rattle.mesh_types.specs.Rings.{IsRing, beginnings}
 use Rattle.mesh_types.specs.Simplified.{is_before, first_best_place, does_change, changes, extremes, kept_places, stops, twice_round, origin}
 use Rattle.contour_simplify.specs.Rounds.{AreStops}
 use Rattle.contour_simplify.proofs.Bests.{best_there}

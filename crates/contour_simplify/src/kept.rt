@@ -45,7 +45,14 @@ pub(crate) fn kept_corners(
 {
     let mut corners = Vec::new(alloc);
     for run in 0..stops.len() - 1 {
-        push_run(alloc, &mut corners, round, stops[run], stops[run + 1], error)?;
+        push_run(
+            alloc,
+            &mut corners,
+            round,
+            stops[run],
+            stops[run + 1],
+            error,
+        )?;
     }
     Ok(corners)
 }

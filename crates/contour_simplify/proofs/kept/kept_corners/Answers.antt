@@ -1,4 +1,4 @@
-use Rattle.std.proofs.Common.{◌≡◌, ◌+◌, ◌<◌, ◌∙◌, ap, List, length, arith}
+use Rattle.std.proofs.Common.{◌+◌, ◌<◌, ◌∙◌, ap, length, arith}
 use Rattle.std.specs.List.{flat_map}
 use Rattle.mesh_types.specs.Simplified.{left_of_run}
 use Rattle.contour_simplify.proofs.Outlines.{runs_more, runs_all}

@@ -1,4 +1,4 @@
-use Rattle.std.proofs.Common.{◌≡◌, ℕ, ◌+◌, ◌∙◌, ap, sym, subst, length, get_or}
+use Rattle.std.proofs.Common.{ℕ, ◌+◌, ◌∙◌, ap, sym, subst, get_or}
 use Rattle.std.specs.List.{IsFirstBest}
 use Rattle.std.proofs.lemmas.Bool.{iff_false}
 use Rattle.nav_base.specs.declared.point.Point.{Point}

@@ -1,4 +1,4 @@
-use Rattle.std.proofs.Common.{◌≡◌, length, get_or}
+use Rattle.std.proofs.Common.{◌≡◌, get_or}
 use Rattle.std.specs.List.{IsFirstBest}
 use Rattle.nav_base.specs.Deviation.{deviation_of}
 use Rattle.mesh_types.specs.Simplified.{origin, deviates_more}

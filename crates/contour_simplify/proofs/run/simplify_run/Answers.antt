@@ -13,7 +13,7 @@ returns-then-is_before-clause-value c =
 pub returns-then-is_before-clause-mirrored : goal.returns-then-is_before-clause-mirrored
 returns-then-is_before-clause-mirrored c =
     IfOk-weaker c.walk.result _ _ (λ kept is apart. mirrored c.args.error c.args.first c.args.inner.now c.args.last apart
-        ∙ ap reverse (sym (is ∙ kept_forth c.args.error c.args.first c.args.inner.now c.args.last (sym c.is_before.ensures ∙ c.if-is_before.true)))) c.walk.ensures
+    ∙ ap reverse (sym (is ∙ kept_forth c.args.error c.args.first c.args.inner.now c.args.last (sym c.is_before.ensures ∙ c.if-is_before.true)))) c.walk.ensures
 
 -- what is kept on the way back, turned round, is kept of the run
 pub returns-clause-value : goal.returns-clause-value

@@ -1,4 +1,4 @@
-use Rattle.std.proofs.Common.{◌≡◌, subst}
+use Rattle.std.proofs.Common.{subst}
 use Rattle.std.proofs.lemmas.Bool.{iff_false}
 use Rattle.nav_base.specs.declared.deviation.Deviation.{Deviation}
 use Rattle.nav_base.specs.Deviation.{Exceeds}

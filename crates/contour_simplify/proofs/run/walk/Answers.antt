@@ -1,9 +1,7 @@
-use Rattle.std.proofs.Common.{◌≡◌, ◌∙◌, ap, sym, List, [], ◌∷◌, ◌++◌, length}
-use Rattle.std.specs.Prelude.{All}
+use Rattle.std.proofs.Common.{◌≡◌, ◌∙◌, ap, List, [], ◌∷◌, ◌++◌, length}
 use Rattle.nav_base.specs.declared.point.Point.{Point}
 use Rattle.mesh_types.specs.Simplified.{origin, kept_walking}
 use Rattle.contour_simplify.specs.declared.run.Half.{Half}
-use Rattle.contour_simplify.specs.Halves.{IsHalf}
 use Rattle.contour_simplify.proofs.Halving.{smaller, less_on_stack, walked_split, walked_straight, parts_corners, rest_of}
 use Rattle.contour_simplify.proofs.run.walk.Goals as goal
 

@@ -1,8 +1,7 @@
-use Rattle.std.proofs.Common.{◌≡◌, List, [], ◌∷◌, ◌++◌, length, ◌+◌, ◌*◌}
+use Rattle.std.proofs.Common.{◌≡◌, [], ◌∷◌, ◌++◌, length}
 use Rattle.std.specs.Prelude.{All, reverse}
 use Rattle.std.specs.List.{flat_map, sum_by}
 use Rattle.mesh_types.specs.Simplified.{kept_walking}
-use Rattle.contour_simplify.specs.declared.run.Half.{Half}
 use Rattle.contour_simplify.specs.Halves.{IsHalf}
 use Rattle.contour_simplify.proofs.Halving.{left_of, size_of}
 use Rattle.contour_simplify.proofs.run.walk.Given as goal

@@ -1,4 +1,4 @@
-use Rattle.std.proofs.Common.{◌≡◌, ℕ, ◌∙◌, ap, sym}
+use Rattle.std.proofs.Common.{ℕ, ◌∙◌, ap, sym}
 use Rattle.std.specs.Global.{Vec}
 use Rattle.mesh_types.specs.Simplified.{does_change}
 use Rattle.contour_simplify.proofs.Edges.{place_more, place_less}

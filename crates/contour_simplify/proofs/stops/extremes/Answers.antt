@@ -1,6 +1,5 @@
-use Rattle.std.proofs.Common.{◌≡◌, ℕ, ◌+◌, ◌∙◌, ap, sym, subst, refl, length, List, [], ◌∷◌, arith}
+use Rattle.std.proofs.Common.{◌≡◌, ℕ, ◌+◌, ◌∙◌, sym, subst, refl, length, List, arith}
 use Rattle.std.specs.List.{IsFirstBest}
-use Rattle.std.specs.Prelude.{min, max}
 use Rattle.mesh_types.specs.Rings.{beginnings}
 use Rattle.mesh_types.specs.declared.region.UnitEdge.{UnitEdge}
 use Rattle.mesh_types.specs.Simplified.{is_before, origin}
@@ -41,5 +40,5 @@ returns c =
     omega (arith, c.requires, c.loop-place-test.false, c.loop-place.auto.place-end, length-map c.args.edges.now (λ (edge : UnitEdge). edge.from)) in
     let least = best_is is_before corners c.loop-place.least origin (subst (λ (n : ℕ). IsFirstBest is_before corners n c.loop-place.least) end c.loop-place.invariant.least) in
     let greatest = best_is (λ p q. is_before q p) corners c.loop-place.greatest origin
-        (subst (λ (n : ℕ). IsFirstBest (λ p q. is_before q p) corners n c.loop-place.greatest) end c.loop-place.invariant.greatest) in
+    (subst (λ (n : ℕ). IsFirstBest (λ p q. is_before q p) corners n c.loop-place.greatest) end c.loop-place.invariant.greatest) in
     rw (c.min.ensures, c.max.ensures, least, greatest) refl

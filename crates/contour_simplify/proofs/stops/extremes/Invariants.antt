@@ -1,4 +1,3 @@
-use Rattle.std.proofs.Common.{◌≡◌}
 use Rattle.std.specs.List.{IsFirstBest}
 use Rattle.mesh_types.specs.Rings.{beginnings}
 use Rattle.mesh_types.specs.Simplified.{is_before}

@@ -1,4 +1,4 @@
-use Rattle.std.proofs.Common.{◌≡◌, ℕ, ◌+◌, ◌<◌, ◌∙◌, ap, sym, List, [], ◌∷◌, ◌++◌, length, get_or, arith}
+use Rattle.std.proofs.Common.{ℕ, ◌+◌, ◌∙◌, ap, sym, List, [], ◌∷◌, ◌++◌, length, get_or, arith}
 use Rattle.mesh_types.specs.Simplified.{kept_places, stops}
 use Rattle.contour_simplify.proofs.Rising.{places_kept, again}
 use Rattle.contour_simplify.proofs.stops.stops.Goals as goal
@@ -23,4 +23,4 @@ returns c =
     c.in_ok-push.ensures.items
     ∙ ap (λ (ks : List ℕ). ks ++ (d + count) ∷ []) c.in_ok-places.ensures
     ∙ ap (λ (last : List ℕ). places ++ last) (ap (λ (k : ℕ). (k + count) ∷ []) (c.index.ensures ∙ ap (λ (ks : List ℕ). get_or ks 0 d) c.in_ok-places.ensures)
-        ∙ sym (again count places d kept.some))
+    ∙ sym (again count places d kept.some))

@@ -1,4 +1,4 @@
-use Rattle.std.proofs.Common.{◌≡◌, subst, sym, refl}
+use Rattle.std.proofs.Common.{subst, sym, refl}
 use Rattle.mesh_types.specs.Rings.{IsRing}
 use Rattle.contour_simplify.proofs.Literals.{IsRing-shown}
 use Rattle.contour_simplify.proofs.tests.cell.Goals as goal
