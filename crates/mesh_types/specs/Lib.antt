@@ -15,3 +15,4 @@ pub mod Taut
 pub mod Floors
 pub mod Right
 pub mod Rings
+pub mod Simplified

@@ -1,0 +1,10 @@
+pub mod Bests
+pub mod Deviations
+pub mod CornerOrder
+pub mod Mirrored
+pub mod Halving
+pub mod Edges
+pub mod Rising
+pub mod Outlines
+pub mod Searches
+pub mod Literals

@@ -1,0 +1,88 @@
+-- Outlines: what the runs leave, one after the other.
+use Rattle.std.proofs.Common.{◌≡◌, ℕ, ◌+◌, ◌-◌, ◌<◌, ◌≤◌, Bool, true, false, List, [], ◌∷◌, ◌++◌, length, get_or, take, drop, arith, refl, sym, ap, ◌∙◌}
+use Rattle.std.specs.Prelude.{All, nat_lt, if◌then◌else◌, ◌↔◌, filter}
+use Rattle.std.specs.List.Sorted.{IsPermutation}
+use Rattle.std.specs.Ordering.{is_eq}
+use Rattle.std.specs.List.{flat_map}
+use Rattle.std.proofs.lemmas.Bool.{ltb-true, ltb-false}
+use Rattle.std.proofs.lemmas.List.{take_more, take_all, length-drop, length-map, get_or-drop, append-nil}
+use Rattle.std.proofs.lemmas.List.Concat.{flat_map-append}
+use Rattle.std.proofs.lemmas.List.Elements.{All-append, filter_agree}
+use Rattle.std.proofs.lemmas.List.Sorted.{list_any-IsPermutation}
+use Rattle.std.proofs.lemmas.Slice.Zip.{length-zip, get_or-zip}
+use Rattle.nav_base.specs.declared.point.Point.{Point}
+use Rattle.nav_base.specs.Point.{IsCellCorner}
+use Rattle.mesh_types.specs.declared.region.UnitEdge.{UnitEdge}
+use Rattle.mesh_types.specs.declared.region.Code.{Code}
+use Rattle.mesh_types.specs.declared.outline.Simplified.{Simplified}
+use Rattle.mesh_types.specs.declared.outline.Outline as outlines
+use Rattle.mesh_types.specs.declared.outline.Simplified.TheVariants.{Flat, Outline}
+use Rattle.mesh_types.specs.Rings.{IsRing, beginnings}
+use Rattle.mesh_types.specs.LinkOrder.{point_cmp}
+use Rattle.mesh_types.specs.Simplified.{runs_between, twice_round, kept_corners, kept_edges, begins_among, codes_of, simplified_of}
+
+runs_count : (stops : List ℕ) → length (runs_between stops) ≡ length stops - 1
+runs_count stops = omega (arith, length-zip stops (drop 1 stops), length-drop 1 stops)
+
+-- one run more
+pub runs_more : {Y : Type 0} (f : ℕ × ℕ → List Y) (stops : List ℕ) (run : ℕ) (done next : List Y) → run + 1 < length stops
+    → done ≡ flat_map f (take run (runs_between stops)) → next ≡ done ++ f (get_or stops run 0, get_or stops (run + 1) 0)
+    → next ≡ flat_map f (take (run + 1) (runs_between stops))
+runs_more f stops run done next there before is =
+    let rest : get_or (drop 1 stops) run 0 ≡ get_or stops (run + 1) 0 = get_or-drop 1 stops run 0 ∙ ap (λ (k : ℕ). get_or stops k 0) {x = 1 + run} {y = run + 1} (omega arith) in
+    let pair : get_or (runs_between stops) run (0, 0) ≡ (get_or stops run 0, get_or stops (run + 1) 0) =
+    get_or-zip stops (drop 1 stops) run (0, 0) (omega (arith, there)) (omega (arith, there, length-drop 1 stops)) ∙ ap (λ (k : ℕ). (get_or stops run 0, k)) rest in
+    is
+    ∙ rw (
+      before,
+      take_more (runs_between stops) run (0, 0) (omega (arith, there, runs_count stops)),
+      pair,
+      flat_map-append f (take run (runs_between stops)) ((get_or stops run 0, get_or stops (run + 1) 0) ∷ []),
+      append-nil (f (get_or stops run 0, get_or stops (run + 1) 0)),
+    ) refl
+
+-- all runs
+pub runs_all : (stops : List ℕ) (run : ℕ) → length stops - 1 ≤ run → take run (runs_between stops) ≡ runs_between stops
+runs_all stops run end = take_all run (runs_between stops) (omega (arith, end, runs_count stops))
+
+-- nothing is left of no contour
+pub nothing_left : (error : ℕ) (edges : List UnitEdge) → length edges ≡ 0 → Flat ≡ simplified_of error edges
+unfolding simplified_of kept_edges
+nothing_left error [] none = refl
+nothing_left error (edge ∷ edges) none = absurd (omega (arith, none))
+
+-- flat exactly where fewer than three corners are left
+flat_exactly : (error : ℕ) (edges : List UnitEdge) → (simplified_of error edges ≡ Flat) ↔ (length (kept_edges error edges) < 3)
+unfolding simplified_of
+flat_exactly error edges =
+    by_case (nat_lt (length (kept_edges error edges)) 3) refl
+  where
+    by_case : (test : Bool) → nat_lt (length (kept_edges error edges)) 3 ≡ test
+        → ((if test then Flat else Outline (record { corners = beginnings (kept_edges error edges); codes = codes_of (kept_edges error edges) })) ≡ Flat) ↔ (length (kept_edges error edges) < 3)
+    by_case true is = ((λ _. ltb-true (length (kept_edges error edges)) 3 is), (λ _. refl))
+    by_case false is = ((λ same. absurd cc), (λ few. absurd (omega (arith, few, ltb-false (length (kept_edges error edges)) 3 is))))
+
+pub flat_if : (error : ℕ) (edges : List UnitEdge) (simplified : Simplified) → simplified ≡ simplified_of error edges
+    → (simplified ≡ Flat) ↔ (length (kept_edges error edges) < 3)
+flat_if error edges simplified is = (λ flat. (flat_exactly error edges).0 (sym is ∙ flat), λ few. is ∙ (flat_exactly error edges).1 few)
+
+-- what is made of the outline's parts
+pub simplified_is : (error : ℕ) (edges : List UnitEdge) (outline : outlines.Outline) → outline.corners ≡ beginnings (kept_edges error edges) → outline.codes ≡ codes_of (kept_edges error edges)
+    → (if nat_lt (length outline.corners) 3 then Flat else Outline outline) ≡ simplified_of error edges
+unfolding simplified_of
+simplified_is error edges outline corners codes =
+    ap (λ (ps : List Point). if nat_lt (length ps) 3 then Flat else Outline (record { corners = ps; codes = outline.codes })) corners
+    ∙ ap (λ (cs : List Code). if nat_lt (length (beginnings (kept_edges error edges))) 3 then Flat else Outline (record { corners = beginnings (kept_edges error edges); codes = cs })) codes
+    ∙ ap (λ (n : ℕ). if nat_lt n 3 then Flat else Outline (record { corners = beginnings (kept_edges error edges); codes = codes_of (kept_edges error edges) }))
+    (length-map (kept_edges error edges) (λ (edge : UnitEdge). edge.from))
+
+-- the kept corners in another order
+pub same_among : (error : ℕ) (edges : List UnitEdge) (sorted : List Point) → IsPermutation (kept_corners error edges) sorted
+    → filter (begins_among sorted) edges ≡ kept_edges error edges
+unfolding kept_edges
+same_among error edges sorted same =
+    filter_agree (begins_among sorted) (begins_among (kept_corners error edges))
+    (λ (edge : UnitEdge). sym (list_any-IsPermutation (λ (other : Point). is_eq (point_cmp other edge.from)) (kept_corners error edges) sorted same)) edges
+
+pub corners_inside : (edges : List UnitEdge) → IsRing edges → All IsCellCorner (twice_round edges)
+corners_inside edges ring = All-append IsCellCorner (beginnings edges) (beginnings edges) ring.inside ring.inside
