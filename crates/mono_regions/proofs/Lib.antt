@@ -6,3 +6,9 @@ pub mod Owners
 pub mod RunLaws
 pub mod Named
 pub mod StripLaws
+pub mod Scans
+pub mod Touches
+pub mod JoinLaws
+pub mod Tabled
+pub mod Upon
+pub mod Following

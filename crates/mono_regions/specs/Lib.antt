@@ -1,2 +1,4 @@
 pub mod Lists
 pub mod Indices
+pub mod Seeing
+pub mod Joining
