@@ -31,7 +31,7 @@ named_some t (Some u) named = ap (λ (n : ℕ). Some n) (eqb-true u t named)
 pub same_number : (a b : ℕ) → Some a ≡ Some b → a ≡ b
 same_number a b e = eqb-true a b (ap (names b) e ∙ eq-eqb b b refl)
 
-one_alone : (seen : Seen) (t u : ℕ) → is_one t seen ≡ true → is_one u seen ≡ true → u ≡ t
+pub one_alone : (seen : Seen) (t u : ℕ) → is_one t seen ≡ true → is_one u seen ≡ true → u ≡ t
 one_alone Nothing t u first second = absurd (both_ways false refl first)
 one_alone (One v) t u first second = sym (eqb-true v u second) ∙ eqb-true v t first
 one_alone Several t u first second = absurd (both_ways false refl first)

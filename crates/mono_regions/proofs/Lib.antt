@@ -12,3 +12,6 @@ pub mod JoinLaws
 pub mod Tabled
 pub mod Upon
 pub mod Following
+pub mod Gathered
+pub mod Stacks
+pub mod Held

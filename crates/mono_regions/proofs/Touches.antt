@@ -41,7 +41,7 @@ pub strip_indices : (cells : List Cell) → IsCells cells → (s : ℕ) → s < 
 strip_indices cells rules' s there = runs_indices cells rules' s [] (omega (arith, there, strip_count cells))
 
 -- a cell stands in a strip exactly where that is its own
-held_by : (cells : List Cell) → IsCut cells → (n t : ℕ) → n < length cells → t < length (index_runs cells)
+pub held_by : (cells : List Cell) → IsCut cells → (n t : ℕ) → n < length cells → t < length (index_runs cells)
     → has_index n (indices_of cells t) ≡ (owner_of cells n == t)
 held_by cells cut n t inside there = same_test _ _
     (λ h.
