@@ -12,11 +12,11 @@ use Rattle.nav_ground.specs.Cells.{IsCut}
 use Rattle.nav_ground.proofs.Found.{find_none}
 use Rattle.cell_table.proofs.Places.{same_test}
 use Rattle.mesh_types.specs.StripMeshes.{strip_runs}
-use Rattle.mesh_types.specs.Regions.{numbers, joins}
+use Rattle.mesh_types.specs.Regions.{numbers, joins, begins_region}
 use Rattle.mono_regions.specs.declared.seen.Seen.{Seen}
 use Rattle.mono_regions.specs.declared.seen.Seen.TheVariants.{Nothing, One, Several}
-use Rattle.mono_regions.specs.Seeing.{beyond, seen_with, is_one}
-use Rattle.mono_regions.specs.Joining.{indices_of, touched_from, joined_from, names}
+use Rattle.mono_regions.specs.Seeing.{beyond, seen_with, is_one, IsSeenAmong}
+use Rattle.mono_regions.specs.Joining.{indices_of, touched_from, joined_from, is_unjoined, names}
 use Rattle.mono_regions.proofs.Found.{position_only}
 use Rattle.mono_regions.proofs.Scans.{any_where, is_alone, seen_alone}
 use Rattle.mono_regions.proofs.Owners.{run_count, few_firsts}
@@ -156,3 +156,17 @@ number_of f table n k d are there is = sym (ap (λ xs. get_or xs k d) are ∙ ge
 pub strips_few : (cells : List Cell) → IsCut cells → length (strip_runs cells) ≤ 2000000
 strips_few cells cut =
     omega (arith, strip_count cells, run_count cells, few_firsts cells (length cells), cut.rules.few)
+
+-- so a region begins at it
+pub begins_is : (cells : List Cell) → IsCut cells → (joined : List (Option ℕ)) (seen : Seen) (t : ℕ) → joined ≡ map (joined_from (strip_runs cells)) (numbers (strip_runs cells))
+    → t < length (strip_runs cells) → touched_from cells 3 t ≡ seen → is_unjoined joined t seen ≡ begins_region (strip_runs cells) t
+begins_is cells cut joined Nothing t are there is = ap not (sym (begins_unseen cells cut t there (λ s. ap (is_one s) is)))
+begins_is cells cut joined (One r) t are there is =
+    let small = one_small cells 3 t r is in
+    ap not (ap (names t) (sym (number_of (joined_from (strip_runs cells)) joined _ r None are small refl)) ∙ begins_one cells cut r t there is)
+begins_is cells cut joined Several t are there is = ap not (sym (begins_unseen cells cut t there (λ s. ap (is_one s) is)))
+
+pub seen_among : (cells : List Cell) (dir t count : ℕ) (seen : Seen) → touched_from cells dir t ≡ seen → count ≡ length (strip_runs cells) → IsSeenAmong count seen
+seen_among cells dir t count Nothing is many = tt
+seen_among cells dir t count (One u) is many = omega (arith, one_small cells dir t u is, many)
+seen_among cells dir t count Several is many = tt

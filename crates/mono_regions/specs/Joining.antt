@@ -1,5 +1,5 @@
 -- Strips by their numbers: what each touches, and which it joins.
-use Rattle.std.specs.Prelude.{◌≡◌, ℕ, ◌+◌, ◌&&◌, ◌||◌, not, Bool, false, nat_le, ◌==◌, List, [], length, map, get_or, slice_index, Option, Some, None}
+use Rattle.std.specs.Prelude.{◌≡◌, ℕ, ◌+◌, ◌&&◌, ◌||◌, not, Bool, true, false, nat_le, ◌==◌, List, [], length, map, get_or, slice_index, Option, Some, None}
 use Rattle.std.specs.List.{find, range_with_len}
 use Rattle.std.specs.Option.{option_map_or}
 use Rattle.nav_ground.specs.declared.cell.Cell.{Cell}
@@ -8,6 +8,7 @@ use Rattle.cell_table.specs.Table.{neighbour_table}
 use Rattle.mesh_types.specs.Regions.{numbers, joins}
 use Rattle.mono_regions.specs.declared.strip_table.StripTable.{StripTable}
 use Rattle.mono_regions.specs.declared.seen.Seen.{Seen}
+use Rattle.mono_regions.specs.declared.seen.Seen.TheVariants.{Nothing, One, Several}
 use Rattle.mono_regions.specs.Indices.{cell_at, index_runs, owner_of}
 use Rattle.mono_regions.specs.Seeing.{beyond, touched_by}
 
@@ -46,3 +47,9 @@ is_fitting cells t over i = names t (beyond cells 1 i) || not (is_over cells (ce
 -- the strips of cells with some indices have one area
 abbrev pub has_area_of : List Cell → List ℕ → List ℕ → Bool
 has_area_of cells over run = (cell_at cells (slice_index run 0)).area == (cell_at cells (slice_index over 0)).area
+
+-- no strip joins the strip t, of which it is known what it touches below
+abbrev pub is_unjoined : List (Option ℕ) → ℕ → Seen → Bool
+is_unjoined joined t Nothing = true
+is_unjoined joined t (One s) = not (names t (get_or joined s None))
+is_unjoined joined t Several = true

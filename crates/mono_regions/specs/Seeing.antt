@@ -1,5 +1,5 @@
 -- What strips a strip touches, cell by cell.
-use Rattle.std.specs.Prelude.{ℕ, Bool, false, true, ◌==◌, ◌&&◌, if◌then◌else◌, List, map, Option, Some, None}
+use Rattle.std.specs.Prelude.{ℕ, ◌<◌, ⊤, Bool, false, ◌==◌, if◌then◌else◌, List, Option, Some, None}
 use Rattle.std.specs.List.{fold, position}
 use Rattle.std.specs.Option.{option_map_or}
 use Rattle.nav_ground.specs.declared.cell.Cell.{Cell}
@@ -24,6 +24,12 @@ abbrev pub is_one : ℕ → Seen → Bool
 is_one t Nothing = false
 is_one t (One u) = u == t
 is_one t Several = false
+
+-- a strip that was seen alone is one of so many
+abbrev pub IsSeenAmong : ℕ → Seen → Type 0
+IsSeenAmong count Nothing = ⊤
+IsSeenAmong count (One t) = t < count
+IsSeenAmong count Several = ⊤
 
 -- what the cells with some indices touch in a direction
 abbrev pub touched_by : List Cell → ℕ → List ℕ → Seen

@@ -2,12 +2,11 @@
 
 ghost use Rattle.std.specs.Prelude.{◌≡◌, ◌<◌, ◌&&◌, IsTrue, IfOk, length, map};
 ghost use Rattle.std.specs.List.{list_all};
-ghost use Rattle.nav_ground.specs.Cells.{IsCut};
 ghost use Rattle.mesh_types.specs.StripMeshes.{strip_runs};
-ghost use Rattle.mesh_types.specs.Regions.{numbers, begins_region, joins};
+ghost use Rattle.mesh_types.specs.Regions.{numbers, joins};
 ghost use Rattle.mono_regions.specs.Indices.{AreIndices};
-ghost use Rattle.mono_regions.specs.Seeing.{is_one};
-ghost use Rattle.mono_regions.specs.Joining.{IsTableOf, touched_from, joined_from, is_over, is_fitting, has_area_of, names};
+ghost use Rattle.mono_regions.specs.Seeing.{is_one, IsSeenAmong};
+ghost use Rattle.mono_regions.specs.Joining.{IsTableOf, touched_from, joined_from, is_over, is_fitting, has_area_of, is_unjoined, names};
 
 use crate::seen::Seen;
 use crate::strip_table::StripTable;
@@ -142,17 +141,13 @@ fn is_named(found: Option<u32>, strip: u32) -> bool
     }
 }
 
-/// Whether a strip begins a region: what it alone touches below, if anything, does not join it.
-pub fn begins_region(cells: &[Cell], below: &[Seen], joined: &[Option<u32>], strip: usize) -> bool
-    requires cells { IsCut cells.now }
-    requires below { below.now ≡ map (touched_from cells.now 3) (numbers (strip_runs cells.now)) }
-    requires joined { joined.now ≡ map (joined_from (strip_runs cells.now)) (numbers (strip_runs cells.now)) }
-    requires there { strip < length (strip_runs cells.now) }
-    ensures { result ≡ begins_region (strip_runs cells.now) strip }
+/// Whether no strip joins a strip, from what that touches below, and what each strip joins.
+pub fn is_unjoined(joined: &[Option<u32>], below: Seen, strip: u32) -> bool
+    requires { IsSeenAmong (length joined.now) below }
+    ensures { result ≡ is_unjoined joined.now strip below }
 {
-    let _ = cells;
-    match below[strip] {
-        Seen::One(lower) => !is_named(joined[lower as usize], strip as u32),
+    match below {
+        Seen::One(lower) => !is_named(joined[lower as usize], strip),
         Seen::Nothing => true,
         Seen::Several => true,
     }

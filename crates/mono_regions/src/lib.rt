@@ -18,8 +18,6 @@ pub use index::{StripIndex, strip_index};
 pub use index_lists::IndexLists;
 pub use layer::strips;
 pub use tile_regions::regions;
-pub use seen::Seen;
-pub use strip_table::StripTable;
 
 #[cfg(test)]
 mod tests;

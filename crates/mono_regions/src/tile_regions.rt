@@ -6,7 +6,7 @@ ghost use Rattle.mesh_types.specs.StripMeshes.{strip_runs};
 ghost use Rattle.mesh_types.specs.Regions.{numbers, chain_from, region_of, regions_of, IsStack, HoldsEachOnce};
 ghost use Rattle.mono_regions.specs.Joining.{IsTableOf, joined_from};
 
-use crate::joins::{begins_region, joined_strips};
+use crate::joins::{is_unjoined, joined_strips};
 use crate::layer::strip;
 use crate::strip_table::StripTable;
 use crate::touching::{strip_table, touched_strips};
@@ -30,7 +30,7 @@ pub fn regions(alloc: Global, free: &FreeLayer) -> Result<Regions, AllocError>
     let joined = joined_strips(alloc, cells, &strips, below.as_slice())?;
     let mut regions = Vec::new(alloc);
     for first in 0..joined.len() {
-        if begins_region(cells, below.as_slice(), joined.as_slice(), first) {
+        if is_unjoined(joined.as_slice(), below[first], first as u32) {
             regions.push(region(alloc, cells, &strips, joined.as_slice(), first as u32)?)?;
         }
     }
