@@ -59,12 +59,14 @@ holding_is cells cut i s inside there =
         → (k < length run) × ((cell_at cells (get_or run k 0)).at.level ≡ at.level)
     level_in k None is h = absurd (both_ways false refl h)
     level_in k (Some level) is h = elim (cases_lt k (length levels)) [
-          | inl less ↦
-              let less' : k < length run = omega (arith, less, length-map run (level_at cells)) in
-              (less', sym (get_or-map (level_at cells) run k 0 0 less')
-              ∙ same_number (get_or levels k 0) level (sym (slice_get-get_or levels k 0 less) ∙ is) ∙ eqb-true level at.level h)
-          | inr past ↦ absurd (none level (sym (slice_get_past levels k past) ∙ is))
-        ]
+      | inl less ↦
+          let less' : k < length run = omega (arith, less, length-map run (level_at cells)) in (
+            less',
+            sym (get_or-map (level_at cells) run k 0 0 less')
+                ∙ same_number (get_or levels k 0) level (sym (slice_get-get_or levels k 0 less) ∙ is) ∙ eqb-true level at.level h,
+          )
+      | inr past ↦ absurd (none level (sym (slice_get_past levels k past) ∙ is))
+    ]
       where
         none : (a : ℕ) → None ≡ Some a → ⊥
         none a e = both_ways (option_map_or (λ n. true) (Some a) false) (ap (λ (o : Option ℕ). option_map_or (λ n. true) o false) (sym e)) refl
@@ -181,19 +183,19 @@ sum_none s first (suc count) less =
 sum_one : (s first count : ℕ) → first ≤ s → s < first + count → sum_by (λ f. once_if (f == s)) (range_with_len first count) ≡ 1
 sum_one s first zero least most = absurd (omega (arith, least, most))
 sum_one s first (suc count) least most = elim (cases_Bool (first == s)) [
-      | inl same ↦
-          let e : first ≡ s = eqb-true first s same in
-          let rest = sum_none s (first + 1) count (omega (arith, e)) in
-          omega (arith, sum_by-cons (λ f. once_if (f == s)) first (range_with_len (first + 1) count), ap once_if same, rest)
-      | inr apart ↦
-          let less : first < s = elim (cases_order first s) [
-            | inl same ↦ absurd (both_ways _ apart (eq-eqb first s same))
-            | inr (inl less) ↦ less
-            | inr (inr more) ↦ absurd (omega (arith, least, more))
-          ] in
-          let rest = sum_one s (first + 1) count (omega (arith, less)) (omega (arith, most)) in
-          omega (arith, sum_by-cons (λ f. once_if (f == s)) first (range_with_len (first + 1) count), ap once_if apart, rest)
-    ]
+  | inl same ↦
+      let e : first ≡ s = eqb-true first s same in
+      let rest = sum_none s (first + 1) count (omega (arith, e)) in
+      omega (arith, sum_by-cons (λ f. once_if (f == s)) first (range_with_len (first + 1) count), ap once_if same, rest)
+  | inr apart ↦
+      let less : first < s = elim (cases_order first s) [
+        | inl same ↦ absurd (both_ways _ apart (eq-eqb first s same))
+        | inr (inl less) ↦ less
+        | inr (inr more) ↦ absurd (omega (arith, least, more))
+      ] in
+      let rest = sum_one s (first + 1) count (omega (arith, less)) (omega (arith, most)) in
+      omega (arith, sum_by-cons (λ f. once_if (f == s)) first (range_with_len (first + 1) count), ap once_if apart, rest)
+]
 
 -- how often a strip's number stands in all regions
 abbrev all_times : List Cell → ℕ → ℕ
@@ -210,20 +212,20 @@ begins_fails cells f r small joined =
 once_below : (cells : List Cell) → IsCut cells → (n s : ℕ) → s < n → s < length (strip_runs cells) → all_times cells s ≡ 1
 once_below cells cut zero s below there = absurd (omega (arith, below))
 once_below cells cut (suc n) s below there = elim (cases_Bool (list_any (λ r. joins runs r s) (numbers runs))) [
-      | inl some ↦
-          let w = any_where (λ r. joins runs r s) (numbers runs) 0 some in
-          let r : ℕ = w.0 in
-          let small : r < length runs = omega (arith, w.1, length-range_with_len 0 (length runs)) in
-          let P : ℕ → Type 0 = λ q. joins runs q s ≡ true in
-          let joined : joins runs r s ≡ true = subst P (get_or-range_with_len 0 (length runs) r 0 small ∙ omega arith) w.2 in
-          sum_by-range_same (λ f. cond (begins_region runs f) (times s (chain_at cells f)) 0) (λ f. cond (begins_region runs f) (times r (chain_at cells f)) 0)
-          0 (length runs) (λ f least most. followed r small joined f (omega (arith, most)) (begins_region runs f) refl)
-          ∙ once_below cells cut n r (omega (arith, below, after cells cut r s small there joined)) small
-      | inr none ↦
-          sum_by-range_same (λ f. cond (begins_region runs f) (times s (chain_at cells f)) 0) (λ f. once_if (f == s))
-          0 (length runs) (λ f least most. first none f (omega (arith, most)) (begins_region runs f) refl)
-          ∙ sum_one s 0 (length runs) (omega arith) (omega (arith, there))
-    ]
+  | inl some ↦
+      let w = any_where (λ r. joins runs r s) (numbers runs) 0 some in
+      let r : ℕ = w.0 in
+      let small : r < length runs = omega (arith, w.1, length-range_with_len 0 (length runs)) in
+      let P : ℕ → Type 0 = λ q. joins runs q s ≡ true in
+      let joined : joins runs r s ≡ true = subst P (get_or-range_with_len 0 (length runs) r 0 small ∙ omega arith) w.2 in
+      sum_by-range_same (λ f. cond (begins_region runs f) (times s (chain_at cells f)) 0) (λ f. cond (begins_region runs f) (times r (chain_at cells f)) 0)
+      0 (length runs) (λ f least most. followed r small joined f (omega (arith, most)) (begins_region runs f) refl)
+      ∙ once_below cells cut n r (omega (arith, below, after cells cut r s small there joined)) small
+  | inr none ↦
+      sum_by-range_same (λ f. cond (begins_region runs f) (times s (chain_at cells f)) 0) (λ f. once_if (f == s))
+      0 (length runs) (λ f least most. first none f (omega (arith, most)) (begins_region runs f) refl)
+      ∙ sum_one s 0 (length runs) (omega arith) (omega (arith, there))
+]
   where
     runs : List (List Cell)
     runs = strip_runs cells

@@ -57,14 +57,14 @@ one_stays t u [] = with_true (u == t)
     with_true false = refl
 one_stays t u (None ∷ xs) = one_stays t u xs
 one_stays t u (Some v ∷ xs) = elim (cases_Bool (u == v)) [
-      | inl same ↦
-          ap (λ b. is_one t (fold seen_with (if b then One u else Several) xs)) same
-          ∙ one_stays t u xs ∙ twice (u == t) (list_all (agrees t) xs) ∙ ap (λ n. u == t && (n == t && list_all (agrees t) xs)) (eqb-true u v same)
-      | inr apart ↦
-          ap (λ b. is_one t (fold seen_with (if b then One u else Several) xs)) apart
-          ∙ several_stay t xs
-          ∙ sym (neither (u == t) (v == t) (list_all (agrees t) xs) (λ a b. both_ways _ apart (eq-eqb u v (eqb-true u t a ∙ sym (eqb-true v t b)))))
-    ]
+  | inl same ↦
+      ap (λ b. is_one t (fold seen_with (if b then One u else Several) xs)) same
+      ∙ one_stays t u xs ∙ twice (u == t) (list_all (agrees t) xs) ∙ ap (λ n. u == t && (n == t && list_all (agrees t) xs)) (eqb-true u v same)
+  | inr apart ↦
+      ap (λ b. is_one t (fold seen_with (if b then One u else Several) xs)) apart
+      ∙ several_stay t xs
+      ∙ sym (neither (u == t) (v == t) (list_all (agrees t) xs) (λ a b. both_ways _ apart (eq-eqb u v (eqb-true u t a ∙ sym (eqb-true v t b)))))
+]
   where
     twice : (a b : Bool) → (a && b) ≡ (a && (a && b))
     twice true b = refl
@@ -117,11 +117,11 @@ no_other n t xs below = same_test _ _ forth back
       where
         at : (u : ℕ) → p u ≡ true
         at u = elim (cases_Bool (list_any (names u) xs)) [
-              | inl among ↦
-                  let w = any_where (names u) xs None among in
-                  or_left (u == t) _ (one (get_or xs w.0 None) w.2 (AllPass-from_list_all (agrees t) xs all w.0 None w.1))
-              | inr none ↦ or_right (u == t) _ (not_from_false _ none)
-            ]
+          | inl among ↦
+              let w = any_where (names u) xs None among in
+              or_left (u == t) _ (one (get_or xs w.0 None) w.2 (AllPass-from_list_all (agrees t) xs all w.0 None w.1))
+          | inr none ↦ or_right (u == t) _ (not_from_false _ none)
+        ]
           where
             one : (o : Option ℕ) → names u o ≡ true → agrees t o ≡ true → (u == t) ≡ true
             one None named agreed = absurd (both_ways false refl named)

@@ -2,3 +2,4 @@ pub mod Lists
 pub mod Indices
 pub mod Seeing
 pub mod Joining
+pub mod Rows

@@ -68,13 +68,7 @@ fn is_joined(cells: &[Cell], strips: &StripTable, below: &[Seen], lower: u32, up
 }
 
 /// Whether a strip is connected to the upper one wherever that lies over it, and both have one area.
-fn are_fitting(
-    cells: &[Cell],
-    strips: &StripTable,
-    run: &[u32],
-    over: &[u32],
-    upper: u32,
-) -> bool
+fn are_fitting(cells: &[Cell], strips: &StripTable, run: &[u32], over: &[u32], upper: u32) -> bool
     requires strips { IsTableOf cells.now strips.now }
     requires run { AreIndices cells.now run.now }
     requires over { AreIndices cells.now over.now }
@@ -104,13 +98,7 @@ fn is_one(seen: Seen, strip: u32) -> bool
 }
 
 /// Whether each cell of a strip is connected toward z + 1 to the upper strip, where that has a cell in its column.
-fn are_connected(
-    cells: &[Cell],
-    strips: &StripTable,
-    run: &[u32],
-    over: &[u32],
-    upper: u32,
-) -> bool
+fn are_connected(cells: &[Cell], strips: &StripTable, run: &[u32], over: &[u32], upper: u32) -> bool
     requires strips { IsTableOf cells.now strips.now }
     requires run { AreIndices cells.now run.now }
     requires over { AreIndices cells.now over.now }

@@ -7,8 +7,13 @@ use Rattle.mono_regions.proofs.joins.joined_strips.Goals as goal
 
 pub overflow_cast-number : goal.overflow_cast-number
 overflow_cast-number c =
-    omega (arith, c.loop-number-test.true, c.len-number-end.ensures, tabled_count c.args.cells.now c.args.strips.now c.requires.strips,
-    strips_few c.args.cells.now c.requires.strips.cut)
+    omega (
+      arith,
+      c.loop-number-test.true,
+      c.len-number-end.ensures,
+      tabled_count c.args.cells.now c.args.strips.now c.requires.strips,
+      strips_few c.args.cells.now c.requires.strips.cut,
+    )
 
 pub joined_strip-requires-clause-there : goal.joined_strip-requires-clause-there
 joined_strip-requires-clause-there c =

@@ -26,8 +26,12 @@ strip-requires-clause-run c =
 
 pub bounds-joined-number : goal.bounds-joined-number
 bounds-joined-number c =
-    omega (arith, c.loop-next.invariant.small.small c.in-Some.number c.in-Some.is, ap length c.requires.joined,
-    length-map-range_with_len (joined_from (strip_runs c.args.cells.now)) 0 (length (strip_runs c.args.cells.now)))
+    omega (
+      arith,
+      c.loop-next.invariant.small.small c.in-Some.number c.in-Some.is,
+      ap length c.requires.joined,
+      length-map-range_with_len (joined_from (strip_runs c.args.cells.now)) 0 (length (strip_runs c.args.cells.now)),
+    )
 
 pub loop-next-smaller : goal.loop-next-smaller
 loop-next-smaller c =
@@ -44,9 +48,9 @@ loop-next-preserved c =
     record {
       small = number_next cells _ s next;
       left = left_more cells c.requires.strips.cut c.loop-next.chain.items _ _ c.loop-next.next _ s c.args.first c.in_ok-push.ensures.items
-        (c.in_ok-strip.ensures
-        ∙ ap (strip_at cells) (tabled_run cells c.args.strips.now c.requires.strips s _ c.list.ensures) ∙ strip_made cells c.requires.strips.cut.rules s small)
-        c.in-Some.is next small c.loop-next.invariant.left;
+          (c.in_ok-strip.ensures
+          ∙ ap (strip_at cells) (tabled_run cells c.args.strips.now c.requires.strips s _ c.list.ensures) ∙ strip_made cells c.requires.strips.cut.rules s small)
+          c.in-Some.is next small c.loop-next.invariant.left;
     }
 
 pub returns : goal.returns

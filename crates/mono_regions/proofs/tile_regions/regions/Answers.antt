@@ -28,28 +28,54 @@ is_unjoined-requires c =
 
 pub overflow_cast-first : goal.overflow_cast-first
 overflow_cast-first c =
-    omega (arith, c.loop-first-test.true, c.len-first-end.ensures, c.in_ok-joined.joined.ok.0, ap length c.in_ok-joined.ensures,
-    length-map-range_with_len (joined_from (strip_runs c.as_slice-cells.result.now)) 0 (length (strip_runs c.as_slice-cells.result.now)),
-    ap (λ (cells : List Cell). length (strip_runs cells)) c.as_slice-cells.ensures, strips_few c.args.free.now.cells c.requires)
+    omega (
+      arith,
+      c.loop-first-test.true,
+      c.len-first-end.ensures,
+      c.in_ok-joined.joined.ok.0,
+      ap length c.in_ok-joined.ensures,
+      length-map-range_with_len (joined_from (strip_runs c.as_slice-cells.result.now)) 0 (length (strip_runs c.as_slice-cells.result.now)),
+      ap (λ (cells : List Cell). length (strip_runs cells)) c.as_slice-cells.ensures,
+      strips_few c.args.free.now.cells c.requires,
+    )
 
 pub overflow_cast-first-then-is_unjoined : goal.overflow_cast-first-then-is_unjoined
 overflow_cast-first-then-is_unjoined c =
-    omega (arith, c.loop-first-test.true, c.len-first-end.ensures, c.in_ok-joined.joined.ok.0, ap length c.in_ok-joined.ensures,
-    length-map-range_with_len (joined_from (strip_runs c.as_slice-cells.result.now)) 0 (length (strip_runs c.as_slice-cells.result.now)),
-    ap (λ (cells : List Cell). length (strip_runs cells)) c.as_slice-cells.ensures, strips_few c.args.free.now.cells c.requires)
+    omega (
+      arith,
+      c.loop-first-test.true,
+      c.len-first-end.ensures,
+      c.in_ok-joined.joined.ok.0,
+      ap length c.in_ok-joined.ensures,
+      length-map-range_with_len (joined_from (strip_runs c.as_slice-cells.result.now)) 0 (length (strip_runs c.as_slice-cells.result.now)),
+      ap (λ (cells : List Cell). length (strip_runs cells)) c.as_slice-cells.ensures,
+      strips_few c.args.free.now.cells c.requires,
+    )
 
 pub region-requires-clause-there : goal.region-requires-clause-there
 region-requires-clause-there c =
-    omega (arith, c.loop-first-test.true, c.len-first-end.ensures, c.in_ok-joined.joined.ok.0, ap length c.in_ok-joined.ensures,
-    length-map-range_with_len (joined_from (strip_runs c.as_slice-cells.result.now)) 0 (length (strip_runs c.as_slice-cells.result.now)))
+    omega (
+      arith,
+      c.loop-first-test.true,
+      c.len-first-end.ensures,
+      c.in_ok-joined.joined.ok.0,
+      ap length c.in_ok-joined.ensures,
+      length-map-range_with_len (joined_from (strip_runs c.as_slice-cells.result.now)) 0 (length (strip_runs c.as_slice-cells.result.now)),
+    )
 
 pub loop-first-preserved : goal.loop-first-preserved
 loop-first-preserved c =
     let cells : List Cell = c.args.free.now.cells in
     let first : ℕ = c.loop-first.first in
     let there : first < length (strip_runs c.as_slice-cells.result.now) =
-    omega (arith, c.loop-first-test.true, c.len-first-end.ensures, c.in_ok-joined.joined.ok.0, ap length c.in_ok-joined.ensures,
-    length-map-range_with_len (joined_from (strip_runs c.as_slice-cells.result.now)) 0 (length (strip_runs c.as_slice-cells.result.now))) in
+    omega (
+      arith,
+      c.loop-first-test.true,
+      c.len-first-end.ensures,
+      c.in_ok-joined.joined.ok.0,
+      ap length c.in_ok-joined.ensures,
+      length-map-range_with_len (joined_from (strip_runs c.as_slice-cells.result.now)) 0 (length (strip_runs c.as_slice-cells.result.now)),
+    ) in
     let asked : c.is_unjoined.result ≡ begins_region (strip_runs cells) first =
     c.is_unjoined.ensures
     ∙ begins_is c.as_slice-cells.result.now (subst IsCut (sym c.as_slice-cells.ensures) c.requires) c.as_slice-in-loop-first.result.now c.index.result.now first
