@@ -15,3 +15,4 @@ pub mod Following
 pub mod Gathered
 pub mod Stacks
 pub mod Held
+pub mod Woven

@@ -42,7 +42,7 @@ chain_some cells zero s = omega arith
 chain_some cells (suc n) s = omega arith
 
 -- each joins the next
-chain_next : (cells : List Cell) (n s k d : ℕ) → k + 1 < length (chain_from (strip_runs cells) n s)
+pub chain_next : (cells : List Cell) (n s k d : ℕ) → k + 1 < length (chain_from (strip_runs cells) n s)
     → joined_from (strip_runs cells) (get_or (chain_from (strip_runs cells) n s) k d) ≡ Some (get_or (chain_from (strip_runs cells) n s) (suc k) d)
 unfolding chain_from
 chain_next cells zero s k d inside = absurd (omega (arith, inside))

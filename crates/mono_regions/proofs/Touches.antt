@@ -170,6 +170,16 @@ joins_is cells cut s t here there =
     four : {a b c d a' b' c' d' : Bool} → a ≡ a' → b ≡ b' → c ≡ c' → d ≡ d' → (a && b && c && d) ≡ (a' && b' && c' && d')
     four first second third fourth = cc
 
+-- so its cells are connected wherever the other lies over them
+pub joins_fitting : (cells : List Cell) → IsCut cells → (s t : ℕ) → s < length (strip_runs cells) → t < length (strip_runs cells)
+    → joins (strip_runs cells) s t ≡ true → list_all (is_fitting cells t (indices_of cells t)) (indices_of cells s) ≡ true
+joins_fitting cells cut s t here there h =
+    third (is_one t (touched_from cells 1 s)) (is_one s (touched_from cells 3 t)) (list_all (is_fitting cells t (indices_of cells t)) (indices_of cells s))
+    (has_area_of cells (indices_of cells t) (indices_of cells s)) (sym (joins_is cells cut s t here there) ∙ h)
+  where
+    third : (a b c d : Bool) → (a && b && c && d) ≡ true → c ≡ true
+    third a b c d h = (and_parts (a && b) c (and_parts (a && b && c) d h).0).1
+
 -- and where it was seen to touch that one alone
 pub joins_where : (cells : List Cell) → IsCut cells → (s t : ℕ) → s < length (strip_runs cells) → t < length (strip_runs cells)
     → is_one t (touched_from cells 1 s) ≡ true

@@ -7,11 +7,12 @@ use Rattle.nav_ground.specs.Cells.{IsCut}
 use Rattle.mesh_types.specs.declared.region.Region.{Region}
 use Rattle.mesh_types.specs.declared.region.Regions.{Regions}
 use Rattle.mesh_types.specs.StripMeshes.{strip_runs}
-use Rattle.mesh_types.specs.Regions.{begins_region, regions_of, IsStack, HoldsEachOnce}
+use Rattle.mesh_types.specs.Regions.{begins_region, regions_of, IsStack, IsWoven, HoldsEachOnce}
 use Rattle.mono_regions.specs.Joining.{touched_from, joined_from}
 use Rattle.mono_regions.proofs.JoinLaws.{strips_few, number_of, seen_among, begins_is}
 use Rattle.mono_regions.proofs.Gathered.{region_at, one_region, no_region, all_regions}
 use Rattle.mono_regions.proofs.Stacks.{are_stacks}
+use Rattle.mono_regions.proofs.Woven.{are_woven}
 use Rattle.mono_regions.proofs.Held.{held_once}
 use Rattle.mono_regions.proofs.tile_regions.regions.Goals as goal
 use Rattle.mono_regions.proofs.tile_regions.regions.Goals.{then-is_unjoined+in_ok-region+in_ok-push, else-is_unjoined}
@@ -108,3 +109,7 @@ returns-clause-stacks c =
 pub returns-clause-once : goal.returns-clause-once
 returns-clause-once c =
     subst (HoldsEachOnce c.args.free.now.cells) (sym (returns-clause-regions c)) (held_once c.args.free.now.cells c.requires)
+
+pub returns-clause-woven : goal.returns-clause-woven
+returns-clause-woven c =
+    subst (λ (regions : Regions). All (IsWoven c.args.free.now.cells) regions.regions) (sym (returns-clause-regions c)) (are_woven c.args.free.now.cells c.requires)
