@@ -7,11 +7,17 @@
 
 mod index;
 mod index_lists;
+mod joins;
 mod layer;
+mod seen;
+mod strip_table;
+mod tile_regions;
+mod touching;
 
 pub use index::{StripIndex, strip_index};
 pub use index_lists::IndexLists;
 pub use layer::strips;
+pub use tile_regions::regions;
 
 #[cfg(test)]
 mod tests;
