@@ -1,5 +1,5 @@
 -- Chains of strips, each joined to the next: they rise, end, and make regions.
-use Rattle.std.proofs.Common.{◌≡◌, ℕ, ◌+◌, ◌-◌, ◌<◌, ◌≤◌, true, length, List, [], ◌∷◌, ◌++◌, map, get_or, ap, ◌∙◌, sym, refl, subst, arith, zero, suc, Option, Some, None}
+use Rattle.std.proofs.Common.{◌≡◌, ℕ, ◌+◌, ◌-◌, ◌<◌, ◌≤◌, length, List, [], ◌∷◌, ◌++◌, map, ap, ◌∙◌, sym, refl, subst, arith, zero, suc, Option, Some, None}
 use Rattle.std.specs.Option.{option_map_or}
 use Rattle.std.proofs.lemmas.List.{append_assoc, append-nil}
 use Rattle.nav_ground.specs.declared.cell.Cell.{Cell}

@@ -1,15 +1,13 @@
 -- The regions that begin at the strips so far.
-use Rattle.std.proofs.Common.{◌≡◌, ℕ, ◌+◌, ◌≤◌, Bool, true, false, length, List, [], ◌∷◌, ◌++◌, map, filter, ap, ◌∙◌, sym, arith}
+use Rattle.std.proofs.Common.{◌≡◌, ℕ, ◌+◌, ◌≤◌, true, false, length, List, [], ◌∷◌, ◌++◌, map, filter, ap, ◌∙◌, sym, arith}
 use Rattle.std.specs.List.{range_with_len}
-use Rattle.std.proofs.lemmas.Bool.{cond-true, cond-false}
-use Rattle.std.proofs.lemmas.List.{append-nil, map-append}
-use Rattle.std.proofs.lemmas.List.Elements.{filter-append}
+use Rattle.std.proofs.lemmas.List.{map-append}
 use Rattle.nav_ground.specs.declared.cell.Cell.{Cell}
-use Rattle.nav_ground.proofs.Selections.{range-push}
 use Rattle.mesh_types.specs.declared.region.Region.{Region}
 use Rattle.mesh_types.specs.declared.region.Regions.{Regions}
 use Rattle.mesh_types.specs.StripMeshes.{strip_runs}
-use Rattle.mesh_types.specs.Regions.{numbers, chain_from, begins_region, region_chains, region_of, regions_of}
+use Rattle.mesh_types.specs.Regions.{chain_from, begins_region, region_chains, region_of, regions_of}
+use Rattle.mono_regions.proofs.Found.{passes_next, fails_next}
 use Rattle.mono_regions.proofs.RunLaws.{map-map}
 use Rattle.mono_regions.proofs.Following.{chain_at}
 
@@ -21,21 +19,6 @@ begins_below cells n = filter (begins_region (strip_runs cells)) (range_with_len
 abbrev pub region_at : List Cell → ℕ → Region
 region_at cells s = region_of (strip_runs cells) (chain_at cells s)
 
-one_begins : (p : ℕ → Bool) (n : ℕ) → p n ≡ true → filter p (range_with_len 0 (n + 1)) ≡ filter p (range_with_len 0 n) ++ n ∷ []
-one_begins p n passes =
-    ap (filter p) (range-push 0 n)
-    ∙ filter-append p (range_with_len 0 n) ((0 + n) ∷ [])
-    ∙ ap (λ k. filter p (range_with_len 0 n) ++ filter p (k ∷ [])) {x = 0 + n} {y = n} (omega arith)
-    ∙ ap (λ (xs : List ℕ). filter p (range_with_len 0 n) ++ xs) (cond-true (p n) (n ∷ []) [] passes)
-
-none_begins : (p : ℕ → Bool) (n : ℕ) → p n ≡ false → filter p (range_with_len 0 (n + 1)) ≡ filter p (range_with_len 0 n)
-none_begins p n fails =
-    ap (filter p) (range-push 0 n)
-    ∙ filter-append p (range_with_len 0 n) ((0 + n) ∷ [])
-    ∙ ap (λ k. filter p (range_with_len 0 n) ++ filter p (k ∷ [])) {x = 0 + n} {y = n} (omega arith)
-    ∙ ap (λ (xs : List ℕ). filter p (range_with_len 0 n) ++ xs) (cond-false (p n) (n ∷ []) [] fails)
-    ∙ append-nil (filter p (range_with_len 0 n))
-
 pub one_region : (cells : List Cell) (n : ℕ) (made made' : List Region) (region : Region) → begins_region (strip_runs cells) n ≡ true
     → made' ≡ made ++ region ∷ [] → region ≡ region_at cells n → made ≡ map (region_at cells) (begins_below cells n)
     → made' ≡ map (region_at cells) (begins_below cells (n + 1))
@@ -44,11 +27,11 @@ one_region cells n made made' region begins pushed is before =
     ∙ ap (λ (x : Region). made ++ x ∷ []) is
     ∙ ap (λ (xs : List Region). xs ++ region_at cells n ∷ []) before
     ∙ sym (map-append (region_at cells) (begins_below cells n) (n ∷ []))
-    ∙ ap (map (region_at cells)) (sym (one_begins (begins_region (strip_runs cells)) n begins))
+    ∙ ap (map (region_at cells)) (sym (passes_next (begins_region (strip_runs cells)) n begins))
 
 pub no_region : (cells : List Cell) (n : ℕ) (made : List Region) → begins_region (strip_runs cells) n ≡ false
     → made ≡ map (region_at cells) (begins_below cells n) → made ≡ map (region_at cells) (begins_below cells (n + 1))
-no_region cells n made begins before = before ∙ ap (map (region_at cells)) (sym (none_begins (begins_region (strip_runs cells)) n begins))
+no_region cells n made begins before = before ∙ ap (map (region_at cells)) (sym (fails_next (begins_region (strip_runs cells)) n begins))
 
 -- all of them are the regions of the cells
 pub regions_are : (cells : List Cell) → (regions_of cells).regions ≡ map (region_at cells) (begins_below cells (length (strip_runs cells)))

@@ -1,6 +1,6 @@
 -- Each cell is in exactly one strip of exactly one region.
-use Rattle.std.proofs.Common.{◌≡◌, ℕ, ◌+◌, ◌-◌, ◌<◌, ◌≤◌, Bool, true, false, length, List, [], ◌∷◌, map, filter, get_or, ap, ◌∙◌, sym, refl, subst, arith, zero, suc, inl, inr, Option, Some, None}
-use Rattle.std.specs.Prelude.{◌==◌, ◌&&◌, nat_le, not, cond, All, slice_get}
+use Rattle.std.proofs.Common.{◌≡◌, ℕ, ◌+◌, ◌-◌, ◌<◌, ◌≤◌, Bool, true, false, length, List, [], ◌∷◌, map, get_or, ap, ◌∙◌, sym, refl, subst, arith, zero, suc, inl, inr, Option, Some, None}
+use Rattle.std.specs.Prelude.{◌==◌, cond, All, slice_get}
 use Rattle.std.specs.List.{list_any, range_with_len, sum_by, count_by}
 use Rattle.std.specs.Option.{option_map_or}
 use Rattle.std.proofs.lemmas.Bool.{cases_Bool, cases_lt, cases_order, eqb-true, eq-eqb, ne_eqb, and_from, and_parts, both_ways, le-leb, leb-true, false_from_ne_true, not_from_true, not_from_false}
@@ -12,26 +12,24 @@ use Rattle.std.proofs.lemmas.List.Sums.{sum_by-cons}
 use Rattle.std.proofs.lemmas.Option.{slice_get-get_or, slice_get_past}
 use Rattle.nav_ground.specs.declared.cell.Cell.{Cell}
 use Rattle.nav_ground.specs.declared.cell.CellRef.{CellRef}
-use Rattle.nav_ground.specs.Cells.{IsCells, IsCut}
+use Rattle.nav_ground.specs.Cells.{IsCut}
 use Rattle.cell_table.proofs.Places.{same_test}
 use Rattle.cell_table.proofs.Tables.{one_index}
-use Rattle.mesh_types.specs.declared.strip.Strip.{Strip}
 use Rattle.mesh_types.specs.declared.region.Region.{Region}
 use Rattle.mesh_types.specs.StripMeshes.{some_cell, strip_runs}
 use Rattle.mesh_types.specs.Regions.{numbers, joins, chain_from, begins_region, regions_of, is_holding, times_held, HoldsEachOnce}
 use Rattle.mesh_types.proofs.Totals.{sum_by-map, sum_by-filter, sum_by-range_same}
 use Rattle.mono_regions.specs.Indices.{cell_at, level_at, index_runs, owner_of, strip_at}
-use Rattle.mono_regions.specs.Seeing.{is_one}
 use Rattle.mono_regions.specs.Joining.{indices_of, touched_from, joined_from}
 use Rattle.mono_regions.proofs.Owners.{owner_there}
 use Rattle.mono_regions.proofs.StripLaws.{owner_is, run_columns}
 use Rattle.mono_regions.proofs.Scans.{any_where}
 use Rattle.mono_regions.proofs.Touches.{strip_count, strip_indices, held_by}
 use Rattle.mono_regions.proofs.JoinLaws.{same_number, one_alone, joins_below, joined_one, joined_back}
-use Rattle.mono_regions.proofs.Upon.{strip_number, strip_made, after}
+use Rattle.mono_regions.proofs.Upon.{same_place, strip_number, strip_made, after}
 use Rattle.mono_regions.proofs.Following.{chain_at}
 use Rattle.mono_regions.proofs.Gathered.{begins_below, region_at, regions_are}
-use Rattle.mono_regions.proofs.Stacks.{chain_small, begins_small}
+use Rattle.mono_regions.proofs.Stacks.{chain_small}
 
 -- a strip holds a cell exactly where it is the cell's own
 holding_is : (cells : List Cell) → IsCut cells → (i s : ℕ) → i < length cells → s < length (strip_runs cells)
@@ -84,13 +82,6 @@ holding_is cells cut i s inside there =
         same_place (cell_at cells (get_or run k 0)).at at (omega (arith, place.x, least)) (place.z ∙ row) level.1 in
         let index : get_or run k 0 ≡ i = one_index cells cut.rules (get_or run k 0) i some_cell ((strip_indices cells cut.rules s there).each k 0 level.0) inside same in
         eq-eqb s (owner_of cells i) (sym (owner_is cells cut s there' k 0 level.0) ∙ ap (owner_of cells) index)
-      where
-        same_place : (a b : CellRef) → a.x ≡ b.x → a.z ≡ b.z → a.level ≡ b.level → a ≡ b
-        same_place a b x z level =
-            ap (λ n. place n a.z a.level) x ∙ ap (λ n. place b.x n a.level) z ∙ ap (place b.x b.z) level
-          where
-            place : ℕ → ℕ → ℕ → CellRef
-            place x z level = record { x = x; z = z; level = level }
 
     back : (s == owner_of cells i) ≡ true → is_holding at (strip_at cells run) ≡ true
     back h =

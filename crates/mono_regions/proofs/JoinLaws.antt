@@ -1,8 +1,8 @@
 -- Which strips join which, from what the scans over their cells saw.
-use Rattle.std.proofs.Common.{◌≡◌, ℕ, ◌<◌, ◌≤◌, Bool, true, false, length, List, [], ◌∷◌, map, get_or, ap, ◌∙◌, sym, refl, subst, arith, inl, inr, Option, Some, None}
-use Rattle.std.specs.Prelude.{◌==◌, ◌&&◌, not, IsTrue, All, slice_get}
+use Rattle.std.proofs.Common.{◌≡◌, ℕ, ◌<◌, ◌≤◌, Bool, true, false, length, List, map, get_or, ap, ◌∙◌, sym, refl, subst, arith, inl, inr, Option, Some, None}
+use Rattle.std.specs.Prelude.{not, slice_get}
 use Rattle.std.specs.List.{find, list_any, range_with_len, position_or_len}
-use Rattle.std.proofs.lemmas.Bool.{cases_lt, cases_Bool, eqb-true, eq-eqb, and_parts, both_ways, false_from_ne_true}
+use Rattle.std.proofs.lemmas.Bool.{cases_lt, eqb-true, eq-eqb, and_parts, both_ways, false_from_ne_true}
 use Rattle.std.proofs.lemmas.List.Folds.{find_at, fold-map, list_any_at, list_any_none}
 use Rattle.std.proofs.lemmas.List.FromFn.{get_or-map-range_with_len, get_or-range_with_len, length-range_with_len}
 use Rattle.std.proofs.lemmas.List.Sums.{passes_at_first}

@@ -1,16 +1,15 @@
 -- Scans over lists: tests that agree, and which one number was seen.
-use Rattle.std.proofs.Common.{◌≡◌, ℕ, ◌<◌, Bool, true, false, length, List, [], ◌∷◌, get_or, ap, ◌∙◌, sym, refl, subst, inl, inr, ◌⊎◌, Option, Some, None, arith}
+use Rattle.std.proofs.Common.{◌≡◌, ℕ, ◌<◌, Bool, true, false, length, List, [], ◌∷◌, get_or, ap, ◌∙◌, sym, refl, subst, inl, inr, Option, Some, None, arith}
 use Rattle.std.specs.Prelude.{◌==◌, ◌&&◌, ◌||◌, not, All, if◌then◌else◌}
 use Rattle.std.specs.List.{fold, list_any, list_all, range_with_len}
 use Rattle.std.specs.Option.{option_map_or}
-use Rattle.std.proofs.lemmas.Bool.{cases_Bool, eqb-true, eq-eqb, and_from, both_ways, or_cases, not_from_true, not_from_false, or_left, or_right}
+use Rattle.std.proofs.lemmas.Bool.{cases_Bool, eqb-true, eq-eqb, both_ways, or_cases, not_from_true, not_from_false, or_left, or_right}
 use Rattle.std.proofs.lemmas.List.{get_or_default}
 use Rattle.std.proofs.lemmas.List.Elements.{All-head, All-tail}
 use Rattle.std.proofs.lemmas.List.Folds.{Any-from_list_any, list_any_at}
 use Rattle.std.proofs.lemmas.List.FromFn.{get_or-range_with_len, length-range_with_len}
 use Rattle.std.proofs.lemmas.List.Sums.{AllPass-from_list_all, list_all-from_AllPass}
 use Rattle.cell_table.proofs.Places.{same_test}
-use Rattle.mono_regions.specs.declared.seen.Seen.{Seen}
 use Rattle.mono_regions.specs.declared.seen.Seen.TheVariants.{Nothing, One, Several}
 use Rattle.mono_regions.specs.Seeing.{seen_with, is_one}
 use Rattle.mono_regions.specs.Joining.{names}

@@ -1,9 +1,9 @@
 -- What strips touch, by the indices of their cells.
-use Rattle.std.proofs.Common.{◌≡◌, ℕ, ◌+◌, ◌-◌, ◌<◌, ◌≤◌, Bool, true, false, length, List, [], ◌∷◌, map, get_or, ap, ◌∙◌, sym, refl, subst, arith, inl, inr, Option, Some, None}
-use Rattle.std.specs.Prelude.{◌==◌, ◌&&◌, ◌||◌, not, nat_le, All, slice_get}
-use Rattle.std.specs.List.{fold, list_any, list_all, range_with_len}
+use Rattle.std.proofs.Common.{◌≡◌, ℕ, ◌+◌, ◌-◌, ◌<◌, ◌≤◌, Bool, true, false, length, List, [], map, get_or, ap, ◌∙◌, sym, refl, subst, arith, inl, inr, Option, Some, None}
+use Rattle.std.specs.Prelude.{◌==◌, ◌&&◌, ◌||◌, not, nat_le, slice_get}
+use Rattle.std.specs.List.{list_any, list_all, range_with_len}
 use Rattle.std.proofs.lemmas.Bool.{cases_lt, eqb-true, eq-eqb, and_from, and_parts, le-leb, leb-true, both_ways}
-use Rattle.std.proofs.lemmas.List.{length-map, get_or-map, get_or_default}
+use Rattle.std.proofs.lemmas.List.{length-map, get_or-map}
 use Rattle.std.proofs.lemmas.List.Folds.{list_any_at, list_all-map, fold-map}
 use Rattle.std.proofs.lemmas.List.FromFn.{get_or-map-range_with_len, length-map-range_with_len, get_or-range_with_len, length-range_with_len}
 use Rattle.std.proofs.lemmas.List.Quantifiers.{position-Some}
@@ -16,17 +16,16 @@ use Rattle.cell_table.specs.Table.{index_named, indices_named, neighbour_table}
 use Rattle.cell_table.proofs.Places.{same_test}
 use Rattle.mesh_types.specs.StripMeshes.{some_cell, strip_runs, holds_named, first_of}
 use Rattle.mesh_types.specs.Regions.{numbers, run_of, is_touching, touches_only, has_column, are_connected, joins}
-use Rattle.mono_regions.specs.declared.seen.Seen.{Seen}
-use Rattle.mono_regions.specs.declared.seen.Seen.TheVariants.{Nothing, One, Several}
+use Rattle.mono_regions.specs.declared.seen.Seen.TheVariants.{Nothing}
 use Rattle.mono_regions.specs.Indices.{cell_at, index_runs, has_index, owner_of, AreIndices}
-use Rattle.mono_regions.specs.Seeing.{beyond, seen_with, is_one, touched_by}
+use Rattle.mono_regions.specs.Seeing.{beyond, seen_with, is_one}
 use Rattle.mono_regions.specs.Joining.{indices_of, touched_from, names, is_over, is_fitting, has_area_of}
 use Rattle.mono_regions.proofs.Chains.{table_read}
 use Rattle.mono_regions.proofs.Named.{held_is, held_not, position_of_named}
 use Rattle.mono_regions.proofs.Owners.{owner_there}
 use Rattle.mono_regions.proofs.RunLaws.{runs_indices, runs_are}
 use Rattle.mono_regions.proofs.StripLaws.{owner_is, run_columns}
-use Rattle.mono_regions.proofs.Scans.{any_where, any_same, all_same, agrees, is_alone, seen_alone, no_other}
+use Rattle.mono_regions.proofs.Scans.{any_where, any_same, all_same, seen_alone, no_other}
 
 pub strip_count : (cells : List Cell) → length (strip_runs cells) ≡ length (index_runs cells)
 strip_count cells = ap length (runs_are cells) ∙ length-map (index_runs cells) (map (cell_at cells))

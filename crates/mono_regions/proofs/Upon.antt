@@ -1,9 +1,8 @@
 -- A strip that another joins lies upon it.
-use Rattle.std.proofs.Common.{◌≡◌, ℕ, ◌+◌, ◌-◌, ◌<◌, ◌≤◌, true, length, List, [], map, get_or, ap, ◌∙◌, sym, subst, arith, inl, inr}
-use Rattle.std.specs.Prelude.{◌==◌, ◌&&◌}
+use Rattle.std.proofs.Common.{◌≡◌, ℕ, ◌+◌, ◌-◌, ◌<◌, true, length, List, map, get_or, ap, ◌∙◌, sym, subst, arith, inl, inr}
 use Rattle.std.specs.List.{list_any}
 use Rattle.std.proofs.lemmas.Bool.{cases_order, eqb-true, and_parts}
-use Rattle.std.proofs.lemmas.List.{length-map, get_or-map}
+use Rattle.std.proofs.lemmas.List.{length-map}
 use Rattle.nav_ground.specs.declared.cell.Cell.{Cell}
 use Rattle.nav_ground.specs.declared.cell.CellRef.{CellRef}
 use Rattle.nav_ground.specs.Cells.{IsCellBefore, IsCells, IsCut, is_naming}
@@ -11,16 +10,23 @@ use Rattle.nav_ground.proofs.Directions.{both_equal}
 use Rattle.nav_ground.proofs.Selections.{list_any-map}
 use Rattle.mesh_types.specs.declared.strip.Strip.{Strip}
 use Rattle.mesh_types.specs.Strips.{strip_of}
-use Rattle.mesh_types.specs.StripMeshes.{some_cell, strip_runs, first_of, holds_named}
+use Rattle.mesh_types.specs.StripMeshes.{some_cell, strip_runs, first_of}
 use Rattle.mesh_types.specs.Regions.{run_of, is_touching, joins, IsUpon, IsStrip}
-use Rattle.mono_regions.specs.Indices.{cell_at, level_at, index_runs, firsts_below, strip_at}
+use Rattle.mono_regions.specs.Indices.{cell_at, level_at, firsts_below, strip_at}
 use Rattle.mono_regions.specs.Seeing.{beyond}
-use Rattle.mono_regions.specs.Joining.{indices_of, names, has_area_of}
+use Rattle.mono_regions.specs.Joining.{indices_of, names}
 use Rattle.mono_regions.proofs.Owners.{run_count, firsts_small}
 use Rattle.mono_regions.proofs.RunLaws.{map-map, run_first}
 use Rattle.mono_regions.proofs.StripLaws.{firsts_rise, run_with_number, run_columns}
 use Rattle.mono_regions.proofs.Scans.{any_where}
-use Rattle.mono_regions.proofs.Touches.{strip_count, run_is, strip_indices, first_is, beyond_all, touching_is, holds_is, joins_is}
+use Rattle.mono_regions.proofs.Touches.{strip_count, run_is, strip_indices, first_is, touching_is, holds_is, joins_is}
+
+-- two places are one where their parts are
+pub same_place : (a b : CellRef) → a.x ≡ b.x → a.z ≡ b.z → a.level ≡ b.level → a ≡ b
+same_place a b x z level = ap (λ n. place n a.z a.level) x ∙ ap (λ n. place b.x n a.level) z ∙ ap (place b.x b.z) level
+  where
+    place : ℕ → ℕ → ℕ → CellRef
+    place x z level = record { x = x; z = z; level = level }
 
 -- the strip with a number
 abbrev pub strip_number : List Cell → ℕ → Strip

@@ -1,8 +1,8 @@
 -- The cells of a region are connected wherever their columns are neighbours.
-use Rattle.std.proofs.Common.{◌≡◌, ℕ, ◌+◌, ◌-◌, ◌<◌, ◌≤◌, true, false, length, List, [], map, get_or, ap, ◌∙◌, sym, refl, subst, arith, zero, suc, inl, inr, Some}
-use Rattle.std.specs.Prelude.{◌==◌, ◌&&◌, ◌||◌, not, nat_le, IsTrue, All}
-use Rattle.std.specs.List.{Any, Contains, list_any, list_all}
-use Rattle.std.proofs.lemmas.Bool.{cases_lt, cases_order, and_parts, and_from, both_ways, le-leb, or_cases, not_from_true}
+use Rattle.std.proofs.Common.{◌≡◌, ℕ, ◌+◌, ◌-◌, ◌<◌, ◌≤◌, true, length, List, map, get_or, ap, ◌∙◌, sym, subst, arith, zero, suc, inl, inr}
+use Rattle.std.specs.Prelude.{All}
+use Rattle.std.specs.List.{Contains, list_any, list_all}
+use Rattle.std.proofs.lemmas.Bool.{and_parts, and_from, both_ways, le-leb, or_cases, not_from_true}
 use Rattle.std.proofs.lemmas.List.{length-map, get_or-map, get_or_default}
 use Rattle.std.proofs.lemmas.List.Elements.{Contains-get_or, All-map}
 use Rattle.std.proofs.lemmas.List.Sums.{AllPass-from_list_all}
@@ -14,27 +14,20 @@ use Rattle.nav_ground.proofs.Selections.{list_any-map}
 use Rattle.cell_table.proofs.Tables.{one_index}
 use Rattle.mesh_types.specs.declared.strip.Strip.{Strip}
 use Rattle.mesh_types.specs.declared.region.Region.{Region}
-use Rattle.mesh_types.specs.StripMeshes.{some_cell, strip_runs, holds_named}
-use Rattle.mesh_types.specs.Regions.{run_of, joins, regions_of, place_in, IsIn, IsWoven}
-use Rattle.mono_regions.specs.Indices.{cell_at, along, level_at, strip_at}
+use Rattle.mesh_types.specs.StripMeshes.{some_cell, strip_runs}
+use Rattle.mesh_types.specs.Regions.{joins, regions_of, place_in, IsIn, IsWoven}
+use Rattle.mono_regions.specs.Indices.{cell_at, level_at, strip_at}
 use Rattle.mono_regions.specs.Seeing.{beyond}
-use Rattle.mono_regions.specs.Joining.{indices_of, names, is_over, is_fitting, has_area_of}
+use Rattle.mono_regions.specs.Joining.{indices_of, names, is_over, is_fitting}
 use Rattle.mono_regions.proofs.Chains.{along_is}
 use Rattle.mono_regions.proofs.StripLaws.{run_columns, run_next}
 use Rattle.mono_regions.proofs.Scans.{any_where}
 use Rattle.mono_regions.proofs.Touches.{strip_count, run_is, strip_indices, holds_is, joins_fitting}
 use Rattle.mono_regions.proofs.JoinLaws.{joined_back}
-use Rattle.mono_regions.proofs.Upon.{strip_number, strip_made, first_cell, row_above}
+use Rattle.mono_regions.proofs.Upon.{same_place, strip_number, strip_made, first_cell, row_above}
 use Rattle.mono_regions.proofs.Following.{chain_at}
 use Rattle.mono_regions.proofs.Gathered.{begins_below, region_at, regions_are}
 use Rattle.mono_regions.proofs.Stacks.{chain_small, chain_next, begins_small}
-
--- two places are one where their parts are
-same_place : (a b : CellRef) → a.x ≡ b.x → a.z ≡ b.z → a.level ≡ b.level → a ≡ b
-same_place a b x z level = ap (λ n. place n a.z a.level) x ∙ ap (λ n. place b.x n a.level) z ∙ ap (place b.x b.z) level
-  where
-    place : ℕ → ℕ → ℕ → CellRef
-    place x z level = record { x = x; z = z; level = level }
 
 -- the index of the cell of a strip in a column
 abbrev index_in : List Cell → ℕ → ℕ → ℕ
@@ -106,7 +99,7 @@ column_named cells cut s t x here there joined own other =
     let spot' = run_columns cells cut.rules t w.0 0 (omega (arith, there, strip_count cells)) w.1 in
     let place : w.0 ≡ x - (first_cell cells t).at.x = omega (arith, aligned, column, spot'.x) in
     let P : ℕ → Type 0 = λ j. p (cell_at cells (get_or over j 0)) ≡ true in
-    subst P place w.2
+    subst P {x = w.0} {y = x - (first_cell cells t).at.x} place w.2
   where
     names_column : (i j : ℕ) → is_naming 1 (cell_at cells i) (cell_at cells j).at ≡ true → (cell_at cells j).at.x ≡ (cell_at cells i).at.x
     names_column i j named = (both_equal _ _ _ _ (and_parts _ _ named).0).0

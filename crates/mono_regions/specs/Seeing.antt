@@ -1,7 +1,6 @@
 -- What strips a strip touches, cell by cell.
 use Rattle.std.specs.Prelude.{ℕ, ◌<◌, ⊤, Bool, false, ◌==◌, if◌then◌else◌, List, Option, Some, None}
 use Rattle.std.specs.List.{fold, position}
-use Rattle.std.specs.Option.{option_map_or}
 use Rattle.nav_ground.specs.declared.cell.Cell.{Cell}
 use Rattle.mesh_types.specs.StripMeshes.{strip_runs, holds_named}
 use Rattle.mono_regions.specs.declared.seen.Seen.{Seen}

@@ -18,6 +18,9 @@ use std::alloc::{AllocError, Global};
 /// The regions of a tile's free cells: maximal chains of strips, each joined to one of the next row. A strip joins another where each is the
 /// only one that the other touches in its row, every column that both hold has its two cells connected, and the areas are equal. Regions are
 /// numbered by their first strips, in order. From Recast's monotone partitioning. Linear in the number of cells.
+///
+/// Each region is a stack of strips, at most one in a row, and each over a part of the one before. Two cells of a region in neighbouring
+/// columns are connected. Each free cell is in exactly one strip of one region.
 pub fn regions(alloc: Global, free: &FreeLayer) -> Result<Regions, AllocError>
     requires { IsCut free.now.cells }
     ensures regions { IfOk result (λ regions. regions ≡ regions_of free.now.cells) }

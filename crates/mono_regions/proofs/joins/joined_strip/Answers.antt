@@ -1,6 +1,5 @@
-use Rattle.std.proofs.Common.{◌≡◌, ℕ, List, length, ap, ◌∙◌, sym, refl, arith}
+use Rattle.std.proofs.Common.{◌≡◌, ap, ◌∙◌, sym, refl, arith}
 use Rattle.std.proofs.lemmas.Bool.{eq-eqb}
-use Rattle.mesh_types.specs.StripMeshes.{strip_runs}
 use Rattle.mono_regions.specs.declared.seen.Seen.TheVariants.{Nothing, One, Several}
 use Rattle.mono_regions.specs.Seeing.{is_one, touched_by}
 use Rattle.mono_regions.specs.Joining.{touched_from}

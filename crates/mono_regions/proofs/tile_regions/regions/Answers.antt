@@ -1,4 +1,4 @@
-use Rattle.std.proofs.Common.{◌≡◌, ◌<◌, ◌≤◌, ℕ, true, false, List, length, map, ap, ◌∙◌, sym, subst, arith}
+use Rattle.std.proofs.Common.{◌≡◌, ◌<◌, ℕ, List, length, ap, ◌∙◌, sym, subst, arith}
 use Rattle.std.specs.Prelude.{All}
 use Rattle.std.specs.Global.{Vec}
 use Rattle.std.proofs.lemmas.List.FromFn.{length-map-range_with_len}
@@ -7,7 +7,7 @@ use Rattle.nav_ground.specs.Cells.{IsCut}
 use Rattle.mesh_types.specs.declared.region.Region.{Region}
 use Rattle.mesh_types.specs.declared.region.Regions.{Regions}
 use Rattle.mesh_types.specs.StripMeshes.{strip_runs}
-use Rattle.mesh_types.specs.Regions.{begins_region, regions_of, IsStack, IsWoven, HoldsEachOnce}
+use Rattle.mesh_types.specs.Regions.{begins_region, IsStack, IsWoven, HoldsEachOnce}
 use Rattle.mono_regions.specs.Joining.{touched_from, joined_from}
 use Rattle.mono_regions.proofs.JoinLaws.{strips_few, number_of, seen_among, begins_is}
 use Rattle.mono_regions.proofs.Gathered.{region_at, one_region, no_region, all_regions}

@@ -1,4 +1,4 @@
-use Rattle.std.proofs.Common.{◌≡◌, ℕ, get_or, ap, ◌∙◌, sym, arith}
+use Rattle.std.proofs.Common.{get_or, ap, ◌∙◌, sym}
 use Rattle.mono_regions.specs.declared.seen.Seen.{Seen}
 use Rattle.mono_regions.specs.declared.seen.Seen.TheVariants.{Nothing}
 use Rattle.mono_regions.specs.Seeing.{beyond, seen_with}

@@ -1,4 +1,4 @@
-use Rattle.std.proofs.Common.{◌<◌, ◌≤◌, length, ap, ◌∙◌, arith}
+use Rattle.std.proofs.Common.{length, ap, ◌∙◌, arith}
 use Rattle.mesh_types.specs.StripMeshes.{strip_runs}
 use Rattle.mono_regions.specs.Seeing.{touched_by}
 use Rattle.mono_regions.specs.Joining.{touched_from}
