@@ -1,13 +1,13 @@
 -- Outlines: what the runs leave, one after the other.
-use Rattle.std.proofs.Common.{◌≡◌, ℕ, ◌+◌, ◌-◌, ◌<◌, ◌≤◌, Bool, true, false, List, [], ◌∷◌, ◌++◌, length, get_or, take, drop, arith, refl, sym, ap, ◌∙◌}
+use Rattle.std.proofs.Common.{◌≡◌, ℕ, ◌+◌, ◌-◌, ◌<◌, ◌≤◌, Bool, true, false, List, [], ◌∷◌, ◌++◌, length, get_or, take, drop, arith, refl, sym, subst, ap, ◌∙◌}
 use Rattle.std.specs.Prelude.{All, nat_lt, if◌then◌else◌, ◌↔◌, filter}
 use Rattle.std.specs.List.Sorted.{IsPermutation}
 use Rattle.std.specs.Ordering.{is_eq}
 use Rattle.std.specs.List.{flat_map}
 use Rattle.std.proofs.lemmas.Bool.{ltb-true, ltb-false}
-use Rattle.std.proofs.lemmas.List.{take_more, take_all, length-drop, length-map, get_or-drop, append-nil}
+use Rattle.std.proofs.lemmas.List.{get_or-map, take_more, take_all, length-drop, length-map, get_or-drop, append-nil}
 use Rattle.std.proofs.lemmas.List.Concat.{flat_map-append}
-use Rattle.std.proofs.lemmas.List.Elements.{All-append, filter_agree}
+use Rattle.std.proofs.lemmas.List.Elements.{All-append, All-map, All-filter, filter_agree}
 use Rattle.std.proofs.lemmas.List.Sorted.{list_any-IsPermutation}
 use Rattle.std.proofs.lemmas.Slice.Zip.{length-zip, get_or-zip}
 use Rattle.nav_base.specs.declared.point.Point.{Point}
@@ -19,7 +19,7 @@ use Rattle.mesh_types.specs.declared.outline.Outline as outlines
 use Rattle.mesh_types.specs.declared.outline.Simplified.TheVariants.{Flat, Outline}
 use Rattle.mesh_types.specs.Rings.{IsRing, beginnings}
 use Rattle.mesh_types.specs.LinkOrder.{point_cmp}
-use Rattle.mesh_types.specs.Simplified.{runs_between, twice_round, kept_corners, kept_edges, begins_among, codes_of, simplified_of}
+use Rattle.mesh_types.specs.Simplified.{runs_between, twice_round, kept_corners, kept_edges, begins_among, codes_of, simplified_of, IsOutline, IfOutline}
 
 runs_count : (stops : List ℕ) → length (runs_between stops) ≡ length stops - 1
 runs_count stops = omega (arith, length-zip stops (drop 1 stops), length-drop 1 stops)
@@ -86,3 +86,26 @@ same_among error edges sorted same =
 
 pub corners_inside : (edges : List UnitEdge) → IsRing edges → All IsCellCorner (twice_round edges)
 corners_inside edges ring = All-append IsCellCorner (beginnings edges) (beginnings edges) ring.inside ring.inside
+
+-- what every outline is
+pub outline_is : (error : ℕ) (edges : List UnitEdge) (simplified : Simplified) → IsRing edges → simplified ≡ simplified_of error edges → IfOutline simplified IsOutline
+unfolding simplified_of kept_edges
+outline_is error edges simplified ring is = subst (λ (s : Simplified). IfOutline s IsOutline) (sym is) (by_case (nat_lt (length (kept_edges error edges)) 3) refl)
+  where
+    corners : List Point
+    corners = beginnings (kept_edges error edges)
+
+    edges_inside : All (λ (edge : UnitEdge). IsCellCorner edge.from) edges
+    edges_inside k d there =
+        subst IsCellCorner (get_or-map (λ (edge : UnitEdge). edge.from) edges k d (get_or edges k d).from there)
+        (ring.inside k (get_or edges k d).from (omega (arith, there, length-map edges (λ (edge : UnitEdge). edge.from))))
+
+    by_case : (test : Bool) → nat_lt (length (kept_edges error edges)) 3 ≡ test
+        → IfOutline (if test then Flat else Outline (record { corners = corners; codes = codes_of (kept_edges error edges) })) IsOutline
+    by_case true few = tt
+    by_case false many = record {
+      several = omega (arith, ltb-false (length (kept_edges error edges)) 3 many, length-map (kept_edges error edges) (λ (edge : UnitEdge). edge.from));
+      coded = omega (arith, length-map (kept_edges error edges) (λ (edge : UnitEdge). edge.from), length-map (kept_edges error edges) (λ (edge : UnitEdge). edge.code));
+      inside = All-map IsCellCorner (λ (edge : UnitEdge). edge.from) (kept_edges error edges)
+          (All-filter (begins_among (kept_corners error edges)) (λ (edge : UnitEdge). IsCellCorner edge.from) edges edges_inside);
+    }

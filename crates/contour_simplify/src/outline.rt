@@ -3,7 +3,7 @@
 ghost use Rattle.std.specs.Prelude.{◌≡◌, ◌↔◌, ◌<◌, IfOk, length, filter, nat_lt, if◌then◌else◌};
 ghost use Rattle.std.specs.List.Sorted.{IsSortedBy};
 ghost use Rattle.mesh_types.specs.Rings.{IsRing, beginnings};
-ghost use Rattle.mesh_types.specs.Simplified.{simplified_of, kept_edges, begins_among, codes_of, is_among, is_before};
+ghost use Rattle.mesh_types.specs.Simplified.{simplified_of, IsOutline, IfOutline, kept_edges, begins_among, codes_of, is_among, is_before};
 
 use crate::kept::{kept_corners, twice_round};
 use crate::run::corner_order;
@@ -21,6 +21,7 @@ use std::alloc::{AllocError, Global};
 pub fn simplify(alloc: Global, edges: &[UnitEdge], error: u32) -> Result<Simplified, AllocError>
     requires { IsRing edges.now }
     ensures value { IfOk result (λ simplified. simplified ≡ simplified_of error edges.now) }
+    ensures outline { IfOk result (λ simplified. IfOutline simplified IsOutline) }
     ensures flat { IfOk result (λ simplified. (simplified ≡ Simplified.Flat) ↔ (length (kept_edges error edges.now) < 3)) }
 {
     if edges.is_empty() {

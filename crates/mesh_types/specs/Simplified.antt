@@ -1,13 +1,15 @@
 -- Simplified: contours with fewer corners.
-use Rattle.std.specs.Prelude.{ℕ, zero, suc, pos, ◌+◌, ◌-◌, ◌*◌, Bool, true, false, not, nat_lt, ◌==◌, if◌then◌else◌, List, [], ◌∷◌, ◌++◌, length, map, take, drop, get_or, filter, reverse, min, max}
+use Rattle.std.specs.Prelude.{◌≡◌, ◌≤◌, All, ℕ, zero, suc, pos, ◌+◌, ◌-◌, ◌*◌, Bool, true, false, not, nat_lt, ◌==◌, if◌then◌else◌, List, [], ◌∷◌, ◌++◌, length, map, take, drop, get_or, filter, reverse, min, max}
 use Rattle.std.specs.List.{prefix_len, list_any, range_with_len, flat_map, slice_range, zip}
 use Rattle.std.specs.Ordering.{is_lt, is_eq}
 use Rattle.nav_base.specs.declared.point.Point.{Point}
 use Rattle.nav_base.specs.declared.deviation.Deviation.{Deviation}
+use Rattle.nav_base.specs.Point.{IsCellCorner}
 use Rattle.nav_base.specs.Deviation.{deviation_of}
 use Rattle.mesh_types.specs.declared.region.Code.{Code}
 use Rattle.mesh_types.specs.declared.region.Code.TheVariants.{Wall, Region, Side}
 use Rattle.mesh_types.specs.declared.region.UnitEdge.{UnitEdge}
+use Rattle.mesh_types.specs.declared.outline.Outline as outlines
 use Rattle.mesh_types.specs.declared.outline.Simplified.{Simplified}
 use Rattle.mesh_types.specs.declared.outline.Simplified.TheVariants.{Flat, Outline}
 use Rattle.mesh_types.specs.LinkOrder.{point_cmp}
@@ -128,3 +130,14 @@ simplified_of error edges =
     let kept = kept_edges error edges in
     if nat_lt (length kept) 3 then Flat
     else Outline (record { corners = beginnings kept; codes = codes_of kept })
+
+-- an outline has at least three corners, which are corners of cells, and a code for each
+pub record IsOutline (outline : outlines.Outline) : Type 0 where
+  pub several : 3 ≤ length outline.corners
+  pub coded : length outline.codes ≡ length outline.corners
+  pub inside : All IsCellCorner outline.corners
+
+-- P of the outline, where it is not flat
+abbrev pub IfOutline : Simplified → (outlines.Outline → Type 0) → Type 0
+IfOutline Flat P = Unit {0}
+IfOutline (Outline outline) P = P outline

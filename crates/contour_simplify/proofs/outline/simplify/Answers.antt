@@ -9,7 +9,7 @@ use Rattle.mesh_types.specs.Rings.{beginnings}
 use Rattle.mesh_types.specs.Simplified.{is_before, begins_among, codes_of, kept_edges, kept_corners}
 use Rattle.contour_simplify.proofs.CornerOrder.{before_order}
 use Rattle.contour_simplify.proofs.Rising.{stops_are}
-use Rattle.contour_simplify.proofs.Outlines.{nothing_left, simplified_is, same_among, flat_if, corners_inside}
+use Rattle.contour_simplify.proofs.Outlines.{nothing_left, simplified_is, same_among, flat_if, corners_inside, outline_is}
 use Rattle.contour_simplify.proofs.outline.simplify.Goals as goal
 
 pub returns-then-is_empty-clause-value : goal.returns-then-is_empty-clause-value
@@ -17,6 +17,9 @@ returns-then-is_empty-clause-value c = nothing_left c.args.error c.args.edges.no
 
 pub returns-then-is_empty-clause-flat : goal.returns-then-is_empty-clause-flat
 returns-then-is_empty-clause-flat c = flat_if c.args.error c.args.edges.now _ (returns-then-is_empty-clause-value c)
+
+pub returns-then-is_empty-clause-outline : goal.returns-then-is_empty-clause-outline
+returns-then-is_empty-clause-outline c = outline_is c.args.error c.args.edges.now _ c.requires (returns-then-is_empty-clause-value c)
 
 pub kept_corners-requires-clause-inside : goal.kept_corners-requires-clause-inside
 kept_corners-requires-clause-inside c = rw (c.as_slice.ensures.value, c.in_ok-round.ensures) (corners_inside c.args.edges.now c.requires)
@@ -41,6 +44,9 @@ returns-clause-value c =
     let same : filter (begins_among sorted) edges ≡ kept_edges c.args.error edges = same_among c.args.error edges sorted permuted in
     c.simplified.ensures
     ∙ simplified_is c.args.error edges c.in_ok-outline.outline (c.in_ok-outline.ensures.corners ∙ ap beginnings same) (c.in_ok-outline.ensures.codes ∙ ap codes_of same)
+
+pub returns-clause-outline : goal.returns-clause-outline
+returns-clause-outline c = outline_is c.args.error c.args.edges.now c.simplified.result c.requires (returns-clause-value c)
 
 pub returns-clause-flat : goal.returns-clause-flat
 returns-clause-flat c = flat_if c.args.error c.args.edges.now c.simplified.result (returns-clause-value c)
