@@ -3,7 +3,6 @@ use Rattle.std.specs.Prelude.{◌≡◌, ◌≤◌, All, ℕ, zero, suc, pos, �
 use Rattle.std.specs.List.{prefix_len, list_any, range_with_len, flat_map, slice_range, zip}
 use Rattle.std.specs.Ordering.{is_lt, is_eq}
 use Rattle.nav_base.specs.declared.point.Point.{Point}
-use Rattle.nav_base.specs.declared.deviation.Deviation.{Deviation}
 use Rattle.nav_base.specs.Point.{IsCellCorner}
 use Rattle.nav_base.specs.Deviation.{deviation_of}
 use Rattle.mesh_types.specs.declared.region.Code.{Code}
