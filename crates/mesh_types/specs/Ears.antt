@@ -1,0 +1,99 @@
+-- Ears: how an outline is cut into triangles, ear by ear.
+--
+-- The corners of an outline are named by their places, from 0. The remaining places stand in a list that runs round: its first follows its last.
+use Rattle.std.specs.Prelude.{◌≡◌, ℕ, zero, suc, ◌+◌, ◌-◌, ◌<◌, ◌≤◌, ◌==◌, ℤ, pos, Bool, not, ◌&&◌, ◌||◌, nat_lt, if◌then◌else◌, List, [], ◌∷◌, length, slice_index, filter, All, Option, None, Some, Result, Ok, Err}
+use Rattle.std.specs.Int.Signed.{le_z, lt_z}
+use Rattle.std.specs.Ordering.{int_eq}
+use Rattle.std.specs.List.{list_any, range_with_len, remove}
+use Rattle.nav_base.specs.declared.point.Point.{Point}
+use Rattle.nav_base.specs.Point.{HasCoordinates, from_to, orient_of}
+use Rattle.nav_base.specs.Convex.{corner_at, place_after}
+use Rattle.nav_base.specs.Deviation.{square_of}
+use Rattle.mesh_types.specs.declared.outline.Triangle.{Triangle}
+use Rattle.mesh_types.specs.Choices.{first_best}
+
+-- an outline that can be cut: it has at least three corners, its places are numbers of 32 bits, and its corners are points of the plane
+pub record CanBeCut (corners : List Point) : Type 0 where
+  pub enough : 3 ≤ length corners
+  pub few : length corners < 4294967295
+  pub points : All HasCoordinates corners
+
+-- ---- a triangle of places
+
+-- positive where the triangle's corners run counterclockwise
+abbrev pub turn_of : List Point → Triangle → ℤ
+turn_of corners t = orient_of (corner_at corners t.a) (corner_at corners t.b) (corner_at corners t.c)
+
+-- two points are the same
+abbrev pub is_same_point : Point → Point → Bool
+is_same_point p q = int_eq p.x q.x && int_eq p.z q.z
+
+-- a point is one of the triangle's corners
+abbrev pub is_corner : List Point → Triangle → Point → Bool
+is_corner corners t p = is_same_point p (corner_at corners t.a) || is_same_point p (corner_at corners t.b) || is_same_point p (corner_at corners t.c)
+
+-- a point lies in the triangle or on its rim
+abbrev pub is_inside : List Point → Triangle → Point → Bool
+is_inside corners t p =
+    le_z (pos 0) (orient_of (corner_at corners t.a) (corner_at corners t.b) p)
+    && le_z (pos 0) (orient_of (corner_at corners t.b) (corner_at corners t.c) p)
+    && le_z (pos 0) (orient_of (corner_at corners t.c) (corner_at corners t.a) p)
+
+-- the corner at a place blocks the triangle: it lies in it, at a point other than its corners
+abbrev pub is_blocked_by : List Point → Triangle → ℕ → Bool
+is_blocked_by corners t place = not (is_corner corners t (corner_at corners place)) && is_inside corners t (corner_at corners place)
+
+-- ---- ears
+
+-- the position before one in a list that runs round
+abbrev pub position_before : ℕ → ℕ → ℕ
+position_before count i = if i == 0 then count - 1 else i - 1
+
+-- the triangle of the place at a position, between the places before and after it
+abbrev pub triangle_at : List ℕ → ℕ → Triangle
+triangle_at rest i = record { a = slice_index rest (position_before (length rest) i); b = slice_index rest i; c = slice_index rest (place_after (length rest) i) }
+
+-- an ear: the list turns to the left there, and no remaining corner blocks the triangle
+abbrev pub is_ear : List Point → List ℕ → ℕ → Bool
+is_ear corners rest i = lt_z (pos 0) (turn_of corners (triangle_at rest i)) && not (list_any (is_blocked_by corners (triangle_at rest i)) rest)
+
+-- the square of the distance between the corners before and after a position
+abbrev pub width_at : List Point → List ℕ → ℕ → ℕ
+width_at corners rest i = square_of (from_to (corner_at corners (triangle_at rest i).a) (corner_at corners (triangle_at rest i).c))
+
+-- the ear at the one position is narrower than at the other
+abbrev pub is_narrower : List Point → List ℕ → ℕ → ℕ → Bool
+is_narrower corners rest i j = nat_lt (width_at corners rest i) (width_at corners rest j)
+
+-- the position of the narrowest ear, and of equally narrow ones the first
+unfoldable pub best_ear : List Point → List ℕ → Option ℕ
+best_ear corners rest = first_best (is_narrower corners rest) (filter (is_ear corners rest) (range_with_len 0 (length rest)))
+
+-- ---- the cut
+
+-- a triangle before those that the rest gives
+abbrev pub and_then : Triangle → Result (List Triangle) (List ℕ) → Result (List Triangle) (List ℕ)
+and_then t (Ok triangles) = Ok (t ∷ triangles)
+and_then t (Err left) = Err left
+
+-- the last three places give a triangle where it runs counterclockwise
+abbrev pub last_cut : List Point → List ℕ → Result (List Triangle) (List ℕ)
+last_cut corners rest = if lt_z (pos 0) (turn_of corners (triangle_at rest 1)) then Ok (triangle_at rest 1 ∷ []) else Err rest
+
+-- The best ear is cut off as often as there are places above three: that gives its triangle, and its place leaves the list. Where there is no ear, or
+-- the last triangle does not run counterclockwise, the remaining places are left.
+unfoldable pub cut_ears : List Point → ℕ → List ℕ → Result (List Triangle) (List ℕ)
+cut_ears corners zero rest = last_cut corners rest
+cut_ears corners (suc above) rest =
+    elim (best_ear corners rest) [
+      | None ↦ Err rest
+      | Some i ↦ and_then (triangle_at rest i) (cut_ears corners above (remove rest i))
+    ]
+
+-- the triangles of an outline, or the places that are left where there is no ear
+unfoldable pub ears_of : List Point → Result (List Triangle) (List ℕ)
+ears_of corners = cut_ears corners (length corners - 3) (range_with_len 0 (length corners))
+
+-- the triangles are those of the outline
+pub record AreEarsOf (corners : List Point) (triangles : List Triangle) : Type 0 where
+  pub cut : ears_of corners ≡ Ok triangles
