@@ -15,3 +15,5 @@ pub mod Totals
 pub mod OneTile
 pub mod PolygonTotals
 pub mod RunTotals
+pub mod ChoiceLaws
+pub mod EarLaws

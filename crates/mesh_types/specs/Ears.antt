@@ -1,9 +1,10 @@
 -- Ears: how an outline is cut into triangles, ear by ear.
 --
 -- The corners of an outline are named by their places, from 0. The remaining places stand in a list that runs round: its first follows its last.
-use Rattle.std.specs.Prelude.{◌≡◌, ℕ, zero, suc, ◌+◌, ◌-◌, ◌<◌, ◌≤◌, ◌==◌, ℤ, pos, Bool, not, ◌&&◌, ◌||◌, nat_lt, if◌then◌else◌, List, [], ◌∷◌, length, slice_index, filter, All, Option, None, Some, Result, Ok, Err}
+use Rattle.std.specs.Prelude.{◌≡◌, ℕ, zero, suc, ◌+◌, ◌-◌, ◌<◌, ◌≤◌, ◌==◌, ℤ, pos, Bool, not, ◌&&◌, nat_lt, if◌then◌else◌, List, [], ◌∷◌, length, slice_index, filter, All, Option, Result, Ok, Err}
 use Rattle.std.specs.Int.Signed.{le_z, lt_z}
 use Rattle.std.specs.Ordering.{int_eq}
+use Rattle.std.specs.Option.{option_map_or}
 use Rattle.std.specs.List.{list_any, range_with_len, remove}
 use Rattle.nav_base.specs.declared.point.Point.{Point}
 use Rattle.nav_base.specs.Point.{HasCoordinates, from_to, orient_of}
@@ -18,6 +19,16 @@ pub record CanBeCut (corners : List Point) : Type 0 where
   pub few : length corners < 4294967295
   pub points : All HasCoordinates corners
 
+-- each of the places names a corner
+abbrev pub ArePlacesOf : List Point → List ℕ → Type 0
+ArePlacesOf corners places = All (λ place. place < length corners) places
+
+-- the three places of a triangle name corners
+pub record IsTriangleOf (corners : List Point) (t : Triangle) : Type 0 where
+  pub a : t.a < length corners
+  pub b : t.b < length corners
+  pub c : t.c < length corners
+
 -- ---- a triangle of places
 
 -- positive where the triangle's corners run counterclockwise
@@ -28,20 +39,19 @@ turn_of corners t = orient_of (corner_at corners t.a) (corner_at corners t.b) (c
 abbrev pub is_same_point : Point → Point → Bool
 is_same_point p q = int_eq p.x q.x && int_eq p.z q.z
 
--- a point is one of the triangle's corners
-abbrev pub is_corner : List Point → Triangle → Point → Bool
-is_corner corners t p = is_same_point p (corner_at corners t.a) || is_same_point p (corner_at corners t.b) || is_same_point p (corner_at corners t.c)
+-- a point differs from all three corners of a triangle
+abbrev pub is_apart : Point → Point → Point → Point → Bool
+is_apart a b c p = not (is_same_point p a) && not (is_same_point p b) && not (is_same_point p c)
 
--- a point lies in the triangle or on its rim
-abbrev pub is_inside : List Point → Triangle → Point → Bool
-is_inside corners t p =
-    le_z (pos 0) (orient_of (corner_at corners t.a) (corner_at corners t.b) p)
-    && le_z (pos 0) (orient_of (corner_at corners t.b) (corner_at corners t.c) p)
-    && le_z (pos 0) (orient_of (corner_at corners t.c) (corner_at corners t.a) p)
+-- a point lies in the triangle from a to b to c, which runs counterclockwise, or on its rim
+abbrev pub is_inside : Point → Point → Point → Point → Bool
+is_inside a b c p = le_z (pos 0) (orient_of a b p) && le_z (pos 0) (orient_of b c p) && le_z (pos 0) (orient_of c a p)
 
--- the corner at a place blocks the triangle: it lies in it, at a point other than its corners
+-- the corner at a place lies in the triangle, at a point other than its corners
 abbrev pub is_blocked_by : List Point → Triangle → ℕ → Bool
-is_blocked_by corners t place = not (is_corner corners t (corner_at corners place)) && is_inside corners t (corner_at corners place)
+is_blocked_by corners t place =
+    is_apart (corner_at corners t.a) (corner_at corners t.b) (corner_at corners t.c) (corner_at corners place)
+    && is_inside (corner_at corners t.a) (corner_at corners t.b) (corner_at corners t.c) (corner_at corners place)
 
 -- ---- ears
 
@@ -84,11 +94,7 @@ last_cut corners rest = if lt_z (pos 0) (turn_of corners (triangle_at rest 1)) t
 -- the last triangle does not run counterclockwise, the remaining places are left.
 unfoldable pub cut_ears : List Point → ℕ → List ℕ → Result (List Triangle) (List ℕ)
 cut_ears corners zero rest = last_cut corners rest
-cut_ears corners (suc above) rest =
-    elim (best_ear corners rest) [
-      | None ↦ Err rest
-      | Some i ↦ and_then (triangle_at rest i) (cut_ears corners above (remove rest i))
-    ]
+cut_ears corners (suc above) rest = option_map_or (λ i. and_then (triangle_at rest i) (cut_ears corners above (remove rest i))) (best_ear corners rest) (Err rest)
 
 -- the triangles of an outline, or the places that are left where there is no ear
 unfoldable pub ears_of : List Point → Result (List Triangle) (List ℕ)
