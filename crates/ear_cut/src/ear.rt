@@ -6,8 +6,7 @@ ghost use Rattle.std.specs.Option.{option_map_or};
 ghost use Rattle.nav_base.specs.Point.{HasCoordinates};
 ghost use Rattle.nav_base.specs.Convex.{place_after};
 ghost use Rattle.mesh_types.specs.Choices.{or_later};
-ghost use Rattle.mesh_types.specs.Ears.{best_ear, is_blocked_by, is_ear, is_narrower, position_before, triangle_at};
-ghost use Rattle.ear_cut.specs.Places.{ArePlacesOf, IsTriangleOf};
+ghost use Rattle.mesh_types.specs.Ears.{ArePlacesOf, IsTriangleOf, best_ear, is_blocked_by, is_ear, is_narrower, position_before, triangle_at};
 
 use crate::triangle::{is_blocked_by, runs_counterclockwise, width};
 use mesh_types::Triangle;

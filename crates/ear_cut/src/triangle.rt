@@ -1,12 +1,11 @@
 //! Triangles of places of an outline.
 
 ghost use Rattle.std.specs.Prelude.{◌≡◌, ◌<◌, ◌≤◌, ◌*◌, pos, length, All, unsigned_abs};
-ghost use Rattle.std.specs.Int.Signed.{lt_z};
-ghost use Rattle.nav_base.specs.Point.{HasCoordinates, from_to};
+ghost use Rattle.std.specs.Int.Signed.{le_z, lt_z};
+ghost use Rattle.nav_base.specs.Point.{HasCoordinates, from_to, orient_of};
 ghost use Rattle.nav_base.specs.Deviation.{square_of};
 ghost use Rattle.nav_base.specs.Convex.{corner_at};
-ghost use Rattle.mesh_types.specs.Ears.{is_apart, is_blocked_by, is_inside, is_same_point, turn_of};
-ghost use Rattle.ear_cut.specs.Places.{IsTriangleOf};
+ghost use Rattle.mesh_types.specs.Ears.{IsTriangleOf, is_apart, is_blocked_by, is_inside, turn_of};
 
 use mesh_types::Triangle;
 use nav_base::{Point, orient};
@@ -61,11 +60,20 @@ fn is_inside(a: Point, b: Point, c: Point, p: Point) -> bool
     requires point { HasCoordinates p }
     ensures { result ≡ is_inside a b c p }
 {
-    orient(a, b, p) >= 0 && orient(b, c, p) >= 0 && orient(c, a, p) >= 0
+    is_not_right(a, b, p) && is_not_right(b, c, p) && is_not_right(c, a, p)
+}
+
+/// Whether a point lies to the left of the walk from `a` to `b`, or on its line.
+fn is_not_right(a: Point, b: Point, p: Point) -> bool
+    requires first { HasCoordinates a }
+    requires second { HasCoordinates b }
+    requires point { HasCoordinates p }
+    ensures { result ≡ le_z (pos 0) (orient_of a b p) }
+{
+    orient(a, b, p) >= 0
 }
 
 /// The square of the distance between two points.
-#[tactic(auto, unfolding(nav_base::specs::Point::dot_of))]
 fn square_distance(from: Point, to: Point) -> u64
     requires from { HasCoordinates from }
     requires to { HasCoordinates to }

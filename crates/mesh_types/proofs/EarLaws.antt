@@ -7,7 +7,10 @@ use Rattle.std.specs.Int.Signed.{lt_z, lt_z_yes}
 use Rattle.std.proofs.Math.Dec.{T}
 use Rattle.std.proofs.lemmas.Bool.{and_parts}
 use Rattle.std.proofs.lemmas.Bool.Decides.{nat_tests}
-use Rattle.std.proofs.lemmas.List.Elements.{All-head, All-tail, All-cons, All-nil, All-append, All-take, All-drop, All-get_or, All-from_get_or}
+use Rattle.std.proofs.lemmas.List.Elements.{All-head, All-tail, All-cons, All-nil, All-append, All-take, All-drop, All-get_or, All-from_get_or, filter-append}
+use Rattle.std.specs.Cmp.{IsStrictWeakOrder}
+use Rattle.std.proofs.lemmas.List.{append-nil}
+use Rattle.std.proofs.lemmas.List.MinMax.{IsStrictWeakOrder-by_number}
 use Rattle.std.proofs.lemmas.List.Edits.{length-remove}
 use Rattle.std.proofs.lemmas.List.FromFn.{length-range_with_len, get_or-range_with_len}
 use Rattle.nav_ground.proofs.Selections.{range-push}
@@ -16,7 +19,7 @@ use Rattle.nav_base.proofs.ConvexLaws.{place_after-in}
 use Rattle.nav_base.specs.declared.point.Point.{Point}
 use Rattle.mesh_types.specs.declared.outline.Triangle.{Triangle}
 use Rattle.mesh_types.specs.Choices.{or_later, first_best}
-use Rattle.mesh_types.specs.Ears.{CanBeCut, ArePlacesOf, IsTriangleOf, turn_of, triangle_at, is_ear, is_narrower, position_before, best_ear, and_then, last_cut, cut_ears, ears_of}
+use Rattle.mesh_types.specs.Ears.{CanBeCut, ArePlacesOf, IsTriangleOf, turn_of, triangle_at, is_ear, is_narrower, width_at, position_before, best_ear, and_then, last_cut, cut_ears, ears_of}
 use Rattle.mesh_types.proofs.ChoiceLaws.{first_best-push, first_best-all}
 
 -- a test that is passed
@@ -162,3 +165,32 @@ unfolding ears_of
 ears_of-triangles corners triangles enough is =
     subst (λ n. AreTriangles corners n triangles) {x = length corners - 3 + 1} {y = length corners - 2} (omega arith)
     (cut_ears-triangles corners (length corners - 3) _ triangles (omega (arith, length-range_with_len 0 (length corners))) (all_places corners) is)
+
+-- the narrower of two is an order
+narrower-order : (corners : List Point) (rest : List ℕ) → IsStrictWeakOrder (is_narrower corners rest)
+narrower-order corners rest = IsStrictWeakOrder-by_number (width_at corners rest)
+
+-- the best of the ears at the first positions, and at one more
+pub best_ear-more : (corners : List Point) (rest : List ℕ) (position : ℕ) (best next : Option ℕ)
+    → best ≡ first_best (is_narrower corners rest) (filter (is_ear corners rest) (range_with_len 0 position))
+    → next ≡ (if is_ear corners rest position then or_later (is_narrower corners rest) best position else best)
+    → next ≡ first_best (is_narrower corners rest) (filter (is_ear corners rest) (range_with_len 0 (position + 1)))
+best_ear-more corners rest position best next before is =
+    is ∙ cases (is_ear corners rest position) refl
+    ∙ ap (first_best (is_narrower corners rest)) (sym (filter-append (is_ear corners rest) (range_with_len 0 position) (position ∷ [])))
+    ∙ ap (λ (n : ℕ). first_best (is_narrower corners rest) (filter (is_ear corners rest) (range_with_len 0 position ++ n ∷ []))) {x = position} {y = 0 + position} (omega arith)
+    ∙ ap (λ places. first_best (is_narrower corners rest) (filter (is_ear corners rest) places)) (sym (range-push 0 position))
+  where
+    ears : List ℕ
+    ears = filter (is_ear corners rest) (range_with_len 0 position)
+
+    cases : (b : Bool) → is_ear corners rest position ≡ b
+        → (if b then or_later (is_narrower corners rest) best position else best) ≡ first_best (is_narrower corners rest) (ears ++ cond b (position ∷ []) [])
+    cases true e = ap (λ o. or_later (is_narrower corners rest) o position) before ∙ sym (first_best-push (is_narrower corners rest) (narrower-order corners rest) ears position)
+    cases false e = before ∙ ap (first_best (is_narrower corners rest)) (sym (append-nil ears))
+
+-- and at all
+pub best_ear-all : (corners : List Point) (rest : List ℕ) (position : ℕ) (best : Option ℕ) → position ≡ length rest
+    → best ≡ first_best (is_narrower corners rest) (filter (is_ear corners rest) (range_with_len 0 position)) → best ≡ best_ear corners rest
+unfolding best_ear
+best_ear-all corners rest position best end is = is ∙ ap (λ n. first_best (is_narrower corners rest) (filter (is_ear corners rest) (range_with_len 0 n))) end

@@ -15,5 +15,6 @@ pub mod Totals
 pub mod OneTile
 pub mod PolygonTotals
 pub mod RunTotals
+pub mod SquareLaws
 pub mod ChoiceLaws
 pub mod EarLaws
