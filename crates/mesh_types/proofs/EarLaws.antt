@@ -194,3 +194,41 @@ pub best_ear-all : (corners : List Point) (rest : List ℕ) (position : ℕ) (be
     → best ≡ first_best (is_narrower corners rest) (filter (is_ear corners rest) (range_with_len 0 position)) → best ≡ best_ear corners rest
 unfolding best_ear
 best_ear-all corners rest position best end is = is ∙ ap (λ n. first_best (is_narrower corners rest) (filter (is_ear corners rest) (range_with_len 0 n))) end
+
+-- ---- the walk of the cut
+
+-- at the beginning
+pub cut-begun : (corners : List Point) (rest : List ℕ) (triangles : List Triangle) → rest ≡ range_with_len 0 (length corners) → triangles ≡ []
+    → ears_of corners ≡ after triangles (cut_ears corners (length rest - 3) rest)
+unfolding ears_of
+cut-begun corners rest triangles all none =
+    sym (after-none (cut_ears corners (length corners - 3) (range_with_len 0 (length corners))))
+    ∙ ap (λ ts. after ts (cut_ears corners (length corners - 3) (range_with_len 0 (length corners)))) (sym none)
+    ∙ ap (λ n. after triangles (cut_ears corners (n - 3) (range_with_len 0 (length corners)))) (sym (length-range_with_len 0 (length corners)))
+    ∙ ap (λ places. after triangles (cut_ears corners (length places - 3) places)) (sym all)
+
+-- after one more ear
+pub cut-more : (corners : List Point) (rest : List ℕ) (triangles : List Triangle) (i : ℕ) → 3 < length rest → best_ear corners rest ≡ Some i
+    → ears_of corners ≡ after triangles (cut_ears corners (length rest - 3) rest)
+    → ears_of corners ≡ after (triangles ++ triangle_at rest i ∷ []) (cut_ears corners (length (remove rest i) - 3) (remove rest i))
+cut-more corners rest triangles i more is before =
+    before ∙ ap (after triangles) (cut_ears-some corners rest i more is) ∙ after-more triangles (triangle_at rest i) (cut_ears corners (length (remove rest i) - 3) (remove rest i))
+
+-- without an ear
+pub cut-none : (corners : List Point) (rest : List ℕ) (triangles : List Triangle) → 3 < length rest → best_ear corners rest ≡ None
+    → ears_of corners ≡ after triangles (cut_ears corners (length rest - 3) rest) → ears_of corners ≡ Err rest
+cut-none corners rest triangles more is before = before ∙ ap (after triangles) (cut_ears-none corners rest more is)
+
+-- at the last three
+pub cut-last : (corners : List Point) (rest : List ℕ) (triangles : List Triangle) → length rest ≤ 3
+    → ears_of corners ≡ after triangles (cut_ears corners (length rest - 3) rest) → lt_z (pos 0) (turn_of corners (triangle_at rest 1)) ≡ true
+    → ears_of corners ≡ Ok (triangles ++ triangle_at rest 1 ∷ [])
+cut-last corners rest triangles few before turn =
+    before ∙ ap (after triangles) (cut_ears-last corners rest few)
+    ∙ ap (λ (b : Bool). after triangles (if b then Ok (triangle_at rest 1 ∷ []) else Err rest)) turn
+
+pub cut-last_none : (corners : List Point) (rest : List ℕ) (triangles : List Triangle) → length rest ≤ 3
+    → ears_of corners ≡ after triangles (cut_ears corners (length rest - 3) rest) → lt_z (pos 0) (turn_of corners (triangle_at rest 1)) ≡ false → ears_of corners ≡ Err rest
+cut-last_none corners rest triangles few before turn =
+    before ∙ ap (after triangles) (cut_ears-last corners rest few)
+    ∙ ap (λ (b : Bool). after triangles (if b then Ok (triangle_at rest 1 ∷ []) else Err rest)) turn
