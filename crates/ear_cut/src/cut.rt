@@ -38,8 +38,8 @@ pub fn ears(alloc: Global, outline: &Outline) -> Result<Items<Triangle>, EarRefu
     let last = triangle_at(rest.as_slice(), 1);
     if !runs_counterclockwise(corners, last) {
         return Err(EarRefusal::NoEar {
-                left: Items::from_vec(rest),
-            });
+            left: Items::from_vec(rest),
+        });
     }
     triangles.push(last)?;
     Ok(Items::from_vec(triangles))

@@ -27,12 +27,7 @@ pub(crate) fn best_ear(corners: &[Point], rest: &[u32]) -> Option<usize>
 }
 
 /// The best ear so far, or the one at a later position where there is an ear that is narrower.
-fn or_later(
-    corners: &[Point],
-    rest: &[u32],
-    best: Option<usize>,
-    position: usize,
-) -> Option<usize>
+fn or_later(corners: &[Point], rest: &[u32], best: Option<usize>, position: usize) -> Option<usize>
     requires points { All HasCoordinates corners.now }
     requires places { ArePlacesOf corners.now rest.now }
     requires there { position < length rest.now }
@@ -108,7 +103,11 @@ fn position_before(count: usize, position: usize) -> usize
     ensures value { result ≡ position_before count position }
     ensures there { result < count }
 {
-    if position == 0 { count - 1 } else { position - 1 }
+    if position == 0 {
+        count - 1
+    } else {
+        position - 1
+    }
 }
 
 /// The position after one, the first after the last.

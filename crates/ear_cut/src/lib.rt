@@ -14,3 +14,6 @@ mod triangle;
 
 pub use cut::ears;
 pub use refusal::EarRefusal;
+
+#[cfg(test)]
+mod tests;

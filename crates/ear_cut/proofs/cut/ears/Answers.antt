@@ -1,4 +1,4 @@
-use Rattle.std.proofs.Common.{◌≡◌, pos,  ◌+◌, ◌-◌, ◌<◌, ◌++◌, [], ◌∷◌, List, ℕ, length, sym, ap, subst, ◌∙◌, arith}
+use Rattle.std.proofs.Common.{◌≡◌, pos, ◌+◌, ◌-◌, ◌<◌, ◌++◌, [], ◌∷◌, List, ℕ, length, sym, ap, subst, ◌∙◌, arith}
 use Rattle.std.specs.Prelude.{Ok, Err, Some}
 use Rattle.std.specs.List.{remove, range_with_len}
 use Rattle.std.specs.Int.Signed.{lt_z}
