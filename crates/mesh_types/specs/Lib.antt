@@ -17,3 +17,4 @@ pub mod Right
 pub mod Rings
 pub mod Choices
 pub mod Ears
+pub mod Merging
