@@ -1,8 +1,10 @@
 -- The laws of choices: the first of the best is found in one walk over the items.
-use Rattle.std.proofs.Common.{◌≡◌, Bool, true, false, List, [], ◌∷◌, ◌++◌, All, Option, refl, ap, subst, ◌∙◌}
+use Rattle.std.proofs.Common.{◌≡◌, Bool, true, false, List, [], ◌∷◌, ◌++◌, All, Option, filter, cond, append_assoc, refl, sym, ap, subst, ◌∙◌}
 use Rattle.std.specs.Prelude.{None, Some, if◌then◌else◌}
+use Rattle.std.specs.List.{fold}
 use Rattle.std.specs.Cmp.{IsStrictWeakOrder}
-use Rattle.std.proofs.lemmas.List.Elements.{All-head, All-tail}
+use Rattle.std.proofs.lemmas.List.{append-nil}
+use Rattle.std.proofs.lemmas.List.Elements.{All-head, All-tail, All-cons, All-nil}
 use Rattle.mesh_types.specs.Choices.{or_earlier, first_best, or_later}
 
 -- a chain of two
@@ -49,3 +51,23 @@ first_best-all {X} beats P (y ∷ ys) x each is =
     chosen : ((z : X) → first_best beats ys ≡ Some z → P z) → (o : Option X) → first_best beats ys ≡ o → Some (or_earlier beats y o) ≡ Some x → P x
     chosen found None e same = let at : y ≡ x = cc in subst P at here
     chosen found (Some z) e same = let at : (if beats z y then z else y) ≡ x = cc in picked z (found z e) (beats z y) at
+
+-- one after the other, from the first item on
+fold-after : {X : Type 0} (beats : X → X → Bool) → IsStrictWeakOrder beats → (xs ys : List X)
+    → fold (or_later beats) (first_best beats xs) ys ≡ first_best beats (xs ++ ys)
+fold-after beats order xs [] = ap (first_best beats) (sym (append-nil xs))
+fold-after beats order xs (y ∷ ys) =
+    ap (λ o. fold (or_later beats) o ys) (sym (first_best-push beats order xs y))
+    ∙ fold-after beats order (xs ++ y ∷ []) ys ∙ ap (first_best beats) (append_assoc xs (y ∷ []) ys)
+
+pub first_best-fold : {X : Type 0} (beats : X → X → Bool) → IsStrictWeakOrder beats → (xs : List X) → fold (or_later beats) None xs ≡ first_best beats xs
+first_best-fold beats order xs = fold-after beats order [] xs
+
+-- what a test keeps passes it
+pub filter-passes : {X : Type 0} (p : X → Bool) (P : X → Type 0) (xs : List X) → All P xs → All (λ x. P x × (p x ≡ true)) (filter p xs)
+filter-passes p P [] each = All-nil (λ x. P x × (p x ≡ true))
+filter-passes {X} p P (x ∷ xs) each = first (p x) refl (filter-passes p P xs (All-tail P x xs each))
+  where
+    first : (b : Bool) → p x ≡ b → All (λ x. P x × (p x ≡ true)) (filter p xs) → All (λ x. P x × (p x ≡ true)) (cond b (x ∷ filter p xs) (filter p xs))
+    first true passed rest = All-cons (λ x. P x × (p x ≡ true)) x (filter p xs) (All-head P x xs each, passed) rest
+    first false passed rest = rest

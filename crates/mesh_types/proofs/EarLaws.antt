@@ -20,20 +20,11 @@ use Rattle.nav_base.specs.declared.point.Point.{Point}
 use Rattle.mesh_types.specs.declared.outline.Triangle.{Triangle}
 use Rattle.mesh_types.specs.Choices.{or_later, first_best}
 use Rattle.mesh_types.specs.Ears.{CanBeCut, ArePlacesOf, IsTriangleOf, turn_of, triangle_at, is_ear, is_narrower, width_at, position_before, best_ear, and_then, last_cut, cut_ears, ears_of}
-use Rattle.mesh_types.proofs.ChoiceLaws.{first_best-push, first_best-all}
+use Rattle.mesh_types.proofs.ChoiceLaws.{first_best-push, first_best-all, filter-passes}
 
 -- a test that is passed
-lt_z_true : (m n : ℤ) → lt_z m n ≡ true → m <ℤ n
+pub lt_z_true : (m n : ℤ) → lt_z m n ≡ true → m <ℤ n
 lt_z_true m n passed = lt_z_yes (subst T (sym passed) tt)
-
--- what a test keeps passes it
-kept : {X : Type 0} (p : X → Bool) (P : X → Type 0) (xs : List X) → All P xs → All (λ x. P x × (p x ≡ true)) (filter p xs)
-kept p P [] each = All-nil (λ x. P x × (p x ≡ true))
-kept {X} p P (x ∷ xs) each = first (p x) refl (kept p P xs (All-tail P x xs each))
-  where
-    first : (b : Bool) → p x ≡ b → All (λ x. P x × (p x ≡ true)) (filter p xs) → All (λ x. P x × (p x ≡ true)) (cond b (x ∷ filter p xs) (filter p xs))
-    first true passed rest = All-cons (λ x. P x × (p x ≡ true)) x (filter p xs) (All-head P x xs each, passed) rest
-    first false passed rest = rest
 
 -- the first numbers are below their count
 below : (count : ℕ) → All (λ i. i < count) (range_with_len 0 count)
@@ -49,7 +40,7 @@ position_before-in count i below = grind (arith, nat_tests)
 pub best_ear-is : (corners : List Point) (rest : List ℕ) (i : ℕ) → best_ear corners rest ≡ Some i → (i < length rest) × (is_ear corners rest i ≡ true)
 unfolding best_ear
 best_ear-is corners rest i is = first_best-all (is_narrower corners rest) (λ i. (i < length rest) × (is_ear corners rest i ≡ true)) _ i 
-    (kept (is_ear corners rest) (λ i. i < length rest) _ (below (length rest))) is
+    (filter-passes (is_ear corners rest) (λ i. i < length rest) _ (below (length rest))) is
 
 -- triangles before what a cut gives
 abbrev pub after : List Triangle → Result (List Triangle) (List ℕ) → Result (List Triangle) (List ℕ)

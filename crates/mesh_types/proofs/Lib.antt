@@ -18,3 +18,4 @@ pub mod RunTotals
 pub mod SquareLaws
 pub mod ChoiceLaws
 pub mod EarLaws
+pub mod MergeLaws

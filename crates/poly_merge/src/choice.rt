@@ -77,19 +77,42 @@ fn best_between(
 {
     let mut best = best;
     let places = places_at(pieces, first);
-    let others = places_at(pieces, second);
     for edge in 0..places.len() {
-        if let Some(facing) = facing(places, edge, others) {
-            let merge = Merge {
-                first,
-                second,
-                edge,
-                facing,
-            };
-            best = or_later(corners, pieces, best, merge, points)?;
-        }
+        best = best_over(corners, pieces, first, second, edge, best, points)?;
     }
     Ok(best)
+}
+
+/// The best merge so far, or a better one of two pieces over an edge of the first.
+fn best_over(
+    corners: &[Point],
+    pieces: &[Piece],
+    first: usize,
+    second: usize,
+    edge: usize,
+    best: Option<Merge>,
+    points: &mut Vec<Point>,
+) -> Result<Option<Merge>, AllocError>
+    requires coordinates { All HasCoordinates corners.now }
+    requires pieces { All (IsPieceOf corners.now) pieces.now }
+    requires first { first < second }
+    requires second { second < length pieces.now }
+    requires edge { edge < length (places_at pieces.now first) }
+    requires best { IfSome best (IsMergeOf pieces.now) }
+    ensures value { IfOk result (λ found. option_map seen found
+        ≡ best_with corners.now pieces.now (option_map seen best) (cons_option (merge_over pieces.now first second edge) [])) }
+    ensures there { IfOk result (λ found. IfSome found (IsMergeOf pieces.now)) }
+{
+    let Some(facing) = facing(places_at(pieces, first), edge, places_at(pieces, second)) else {
+        return Ok(best);
+    };
+    let merge = Merge {
+        first,
+        second,
+        edge,
+        facing,
+    };
+    or_later(corners, pieces, best, merge, points)
 }
 
 /// The best merge so far, or a later one where that is admissible and over a longer edge.
