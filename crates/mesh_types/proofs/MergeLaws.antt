@@ -104,7 +104,7 @@ best_merge-admissible corners pieces m is =
     (filter-passes (is_admissible corners pieces) (λ m. m ≡ m) (merges_of pieces) (λ k d below. refl)) is).1
 
 -- all places of a piece but the beginning of an edge name corners
-past_edge-places : (corners : List Point) (places : List ℕ) (edge : ℕ) → ArePlacesOf corners places → ArePlacesOf corners (past_edge places edge)
+pub past_edge-places : (corners : List Point) (places : List ℕ) (edge : ℕ) → ArePlacesOf corners places → ArePlacesOf corners (past_edge places edge)
 past_edge-places corners places edge are =
     All-append (λ place. place < length corners) (drop (edge + 1) places) (take edge places) (All-drop (λ place. place < length corners) (edge + 1) places are)
     (All-take (λ place. place < length corners) edge places are)
@@ -153,6 +153,10 @@ triangles-pieces corners many triangles are =
     All-map (IsPieceOf corners) piece_of triangles (λ k d below. triangle-piece corners (get_or triangles k d) (are.turn k d below) (are.there k d below))
 
 -- ---- the walk of the merges
+
+pub merged-begun : (corners : List Point) (triangles : List Triangle) → merged corners triangles ≡ merge_all corners (length triangles) (map piece_of triangles)
+unfolding merged
+merged-begun corners triangles = refl
 
 pub merge_all-some : (corners : List Point) (pieces : List Piece) (m : Merge) → best_merge corners pieces ≡ Some m → m.second < length pieces
     → merge_all corners (length pieces) pieces ≡ merge_all corners (length (joined pieces m)) (joined pieces m)
