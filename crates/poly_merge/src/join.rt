@@ -28,11 +28,7 @@ pub(crate) fn triangular(alloc: Global, triangles: &[Triangle]) -> Result<Vec<Pi
 }
 
 /// Puts two pieces together in the place of the first, and takes the second out of the list.
-pub(crate) fn join(
-    alloc: Global,
-    pieces: &mut Vec<Piece>,
-    merge: Merge,
-) -> Result<(), AllocError>
+pub(crate) fn join(alloc: Global, pieces: &mut Vec<Piece>, merge: Merge) -> Result<(), AllocError>
     requires { IsMergeOf pieces.old.items merge }
     ensures { OnOk result (pieces.new.items ≡ joined pieces.old.items (seen merge)) }
 {

@@ -13,3 +13,6 @@ mod merging;
 mod union;
 
 pub use merging::merge;
+
+#[cfg(test)]
+mod tests;
