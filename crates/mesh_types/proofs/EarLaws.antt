@@ -27,8 +27,8 @@ pub lt_z_true : (m n : ℤ) → lt_z m n ≡ true → m <ℤ n
 lt_z_true m n passed = lt_z_yes (subst T (sym passed) tt)
 
 -- the first numbers are below their count
-below : (count : ℕ) → All (λ i. i < count) (range_with_len 0 count)
-below count =
+pub all_below : (count : ℕ) → All (λ i. i < count) (range_with_len 0 count)
+all_below count =
     All-from_get_or (λ i. i < count) (range_with_len 0 count) 0
     (λ i there. let same = get_or-range_with_len 0 count i 0 (omega (arith, there, length-range_with_len 0 count)) in omega (arith, there, same, length-range_with_len 0 count))
 
@@ -40,7 +40,7 @@ position_before-in count i below = grind (arith, nat_tests)
 pub best_ear-is : (corners : List Point) (rest : List ℕ) (i : ℕ) → best_ear corners rest ≡ Some i → (i < length rest) × (is_ear corners rest i ≡ true)
 unfolding best_ear
 best_ear-is corners rest i is = first_best-all (is_narrower corners rest) (λ i. (i < length rest) × (is_ear corners rest i ≡ true)) _ i 
-    (filter-passes (is_ear corners rest) (λ i. i < length rest) _ (below (length rest))) is
+    (filter-passes (is_ear corners rest) (λ i. i < length rest) _ (all_below (length rest))) is
 
 -- triangles before what a cut gives
 abbrev pub after : List Triangle → Result (List Triangle) (List ℕ) → Result (List Triangle) (List ℕ)
@@ -147,7 +147,7 @@ cut_ears-triangles corners (suc above) rest triangles count places is =
 
 -- the places of an outline name its corners
 pub all_places : (corners : List Point) → ArePlacesOf corners (range_with_len 0 (length corners))
-all_places corners = below (length corners)
+all_places corners = all_below (length corners)
 
 -- an outline of n corners gives n - 2 triangles
 pub ears_of-triangles : (corners : List Point) (triangles : List Triangle) → 3 ≤ length corners → ears_of corners ≡ Ok triangles

@@ -1,5 +1,5 @@
 -- Walks over merges: the best so far, and what one more step of a loop adds.
-use Rattle.std.proofs.Common.{◌≡◌, ℕ, zero, suc, ◌+◌, ◌-◌, ◌<◌, ◌≤◌, Bool, true, false, cond, List, [], ◌∷◌, ◌++◌, length, filter, Option, refl, sym, ap, ◌∙◌, arith}
+use Rattle.std.proofs.Common.{◌≡◌, ℕ, zero, suc, ◌+◌, ◌-◌, ◌<◌, ◌≤◌, Bool, true, false, cond, List, [], ◌∷◌, ◌++◌, length, filter, All, Option, refl, sym, ap, ◌∙◌, arith}
 use Rattle.std.specs.Prelude.{None, Some, nat_lt, if◌then◌else◌}
 use Rattle.std.specs.List.{filter_map, find, flat_map, fold, cons_option, range_with_len}
 use Rattle.std.specs.Cmp.{IsStrictWeakOrder}
@@ -8,7 +8,7 @@ use Rattle.std.proofs.lemmas.List.Elements.{filter-append, filter_map-append}
 use Rattle.std.proofs.lemmas.List.Sums.{fold-append}
 use Rattle.std.proofs.lemmas.List.MinMax.{IsStrictWeakOrder-by_number, IsStrictWeakOrder-flip}
 use Rattle.std.proofs.lemmas.Grind.{flat_map-append}
-use Rattle.nav_ground.proofs.Selections.{range-push}
+use Rattle.nav_ground.proofs.Selections.{filter_none, range-push}
 use Rattle.nav_base.specs.declared.point.Point.{Point}
 use Rattle.mesh_types.specs.declared.outline.Piece.{Piece}
 use Rattle.mesh_types.specs.Choices.{or_later}
@@ -29,6 +29,10 @@ module _ (corners : List Point) (pieces : List Piece) where
   best_with-one best m =
       elim (is_admissible corners pieces m) as (λ b. (if b then or_later (is_longer corners pieces) best m else best) ≡ fold (or_later (is_longer corners pieces)) best (cond b (m ∷ []) []))
       [ true ↦ refl | false ↦ refl ]
+
+  -- merges that are not admissible
+  pub best_with-none : (best : Option Merge) (xs : List Merge) → All (λ m. is_admissible corners pieces m ≡ false) xs → best ≡ best_with corners pieces best xs
+  best_with-none best xs none = ap (fold (or_later (is_longer corners pieces)) best) (sym (filter_none (is_admissible corners pieces) xs none))
 
   -- one more edge
   pub edge-more : (first second edge : ℕ) (before found next : Option Merge)

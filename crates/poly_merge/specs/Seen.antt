@@ -1,5 +1,5 @@
 -- Seen: merges of the code, as the definitions see them.
-use Rattle.std.specs.Prelude.{ℕ, ◌<◌, List, length, filter, Option}
+use Rattle.std.specs.Prelude.{ℕ, ◌+◌, ◌<◌, ◌≤◌, List, length, filter, Option}
 use Rattle.std.specs.List.{fold}
 use Rattle.nav_base.specs.declared.point.Point.{Point}
 use Rattle.mesh_types.specs.declared.outline.Piece.{Piece}
@@ -18,6 +18,10 @@ pub record IsMergeOf (pieces : List Piece) (m : Merge) : Type 0 where
   pub second : m.second < length pieces
   pub edge : m.edge < length (places_at pieces m.first)
   pub facing : m.facing < length (places_at pieces m.second)
+
+-- the two pieces have eight corners at most, so that they have six together
+pub record IsSmall (pieces : List Piece) (m : Merge) : Type 0 where
+  pub few : length (places_at pieces m.first) + length (places_at pieces m.second) ≤ 8
 
 -- the best so far, and then the admissible of some merges, one after the other
 abbrev pub best_with : List Point → List Piece → Option merging.Merge → List merging.Merge → Option merging.Merge

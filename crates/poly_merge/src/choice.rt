@@ -1,37 +1,31 @@
 //! The merge that comes next.
 
-ghost use Rattle.std.specs.Prelude.{◌≡◌, ◌<◌, ◌≤◌, ◌*◌, [], true, All, IfOk, IfSome, length, unsigned_abs, if◌then◌else◌};
+ghost use Rattle.std.specs.Prelude.{◌≡◌, ◌<◌, ◌≤◌, ◌*◌, ◌+◌, [], true, All, IfSome, length, unsigned_abs, if◌then◌else◌};
 ghost use Rattle.std.specs.List.{cons_option};
 ghost use Rattle.std.specs.Option.{option_map, option_map_or};
 ghost use Rattle.nav_base.specs.Point.{HasCoordinates, from_to};
 ghost use Rattle.nav_base.specs.Deviation.{square_of};
 ghost use Rattle.mesh_types.specs.Choices.{or_later};
 ghost use Rattle.mesh_types.specs.Merging.{IsPieceOf, best_merge, is_admissible, is_longer, merge_over, merges_between, merges_from, places_at, shared_length};
-ghost use Rattle.poly_merge.specs.Seen.{IsMergeOf, best_with, seen};
+ghost use Rattle.poly_merge.specs.Seen.{IsMergeOf, IsSmall, best_with, seen};
 
 use crate::edge::{Merge, edge_end, facing, places_at};
 use crate::union::is_admissible;
 use mesh_types::Piece;
 use nav_base::Point;
-use std::alloc::AllocError;
 
-/// The admissible merge over the longest edge, and of equally long ones the first; none where there is none. The points are memory that is
-/// used again.
-pub(crate) fn best_merge(
-    corners: &[Point],
-    pieces: &[Piece],
-    points: &mut Vec<Point>,
-) -> Result<Option<Merge>, AllocError>
+/// The admissible merge over the longest edge, and of equally long ones the first; none where there is none.
+pub(crate) fn best_merge(corners: &[Point], pieces: &[Piece]) -> Option<Merge>
     requires coordinates { All HasCoordinates corners.now }
     requires pieces { All (IsPieceOf corners.now) pieces.now }
-    ensures value { IfOk result (λ best. option_map seen best ≡ best_merge corners.now pieces.now) }
-    ensures there { IfOk result (λ best. IfSome best (IsMergeOf pieces.now)) }
+    ensures value { option_map seen result ≡ best_merge corners.now pieces.now }
+    ensures there { IfSome result (IsMergeOf pieces.now) }
 {
     let mut best = None;
     for first in 0..pieces.len() {
-        best = best_from(corners, pieces, first, best, points)?;
+        best = best_from(corners, pieces, first, best);
     }
-    Ok(best)
+    best
 }
 
 /// The best merge so far, or a better one of a piece with those behind it.
@@ -40,21 +34,20 @@ fn best_from(
     pieces: &[Piece],
     first: usize,
     best: Option<Merge>,
-    points: &mut Vec<Point>,
-) -> Result<Option<Merge>, AllocError>
+) -> Option<Merge>
     requires coordinates { All HasCoordinates corners.now }
     requires pieces { All (IsPieceOf corners.now) pieces.now }
     requires first { first < length pieces.now }
     requires best { IfSome best (IsMergeOf pieces.now) }
-    ensures value { IfOk result (λ found. option_map seen found
-        ≡ best_with corners.now pieces.now (option_map seen best) (merges_from pieces.now first)) }
-    ensures there { IfOk result (λ found. IfSome found (IsMergeOf pieces.now)) }
+    ensures value { option_map seen result
+        ≡ best_with corners.now pieces.now (option_map seen best) (merges_from pieces.now first) }
+    ensures there { IfSome result (IsMergeOf pieces.now) }
 {
     let mut best = best;
     for second in first + 1..pieces.len() {
-        best = best_between(corners, pieces, first, second, best, points)?;
+        best = best_between(corners, pieces, first, second, best);
     }
-    Ok(best)
+    best
 }
 
 /// The best merge so far, or a better one of two pieces.
@@ -64,23 +57,25 @@ fn best_between(
     first: usize,
     second: usize,
     best: Option<Merge>,
-    points: &mut Vec<Point>,
-) -> Result<Option<Merge>, AllocError>
+) -> Option<Merge>
     requires coordinates { All HasCoordinates corners.now }
     requires pieces { All (IsPieceOf corners.now) pieces.now }
     requires first { first < second }
     requires second { second < length pieces.now }
     requires best { IfSome best (IsMergeOf pieces.now) }
-    ensures value { IfOk result (λ found. option_map seen found
-        ≡ best_with corners.now pieces.now (option_map seen best) (merges_between pieces.now first second)) }
-    ensures there { IfOk result (λ found. IfSome found (IsMergeOf pieces.now)) }
+    ensures value { option_map seen result
+        ≡ best_with corners.now pieces.now (option_map seen best) (merges_between pieces.now first second) }
+    ensures there { IfSome result (IsMergeOf pieces.now) }
 {
-    let mut best = best;
     let places = places_at(pieces, first);
-    for edge in 0..places.len() {
-        best = best_over(corners, pieces, first, second, edge, best, points)?;
+    if places.len() + places_at(pieces, second).len() > 8 {
+        return best;
     }
-    Ok(best)
+    let mut best = best;
+    for edge in 0..places.len() {
+        best = best_over(corners, pieces, first, second, edge, best);
+    }
+    best
 }
 
 /// The best merge so far, or a better one of two pieces over an edge of the first.
@@ -91,20 +86,20 @@ fn best_over(
     second: usize,
     edge: usize,
     best: Option<Merge>,
-    points: &mut Vec<Point>,
-) -> Result<Option<Merge>, AllocError>
+) -> Option<Merge>
     requires coordinates { All HasCoordinates corners.now }
     requires pieces { All (IsPieceOf corners.now) pieces.now }
     requires first { first < second }
     requires second { second < length pieces.now }
     requires edge { edge < length (places_at pieces.now first) }
+    requires few { length (places_at pieces.now first) + length (places_at pieces.now second) ≤ 8 }
     requires best { IfSome best (IsMergeOf pieces.now) }
-    ensures value { IfOk result (λ found. option_map seen found
-        ≡ best_with corners.now pieces.now (option_map seen best) (cons_option (merge_over pieces.now first second edge) [])) }
-    ensures there { IfOk result (λ found. IfSome found (IsMergeOf pieces.now)) }
+    ensures value { option_map seen result
+        ≡ best_with corners.now pieces.now (option_map seen best) (cons_option (merge_over pieces.now first second edge) []) }
+    ensures there { IfSome result (IsMergeOf pieces.now) }
 {
     let Some(facing) = facing(places_at(pieces, first), edge, places_at(pieces, second)) else {
-        return Ok(best);
+        return best;
     };
     let merge = Merge {
         first,
@@ -112,30 +107,25 @@ fn best_over(
         edge,
         facing,
     };
-    or_later(corners, pieces, best, merge, points)
+    or_later(corners, pieces, best, merge)
 }
 
 /// The best merge so far, or a later one where that is admissible and over a longer edge.
-fn or_later(
-    corners: &[Point],
-    pieces: &[Piece],
-    best: Option<Merge>,
-    merge: Merge,
-    points: &mut Vec<Point>,
-) -> Result<Option<Merge>, AllocError>
+fn or_later(corners: &[Point], pieces: &[Piece], best: Option<Merge>, merge: Merge) -> Option<Merge>
     requires coordinates { All HasCoordinates corners.now }
     requires pieces { All (IsPieceOf corners.now) pieces.now }
     requires best { IfSome best (IsMergeOf pieces.now) }
     requires merge { IsMergeOf pieces.now merge }
-    ensures value { IfOk result (λ found. option_map seen found
+    requires few { IsSmall pieces.now merge }
+    ensures value { option_map seen result
         ≡ (if is_admissible corners.now pieces.now (seen merge)
-        then or_later (is_longer corners.now pieces.now) (option_map seen best) (seen merge) else option_map seen best)) }
-    ensures there { IfOk result (λ found. IfSome found (IsMergeOf pieces.now)) }
+        then or_later (is_longer corners.now pieces.now) (option_map seen best) (seen merge) else option_map seen best) }
+    ensures there { IfSome result (IsMergeOf pieces.now) }
 {
-    if is_longer(corners, pieces, merge, best) && is_admissible(corners, pieces, merge, points)? {
-        Ok(Some(merge))
+    if is_longer(corners, pieces, merge, best) && is_admissible(corners, pieces, merge) {
+        Some(merge)
     } else {
-        Ok(best)
+        best
     }
 }
 

@@ -1,6 +1,6 @@
 //! All merges of an outline.
 
-ghost use Rattle.std.specs.Prelude.{◌≡◌, None, All, IfOk};
+ghost use Rattle.std.specs.Prelude.{◌≡◌, ◌+◌, ◌≤◌, None, All, IfOk, length};
 ghost use Rattle.mesh_types.specs.Ears.{AreEarsOf, CanBeCut};
 ghost use Rattle.mesh_types.specs.Merging.{IsPieceOf, best_merge, merged};
 
@@ -21,13 +21,14 @@ pub fn merge(
     ensures value { IfOk result (λ pieces. pieces ≡ merged outline.now.corners triangles) }
     ensures pieces { IfOk result (All (IsPieceOf outline.now.corners)) }
 
+    ensures few { IfOk result (λ pieces. length pieces + 2 ≤ length outline.now.corners) }
+
     // No two pieces are left that could be united.
     ensures done { IfOk result (λ pieces. best_merge outline.now.corners pieces ≡ None) }
 {
     let corners = outline.corners.as_slice();
     let mut pieces = triangular(alloc, triangles.as_slice())?;
-    let mut points = Vec::with_capacity(alloc, 6)?;
-    while let Some(next) = best_merge(corners, pieces.as_slice(), &mut points)? {
+    while let Some(next) = best_merge(corners, pieces.as_slice()) {
         join(alloc, &mut pieces, next)?;
     }
     Ok(Items::from_vec(pieces))

@@ -12,8 +12,8 @@ loop-second-preserved c =
     let merges = merges_between c.args.pieces.now c.args.first in
     record {
       best = walk-more c.args.corners.now c.args.pieces.now merges start (c.loop-second.second - start) c.loop-second.second (option_map seen c.args.best) (option_map seen c.loop-second.best)
-          (option_map seen c.in_ok-best.best) (omega (arith, c.loop-second.auto.second)) c.loop-second.invariant.best c.in_ok-best.ensures.value
+          (option_map seen c.best_between-best.result) (omega (arith, c.loop-second.auto.second)) c.loop-second.invariant.best c.best_between-best.ensures.value
           ∙ ap (λ (n : ℕ). best_with c.args.corners.now c.args.pieces.now (option_map seen c.args.best) (flat_map merges (range_with_len start n)))
           {x = c.loop-second.second - start + 1} {y = c.loop-second.second + 1 - start} (omega (arith, c.loop-second.auto.second));
-      there = c.in_ok-best.ensures.there;
+      there = c.best_between-best.ensures.there;
     }

@@ -9,8 +9,8 @@ use Rattle.poly_merge.proofs.choice.best_merge.Goals as goal
 pub loop-first-preserved : goal.loop-first-preserved
 loop-first-preserved c = record {
   best = walk-more c.args.corners.now c.args.pieces.now (merges_from c.args.pieces.now) 0 c.loop-first.first c.loop-first.first None (option_map seen c.loop-first.best)
-      (option_map seen c.in_ok-best.best) (omega arith) c.loop-first.invariant.best c.in_ok-best.ensures.value;
-  there = c.in_ok-best.ensures.there;
+      (option_map seen c.best_from-best.result) (omega arith) c.loop-first.invariant.best c.best_from-best.ensures.value;
+  there = c.best_from-best.ensures.there;
 }
 
 pub returns-clause-value : goal.returns-clause-value
