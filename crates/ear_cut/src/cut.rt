@@ -3,7 +3,7 @@
 ghost use Rattle.std.specs.Prelude.{◌≡◌, ◌<◌, ◌≤◌, ◌+◌, length, All, pos, ◌<ℤ◌, IfOk, IfErr};
 ghost use Rattle.std.specs.List.{range_with_len};
 ghost use Rattle.nav_base.specs.Point.{HasCoordinates};
-ghost use Rattle.mesh_types.specs.Ears.{AreEarsOf, CanBeCut, turn_of};
+ghost use Rattle.mesh_types.specs.Ears.{AreEarsOf, CanBeCut, IsTriangleOf, turn_of};
 ghost use Rattle.ear_cut.specs.Refused.{IsLeft};
 
 use crate::ear::{best_ear, triangle_at};
@@ -21,6 +21,7 @@ pub fn ears(alloc: Global, outline: &Outline) -> Result<Items<Triangle>, EarRefu
     // Triangles come exactly where the definition gives them, and `NoEar` where it comes to places that have no ear, which are left.
     ensures no_ear { IfErr result (IsLeft outline.now.corners) }
     ensures count { IfOk result (λ triangles. length triangles + 2 ≡ length outline.now.corners) }
+    ensures places { IfOk result (All (IsTriangleOf outline.now.corners)) }
     ensures turn { IfOk result (λ triangles. All (λ t. pos 0 <ℤ turn_of outline.now.corners t) triangles) }
 {
     let corners = outline.corners.as_slice();

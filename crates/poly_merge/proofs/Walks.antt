@@ -1,5 +1,5 @@
 -- Walks over merges: the best so far, and what one more step of a loop adds.
-use Rattle.std.proofs.Common.{◌≡◌, ℕ, zero, suc, ◌+◌, ◌-◌, ◌<◌, ◌≤◌, Bool, true, false, cond, List, [], ◌∷◌, ◌++◌, length, filter, All, Option, refl, sym, ap, ◌∙◌, arith}
+use Rattle.std.proofs.Common.{◌≡◌, ℕ, suc, ◌+◌, ◌-◌, ◌<◌, ◌≤◌, Bool, true, false, cond, List, [], ◌∷◌, ◌++◌, length, filter, All, Option, refl, sym, ap, ◌∙◌, arith}
 use Rattle.std.specs.Prelude.{None, Some, nat_lt, if◌then◌else◌}
 use Rattle.std.specs.List.{filter_map, find, flat_map, fold, cons_option, range_with_len}
 use Rattle.std.specs.Cmp.{IsStrictWeakOrder}
@@ -12,7 +12,7 @@ use Rattle.nav_ground.proofs.Selections.{filter_none, range-push}
 use Rattle.nav_base.specs.declared.point.Point.{Point}
 use Rattle.mesh_types.specs.declared.outline.Piece.{Piece}
 use Rattle.mesh_types.specs.Choices.{or_later}
-use Rattle.mesh_types.specs.Merging.{Merge, best_merge, is_admissible, is_longer, merge_over, merges_between, merges_from, merges_of, shared_length}
+use Rattle.mesh_types.specs.Merging.{Merge, best_merge, is_admissible, is_longer, merge_over, merges_from, merges_of, shared_length}
 use Rattle.mesh_types.proofs.ChoiceLaws.{first_best-fold}
 use Rattle.poly_merge.specs.Seen.{best_with}
 

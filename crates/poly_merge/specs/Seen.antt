@@ -1,5 +1,5 @@
 -- Seen: merges of the code, as the definitions see them.
-use Rattle.std.specs.Prelude.{ℕ, ◌+◌, ◌<◌, ◌≤◌, List, length, filter, Option}
+use Rattle.std.specs.Prelude.{◌+◌, ◌<◌, ◌≤◌, List, length, filter, Option}
 use Rattle.std.specs.List.{fold}
 use Rattle.nav_base.specs.declared.point.Point.{Point}
 use Rattle.mesh_types.specs.declared.outline.Piece.{Piece}

@@ -67,7 +67,7 @@ pub(crate) fn union(
     requires facing { facing < length second.now }
     ensures { IfOk result (λ places. places.items ≡ past_edge first.now edge ++ past_edge second.now facing) }
 {
-    let mut places = Vec::new(alloc);
+    let mut places = Vec::with_capacity(alloc, 6)?;
     places.extend_from_slice(&first[edge + 1..])?;
     places.extend_from_slice(&first[..edge])?;
     push_second(&mut places, second, facing)?;

@@ -1,4 +1,4 @@
-use Rattle.std.proofs.Common.{◌≡◌, pos, ◌+◌, ◌-◌, ◌<◌, ◌++◌, [], ◌∷◌, List, ℕ, length, sym, ap, subst, ◌∙◌, arith}
+use Rattle.std.proofs.Common.{◌≡◌, pos, ◌-◌, ◌<◌, ◌++◌, [], ◌∷◌, List, length, sym, ap, subst, ◌∙◌, arith}
 use Rattle.std.specs.Prelude.{Ok, Err, Some}
 use Rattle.std.specs.List.{remove, range_with_len}
 use Rattle.std.specs.Int.Signed.{lt_z}
@@ -6,8 +6,8 @@ use Rattle.std.proofs.lemmas.List.FromFn.{length-range_with_len}
 use Rattle.nav_base.specs.declared.point.Point.{Point}
 use Rattle.std.proofs.lemmas.List.Edits.{length-remove}
 use Rattle.mesh_types.specs.declared.outline.Triangle.{Triangle}
-use Rattle.mesh_types.specs.Ears.{ArePlacesOf, AreEarsOf, ears_of, cut_ears, turn_of, triangle_at, best_ear}
-use Rattle.mesh_types.proofs.EarLaws.{after, all_places, places-remove, cut-begun, cut-more, cut-none, cut-last, cut-last_none, ears_of-triangles, AreTriangles}
+use Rattle.mesh_types.specs.Ears.{ArePlacesOf, ears_of, cut_ears, turn_of, triangle_at, best_ear}
+use Rattle.mesh_types.proofs.EarLaws.{after, all_places, places-remove, cut-begun, cut-more, cut-none, cut-last, cut-last_none, ears_of-triangles}
 use Rattle.ear_cut.proofs.cut.ears.Goals as goal
 
 pub loop-rest-init : goal.loop-rest-init
@@ -66,6 +66,9 @@ returns-clause-cut c = record { cut = cut c }
 
 pub returns-clause-count : goal.returns-clause-count
 returns-clause-count c = omega (arith, (ears_of-triangles c.args.outline.now.corners c.from_vec-2.result c.requires.enough (cut c)).count)
+
+pub returns-clause-places : goal.returns-clause-places
+returns-clause-places c = (ears_of-triangles c.args.outline.now.corners c.from_vec-2.result c.requires.enough (cut c)).there
 
 pub returns-clause-turn : goal.returns-clause-turn
 returns-clause-turn c = (ears_of-triangles c.args.outline.now.corners c.from_vec-2.result c.requires.enough (cut c)).turn

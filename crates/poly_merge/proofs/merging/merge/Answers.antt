@@ -1,8 +1,8 @@
-use Rattle.std.proofs.Common.{◌≡◌, ℕ, ◌<◌, ◌-◌, List, All, map, length, sym, ap, subst, ◌∙◌, arith}
+use Rattle.std.proofs.Common.{◌≡◌, All, map, length, sym, ap, subst, ◌∙◌, arith}
 use Rattle.std.specs.Prelude.{None, Some, IfSome}
 use Rattle.std.specs.Option.{option_map}
 use Rattle.std.proofs.lemmas.List.{length-map}
-use Rattle.mesh_types.specs.Merging.{IsPieceOf, best_merge, joined, merge_all, merged, piece_of}
+use Rattle.mesh_types.specs.Merging.{IsPieceOf, best_merge, merge_all, piece_of}
 use Rattle.mesh_types.proofs.EarLaws.{ears_of-triangles}
 use Rattle.mesh_types.proofs.MergeLaws.{best_merge-admissible, joined-pieces, length-joined, merge_all-none, merge_all-some, merged-begun, triangles-pieces}
 use Rattle.poly_merge.specs.Seen.{IsMergeOf, seen}

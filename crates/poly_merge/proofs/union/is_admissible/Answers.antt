@@ -1,4 +1,4 @@
-use Rattle.std.proofs.Common.{◌≡◌, ◌+◌, ◌-◌, ◌<◌, length, take, map, All, sym, ap, subst, ◌∙◌, arith}
+use Rattle.std.proofs.Common.{◌≡◌, ◌+◌, ◌-◌, length, take, map, All, sym, ap, subst, ◌∙◌, arith}
 use Rattle.nav_base.specs.Point.{HasCoordinates}
 use Rattle.nav_base.specs.Convex.{corner_at}
 use Rattle.mesh_types.specs.Merging.{union_of}
