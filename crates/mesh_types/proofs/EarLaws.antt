@@ -1,25 +1,24 @@
 -- The laws of cutting ears: the cut of one ear, and what the triangles of an outline are.
-use Rattle.std.proofs.Common.{◌≡◌, ℕ, zero, suc, ◌+◌, ◌-◌, ◌<◌, ◌≤◌, ℤ, pos, ◌<ℤ◌, Bool, true, false, cond, List, [], ◌∷◌, ◌++◌, length, get_or, take, drop, filter, All, Option, refl, sym, ap, subst, ◌∙◌, arith, append_assoc}
-use Rattle.std.specs.Prelude.{None, Some, Ok, Err, Result, slice_index, ◌&&◌, not, if◌then◌else◌}
+use Rattle.std.proofs.Common.{◌≡◌, ℕ, zero, suc, ◌+◌, ◌-◌, ◌<◌, ◌≤◌, ℤ, pos, ◌<ℤ◌, Bool, true, false, cond, List, [], ◌∷◌, ◌++◌, length, take, drop, filter, All, Option, refl, sym, ap, subst, ◌∙◌, arith, append_assoc}
+use Rattle.std.specs.Prelude.{None, Some, Ok, Err, Result, slice_index, if◌then◌else◌}
 use Rattle.std.specs.Option.{option_map_or}
-use Rattle.std.specs.List.{list_any, range_with_len, remove}
+use Rattle.std.specs.List.{range_with_len, remove}
 use Rattle.std.specs.Int.Signed.{lt_z, lt_z_yes}
 use Rattle.std.proofs.Math.Dec.{T}
 use Rattle.std.proofs.lemmas.Bool.{and_parts}
 use Rattle.std.proofs.lemmas.Bool.Decides.{nat_tests}
-use Rattle.std.proofs.lemmas.List.Elements.{All-head, All-tail, All-cons, All-nil, All-append, All-take, All-drop, All-get_or, All-from_get_or, filter-append}
+use Rattle.std.proofs.lemmas.List.Elements.{All-cons, All-nil, All-append, All-take, All-drop, All-get_or, All-from_get_or, filter-append}
 use Rattle.std.specs.Cmp.{IsStrictWeakOrder}
 use Rattle.std.proofs.lemmas.List.{append-nil}
 use Rattle.std.proofs.lemmas.List.MinMax.{IsStrictWeakOrder-by_number}
 use Rattle.std.proofs.lemmas.List.Edits.{length-remove}
 use Rattle.std.proofs.lemmas.List.FromFn.{length-range_with_len, get_or-range_with_len}
 use Rattle.nav_ground.proofs.Selections.{range-push}
-use Rattle.nav_base.specs.Convex.{place_after}
 use Rattle.nav_base.proofs.ConvexLaws.{place_after-in}
 use Rattle.nav_base.specs.declared.point.Point.{Point}
 use Rattle.mesh_types.specs.declared.outline.Triangle.{Triangle}
 use Rattle.mesh_types.specs.Choices.{or_later, first_best}
-use Rattle.mesh_types.specs.Ears.{CanBeCut, ArePlacesOf, IsTriangleOf, turn_of, triangle_at, is_ear, is_narrower, width_at, position_before, best_ear, and_then, last_cut, cut_ears, ears_of}
+use Rattle.mesh_types.specs.Ears.{ArePlacesOf, IsTriangleOf, turn_of, triangle_at, is_ear, is_narrower, width_at, position_before, best_ear, and_then, last_cut, cut_ears, ears_of}
 use Rattle.mesh_types.proofs.ChoiceLaws.{first_best-push, first_best-all, filter-passes}
 
 -- a test that is passed
@@ -39,7 +38,7 @@ position_before-in count i below = grind (arith, nat_tests)
 -- the best ear is an ear
 pub best_ear-is : (corners : List Point) (rest : List ℕ) (i : ℕ) → best_ear corners rest ≡ Some i → (i < length rest) × (is_ear corners rest i ≡ true)
 unfolding best_ear
-best_ear-is corners rest i is = first_best-all (is_narrower corners rest) (λ i. (i < length rest) × (is_ear corners rest i ≡ true)) _ i 
+best_ear-is corners rest i is = first_best-all (is_narrower corners rest) (λ i. (i < length rest) × (is_ear corners rest i ≡ true)) _ i
     (filter-passes (is_ear corners rest) (λ i. i < length rest) _ (all_below (length rest))) is
 
 -- triangles before what a cut gives
@@ -97,10 +96,10 @@ places-remove corners rest i places =
 more : (corners : List Point) (many : ℕ) (t : Triangle) (triangles : List Triangle) → pos 0 <ℤ turn_of corners t → IsTriangleOf corners t
     → AreTriangles corners many triangles → AreTriangles corners (many + 1) (t ∷ triangles)
 more corners many t triangles turn there are = record {
-      count = omega (arith, are.count);
-      turn = All-cons (λ t. pos 0 <ℤ turn_of corners t) t triangles turn are.turn;
-      there = All-cons (IsTriangleOf corners) t triangles there are.there;
-    }
+  count = omega (arith, are.count);
+  turn = All-cons (λ t. pos 0 <ℤ turn_of corners t) t triangles turn are.turn;
+  there = All-cons (IsTriangleOf corners) t triangles there are.there;
+}
 
 -- none
 none : (corners : List Point) → AreTriangles corners 0 []

@@ -1,23 +1,20 @@
 -- The laws of merging: the test for strict convexity, what pieces keep, and the walk of the merges.
-use Rattle.std.proofs.Common.{◌≡◌, ◌≢◌, ℕ, zero, suc, ◌+◌, ◌-◌, ◌<◌, ◌≤◌, ℤ, pos, ◌<ℤ◌, Bool, true, false, List, [], ◌∷◌, ◌++◌, length, get_or, take, drop, map, filter, All, Option, refl, sym, ap, subst, ◌∙◌, inl, inr, arith}
-use Rattle.std.specs.Prelude.{None, Some, nat_le, ◌&&◌, ◌||◌, ◌==◌, EachIndex, slice_set}
-use Rattle.std.specs.Int.Signed.{lt_z}
+use Rattle.std.proofs.Common.{◌≡◌, ◌≢◌, ℕ, zero, suc, ◌+◌, ◌<◌, ◌≤◌, pos, ◌<ℤ◌, Bool, true, false, List, [], ◌∷◌, length, get_or, take, drop, map, All, refl, ap, ◌∙◌, inl, inr, arith}
+use Rattle.std.specs.Prelude.{None, Some, nat_le, ◌||◌, ◌==◌, slice_set}
 use Rattle.std.specs.Option.{option_map_or}
-use Rattle.std.specs.List.{list_all, range_with_len, remove}
+use Rattle.std.specs.List.{list_all, range_with_len}
 use Rattle.std.proofs.Math.Dec.{T}
 use Rattle.std.proofs.Math.ListN.{length-set}
 use Rattle.std.proofs.lemmas.Bool.{and_parts, cases_eq}
 use Rattle.std.proofs.lemmas.Bool.Decides.{nat_tests}
-use Rattle.std.proofs.lemmas.List.{length-map}
 use Rattle.std.proofs.lemmas.List.Edits.{length-remove}
-use Rattle.std.proofs.lemmas.List.Elements.{All-map, All-cons, All-nil, All-append, All-take, All-drop, All-get_or, All-set, All-from_get_or}
+use Rattle.std.proofs.lemmas.List.Elements.{All-map, All-cons, All-nil, All-append, All-take, All-drop, All-get_or, All-set}
 use Rattle.nav_base.specs.declared.point.Point.{Point}
-use Rattle.nav_base.specs.Convex.{IsStrictlyConvex, LiesLeft, corner_at, place_after, side_of_edge}
+use Rattle.nav_base.specs.Convex.{IsStrictlyConvex, LiesLeft, corner_at, place_after}
 use Rattle.nav_base.proofs.ConvexLaws.{IsStrictlyConvex-triangle}
 use Rattle.mesh_types.specs.declared.outline.Triangle.{Triangle}
 use Rattle.mesh_types.specs.declared.outline.Piece.{Piece}
 use Rattle.mesh_types.specs.Ears.{ArePlacesOf, IsTriangleOf, turn_of}
-use Rattle.mesh_types.specs.Choices.{first_best}
 use Rattle.mesh_types.specs.Merging.{IsPieceOf, Merge, best_merge, is_admissible, is_convex, is_longer, joined, lies_left, merge_all, merged, merges_of, past_edge, piece_of, places_at, union_of}
 use Rattle.mesh_types.proofs.ChoiceLaws.{first_best-all, filter-passes}
 use Rattle.mesh_types.proofs.EarLaws.{AreTriangles, lt_z_true}
@@ -142,11 +139,11 @@ length-joined pieces m below =
 -- a counterclockwise triangle is a piece
 triangle-piece : (corners : List Point) (t : Triangle) → pos 0 <ℤ turn_of corners t → IsTriangleOf corners t → IsPieceOf corners (piece_of t)
 triangle-piece corners t turn there = record {
-      places = All-cons (λ place. place < length corners) t.a (t.b ∷ t.c ∷ []) there.a
-          (All-cons (λ place. place < length corners) t.b (t.c ∷ []) there.b (All-cons (λ place. place < length corners) t.c [] there.c (All-nil (λ place. place < length corners))));
-      most = omega arith;
-      convex = IsStrictlyConvex-triangle (corner_at corners t.a) (corner_at corners t.b) (corner_at corners t.c) turn;
-    }
+  places = All-cons (λ place. place < length corners) t.a (t.b ∷ t.c ∷ []) there.a
+      (All-cons (λ place. place < length corners) t.b (t.c ∷ []) there.b (All-cons (λ place. place < length corners) t.c [] there.c (All-nil (λ place. place < length corners))));
+  most = omega arith;
+  convex = IsStrictlyConvex-triangle (corner_at corners t.a) (corner_at corners t.b) (corner_at corners t.c) turn;
+}
 
 pub triangles-pieces : (corners : List Point) (many : ℕ) (triangles : List Triangle) → AreTriangles corners many triangles → All (IsPieceOf corners) (map piece_of triangles)
 triangles-pieces corners many triangles are =
