@@ -3,7 +3,7 @@
 ghost use Rattle.std.specs.Prelude.{◌≡◌, ◌<◌, ◌≤◌, ◌+◌, length, All, pos, ◌<ℤ◌, IfOk, IfErr};
 ghost use Rattle.std.specs.List.{range_with_len};
 ghost use Rattle.nav_base.specs.Point.{HasCoordinates};
-ghost use Rattle.mesh_types.specs.Ears.{AreEarsOf, CanBeCut, IsTriangleOf, turn_of};
+ghost use Rattle.mesh_types.specs.Ears.{AreEarsOf, CanBeCut, IsTriangleOf, outline_area, turn_of, turns_of};
 ghost use Rattle.ear_cut.specs.Refused.{IsLeft};
 
 use crate::ear::{best_ear, triangle_at};
@@ -23,6 +23,9 @@ pub fn ears(alloc: Global, outline: &Outline) -> Result<Items<Triangle>, EarRefu
     ensures count { IfOk result (λ triangles. length triangles + 2 ≡ length outline.now.corners) }
     ensures places { IfOk result (All (IsTriangleOf outline.now.corners)) }
     ensures turn { IfOk result (λ triangles. All (λ t. pos 0 <ℤ turn_of outline.now.corners t) triangles) }
+
+    // Together they have exactly the area that the outline runs round.
+    ensures area { IfOk result (λ triangles. turns_of outline.now.corners triangles ≡ outline_area outline.now.corners) }
 {
     let corners = outline.corners.as_slice();
     let mut rest = places(alloc, corners.len() as u32)?;

@@ -19,3 +19,4 @@ pub mod SquareLaws
 pub mod ChoiceLaws
 pub mod EarLaws
 pub mod MergeLaws
+pub mod AreaLaws

@@ -1,13 +1,13 @@
 -- Ears: how an outline is cut into triangles, ear by ear.
 --
 -- The corners of an outline are named by their places, from 0. The remaining places stand in a list that runs round: its first follows its last.
-use Rattle.std.specs.Prelude.{◌≡◌, ℕ, zero, suc, ◌-◌, ◌<◌, ◌≤◌, ◌==◌, ℤ, pos, Bool, not, ◌&&◌, nat_lt, if◌then◌else◌, List, [], ◌∷◌, length, slice_index, filter, All, Option, Result, Ok, Err}
+use Rattle.std.specs.Prelude.{◌≡◌, ℕ, zero, suc, ◌-◌, ◌<◌, ◌≤◌, ◌==◌, ℤ, pos, ◌+ℤ◌, Bool, not, ◌&&◌, nat_lt, if◌then◌else◌, List, [], ◌∷◌, length, slice_index, filter, All, Option, Result, Ok, Err}
 use Rattle.std.specs.Int.Signed.{le_z, lt_z}
 use Rattle.std.specs.Ordering.{int_eq}
 use Rattle.std.specs.Option.{option_map_or}
 use Rattle.std.specs.List.{list_any, range_with_len, remove}
 use Rattle.nav_base.specs.declared.point.Point.{Point}
-use Rattle.nav_base.specs.Point.{HasCoordinates, from_to, orient_of}
+use Rattle.nav_base.specs.Point.{HasCoordinates, cross_of, from_to, orient_of}
 use Rattle.nav_base.specs.Convex.{corner_at, place_after}
 use Rattle.nav_base.specs.Deviation.{square_of}
 use Rattle.mesh_types.specs.declared.outline.Triangle.{Triangle}
@@ -103,3 +103,24 @@ ears_of corners = cut_ears corners (length corners - 3) (range_with_len 0 (lengt
 -- the triangles are those of the outline
 pub record AreEarsOf (corners : List Point) (triangles : List Triangle) : Type 0 where
   pub cut : ears_of corners ≡ Ok triangles
+
+-- ---- areas
+
+-- twice the area of triangles together
+abbrev pub turns_of : List Point → List Triangle → ℤ
+turns_of corners [] = pos 0
+turns_of corners (t ∷ triangles) = turn_of corners t +ℤ turns_of corners triangles
+
+-- the crosses of successive corners of a walk over places, from one place on and at its end to the first
+abbrev pub crosses_along : List Point → ℕ → ℕ → List ℕ → ℤ
+crosses_along corners first here [] = cross_of (corner_at corners here) (corner_at corners first)
+crosses_along corners first here (next ∷ rest) = cross_of (corner_at corners here) (corner_at corners next) +ℤ crosses_along corners first next rest
+
+-- twice the area that places run round, by the cross of each corner and the next
+abbrev pub area_of : List Point → List ℕ → ℤ
+area_of corners [] = pos 0
+area_of corners (first ∷ rest) = crosses_along corners first first rest
+
+-- twice the area that an outline runs round
+abbrev pub outline_area : List Point → ℤ
+outline_area corners = area_of corners (range_with_len 0 (length corners))

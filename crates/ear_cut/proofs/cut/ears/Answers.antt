@@ -8,6 +8,7 @@ use Rattle.std.proofs.lemmas.List.Edits.{length-remove}
 use Rattle.mesh_types.specs.declared.outline.Triangle.{Triangle}
 use Rattle.mesh_types.specs.Ears.{ArePlacesOf, ears_of, cut_ears, turn_of, triangle_at, best_ear}
 use Rattle.mesh_types.proofs.EarLaws.{after, all_places, places-remove, cut-begun, cut-more, cut-none, cut-last, cut-last_none, ears_of-triangles}
+use Rattle.mesh_types.proofs.AreaLaws.{ears_of-area}
 use Rattle.ear_cut.proofs.cut.ears.Goals as goal
 
 pub loop-rest-init : goal.loop-rest-init
@@ -72,3 +73,6 @@ returns-clause-places c = (ears_of-triangles c.args.outline.now.corners c.from_v
 
 pub returns-clause-turn : goal.returns-clause-turn
 returns-clause-turn c = (ears_of-triangles c.args.outline.now.corners c.from_vec-2.result c.requires.enough (cut c)).turn
+
+pub returns-clause-area : goal.returns-clause-area
+returns-clause-area c = ears_of-area c.args.outline.now.corners c.from_vec-2.result c.requires.enough (cut c)
