@@ -15,3 +15,8 @@ pub mod Totals
 pub mod OneTile
 pub mod PolygonTotals
 pub mod RunTotals
+pub mod SquareLaws
+pub mod ChoiceLaws
+pub mod EarLaws
+pub mod MergeLaws
+pub mod AreaLaws

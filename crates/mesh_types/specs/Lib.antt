@@ -17,3 +17,6 @@ pub mod Floors
 pub mod Right
 pub mod Rings
 pub mod Simplified
+pub mod Choices
+pub mod Ears
+pub mod Merging

@@ -1,0 +1,14 @@
+use Rattle.std.proofs.Common.{◌≡◌, ◌+◌, ◌≤◌, length, All}
+use Rattle.mesh_types.specs.Merging.{IsPieceOf, merge_all, merged}
+use Rattle.poly_merge.proofs.merging.merge.Given as goal
+
+-- what is left to merge leads to the pieces of the outline
+abbrev pub invariant-loop-next : goal.invariant-loop-next
+invariant-loop-next l = record {
+  pieces : All (IsPieceOf l.outline.corners) l.pieces.items;
+  few : length l.pieces.items + 2 ≤ length l.outline.corners;
+  merged : merged l.outline.corners l.fn.triangles ≡ merge_all l.outline.corners (length l.pieces.items) l.pieces.items;
+}
+
+abbrev pub decreases-loop-next : goal.decreases-loop-next
+decreases-loop-next l = length l.pieces.items

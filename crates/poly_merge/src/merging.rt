@@ -1,0 +1,35 @@
+//! All merges of an outline.
+
+ghost use Rattle.std.specs.Prelude.{◌≡◌, ◌+◌, ◌≤◌, None, All, IfOk, length};
+ghost use Rattle.mesh_types.specs.Ears.{AreEarsOf, CanBeCut};
+ghost use Rattle.mesh_types.specs.Merging.{IsPieceOf, best_merge, merged};
+
+use crate::choice::best_merge;
+use crate::join::{join, triangular};
+use mesh_types::{Outline, Piece, Triangle};
+use nav_list::Items;
+use std::alloc::{AllocError, Global};
+
+/// The pieces into which the triangles of an outline are united.
+pub fn merge(
+    alloc: Global,
+    outline: &Outline,
+    triangles: Items<Triangle>,
+) -> Result<Items<Piece>, AllocError>
+    requires outline { CanBeCut outline.now.corners }
+    requires triangles { AreEarsOf outline.now.corners triangles }
+    ensures value { IfOk result (λ pieces. pieces ≡ merged outline.now.corners triangles) }
+    ensures pieces { IfOk result (All (IsPieceOf outline.now.corners)) }
+
+    ensures few { IfOk result (λ pieces. length pieces + 2 ≤ length outline.now.corners) }
+
+    // No two pieces are left that could be united.
+    ensures done { IfOk result (λ pieces. best_merge outline.now.corners pieces ≡ None) }
+{
+    let corners = outline.corners.as_slice();
+    let mut pieces = triangular(alloc, triangles.as_slice())?;
+    while let Some(next) = best_merge(corners, pieces.as_slice()) {
+        join(alloc, &mut pieces, next)?;
+    }
+    Ok(Items::from_vec(pieces))
+}
