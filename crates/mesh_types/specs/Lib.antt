@@ -13,5 +13,6 @@ pub mod Located
 pub mod Chains
 pub mod Taut
 pub mod Floors
+pub mod Rays
 pub mod Right
 pub mod Rings
