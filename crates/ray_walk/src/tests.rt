@@ -1,0 +1,1 @@
+//! Walks in a small mesh by hand.
