@@ -1,5 +1,5 @@
 -- A ray that goes on over a link enters the next polygon: no exit of it has the beginning of the ray on its right.
-use Rattle.std.proofs.Common.{◌≡◌, ℕ, ◌<◌, ℤ, pos, ◌+ℤ◌, ◌-ℤ◌, ◌*ℤ◌, ◌≤ℤ◌, ◌<ℤ◌, [], ◌∷◌, length, refl, sym, ap, subst, ◌∙◌, arith}
+use Rattle.std.proofs.Common.{◌≡◌, ℕ, ℤ, pos, ◌+ℤ◌, ◌-ℤ◌, ◌*ℤ◌, ◌≤ℤ◌, ◌<ℤ◌, [], ◌∷◌, refl, sym, ap, subst, ◌∙◌, arith}
 use Rattle.std.specs.Prelude.{Some}
 use Rattle.std.proofs.lemmas.Int.{ints, by_lt_z}
 use Rattle.std.proofs.lemmas.Option.{same_Some}
@@ -16,9 +16,8 @@ use Rattle.mesh_types.specs.declared.links.Portal.{Portal}
 use Rattle.mesh_types.specs.declared.mesh.Mesh.{Mesh}
 use Rattle.mesh_types.specs.declared.polygon.Polygon.{Polygon}
 use Rattle.mesh_types.specs.Corridors.{IsLinkOf}
-use Rattle.mesh_types.specs.Located.{Holds}
 use Rattle.mesh_types.specs.Rays.{side_of, IsExit, IsHeldAt, Meets}
-use Rattle.mesh_types.specs.Soundness.{edge_begin, edge_end, along, LiesAlong, IsPortalOut, IsPortalIn, IsSound}
+use Rattle.mesh_types.specs.Soundness.{edge_begin, edge_end, along, LiesAlong, IsPortalOut, IsSound}
 use Rattle.mesh_types.specs.WholeMesh.{poly_at}
 use Rattle.mesh_types.proofs.MeshLinks.{leads}
 use Rattle.mesh_types.proofs.MeshPolygons.{placed}

@@ -1,14 +1,13 @@
 -- Exits of least fraction: the order of exit fractions, and what a pass over the edges keeps.
-use Rattle.std.proofs.Common.{◌≡◌, ℕ, ◌+◌, ◌<◌, ◌≤◌, ℤ, pos, ◌+ℤ◌, ◌-ℤ◌, ◌*ℤ◌, ◌≤ℤ◌, ◌<ℤ◌, [], ◌∷◌, length, refl, sym, ap, subst, ◌∙◌, ◌⊎◌, inl, inr, arith}
+use Rattle.std.proofs.Common.{◌≡◌, ℕ, ◌+◌, ◌<◌, ℤ, pos, ◌+ℤ◌, ◌-ℤ◌, ◌*ℤ◌, ◌≤ℤ◌, ◌<ℤ◌, [], ◌∷◌, length, refl, sym, subst, inl, inr, arith}
 use Rattle.std.specs.Prelude.{Option, Some, None}
 use Rattle.std.proofs.lemmas.Bool.{cases_lt}
 use Rattle.std.proofs.lemmas.Int.{ints, by_lt_z}
-use Rattle.nav_base.specs.declared.point.Point.{Point}
 use Rattle.nav_base.proofs.Polynomials.{at, sum, difference, product, equal}
 use Rattle.nav_base.proofs.Signs.{product-not_negative, product-positive, factor-not_negative, factor-positive}
 use Rattle.mesh_types.specs.declared.polygon.Polygon.{Polygon}
 use Rattle.mesh_types.specs.Located.{Holds}
-use Rattle.mesh_types.specs.Rays.{side_of, exit_num, exit_den, IsExit, IsLeastExit, IsFirstExit}
+use Rattle.mesh_types.specs.Rays.{side_of, exit_num, exit_den, IsExit, IsLeastExit}
 use Rattle.ray_walk.specs.declared.ray.Ray.{Ray}
 use Rattle.ray_walk.specs.declared.ray.Exit.{Exit}
 use Rattle.ray_walk.specs.Walking.{IsEntered, IsExitOver, IsEarliest, IsFirstBefore, IsFirstOf}
@@ -175,6 +174,15 @@ module _ (polygon : Polygon) (ray : Ray) (entered : IsEntered polygon ray) where
           clash _ _ (found.first other earlier least.exit)
           (moved_le _ _ _ _ (λ i. exit_num polygon ray.from other *ℤ sym found.over.den i) (λ i. sym found.over.num i *ℤ exit_den polygon ray.from ray.to other)
           (least.least exit.edge found.over.is))
+
+  -- its fraction is at least 0 and less than 1
+  pub proper : (exit : Exit) → IsFirstOf polygon ray exit → (pos 0 ≤ℤ exit.num) × (exit.num <ℤ exit.den)
+  proper exit first =
+      between exit.num exit.den (side_of polygon exit.edge ray.from) (side_of polygon exit.edge ray.to) first.over.num first.over.den
+      (entered exit.edge first.over.is) first.over.is.beyond
+    where
+      between : (n d a b : ℤ) → n ≡ a → d ≡ a -ℤ b → pos 0 ≤ℤ a → b <ℤ pos 0 → (pos 0 ≤ℤ n) × (n <ℤ d)
+      between n d a b e f h k = (omega (arith, ints), omega (arith, ints))
 
   -- ---- an exit beside the first of least fraction
 

@@ -1,5 +1,5 @@
 -- The polygons of a mesh, which of them a walk has visited, and how many are left.
-use Rattle.std.proofs.Common.{◌≡◌, ℕ, zero, suc, ◌<◌, ◌≤◌, ◌+◌, ◌↔◌, ◌⊎◌, Bool, true, false, cond, List, [], ◌∷◌, ◌++◌, length, map, refl, sym, subst, ap, ◌∙◌, inl, inr, arith}
+use Rattle.std.proofs.Common.{◌≡◌, ℕ, zero, suc, ◌<◌, ◌≤◌, ◌+◌, Bool, true, false, cond, List, [], ◌∷◌, ◌++◌, length, map, refl, sym, subst, ap, ◌∙◌, inl, inr, arith}
 use Rattle.std.specs.Prelude.{Contains, slice_get, Some, None}
 use Rattle.std.specs.List.{range_with_len, count_by}
 use Rattle.std.proofs.lemmas.List.FromFn.{length-map-range_with_len, get_or-map-range_with_len}
@@ -93,6 +93,13 @@ one_less {X = X} f g (y ∷ ys) x fewer was is held =
       | inr later ↦
           let rest = one_less f g ys x fewer was is later in
           let all = no_more f g (y ∷ []) fewer in
-          omega (arith, rest, all, sum_by-cons (λ z. cond (f z) 1 0) y ys, sum_by-cons (λ z. cond (g z) 1 0) y ys, sum_by-cons (λ z. cond (f z) 1 0) y [],
-          sum_by-cons (λ z. cond (g z) 1 0) y [])
+          omega (
+            arith,
+            rest,
+            all,
+            sum_by-cons (λ z. cond (f z) 1 0) y ys,
+            sum_by-cons (λ z. cond (g z) 1 0) y ys,
+            sum_by-cons (λ z. cond (f z) 1 0) y [],
+            sum_by-cons (λ z. cond (g z) 1 0) y [],
+          )
     ]

@@ -11,7 +11,7 @@ use Rattle.std.proofs.lemmas.Map.Views.{tells_apart}
 use Rattle.std.proofs.lemmas.Option.{same_Some}
 use Rattle.nav_base.specs.Point.{HasCoordinates}
 use Rattle.mesh_types.specs.declared.answers.RayAnswer.{RayAnswer}
-use Rattle.mesh_types.specs.declared.answers.RayAnswer.TheVariants.{Reached, Wall}
+use Rattle.mesh_types.specs.declared.answers.RayAnswer.TheVariants.{Reached}
 use Rattle.mesh_types.specs.declared.links.Link.{Link}
 use Rattle.mesh_types.specs.declared.links.PolyRef.{PolyRef}
 use Rattle.mesh_types.specs.declared.mesh.Mesh.{Mesh}
@@ -42,7 +42,7 @@ added s n new updates p = by_case (is_at (pair_cmp (new.tile, new.index)) (p.til
         → IsTrue (is_visited n p) ↔ ((new ≡ p) ⊎ IsTrue (is_visited s p))
     by_case true is there = (
       λ h. inl (ap (λ (at : ℕ × ℕ). record { tile = at.0; index = at.1 })
-      (tells_apart (exact_pairs nat_cmp nat_cmp exact_unsigned exact_unsigned) (new.tile, new.index) (p.tile, p.index) is)),
+          (tells_apart (exact_pairs nat_cmp nat_cmp exact_unsigned exact_unsigned) (new.tile, new.index) (p.tile, p.index) is)),
       λ h. there,
     )
     by_case false is there = (
@@ -73,7 +73,7 @@ has_ends mesh first ray sound held to = record {
 }
 
 module _ (mesh : Mesh) (ray : Ray) (here : PolyRef) (polygon : Polygon) (s : BTreeSet (ℕ × ℕ)) (visited : List PolyRef) (sound : IsSound mesh)
-  (there : poly_at mesh here ≡ Some polygon) (has : HasThese s visited) where
+    (there : poly_at mesh here ≡ Some polygon) (has : HasThese s visited) where
   abbrev on : (link : Link) → Contains (links_from mesh here) link × IsOnward polygon ray s link → LeadsOn mesh ray.from ray.to here visited link
   on link is =
       let listed = leaving mesh here link sound is.0 in
@@ -124,7 +124,7 @@ sets_out mesh first ray s none held = record {
     nothing p = ap (λ (keys : List (ℕ × ℕ)). is_visited (record { keys = keys }) p) none
 
 module _ (mesh : Mesh) (first : PolyRef) (ray : Ray) (s n : BTreeSet (ℕ × ℕ)) (here : PolyRef) (polygon : Polygon) (sound : IsSound mesh)
-  (way : IsOnWay mesh first ray s here) (there : poly_at mesh here ≡ Some polygon) (more : IsAdded s n here) where
+    (way : IsOnWay mesh first ray s here) (there : poly_at mesh here ≡ Some polygon) (more : IsAdded s n here) where
   pub still_entered : IsEntered polygon ray
   still_entered = subst (λ (p : Polygon). IsEntered p ray) (same_Some way.entered.polygon polygon (sym way.entered.there ∙ there)) way.entered.entered
 

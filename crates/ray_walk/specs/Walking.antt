@@ -1,5 +1,5 @@
 -- Walking: what the steps of a ray walk keep.
-use Rattle.std.specs.Prelude.{◌≡◌, ◌≢◌, ℕ, ◌<◌, pos, ◌*ℤ◌, ◌≤ℤ◌, ◌<ℤ◌, ◌↔◌, ◌⊎◌, Contains, Bool, false, List, [], ◌++◌, length, map, slice_get, Option, Some, None}
+use Rattle.std.specs.Prelude.{◌≡◌, ◌≢◌, ℕ, ◌<◌, pos, ◌*ℤ◌, ◌≤ℤ◌, ◌<ℤ◌, ◌↔◌, ◌⊎◌, Contains, Bool, false, List, [], ◌++◌, length, slice_get, Option, Some, None, ⊤}
 use Rattle.std.specs.Option.{option_map_or}
 use Rattle.std.specs.Ordering.{nat_cmp, ordering_then}
 use Rattle.std.specs.BTreeSet.{BTreeSet, contains}
@@ -7,7 +7,7 @@ use Rattle.std.specs.declared.cmp.Ordering.{Ordering}
 use Rattle.std.specs.declared.cmp.Ordering.TheVariants.{Less}
 use Rattle.nav_base.specs.Point.{HasCoordinates}
 use Rattle.mesh_types.specs.declared.answers.RayAnswer.{RayAnswer}
-use Rattle.mesh_types.specs.declared.answers.RayAnswer.TheVariants.{Wall}
+use Rattle.mesh_types.specs.declared.answers.RayAnswer.TheVariants.{Reached, Wall}
 use Rattle.mesh_types.specs.declared.links.Link.{Link}
 use Rattle.mesh_types.specs.declared.links.PolyRef.{PolyRef}
 use Rattle.mesh_types.specs.declared.mesh.Mesh.{Mesh}
@@ -66,6 +66,11 @@ pub record IsFirstOf (polygon : Polygon) (ray : Ray) (exit : Exit) : Type 0 wher
 -- the wall at an exit
 abbrev pub wall_of : Polygon → Exit → RayAnswer
 wall_of polygon exit = Wall (edge_begin polygon exit.edge) (edge_end polygon exit.edge) exit.num exit.den
+
+-- the fraction of a wall is at least 0 and less than 1
+abbrev pub IsProper : RayAnswer → Type 0
+IsProper (Reached at) = ⊤
+IsProper (Wall a b num den) = (pos 0 ≤ℤ num) × (num <ℤ den)
 
 -- ---- links
 

@@ -15,6 +15,3 @@ mod ray;
 mod walking;
 
 pub use walking::walk;
-
-#[cfg(test)]
-mod tests;

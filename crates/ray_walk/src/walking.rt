@@ -6,7 +6,7 @@ ghost use Rattle.mesh_types.specs.declared.answers.RayAnswer.{RayAnswer};
 ghost use Rattle.mesh_types.specs.Rays.{IsHeldAt, IsRayWalk};
 ghost use Rattle.mesh_types.specs.Soundness.{IsSound};
 ghost use Rattle.mesh_types.specs.WholeMesh.{poly_at};
-ghost use Rattle.ray_walk.specs.Walking.{IsThere, wall_of};
+ghost use Rattle.ray_walk.specs.Walking.{IsProper, IsThere, wall_of};
 
 use crate::exits::{edge_ends, first_exit};
 use crate::onward::next_link;
@@ -30,7 +30,10 @@ pub fn walk(
     requires to { HasCoordinates to }
     ensures walk { IfOk result (λ answer. IsRayWalk mesh.now first from to answer) }
 
-    // It has no other answer.
+    // How far along the way a wall lies is at least 0 and less than 1.
+    ensures fraction { IfOk result IsProper }
+
+    // The ray walk ends in no other way.
     ensures only { IfOk result (λ answer. (other : RayAnswer) → IsRayWalk mesh.now first from to other → answer ≡ other) }
 {
     let ray = Ray { from, to };

@@ -11,8 +11,8 @@ untrue false h = refl
 pub returns-in-Some : goal.returns-in-Some
 returns-in-Some c = (
   λ lower. as_low c.args.polygon.now c.args.ray c.requires.entered c.args.edge c.in-Some.exit c.args.known c.requires.known c.in-Some.ensures.some
-  (iff_false c.is_less.ensures (not-true _ lower)),
+      (iff_false c.is_less.ensures (not-true _ lower)),
   λ least. untrue c.is_less.result
-  (λ less. not_above c.args.polygon.now c.args.ray c.requires.entered c.args.edge c.in-Some.exit c.args.known c.requires.known c.in-Some.ensures.some least
-  (c.is_less.ensures.0 less)),
+      (λ less. not_above c.args.polygon.now c.args.ray c.requires.entered c.args.edge c.in-Some.exit c.args.known c.requires.known c.in-Some.ensures.some least
+      (c.is_less.ensures.0 less)),
 )

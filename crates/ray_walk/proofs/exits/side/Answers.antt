@@ -1,4 +1,4 @@
-use Rattle.std.proofs.Common.{◌≤◌, ◌^◌, arith, to_z-of_z}
+use Rattle.std.proofs.Common.{arith, to_z-of_z}
 use Rattle.std.proofs.lemmas.Int.{ints}
 use Rattle.nav_base.proofs.Sizes.{orient_of-bound}
 use Rattle.ray_walk.proofs.exits.side.Goals as goal

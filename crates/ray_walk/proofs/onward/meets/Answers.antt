@@ -6,6 +6,7 @@ pub returns-then-orient-ge0 : goal.returns-then-orient-ge0
 returns-then-orient-ge0 c =
     let test = c.if-orient-ge0.true in
     let left = c.orient.ensures in
-    let right = c.orient-then-orient-ge0.ensures in
-    (λ passes. record { left = grind (arith, ints, to_z-of_z, test, left); right = grind (arith, ints, to_z-of_z, passes, right) },
-    λ is. let side = is.right in grind (arith, ints, to_z-of_z, side, right))
+    let right = c.orient-then-orient-ge0.ensures in (
+      λ passes. record { left = grind (arith, ints, to_z-of_z, test, left); right = grind (arith, ints, to_z-of_z, passes, right) },
+      λ is. let side = is.right in grind (arith, ints, to_z-of_z, side, right),
+    )

@@ -1,5 +1,5 @@
 use Rattle.std.proofs.Common.{◌≡◌, ℕ, ◌++◌, List, [], take, drop, length, sym, subst, ap, ◌∙◌}
-use Rattle.std.specs.Prelude.{All, Contains, Option, slice_get}
+use Rattle.std.specs.Prelude.{All, Contains, slice_get}
 use Rattle.std.proofs.Math.Seq.{take-append_seam}
 use Rattle.mesh_types.specs.declared.links.Link.{Link}
 use Rattle.mesh_types.specs.LinkOrder.{ordered_links}

@@ -1,1 +1,0 @@
-//! Walks in a small mesh by hand.
