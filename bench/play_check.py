@@ -2,13 +2,15 @@
 """A plain second program for the plays that `navd` answers so far: works an input out and compares what `navd` wrote for it, line by line.
 It finds the ground and the strips from the rules, over dictionaries of columns and cells with a queue for the clearance, and tests every
 shape against every cell. Of a path it finds the least cost by a search of its own, and tests that the links are a walk of that cost and that
-the turns are taut, part by part of the rule. It shares nothing with `navd`, and is slow.
+the turns are taut, part by part of the rule. It follows a ray from strip to strip with reduced fractions and sorted lists. It shares nothing
+with `navd`, and is slow.
 
 usage: play_check.py INPUT OUTPUT      ends with 1 and says where, at the first line that is wrong
 """
 import heapq
 import math
 import sys
+from fractions import Fraction
 
 DIRECTIONS = [(-1, 0), (0, 1), (1, 0), (0, -1)]
 BELOW_ALL = -10 ** 9
@@ -336,6 +338,40 @@ def check_path(words):
     said = at + steps + bends
 
 
+def check_ray(words):
+    """Checks the answer to a ray line."""
+    mesh = mesh_now()
+    sx, sz, y, gx, gz = map(int, words[1:])
+    start, goal = (sx, sz), (gx, gz)
+    here = locate(mesh, sx, sz, y)
+    if here is None:
+        return expect(f"nostart {published_length}")
+    visited = []
+    while True:
+        visited.append(here)
+        x0, x1, z = mesh[0][here][:3]
+        left, right, low, high = 16 * x0, 16 * x1 + 16, 16 * z, 16 * z + 16
+        corners = [(left, low), (right, low), (right, high), (left, high)]
+        edges = list(zip(corners, corners[1:] + corners[:1]))
+        exits = {}
+        for edge, (u, v) in enumerate(edges):
+            if orient(u, v, goal) < 0:
+                exits[edge] = Fraction(orient(u, v, start), orient(u, v, start) - orient(u, v, goal))
+        if not exits:
+            return expect(f"reached {published_length} {here[0]} {here[1]}")
+        least = [edge for edge in exits if exits[edge] == min(exits.values())]
+        onward = []
+        for to, a, b in mesh[2][here]:
+            edge = next(i for i, (u, v) in enumerate(edges) if orient(u, v, a) == 0 == orient(u, v, b))
+            if edge in least and to not in visited and orient(start, goal, a) >= 0 >= orient(start, goal, b):
+                onward.append((edge, to, b, a))
+        if not onward:
+            u, v = edges[min(least)]
+            num = orient(u, v, start)
+            return expect(f"wall {published_length} {u[0]} {u[1]} {v[0]} {v[1]} {num} {num - orient(u, v, goal)}")
+        here = min(onward)[1]
+
+
 def mesh_now():
     global mesh_kept
     if mesh_kept is None or mesh_kept[0] != published:
@@ -362,6 +398,8 @@ for line in lines[at + 2:]:
         expect(f"floors {published_length} {len(free)}" + "".join(f" {cell[0]} {cell[2]}" for cell in free))
     elif words[0] == "path":
         check_path(words)
+    elif words[0] == "ray":
+        check_ray(words)
 expect(f"done {published_length} {len(history)}")
 if said < len(told):
     fail(said, "nothing is wanted")

@@ -10,6 +10,7 @@ pub mod PortalEnds
 pub mod MeshPolygons
 pub mod MeshLinks
 pub mod WalkChains
+pub mod RayLaws
 pub mod RightLaws
 pub mod Totals
 pub mod OneTile

@@ -1,17 +1,21 @@
--- What is right for a question is determined: its kind, its floors, its first polygon and its cost.
-use Rattle.std.proofs.Common.{◌≡◌, ℕ, sym, subst, ◌∙◌, inl, inr, arith}
+-- What is right for a question is determined: its kind, its floors, its first polygon and its cost, and all of the answer to a ray.
+use Rattle.std.proofs.Common.{◌≡◌, ℕ, refl, sym, subst, ◌∙◌, inl, inr, arith}
 use Rattle.nav_base.specs.declared.point.Point.{Point}
 use Rattle.nav_base.specs.declared.answers.Question.{Question}
 use Rattle.nav_base.specs.declared.answers.Question.TheVariants as questions
 use Rattle.mesh_types.specs.declared.answers.Answer.{Answer}
 use Rattle.mesh_types.specs.declared.answers.Answer.TheVariants.{Floors, Path, NoStart, NoGoal, NoPath, Reached, Wall}
 use Rattle.mesh_types.specs.declared.answers.PathFound.{PathFound}
+use Rattle.mesh_types.specs.declared.answers.RayAnswer.{RayAnswer}
+use Rattle.mesh_types.specs.declared.answers.RayAnswer.TheVariants as rays
 use Rattle.mesh_types.specs.declared.links.PolyRef.{PolyRef}
 use Rattle.mesh_types.specs.declared.mesh.Mesh.{Mesh}
 use Rattle.mesh_types.specs.declared.corridor.Corridor.{Corridor}
 use Rattle.mesh_types.specs.Corridors.{IsCheapest, WalksTo}
 use Rattle.mesh_types.specs.Located.{IsLocated, IsNoLater, height_gap}
-use Rattle.mesh_types.specs.Right.{AreAlike, HasNoPath, IsPath, IsRight, IsRightFloors, IsRightPath}
+use Rattle.mesh_types.specs.Rays.{IsRayWalk}
+use Rattle.mesh_types.specs.Right.{AreAlike, HasNoPath, IsPath, IsRay, IsRight, IsRightFloors, IsRightPath, IsRightRay}
+use Rattle.mesh_types.proofs.RayLaws.{one_ray_walk}
 
 -- of two polygons each is no later than the other
 no_later_both : (m n : ℕ) (a b : PolyRef) → IsNoLater m a n b → IsNoLater n b m a → a ≡ b
@@ -88,7 +92,7 @@ alike_paths mesh from from_y to to_y (Floors floors) b r s = absurd r
 alike_paths mesh from from_y to to_y (Reached at) b r s = absurd r
 alike_paths mesh from from_y to to_y (Wall u v m n) b r s = absurd r
 
--- so are right answers to any question
+-- right answers to one question for the floors of a column are equal
 pub alike_floors : (mesh : Mesh) (x z : ℕ) (a b : Answer) → IsRightFloors mesh x z a → IsRightFloors mesh x z b → AreAlike a b
 alike_floors mesh x z (Floors floors) (Floors floors') r s = r ∙ sym s
 alike_floors mesh x z (Floors floors) NoStart r s = absurd s
@@ -104,7 +108,57 @@ alike_floors mesh x z (Path f) b r s = absurd r
 alike_floors mesh x z (Reached at) b r s = absurd r
 alike_floors mesh x z (Wall u v m n) b r s = absurd r
 
+-- ---- rays
+
+-- right answers to one question for a ray are equal
+one_ray : (mesh : Mesh) (from : Point) (from_y : ℕ) (to : Point) (a b : RayAnswer) → IsRay mesh from from_y to a → IsRay mesh from from_y to b → a ≡ b
+one_ray mesh from from_y to a b is is' =
+    one_ray_walk mesh is'.first from to a b
+    (subst (λ (at : PolyRef). IsRayWalk mesh at from to a) (one_located mesh from from_y is.first is'.first is.start is'.start) is.walk) is'.walk
+
+-- the same answers, as answers to questions
+abbrev as_answer : RayAnswer → Answer
+as_answer (rays.Reached at) = Reached at
+as_answer (rays.Wall a b num den) = Wall a b num den
+
+same_rays : (a b : RayAnswer) → a ≡ b → AreAlike (as_answer a) (as_answer b)
+same_rays a b same = subst (λ (c : RayAnswer). AreAlike (as_answer a) (as_answer c)) same (itself a)
+  where
+    itself : (c : RayAnswer) → AreAlike (as_answer c) (as_answer c)
+    itself (rays.Reached at) = refl
+    itself (rays.Wall u v m n) = (refl, refl, refl, refl)
+
+alike_rays : (mesh : Mesh) (from : Point) (from_y : ℕ) (to : Point) (a b : Answer) → IsRightRay mesh from from_y to a → IsRightRay mesh from from_y to b
+    → AreAlike a b
+alike_rays mesh from from_y to NoStart NoStart r s = tt
+alike_rays mesh from from_y to NoStart (Reached at) r s = absurd (r s.first s.start.holding)
+alike_rays mesh from from_y to NoStart (Wall u v m n) r s = absurd (r s.first s.start.holding)
+alike_rays mesh from from_y to NoStart NoGoal r s = absurd s
+alike_rays mesh from from_y to NoStart NoPath r s = absurd s
+alike_rays mesh from from_y to NoStart (Path g) r s = absurd s
+alike_rays mesh from from_y to NoStart (Floors floors) r s = absurd s
+alike_rays mesh from from_y to (Reached at) NoStart r s = absurd (s r.first r.start.holding)
+alike_rays mesh from from_y to (Reached at) (Reached at') r s = same_rays _ _ (one_ray mesh from from_y to (rays.Reached at) (rays.Reached at') r s)
+alike_rays mesh from from_y to (Reached at) (Wall u v m n) r s = same_rays _ _ (one_ray mesh from from_y to (rays.Reached at) (rays.Wall u v m n) r s)
+alike_rays mesh from from_y to (Reached at) NoGoal r s = absurd s
+alike_rays mesh from from_y to (Reached at) NoPath r s = absurd s
+alike_rays mesh from from_y to (Reached at) (Path g) r s = absurd s
+alike_rays mesh from from_y to (Reached at) (Floors floors) r s = absurd s
+alike_rays mesh from from_y to (Wall u v m n) NoStart r s = absurd (s r.first r.start.holding)
+alike_rays mesh from from_y to (Wall u v m n) (Reached at) r s = same_rays _ _ (one_ray mesh from from_y to (rays.Wall u v m n) (rays.Reached at) r s)
+alike_rays mesh from from_y to (Wall u v m n) (Wall u' v' m' n') r s =
+    same_rays _ _ (one_ray mesh from from_y to (rays.Wall u v m n) (rays.Wall u' v' m' n') r s)
+alike_rays mesh from from_y to (Wall u v m n) NoGoal r s = absurd s
+alike_rays mesh from from_y to (Wall u v m n) NoPath r s = absurd s
+alike_rays mesh from from_y to (Wall u v m n) (Path g) r s = absurd s
+alike_rays mesh from from_y to (Wall u v m n) (Floors floors) r s = absurd s
+alike_rays mesh from from_y to NoGoal b r s = absurd r
+alike_rays mesh from from_y to NoPath b r s = absurd r
+alike_rays mesh from from_y to (Path f) b r s = absurd r
+alike_rays mesh from from_y to (Floors floors) b r s = absurd r
+
+-- right answers to one question are alike
 pub alike : (mesh : Mesh) (question : Question) (a b : Answer) → IsRight mesh question a → IsRight mesh question b → AreAlike a b
 alike mesh (questions.Floor x z) a b r s = alike_floors mesh x z a b r s
 alike mesh (questions.Path from from_y to to_y) a b r s = alike_paths mesh from from_y to to_y a b r s
-alike mesh (questions.Ray from from_y to) a b r s = absurd r
+alike mesh (questions.Ray from from_y to) a b r s = alike_rays mesh from from_y to a b r s

@@ -14,6 +14,7 @@ pub mod Located
 pub mod Chains
 pub mod Taut
 pub mod Floors
+pub mod Rays
 pub mod Right
 pub mod Rings
 pub mod Simplified

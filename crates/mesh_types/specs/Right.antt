@@ -1,5 +1,6 @@
 -- Right: which answers to a question are right in a mesh. The kind of a right answer is determined by the question, and so are its floors,
--- its first polygon and its cost; of several corridors of least cost, and of several taut lines through one, any is right.
+-- its first polygon and its cost; of several corridors of least cost, and of several taut lines through one, any is right. To a question for a
+-- ray one answer alone is right.
 use Rattle.std.specs.Prelude.{◌≡◌, ℕ, List, map, ⊤}
 use Rattle.nav_base.specs.declared.point.Point.{Point}
 use Rattle.nav_base.specs.declared.answers.Question.{Question}
@@ -8,6 +9,8 @@ use Rattle.nav_ground.specs.declared.cell.FreeLayer.{FreeLayer}
 use Rattle.mesh_types.specs.declared.answers.Answer.{Answer}
 use Rattle.mesh_types.specs.declared.answers.Answer.TheVariants.{Floors, Path, NoStart, NoGoal, NoPath, Reached, Wall}
 use Rattle.mesh_types.specs.declared.answers.PathFound.{PathFound}
+use Rattle.mesh_types.specs.declared.answers.RayAnswer.{RayAnswer}
+use Rattle.mesh_types.specs.declared.answers.RayAnswer.TheVariants as rays
 use Rattle.mesh_types.specs.declared.links.Link.{Link}
 use Rattle.mesh_types.specs.declared.links.PolyRef.{PolyRef}
 use Rattle.mesh_types.specs.declared.links.Portal.{Portal}
@@ -16,6 +19,7 @@ use Rattle.mesh_types.specs.declared.tile.TileMesh.{TileMesh}
 use Rattle.mesh_types.specs.Corridors.{WalksTo, IsCheapest}
 use Rattle.mesh_types.specs.Floors.{floors_at}
 use Rattle.mesh_types.specs.Located.{HoldsAt, IsLocated}
+use Rattle.mesh_types.specs.Rays.{IsRayWalk}
 use Rattle.mesh_types.specs.Taut.{IsTaut}
 
 -- the free cells of the tiles
@@ -73,11 +77,27 @@ IsRightFloors mesh x z (Path found) = ⊥
 IsRightFloors mesh x z (Reached at) = ⊥
 IsRightFloors mesh x z (Wall a b num den) = ⊥
 
--- an answer to a question is right in a mesh; rays are not built yet, and no answer to one is right so far
+-- the start is held, and the ray walk begun in the polygon that locates it ends with this answer
+pub record IsRay (mesh : Mesh) (from : Point) (from_y : ℕ) (to : Point) (answer : RayAnswer) : Type 0 where
+  pub first : PolyRef
+  pub start : IsLocated mesh from from_y first
+  pub walk : IsRayWalk mesh first from to answer
+
+-- right answers to the question for a ray
+abbrev pub IsRightRay : Mesh → Point → ℕ → Point → Answer → Type 0
+IsRightRay mesh from from_y to NoStart = IsNowhere mesh from from_y
+IsRightRay mesh from from_y to (Reached at) = IsRay mesh from from_y to (rays.Reached at)
+IsRightRay mesh from from_y to (Wall a b num den) = IsRay mesh from from_y to (rays.Wall a b num den)
+IsRightRay mesh from from_y to NoGoal = ⊥
+IsRightRay mesh from from_y to NoPath = ⊥
+IsRightRay mesh from from_y to (Path found) = ⊥
+IsRightRay mesh from from_y to (Floors floors) = ⊥
+
+-- an answer to a question is right in a mesh
 abbrev pub IsRight : Mesh → Question → Answer → Type 0
 IsRight mesh (questions.Floor x z) answer = IsRightFloors mesh x z answer
 IsRight mesh (questions.Path from from_y to to_y) answer = IsRightPath mesh from from_y to to_y answer
-IsRight mesh (questions.Ray from from_y to) answer = ⊥
+IsRight mesh (questions.Ray from from_y to) answer = IsRightRay mesh from from_y to answer
 
 -- two answers are alike: of one kind, with the same floors, or the same first polygon and the same cost, or in all parts
 abbrev pub AreAlike : Answer → Answer → Type 0

@@ -2,7 +2,7 @@
 use Rattle.std.proofs.Common.{◌≡◌, ℕ, ◌+◌, ◌<◌, ◌≤◌, true, IsTrue, ℤ, pos, ◌≤ℤ◌, List, ◌++◌, length, take, drop, ap, ◌∙◌, sym, subst, refl, [], ◌∷◌, get_or, append_assoc, ⊎_elim, arith}
 use Rattle.std.proofs.lemmas.List.{drop_more, drop_all}
 use Rattle.std.proofs.lemmas.Int.{ints}
-use Rattle.std.proofs.lemmas.Bool.{both_ways, cases_Bool, false≢true}
+use Rattle.std.proofs.lemmas.Bool.{both_ways, cases_Bool}
 use Rattle.std.proofs.lemmas.List.Folds.{list_all_at}
 use Rattle.std.proofs.lemmas.Option.{slice_get-get_or}
 use Rattle.std.specs.List.{list_all}
@@ -21,7 +21,7 @@ use Rattle.nav_query.specs.Questions.{IsAnswerable}
 use Rattle.nav_script.specs.Limits.{IsScript, IsLine, IsObstacle, IsPlace, IsQuestion}
 use Rattle.nav_script.specs.Lanes.{adds_before}
 use Rattle.nav_record.specs.Texts.{done_text}
-use Rattle.nav_play.specs.Built.{is_built_line, is_built_question}
+use Rattle.nav_play.specs.Built.{is_built_line}
 use Rattle.nav_play.specs.PlayRecord.{PlayState, AddsSome, IsTextFrom, IsSaid, state_after}
 use Rattle.nav_play.specs.Players.{IsPlayable}
 
@@ -115,15 +115,15 @@ coordinate n least most = record { low = grind (arith, ints); high = grind (arit
 place_fits : (point : Point) → IsPlace point → HasCoordinates point
 place_fits point place = record { across = coordinate point.x place.x_least place.x_most; along = coordinate point.z place.z_least place.z_most }
 
--- and a question of a script that is built can be answered
-answerable : (question : Question) → is_built_question question ≡ true → IsQuestion question → IsAnswerable question
-answerable (Floor x z) built fits = tt
-answerable (Path from from_y to to_y) built fits = (place_fits from fits.0, place_fits to fits.2)
-answerable (Ray from from_y to) built fits = absurd (false≢true built)
+-- and a question of a script can be answered
+answerable : (question : Question) → IsQuestion question → IsAnswerable question
+answerable (Floor x z) fits = tt
+answerable (Path from from_y to to_y) fits = (place_fits from fits.0, place_fits to fits.2)
+answerable (Ray from from_y to) fits = (place_fits from fits.0, place_fits to fits.2)
 
 playable : (lanes workers before : ℕ) (line : Line) → is_built_line line ≡ true → IsLine Play lanes workers before line → IsPlayable lanes line
 playable lanes workers before (Lane lane) built fits = fits
-playable lanes workers before (Ask question) built fits = answerable question built fits
+playable lanes workers before (Ask question) built fits = answerable question fits
 playable lanes workers before (Add shape) built fits = obstacle_fits shape fits
 playable lanes workers before (Remove number) built fits = tt
 playable lanes workers before (Undo back) built fits = tt

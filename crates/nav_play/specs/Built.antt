@@ -1,8 +1,6 @@
--- Which plays are built so far: those over meshes of strips whose lines ask for obstacles, floors and paths.
+-- Which plays are built so far: those over meshes of strips without single steps of workers.
 use Rattle.std.specs.Prelude.{◌≡◌, Bool, false, true, IsTrue}
 use Rattle.std.specs.List.{list_all}
-use Rattle.nav_base.specs.declared.answers.Question.{Question}
-use Rattle.nav_base.specs.declared.answers.Question.TheVariants.{Floor, Path, Ray}
 use Rattle.nav_ground.specs.declared.setting.Setting.{Setting}
 use Rattle.nav_ground.specs.declared.setting.MeshKind.TheVariants.{Strips}
 use Rattle.nav_ground.specs.Grounds.{IsBuiltFor}
@@ -10,16 +8,10 @@ use Rattle.nav_script.specs.declared.line.Line.{Line}
 use Rattle.nav_script.specs.declared.line.Line.TheVariants.{Lane, Ask, Add, Remove, Undo, Settle, Aim, Claim, Back, Submit, Publish}
 use Rattle.nav_script.specs.declared.script.Script.{Script}
 
--- floors and paths are answered; rays are not yet
-abbrev pub is_built_question : Question → Bool
-is_built_question (Floor x z) = true
-is_built_question (Path from from_y to to_y) = true
-is_built_question (Ray from from_y to) = false
-
--- lanes, requests and `settle` are played; the single steps of workers are not yet
+-- lanes, requests, questions and `settle` are played; the single steps of workers are not yet
 abbrev pub is_built_line : Line → Bool
 is_built_line (Lane lane) = true
-is_built_line (Ask question) = is_built_question question
+is_built_line (Ask question) = true
 is_built_line (Add shape) = true
 is_built_line (Remove number) = true
 is_built_line (Undo back) = true

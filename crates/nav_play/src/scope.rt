@@ -3,14 +3,13 @@
 ghost use Rattle.std.specs.Prelude.{◌≡◌, ◌↔◌, IsTrue};
 ghost use Rattle.std.specs.List.{list_all};
 ghost use Rattle.nav_ground.specs.Grounds.{IsBuiltFor};
-ghost use Rattle.nav_play.specs.Built.{IsBuilt, is_built_line, is_built_question};
+ghost use Rattle.nav_play.specs.Built.{IsBuilt, is_built_line};
 
-use nav_base::Question;
 use nav_ground::{MeshKind, Setting};
 use nav_script::{Line, Script};
 
-/// Whether this play is built so far: agents keep their radius from walls alone, the mesh is one of strips, and no line asks for a ray or a
-/// single step of a worker. It takes one pass over the lines, and no memory.
+/// Whether this play is built so far: agents keep their radius from walls alone, the mesh is one of strips, and no line asks for a single step
+/// of a worker. It takes one pass over the lines, and no memory.
 pub fn built(setting: &Setting, script: &Script) -> bool
     ensures { IsTrue result ↔ IsBuilt setting.now script.now }
 {
@@ -46,17 +45,12 @@ fn is_built(line: &Line) -> bool
     ensures { result ≡ is_built_line line.now }
 {
     match *line {
-        Line::Ask(question) => is_answered(&question),
-        Line::Lane(_) | Line::Add(_) | Line::Remove(_) | Line::Undo(_) | Line::Settle => true,
+        Line::Lane(_)
+        | Line::Ask(_)
+        | Line::Add(_)
+        | Line::Remove(_)
+        | Line::Undo(_)
+        | Line::Settle => true,
         Line::Aim | Line::Claim(_) | Line::Back(_) | Line::Submit(_) | Line::Publish => false,
-    }
-}
-
-fn is_answered(question: &Question) -> bool
-    ensures { result ≡ is_built_question question.now }
-{
-    match *question {
-        Question::Floor { .. } | Question::Path { .. } => true,
-        Question::Ray { .. } => false,
     }
 }

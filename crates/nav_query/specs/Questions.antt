@@ -1,4 +1,4 @@
--- Questions: which are answered so far, and what their answers cost.
+-- Questions: which are answered, and what their answers cost.
 use Rattle.std.specs.Prelude.{◌<◌, ◌^◌, ⊤}
 use Rattle.nav_base.specs.declared.answers.Question.{Question}
 use Rattle.nav_base.specs.declared.answers.Question.TheVariants as questions
@@ -6,11 +6,11 @@ use Rattle.nav_base.specs.Point.{HasCoordinates}
 use Rattle.mesh_types.specs.declared.answers.Answer.{Answer}
 use Rattle.mesh_types.specs.declared.answers.Answer.TheVariants.{Floors, Path, NoStart, NoGoal, NoPath, Reached, Wall}
 
--- floors are asked of any column, and paths between points with coordinates; rays are not answered yet
+-- floors are asked of any column, paths and rays between points with coordinates
 abbrev pub IsAnswerable : Question → Type 0
 IsAnswerable (questions.Floor x z) = ⊤
 IsAnswerable (questions.Path from from_y to to_y) = HasCoordinates from × HasCoordinates to
-IsAnswerable (questions.Ray from from_y to) = ⊥
+IsAnswerable (questions.Ray from from_y to) = HasCoordinates from × HasCoordinates to
 
 -- a path that was found costs less than 2 ^ 45
 abbrev pub HasLowCost : Answer → Type 0

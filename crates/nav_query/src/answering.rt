@@ -9,6 +9,7 @@ ghost use Rattle.nav_query.specs.Questions.{HasLowCost, IsAnswerable};
 
 use crate::floors::floors;
 use crate::paths::path;
+use crate::rays::ray;
 use mesh_types::Mesh;
 use nav_base::Question;
 use nav_list::Items;
@@ -27,7 +28,7 @@ pub fn answer(
     ensures right { IfOk result (λ answer. IsRight mesh.now question.now answer) }
     ensures low_cost { IfOk result HasLowCost }
 
-    // Every right answer is of this kind, with the same floors, or the same first polygon and cost.
+    // Every right answer is of this kind, with the same floors, or the same first polygon and cost; a right answer to a ray is equal to it.
     ensures only { IfOk result (λ answer. (other : Answer) → IsRight mesh.now question.now other → AreAlike answer other) }
 {
     match *question {
@@ -41,6 +42,6 @@ pub fn answer(
             to,
             to_y,
         } => path(alloc, mesh, from, from_y, to, to_y),
-        Question::Ray { .. } => unreachable!(),
+        Question::Ray { from, from_y, to } => ray(alloc, mesh, from, from_y, to),
     }
 }

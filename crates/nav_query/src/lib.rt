@@ -1,8 +1,9 @@
-//! Answers to questions of a mesh: the floors of a column, and paths.
+//! Answers to questions of a mesh: the floors of a column, paths, and straight walks.
 //!
 //! `answer` gives an answer that is right in the mesh: the floors of the free cells of a column; or, for a path, that no polygon holds the
 //! start, that none holds the goal, that no walk over links joins the polygons that locate the two, or a corridor of least cost between them
-//! and a taut line through its portals. The parts are those of `mesh_locate`, `corridor_search` and `funnel_path`.
+//! and a taut line through its portals; for a straight walk, that no polygon holds the start, the polygon in which the walk reaches the point, or
+//! the wall at which it ends. The parts are those of `mesh_locate`, `corridor_search`, `funnel_path` and `ray_walk`.
 //!
 //! Columns are in whole cells, points in sixteenths of a cell, heights in the unit of the floors.
 #![tactic(auto)]
@@ -11,6 +12,7 @@ mod answering;
 mod columns;
 mod floors;
 mod paths;
+mod rays;
 
 pub use answering::answer;
 

@@ -6,7 +6,7 @@ ghost use Rattle.nav_ground.specs.Limits.{IsSetting};
 ghost use Rattle.mesh_types.specs.Soundness.{IsSound};
 
 use crate::answer;
-use mesh_types::{Corner, Mesh, Side};
+use mesh_types::{Corner, Mesh, PolyRef, Side};
 use nav_base::{FloorAt, Point, Question};
 use nav_ground::{AREAS, Agent, Cell, CellRef, FreeLayer, MeshKind, Setting};
 use nav_list::Items;
@@ -178,6 +178,58 @@ fn answers_questions(rt: HostRuntime) -> Result<(), Fail> {
             assert_eq!(rt; found.turns.as_slice(), [turn].as_slice());
         }
         _ => assert!(rt; false),
+    }
+    Ok(())
+}
+
+/// The answer to the question for a straight walk from one point, at the height of the floors, toward another.
+fn ray(
+    alloc: Global,
+    mesh: &Mesh,
+    from: (u8, u8),
+    to: (u8, u8),
+) -> Result<mesh_types::Answer, AllocError>
+    requires sound { IsSound mesh.now }
+    requires setting { mesh.now.setting ≡ SETTING }
+{
+    let question = Question::Ray {
+        from: point(from.0, from.1),
+        from_y: 10,
+        to: point(to.0, to.1),
+    };
+    answer(alloc, mesh, &question)
+}
+
+fn reached(index: u32) -> mesh_types::Answer {
+    mesh_types::Answer::Reached(PolyRef { tile: 0, index })
+}
+
+/// The wall at the edge from one point to another, at num / den.
+fn wall(a: (u8, u8), b: (u8, u8), num: i64, den: i64) -> mesh_types::Answer {
+    mesh_types::Answer::Wall {
+        a: point(a.0, a.1),
+        b: point(b.0, b.1),
+        num,
+        den,
+    }
+}
+
+#[test]
+fn follows_rays(rt: HostRuntime) -> Result<(), Fail> {
+    let alloc = rt.alloc();
+    let mesh = mesh(alloc)?;
+    let rays = [
+        ((8, 8), (8, 8), reached(0)),
+        ((8, 8), (32, 16), reached(0)),
+        // Through the corner that the two polygons share.
+        ((24, 8), (40, 24), reached(1)),
+        // Over the part of an edge behind which there is a polygon, and over the part behind which there is none.
+        ((24, 8), (24, 40), wall((48, 32), (16, 32), 768, 1024)),
+        ((8, 8), (8, 40), wall((32, 16), (0, 16), 256, 1024)),
+        ((40, 8), (8, 8), mesh_types::Answer::NoStart),
+    ];
+    for (from, to, wanted) in rays {
+        assert!(rt; ray(alloc, &mesh, from, to)? == wanted);
     }
     Ok(())
 }

@@ -118,7 +118,7 @@ fn ends_with_the_status_of_its_cause(rt: HostRuntime) -> Result<(), Fail> {
         ),
         (
             "play",
-            b"ray 24 24 10 24 0\n",
+            b"aim\n",
             Status::BadText,
             b"fault 0 0\n",
         ),
@@ -516,6 +516,39 @@ fn finds_a_path_over_four_tiles(rt: HostRuntime) -> Result<(), Fail> {
         b"entry 1 added\nsettled 1\npath 1 100 0 2 4 ",
         b"\ndone 1 1\n",
     );
+    Ok(())
+}
+
+#[test]
+fn follows_rays(rt: HostRuntime) -> Result<(), Fail> {
+    let alloc = rt.alloc();
+    // The level, the script; the play text.
+    let cases: [(SquareField, &[u8], &[u8]); 3] = [
+        // Nothing is held where there are no cells.
+        (
+            square(4, 4, 0, Over::Void),
+            b"floor 1 1\npath 24 24 10 24 24 10\nray 24 24 10 24 40\n",
+            b"floors 0 0\nnostart 0\nnostart 0\ndone 0 0\n",
+        ),
+        // Through the point where four tiles meet, into another tile.
+        (
+            square(8, 4, 0, Over::Sky),
+            b"ray 56 40 10 72 56\n",
+            b"reached 0 1 2\ndone 0 0\n",
+        ),
+        // Out of the cells of the room, and along an edge that two strips share.
+        (
+            square(6, 6, 0, Over::Sky),
+            b"ray 24 24 10 24 0\nray 24 32 10 72 32\n",
+            b"wall 0 16 16 80 16 512 1536\nreached 0 0 0\ndone 0 0\n",
+        ),
+    ];
+    for (level, script, text) in cases {
+        assert!(rt; level.side < 100);
+        let ran = played(&rt, alloc, level, script)?;
+        assert_eq!(rt; ran.status, Status::Ok);
+        assert_eq!(rt; ran.held.as_slice(), text);
+    }
     Ok(())
 }
 

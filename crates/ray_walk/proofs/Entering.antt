@@ -1,0 +1,157 @@
+-- A ray that goes on over a link enters the next polygon: no exit of it has the beginning of the ray on its right.
+use Rattle.std.proofs.Common.{◌≡◌, ℕ, ℤ, pos, ◌+ℤ◌, ◌-ℤ◌, ◌*ℤ◌, ◌≤ℤ◌, ◌<ℤ◌, [], ◌∷◌, refl, sym, ap, subst, ◌∙◌, arith}
+use Rattle.std.specs.Prelude.{Some}
+use Rattle.std.proofs.lemmas.Int.{ints, by_lt_z}
+use Rattle.std.proofs.lemmas.Option.{same_Some}
+use lib.IntN.{neg_ℤ, *ℤ_comm, *ℤ-zero}
+use Rattle.nav_base.specs.declared.point.Point.{Point}
+use Rattle.nav_base.specs.Point.{from_to, dot_of, cross_of, orient_of}
+use Rattle.nav_base.proofs.Polynomials.{at, opposite, difference, product, equal}
+use Rattle.nav_base.proofs.PointTerms.{place, coordinates, from_to_term, dot_term}
+use Rattle.nav_base.proofs.OrientLaws.{orient_of-apart, orient_of-crossing, dot_of-cross_of}
+use Rattle.nav_base.proofs.Signs.{product-not_negative, product-not_positive, product-negative, factor-not_negative}
+use Rattle.mesh_types.specs.declared.links.Link.{Link}
+use Rattle.mesh_types.specs.declared.links.PolyRef.{PolyRef}
+use Rattle.mesh_types.specs.declared.links.Portal.{Portal}
+use Rattle.mesh_types.specs.declared.mesh.Mesh.{Mesh}
+use Rattle.mesh_types.specs.declared.polygon.Polygon.{Polygon}
+use Rattle.mesh_types.specs.Corridors.{IsLinkOf}
+use Rattle.mesh_types.specs.Rays.{side_of, IsExit, IsHeldAt, Meets}
+use Rattle.mesh_types.specs.Soundness.{edge_begin, edge_end, along, LiesAlong, IsPortalOut, IsSound}
+use Rattle.mesh_types.specs.WholeMesh.{poly_at}
+use Rattle.mesh_types.proofs.MeshLinks.{leads}
+use Rattle.mesh_types.proofs.MeshPolygons.{placed}
+use Rattle.mesh_types.proofs.PortalEnds.{HoldsEnds, in_held}
+use Rattle.ray_walk.specs.declared.ray.Ray.{Ray}
+use Rattle.ray_walk.specs.Walking.{IsEntered}
+
+-- ---- turns along a way
+
+along_way : (u v from to : Point) → dot_of (from_to u v) (from_to from to) ≡ along u v to -ℤ along u v from
+unfolding dot_of
+along_way u v from to =
+    let way = from_to_term (place 0) (place 1) in
+    equal (coordinates (u ∷ v ∷ from ∷ to ∷ [])) (dot_term way (from_to_term (place 2) (place 3)))
+    (difference (dot_term way (from_to_term (place 0) (place 3))) (dot_term way (from_to_term (place 0) (place 2)))) refl
+
+-- a point's turn from a part of a way, and from the way, differ by a factor above 0 on either side
+same_turn : (u v from to p : Point) → LiesAlong u v from to
+    → along u v v *ℤ orient_of from to p ≡ dot_of (from_to u v) (from_to from to) *ℤ orient_of u v p
+unfolding orient_of
+same_turn u v from to p lies =
+    weighed (dot_of way part) (cross_of way (from_to from p)) (along u v v *ℤ cross_of part (from_to from p)) (cross_of way part) (dot_of way (from_to from p))
+    (cross_of way (from_to u p)) (dot_of-cross_of way (from_to from p) part) (level _ _ _ lies.ends lies.begins (orient_of-apart u v from to))
+    (aside _ _ _ lies.begins (orient_of-apart u v from p))
+  where
+    way : Point
+    way = from_to u v
+
+    part : Point
+    part = from_to from to
+
+    level : (a b c : ℤ) → a ≡ pos 0 → b ≡ pos 0 → a -ℤ b ≡ c → c ≡ pos 0
+    level a b c e e' h = omega (arith, ints)
+
+    aside : (a b c : ℤ) → b ≡ pos 0 → a -ℤ b ≡ c → c ≡ a
+    aside a b c e h = omega (arith, ints)
+
+    none : (o d : ℤ) → o ≡ pos 0 → o *ℤ d ≡ pos 0
+    none o d e = ap (λ (n : ℤ). n *ℤ d) e ∙ *ℤ_comm (pos 0) d ∙ *ℤ-zero d
+
+    drop : (a b c : ℤ) → a ≡ b +ℤ c → c ≡ pos 0 → b ≡ a
+    drop a b c e z = omega (arith, ints)
+
+    weighed : (d c a o e t : ℤ) → d *ℤ c ≡ a +ℤ o *ℤ e → o ≡ pos 0 → c ≡ t → a ≡ d *ℤ t
+    weighed d c a o e t h z is = drop (d *ℤ c) a (o *ℤ e) h (none o e z) ∙ ap (λ (n : ℤ). d *ℤ n) is
+
+-- both factors are above 0
+module _ (u v from to : Point) (lies : LiesAlong u v from to) where
+  long : pos 0 <ℤ along u v v
+  long = above (along u v from) (along u v to) (along u v v) lies.after lies.forward lies.before
+    where
+      above : (a b c : ℤ) → pos 0 ≤ℤ a → a <ℤ b → b ≤ℤ c → pos 0 <ℤ c
+      above a b c h k m = omega (arith, ints)
+
+  forward : pos 0 <ℤ dot_of (from_to u v) (from_to from to)
+  forward = above (along u v from) (along u v to) _ (along_way u v from to) lies.forward
+    where
+      above : (a b c : ℤ) → c ≡ b -ℤ a → a <ℤ b → pos 0 <ℤ c
+      above a b c e h = omega (arith, ints)
+
+  -- so a point that is not to the right of the way is not to the right of the part, and one that is to the right is so of the part
+  left_of_part : (p : Point) → pos 0 ≤ℤ orient_of u v p → pos 0 ≤ℤ orient_of from to p
+  left_of_part p h =
+      factor-not_negative (along u v v) _ long
+      (subst (λ (n : ℤ). pos 0 ≤ℤ n) (sym (same_turn u v from to p lies)) (product-not_negative _ _ (weak _ forward) h))
+    where
+      weak : (n : ℤ) → pos 0 <ℤ n → pos 0 ≤ℤ n
+      weak n k = omega (arith, ints)
+
+  right_of_part : (p : Point) → orient_of u v p <ℤ pos 0 → orient_of from to p <ℤ pos 0
+  right_of_part p h =
+      by_lt_z (orient_of from to p) (pos 0) (λ right. right)
+      (λ left. absurd (clash _ _ (same_turn u v from to p lies) (product-not_negative _ _ (weak _ long) left) (product-negative _ _ forward h)))
+    where
+      weak : (n : ℤ) → pos 0 <ℤ n → pos 0 ≤ℤ n
+      weak n k = omega (arith, ints)
+
+      clash : (a b : ℤ) → a ≡ b → pos 0 ≤ℤ a → b <ℤ pos 0 → ⊥
+      clash a b e k m = omega (arith, ints)
+
+-- ---- the next polygon
+
+-- where the turns from the portal and from an exit of the next polygon are joined like this, the beginning of the ray is not to the exit's right
+not_right : (al be r l a b m n : ℤ) → al *ℤ r -ℤ be *ℤ l ≡ a *ℤ n -ℤ b *ℤ m → pos 0 ≤ℤ al → be ≤ℤ pos 0 → pos 0 ≤ℤ r → pos 0 ≤ℤ l → pos 0 ≤ℤ a → b <ℤ pos 0
+    → n <ℤ pos 0 → pos 0 ≤ℤ m
+not_right al be r l a b m n e hal hbe hr hl ha hb hn =
+    factor-not_negative (neg_ℤ b) m (turned b hb)
+    (above _ _ _ _ _ e (opposed b m) (product-not_negative al r hal hr) (subst (λ (k : ℤ). k ≤ℤ pos 0) (*ℤ_comm l be) (product-not_positive l be hl hbe))
+    (product-not_positive a n ha (weak n hn)))
+  where
+    turned : (k : ℤ) → k <ℤ pos 0 → pos 0 <ℤ neg_ℤ k
+    turned k h = omega (arith, ints)
+
+    weak : (k : ℤ) → k <ℤ pos 0 → k ≤ℤ pos 0
+    weak k h = omega (arith, ints)
+
+    opposed : (k j : ℤ) → neg_ℤ k *ℤ j ≡ neg_ℤ (k *ℤ j)
+    opposed k j = equal (k ∷ j ∷ []) (product (opposite (at 0)) (at 1)) (opposite (product (at 0) (at 1))) refl
+
+    above : (p q x y z : ℤ) → p -ℤ q ≡ x -ℤ y → z ≡ neg_ℤ y → pos 0 ≤ℤ p → q ≤ℤ pos 0 → x ≤ℤ pos 0 → pos 0 ≤ℤ z
+    above p q x y z h k hp hq hx = omega (arith, ints)
+
+-- over an exit and through a portal that the ray meets
+enters : (polygon next : Polygon) (ray : Ray) (edge : ℕ) (portal : Portal) → IsEntered polygon ray → IsExit polygon ray.to edge
+    → IsPortalOut polygon edge portal → HoldsEnds next portal → Meets ray.from ray.to portal → IsEntered next ray
+enters polygon next ray edge portal entered exit out held meets other is =
+    not_right (orient_of ray.from ray.to portal.left) (orient_of ray.from ray.to portal.right) (side_of next other portal.right) (side_of next other portal.left)
+    (orient_of portal.right portal.left ray.from) (orient_of portal.right portal.left ray.to) (side_of next other ray.from) (side_of next other ray.to)
+    (orient_of-crossing (edge_begin next other) (edge_end next other) ray.from ray.to portal.right portal.left) meets.left meets.right
+    (held.right other is.there) (held.left other is.there)
+    (left_of_part (edge_begin polygon edge) (edge_end polygon edge) portal.right portal.left out.lies ray.from (entered edge exit))
+    (right_of_part (edge_begin polygon edge) (edge_end polygon edge) portal.right portal.left out.lies ray.to exit.beyond) is.beyond
+
+-- the polygon of a reference is entered
+pub record IsEnteredAt (mesh : Mesh) (ray : Ray) (at : PolyRef) : Type 0 where
+  pub polygon : Polygon
+  pub there : poly_at mesh at ≡ Some polygon
+  pub entered : IsEntered polygon ray
+
+-- by a polygon that holds the beginning of the ray
+pub begun : (mesh : Mesh) (ray : Ray) (at : PolyRef) → IsHeldAt mesh ray.from at → IsEnteredAt mesh ray at
+begun mesh ray first held = record { polygon = held.polygon; there = held.there; entered = λ edge exit. held.holds edge exit.there }
+
+-- and over a link from one to the next
+pub next_entered : (mesh : Mesh) (ray : Ray) (link : Link) (polygon : Polygon) → IsSound mesh → IsLinkOf mesh link → poly_at mesh link.from ≡ Some polygon
+    → IsEntered polygon ray → IsExit polygon ray.to link.edge → Meets ray.from ray.to link.portal → IsEnteredAt mesh ray link.to
+next_entered mesh ray link polygon sound listed there entered exit meets =
+    let lead = leads mesh link sound listed in
+    let same : lead.leaves ≡ polygon = same_Some lead.leaves polygon (sym lead.is_left ∙ there) in
+    record {
+      polygon = lead.enters;
+      there = lead.is_entered;
+      entered =
+          enters polygon lead.enters ray link.edge link.portal entered exit
+          (subst (λ (p : Polygon). IsPortalOut p link.edge link.portal) same lead.out)
+          (in_held lead.enters link.portal (placed mesh link.to lead.enters sound lead.is_entered).rules.convex lead.into) meets;
+    }

@@ -1,0 +1,7 @@
+mod ExitLaws
+mod Members
+mod LeavingLinks
+mod Entering
+mod Gathering
+mod Visits
+mod WalkLaws

@@ -1,0 +1,119 @@
+//! The link over which a ray goes on.
+
+ghost use Rattle.std.specs.Prelude.{◌≡◌, ◌↔◌, All, Contains, IsTrue, IfOk, OnOk, Some};
+ghost use Rattle.nav_base.specs.Point.{HasCoordinates, IsCellCorner};
+ghost use Rattle.mesh_types.specs.declared.links.Link.{Link};
+ghost use Rattle.mesh_types.specs.Rays.{Meets};
+ghost use Rattle.mesh_types.specs.Soundness.{IsSound};
+ghost use Rattle.mesh_types.specs.WholeMesh.{poly_at};
+ghost use Rattle.ray_walk.specs.Walking.{Gathers, HasEnds, IsEntered, IsFirstAmong, IsFirstOf, IsOnward, IsOutward, inner_links, links_from, outer_links};
+
+use crate::exits::is_least;
+use crate::ray::{Exit, Ray};
+use mesh_types::{Link, Mesh, PolyRef, Polygon, Portal, order_links};
+use nav_base::orient;
+use std::alloc::AllocError;
+use std::collections::BTreeSet;
+
+/// Of the links that leave a polygon over an exit of least fraction, through a portal that the ray meets, and into a polygon not yet visited,
+/// the first in the order of links. It is found in `onward`, whose memory serves again.
+pub(crate) fn next_link(
+    mesh: &Mesh,
+    at: PolyRef,
+    polygon: &Polygon,
+    ray: Ray,
+    exit: Exit,
+    visited: &BTreeSet<(u32, u32)>,
+    onward: &mut Vec<Link>,
+) -> Result<Option<Link>, AllocError>
+    requires sound { IsSound mesh.now }
+    requires there { poly_at mesh.now at ≡ Some polygon.now }
+    requires ray { HasEnds ray }
+    requires entered { IsEntered polygon.now ray }
+    requires exit { IsFirstOf polygon.now ray exit }
+    ensures { IfOk result (IsFirstAmong (λ link. Contains (links_from mesh.now at) link × IsOnward polygon.now ray visited.now link)) }
+{
+    onward.clear();
+    push_onward(onward, inner(mesh, at), polygon, ray, exit, visited)?;
+    push_onward(onward, outer(mesh, at), polygon, ray, exit, visited)?;
+    order_links(onward.as_mut_slice());
+    Ok(onward.first().copied())
+}
+
+/// Appends those of links that lead a ray on.
+fn push_onward(
+    onward: &mut Vec<Link>,
+    links: &[Link],
+    polygon: &Polygon,
+    ray: Ray,
+    exit: Exit,
+    visited: &BTreeSet<(u32, u32)>,
+) -> Result<(), AllocError>
+    requires links { All (IsOutward polygon.now) links.now }
+    requires corners { All IsCellCorner polygon.now.corners }
+    requires ray { HasEnds ray }
+    requires entered { IsEntered polygon.now ray }
+    requires exit { IsFirstOf polygon.now ray exit }
+    ensures { OnOk result (Gathers (IsOnward polygon.now ray visited.now) onward.old.items links.now onward.new.items) }
+{
+    for link in links {
+        if is_onward(link, polygon, ray, exit, visited) {
+            onward.push(*link)?;
+        }
+    }
+    Ok(())
+}
+
+/// Whether a link of a polygon leads a ray on.
+fn is_onward(
+    link: &Link,
+    polygon: &Polygon,
+    ray: Ray,
+    exit: Exit,
+    visited: &BTreeSet<(u32, u32)>,
+) -> bool
+    requires link { IsOutward polygon.now link.now }
+    requires corners { All IsCellCorner polygon.now.corners }
+    requires ray { HasEnds ray }
+    requires entered { IsEntered polygon.now ray }
+    requires exit { IsFirstOf polygon.now ray exit }
+    ensures { IsTrue result ↔ IsOnward polygon.now ray visited.now link.now }
+{
+    if !meets(ray, link.portal) {
+        return false;
+    }
+    if !is_least(polygon, link.edge as usize, ray, exit) {
+        return false;
+    }
+    !visited.contains(&(link.to.tile, link.to.index))
+}
+
+/// Whether a ray meets a portal.
+fn meets(ray: Ray, portal: Portal) -> bool
+    requires ray { HasEnds ray }
+    requires left { HasCoordinates portal.left }
+    requires right { HasCoordinates portal.right }
+    ensures { IsTrue result ↔ Meets ray.from ray.to portal }
+{
+    orient(ray.from, ray.to, portal.left) >= 0 && orient(ray.from, ray.to, portal.right) <= 0
+}
+
+/// The links that leave a polygon inside its tile.
+fn inner(mesh: &Mesh, at: PolyRef) -> &[Link]
+    ensures { result.now ≡ inner_links mesh.now at }
+{
+    match mesh.tiles.get(at.tile as usize) {
+        Some(tile) => tile.get().links.leaving(at.index),
+        None => &[],
+    }
+}
+
+/// The links that leave a polygon over its tile's border.
+fn outer(mesh: &Mesh, at: PolyRef) -> &[Link]
+    ensures { result.now ≡ outer_links mesh.now at }
+{
+    match mesh.cross.get(at.tile as usize) {
+        Some(links) => links.get().leaving(at.index),
+        None => &[],
+    }
+}
