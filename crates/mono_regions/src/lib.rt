@@ -12,6 +12,3 @@ mod layer;
 pub use index::{StripIndex, strip_index};
 pub use index_lists::IndexLists;
 pub use layer::strips;
-
-#[cfg(test)]
-mod tests;

@@ -13,6 +13,3 @@ mod floors;
 mod paths;
 
 pub use answering::answer;
-
-#[cfg(test)]
-mod tests;

@@ -1,0 +1,194 @@
+//! Kept cells by hand.
+
+ghost use Rattle.std.specs.Prelude.{◌≡◌, IfOk, map};
+ghost use Rattle.nav_ground.specs.Cells.{IsCompact};
+ghost use Rattle.tests_ground.specs.Rows.{cell_of};
+
+use agent_erode::{erode, erode_window, kept_marks};
+use compact_layer::CompactField;
+use nav_ground::{Cell, CellRef, Window};
+use nav_list::Items;
+use std::alloc::{AllocError, Global};
+use std::process::Abort;
+
+/// The x, z and level of a cell, and the levels that it names.
+type Row = (u32, u32, u32, [Option<u32>; 4]);
+
+/// The columns from (1, 1) to (5, 5) on one level, and over (2, 3), (3, 3) and (4, 3) a bridge that leads nowhere, whose level is 3.
+const ROWS: [Row; 28] = [
+    (1, 1, 0, [None, Some(0), Some(0), None]),
+    (2, 1, 0, [Some(0), Some(0), Some(0), None]),
+    (3, 1, 0, [Some(0), Some(0), Some(0), None]),
+    (4, 1, 0, [Some(0), Some(0), Some(0), None]),
+    (5, 1, 0, [Some(0), Some(0), None, None]),
+    (1, 2, 0, [None, Some(0), Some(0), Some(0)]),
+    (2, 2, 0, [Some(0), Some(0), Some(0), Some(0)]),
+    (3, 2, 0, [Some(0), Some(0), Some(0), Some(0)]),
+    (4, 2, 0, [Some(0), Some(0), Some(0), Some(0)]),
+    (5, 2, 0, [Some(0), Some(0), None, Some(0)]),
+    (1, 3, 0, [None, Some(0), Some(0), Some(0)]),
+    (2, 3, 0, [Some(0), Some(0), Some(0), Some(0)]),
+    (2, 3, 3, [None, None, Some(3), None]),
+    (3, 3, 0, [Some(0), Some(0), Some(0), Some(0)]),
+    (3, 3, 3, [Some(3), None, Some(3), None]),
+    (4, 3, 0, [Some(0), Some(0), Some(0), Some(0)]),
+    (4, 3, 3, [Some(3), None, None, None]),
+    (5, 3, 0, [Some(0), Some(0), None, Some(0)]),
+    (1, 4, 0, [None, Some(0), Some(0), Some(0)]),
+    (2, 4, 0, [Some(0), Some(0), Some(0), Some(0)]),
+    (3, 4, 0, [Some(0), Some(0), Some(0), Some(0)]),
+    (4, 4, 0, [Some(0), Some(0), Some(0), Some(0)]),
+    (5, 4, 0, [Some(0), Some(0), None, Some(0)]),
+    (1, 5, 0, [None, None, Some(0), Some(0)]),
+    (2, 5, 0, [Some(0), None, Some(0), Some(0)]),
+    (3, 5, 0, [Some(0), None, Some(0), Some(0)]),
+    (4, 5, 0, [Some(0), None, Some(0), Some(0)]),
+    (5, 5, 0, [Some(0), None, None, Some(0)]),
+];
+
+/// The cells of rows, in order.
+fn cells_of(alloc: Global, rows: &[Row]) -> Result<Vec<Cell>, AllocError>
+    ensures { IfOk result (λ cells. cells.items ≡ map cell_of rows.now) }
+{
+    let mut cells = Vec::new(alloc);
+    for (x, z, level, next) in rows {
+        cells.push(Cell {
+            at: CellRef {
+                x: *x,
+                z: *z,
+                level: *level,
+            },
+            floor: 7,
+            ceiling: 65535,
+            area: 63,
+            next: *next,
+        })?;
+    }
+    Ok(cells)
+}
+
+fn field(alloc: Global) -> Result<CompactField, AllocError>
+    ensures { IfOk result (λ field. IsCompact field.cells) }
+{
+    Ok(CompactField {
+        cells: Items::from_vec(cells_of(alloc, &ROWS)?),
+    })
+}
+
+/// Places as x, z and level.
+fn as_tuples(alloc: Global, places: &[CellRef]) -> Result<Vec<(u32, u32, u32)>, AllocError> {
+    places
+        .iter()
+        .map(|at| (at.x, at.z, at.level))
+        .collect(alloc)
+}
+
+/// The cells with four connections, which are kept for a radius of 1.
+const INNER: [(u32, u32, u32); 9] = [
+    (2, 2, 0),
+    (3, 2, 0),
+    (4, 2, 0),
+    (2, 3, 0),
+    (3, 3, 0),
+    (4, 3, 0),
+    (2, 4, 0),
+    (3, 4, 0),
+    (4, 4, 0),
+];
+
+/// The middle cell, which alone is kept for a radius of 2: (2, 2) is one step from the boundary, (3, 3) is two.
+const MIDDLE: (u32, u32, u32) = (3, 3, 0);
+
+#[test]
+fn keeps_by_hand(rt: HostRuntime) -> Result<(), AllocError> {
+    let alloc = rt.alloc();
+    let field = field(alloc)?;
+    for (radius, wanted) in [(0, 28), (1, 9), (2, 1), (3, 0), (u32::MAX, 0)] {
+        let kept = erode(alloc, &field, radius)?;
+        assert_eq!(rt; kept.len(), wanted, "at {radius}");
+        let marks = kept_marks(alloc, field.cells.as_slice(), radius)?;
+        assert_eq!(rt;
+            marks.iter().filter(|mark| **mark).count(),
+            wanted,
+            "at {radius}"
+        );
+        assert_eq!(rt; marks.get(13).copied(), Some(radius < 3), "at {radius}");
+    }
+    assert_eq!(rt;
+        as_tuples(alloc, &erode(alloc, &field, 1)?)?.as_slice(),
+        INNER.as_slice()
+    );
+    assert_eq!(rt;
+        as_tuples(alloc, &erode(alloc, &field, 2)?)?.as_slice(),
+        [MIDDLE].as_slice()
+    );
+    Ok(())
+}
+
+#[test]
+fn keeps_in_windows(rt: HostRuntime) -> Result<(), AllocError> {
+    let alloc = rt.alloc();
+    let field = field(alloc)?;
+    let all = Window {
+        x0: i32::MIN,
+        x1: i32::MAX,
+        z0: i32::MIN,
+        z1: i32::MAX,
+    };
+    let column = Window {
+        x0: 2,
+        x1: 2,
+        ..all
+    };
+    let row = Window {
+        z0: 4,
+        z1: 4,
+        ..all
+    };
+    let middle = Window {
+        x0: 3,
+        x1: 3,
+        z0: 3,
+        z1: 3,
+    };
+    let left = Window {
+        x0: -9,
+        x1: -1,
+        ..all
+    };
+    let right = Window {
+        x0: 6,
+        x1: 900,
+        ..all
+    };
+    let empty = Window {
+        x0: 4,
+        x1: 2,
+        ..all
+    };
+    for (window, radius, wanted) in [
+        (all, 1, INNER.as_slice()),
+        (all, 2, &[MIDDLE]),
+        (all, u32::MAX, &[]),
+        (column, 1, &[(2, 2, 0), (2, 3, 0), (2, 4, 0)]),
+        (row, 1, &[(2, 4, 0), (3, 4, 0), (4, 4, 0)]),
+        (row, 2, &[]),
+        (middle, 0, &[MIDDLE, (3, 3, 3)]),
+        (middle, 1, &[MIDDLE]),
+        (middle, 2, &[MIDDLE]),
+        (middle, 3, &[]),
+        (left, 1, &[]),
+        (right, 0, &[]),
+        (right, 2, &[]),
+        (empty, 0, &[]),
+        (empty, 1, &[]),
+    ] {
+        let kept = erode_window(alloc, &field, window, radius)?;
+        assert_eq!(rt;
+            as_tuples(alloc, &kept)?.as_slice(),
+            wanted,
+            "at {window:?} and {radius}"
+        );
+    }
+    Ok(())
+}

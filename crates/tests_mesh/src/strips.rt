@@ -1,0 +1,114 @@
+//! Strips by hand.
+
+ghost use Rattle.std.specs.Prelude.{◌≡◌, IfOk};
+ghost use Rattle.nav_ground.specs.Cells.{IsCut};
+
+use mono_regions::{strip_index, strips};
+use cell_table::neighbour_table;
+use nav_ground::{Cell, CellRef, FreeLayer};
+use nav_list::Items;
+use std::alloc::{AllocError, Global};
+
+/// The first row has the columns 1 to 3, the last of which has another area and a neighbour in another tile; the second row has the columns
+/// 1 and 2 on two levels, which are connected to the first row alone.
+const CELLS: [Cell; 5] = [
+    Cell {
+        at: CellRef {
+            x: 1,
+            z: 0,
+            level: 0,
+        },
+        floor: 10,
+        ceiling: 65535,
+        area: 63,
+        next: [None, Some(0), Some(0), None],
+    },
+    Cell {
+        at: CellRef {
+            x: 2,
+            z: 0,
+            level: 0,
+        },
+        floor: 12,
+        ceiling: 65535,
+        area: 63,
+        next: [Some(0), Some(1), Some(0), None],
+    },
+    Cell {
+        at: CellRef {
+            x: 3,
+            z: 0,
+            level: 0,
+        },
+        floor: 9,
+        ceiling: 65535,
+        area: 7,
+        next: [Some(0), None, Some(2), None],
+    },
+    Cell {
+        at: CellRef {
+            x: 1,
+            z: 1,
+            level: 0,
+        },
+        floor: 8,
+        ceiling: 65535,
+        area: 63,
+        next: [None, None, None, Some(0)],
+    },
+    Cell {
+        at: CellRef {
+            x: 2,
+            z: 1,
+            level: 1,
+        },
+        floor: 14,
+        ceiling: 65535,
+        area: 63,
+        next: [None, None, None, Some(0)],
+    },
+];
+
+fn free(alloc: Global) -> Result<FreeLayer, AllocError>
+    ensures { IfOk result (λ free. IsCut free.cells) }
+{
+    Ok(FreeLayer {
+        tile: 0,
+        cells: Items::from_vec(Vec::from_array(alloc, CELLS)?),
+    })
+}
+
+/// The row, the columns, the area and the levels of each strip.
+const WANTED: [(u32, u32, u32, u32, &[u32]); 4] = [
+    (0, 1, 2, 63, &[0, 0]),
+    (0, 3, 3, 7, &[0]),
+    (1, 1, 1, 63, &[0]),
+    (1, 2, 2, 63, &[1]),
+];
+
+#[test]
+fn strips_by_hand(rt: HostRuntime) -> Result<(), AllocError> {
+    let alloc = rt.alloc();
+    let free = free(alloc)?;
+    let strips = strips(alloc, &free)?;
+    assert_eq!(rt; strips.len(), 4);
+    for (strip, wanted) in strips.iter().zip(WANTED.iter()) {
+        assert_eq!(rt;
+            (strip.z, strip.x0, strip.x1, strip.area),
+            (wanted.0, wanted.1, wanted.2, wanted.3)
+        );
+        assert_eq!(rt; strip.levels.as_slice(), wanted.4);
+    }
+    Ok(())
+}
+
+#[test]
+fn indices_by_hand(rt: HostRuntime) -> Result<(), AllocError> {
+    let alloc = rt.alloc();
+    let free = free(alloc)?;
+    let table = neighbour_table(alloc, free.cells.as_slice())?;
+    let index = strip_index(alloc, free.cells.as_slice(), table.as_slice())?;
+    assert_eq!(rt; index.runs.len(), 4);
+    assert_eq!(rt; index.owners.as_slice(), [0, 0, 1, 2, 3].as_slice());
+    Ok(())
+}

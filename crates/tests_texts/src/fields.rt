@@ -1,0 +1,186 @@
+use span_text::*;
+use nav_ground::{Agent, MeshKind};
+use std::alloc::AllocError;
+
+const HEADER: [&str; 7] = [
+    "nav 1\n",
+    "size 6 6\n",
+    "tile 6\n",
+    "agent 10 4 0\n",
+    "error 169\n",
+    "mesh strips\n",
+    "limit 4\n",
+];
+
+/// The first lines of a header, and what follows them.
+fn text_with(alloc: Global, lines: usize, tail: &str) -> Result<Vec<u8>, AllocError> {
+    let mut text = Vec::new(alloc);
+    for line in HEADER.iter().take(lines) {
+        text.extend_from_slice(line.as_bytes())?;
+    }
+    text.extend_from_slice(tail.as_bytes())?;
+    Ok(text)
+}
+
+/// The line and kind of the fault of a text; zeros where it has none.
+fn fault_of(alloc: Global, text: &[u8]) -> (u32, u32) {
+    match read_field(alloc, text) {
+        Ok(_) => (0, 0),
+        Err(FieldRefusal::Fault(fault)) => (fault.line, fault.kind),
+        Err(FieldRefusal::OutOfMemory) => (0, 99),
+    }
+}
+
+#[test]
+fn reads_every_form(rt: HostRuntime) -> Result<(), AllocError> {
+    let text =
+        b"nav 1\nsize 1024 1\ntile 128\nagent 255 254 15\nerror 10000\nmesh contours\nlimit 1024\ncost 1 1\ncost 3 7\ncost 63 1000\nspan 0 0 0 5 0\nspan 0 0 5 8191 63\nspan 1023 0 7 8 1\nend\nscript 1 1\n";
+    let read = match read_field(rt.alloc(), text.as_slice()) {
+        Ok(read) => read,
+        Err(_) => return Err(AllocError),
+    };
+    assert_eq!(rt; (read.used, read.lines), (text.len() - 11, 14));
+    assert_eq!(rt;
+        (read.setting.width, read.setting.depth, read.setting.tile),
+        (1024, 1, 128)
+    );
+    assert_eq!(rt;
+        read.setting.agent,
+        Agent {
+            height: 255,
+            climb: 254,
+            radius: 15
+        }
+    );
+    assert_eq!(rt;
+        (
+            read.setting.error,
+            read.setting.mesh,
+            read.setting.limit,
+            read.setting.clear
+        ),
+        (10000, MeshKind::Contours, 1024, false)
+    );
+    for (area, cost) in read.setting.costs.iter().enumerate() {
+        let wanted = match area {
+            3 => 7,
+            63 => 1000,
+            _ => 1,
+        };
+        assert_eq!(rt; *cost, wanted, "at {area}");
+    }
+    assert_eq!(rt;
+        (read.field.width, read.field.depth, read.field.spans.len()),
+        (1024, 1, 3)
+    );
+    let wanted = Span {
+        x: 0,
+        z: 0,
+        bottom: 5,
+        top: 8191,
+        area: 63,
+    };
+    assert_eq!(rt; read.field.spans.get(1).copied(), Some(wanted));
+
+    let text = text_with(rt.alloc(), 7, "end\n")?;
+    assert!(rt; read_field(rt.alloc(), text.as_slice()).is_ok());
+    Ok(())
+}
+
+#[test]
+fn tells_the_first_fault(rt: HostRuntime) -> Result<(), AllocError> {
+    for (lines, tail, line, kind) in [
+        (0, "", 1, FaultKind::Unfinished),
+        (0, "\n", 1, FaultKind::Form),
+        (0, "nav 1", 1, FaultKind::Unfinished),
+        (0, "nav 2\n", 1, FaultKind::Form),
+        (0, "nav 01\n", 1, FaultKind::Form),
+        (0, "nav 1 \n", 1, FaultKind::Form),
+        (0, "nav 1\r\n", 1, FaultKind::Form),
+        (1, "", 2, FaultKind::Unfinished),
+        (1, "size 6\n", 2, FaultKind::Form),
+        (1, "size 06 6\n", 2, FaultKind::Form),
+        (1, "size 6 6 \n", 2, FaultKind::Form),
+        (1, "size 6 4294967296\n", 2, FaultKind::Form),
+        (1, "size 0 6\n", 2, FaultKind::Range),
+        (1, "size 6 1025\n", 2, FaultKind::Range),
+        (1, "size 6 6", 2, FaultKind::Unfinished),
+        (2, "tile\n", 3, FaultKind::Form),
+        (2, "tile 3\n", 3, FaultKind::Range),
+        (2, "tile 129\n", 3, FaultKind::Range),
+        (3, "agent 10 4\n", 4, FaultKind::Form),
+        (3, "agent 0 0 0\n", 4, FaultKind::Range),
+        (3, "agent 256 0 0\n", 4, FaultKind::Range),
+        (3, "agent 255 255 0\n", 4, FaultKind::Range),
+        (3, "agent 10 10 16\n", 4, FaultKind::Range),
+        (3, "agent 10 10 0\n", 4, FaultKind::Climb),
+        (4, "error 1 2\n", 5, FaultKind::Form),
+        (4, "error 10001\n", 5, FaultKind::Range),
+        (5, "mesh strip\n", 6, FaultKind::Form),
+        (5, "mesh contours \n", 6, FaultKind::Form),
+        (6, "limit x\n", 7, FaultKind::Form),
+        (6, "limit 0\n", 7, FaultKind::Range),
+        (6, "limit 1025\n", 7, FaultKind::Range),
+    ] {
+        let text = text_with(rt.alloc(), lines, tail)?;
+        assert_eq!(rt;
+            fault_of(rt.alloc(), text.as_slice()),
+            (line, kind.number()),
+            "at {tail}"
+        );
+    }
+    Ok(())
+}
+
+#[test]
+fn tells_the_first_fault_behind_the_header(rt: HostRuntime) -> Result<(), AllocError> {
+    for (tail, line, kind) in [
+        ("", 8, FaultKind::Unfinished),
+        ("end", 8, FaultKind::Unfinished),
+        ("end \n", 8, FaultKind::Form),
+        ("ends\n", 8, FaultKind::Form),
+        ("script 1 1\n", 8, FaultKind::Form),
+        ("nav 1\n", 8, FaultKind::Form),
+        ("cost 1\n", 8, FaultKind::Form),
+        ("cost 0 1\n", 8, FaultKind::Range),
+        ("cost 64 1\n", 8, FaultKind::Range),
+        ("cost 1 0\n", 8, FaultKind::Range),
+        ("cost 1 1001\n", 8, FaultKind::Range),
+        ("cost 2 5\ncost 2 6\n", 9, FaultKind::Order),
+        ("cost 2 5\ncost 1 1001\n", 9, FaultKind::Range),
+        ("cost 2 5\ncost 63 1", 9, FaultKind::Unfinished),
+        ("span 0 0 0 1\n", 8, FaultKind::Form),
+        ("span 0 0 0 1 0 0\n", 8, FaultKind::Form),
+        ("span  0 0 0 1 0\n", 8, FaultKind::Form),
+        ("span 0 0 0 01 0\n", 8, FaultKind::Form),
+        ("span 6 0 0 1 0\n", 8, FaultKind::Range),
+        ("span 0 6 0 1 0\n", 8, FaultKind::Range),
+        ("span 0 0 1 1 0\n", 8, FaultKind::Range),
+        ("span 0 0 0 8192 0\n", 8, FaultKind::Range),
+        ("span 0 0 0 1 64\n", 8, FaultKind::Range),
+        ("span 1 0 0 10 63\nspan 0 0 0 10 63\n", 9, FaultKind::Order),
+        ("span 0 1 0 10 63\nspan 5 0 0 10 63\n", 9, FaultKind::Order),
+        ("span 1 0 0 10 63\nspan 0 0 10 10 63\n", 9, FaultKind::Range),
+        ("span 0 0 0 10 63\nspan 0 0 9 12 0\n", 9, FaultKind::Overlap),
+        ("span 0 0 0 10 63\ncost 1 1\n", 9, FaultKind::Form),
+        ("span 0 0 0 10 63\ncost 0 1\n", 9, FaultKind::Form),
+        (
+            "span 0 0 0 10 63\nspan 0 0 10 12 0",
+            9,
+            FaultKind::Unfinished,
+        ),
+        (
+            "span 0 0 0 10 63\nspan 0 0 10 12 0\n",
+            10,
+            FaultKind::Unfinished,
+        ),
+    ] {
+        let text = text_with(rt.alloc(), 7, tail)?;
+        assert_eq!(rt;
+            fault_of(rt.alloc(), text.as_slice()),
+            (line, kind.number()),
+            "at {tail}"
+        );
+    }
+    Ok(())
+}
