@@ -1,18 +1,15 @@
 //! Kept cells by hand.
 
-ghost use Rattle.std.specs.Prelude.{◌≡◌, IfOk, map};
+ghost use Rattle.std.specs.Prelude.{IfOk};
 ghost use Rattle.nav_ground.specs.Cells.{IsCompact};
-ghost use Rattle.tests_ground.specs.Rows.{cell_of};
 
+use crate::rows::{Row, cells_of};
 use agent_erode::{erode, erode_window, kept_marks};
 use compact_layer::CompactField;
-use nav_ground::{Cell, CellRef, Window};
+use nav_ground::{CellRef, Window};
 use nav_list::Items;
 use std::alloc::{AllocError, Global};
 use std::process::Abort;
-
-/// The x, z and level of a cell, and the levels that it names.
-type Row = (u32, u32, u32, [Option<u32>; 4]);
 
 /// The columns from (1, 1) to (5, 5) on one level, and over (2, 3), (3, 3) and (4, 3) a bridge that leads nowhere, whose level is 3.
 const ROWS: [Row; 28] = [
@@ -45,27 +42,6 @@ const ROWS: [Row; 28] = [
     (4, 5, 0, [Some(0), None, Some(0), Some(0)]),
     (5, 5, 0, [Some(0), None, None, Some(0)]),
 ];
-
-/// The cells of rows, in order.
-fn cells_of(alloc: Global, rows: &[Row]) -> Result<Vec<Cell>, AllocError>
-    ensures { IfOk result (λ cells. cells.items ≡ map cell_of rows.now) }
-{
-    let mut cells = Vec::new(alloc);
-    for (x, z, level, next) in rows {
-        cells.push(Cell {
-            at: CellRef {
-                x: *x,
-                z: *z,
-                level: *level,
-            },
-            floor: 7,
-            ceiling: 65535,
-            area: 63,
-            next: *next,
-        })?;
-    }
-    Ok(cells)
-}
 
 fn field(alloc: Global) -> Result<CompactField, AllocError>
     ensures { IfOk result (λ field. IsCompact field.cells) }

@@ -23,4 +23,7 @@ mod marks;
 mod neighbours;
 
 #[cfg(test)]
+mod rows;
+
+#[cfg(test)]
 mod tiles_and_shapes;

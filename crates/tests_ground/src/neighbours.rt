@@ -1,16 +1,13 @@
 //! The table of a small list of cells, worked out by hand.
 
-ghost use Rattle.std.specs.Prelude.{◌≡◌, IfOk, map};
+ghost use Rattle.std.specs.Prelude.{IfOk};
 ghost use Rattle.nav_ground.specs.Cells.{IsCells};
-ghost use Rattle.tests_ground.specs.Rows.{cell_of};
 
+use crate::rows::{Row, cells_of};
 use cell_table::neighbour_table;
-use nav_ground::{Cell, CellRef};
+use nav_ground::Cell;
 use std::alloc::{AllocError, Global};
 use std::test::Fail;
-
-/// The x, z and level of a cell, and the levels that it names.
-type Row = (u32, u32, u32, [Option<u32>; 4]);
 
 /// Levels with gaps, two levels of one column, a name of a cell that is not there, and columns at the field's corner.
 const ROWS: [Row; 5] = [
@@ -25,26 +22,6 @@ fn cells(alloc: Global) -> Result<Vec<Cell>, AllocError>
     ensures { IfOk result (λ cells. IsCells cells.items) }
 {
     let cells = cells_of(alloc, &ROWS)?;
-    Ok(cells)
-}
-
-fn cells_of(alloc: Global, rows: &[Row]) -> Result<Vec<Cell>, AllocError>
-    ensures { IfOk result (λ cells. cells.items ≡ map cell_of rows.now) }
-{
-    let mut cells = Vec::new(alloc);
-    for (x, z, level, next) in rows {
-        cells.push(Cell {
-            at: CellRef {
-                x: *x,
-                z: *z,
-                level: *level,
-            },
-            floor: 7,
-            ceiling: 65535,
-            area: 63,
-            next: *next,
-        })?;
-    }
     Ok(cells)
 }
 

@@ -10,13 +10,14 @@ use Rattle.nav_base.specs.declared.point.Point.{Point}
 use Rattle.nav_base.specs.Point.{IsCellCorner, orient_of, cross_of}
 use Rattle.nav_base.specs.Convex.{IsStrictlyConvex, LiesLeft, place_after, side_of_edge}
 use Rattle.nav_ground.specs.declared.cell.Window.{Window}
-use Rattle.nav_ground.specs.Limits.{IsSetting}
 use Rattle.nav_ground.specs.Tiling.{tile_window}
 use Rattle.nav_ground.proofs.Literals.{IsCut-shown}
 use Rattle.mesh_types.specs.declared.polygon.Polygon.{Polygon}
 use Rattle.mesh_types.specs.declared.tile.TileMesh.{TileMesh}
 use Rattle.mesh_types.specs.Soundness.{IsPolygon, IsInSquare, IsRimOf, IsFit, AreTiles}
-use Rattle.tests_mesh.specs.TwoTiles.{hand_setting, hand_polygon, left_tile, right_tile, left_entry, lower_entry, upper_entry, point}
+use Rattle.tests_mesh.specs.HandSettings.{plain_setting, point}
+use Rattle.tests_mesh.specs.TwoTiles.{hand_polygon, left_tile, right_tile, left_entry, lower_entry, upper_entry}
+use Rattle.tests_mesh.proofs.HandSettings.{four, corner, in_square}
 use Rattle.tile_links.specs.Across.{AreAcross}
 
 -- a test of every number below a number
@@ -62,20 +63,13 @@ convex_shown corners enough holds = record {
       (each_below (λ n. list_all (is_left corners n) (range_with_len 0 (length corners))) 0 (length corners) holds i i_there)) j j_there));
 }
 
--- what holds of four points
-four : (P : Point → Type 0) (a b c d : Point) → P a → P b → P c → P d → All P (a ∷ b ∷ c ∷ d ∷ [])
-four P a b c d pa pb pc pd =
-    All-cons P a (b ∷ c ∷ d ∷ []) pa (All-cons P b (c ∷ d ∷ []) pb (All-cons P c (d ∷ []) pc (All-cons P d [] pd (All-nil P))))
-
 polygon_fits : (x : ℕ) → x ≤ 4 → IsStrictlyConvex (hand_polygon x).corners → IsPolygon (hand_polygon x)
 polygon_fits x small convex = record {
   convex = convex;
   most = omega arith;
   corners = four IsCellCorner (point x 0) (point (x + 2) 0) (point (x + 2) 4) (point x 4)
-      (record { left = omega (arith, ints); right = omega (arith, ints); bottom = omega (arith, ints); top = omega (arith, ints) })
-      (record { left = omega (arith, ints); right = omega (arith, ints); bottom = omega (arith, ints); top = omega (arith, ints) })
-      (record { left = omega (arith, ints); right = omega (arith, ints); bottom = omega (arith, ints); top = omega (arith, ints) })
-      (record { left = omega (arith, ints); right = omega (arith, ints); bottom = omega (arith, ints); top = omega (arith, ints) });
+      (corner x 0 (omega arith) (omega arith)) (corner (x + 2) 0 (omega arith) (omega arith))
+      (corner (x + 2) 4 (omega arith) (omega arith)) (corner x 4 (omega arith) (omega arith));
   area = record { least = omega arith; most = omega arith };
   floors = omega arith;
   high = omega arith;
@@ -89,44 +83,25 @@ right_polygon : IsPolygon (hand_polygon 4)
 unfolding orient_of cross_of is_convex is_left
 right_polygon = polygon_fits 4 (omega arith) (convex_shown _ (omega arith) refl)
 
--- the polygons lie in squares of four columns and rows from a column on
-in_square : (x0 x : ℕ) (window : Window) → window ≡ record { x0 = pos x0; x1 = pos (x0 + 3); z0 = pos 0; z1 = pos 3 } → x0 ≤ x → x + 2 ≤ x0 + 4
+-- the polygons lie in the squares of the tiles
+squared : (x0 x : ℕ) (window : Window) → window ≡ record { x0 = pos x0; x1 = pos (x0 + 3); z0 = pos 0; z1 = pos 3 } → x0 ≤ x → x + 2 ≤ x0 + 4
     → All (IsInSquare window) (hand_polygon x).corners
-in_square x0 x window is least most =
+squared x0 x window is least most =
     subst (λ (w : Window). All (IsInSquare w) (hand_polygon x).corners) (sym is)
     (four (IsInSquare (record { x0 = pos x0; x1 = pos (x0 + 3); z0 = pos 0; z1 = pos 3 })) (point x 0) (point (x + 2) 0) (point (x + 2) 4) (point x 4)
-    (record { left = omega (arith, ints); right = omega (arith, ints); bottom = omega (arith, ints); top = omega (arith, ints) })
-    (record { left = omega (arith, ints); right = omega (arith, ints); bottom = omega (arith, ints); top = omega (arith, ints) })
-    (record { left = omega (arith, ints); right = omega (arith, ints); bottom = omega (arith, ints); top = omega (arith, ints) })
-    (record { left = omega (arith, ints); right = omega (arith, ints); bottom = omega (arith, ints); top = omega (arith, ints) }))
+    (in_square x0 x 0 (omega arith) (omega arith) (omega arith)) (in_square x0 (x + 2) 0 (omega arith) (omega arith) (omega arith))
+    (in_square x0 (x + 2) 4 (omega arith) (omega arith) (omega arith)) (in_square x0 x 4 (omega arith) (omega arith) (omega arith)))
 
-pub IsSetting-hand : IsSetting hand_setting
-IsSetting-hand = record {
-  wide = omega arith;
-  width = omega arith;
-  deep = omega arith;
-  depth = omega arith;
-  tile_least = omega arith;
-  tile_most = omega arith;
-  agent = record { stands = omega arith; low_enough = omega arith; climb = omega arith; radius = omega arith };
-  error = omega arith;
-  limit_least = omega arith;
-  limit_most = omega arith;
-  areas = refl;
-  costs = refl;
-  clear = λ is. omega arith;
-}
-
-left_fits : IsFit hand_setting left_tile
+left_fits : IsFit plain_setting left_tile
 left_fits = record {
   of_tile = refl;
   free = IsCut-shown [] refl;
   in_tile = record { there = omega arith; inside = All-nil _ };
   polys = All-cons IsPolygon (hand_polygon 2) [] left_polygon (All-nil IsPolygon);
-  square = All-cons (λ (polygon : Polygon). All (IsInSquare (tile_window hand_setting 0)) polygon.corners) (hand_polygon 2) []
-      (in_square 0 2 (tile_window hand_setting 0) refl (omega arith) (omega arith)) (All-nil _);
+  square = All-cons (λ (polygon : Polygon). All (IsInSquare (tile_window plain_setting 0)) polygon.corners) (hand_polygon 2) []
+      (squared 0 2 (tile_window plain_setting 0) refl (omega arith) (omega arith)) (All-nil _);
   links = All-nil _;
-  rim = All-cons (IsRimOf hand_setting left_tile) left_entry []
+  rim = All-cons (IsRimOf plain_setting left_tile) left_entry []
       (record {
         side = omega arith;
         polygon = hand_polygon 2;
@@ -137,18 +112,18 @@ left_fits = record {
       }) (All-nil _);
 }
 
-right_fits : IsFit hand_setting right_tile
+right_fits : IsFit plain_setting right_tile
 right_fits = record {
   of_tile = refl;
   free = IsCut-shown [] refl;
   in_tile = record { there = omega arith; inside = All-nil _ };
   polys = All-cons IsPolygon (hand_polygon 4) (hand_polygon 4 ∷ []) right_polygon (All-cons IsPolygon (hand_polygon 4) [] right_polygon (All-nil IsPolygon));
   square =
-      let fits = in_square 4 4 (tile_window hand_setting 1) refl (omega arith) (omega arith) in
-      All-cons (λ (polygon : Polygon). All (IsInSquare (tile_window hand_setting 1)) polygon.corners) (hand_polygon 4) (hand_polygon 4 ∷ []) fits
-      (All-cons (λ (polygon : Polygon). All (IsInSquare (tile_window hand_setting 1)) polygon.corners) (hand_polygon 4) [] fits (All-nil _));
+      let fits = squared 4 4 (tile_window plain_setting 1) refl (omega arith) (omega arith) in
+      All-cons (λ (polygon : Polygon). All (IsInSquare (tile_window plain_setting 1)) polygon.corners) (hand_polygon 4) (hand_polygon 4 ∷ []) fits
+      (All-cons (λ (polygon : Polygon). All (IsInSquare (tile_window plain_setting 1)) polygon.corners) (hand_polygon 4) [] fits (All-nil _));
   links = All-nil _;
-  rim = All-cons (IsRimOf hand_setting right_tile) lower_entry (upper_entry ∷ [])
+  rim = All-cons (IsRimOf plain_setting right_tile) lower_entry (upper_entry ∷ [])
       (record {
         side = omega arith;
         polygon = hand_polygon 4;
@@ -157,7 +132,7 @@ right_fits = record {
         lies = (refl, refl);
         runs = λ some. (omega (arith, ints), omega (arith, ints));
       })
-      (All-cons (IsRimOf hand_setting right_tile) upper_entry []
+      (All-cons (IsRimOf plain_setting right_tile) upper_entry []
       (record {
         side = omega arith;
         polygon = hand_polygon 4;
@@ -168,12 +143,12 @@ right_fits = record {
       }) (All-nil _));
 }
 
-pub AreTiles-hand : AreTiles hand_setting (left_tile ∷ right_tile ∷ [])
+pub AreTiles-hand : AreTiles plain_setting (left_tile ∷ right_tile ∷ [])
 AreTiles-hand = record {
   each = refl;
   in_order = numbered;
-  fit = All-cons (IsFit hand_setting) left_tile (right_tile ∷ []) left_fits
-      (All-cons (IsFit hand_setting) right_tile [] right_fits (All-nil (IsFit hand_setting)));
+  fit = All-cons (IsFit plain_setting) left_tile (right_tile ∷ []) left_fits
+      (All-cons (IsFit plain_setting) right_tile [] right_fits (All-nil (IsFit plain_setting)));
   few = omega arith;
 }
   where
@@ -183,7 +158,7 @@ AreTiles-hand = record {
     numbered (suc (suc t)) d there = absurd (omega (arith, there))
 
 pub AreAcross-right : AreAcross left_tile right_tile 2
-AreAcross-right = record { setting = hand_setting; across = refl; first_fit = left_fits; second_fit = right_fits }
+AreAcross-right = record { setting = plain_setting; across = refl; first_fit = left_fits; second_fit = right_fits }
 
 pub AreAcross-left : AreAcross right_tile left_tile 0
-AreAcross-left = record { setting = hand_setting; across = refl; first_fit = right_fits; second_fit = left_fits }
+AreAcross-left = record { setting = plain_setting; across = refl; first_fit = right_fits; second_fit = left_fits }

@@ -1,29 +1,11 @@
--- ByHand: two tiles of four columns a side, written out. The left one has a polygon along its right side, the right one two polygons above
+-- TwoTiles: two tiles of four columns a side, written out. The left one has a polygon along its right side, the right one two polygons above
 -- each other along its left side.
-use Rattle.std.specs.Prelude.{ℕ, ◌+◌, pos, List, [], ◌∷◌, replicate, false}
-use Rattle.nav_base.specs.declared.point.Point.{Point}
-use Rattle.nav_ground.specs.declared.setting.Setting.{Setting}
-use Rattle.nav_ground.specs.declared.setting.MeshKind.TheVariants.{Strips}
+use Rattle.std.specs.Prelude.{ℕ, ◌+◌, List, [], ◌∷◌}
 use Rattle.mesh_types.specs.declared.polygon.Polygon.{Polygon}
 use Rattle.mesh_types.specs.declared.tile.LevelPair.{LevelPair}
 use Rattle.mesh_types.specs.declared.tile.RimEdge.{RimEdge}
 use Rattle.mesh_types.specs.declared.tile.TileMesh.{TileMesh}
-
-abbrev pub hand_setting : Setting
-hand_setting = record {
-  width = 8;
-  depth = 4;
-  tile = 4;
-  agent = record { height = 8; climb = 3; radius = 0 };
-  error = 100;
-  mesh = Strips;
-  limit = 9;
-  costs = replicate 64 1;
-  clear = false;
-}
-
-abbrev pub point : ℕ → ℕ → Point
-point x z = record { x = pos x; z = pos z }
+use Rattle.tests_mesh.specs.HandSettings.{point}
 
 -- the rectangle of two columns and four rows from a column on
 abbrev pub hand_polygon : ℕ → Polygon

@@ -11,6 +11,9 @@ mod borders;
 mod builds;
 
 #[cfg(test)]
+mod five_cells;
+
+#[cfg(test)]
 mod meshes;
 
 #[cfg(test)]

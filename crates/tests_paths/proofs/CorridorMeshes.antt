@@ -3,54 +3,21 @@ use Rattle.std.proofs.Common.{◌≡◌, ℕ, zero, suc, ◌+◌, ◌<◌, ◌�
 use Rattle.std.specs.Prelude.{All}
 use Rattle.std.proofs.lemmas.Int.{ints}
 use Rattle.std.proofs.lemmas.List.Elements.{All-nil, All-cons}
-use Rattle.nav_base.specs.declared.point.Point.{Point}
-use Rattle.nav_base.specs.Point.{IsCellCorner, orient_of, cross_of, dot_of}
-use Rattle.nav_base.proofs.ConvexLaws.{IsStrictlyConvex-triangle}
-use Rattle.nav_ground.specs.Limits.{IsSetting, IsArea}
+use Rattle.nav_base.specs.Point.{orient_of, cross_of, dot_of}
+use Rattle.nav_ground.specs.Limits.{IsArea}
 use Rattle.nav_ground.specs.Tiling.{tile_window}
 use Rattle.nav_ground.proofs.Literals.{IsCut-shown}
 use Rattle.mesh_types.specs.declared.links.Link.{Link}
 use Rattle.mesh_types.specs.declared.polygon.Polygon.{Polygon}
 use Rattle.mesh_types.specs.declared.tile.TileMesh.{TileMesh}
 use Rattle.mesh_types.specs.Soundness.{IsPolygon, IsInSquare, IsFit, IsSound, IsInnerLink, IsCrossLink, IsPortalOut, IsPortalIn}
-use Rattle.tests_paths.specs.CorridorMesh.{hand_setting, point, triangle, left_lower, left_upper, right_lower, right_upper, down_link, border_link, up_link, left_tile, right_tile, hand_mesh}
+use Rattle.tests_mesh.specs.HandSettings.{costly_setting, point}
+use Rattle.tests_mesh.proofs.HandSettings.{three, corner, in_square, triangle_fits}
+use Rattle.tests_paths.specs.CorridorMesh.{left_lower, left_upper, right_lower, right_upper, down_link, border_link, up_link, left_tile, right_tile, hand_mesh}
 use Rattle.corridor_search.specs.MeshGraphs.{IsThere}
-
-pub IsSetting-hand : IsSetting hand_setting
-IsSetting-hand = record {
-  wide = omega arith;
-  width = omega arith;
-  deep = omega arith;
-  depth = omega arith;
-  tile_least = omega arith;
-  tile_most = omega arith;
-  agent = record { stands = omega arith; low_enough = omega arith; climb = omega arith; radius = omega arith };
-  error = omega arith;
-  limit_least = omega arith;
-  limit_most = omega arith;
-  areas = refl;
-  costs = refl;
-  clear = λ is. omega arith;
-}
-
-three : (P : Point → Type 0) (a b c : Point) → P a → P b → P c → All P (a ∷ b ∷ c ∷ [])
-three P a b c pa pb pc = All-cons P a (b ∷ c ∷ []) pa (All-cons P b (c ∷ []) pb (All-cons P c [] pc (All-nil P)))
 
 two : (P : Polygon → Type 0) (a b : Polygon) → P a → P b → All P (a ∷ b ∷ [])
 two P a b pa pb = All-cons P a (b ∷ []) pa (All-cons P b [] pb (All-nil P))
-
-corner : (x z : ℕ) → x ≤ 8 → z ≤ 8 → IsCellCorner (point x z)
-corner x z across along = record { left = omega (arith, ints); right = omega (arith, ints); bottom = omega (arith, ints); top = omega (arith, ints) }
-
-polygon_fits : (area : ℕ) (a b c : Point) → IsArea area → IsCellCorner a → IsCellCorner b → IsCellCorner c → pos 0 <ℤ orient_of a b c → IsPolygon (triangle area a b c)
-polygon_fits area a b c is_area ha hb hc left = record {
-  convex = IsStrictlyConvex-triangle _ _ _ left;
-  most = omega arith;
-  corners = three IsCellCorner a b c ha hb hc;
-  area = is_area;
-  floors = omega arith;
-  high = omega arith;
-}
 
 area : (n : ℕ) → 1 ≤ n → n ≤ 63 → IsArea n
 area n least most = record { least = least; most = most }
@@ -58,30 +25,26 @@ area n least most = record { least = least; most = most }
 left_lower-fits : IsPolygon left_lower
 unfolding orient_of cross_of
 left_lower-fits =
-    polygon_fits 1 (point 0 0) (point 4 0) (point 4 4) (area 1 (omega arith) (omega arith)) (corner 0 0 (omega arith) (omega arith)) (corner 4 0 (omega arith) (omega arith))
+    triangle_fits 1 0 0 (point 0 0) (point 4 0) (point 4 4) (area 1 (omega arith) (omega arith)) (omega arith) (omega arith) (corner 0 0 (omega arith) (omega arith)) (corner 4 0 (omega arith) (omega arith))
     (corner 4 4 (omega arith) (omega arith)) (omega (arith, ints))
 
 left_upper-fits : IsPolygon left_upper
 unfolding orient_of cross_of
 left_upper-fits =
-    polygon_fits 1 (point 0 0) (point 4 4) (point 0 4) (area 1 (omega arith) (omega arith)) (corner 0 0 (omega arith) (omega arith)) (corner 4 4 (omega arith) (omega arith))
+    triangle_fits 1 0 0 (point 0 0) (point 4 4) (point 0 4) (area 1 (omega arith) (omega arith)) (omega arith) (omega arith) (corner 0 0 (omega arith) (omega arith)) (corner 4 4 (omega arith) (omega arith))
     (corner 0 4 (omega arith) (omega arith)) (omega (arith, ints))
 
 right_lower-fits : IsPolygon right_lower
 unfolding orient_of cross_of
 right_lower-fits =
-    polygon_fits 2 (point 4 0) (point 8 0) (point 4 4) (area 2 (omega arith) (omega arith)) (corner 4 0 (omega arith) (omega arith)) (corner 8 0 (omega arith) (omega arith))
+    triangle_fits 2 0 0 (point 4 0) (point 8 0) (point 4 4) (area 2 (omega arith) (omega arith)) (omega arith) (omega arith) (corner 4 0 (omega arith) (omega arith)) (corner 8 0 (omega arith) (omega arith))
     (corner 4 4 (omega arith) (omega arith)) (omega (arith, ints))
 
 right_upper-fits : IsPolygon right_upper
 unfolding orient_of cross_of
 right_upper-fits =
-    polygon_fits 1 (point 8 0) (point 8 4) (point 4 4) (area 1 (omega arith) (omega arith)) (corner 8 0 (omega arith) (omega arith)) (corner 8 4 (omega arith) (omega arith))
+    triangle_fits 1 0 0 (point 8 0) (point 8 4) (point 4 4) (area 1 (omega arith) (omega arith)) (omega arith) (omega arith) (corner 8 0 (omega arith) (omega arith)) (corner 8 4 (omega arith) (omega arith))
     (corner 4 4 (omega arith) (omega arith)) (omega (arith, ints))
-
--- corners in the square of four columns and rows from a column on
-in_square : (x0 x z : ℕ) → x0 ≤ x → x ≤ x0 + 4 → z ≤ 4 → IsInSquare (record { x0 = pos x0; x1 = pos (x0 + 3); z0 = pos 0; z1 = pos 3 }) (point x z)
-in_square x0 x z least most high = record { left = omega (arith, ints); right = omega (arith, ints); bottom = omega (arith, ints); top = omega (arith, ints) }
 
 -- the portals of the links lead out of one triangle and into another
 down-out : IsPortalOut left_upper 0 down_link.portal
@@ -129,16 +92,16 @@ up-in = record {
   lies = record { begins = refl; ends = refl; after = omega (arith, ints); forward = omega (arith, ints); before = omega (arith, ints) };
 }
 
-left_fits : IsFit hand_setting left_tile
+left_fits : IsFit costly_setting left_tile
 left_fits = record {
   of_tile = refl;
   free = IsCut-shown [] refl;
   in_tile = record { there = omega arith; inside = All-nil _ };
   polys = two IsPolygon left_lower left_upper left_lower-fits left_upper-fits;
-  square = two (λ (polygon : Polygon). All (IsInSquare (tile_window hand_setting 0)) polygon.corners) left_lower left_upper
-      (three (IsInSquare (tile_window hand_setting 0)) (point 0 0) (point 4 0) (point 4 4) (in_square 0 0 0 (omega arith) (omega arith) (omega arith))
+  square = two (λ (polygon : Polygon). All (IsInSquare (tile_window costly_setting 0)) polygon.corners) left_lower left_upper
+      (three (IsInSquare (tile_window costly_setting 0)) (point 0 0) (point 4 0) (point 4 4) (in_square 0 0 0 (omega arith) (omega arith) (omega arith))
       (in_square 0 4 0 (omega arith) (omega arith) (omega arith)) (in_square 0 4 4 (omega arith) (omega arith) (omega arith)))
-      (three (IsInSquare (tile_window hand_setting 0)) (point 0 0) (point 4 4) (point 0 4) (in_square 0 0 0 (omega arith) (omega arith) (omega arith))
+      (three (IsInSquare (tile_window costly_setting 0)) (point 0 0) (point 4 4) (point 0 4) (in_square 0 0 0 (omega arith) (omega arith) (omega arith))
       (in_square 0 4 4 (omega arith) (omega arith) (omega arith)) (in_square 0 0 4 (omega arith) (omega arith) (omega arith)));
   links = All-cons (IsInnerLink left_tile) down_link []
       (record {
@@ -149,16 +112,16 @@ left_fits = record {
   rim = All-nil _;
 }
 
-right_fits : IsFit hand_setting right_tile
+right_fits : IsFit costly_setting right_tile
 right_fits = record {
   of_tile = refl;
   free = IsCut-shown [] refl;
   in_tile = record { there = omega arith; inside = All-nil _ };
   polys = two IsPolygon right_lower right_upper right_lower-fits right_upper-fits;
-  square = two (λ (polygon : Polygon). All (IsInSquare (tile_window hand_setting 1)) polygon.corners) right_lower right_upper
-      (three (IsInSquare (tile_window hand_setting 1)) (point 4 0) (point 8 0) (point 4 4) (in_square 4 4 0 (omega arith) (omega arith) (omega arith))
+  square = two (λ (polygon : Polygon). All (IsInSquare (tile_window costly_setting 1)) polygon.corners) right_lower right_upper
+      (three (IsInSquare (tile_window costly_setting 1)) (point 4 0) (point 8 0) (point 4 4) (in_square 4 4 0 (omega arith) (omega arith) (omega arith))
       (in_square 4 8 0 (omega arith) (omega arith) (omega arith)) (in_square 4 4 4 (omega arith) (omega arith) (omega arith)))
-      (three (IsInSquare (tile_window hand_setting 1)) (point 8 0) (point 8 4) (point 4 4) (in_square 4 8 0 (omega arith) (omega arith) (omega arith))
+      (three (IsInSquare (tile_window costly_setting 1)) (point 8 0) (point 8 4) (point 4 4) (in_square 4 8 0 (omega arith) (omega arith) (omega arith))
       (in_square 4 8 4 (omega arith) (omega arith) (omega arith)) (in_square 4 4 4 (omega arith) (omega arith) (omega arith)));
   links = All-cons (IsInnerLink right_tile) up_link []
       (record {
@@ -169,13 +132,13 @@ right_fits = record {
   rim = All-nil _;
 }
 
-pub IsSound-hand : IsSound hand_mesh
-IsSound-hand = record {
+pub IsSound-corridors : IsSound hand_mesh
+IsSound-corridors = record {
   tiles = record {
     each = refl;
     in_order = numbered;
-    fit = All-cons (IsFit hand_setting) left_tile (right_tile ∷ []) left_fits
-        (All-cons (IsFit hand_setting) right_tile [] right_fits (All-nil (IsFit hand_setting)));
+    fit = All-cons (IsFit costly_setting) left_tile (right_tile ∷ []) left_fits
+        (All-cons (IsFit costly_setting) right_tile [] right_fits (All-nil (IsFit costly_setting)));
     few = omega arith;
   };
   one_each = refl;

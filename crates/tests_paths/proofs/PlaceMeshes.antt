@@ -3,53 +3,22 @@ use Rattle.std.proofs.Common.{◌≡◌, ℕ, zero, suc, ◌+◌, ◌<◌, ◌�
 use Rattle.std.specs.Prelude.{All}
 use Rattle.std.proofs.lemmas.Int.{ints}
 use Rattle.std.proofs.lemmas.List.Elements.{All-nil, All-cons}
-use Rattle.nav_base.specs.declared.point.Point.{Point}
-use Rattle.nav_base.specs.Point.{IsCellCorner, orient_of, cross_of}
-use Rattle.nav_base.proofs.ConvexLaws.{IsStrictlyConvex-triangle}
+use Rattle.nav_base.specs.Point.{orient_of, cross_of}
 use Rattle.nav_ground.specs.declared.cell.Window.{Window}
-use Rattle.nav_ground.specs.Limits.{IsSetting}
 use Rattle.nav_ground.specs.Tiling.{tile_window}
 use Rattle.nav_ground.proofs.Literals.{IsCut-shown}
 use Rattle.mesh_types.specs.declared.links.Link.{Link}
 use Rattle.mesh_types.specs.declared.polygon.Polygon.{Polygon}
 use Rattle.mesh_types.specs.declared.tile.TileMesh.{TileMesh}
 use Rattle.mesh_types.specs.Soundness.{IsPolygon, IsInSquare, IsFit, IsSound, IsCrossLink}
-use Rattle.tests_paths.specs.PlaceMesh.{hand_setting, hand_polygon, left_tile, right_tile, hand_mesh}
+use Rattle.tests_mesh.specs.HandSettings.{plain_setting, point}
+use Rattle.tests_mesh.proofs.HandSettings.{three, corner, in_square, triangle_fits}
+use Rattle.tests_paths.specs.PlaceMesh.{hand_polygon, left_tile, right_tile, hand_mesh}
 
-pub IsSetting-hand : IsSetting hand_setting
-IsSetting-hand = record {
-  wide = omega arith;
-  width = omega arith;
-  deep = omega arith;
-  depth = omega arith;
-  tile_least = omega arith;
-  tile_most = omega arith;
-  agent = record { stands = omega arith; low_enough = omega arith; climb = omega arith; radius = omega arith };
-  error = omega arith;
-  limit_least = omega arith;
-  limit_most = omega arith;
-  areas = refl;
-  costs = refl;
-  clear = λ is. omega arith;
-}
-
-three : (P : Point → Type 0) (a b c : Point) → P a → P b → P c → All P (a ∷ b ∷ c ∷ [])
-three P a b c pa pb pc = All-cons P a (b ∷ c ∷ []) pa (All-cons P b (c ∷ []) pb (All-cons P c [] pc (All-nil P)))
-
-polygon_fits : (x top low : ℕ) → x ≤ 4 → top ≤ 8 → low ≤ 5
-    → pos 0 <ℤ orient_of (record { x = pos x; z = pos 0 }) (record { x = pos (x + 4); z = pos 0 }) (record { x = pos top; z = pos 4 })
-    → IsPolygon (hand_polygon x top low)
-polygon_fits x top low across up floor left = record {
-  convex = IsStrictlyConvex-triangle _ _ _ left;
-  most = omega arith;
-  corners = three IsCellCorner _ _ _
-      (record { left = omega (arith, ints); right = omega (arith, ints); bottom = omega (arith, ints); top = omega (arith, ints) })
-      (record { left = omega (arith, ints); right = omega (arith, ints); bottom = omega (arith, ints); top = omega (arith, ints) })
-      (record { left = omega (arith, ints); right = omega (arith, ints); bottom = omega (arith, ints); top = omega (arith, ints) });
-  area = record { least = omega arith; most = omega arith };
-  floors = omega arith;
-  high = omega arith;
-}
+polygon_fits : (x top low : ℕ) → x ≤ 4 → top ≤ 8 → low ≤ 9 → pos 0 <ℤ orient_of (point x 0) (point (x + 4) 0) (point top 4) → IsPolygon (hand_polygon x top low)
+polygon_fits x top low across up floor left =
+    triangle_fits 1 low (low + 2) _ _ _ (record { least = omega arith; most = omega arith }) (omega arith) (omega (arith, floor))
+    (corner x 0 (omega (arith, across)) (omega arith)) (corner (x + 4) 0 (omega (arith, across)) (omega arith)) (corner top 4 up (omega arith)) left
 
 low_polygon : IsPolygon (hand_polygon 0 4 0)
 unfolding orient_of cross_of
@@ -63,48 +32,47 @@ other_polygon : IsPolygon (hand_polygon 4 4 0)
 unfolding orient_of cross_of
 other_polygon = polygon_fits 4 4 0 (omega arith) (omega arith) (omega arith) (omega (arith, ints))
 
-in_square : (x0 x top low : ℕ) (window : Window) → window ≡ record { x0 = pos x0; x1 = pos (x0 + 3); z0 = pos 0; z1 = pos 3 } → x0 ≡ x
+squared : (x0 x top low : ℕ) (window : Window) → window ≡ record { x0 = pos x0; x1 = pos (x0 + 3); z0 = pos 0; z1 = pos 3 } → x0 ≡ x
     → x ≤ top → top ≤ x + 4 → All (IsInSquare window) (hand_polygon x top low).corners
-in_square x0 x top low window is at least most =
+squared x0 x top low window is at least most =
     subst (λ (w : Window). All (IsInSquare w) (hand_polygon x top low).corners) (sym is)
     (three (IsInSquare (record { x0 = pos x0; x1 = pos (x0 + 3); z0 = pos 0; z1 = pos 3 })) _ _ _
-    (record { left = omega (arith, ints, at); right = omega (arith, ints, at); bottom = omega (arith, ints); top = omega (arith, ints) })
-    (record { left = omega (arith, ints, at); right = omega (arith, ints, at); bottom = omega (arith, ints); top = omega (arith, ints) })
-    (record { left = omega (arith, ints, at); right = omega (arith, ints, at); bottom = omega (arith, ints); top = omega (arith, ints) }))
+    (in_square x0 x 0 (omega (arith, at)) (omega (arith, at)) (omega arith)) (in_square x0 (x + 4) 0 (omega (arith, at)) (omega (arith, at)) (omega arith))
+    (in_square x0 top 4 (omega (arith, at, least)) (omega (arith, at, most)) (omega arith)))
 
-left_fits : IsFit hand_setting left_tile
+left_fits : IsFit plain_setting left_tile
 left_fits = record {
   of_tile = refl;
   free = IsCut-shown [] refl;
   in_tile = record { there = omega arith; inside = All-nil _ };
   polys = All-cons IsPolygon (hand_polygon 0 4 0) (hand_polygon 0 4 4 ∷ []) low_polygon (All-cons IsPolygon (hand_polygon 0 4 4) [] high_polygon (All-nil IsPolygon));
-  square = All-cons (λ (polygon : Polygon). All (IsInSquare (tile_window hand_setting 0)) polygon.corners) (hand_polygon 0 4 0) (hand_polygon 0 4 4 ∷ [])
-      (in_square 0 0 4 0 (tile_window hand_setting 0) refl refl (omega arith) (omega arith))
-      (All-cons (λ (polygon : Polygon). All (IsInSquare (tile_window hand_setting 0)) polygon.corners) (hand_polygon 0 4 4) []
-      (in_square 0 0 4 4 (tile_window hand_setting 0) refl refl (omega arith) (omega arith)) (All-nil (λ (polygon : Polygon). All (IsInSquare (tile_window hand_setting 0)) polygon.corners)));
+  square = All-cons (λ (polygon : Polygon). All (IsInSquare (tile_window plain_setting 0)) polygon.corners) (hand_polygon 0 4 0) (hand_polygon 0 4 4 ∷ [])
+      (squared 0 0 4 0 (tile_window plain_setting 0) refl refl (omega arith) (omega arith))
+      (All-cons (λ (polygon : Polygon). All (IsInSquare (tile_window plain_setting 0)) polygon.corners) (hand_polygon 0 4 4) []
+      (squared 0 0 4 4 (tile_window plain_setting 0) refl refl (omega arith) (omega arith)) (All-nil (λ (polygon : Polygon). All (IsInSquare (tile_window plain_setting 0)) polygon.corners)));
   links = All-nil _;
   rim = All-nil _;
 }
 
-right_fits : IsFit hand_setting right_tile
+right_fits : IsFit plain_setting right_tile
 right_fits = record {
   of_tile = refl;
   free = IsCut-shown [] refl;
   in_tile = record { there = omega arith; inside = All-nil _ };
   polys = All-cons IsPolygon (hand_polygon 4 4 0) [] other_polygon (All-nil IsPolygon);
-  square = All-cons (λ (polygon : Polygon). All (IsInSquare (tile_window hand_setting 1)) polygon.corners) (hand_polygon 4 4 0) []
-      (in_square 4 4 4 0 (tile_window hand_setting 1) refl refl (omega arith) (omega arith)) (All-nil (λ (polygon : Polygon). All (IsInSquare (tile_window hand_setting 1)) polygon.corners));
+  square = All-cons (λ (polygon : Polygon). All (IsInSquare (tile_window plain_setting 1)) polygon.corners) (hand_polygon 4 4 0) []
+      (squared 4 4 4 0 (tile_window plain_setting 1) refl refl (omega arith) (omega arith)) (All-nil (λ (polygon : Polygon). All (IsInSquare (tile_window plain_setting 1)) polygon.corners));
   links = All-nil _;
   rim = All-nil _;
 }
 
-pub IsSound-hand : IsSound hand_mesh
-IsSound-hand = record {
+pub IsSound-places : IsSound hand_mesh
+IsSound-places = record {
   tiles = record {
     each = refl;
     in_order = numbered;
-    fit = All-cons (IsFit hand_setting) left_tile (right_tile ∷ []) left_fits
-        (All-cons (IsFit hand_setting) right_tile [] right_fits (All-nil (IsFit hand_setting)));
+    fit = All-cons (IsFit plain_setting) left_tile (right_tile ∷ []) left_fits
+        (All-cons (IsFit plain_setting) right_tile [] right_fits (All-nil (IsFit plain_setting)));
     few = omega arith;
   };
   one_each = refl;

@@ -1,46 +1,24 @@
--- ByHand: a mesh of two tiles of four columns a side, written out. Each tile is two triangles, and links lead from the upper triangle of the
+-- CorridorMesh: a mesh of two tiles of four columns a side, written out. Each tile is two triangles, and links lead from the upper triangle of the
 -- left tile to its lower one, over the border to the lower triangle of the right tile, whose area costs 3, and on to the upper one.
-use Rattle.std.specs.Prelude.{ℕ, pos, [], ◌∷◌, replicate, false}
-use Rattle.nav_base.specs.declared.point.Point.{Point}
-use Rattle.nav_ground.specs.declared.setting.Setting.{Setting}
-use Rattle.nav_ground.specs.declared.setting.MeshKind.TheVariants.{Strips}
+use Rattle.std.specs.Prelude.{ℕ, [], ◌∷◌}
 use Rattle.mesh_types.specs.declared.links.PolyRef.{PolyRef}
 use Rattle.mesh_types.specs.declared.links.Link.{Link}
 use Rattle.mesh_types.specs.declared.mesh.Mesh.{Mesh}
 use Rattle.mesh_types.specs.declared.polygon.Polygon.{Polygon}
 use Rattle.mesh_types.specs.declared.tile.TileMesh.{TileMesh}
-
-abbrev pub hand_setting : Setting
-hand_setting = record {
-  width = 8;
-  depth = 4;
-  tile = 4;
-  agent = record { height = 8; climb = 3; radius = 0 };
-  error = 100;
-  mesh = Strips;
-  limit = 9;
-  costs = 1 ∷ 1 ∷ 3 ∷ replicate 61 1;
-  clear = false;
-}
-
-abbrev pub point : ℕ → ℕ → Point
-point x z = record { x = pos x; z = pos z }
-
--- a triangle in the square of four columns from a column on
-abbrev pub triangle : ℕ → Point → Point → Point → Polygon
-triangle area a b c = record { corners = a ∷ b ∷ c ∷ []; area = area; low = 0; high = 0 }
+use Rattle.tests_mesh.specs.HandSettings.{costly_setting, point, triangle}
 
 abbrev pub left_lower : Polygon
-left_lower = triangle 1 (point 0 0) (point 4 0) (point 4 4)
+left_lower = triangle 1 0 0 (point 0 0) (point 4 0) (point 4 4)
 
 abbrev pub left_upper : Polygon
-left_upper = triangle 1 (point 0 0) (point 4 4) (point 0 4)
+left_upper = triangle 1 0 0 (point 0 0) (point 4 4) (point 0 4)
 
 abbrev pub right_lower : Polygon
-right_lower = triangle 2 (point 4 0) (point 8 0) (point 4 4)
+right_lower = triangle 2 0 0 (point 4 0) (point 8 0) (point 4 4)
 
 abbrev pub right_upper : Polygon
-right_upper = triangle 1 (point 8 0) (point 8 4) (point 4 4)
+right_upper = triangle 1 0 0 (point 8 0) (point 8 4) (point 4 4)
 
 abbrev pub reference : ℕ → ℕ → PolyRef
 reference tile index = record { tile = tile; index = index }
@@ -71,4 +49,4 @@ abbrev pub right_tile : TileMesh
 right_tile = hand_tile 1 right_lower right_upper up_link
 
 abbrev pub hand_mesh : Mesh
-hand_mesh = record { setting = hand_setting; tiles = left_tile ∷ right_tile ∷ []; cross = (border_link ∷ []) ∷ [] ∷ [] }
+hand_mesh = record { setting = costly_setting; tiles = left_tile ∷ right_tile ∷ []; cross = (border_link ∷ []) ∷ [] ∷ [] }

@@ -1,33 +1,14 @@
--- ByHand: a mesh of two tiles of four columns a side, written out. Two equal triangles stand above each other in the left tile, and one in the
+-- PlaceMesh: a mesh of two tiles of four columns a side, written out. Two equal triangles stand above each other in the left tile, and one in the
 -- right tile beside them.
-use Rattle.std.specs.Prelude.{ℕ, ◌+◌, pos, List, [], ◌∷◌, replicate, false}
-use Rattle.nav_ground.specs.declared.setting.Setting.{Setting}
-use Rattle.nav_ground.specs.declared.setting.MeshKind.TheVariants.{Strips}
+use Rattle.std.specs.Prelude.{ℕ, ◌+◌, List, [], ◌∷◌}
 use Rattle.mesh_types.specs.declared.mesh.Mesh.{Mesh}
 use Rattle.mesh_types.specs.declared.polygon.Polygon.{Polygon}
 use Rattle.mesh_types.specs.declared.tile.TileMesh.{TileMesh}
-
-abbrev pub hand_setting : Setting
-hand_setting = record {
-  width = 8;
-  depth = 4;
-  tile = 4;
-  agent = record { height = 8; climb = 3; radius = 0 };
-  error = 100;
-  mesh = Strips;
-  limit = 9;
-  costs = replicate 64 1;
-  clear = false;
-}
+use Rattle.tests_mesh.specs.HandSettings.{plain_setting, point, triangle}
 
 -- the triangle on four cells of the lowest row from a column on, that reaches four cells up at another column
 abbrev pub hand_polygon : ℕ → ℕ → ℕ → Polygon
-hand_polygon x top low = record {
-  corners = record { x = pos x; z = pos 0 } ∷ record { x = pos (x + 4); z = pos 0 } ∷ record { x = pos top; z = pos 4 } ∷ [];
-  area = 1;
-  low = low;
-  high = low + 2;
-}
+hand_polygon x top low = triangle 1 low (low + 2) (point x 0) (point (x + 4) 0) (point top 4)
 
 -- a tile of polygons without links
 abbrev pub hand_tile : ℕ → List Polygon → TileMesh
@@ -40,4 +21,4 @@ abbrev pub right_tile : TileMesh
 right_tile = hand_tile 1 (hand_polygon 4 4 0 ∷ [])
 
 abbrev pub hand_mesh : Mesh
-hand_mesh = record { setting = hand_setting; tiles = left_tile ∷ right_tile ∷ []; cross = [] ∷ [] ∷ [] }
+hand_mesh = record { setting = plain_setting; tiles = left_tile ∷ right_tile ∷ []; cross = [] ∷ [] ∷ [] }

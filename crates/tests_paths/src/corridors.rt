@@ -1,12 +1,14 @@
 //! Corridors in a small mesh by hand.
 
 ghost use Rattle.std.specs.Prelude.{◌≡◌, ◌<◌, [], ◌∷◌, pos, IfOk};
-ghost use Rattle.tests_paths.specs.CorridorMesh.{hand_setting, point, reference, hand_tile, down_link, border_link, up_link, hand_mesh};
+ghost use Rattle.tests_mesh.specs.HandSettings.{costly_setting, point};
+ghost use Rattle.tests_paths.specs.CorridorMesh.{reference, hand_tile, down_link, border_link, up_link, hand_mesh};
 
+use crate::settings::PLAIN;
 use corridor_search::cheapest;
 use mesh_types::{Corners, Corridor, Link, Links, Mesh, PolyRef, Polygon, Portal, TileMesh};
 use nav_base::Point;
-use nav_ground::{AREAS, Agent, FreeLayer, MeshKind, Setting};
+use nav_ground::{AREAS, FreeLayer, Setting};
 use nav_list::Items;
 use nav_share::Shared;
 use std::alloc::{AllocError, Global};
@@ -14,25 +16,11 @@ use std::test::Fail;
 
 /// The area 2 costs 3, and all others 1.
 fn setting() -> Setting
-    ensures { result ≡ hand_setting }
+    ensures { result ≡ costly_setting }
 {
     let mut costs = [1; AREAS];
     costs[2] = 3;
-    Setting {
-        width: 8,
-        depth: 4,
-        tile: 4,
-        agent: Agent {
-            height: 8,
-            climb: 3,
-            radius: 0,
-        },
-        error: 100,
-        mesh: MeshKind::Strips,
-        limit: 9,
-        costs,
-        clear: false,
-    }
+    Setting { costs, ..PLAIN }
 }
 
 fn corner(x: i32, z: i32) -> Point

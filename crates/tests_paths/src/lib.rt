@@ -18,3 +18,6 @@ mod places;
 
 #[cfg(test)]
 mod questions;
+
+#[cfg(test)]
+mod settings;

@@ -3,30 +3,15 @@
 ghost use Rattle.std.specs.Prelude.{◌≡◌, ◌≤◌, [], IfOk};
 ghost use Rattle.tests_paths.specs.PlaceMesh.{hand_mesh, hand_polygon, hand_tile};
 
+use crate::settings::PLAIN;
 use mesh_locate::locate;
 use mesh_types::{Corners, Links, Mesh, PolyRef, Polygon, TileMesh};
 use nav_base::Point;
-use nav_ground::{AREAS, Agent, FreeLayer, MeshKind, Setting};
+use nav_ground::FreeLayer;
 use nav_list::Items;
 use nav_share::Shared;
 use std::alloc::{AllocError, Global};
 use std::test::Fail;
-
-const SETTING: Setting = Setting {
-    width: 8,
-    depth: 4,
-    tile: 4,
-    agent: Agent {
-        height: 8,
-        climb: 3,
-        radius: 0,
-    },
-    error: 100,
-    mesh: MeshKind::Strips,
-    limit: 9,
-    costs: [1; AREAS],
-    clear: false,
-};
 
 /// The triangle on four cells of the lowest row from a column on, that reaches four cells up at another column, with floors from `low` to two more.
 fn polygon(x: u32, top: u32, low: u32) -> Polygon
@@ -94,7 +79,7 @@ fn mesh(alloc: Global) -> Result<Mesh, AllocError>
     cross.push(no_links(alloc)?)?;
     cross.push(no_links(alloc)?)?;
     Ok(Mesh {
-        setting: SETTING,
+        setting: PLAIN,
         tiles,
         cross,
     })

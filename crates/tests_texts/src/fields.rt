@@ -1,6 +1,9 @@
-use span_text::*;
-use nav_ground::{Agent, MeshKind};
-use std::alloc::AllocError;
+//! A field text of every form of line, and the line and kind of the first fault of wrong ones.
+
+use nav_ground::{Agent, MeshKind, Span};
+use nav_text::FaultKind;
+use span_text::{FieldRefusal, read_field};
+use std::alloc::{AllocError, Global};
 
 const HEADER: [&str; 7] = [
     "nav 1\n",

@@ -1,10 +1,10 @@
 //! Every form of line once, beside its text written by hand.
 
-use nav_record::*;
 use mesh_types::{Answer, Corner, Link, PathFound, PolyRef, Portal, Side};
 use nav_base::{FloorAt, Point};
 use nav_ground::Reply;
 use nav_list::Items;
+use nav_record::{StepAnswer, write_answer, write_done, write_fault, write_reply, write_step};
 use nav_text::{FaultKind, TextFault};
 use std::alloc::AllocError;
 

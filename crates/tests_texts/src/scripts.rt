@@ -1,8 +1,8 @@
 //! Each line form once good and once with each fault that it can have, and the faults of whole texts.
 
-use nav_script::*;
 use nav_base::{Point, Question};
 use nav_ground::Shape;
+use nav_script::{Line, ScriptRefusal, Way, read_script};
 use std::alloc::{AllocError, Global};
 
 /// What is read of a text whose first line has the number 45: the number of its lines and the last of them, or the fault.

@@ -3,15 +3,16 @@ use Rattle.nav_ground.specs.Limits.{IsSetting}
 use Rattle.mesh_types.specs.declared.mesh.Mesh.{Mesh}
 use Rattle.mesh_types.specs.Soundness.{IsSound}
 use Rattle.corridor_search.specs.MeshGraphs.{IsThere}
+use Rattle.tests_mesh.proofs.HandSettings.{IsSetting-costly}
 use Rattle.tests_paths.specs.CorridorMesh.{hand_mesh}
-use Rattle.tests_paths.proofs.CorridorMeshes.{IsSetting-hand, IsSound-hand, hand-there}
+use Rattle.tests_paths.proofs.CorridorMeshes.{IsSound-corridors, hand-there}
 use Rattle.tests_paths.proofs.corridors.corridor.Goals as goal
 
 pub cheapest-requires-clause-sound : goal.cheapest-requires-clause-sound
-cheapest-requires-clause-sound c = subst IsSound (sym c.requires.mesh) IsSound-hand
+cheapest-requires-clause-sound c = subst IsSound (sym c.requires.mesh) IsSound-corridors
 
 pub cheapest-requires-clause-setting : goal.cheapest-requires-clause-setting
-cheapest-requires-clause-setting c = subst (λ (mesh : Mesh). IsSetting mesh.setting) (sym c.requires.mesh) IsSetting-hand
+cheapest-requires-clause-setting c = subst (λ (mesh : Mesh). IsSetting mesh.setting) (sym c.requires.mesh) IsSetting-costly
 
 pub cheapest-requires-clause-from : goal.cheapest-requires-clause-from
 cheapest-requires-clause-from c =
