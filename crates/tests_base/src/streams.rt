@@ -1,4 +1,7 @@
-// Runs of the sources, the sinks and the two calls. What is wanted was worked out by hand.
+//! Runs of the sources, the sinks and the two calls. What is wanted was worked out by hand.
+
+ghost use Rattle.std.specs.Prelude.{◌<◌};
+
 use nav_io::{
     Actor, CalmSink, CalmSource, FreeGate, Gate, MemorySink, MemorySource, ReadRefusal, Source,
     Stage, StdSink, StdSource, WriteFault, read_all, write_all,
@@ -6,7 +9,6 @@ use nav_io::{
 use std::alloc::{AllocError, Global};
 use std::io;
 use std::io::Read;
-use std::test::Fail;
 
 const TEXT: &[u8] = b"abcdefghij";
 
@@ -32,119 +34,126 @@ fn pass_twice<G: Gate + Sync>(gate: &G) {
     gate.pass(Actor::Worker(1), Stage::BeforeBuild);
 }
 
+/// Reads the text from a source that gives it in pieces and fails at one read, and tells whether that gave the text, the bytes gone and the faults.
+fn read_in_pieces(
+    alloc: Global,
+    piece: usize,
+    most: usize,
+    failing: u32,
+) -> Result<(Result<bool, ReadRefusal>, usize, u64), AllocError>
+    requires piece { 0 < piece }
+    requires most { most < usize.MAX }
+{
+    let failing = Vec::from_array(alloc, [failing])?;
+    let mut source = MemorySource::new(text(alloc)?, piece, failing);
+    let answer = match read_all(alloc, &mut source, most) {
+        Ok(bytes) => Ok(bytes.as_slice() == TEXT),
+        Err(refusal) => Err(refusal),
+    };
+    Ok((answer, source.at, source.faults))
+}
+
 #[test]
-fn reads_everything_or_says_why_not(rt: HostRuntime) -> Result<(), Fail> {
+fn reads_everything_or_says_why_not(rt: HostRuntime) -> Result<(), AllocError> {
     let alloc = rt.alloc();
-    // Bytes a read, bytes at most, the read that fails; the refusal, bytes gone and faults.
+    // Bytes a read, bytes at most, the read that fails; the answer, bytes gone and faults.
     let cases = [
-        (1, 10, 0, None, 10, 0),
-        (3, 10, 0, None, 10, 0),
-        (100, 11, 0, None, 10, 0),
-        (3, 9, 0, Some(ReadRefusal::TooLong), 10, 0),
-        (3, 8, 0, Some(ReadRefusal::TooLong), 9, 0),
-        (100, 0, 0, Some(ReadRefusal::TooLong), 1, 0),
-        (4, 10, 1, Some(ReadRefusal::ReadFault), 0, 1),
-        (4, 10, 2, Some(ReadRefusal::ReadFault), 4, 1),
-        (4, 10, 3, Some(ReadRefusal::ReadFault), 8, 1),
-        (4, 10, 4, Some(ReadRefusal::ReadFault), 10, 1),
-        (4, 10, 5, None, 10, 0),
+        (1, 10, 0, Ok(true), 10, 0),
+        (3, 10, 0, Ok(true), 10, 0),
+        (100, 11, 0, Ok(true), 10, 0),
+        (3, 9, 0, Err(ReadRefusal::TooLong), 10, 0),
+        (3, 8, 0, Err(ReadRefusal::TooLong), 9, 0),
+        (100, 0, 0, Err(ReadRefusal::TooLong), 1, 0),
+        (4, 10, 1, Err(ReadRefusal::ReadFault), 0, 1),
+        (4, 10, 2, Err(ReadRefusal::ReadFault), 4, 1),
+        (4, 10, 3, Err(ReadRefusal::ReadFault), 8, 1),
+        (4, 10, 4, Err(ReadRefusal::ReadFault), 10, 1),
+        (4, 10, 5, Ok(true), 10, 0),
     ];
-    for (piece, most, failing, refusal, gone, faults) in cases {
-        assert!(rt; 0 < piece);
-        assert!(rt; most < usize::MAX);
-        let mut source = MemorySource::new(text(alloc)?, piece, vec![in alloc; failing]?);
-        let answer = read_all(alloc, &mut source, most);
-        if let Ok(bytes) = &answer {
-            assert_eq!(rt;
-                bytes.as_slice(),
-                TEXT,
-                "pieces of {piece}, read {failing} fails"
-            );
-        }
-        assert_eq!(rt;
-            answer.err(),
-            refusal,
-            "pieces of {piece}, at most {most}, read {failing} fails"
-        );
-        assert_eq!(rt;
-            source.at,
-            gone,
-            "pieces of {piece}, at most {most}, read {failing} fails"
-        );
-        assert_eq!(rt;
-            source.faults,
-            faults,
-            "pieces of {piece}, read {failing} fails"
-        );
+    for (piece, most, failing, answer, gone, faults) in cases {
+        assert!(rt; 0 < piece && most < usize::MAX);
+        let read = read_in_pieces(alloc, piece, most, failing)?;
+        assert_eq!(rt; read, (answer, gone, faults), "pieces of {piece}, at most {most}, read {failing} fails");
     }
     Ok(())
 }
 
+/// Writes the text to a sink that takes it in pieces and fails at one write.
+fn write_in_pieces(
+    alloc: Global,
+    piece: usize,
+    room: usize,
+    failing: u32,
+) -> Result<(Result<(), WriteFault>, MemorySink), AllocError>
+    requires { 0 < piece }
+{
+    let failing = Vec::from_array(alloc, [failing])?;
+    let mut sink = MemorySink::with_room(alloc, piece, room, failing)?;
+    let answer = write_all(&mut sink, TEXT);
+    Ok((answer, sink))
+}
+
 #[test]
-fn writes_everything_or_a_front_part(rt: HostRuntime) -> Result<(), Fail> {
+fn writes_everything_or_a_front_part(rt: HostRuntime) -> Result<(), AllocError> {
     let alloc = rt.alloc();
-    // Bytes a write, the room, the write that fails; the answer and what the sink holds.
-    let cases: [(usize, usize, u32, Result<(), WriteFault>, &[u8]); 10] = [
-        (1, 20, 0, Ok(()), b"abcdefghij"),
-        (3, 10, 0, Ok(()), b"abcdefghij"),
-        (100, 10, 0, Ok(()), b"abcdefghij"),
-        (3, 9, 0, Err(WriteFault), b"abcdefghi"),
-        (4, 9, 0, Err(WriteFault), b"abcdefgh"),
-        (100, 9, 0, Err(WriteFault), b""),
-        (4, 10, 1, Err(WriteFault), b""),
-        (4, 10, 2, Err(WriteFault), b"abcd"),
-        (4, 10, 3, Err(WriteFault), b"abcdefgh"),
-        (4, 10, 4, Ok(()), b"abcdefghij"),
+    // Bytes a write, the room, the write that fails; the answer, what the sink holds, and faults.
+    let cases: [(usize, usize, u32, Result<(), WriteFault>, &[u8], u64); 10] = [
+        (1, 20, 0, Ok(()), b"abcdefghij", 0),
+        (3, 10, 0, Ok(()), b"abcdefghij", 0),
+        (100, 10, 0, Ok(()), b"abcdefghij", 0),
+        (3, 9, 0, Err(WriteFault), b"abcdefghi", 1),
+        (4, 9, 0, Err(WriteFault), b"abcdefgh", 1),
+        (100, 9, 0, Err(WriteFault), b"", 1),
+        (4, 10, 1, Err(WriteFault), b"", 1),
+        (4, 10, 2, Err(WriteFault), b"abcd", 1),
+        (4, 10, 3, Err(WriteFault), b"abcdefgh", 1),
+        (4, 10, 4, Ok(()), b"abcdefghij", 0),
     ];
-    for (piece, room, failing, wanted, held) in cases {
+    for (piece, room, failing, wanted, held, faults) in cases {
         assert!(rt; 0 < piece);
-        let mut sink = MemorySink::with_room(alloc, piece, room, vec![in alloc; failing]?)?;
-        let answer = write_all(&mut sink, TEXT);
-        assert_eq!(rt;
-            answer,
-            wanted,
-            "pieces of {piece}, room {room}, write {failing} fails"
-        );
-        assert_eq!(rt;
-            sink.bytes(),
-            held,
-            "pieces of {piece}, room {room}, write {failing} fails"
-        );
-        let faults = if wanted.is_ok() { 0 } else { 1 };
-        assert_eq!(rt;
-            sink.faults,
-            faults,
-            "pieces of {piece}, room {room}, write {failing} fails"
-        );
+        let (answer, sink) = write_in_pieces(alloc, piece, room, failing)?;
+        assert_eq!(rt; (answer, sink.faults), (wanted, faults), "pieces of {piece}, room {room}, write {failing} fails");
+        assert_eq!(rt; sink.bytes(), held, "pieces of {piece}, room {room}, write {failing} fails");
     }
     Ok(())
 }
 
+/// What is read of a source.
+fn is_text_of<S: Source>(alloc: Global, source: &mut S) -> bool {
+    match read_all(alloc, source, 10) {
+        Ok(bytes) => bytes.as_slice() == TEXT,
+        Err(_) => false,
+    }
+}
+
 #[test]
-fn others_pass_bytes_on(rt: HostRuntime) -> Result<(), Fail> {
+fn others_pass_bytes_on(rt: HostRuntime) -> Result<(), AllocError> {
     let alloc = rt.alloc();
     let mut calm = CalmSource::new(text(alloc)?, 3);
-    assert_eq!(rt; read_all(alloc, &mut calm, 10)?.as_slice(), TEXT);
-    write_all(&mut CalmSink, TEXT)?;
+    assert!(rt; is_text_of(alloc, &mut calm));
+    assert_eq!(rt; write_all(&mut CalmSink, TEXT), Ok(()));
 
     let mut source = StdSource::new(TEXT);
-    assert_eq!(rt; read_all(alloc, &mut source, 10)?.as_slice(), TEXT);
+    assert!(rt; is_text_of(alloc, &mut source));
     assert_eq!(rt; source.faults, 0);
     let mut broken = StdSource::new(Broken);
-    assert_eq!(rt; broken.read(&mut [0; 4]).is_err(), true);
+    assert!(rt; broken.read(&mut [0; 4]).is_err());
     assert_eq!(rt; broken.faults, 1);
 
     let mut sink = StdSink::new(Vec::new(alloc));
-    write_all(&mut sink, TEXT)?;
+    assert_eq!(rt; write_all(&mut sink, TEXT), Ok(()));
     assert_eq!(rt; sink.inner.as_slice(), TEXT);
 
-    // A writer with room for four bytes takes none of the rest, which counts as an error.
+    pass_twice(&FreeGate);
+    Ok(())
+}
+
+/// A writer with room for four bytes takes none of the rest, which counts as an error.
+#[test]
+fn a_full_writer_counts_as_an_error(rt: HostRuntime) {
     let mut four = [0; 4];
     let mut sink = StdSink::new(&mut four[..]);
     assert_eq!(rt; write_all(&mut sink, TEXT), Err(WriteFault));
     assert_eq!(rt; sink.faults, 1);
     assert_eq!(rt; four, *b"abcd");
-
-    pass_twice(&FreeGate);
-    Ok(())
 }
