@@ -6,27 +6,19 @@
 
 #[cfg(test)]
 mod geometry;
-
 #[cfg(test)]
 mod lines;
-
 #[cfg(test)]
 mod lists;
-
 #[cfg(test)]
 mod numbers;
-
 #[cfg(test)]
 mod sharing;
-
 #[cfg(test)]
 mod steps;
-
 #[cfg(test)]
 mod streams;
-
 #[cfg(test)]
 mod turns;
-
 #[cfg(test)]
 mod walks;

@@ -1,7 +1,7 @@
 //! Shared values, and values that hold them, seen as what they hold.
 
-use nav_share::Shared;
 use nav_list::{Duplicate, Items};
+use nav_share::Shared;
 use std::test::Fail;
 
 #[test]

@@ -73,7 +73,11 @@ fn reads_everything_or_says_why_not(rt: HostRuntime) -> Result<(), AllocError> {
     for (piece, most, failing, answer, gone, faults) in cases {
         assert!(rt; 0 < piece && most < usize::MAX);
         let read = read_in_pieces(alloc, piece, most, failing)?;
-        assert_eq!(rt; read, (answer, gone, faults), "pieces of {piece}, at most {most}, read {failing} fails");
+        assert_eq!(rt;
+            read,
+            (answer, gone, faults),
+            "pieces of {piece}, at most {most}, read {failing} fails"
+        );
     }
     Ok(())
 }
@@ -112,8 +116,16 @@ fn writes_everything_or_a_front_part(rt: HostRuntime) -> Result<(), AllocError> 
     for (piece, room, failing, wanted, held, faults) in cases {
         assert!(rt; 0 < piece);
         let (answer, sink) = write_in_pieces(alloc, piece, room, failing)?;
-        assert_eq!(rt; (answer, sink.faults), (wanted, faults), "pieces of {piece}, room {room}, write {failing} fails");
-        assert_eq!(rt; sink.bytes(), held, "pieces of {piece}, room {room}, write {failing} fails");
+        assert_eq!(rt;
+            (answer, sink.faults),
+            (wanted, faults),
+            "pieces of {piece}, room {room}, write {failing} fails"
+        );
+        assert_eq!(rt;
+            sink.bytes(),
+            held,
+            "pieces of {piece}, room {room}, write {failing} fails"
+        );
     }
     Ok(())
 }

@@ -1,13 +1,13 @@
 ghost use Rattle.std.specs.Prelude.{◌≡◌, ◌≤◌, ◌<◌, IfOk, length};
 ghost use Rattle.turn_lock.specs.Locks.{IsOf, AreFresh, AreAll};
 
-use turn_lock::pairs::{Added, Pair, Pairs};
-use turn_lock::{Pass, TurnLock};
 use std::alloc::{AllocError, Global};
 use std::sync::Wait;
 use std::test::Fail;
 use std::thread;
 use std::thread::Threads;
+use turn_lock::pairs::{Added, Pair, Pairs};
+use turn_lock::{Pass, TurnLock};
 
 const ACTS: u32 = 1000;
 

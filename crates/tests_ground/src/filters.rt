@@ -4,9 +4,9 @@ ghost use Rattle.std.specs.Prelude.{◌≡◌, IfOk, length};
 ghost use Rattle.nav_ground.specs.Fields.{IsField, AreAreas};
 ghost use Rattle.nav_ground.specs.declared.field.Field.{Field};
 
-use span_filters::{filtered, ledges, low_ceilings, low_hanging};
 use nav_ground::{Agent, Field, Span};
 use nav_list::Items;
+use span_filters::{filtered, ledges, low_ceilings, low_hanging};
 use std::alloc::{AllocError, Global};
 use std::process::Abort;
 

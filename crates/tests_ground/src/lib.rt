@@ -6,24 +6,17 @@
 
 #[cfg(test)]
 mod connections;
-
 #[cfg(test)]
 mod cuts;
-
 #[cfg(test)]
 mod erosion;
-
 #[cfg(test)]
 mod filters;
-
 #[cfg(test)]
 mod marks;
-
 #[cfg(test)]
 mod neighbours;
-
 #[cfg(test)]
 mod rows;
-
 #[cfg(test)]
 mod tiles_and_shapes;

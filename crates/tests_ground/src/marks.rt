@@ -4,9 +4,9 @@ ghost use Rattle.std.specs.Prelude.{◌≡◌, IfOk, All};
 ghost use Rattle.nav_ground.specs.Limits.{IsShape};
 ghost use Rattle.nav_ground.specs.Cells.{IsCut};
 
-use obstacle_mark::mark;
 use nav_ground::{Cell, CellRef, Layer, Shape};
 use nav_list::Items;
+use obstacle_mark::mark;
 use std::alloc::{AllocError, Global};
 use std::process::Abort;
 

@@ -3,7 +3,6 @@
 ghost use Rattle.std.specs.Prelude.{◌≡◌, ◌<◌, IfOk};
 ghost use Rattle.tests_mesh.specs.TwoTiles.{hand_polygon, hand_tile, left_tile, right_tile};
 
-use tile_links::{across, rim_links, whole};
 use mesh_types::{
     Corners, LevelPair, Link, Links, Mesh, PolyRef, Polygon, Portal, RimEdge, TileMesh,
 };
@@ -11,6 +10,7 @@ use nav_base::Point;
 use nav_ground::{AREAS, Agent, FreeLayer, MeshKind, Setting};
 use nav_list::Items;
 use std::alloc::{AllocError, Global};
+use tile_links::{across, rim_links, whole};
 
 const SETTING: Setting = Setting {
     width: 8,

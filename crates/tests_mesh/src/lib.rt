@@ -6,18 +6,13 @@
 
 #[cfg(test)]
 mod borders;
-
 #[cfg(test)]
 mod builds;
-
 #[cfg(test)]
 mod five_cells;
-
 #[cfg(test)]
 mod meshes;
-
 #[cfg(test)]
 mod strip_meshes;
-
 #[cfg(test)]
 mod strips;

@@ -5,12 +5,12 @@ ghost use Rattle.nav_ground.specs.Cells.{IsCut, IsInTile};
 ghost use Rattle.nav_ground.specs.Limits.{IsSetting};
 
 use crate::five_cells::CELLS;
-use strip_mesh::strip_mesh;
 use mesh_types::{Corners, Polygon, TileMesh};
 use nav_base::Point;
 use nav_ground::{AREAS, Agent, FreeLayer, MeshKind, Setting};
 use nav_list::Items;
 use std::alloc::{AllocError, Global};
+use strip_mesh::strip_mesh;
 
 /// Two tiles side by side.
 const SETTING: Setting = Setting {

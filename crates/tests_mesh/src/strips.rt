@@ -4,8 +4,8 @@ ghost use Rattle.std.specs.Prelude.{◌≡◌, IfOk};
 ghost use Rattle.nav_ground.specs.Cells.{IsCut};
 
 use crate::five_cells::CELLS;
-use mono_regions::{strip_index, strips};
 use cell_table::neighbour_table;
+use mono_regions::{strip_index, strips};
 use nav_ground::FreeLayer;
 use nav_list::Items;
 use std::alloc::{AllocError, Global};

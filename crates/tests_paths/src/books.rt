@@ -5,10 +5,10 @@ ghost use Rattle.nav_ground.specs.Fields.{IsField};
 ghost use Rattle.nav_ground.specs.Grounds.{IsGround};
 ghost use Rattle.nav_ground.specs.History.{IsRequest};
 
-use nav_book::{Book, HistoryFull};
 use layer_cut::ground;
 use mesh_types::{Answer, PathFound, PolyRef};
 use nav_base::{FloorAt, Point, Question};
+use nav_book::{Book, HistoryFull};
 use nav_ground::{
     AREAS, Agent, Entry, Field, Ground, HISTORY_LIMIT, MeshKind, Reply, Request, Setting, Shape,
     Span,

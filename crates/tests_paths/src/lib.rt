@@ -6,18 +6,13 @@
 
 #[cfg(test)]
 mod books;
-
 #[cfg(test)]
 mod chains;
-
 #[cfg(test)]
 mod corridors;
-
 #[cfg(test)]
 mod places;
-
 #[cfg(test)]
 mod questions;
-
 #[cfg(test)]
 mod settings;

@@ -5,11 +5,11 @@ ghost use Rattle.nav_base.specs.Point.{HasCoordinates};
 ghost use Rattle.nav_ground.specs.Limits.{IsSetting};
 ghost use Rattle.mesh_types.specs.Soundness.{IsSound};
 
-use nav_query::answer;
 use mesh_types::{Corner, Mesh, Side};
 use nav_base::{FloorAt, Point, Question};
 use nav_ground::{AREAS, Agent, Cell, CellRef, FreeLayer, MeshKind, Setting};
 use nav_list::Items;
+use nav_query::answer;
 use std::alloc::{AllocError, Global};
 use std::test::Fail;
 use strip_mesh::strip_mesh;

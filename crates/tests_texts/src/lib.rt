@@ -6,9 +6,7 @@
 
 #[cfg(test)]
 mod fields;
-
 #[cfg(test)]
 mod records;
-
 #[cfg(test)]
 mod scripts;
