@@ -1,12 +1,10 @@
 //! Square fields cut by hand: flat but for a few spans over the column (2, 2), so that every layer can be said by its floors.
 
-ghost use Rattle.std.specs.Prelude.{◌≡◌, ◌≤◌, ◌&&◌, IfOk, IsTrue};
-ghost use Rattle.std.specs.List.{list_all};
-ghost use Rattle.nav_ground.specs.Fields.{IsField};
+ghost use Rattle.std.specs.Prelude.{◌≡◌, ◌≤◌, IfOk};
 ghost use Rattle.nav_ground.specs.Grounds.{IsBuiltFor};
 ghost use Rattle.nav_ground.specs.Limits.{IsSetting};
-ghost use Rattle.nav_ground.proofs.Literals;
 
+use crate::rules::keeps_rules;
 use layer_cut::{ground, layer, tile_of};
 use nav_ground::{AREAS, Agent, Cell, Field, MeshKind, Setting, Span, tiles};
 use nav_list::Items;
@@ -92,74 +90,6 @@ fn field_of(alloc: Global, case: &Case) -> Result<Field, AllocError>
         depth: case.side,
         spans: Items::from_vec(spans),
     })
-}
-
-/// Whether a field keeps the rules of fields.
-fn keeps_rules(field: &Field) -> bool
-    ensures { IsTrue result → IsField field.now }
-{
-    is_field(field)
-}
-
-fn is_field(field: &Field) -> bool
-    ensures { result ≡ Literals.is_field field.now }
-{
-    let spans = field.spans.as_slice();
-    let sized = both(is_size(field.width), is_size(field.depth));
-    let listed = both(
-        are_spans(field.width, field.depth, spans),
-        is_ordered(spans),
-    );
-    both(both(sized, spans.len() <= 2000000), listed)
-}
-
-fn both(a: bool, b: bool) -> bool
-    ensures { result ≡ (a && b) }
-{
-    a && b
-}
-
-fn are_spans(width: u32, depth: u32, spans: &[Span]) -> bool
-    ensures { result ≡ list_all (Literals.is_span width depth) spans.now }
-{
-    spans.iter().all(|span| is_span(width, depth, span))
-}
-
-fn are_after(first: &Span, rest: &[Span]) -> bool
-    ensures { result ≡ list_all (Literals.is_span_before first.now) rest.now }
-{
-    rest.iter().all(|span| is_span_before(first, span))
-}
-
-fn is_size(n: u32) -> bool
-    ensures { result ≡ Literals.is_size n }
-{
-    1 <= n && n <= 1024
-}
-
-fn is_span(width: u32, depth: u32, span: &Span) -> bool
-    ensures { result ≡ Literals.is_span width depth span.now }
-{
-    span.x < width
-        && span.z < depth
-        && span.bottom < span.top
-        && span.top <= 8191
-        && span.area <= 63
-}
-
-fn is_ordered(spans: &[Span]) -> bool
-    ensures { result ≡ Literals.is_ordered_by Literals.is_span_before spans.now }
-{
-    match spans {
-        [] => true,
-        [first, rest @ ..] => both(are_after(first, rest), is_ordered(rest)),
-    }
-}
-
-fn is_span_before(a: &Span, b: &Span) -> bool
-    ensures { result ≡ Literals.is_span_before a.now b.now }
-{
-    a.z < b.z || (a.z == b.z && (a.x < b.x || (a.x == b.x && a.top <= b.bottom)))
 }
 
 /// The height of the cell over a column, 0 for none.

@@ -1,14 +1,12 @@
 //! Filters by hand, on fields of 3 by 3 columns: the middle one, which alone is not at the edge, and the four beside it.
 
-ghost use Rattle.std.specs.Prelude.{◌≡◌, IfOk, length};
-ghost use Rattle.nav_ground.specs.Fields.{IsField, AreAreas};
-ghost use Rattle.nav_ground.specs.declared.field.Field.{Field};
+ghost use Rattle.std.specs.Prelude.{◌≡◌, IfOk};
 
+use crate::rules::{are_areas, keeps_rules};
 use nav_ground::{Agent, Field, Span};
 use nav_list::Items;
 use span_filters::{filtered, ledges, low_ceilings, low_hanging};
 use std::alloc::{AllocError, Global};
-use std::process::Abort;
 
 const AGENT: Agent = Agent {
     height: 10,
@@ -82,7 +80,7 @@ const LOW_ROOF: Span = Span {
 };
 
 fn field_of(alloc: Global, spans: &[Span]) -> Result<Field, AllocError>
-    ensures { IfOk result (λ field. field ≡ record { width = 3; depth = 3; spans = spans.now }) }
+    ensures { IfOk result (λ field. field.spans ≡ spans.now) }
 {
     Ok(Field {
         width: 3,
@@ -91,135 +89,145 @@ fn field_of(alloc: Global, spans: &[Span]) -> Result<Field, AllocError>
     })
 }
 
-fn check_low_hanging(
-    rt: &impl Abort,
-    alloc: Global,
-    spans: &[Span],
-    wanted: &[u32],
-) -> Result<(), AllocError>
-    requires { IsField (record { width = 3; depth = 3; spans = spans.now }) }
-{
-    let field = field_of(alloc, spans)?;
-    let areas = low_hanging(alloc, &field, &AGENT)?;
-    assert_eq!(rt; areas.as_slice(), wanted, "of {spans:?}");
-    Ok(())
-}
+/// The spans of a field, and the areas that are left.
+type Case = (&'static [Span], &'static [u32]);
+
+/// The spans of a field, the areas beside it, and those that are left.
+type CaseWithAreas = (&'static [Span], &'static [u32], &'static [u32]);
+
+/// Two steps stand on the middle column, one, or a high one.
+const LOW_HANGING: [Case; 3] = [
+    (
+        &[BELOW, LEFT, MIDDLE, STEP, RIGHT, ABOVE],
+        &[63, 63, 63, 63, 63, 63],
+    ),
+    (
+        &[BELOW, LEFT, MIDDLE, STEP, NEXT_STEP, RIGHT, ABOVE],
+        &[63, 63, 63, 63, 0, 63, 63],
+    ),
+    (
+        &[BELOW, LEFT, MIDDLE, HIGH_STEP, RIGHT, ABOVE],
+        &[63, 63, 63, 0, 63, 63],
+    ),
+];
 
 #[test]
 fn low_hanging_by_hand(rt: HostRuntime) -> Result<(), AllocError> {
     let alloc = rt.alloc();
-    let step = [BELOW, LEFT, MIDDLE, STEP, RIGHT, ABOVE];
-    check_low_hanging(&rt, alloc, &step, &[63, 63, 63, 63, 63, 63])?;
-    let steps = [BELOW, LEFT, MIDDLE, STEP, NEXT_STEP, RIGHT, ABOVE];
-    check_low_hanging(&rt, alloc, &steps, &[63, 63, 63, 63, 0, 63, 63])?;
-    let high_step = [BELOW, LEFT, MIDDLE, HIGH_STEP, RIGHT, ABOVE];
-    check_low_hanging(&rt, alloc, &high_step, &[63, 63, 63, 0, 63, 63])?;
+    for (spans, wanted) in LOW_HANGING {
+        let field = field_of(alloc, spans)?;
+        assert!(rt; keeps_rules(&field));
+        let areas = low_hanging(alloc, &field, &AGENT)?;
+        assert_eq!(rt; areas.as_slice(), wanted, "of {spans:?}");
+    }
     Ok(())
 }
 
-fn check_ledges(
-    rt: &impl Abort,
-    alloc: Global,
-    spans: &[Span],
-    areas: &[u32],
-    wanted: &[u32],
-) -> Result<(), AllocError>
-    requires field { IsField (record { width = 3; depth = 3; spans = spans.now }) }
-    requires areas { AreAreas areas.now }
-    requires beside { length areas.now ≡ length spans.now }
-{
-    let field = field_of(alloc, spans)?;
-    let left = ledges(alloc, &field, areas, &AGENT)?;
-    assert_eq!(rt; left.as_slice(), wanted, "of {spans:?}");
-    Ok(())
-}
+const LOW_LEFT: Span = Span { top: 6, ..LEFT };
+
+const DEEP_LEFT: Span = Span { top: 5, ..LEFT };
+
+const HIGH_RIGHT: Span = Span { top: 11, ..RIGHT };
+
+const BRIDGE: Span = Span {
+    bottom: 8,
+    top: 10,
+    ..LEFT
+};
+
+/// A floor that is flat enough; one too steep; a drop to the left; a hole there; and a bridge over the drop.
+const LEDGES: [CaseWithAreas; 5] = [
+    (
+        &[BELOW, LOW_LEFT, MIDDLE, RIGHT, ABOVE],
+        &[1, 2, 3, 4, 5],
+        &[0, 0, 3, 0, 0],
+    ),
+    (
+        &[BELOW, LOW_LEFT, MIDDLE, HIGH_RIGHT, ABOVE],
+        &[1, 2, 3, 4, 5],
+        &[0, 0, 0, 0, 0],
+    ),
+    (
+        &[BELOW, DEEP_LEFT, MIDDLE, RIGHT, ABOVE],
+        &[1, 2, 3, 4, 5],
+        &[0, 0, 0, 0, 0],
+    ),
+    (&[BELOW, MIDDLE, RIGHT, ABOVE], &[1, 3, 4, 5], &[0, 0, 0, 0]),
+    (
+        &[BELOW, DEEP_LEFT, BRIDGE, MIDDLE, RIGHT, ABOVE],
+        &[1, 2, 2, 3, 4, 5],
+        &[0, 0, 0, 3, 0, 0],
+    ),
+];
 
 #[test]
 fn ledges_by_hand(rt: HostRuntime) -> Result<(), AllocError> {
     let alloc = rt.alloc();
-    let low_left = Span { top: 6, ..LEFT };
-    let flat = [BELOW, low_left, MIDDLE, RIGHT, ABOVE];
-    check_ledges(&rt, alloc, &flat, &[1, 2, 3, 4, 5], &[0, 0, 3, 0, 0])?;
-    let steep = [BELOW, low_left, MIDDLE, Span { top: 11, ..RIGHT }, ABOVE];
-    check_ledges(&rt, alloc, &steep, &[1, 2, 3, 4, 5], &[0, 0, 0, 0, 0])?;
-    let deep_left = Span { top: 5, ..LEFT };
-    let drop = [BELOW, deep_left, MIDDLE, RIGHT, ABOVE];
-    check_ledges(&rt, alloc, &drop, &[1, 2, 3, 4, 5], &[0, 0, 0, 0, 0])?;
-    let hole = [BELOW, MIDDLE, RIGHT, ABOVE];
-    check_ledges(&rt, alloc, &hole, &[1, 3, 4, 5], &[0, 0, 0, 0])?;
-    let bridge = Span {
-        bottom: 8,
-        top: 10,
-        ..LEFT
-    };
-    let covered = [BELOW, deep_left, bridge, MIDDLE, RIGHT, ABOVE];
-    check_ledges(
-        &rt,
-        alloc,
-        &covered,
-        &[1, 2, 2, 3, 4, 5],
-        &[0, 0, 0, 3, 0, 0],
-    )?;
+    for (spans, areas, wanted) in LEDGES {
+        let field = field_of(alloc, spans)?;
+        assert!(rt; keeps_rules(&field) && are_areas(areas));
+        assert_eq!(rt; areas.len(), spans.len());
+        let left = ledges(alloc, &field, areas, &AGENT)?;
+        assert_eq!(rt; left.as_slice(), wanted, "of {spans:?}");
+    }
     Ok(())
 }
 
-fn check_ceilings(
-    rt: &impl Abort,
-    alloc: Global,
-    spans: &[Span],
-    areas: &[u32],
-    wanted: &[u32],
-) -> Result<(), AllocError>
-    requires field { IsField (record { width = 3; depth = 3; spans = spans.now }) }
-    requires areas { AreAreas areas.now }
-    requires beside { length areas.now ≡ length spans.now }
-{
-    let field = field_of(alloc, spans)?;
-    let left = low_ceilings(alloc, &field, areas, &AGENT)?;
-    assert_eq!(rt; left.as_slice(), wanted, "of {spans:?}");
-    Ok(())
-}
+/// A roof as high as the agent, and one that is lower.
+const LOW_CEILINGS: [CaseWithAreas; 2] = [
+    (
+        &[BELOW, LEFT, MIDDLE, ROOF, RIGHT, ABOVE],
+        &[1, 2, 3, 4, 5, 6],
+        &[1, 2, 3, 4, 5, 6],
+    ),
+    (
+        &[BELOW, LEFT, MIDDLE, LOW_ROOF, RIGHT, ABOVE],
+        &[1, 2, 3, 4, 5, 6],
+        &[1, 2, 0, 4, 5, 6],
+    ),
+];
 
 #[test]
 fn ceilings_by_hand(rt: HostRuntime) -> Result<(), AllocError> {
     let alloc = rt.alloc();
-    let room = [BELOW, LEFT, MIDDLE, ROOF, RIGHT, ABOVE];
-    check_ceilings(&rt, alloc, &room, &[1, 2, 3, 4, 5, 6], &[1, 2, 3, 4, 5, 6])?;
-    let low_room = [BELOW, LEFT, MIDDLE, LOW_ROOF, RIGHT, ABOVE];
-    check_ceilings(
-        &rt,
-        alloc,
-        &low_room,
-        &[1, 2, 3, 4, 5, 6],
-        &[1, 2, 0, 4, 5, 6],
-    )?;
+    for (spans, areas, wanted) in LOW_CEILINGS {
+        let field = field_of(alloc, spans)?;
+        assert!(rt; keeps_rules(&field) && are_areas(areas));
+        assert_eq!(rt; areas.len(), spans.len());
+        let left = low_ceilings(alloc, &field, areas, &AGENT)?;
+        assert_eq!(rt; left.as_slice(), wanted, "of {spans:?}");
+    }
     Ok(())
 }
 
-fn check_filtered(
-    rt: &impl Abort,
-    alloc: Global,
-    spans: &[Span],
-    wanted: &[u32],
-) -> Result<(), AllocError>
-    requires { IsField (record { width = 3; depth = 3; spans = spans.now }) }
-{
-    let field = field_of(alloc, spans)?;
-    let areas = filtered(alloc, &field, &AGENT)?;
-    assert_eq!(rt; areas.as_slice(), wanted, "of {spans:?}");
-    Ok(())
-}
+/// All three filters, on a step, two steps, a room and a low room.
+const FILTERED: [Case; 4] = [
+    (
+        &[BELOW, LEFT, MIDDLE, STEP, RIGHT, ABOVE],
+        &[0, 0, 0, 63, 0, 0],
+    ),
+    (
+        &[BELOW, LEFT, MIDDLE, STEP, NEXT_STEP, RIGHT, ABOVE],
+        &[0, 0, 0, 0, 0, 0, 0],
+    ),
+    (
+        &[BELOW, LEFT, MIDDLE, ROOF, RIGHT, ABOVE],
+        &[0, 0, 63, 0, 0, 0],
+    ),
+    (
+        &[BELOW, LEFT, MIDDLE, LOW_ROOF, RIGHT, ABOVE],
+        &[0, 0, 0, 0, 0, 0],
+    ),
+];
 
 #[test]
 fn filtered_by_hand(rt: HostRuntime) -> Result<(), AllocError> {
     let alloc = rt.alloc();
-    let step = [BELOW, LEFT, MIDDLE, STEP, RIGHT, ABOVE];
-    check_filtered(&rt, alloc, &step, &[0, 0, 0, 63, 0, 0])?;
-    let steps = [BELOW, LEFT, MIDDLE, STEP, NEXT_STEP, RIGHT, ABOVE];
-    check_filtered(&rt, alloc, &steps, &[0, 0, 0, 0, 0, 0, 0])?;
-    let room = [BELOW, LEFT, MIDDLE, ROOF, RIGHT, ABOVE];
-    check_filtered(&rt, alloc, &room, &[0, 0, 63, 0, 0, 0])?;
-    let low_room = [BELOW, LEFT, MIDDLE, LOW_ROOF, RIGHT, ABOVE];
-    check_filtered(&rt, alloc, &low_room, &[0, 0, 0, 0, 0, 0])?;
+    for (spans, wanted) in FILTERED {
+        let field = field_of(alloc, spans)?;
+        assert!(rt; keeps_rules(&field));
+        let areas = filtered(alloc, &field, &AGENT)?;
+        assert_eq!(rt; areas.as_slice(), wanted, "of {spans:?}");
+    }
     Ok(())
 }

@@ -1,6 +1,6 @@
 //! A field text of every form of line, and the line and kind of the first fault of wrong ones.
 
-use nav_ground::{Agent, MeshKind, Span};
+use nav_ground::{AREAS, Agent, MeshKind, Setting, Span};
 use nav_text::FaultKind;
 use span_text::{FieldRefusal, read_field};
 use std::alloc::{AllocError, Global};
@@ -34,97 +34,115 @@ fn fault_of(alloc: Global, text: &[u8]) -> (u32, u32) {
     }
 }
 
-#[test]
-fn reads_every_form(rt: HostRuntime) -> Result<(), AllocError> {
-    let text =
-        b"nav 1\nsize 1024 1\ntile 128\nagent 255 254 15\nerror 10000\nmesh contours\nlimit 1024\ncost 1 1\ncost 3 7\ncost 63 1000\nspan 0 0 0 5 0\nspan 0 0 5 8191 63\nspan 1023 0 7 8 1\nend\nscript 1 1\n";
-    let read = match read_field(rt.alloc(), text.as_slice()) {
-        Ok(read) => read,
-        Err(_) => return Err(AllocError),
-    };
-    assert_eq!(rt; (read.used, read.lines), (text.len() - 11, 14));
-    assert_eq!(rt;
-        (read.setting.width, read.setting.depth, read.setting.tile),
-        (1024, 1, 128)
-    );
-    assert_eq!(rt;
-        read.setting.agent,
-        Agent {
-            height: 255,
-            climb: 254,
-            radius: 15
-        }
-    );
-    assert_eq!(rt;
-        (
-            read.setting.error,
-            read.setting.mesh,
-            read.setting.limit,
-            read.setting.clear
-        ),
-        (10000, MeshKind::Contours, 1024, false)
-    );
-    for (area, cost) in read.setting.costs.iter().enumerate() {
-        let wanted = match area {
-            3 => 7,
-            63 => 1000,
-            _ => 1,
-        };
-        assert_eq!(rt; *cost, wanted, "at {area}");
-    }
-    assert_eq!(rt;
-        (read.field.width, read.field.depth, read.field.spans.len()),
-        (1024, 1, 3)
-    );
-    let wanted = Span {
+/// Every form of line, and the first line of a script behind it.
+const EVERY_FORM: &str =
+    "nav 1\nsize 1024 1\ntile 128\nagent 255 254 15\nerror 10000\nmesh contours\nlimit 1024\ncost 1 1\ncost 3 7\ncost 63 1000\nspan 0 0 0 5 0\nspan 0 0 5 8191 63\nspan 1023 0 7 8 1\nend\nscript 1 1\n";
+
+/// Its spans.
+const SPANS: [Span; 3] = [
+    Span {
+        x: 0,
+        z: 0,
+        bottom: 0,
+        top: 5,
+        area: 0,
+    },
+    Span {
         x: 0,
         z: 0,
         bottom: 5,
         top: 8191,
         area: 63,
-    };
-    assert_eq!(rt; read.field.spans.get(1).copied(), Some(wanted));
+    },
+    Span {
+        x: 1023,
+        z: 0,
+        bottom: 7,
+        top: 8,
+        area: 1,
+    },
+];
 
+/// Its setting.
+fn every_setting() -> Setting {
+    let mut costs = [1; AREAS];
+    costs[3] = 7;
+    costs[63] = 1000;
+    Setting {
+        width: 1024,
+        depth: 1,
+        tile: 128,
+        agent: Agent {
+            height: 255,
+            climb: 254,
+            radius: 15,
+        },
+        error: 10000,
+        mesh: MeshKind::Contours,
+        limit: 1024,
+        costs,
+        clear: false,
+    }
+}
+
+#[test]
+fn reads_every_form(rt: HostRuntime) {
+    match read_field(rt.alloc(), EVERY_FORM.as_bytes()) {
+        Ok(read) => {
+            assert_eq!(rt; (read.used, read.lines), (EVERY_FORM.len() - 11, 14));
+            assert_eq!(rt; read.setting, every_setting());
+            assert_eq!(rt; (read.field.width, read.field.depth), (1024, 1));
+            assert_eq!(rt; read.field.spans.as_slice(), SPANS.as_slice());
+        }
+        Err(_) => assert!(rt; false),
+    }
+}
+
+#[test]
+fn reads_a_field_without_spans(rt: HostRuntime) -> Result<(), AllocError> {
     let text = text_with(rt.alloc(), 7, "end\n")?;
     assert!(rt; read_field(rt.alloc(), text.as_slice()).is_ok());
     Ok(())
 }
 
+/// How many lines of the header stand first, what follows them, and the line and kind of the first fault.
+const HEADER_FAULTS: [(usize, &str, u32, FaultKind); 31] = [
+    (0, "", 1, FaultKind::Unfinished),
+    (0, "\n", 1, FaultKind::Form),
+    (0, "nav 1", 1, FaultKind::Unfinished),
+    (0, "nav 2\n", 1, FaultKind::Form),
+    (0, "nav 01\n", 1, FaultKind::Form),
+    (0, "nav 1 \n", 1, FaultKind::Form),
+    (0, "nav 1\r\n", 1, FaultKind::Form),
+    (1, "", 2, FaultKind::Unfinished),
+    (1, "size 6\n", 2, FaultKind::Form),
+    (1, "size 06 6\n", 2, FaultKind::Form),
+    (1, "size 6 6 \n", 2, FaultKind::Form),
+    (1, "size 6 4294967296\n", 2, FaultKind::Form),
+    (1, "size 0 6\n", 2, FaultKind::Range),
+    (1, "size 6 1025\n", 2, FaultKind::Range),
+    (1, "size 6 6", 2, FaultKind::Unfinished),
+    (2, "tile\n", 3, FaultKind::Form),
+    (2, "tile 3\n", 3, FaultKind::Range),
+    (2, "tile 129\n", 3, FaultKind::Range),
+    (3, "agent 10 4\n", 4, FaultKind::Form),
+    (3, "agent 0 0 0\n", 4, FaultKind::Range),
+    (3, "agent 256 0 0\n", 4, FaultKind::Range),
+    (3, "agent 255 255 0\n", 4, FaultKind::Range),
+    (3, "agent 10 10 16\n", 4, FaultKind::Range),
+    (3, "agent 10 10 0\n", 4, FaultKind::Climb),
+    (4, "error 1 2\n", 5, FaultKind::Form),
+    (4, "error 10001\n", 5, FaultKind::Range),
+    (5, "mesh strip\n", 6, FaultKind::Form),
+    (5, "mesh contours \n", 6, FaultKind::Form),
+    (6, "limit x\n", 7, FaultKind::Form),
+    (6, "limit 0\n", 7, FaultKind::Range),
+    (6, "limit 1025\n", 7, FaultKind::Range),
+];
+
 #[test]
 fn tells_the_first_fault(rt: HostRuntime) -> Result<(), AllocError> {
-    for (lines, tail, line, kind) in [
-        (0, "", 1, FaultKind::Unfinished),
-        (0, "\n", 1, FaultKind::Form),
-        (0, "nav 1", 1, FaultKind::Unfinished),
-        (0, "nav 2\n", 1, FaultKind::Form),
-        (0, "nav 01\n", 1, FaultKind::Form),
-        (0, "nav 1 \n", 1, FaultKind::Form),
-        (0, "nav 1\r\n", 1, FaultKind::Form),
-        (1, "", 2, FaultKind::Unfinished),
-        (1, "size 6\n", 2, FaultKind::Form),
-        (1, "size 06 6\n", 2, FaultKind::Form),
-        (1, "size 6 6 \n", 2, FaultKind::Form),
-        (1, "size 6 4294967296\n", 2, FaultKind::Form),
-        (1, "size 0 6\n", 2, FaultKind::Range),
-        (1, "size 6 1025\n", 2, FaultKind::Range),
-        (1, "size 6 6", 2, FaultKind::Unfinished),
-        (2, "tile\n", 3, FaultKind::Form),
-        (2, "tile 3\n", 3, FaultKind::Range),
-        (2, "tile 129\n", 3, FaultKind::Range),
-        (3, "agent 10 4\n", 4, FaultKind::Form),
-        (3, "agent 0 0 0\n", 4, FaultKind::Range),
-        (3, "agent 256 0 0\n", 4, FaultKind::Range),
-        (3, "agent 255 255 0\n", 4, FaultKind::Range),
-        (3, "agent 10 10 16\n", 4, FaultKind::Range),
-        (3, "agent 10 10 0\n", 4, FaultKind::Climb),
-        (4, "error 1 2\n", 5, FaultKind::Form),
-        (4, "error 10001\n", 5, FaultKind::Range),
-        (5, "mesh strip\n", 6, FaultKind::Form),
-        (5, "mesh contours \n", 6, FaultKind::Form),
-        (6, "limit x\n", 7, FaultKind::Form),
-        (6, "limit 0\n", 7, FaultKind::Range),
-        (6, "limit 1025\n", 7, FaultKind::Range),
-    ] {
+    for (lines, tail, line, kind) in HEADER_FAULTS {
         let text = text_with(rt.alloc(), lines, tail)?;
         assert_eq!(rt;
             fault_of(rt.alloc(), text.as_slice()),
@@ -135,49 +153,52 @@ fn tells_the_first_fault(rt: HostRuntime) -> Result<(), AllocError> {
     Ok(())
 }
 
+/// What follows the whole header, and the line and kind of the first fault.
+const BODY_FAULTS: [(&str, u32, FaultKind); 31] = [
+    ("", 8, FaultKind::Unfinished),
+    ("end", 8, FaultKind::Unfinished),
+    ("end \n", 8, FaultKind::Form),
+    ("ends\n", 8, FaultKind::Form),
+    ("script 1 1\n", 8, FaultKind::Form),
+    ("nav 1\n", 8, FaultKind::Form),
+    ("cost 1\n", 8, FaultKind::Form),
+    ("cost 0 1\n", 8, FaultKind::Range),
+    ("cost 64 1\n", 8, FaultKind::Range),
+    ("cost 1 0\n", 8, FaultKind::Range),
+    ("cost 1 1001\n", 8, FaultKind::Range),
+    ("cost 2 5\ncost 2 6\n", 9, FaultKind::Order),
+    ("cost 2 5\ncost 1 1001\n", 9, FaultKind::Range),
+    ("cost 2 5\ncost 63 1", 9, FaultKind::Unfinished),
+    ("span 0 0 0 1\n", 8, FaultKind::Form),
+    ("span 0 0 0 1 0 0\n", 8, FaultKind::Form),
+    ("span  0 0 0 1 0\n", 8, FaultKind::Form),
+    ("span 0 0 0 01 0\n", 8, FaultKind::Form),
+    ("span 6 0 0 1 0\n", 8, FaultKind::Range),
+    ("span 0 6 0 1 0\n", 8, FaultKind::Range),
+    ("span 0 0 1 1 0\n", 8, FaultKind::Range),
+    ("span 0 0 0 8192 0\n", 8, FaultKind::Range),
+    ("span 0 0 0 1 64\n", 8, FaultKind::Range),
+    ("span 1 0 0 10 63\nspan 0 0 0 10 63\n", 9, FaultKind::Order),
+    ("span 0 1 0 10 63\nspan 5 0 0 10 63\n", 9, FaultKind::Order),
+    ("span 1 0 0 10 63\nspan 0 0 10 10 63\n", 9, FaultKind::Range),
+    ("span 0 0 0 10 63\nspan 0 0 9 12 0\n", 9, FaultKind::Overlap),
+    ("span 0 0 0 10 63\ncost 1 1\n", 9, FaultKind::Form),
+    ("span 0 0 0 10 63\ncost 0 1\n", 9, FaultKind::Form),
+    (
+        "span 0 0 0 10 63\nspan 0 0 10 12 0",
+        9,
+        FaultKind::Unfinished,
+    ),
+    (
+        "span 0 0 0 10 63\nspan 0 0 10 12 0\n",
+        10,
+        FaultKind::Unfinished,
+    ),
+];
+
 #[test]
 fn tells_the_first_fault_behind_the_header(rt: HostRuntime) -> Result<(), AllocError> {
-    for (tail, line, kind) in [
-        ("", 8, FaultKind::Unfinished),
-        ("end", 8, FaultKind::Unfinished),
-        ("end \n", 8, FaultKind::Form),
-        ("ends\n", 8, FaultKind::Form),
-        ("script 1 1\n", 8, FaultKind::Form),
-        ("nav 1\n", 8, FaultKind::Form),
-        ("cost 1\n", 8, FaultKind::Form),
-        ("cost 0 1\n", 8, FaultKind::Range),
-        ("cost 64 1\n", 8, FaultKind::Range),
-        ("cost 1 0\n", 8, FaultKind::Range),
-        ("cost 1 1001\n", 8, FaultKind::Range),
-        ("cost 2 5\ncost 2 6\n", 9, FaultKind::Order),
-        ("cost 2 5\ncost 1 1001\n", 9, FaultKind::Range),
-        ("cost 2 5\ncost 63 1", 9, FaultKind::Unfinished),
-        ("span 0 0 0 1\n", 8, FaultKind::Form),
-        ("span 0 0 0 1 0 0\n", 8, FaultKind::Form),
-        ("span  0 0 0 1 0\n", 8, FaultKind::Form),
-        ("span 0 0 0 01 0\n", 8, FaultKind::Form),
-        ("span 6 0 0 1 0\n", 8, FaultKind::Range),
-        ("span 0 6 0 1 0\n", 8, FaultKind::Range),
-        ("span 0 0 1 1 0\n", 8, FaultKind::Range),
-        ("span 0 0 0 8192 0\n", 8, FaultKind::Range),
-        ("span 0 0 0 1 64\n", 8, FaultKind::Range),
-        ("span 1 0 0 10 63\nspan 0 0 0 10 63\n", 9, FaultKind::Order),
-        ("span 0 1 0 10 63\nspan 5 0 0 10 63\n", 9, FaultKind::Order),
-        ("span 1 0 0 10 63\nspan 0 0 10 10 63\n", 9, FaultKind::Range),
-        ("span 0 0 0 10 63\nspan 0 0 9 12 0\n", 9, FaultKind::Overlap),
-        ("span 0 0 0 10 63\ncost 1 1\n", 9, FaultKind::Form),
-        ("span 0 0 0 10 63\ncost 0 1\n", 9, FaultKind::Form),
-        (
-            "span 0 0 0 10 63\nspan 0 0 10 12 0",
-            9,
-            FaultKind::Unfinished,
-        ),
-        (
-            "span 0 0 0 10 63\nspan 0 0 10 12 0\n",
-            10,
-            FaultKind::Unfinished,
-        ),
-    ] {
+    for (tail, line, kind) in BODY_FAULTS {
         let text = text_with(rt.alloc(), 7, tail)?;
         assert_eq!(rt;
             fault_of(rt.alloc(), text.as_slice()),

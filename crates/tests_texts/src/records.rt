@@ -6,49 +6,52 @@ use nav_ground::Reply;
 use nav_list::Items;
 use nav_record::{StepAnswer, write_answer, write_done, write_fault, write_reply, write_step};
 use nav_text::{FaultKind, TextFault};
-use std::alloc::AllocError;
+use std::alloc::{AllocError, Global};
+
+/// What a step answers, and its line.
+const STEPS: [(StepAnswer, &str); 13] = [
+    (StepAnswer::Aim { k: 0 }, "aim 0\n"),
+    (
+        StepAnswer::Claimed {
+            worker: 15,
+            tile: 4294967295,
+        },
+        "claim 15 tile 4294967295\n",
+    ),
+    (StepAnswer::NoTile { worker: 3 }, "claim 3 none\n"),
+    (StepAnswer::Busy { worker: 4294967295 }, "busy 4294967295\n"),
+    (StepAnswer::Idle { worker: 0 }, "idle 0\n"),
+    (
+        StepAnswer::Back {
+            worker: 1,
+            tile: 20,
+        },
+        "back 1 tile 20\n",
+    ),
+    (
+        StepAnswer::Taken { worker: 2, tile: 0 },
+        "submit 2 taken 0\n",
+    ),
+    (
+        StepAnswer::Stale {
+            worker: 10,
+            tile: 7,
+        },
+        "submit 10 stale 7\n",
+    ),
+    (StepAnswer::Published { k: 65536 }, "published 65536\n"),
+    (StepAnswer::Same { k: 9 }, "same 9\n"),
+    (StepAnswer::NotYet { tile: 63 }, "notyet 63\n"),
+    (StepAnswer::Settled { k: 12 }, "settled 12\n"),
+    (
+        StepAnswer::HistoryFull { len: 65536 },
+        "history full 65536\n",
+    ),
+];
 
 #[test]
 fn writes_steps(rt: HostRuntime) -> Result<(), AllocError> {
-    for (step, wanted) in [
-        (StepAnswer::Aim { k: 0 }, "aim 0\n"),
-        (
-            StepAnswer::Claimed {
-                worker: 15,
-                tile: 4294967295,
-            },
-            "claim 15 tile 4294967295\n",
-        ),
-        (StepAnswer::NoTile { worker: 3 }, "claim 3 none\n"),
-        (StepAnswer::Busy { worker: 4294967295 }, "busy 4294967295\n"),
-        (StepAnswer::Idle { worker: 0 }, "idle 0\n"),
-        (
-            StepAnswer::Back {
-                worker: 1,
-                tile: 20,
-            },
-            "back 1 tile 20\n",
-        ),
-        (
-            StepAnswer::Taken { worker: 2, tile: 0 },
-            "submit 2 taken 0\n",
-        ),
-        (
-            StepAnswer::Stale {
-                worker: 10,
-                tile: 7,
-            },
-            "submit 10 stale 7\n",
-        ),
-        (StepAnswer::Published { k: 65536 }, "published 65536\n"),
-        (StepAnswer::Same { k: 9 }, "same 9\n"),
-        (StepAnswer::NotYet { tile: 63 }, "notyet 63\n"),
-        (StepAnswer::Settled { k: 12 }, "settled 12\n"),
-        (
-            StepAnswer::HistoryFull { len: 65536 },
-            "history full 65536\n",
-        ),
-    ] {
+    for (step, wanted) in STEPS {
         let mut out = Vec::new(rt.alloc());
         write_step(&mut out, &step)?;
         assert_eq!(rt; out.as_slice(), wanted.as_bytes(), "at {wanted}");
@@ -75,77 +78,105 @@ fn writes_the_other_lines(rt: HostRuntime) -> Result<(), AllocError> {
     Ok(())
 }
 
+/// The lines of the answer to a question, by the number of its line.
+fn written(alloc: Global, line: u32, answer: &Answer) -> Result<Vec<u8>, AllocError> {
+    let mut out = Vec::new(alloc);
+    write_answer(&mut out, line, answer)?;
+    Ok(out)
+}
+
+const FLOORS: [FloorAt; 2] = [FloorAt { y: 0, area: 63 }, FloorAt { y: 8191, area: 1 }];
+
+#[test]
+fn writes_floors(rt: HostRuntime) -> Result<(), AllocError> {
+    let alloc = rt.alloc();
+    let floors = Answer::Floors(Items::from_vec(Vec::from_array(alloc, FLOORS)?));
+    assert_eq!(rt;
+        written(alloc, 3, &floors)?.as_slice(),
+        b"floors 3 2 0 63 8191 1\n".as_slice()
+    );
+    let none = Answer::Floors(Items::new(alloc));
+    assert_eq!(rt;
+        written(alloc, 3, &none)?.as_slice(),
+        b"floors 3 0\n".as_slice()
+    );
+    Ok(())
+}
+
+/// Answers without a list, and their lines.
+const ANSWERS: [(Answer, &str); 5] = [
+    (Answer::NoStart, "nostart 3\n"),
+    (Answer::NoGoal, "nogoal 3\n"),
+    (Answer::NoPath, "nopath 3\n"),
+    (
+        Answer::Reached(PolyRef {
+            tile: 4294967295,
+            index: 7,
+        }),
+        "reached 3 4294967295 7\n",
+    ),
+    (
+        Answer::Wall {
+            a: Point { x: -1, z: 0 },
+            b: Point { x: 16384, z: 32 },
+            num: 9223372036854775807,
+            den: -1,
+        },
+        "wall 3 -1 0 16384 32 9223372036854775807 -1\n",
+    ),
+];
+
 #[test]
 fn writes_answers(rt: HostRuntime) -> Result<(), AllocError> {
-    let at = PolyRef {
-        tile: 4294967295,
-        index: 7,
-    };
-    let a = Point { x: -1, z: 0 };
-    let b = Point { x: 16384, z: 32 };
-    let floors = [FloorAt { y: 0, area: 63 }, FloorAt { y: 8191, area: 1 }];
-    let floors = Vec::from_array(rt.alloc(), floors)?;
-    for (answer, wanted) in [
-        (
-            Answer::Floors(Items::from_vec(floors)),
-            "floors 3 2 0 63 8191 1\n",
-        ),
-        (Answer::Floors(Items::new(rt.alloc())), "floors 3 0\n"),
-        (Answer::NoStart, "nostart 3\n"),
-        (Answer::NoGoal, "nogoal 3\n"),
-        (Answer::NoPath, "nopath 3\n"),
-        (Answer::Reached(at), "reached 3 4294967295 7\n"),
-        (
-            Answer::Wall {
-                a,
-                b,
-                num: 9223372036854775807,
-                den: -1,
-            },
-            "wall 3 -1 0 16384 32 9223372036854775807 -1\n",
-        ),
-    ] {
-        let mut out = Vec::new(rt.alloc());
-        write_answer(&mut out, 3, &answer)?;
-        assert_eq!(rt; out.as_slice(), wanted.as_bytes(), "at {wanted}");
+    for (answer, wanted) in ANSWERS {
+        assert_eq!(rt;
+            written(rt.alloc(), 3, &answer)?.as_slice(),
+            wanted.as_bytes(),
+            "at {wanted}"
+        );
     }
     Ok(())
 }
 
+const FIRST: PolyRef = PolyRef { tile: 0, index: 1 };
+
+const LINK: Link = Link {
+    from: FIRST,
+    edge: 2,
+    to: PolyRef { tile: 3, index: 4 },
+    portal: Portal {
+        left: Point { x: 16, z: 32 },
+        right: Point { x: 48, z: 64 },
+    },
+};
+
+const TURNS: [Corner; 2] = [
+    Corner {
+        at: Point { x: 16, z: 32 },
+        side: Side::L,
+        portal: 0,
+    },
+    Corner {
+        at: Point { x: 48, z: 64 },
+        side: Side::R,
+        portal: 0,
+    },
+];
+
 #[test]
 fn writes_a_path(rt: HostRuntime) -> Result<(), AllocError> {
-    let first = PolyRef { tile: 0, index: 1 };
-    let link = Link {
-        from: first,
-        edge: 2,
-        to: PolyRef { tile: 3, index: 4 },
-        portal: Portal {
-            left: Point { x: 16, z: 32 },
-            right: Point { x: 48, z: 64 },
-        },
-    };
-    let turns = [
-        Corner {
-            at: Point { x: 16, z: 32 },
-            side: Side::L,
-            portal: 0,
-        },
-        Corner {
-            at: Point { x: 48, z: 64 },
-            side: Side::R,
-            portal: 0,
-        },
-    ];
+    let alloc = rt.alloc();
     let found = PathFound {
-        first,
+        first: FIRST,
         cost: 18446744073709551615,
-        links: Items::from_vec(Vec::from_array(rt.alloc(), [link])?),
-        turns: Items::from_vec(Vec::from_array(rt.alloc(), turns)?),
+        links: Items::from_vec(Vec::from_array(alloc, [LINK])?),
+        turns: Items::from_vec(Vec::from_array(alloc, TURNS)?),
     };
-    let mut out = Vec::new(rt.alloc());
-    write_answer(&mut out, 12, &Answer::Path(found))?;
     let wanted =
         "path 12 18446744073709551615 0 1 1 2\nlink 3 4 16 32 48 64\nturn 16 32 L 0\nturn 48 64 R 0\n";
-    assert_eq!(rt; out.as_slice(), wanted.as_bytes());
+    assert_eq!(rt;
+        written(alloc, 12, &Answer::Path(found))?.as_slice(),
+        wanted.as_bytes()
+    );
     Ok(())
 }

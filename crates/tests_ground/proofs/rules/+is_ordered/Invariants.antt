@@ -1,5 +1,5 @@
 use Rattle.std.proofs.Common.{length}
-use Rattle.tests_ground.proofs.cuts.+is_ordered.Given as goal
+use Rattle.tests_ground.proofs.rules.+is_ordered.Given as goal
 
 -- the spans that are left
 abbrev pub decreases-is_ordered : goal.decreases-is_ordered
