@@ -9,6 +9,7 @@ use nav_io::{
 use std::alloc::{AllocError, Global};
 use std::io;
 use std::io::Read;
+use std::process::Abort;
 
 const TEXT: &[u8] = b"abcdefghij";
 
@@ -53,33 +54,39 @@ fn read_in_pieces(
     Ok((answer, source.at, source.faults))
 }
 
-#[test]
-fn reads_everything_or_says_why_not(rt: HostRuntime) -> Result<(), AllocError> {
-    let alloc = rt.alloc();
-    // Bytes a read, bytes at most, the read that fails; the answer, bytes gone and faults.
-    let cases = [
-        (1, 10, 0, Ok(true), 10, 0),
-        (3, 10, 0, Ok(true), 10, 0),
-        (100, 11, 0, Ok(true), 10, 0),
-        (3, 9, 0, Err(ReadRefusal::TooLong), 10, 0),
-        (3, 8, 0, Err(ReadRefusal::TooLong), 9, 0),
-        (100, 0, 0, Err(ReadRefusal::TooLong), 1, 0),
-        (4, 10, 1, Err(ReadRefusal::ReadFault), 0, 1),
-        (4, 10, 2, Err(ReadRefusal::ReadFault), 4, 1),
-        (4, 10, 3, Err(ReadRefusal::ReadFault), 8, 1),
-        (4, 10, 4, Err(ReadRefusal::ReadFault), 10, 1),
-        (4, 10, 5, Ok(true), 10, 0),
-    ];
-    for (piece, most, failing, answer, gone, faults) in cases {
-        assert!(rt; 0 < piece && most < usize::MAX);
-        let read = read_in_pieces(alloc, piece, most, failing)?;
+/// Bytes a read, bytes at most, and the read that fails; the answer, bytes gone and faults.
+type Reading = (usize, usize, u32, Result<bool, ReadRefusal>, usize, u64);
+
+const READINGS: [Reading; 11] = [
+    (1, 10, 0, Ok(true), 10, 0),
+    (3, 10, 0, Ok(true), 10, 0),
+    (100, 11, 0, Ok(true), 10, 0),
+    (3, 9, 0, Err(ReadRefusal::TooLong), 10, 0),
+    (3, 8, 0, Err(ReadRefusal::TooLong), 9, 0),
+    (100, 0, 0, Err(ReadRefusal::TooLong), 1, 0),
+    (4, 10, 1, Err(ReadRefusal::ReadFault), 0, 1),
+    (4, 10, 2, Err(ReadRefusal::ReadFault), 4, 1),
+    (4, 10, 3, Err(ReadRefusal::ReadFault), 8, 1),
+    (4, 10, 4, Err(ReadRefusal::ReadFault), 10, 1),
+    (4, 10, 5, Ok(true), 10, 0),
+];
+
+fn check_readings(rt: &impl Abort, alloc: Global, rows: &[Reading]) -> Result<(), AllocError> {
+    for (piece, most, failing, answer, gone, faults) in rows {
+        assert!(rt; 0 < *piece && *most < usize::MAX);
+        let read = read_in_pieces(alloc, *piece, *most, *failing)?;
         assert_eq!(rt;
             read,
-            (answer, gone, faults),
+            (*answer, *gone, *faults),
             "pieces of {piece}, at most {most}, read {failing} fails"
         );
     }
     Ok(())
+}
+
+#[test]
+fn reads_everything_or_says_why_not(rt: HostRuntime) -> Result<(), AllocError> {
+    check_readings(&rt, rt.alloc(), &READINGS)
 }
 
 /// Writes the text to a sink that takes it in pieces and fails at one write.
@@ -97,37 +104,43 @@ fn write_in_pieces(
     Ok((answer, sink))
 }
 
-#[test]
-fn writes_everything_or_a_front_part(rt: HostRuntime) -> Result<(), AllocError> {
-    let alloc = rt.alloc();
-    // Bytes a write, the room, the write that fails; the answer, what the sink holds, and faults.
-    let cases: [(usize, usize, u32, Result<(), WriteFault>, &[u8], u64); 10] = [
-        (1, 20, 0, Ok(()), b"abcdefghij", 0),
-        (3, 10, 0, Ok(()), b"abcdefghij", 0),
-        (100, 10, 0, Ok(()), b"abcdefghij", 0),
-        (3, 9, 0, Err(WriteFault), b"abcdefghi", 1),
-        (4, 9, 0, Err(WriteFault), b"abcdefgh", 1),
-        (100, 9, 0, Err(WriteFault), b"", 1),
-        (4, 10, 1, Err(WriteFault), b"", 1),
-        (4, 10, 2, Err(WriteFault), b"abcd", 1),
-        (4, 10, 3, Err(WriteFault), b"abcdefgh", 1),
-        (4, 10, 4, Ok(()), b"abcdefghij", 0),
-    ];
-    for (piece, room, failing, wanted, held, faults) in cases {
-        assert!(rt; 0 < piece);
-        let (answer, sink) = write_in_pieces(alloc, piece, room, failing)?;
+/// Bytes a write, the room, and the write that fails; the answer, what the sink holds, and faults.
+type Writing = (usize, usize, u32, Result<(), WriteFault>, &'static str, u64);
+
+const WRITINGS: [Writing; 10] = [
+    (1, 20, 0, Ok(()), "abcdefghij", 0),
+    (3, 10, 0, Ok(()), "abcdefghij", 0),
+    (100, 10, 0, Ok(()), "abcdefghij", 0),
+    (3, 9, 0, Err(WriteFault), "abcdefghi", 1),
+    (4, 9, 0, Err(WriteFault), "abcdefgh", 1),
+    (100, 9, 0, Err(WriteFault), "", 1),
+    (4, 10, 1, Err(WriteFault), "", 1),
+    (4, 10, 2, Err(WriteFault), "abcd", 1),
+    (4, 10, 3, Err(WriteFault), "abcdefgh", 1),
+    (4, 10, 4, Ok(()), "abcdefghij", 0),
+];
+
+fn check_writings(rt: &impl Abort, alloc: Global, rows: &[Writing]) -> Result<(), AllocError> {
+    for (piece, room, failing, answer, held, faults) in rows {
+        assert!(rt; 0 < *piece);
+        let (given, sink) = write_in_pieces(alloc, *piece, *room, *failing)?;
         assert_eq!(rt;
-            (answer, sink.faults),
-            (wanted, faults),
+            (given, sink.faults),
+            (*answer, *faults),
             "pieces of {piece}, room {room}, write {failing} fails"
         );
         assert_eq!(rt;
             sink.bytes(),
-            held,
+            held.as_bytes(),
             "pieces of {piece}, room {room}, write {failing} fails"
         );
     }
     Ok(())
+}
+
+#[test]
+fn writes_everything_or_a_front_part(rt: HostRuntime) -> Result<(), AllocError> {
+    check_writings(&rt, rt.alloc(), &WRITINGS)
 }
 
 /// What is read of a source.

@@ -1,3 +1,5 @@
+//! Acts under a lock, one after the other and by many threads at once.
+
 ghost use Rattle.std.specs.Prelude.{◌≡◌, ◌≤◌, ◌<◌, IfOk, length};
 ghost use Rattle.turn_lock.specs.Locks.{IsOf, AreFresh, AreAll};
 

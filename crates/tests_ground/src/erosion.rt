@@ -101,70 +101,90 @@ fn keeps_by_hand(rt: HostRuntime) -> Result<(), AllocError> {
     Ok(())
 }
 
+const ALL: Window = Window {
+    x0: i32::MIN,
+    x1: i32::MAX,
+    z0: i32::MIN,
+    z1: i32::MAX,
+};
+
+const COLUMN: Window = Window {
+    x0: 2,
+    x1: 2,
+    ..ALL
+};
+
+const ROW: Window = Window {
+    z0: 4,
+    z1: 4,
+    ..ALL
+};
+
+const ONE_COLUMN: Window = Window {
+    x0: 3,
+    x1: 3,
+    z0: 3,
+    z1: 3,
+};
+
+const LEFT: Window = Window {
+    x0: -9,
+    x1: -1,
+    ..ALL
+};
+
+const RIGHT: Window = Window {
+    x0: 6,
+    x1: 900,
+    ..ALL
+};
+
+const EMPTY: Window = Window {
+    x0: 4,
+    x1: 2,
+    ..ALL
+};
+
+/// A window, a radius, and the cells of the window that are kept.
+type Kept = (Window, u32, &'static [(u32, u32, u32)]);
+
+const WINDOWS: [Kept; 15] = [
+    (ALL, 1, &INNER),
+    (ALL, 2, &[MIDDLE]),
+    (ALL, u32::MAX, &[]),
+    (COLUMN, 1, &[(2, 2, 0), (2, 3, 0), (2, 4, 0)]),
+    (ROW, 1, &[(2, 4, 0), (3, 4, 0), (4, 4, 0)]),
+    (ROW, 2, &[]),
+    (ONE_COLUMN, 0, &[MIDDLE, (3, 3, 3)]),
+    (ONE_COLUMN, 1, &[MIDDLE]),
+    (ONE_COLUMN, 2, &[MIDDLE]),
+    (ONE_COLUMN, 3, &[]),
+    (LEFT, 1, &[]),
+    (RIGHT, 0, &[]),
+    (RIGHT, 2, &[]),
+    (EMPTY, 0, &[]),
+    (EMPTY, 1, &[]),
+];
+
+fn check_windows(
+    rt: &impl Abort,
+    alloc: Global,
+    field: &CompactField,
+    rows: &[Kept],
+) -> Result<(), AllocError>
+    requires { IsCompact field.now.cells }
+{
+    for (window, radius, wanted) in rows {
+        let kept = erode_window(alloc, field, *window, *radius)?;
+        let kept = as_tuples(alloc, &kept)?;
+        assert_eq!(rt; kept.as_slice(), *wanted, "at {window:?} and {radius}");
+    }
+    Ok(())
+}
+
 #[test]
 fn keeps_in_windows(rt: HostRuntime) -> Result<(), AllocError> {
     let alloc = rt.alloc();
     let field = field(alloc)?;
-    let all = Window {
-        x0: i32::MIN,
-        x1: i32::MAX,
-        z0: i32::MIN,
-        z1: i32::MAX,
-    };
-    let column = Window {
-        x0: 2,
-        x1: 2,
-        ..all
-    };
-    let row = Window {
-        z0: 4,
-        z1: 4,
-        ..all
-    };
-    let middle = Window {
-        x0: 3,
-        x1: 3,
-        z0: 3,
-        z1: 3,
-    };
-    let left = Window {
-        x0: -9,
-        x1: -1,
-        ..all
-    };
-    let right = Window {
-        x0: 6,
-        x1: 900,
-        ..all
-    };
-    let empty = Window {
-        x0: 4,
-        x1: 2,
-        ..all
-    };
-    for (window, radius, wanted) in [
-        (all, 1, INNER.as_slice()),
-        (all, 2, &[MIDDLE]),
-        (all, u32::MAX, &[]),
-        (column, 1, &[(2, 2, 0), (2, 3, 0), (2, 4, 0)]),
-        (row, 1, &[(2, 4, 0), (3, 4, 0), (4, 4, 0)]),
-        (row, 2, &[]),
-        (middle, 0, &[MIDDLE, (3, 3, 3)]),
-        (middle, 1, &[MIDDLE]),
-        (middle, 2, &[MIDDLE]),
-        (middle, 3, &[]),
-        (left, 1, &[]),
-        (right, 0, &[]),
-        (right, 2, &[]),
-        (empty, 0, &[]),
-        (empty, 1, &[]),
-    ] {
-        let kept = erode_window(alloc, &field, window, radius)?;
-        assert_eq!(rt;
-            as_tuples(alloc, &kept)?.as_slice(),
-            wanted,
-            "at {window:?} and {radius}"
-        );
-    }
-    Ok(())
+    check_windows(&rt, alloc, &field, &WINDOWS)
 }

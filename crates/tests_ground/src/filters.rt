@@ -7,6 +7,7 @@ use nav_ground::{Agent, Field, Span};
 use nav_list::Items;
 use span_filters::{filtered, ledges, low_ceilings, low_hanging};
 use std::alloc::{AllocError, Global};
+use std::process::Abort;
 
 const AGENT: Agent = Agent {
     height: 10,
@@ -111,16 +112,19 @@ const LOW_HANGING: [Case; 3] = [
     ),
 ];
 
-#[test]
-fn low_hanging_by_hand(rt: HostRuntime) -> Result<(), AllocError> {
-    let alloc = rt.alloc();
-    for (spans, wanted) in LOW_HANGING {
+fn check_low_hanging(rt: &impl Abort, alloc: Global, cases: &[Case]) -> Result<(), AllocError> {
+    for (spans, wanted) in cases {
         let field = field_of(alloc, spans)?;
         assert!(rt; keeps_rules(&field));
         let areas = low_hanging(alloc, &field, &AGENT)?;
-        assert_eq!(rt; areas.as_slice(), wanted, "of {spans:?}");
+        assert_eq!(rt; areas.as_slice(), *wanted, "of {spans:?}");
     }
     Ok(())
+}
+
+#[test]
+fn low_hanging_by_hand(rt: HostRuntime) -> Result<(), AllocError> {
+    check_low_hanging(&rt, rt.alloc(), &LOW_HANGING)
 }
 
 const LOW_LEFT: Span = Span { top: 6, ..LEFT };
@@ -160,17 +164,20 @@ const LEDGES: [CaseWithAreas; 5] = [
     ),
 ];
 
-#[test]
-fn ledges_by_hand(rt: HostRuntime) -> Result<(), AllocError> {
-    let alloc = rt.alloc();
-    for (spans, areas, wanted) in LEDGES {
+fn check_ledges(rt: &impl Abort, alloc: Global, cases: &[CaseWithAreas]) -> Result<(), AllocError> {
+    for (spans, areas, wanted) in cases {
         let field = field_of(alloc, spans)?;
         assert!(rt; keeps_rules(&field) && are_areas(areas));
         assert_eq!(rt; areas.len(), spans.len());
         let left = ledges(alloc, &field, areas, &AGENT)?;
-        assert_eq!(rt; left.as_slice(), wanted, "of {spans:?}");
+        assert_eq!(rt; left.as_slice(), *wanted, "of {spans:?}");
     }
     Ok(())
+}
+
+#[test]
+fn ledges_by_hand(rt: HostRuntime) -> Result<(), AllocError> {
+    check_ledges(&rt, rt.alloc(), &LEDGES)
 }
 
 /// A roof as high as the agent, and one that is lower.
@@ -187,17 +194,24 @@ const LOW_CEILINGS: [CaseWithAreas; 2] = [
     ),
 ];
 
-#[test]
-fn ceilings_by_hand(rt: HostRuntime) -> Result<(), AllocError> {
-    let alloc = rt.alloc();
-    for (spans, areas, wanted) in LOW_CEILINGS {
+fn check_ceilings(
+    rt: &impl Abort,
+    alloc: Global,
+    cases: &[CaseWithAreas],
+) -> Result<(), AllocError> {
+    for (spans, areas, wanted) in cases {
         let field = field_of(alloc, spans)?;
         assert!(rt; keeps_rules(&field) && are_areas(areas));
         assert_eq!(rt; areas.len(), spans.len());
         let left = low_ceilings(alloc, &field, areas, &AGENT)?;
-        assert_eq!(rt; left.as_slice(), wanted, "of {spans:?}");
+        assert_eq!(rt; left.as_slice(), *wanted, "of {spans:?}");
     }
     Ok(())
+}
+
+#[test]
+fn ceilings_by_hand(rt: HostRuntime) -> Result<(), AllocError> {
+    check_ceilings(&rt, rt.alloc(), &LOW_CEILINGS)
 }
 
 /// All three filters, on a step, two steps, a room and a low room.
@@ -220,14 +234,17 @@ const FILTERED: [Case; 4] = [
     ),
 ];
 
-#[test]
-fn filtered_by_hand(rt: HostRuntime) -> Result<(), AllocError> {
-    let alloc = rt.alloc();
-    for (spans, wanted) in FILTERED {
+fn check_filtered(rt: &impl Abort, alloc: Global, cases: &[Case]) -> Result<(), AllocError> {
+    for (spans, wanted) in cases {
         let field = field_of(alloc, spans)?;
         assert!(rt; keeps_rules(&field));
         let areas = filtered(alloc, &field, &AGENT)?;
-        assert_eq!(rt; areas.as_slice(), wanted, "of {spans:?}");
+        assert_eq!(rt; areas.as_slice(), *wanted, "of {spans:?}");
     }
     Ok(())
+}
+
+#[test]
+fn filtered_by_hand(rt: HostRuntime) -> Result<(), AllocError> {
+    check_filtered(&rt, rt.alloc(), &FILTERED)
 }

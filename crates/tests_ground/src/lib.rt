@@ -19,4 +19,6 @@ mod neighbours;
 #[cfg(test)]
 mod rows;
 #[cfg(test)]
+mod rules;
+#[cfg(test)]
 mod tiles_and_shapes;

@@ -11,52 +11,55 @@ use std::alloc::{AllocError, Global};
 use std::process::Abort;
 
 /// The four columns from (1, 1) to (2, 2); the cell of (2, 1) is connected to one of (3, 1) too, which lies in another tile.
-const CELLS: [Cell; 4] = [
-    Cell {
-        at: CellRef {
-            x: 1,
-            z: 1,
-            level: 0,
-        },
-        floor: 3,
-        ceiling: 65535,
-        area: 63,
-        next: [None, Some(0), Some(0), None],
+const FIRST: Cell = Cell {
+    at: CellRef {
+        x: 1,
+        z: 1,
+        level: 0,
     },
-    Cell {
-        at: CellRef {
-            x: 2,
-            z: 1,
-            level: 0,
-        },
-        floor: 4,
-        ceiling: 65535,
-        area: 63,
-        next: [Some(0), Some(0), Some(7), None],
+    floor: 3,
+    ceiling: 65535,
+    area: 63,
+    next: [None, Some(0), Some(0), None],
+};
+
+const SECOND: Cell = Cell {
+    at: CellRef {
+        x: 2,
+        z: 1,
+        level: 0,
     },
-    Cell {
-        at: CellRef {
-            x: 1,
-            z: 2,
-            level: 0,
-        },
-        floor: 5,
-        ceiling: 65535,
-        area: 63,
-        next: [None, None, Some(0), Some(0)],
+    floor: 4,
+    ceiling: 65535,
+    area: 63,
+    next: [Some(0), Some(0), Some(7), None],
+};
+
+const THIRD: Cell = Cell {
+    at: CellRef {
+        x: 1,
+        z: 2,
+        level: 0,
     },
-    Cell {
-        at: CellRef {
-            x: 2,
-            z: 2,
-            level: 0,
-        },
-        floor: 6,
-        ceiling: 65535,
-        area: 63,
-        next: [Some(0), None, None, Some(0)],
+    floor: 5,
+    ceiling: 65535,
+    area: 63,
+    next: [None, None, Some(0), Some(0)],
+};
+
+const FOURTH: Cell = Cell {
+    at: CellRef {
+        x: 2,
+        z: 2,
+        level: 0,
     },
-];
+    floor: 6,
+    ceiling: 65535,
+    area: 63,
+    next: [Some(0), None, None, Some(0)],
+};
+
+const CELLS: [Cell; 4] = [FIRST, SECOND, THIRD, FOURTH];
 
 fn layer(alloc: Global) -> Result<Layer, AllocError>
     ensures cut { IfOk result (λ layer. IsCut layer.cells) }
@@ -135,52 +138,67 @@ const POND: Shape = Shape::AreaCylinder {
     y1: 6,
 };
 
+/// What is left beside the corner.
+const SECOND_LEFT: Cell = Cell {
+    next: [None, Some(0), Some(7), None],
+    ..SECOND
+};
+
+const THIRD_LEFT: Cell = Cell {
+    next: [None, None, Some(0), None],
+    ..THIRD
+};
+
+const BESIDE_CORNER: [Cell; 3] = [SECOND_LEFT, THIRD_LEFT, FOURTH];
+
+/// What is left beside the disc.
+const BESIDE_DISC: [Cell; 2] = [
+    Cell {
+        next: [None, Some(0), None, None],
+        ..FIRST
+    },
+    Cell {
+        next: [None, None, None, Some(0)],
+        ..THIRD
+    },
+];
+
+/// The third cell alone, in mud.
+const ALONE: Cell = Cell {
+    area: 5,
+    next: [None; 4],
+    ..THIRD
+};
+
 #[test]
-fn marks_by_hand(rt: HostRuntime) -> Result<(), AllocError> {
+fn leaves_what_stands_free(rt: HostRuntime) -> Result<(), AllocError> {
     let alloc = rt.alloc();
-    let [first, second, third, fourth] = CELLS;
     check(&rt, alloc, &[], &CELLS)?;
     check(&rt, alloc, &[TOO_LOW], &CELLS)?;
-    let beside_corner = [
-        Cell {
-            next: [None, Some(0), Some(7), None],
-            ..second
-        },
-        Cell {
-            next: [None, None, Some(0), None],
-            ..third
-        },
-        fourth,
-    ];
-    check(&rt, alloc, &[CORNER], &beside_corner)?;
-    let beside_disc = [
-        Cell {
-            next: [None, Some(0), None, None],
-            ..first
-        },
-        Cell {
-            next: [None, None, None, Some(0)],
-            ..third
-        },
-    ];
-    check(&rt, alloc, &[DISC], &beside_disc)?;
-    let [second, third, fourth] = beside_corner;
+    check(&rt, alloc, &[CORNER], &BESIDE_CORNER)?;
+    check(&rt, alloc, &[DISC], &BESIDE_DISC)
+}
+
+/// A cell with another area.
+fn with_area(area: u32, cell: Cell) -> Cell {
+    Cell { area, ..cell }
+}
+
+#[test]
+fn sets_the_last_area(rt: HostRuntime) -> Result<(), AllocError> {
+    let alloc = rt.alloc();
+    let [second, third, fourth] = BESIDE_CORNER;
     let muddy = [
-        Cell { area: 5, ..second },
-        Cell { area: 9, ..third },
-        Cell { area: 9, ..fourth },
+        with_area(5, second),
+        with_area(9, third),
+        with_area(9, fourth),
     ];
     check(&rt, alloc, &[MUD, POND, CORNER], &muddy)?;
     let all_mud = [
-        Cell { area: 5, ..second },
-        Cell { area: 5, ..third },
-        Cell { area: 5, ..fourth },
+        with_area(5, second),
+        with_area(5, third),
+        with_area(5, fourth),
     ];
     check(&rt, alloc, &[POND, CORNER, MUD], &all_mud)?;
-    let alone = [Cell {
-        area: 5,
-        next: [None; 4],
-        ..third
-    }];
-    check(&rt, alloc, &[DISC, CORNER, MUD], &alone)
+    check(&rt, alloc, &[DISC, CORNER, MUD], &[ALONE])
 }

@@ -1,10 +1,13 @@
 //! Tiles and shapes by hand.
 
+ghost use Rattle.nav_ground.specs.Limits.{IsShape};
+
 use nav_ground::{
     AREAS, Agent, MeshKind, Setting, Shape, Window, bounds, covers, sets, tile_bounds, tiles,
 };
 use nav_list::Duplicate;
 use std::alloc::AllocError;
+use std::process::Abort;
 
 /// 10 by 7 columns in tiles of 4: three tiles in a row, two rows.
 const SETTING: Setting = Setting {
@@ -96,37 +99,52 @@ fn tiles_by_hand(rt: HostRuntime) -> Result<(), AllocError> {
     Ok(())
 }
 
-#[test]
-fn shapes_by_hand(rt: HostRuntime) {
-    for (x, z, floor, wanted) in [
-        (2, 1, 3, true),
-        (4, 6, 5, true),
-        (1, 1, 3, false),
-        (5, 6, 5, false),
-        (2, 0, 3, false),
-        (4, 7, 5, false),
-        (2, 1, 2, false),
-        (4, 6, 6, false),
-    ] {
+/// A column, the height of a floor, and whether the shape covers that.
+type Covered = (u32, u32, u32, bool);
+
+const BY_BLOCK: [Covered; 8] = [
+    (2, 1, 3, true),
+    (4, 6, 5, true),
+    (1, 1, 3, false),
+    (5, 6, 5, false),
+    (2, 0, 3, false),
+    (4, 7, 5, false),
+    (2, 1, 2, false),
+    (4, 6, 6, false),
+];
+
+const BY_DISC: [Covered; 6] = [
+    (4, 4, 10, true),
+    (4, 4, 11, false),
+    (5, 2, 0, true),
+    (0, 2, 0, true),
+    (0, 1, 0, false),
+    (6, 2, 0, false),
+];
+
+const BY_DISC_LEFT: [Covered; 3] = [(4, 4, 0, false), (3, 4, 0, true), (u32::MAX, 4, 0, false)];
+
+fn check_covers(rt: &impl Abort, shape: &Shape, rows: &[Covered])
+    requires { IsShape shape.now }
+{
+    for (x, z, floor, wanted) in rows {
         assert_eq!(rt;
-            covers(&BLOCK, x, z, floor),
-            wanted,
+            covers(shape, *x, *z, *floor),
+            *wanted,
             "at ({x}, {z}) {floor}"
         );
     }
-    for (x, z, floor, wanted) in [
-        (4, 4, 10, true),
-        (4, 4, 11, false),
-        (5, 2, 0, true),
-        (0, 2, 0, true),
-        (0, 1, 0, false),
-        (6, 2, 0, false),
-    ] {
-        assert_eq!(rt; covers(&DISC, x, z, floor), wanted, "at ({x}, {z}) {floor}");
-    }
-    for (x, z, wanted) in [(4, 4, false), (3, 4, true), (u32::MAX, 4, false)] {
-        assert_eq!(rt; covers(&DISC_LEFT, x, z, 0), wanted, "at ({x}, {z})");
-    }
+}
+
+#[test]
+fn shapes_cover_columns(rt: HostRuntime) {
+    check_covers(&rt, &BLOCK, &BY_BLOCK);
+    check_covers(&rt, &DISC, &BY_DISC);
+    check_covers(&rt, &DISC_LEFT, &BY_DISC_LEFT);
+}
+
+#[test]
+fn shapes_have_bounds(rt: HostRuntime) {
     assert_eq!(rt; bounds(&BLOCK), window(2, 4, 1, 6));
     assert_eq!(rt; bounds(&DISC), window(0, 5, 0, 4));
     assert_eq!(rt; bounds(&MUD), window(0, 0, 1023, 1023));

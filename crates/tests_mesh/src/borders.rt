@@ -10,6 +10,7 @@ use nav_base::Point;
 use nav_ground::{AREAS, Agent, FreeLayer, MeshKind, Setting};
 use nav_list::Items;
 use std::alloc::{AllocError, Global};
+use std::process::Abort;
 use tile_links::{across, rim_links, whole};
 
 const SETTING: Setting = Setting {
@@ -150,12 +151,18 @@ fn link(from: (u32, u32), edge: u32, to: (u32, u32), left: i32, right: i32) -> L
     }
 }
 
-/// The links from the left tile to the right one, and back.
-fn both_ways(alloc: Global) -> Result<(Vec<Link>, Vec<Link>), AllocError> {
-    let (one, other) = (left(alloc)?, right(alloc)?);
-    let there = rim_links(alloc, &one, &other, 2)?;
-    let back = rim_links(alloc, &other, &one, 0)?;
-    Ok((there, back))
+/// The links from the left tile to the right one.
+fn rightward(alloc: Global) -> Result<Vec<Link>, AllocError> {
+    let one = left(alloc)?;
+    let other = right(alloc)?;
+    rim_links(alloc, &one, &other, 2)
+}
+
+/// The links from the right tile to the left one.
+fn leftward(alloc: Global) -> Result<Vec<Link>, AllocError> {
+    let one = left(alloc)?;
+    let other = right(alloc)?;
+    rim_links(alloc, &other, &one, 0)
 }
 
 fn mesh(alloc: Global) -> Result<Mesh, AllocError> {
@@ -172,35 +179,50 @@ fn beside(tile: u32, side: u32) -> Option<u32>
     across(&SETTING, tile, side)
 }
 
+/// The links over the border to the right, and to the left.
+fn wanted() -> ([Link; 3], [Link; 3]) {
+    (
+        [
+            link((0, 0), 1, (1, 0), 16, 0),
+            link((0, 0), 1, (1, 0), 64, 48),
+            link((0, 0), 1, (1, 1), 48, 16),
+        ],
+        [
+            link((1, 0), 3, (0, 0), 0, 16),
+            link((1, 0), 3, (0, 0), 48, 64),
+            link((1, 1), 3, (0, 0), 16, 48),
+        ],
+    )
+}
+
 #[test]
-fn two_tiles_by_hand(rt: HostRuntime) -> Result<(), AllocError> {
+fn links_lead_both_ways(rt: HostRuntime) -> Result<(), AllocError> {
     let alloc = rt.alloc();
-    let rightward = [
-        link((0, 0), 1, (1, 0), 16, 0),
-        link((0, 0), 1, (1, 0), 64, 48),
-        link((0, 0), 1, (1, 1), 48, 16),
-    ];
-    let leftward = [
-        link((1, 0), 3, (0, 0), 0, 16),
-        link((1, 0), 3, (0, 0), 48, 64),
-        link((1, 1), 3, (0, 0), 16, 48),
-    ];
-    let (there, back) = both_ways(alloc)?;
-    assert_eq!(rt; there.as_slice(), rightward.as_slice());
-    assert_eq!(rt; back.as_slice(), leftward.as_slice());
-    assert_eq!(rt;
-        (beside(0, 0), beside(0, 1), beside(0, 2)),
-        (None, None, Some(1))
-    );
-    assert_eq!(rt;
-        (beside(1, 0), beside(1, 2), beside(1, 3)),
-        (Some(0), None, None)
-    );
-    let mesh = mesh(alloc)?;
+    let (to_right, to_left) = wanted();
+    assert_eq!(rt; rightward(alloc)?.as_slice(), to_right.as_slice());
+    assert_eq!(rt; leftward(alloc)?.as_slice(), to_left.as_slice());
+    Ok(())
+}
+
+#[test]
+fn tiles_lie_beside_each_other(rt: HostRuntime) {
+    let of_left = [beside(0, 0), beside(0, 1), beside(0, 2)];
+    assert_eq!(rt; of_left, [None, None, Some(1)]);
+    let of_right = [beside(1, 0), beside(1, 2), beside(1, 3)];
+    assert_eq!(rt; of_right, [Some(0), None, None]);
+}
+
+fn check_cross(rt: &impl Abort, mesh: &Mesh, tile: usize, wanted: &[Link]) {
+    let links = mesh.cross.get(tile).map(|links| links.get().as_slice());
+    assert_eq!(rt; links, Some(wanted), "of tile {tile}");
+}
+
+#[test]
+fn a_mesh_has_the_links_of_each_tile(rt: HostRuntime) -> Result<(), AllocError> {
+    let mesh = mesh(rt.alloc())?;
+    let (to_right, to_left) = wanted();
     assert_eq!(rt; mesh.cross.len(), 2);
-    for (place, wanted) in [(0, &rightward), (1, &leftward)] {
-        let links = mesh.cross.get(place).map(|links| links.get().as_slice());
-        assert_eq!(rt; links, Some(wanted.as_slice()), "of tile {place}");
-    }
+    check_cross(&rt, &mesh, 0, &to_right);
+    check_cross(&rt, &mesh, 1, &to_left);
     Ok(())
 }

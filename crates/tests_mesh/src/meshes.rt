@@ -11,10 +11,10 @@ use nav_ground::{AREAS, Agent, FreeLayer, MeshKind, Setting};
 use nav_list::{Duplicate, Items};
 use nav_share::Shared;
 use std::alloc::{AllocError, Global};
-use std::test::Fail;
+use std::process::Abort;
 
 #[test]
-fn finds_runs(rt: HostRuntime) -> Result<(), Fail> {
+fn finds_runs(rt: HostRuntime) -> Result<(), AllocError> {
     let alloc = rt.alloc();
     let labels = [
         Some(4),
@@ -71,8 +71,7 @@ fn link(from: (u32, u32), edge: u32, to: (u32, u32), x: i32) -> Link
 }
 
 #[test]
-fn puts_links_in_order(rt: HostRuntime) -> Result<(), Fail> {
-    let alloc = rt.alloc();
+fn puts_links_in_order(rt: HostRuntime) {
     let wanted = [
         link((0, 0), 0, (0, 2), 16),
         link((0, 0), 2, (0, 1), 16),
@@ -84,14 +83,27 @@ fn puts_links_in_order(rt: HostRuntime) -> Result<(), Fail> {
     let mut links = [d, b, e, c, a];
     order_links(&mut links);
     assert_eq!(rt; links, wanted);
+}
+
+/// A polygon, and how many links leave it.
+const COUNTS: [(u32, usize); 5] = [(0, 1), (1, 0), (2, 0), (3, 0), (4000000000, 0)];
+
+fn check_counts(rt: &impl Abort, list: &Links, rows: &[(u32, usize)]) {
+    for (polygon, count) in rows {
+        assert_eq!(rt; list.leaving(*polygon).len(), *count);
+    }
+}
+
+#[test]
+fn finds_links(rt: HostRuntime) -> Result<(), AllocError> {
+    let alloc = rt.alloc();
+    let only = link((0, 0), 0, (0, 2), 16);
     let mut list = Vec::new(alloc);
-    list.push(a)?;
+    list.push(only)?;
     let list = Links::new(alloc, list, 3)?;
     assert_eq!(rt; list.len(), 1);
-    for (polygon, count) in [(0, 1), (1, 0), (2, 0), (3, 0), (4000000000, 0)] {
-        assert_eq!(rt; list.leaving(polygon).len(), count);
-    }
-    assert_eq!(rt; list.leaving(0).first(), Some(&a));
+    check_counts(&rt, &list, &COUNTS);
+    assert_eq!(rt; list.leaving(0).first(), Some(&only));
     Ok(())
 }
 
@@ -150,25 +162,45 @@ fn mesh(alloc: Global) -> Result<Mesh, AllocError> {
     })
 }
 
-#[test]
-fn looks_polygons_up(rt: HostRuntime) -> Result<(), Fail> {
-    let alloc = rt.alloc();
-    let mesh = copy_mesh(alloc, &mesh(alloc)?)?;
-    for (tile, index, area) in [
-        (0, 0, Some(63)),
-        (0, 1, Some(5)),
-        (0, 2, None),
-        (1, 0, None),
-    ] {
-        let found = poly(&mesh, PolyRef { tile, index });
-        assert_eq!(rt; found.map(|polygon| polygon.area), area);
-        if let Some(polygon) = found {
+/// A tile, an index, and the area of the polygon there.
+const AREAS_THERE: [(u32, u32, Option<u32>); 4] = [
+    (0, 0, Some(63)),
+    (0, 1, Some(5)),
+    (0, 2, None),
+    (1, 0, None),
+];
+
+fn check_areas(rt: &impl Abort, mesh: &Mesh, rows: &[(u32, u32, Option<u32>)]) {
+    for (tile, index, area) in rows {
+        let at = PolyRef {
+            tile: *tile,
+            index: *index,
+        };
+        assert_eq!(rt; poly(mesh, at).map(|polygon| polygon.area), *area);
+        if let Some(polygon) = poly(mesh, at) {
             assert_eq!(rt; polygon.corners.as_slice().len(), 4);
-            assert_eq!(rt; polygon.duplicate(alloc)?, *polygon);
         }
     }
-    let copy = copy_tile(alloc, &tile(alloc)?)?;
-    assert_eq!(rt; copy.polys.len(), 2);
-    assert!(rt; copy.links.as_slice().is_empty());
+}
+
+#[test]
+fn looks_polygons_up(rt: HostRuntime) -> Result<(), AllocError> {
+    let alloc = rt.alloc();
+    let mesh = mesh(alloc)?;
+    let copy = copy_mesh(alloc, &mesh)?;
+    check_areas(&rt, &copy, &AREAS_THERE);
+    Ok(())
+}
+
+#[test]
+fn copies_polygons_and_tiles(rt: HostRuntime) -> Result<(), AllocError> {
+    let alloc = rt.alloc();
+    for area in [63, 5] {
+        let polygon = square(area);
+        assert!(rt; polygon.duplicate(alloc)? == polygon);
+    }
+    let tile = tile(alloc)?;
+    let copy = copy_tile(alloc, &tile)?;
+    assert_eq!(rt; (copy.polys.len(), copy.links.len()), (2, 0));
     Ok(())
 }

@@ -10,37 +10,21 @@ use funnel_path::pull;
 use mesh_types::{Corner, Portal, Side};
 use nav_base::{Point, orient};
 use std::alloc::{AllocError, Global};
-use std::test::Fail;
+use std::process::Abort;
 
-fn at(x: i32, z: i32) -> Point {
-    Point { x, z }
-}
+/// A portal by x and z of its left end and of its right end.
+type Ends = (i32, i32, i32, i32);
 
-/// A portal by its left end and its right end.
-fn portal(left_x: i32, left_z: i32, right_x: i32, right_z: i32) -> Portal {
-    Portal {
-        left: at(left_x, left_z),
-        right: at(right_x, right_z),
-    }
-}
+/// A corner by its side, x, z and portal.
+type Turn = (Side, i32, i32, u32);
 
-/// A corner at the left end of a portal.
-fn left(x: i32, z: i32, portal: u32) -> Corner {
-    Corner {
-        at: at(x, z),
-        side: Side::L,
-        portal,
-    }
-}
-
-/// A corner at the right end of a portal.
-fn right(x: i32, z: i32, portal: u32) -> Corner {
-    Corner {
-        at: at(x, z),
-        side: Side::R,
-        portal,
-    }
-}
+/// A start, portals, a goal, and the corners of the path through them.
+type Chain = (
+    (i32, i32),
+    &'static [Ends],
+    (i32, i32),
+    &'static [Turn],
+);
 
 /// Whether a point has coordinates.
 fn has_coordinates(p: Point) -> bool
@@ -148,245 +132,181 @@ fn is_small_chain(start: Point, portals: &[Portal], goal: Point) -> bool
     true
 }
 
-/// Whether the path through a small chain has these corners.
-fn pulls(
+/// The corners of the path through a small chain; none of the path through any other.
+fn pulled(
     alloc: Global,
     start: Point,
     portals: &[Portal],
     goal: Point,
-    corners: &[Corner],
-) -> Result<bool, AllocError> {
+) -> Result<Option<Vec<Corner>>, AllocError> {
     if !is_small_chain(start, portals, goal) {
-        return Ok(false);
+        return Ok(None);
     }
-    Ok(pull(alloc, start, portals, goal)?.as_slice() == corners)
+    Ok(Some(pull(alloc, start, portals, goal)?))
 }
 
-#[test]
-fn goes_straight_through(rt: HostRuntime) -> Result<(), Fail> {
-    let alloc = rt.alloc();
+fn at(place: (i32, i32)) -> Point {
+    Point {
+        x: place.0,
+        z: place.1,
+    }
+}
+
+fn portals_of(alloc: Global, ends: &[Ends]) -> Result<Vec<Portal>, AllocError> {
+    let mut portals = Vec::new(alloc);
+    for (left_x, left_z, right_x, right_z) in ends {
+        portals.push(Portal {
+            left: at((*left_x, *left_z)),
+            right: at((*right_x, *right_z)),
+        })?;
+    }
+    Ok(portals)
+}
+
+fn corners_of(alloc: Global, turns: &[Turn]) -> Result<Vec<Corner>, AllocError> {
+    let mut corners = Vec::new(alloc);
+    for (side, x, z, portal) in turns {
+        corners.push(Corner {
+            at: at((*x, *z)),
+            side: *side,
+            portal: *portal,
+        })?;
+    }
+    Ok(corners)
+}
+
+fn check(rt: &impl Abort, alloc: Global, chains: &[Chain]) -> Result<(), AllocError> {
+    for (start, ends, goal, turns) in chains {
+        let portals = portals_of(alloc, ends)?;
+        let found = pulled(alloc, at(*start), portals.as_slice(), at(*goal))?;
+        let wanted = corners_of(alloc, turns)?;
+        assert!(rt; found == Some(wanted), "through {ends:?}");
+    }
+    Ok(())
+}
+
+const STRAIGHT: [Chain; 4] = [
     // no portals
-    let portals: [Portal; 0] = [];
-    let corners: [Corner; 0] = [];
-    assert!(rt; pulls(alloc, at(0, 0), &portals, at(5, 5), &corners)?);
+    ((0, 0), &[], (5, 5), &[]),
     // two portals in a row
-    let portals = [portal(-8, 0, 8, 0), portal(-8, 8, 8, 8)];
-    let corners: [Corner; 0] = [];
-    assert!(rt; pulls(alloc, at(0, -8), &portals, at(0, 16), &corners)?);
+    ((0, -8), &[(-8, 0, 8, 0), (-8, 8, 8, 8)], (0, 16), &[]),
     // three portals, crosswise
-    let portals = [
-        portal(16, 32, 80, 32),
-        portal(16, 48, 80, 48),
-        portal(16, 64, 80, 64),
-    ];
-    let corners: [Corner; 0] = [];
-    assert!(rt; pulls(alloc, at(24, 24), &portals, at(72, 72), &corners)?);
+    ((24, 24), &[(16, 32, 80, 32), (16, 48, 80, 48), (16, 64, 80, 64)], (72, 72), &[]),
     // the start lies inside the first of three
-    let corners: [Corner; 0] = [];
-    assert!(rt; pulls(alloc, at(48, 32), &portals, at(48, 72), &corners)?);
-    Ok(())
-}
+    ((48, 32), &[(16, 32, 80, 32), (16, 48, 80, 48), (16, 64, 80, 64)], (48, 72), &[]),
+];
 
 #[test]
-fn goes_straight_on_lines(rt: HostRuntime) -> Result<(), Fail> {
-    let alloc = rt.alloc();
+fn goes_straight_through(rt: HostRuntime) -> Result<(), AllocError> {
+    check(&rt, rt.alloc(), &STRAIGHT)
+}
+
+const ON_LINES: [Chain; 4] = [
     // start and goal at one point of the portal
-    let portals = [portal(16, 48, 80, 48)];
-    let corners: [Corner; 0] = [];
-    assert!(rt; pulls(alloc, at(48, 48), &portals, at(48, 48), &corners)?);
+    ((48, 48), &[(16, 48, 80, 48)], (48, 48), &[]),
     // start and goal inside it
-    let portals = [portal(0, 8, 16, 8)];
-    let corners: [Corner; 0] = [];
-    assert!(rt; pulls(alloc, at(8, 8), &portals, at(8, 8), &corners)?);
+    ((8, 8), &[(0, 8, 16, 8)], (8, 8), &[]),
     // two portals on one line, from a point of both
-    let portals = [portal(0, 8, 16, 8), portal(4, 8, 24, 8)];
-    let corners: [Corner; 0] = [];
-    assert!(rt; pulls(alloc, at(8, 8), &portals, at(8, 16), &corners)?);
+    ((8, 8), &[(0, 8, 16, 8), (4, 8, 24, 8)], (8, 16), &[]),
     // one portal twice
-    let portals = [portal(0, 8, 8, 8), portal(0, 8, 8, 8)];
-    let corners: [Corner; 0] = [];
-    assert!(rt; pulls(alloc, at(4, 0), &portals, at(4, 16), &corners)?);
-    Ok(())
-}
+    ((4, 0), &[(0, 8, 8, 8), (0, 8, 8, 8)], (4, 16), &[]),
+];
 
 #[test]
-fn turns_at_ends(rt: HostRuntime) -> Result<(), Fail> {
-    let alloc = rt.alloc();
+fn goes_straight_on_lines(rt: HostRuntime) -> Result<(), AllocError> {
+    check(&rt, rt.alloc(), &ON_LINES)
+}
+
+const AT_ENDS: [Chain; 5] = [
     // to the left
-    let portals = [portal(0, 8, 16, 8), portal(-16, 16, 0, 16)];
-    let corners = [left(0, 8, 0)];
-    assert!(rt; pulls(alloc, at(8, 0), &portals, at(-12, 20), &corners)?);
+    ((8, 0), &[(0, 8, 16, 8), (-16, 16, 0, 16)], (-12, 20), &[(Side::L, 0, 8, 0)]),
     // to the right
-    let portals = [portal(-16, 8, 0, 8), portal(0, 16, 16, 16)];
-    let corners = [right(0, 8, 0)];
-    assert!(rt; pulls(alloc, at(-8, 0), &portals, at(12, 20), &corners)?);
+    ((-8, 0), &[(-16, 8, 0, 8), (0, 16, 16, 16)], (12, 20), &[(Side::R, 0, 8, 0)]),
     // left, right and left
-    let portals = [
-        portal(0, 8, 16, 8),
-        portal(-32, 24, -16, 24),
-        portal(16, 48, 32, 48),
-    ];
-    let corners = [left(0, 8, 0), right(-16, 24, 1), left(16, 48, 2)];
-    assert!(rt; pulls(alloc, at(8, 0), &portals, at(24, 64), &corners)?);
+    ((8, 0), &[(0, 8, 16, 8), (-32, 24, -16, 24), (16, 48, 32, 48)], (24, 64), &[(Side::L, 0, 8, 0), (Side::R, -16, 24, 1), (Side::L, 16, 48, 2)]),
     // twice to the left
-    let portals = [
-        portal(20, 10, 40, 10),
-        portal(10, 30, 40, 30),
-        portal(-20, 50, 5, 50),
-    ];
-    let corners = [left(10, 30, 1), left(-20, 50, 2)];
-    assert!(rt; pulls(alloc, at(30, 0), &portals, at(-30, 55), &corners)?);
+    ((30, 0), &[(20, 10, 40, 10), (10, 30, 40, 30), (-20, 50, 5, 50)], (-30, 55), &[(Side::L, 10, 30, 1), (Side::L, -20, 50, 2)]),
     // the goal beyond two left ends in line
-    let portals = [portal(0, 8, 8, 8), portal(0, 16, 8, 16)];
-    let corners = [left(0, 16, 1)];
-    assert!(rt; pulls(alloc, at(0, 0), &portals, at(0, 24), &corners)?);
-    Ok(())
-}
+    ((0, 0), &[(0, 8, 8, 8), (0, 16, 8, 16)], (0, 24), &[(Side::L, 0, 16, 1)]),
+];
 
 #[test]
-fn turns_round_several_ends(rt: HostRuntime) -> Result<(), Fail> {
-    let alloc = rt.alloc();
+fn turns_at_ends(rt: HostRuntime) -> Result<(), AllocError> {
+    check(&rt, rt.alloc(), &AT_ENDS)
+}
+
+const ROUND_SEVERAL: [Chain; 2] = [
     // a half turn round two ends
-    let portals = [
-        portal(16, 32, 48, 32),
-        portal(16, 48, 48, 48),
-        portal(16, 64, 48, 64),
-        portal(16, 80, 48, 80),
-        portal(16, 96, 48, 96),
-        portal(112, 96, 64, 96),
-        portal(112, 80, 64, 80),
-        portal(112, 64, 64, 64),
-        portal(112, 48, 64, 48),
-        portal(112, 32, 64, 32),
-    ];
-    let corners = [right(48, 96, 4), right(64, 96, 5)];
-    assert!(rt; pulls(alloc, at(40, 24), &portals, at(72, 24), &corners)?);
+    ((40, 24), &[(16, 32, 48, 32), (16, 48, 48, 48), (16, 64, 48, 64), (16, 80, 48, 80), (16, 96, 48, 96), (112, 96, 64, 96), (112, 80, 64, 80), (112, 64, 64, 64), (112, 48, 64, 48), (112, 32, 64, 32)], (72, 24), &[(Side::R, 48, 96, 4), (Side::R, 64, 96, 5)]),
     // down, to the right, and up again
-    let portals = [
-        portal(48, 48, 16, 48),
-        portal(64, 48, 64, 32),
-        portal(80, 48, 112, 48),
-        portal(80, 64, 112, 64),
-    ];
-    let corners = [left(48, 48, 0), left(64, 48, 1), left(80, 48, 2)];
-    assert!(rt; pulls(alloc, at(40, 56), &portals, at(88, 72), &corners)?);
-    Ok(())
-}
+    ((40, 56), &[(48, 48, 16, 48), (64, 48, 64, 32), (80, 48, 112, 48), (80, 64, 112, 64)], (88, 72), &[(Side::L, 48, 48, 0), (Side::L, 64, 48, 1), (Side::L, 80, 48, 2)]),
+];
 
 #[test]
-fn names_an_end_at_the_start_or_the_goal(rt: HostRuntime) -> Result<(), Fail> {
-    let alloc = rt.alloc();
+fn turns_round_several_ends(rt: HostRuntime) -> Result<(), AllocError> {
+    check(&rt, rt.alloc(), &ROUND_SEVERAL)
+}
+
+const AT_START_OR_GOAL: [Chain; 8] = [
     // the start is the left end
-    let portals = [portal(0, 8, 16, 8)];
-    let corners = [left(0, 8, 0)];
-    assert!(rt; pulls(alloc, at(0, 8), &portals, at(8, 16), &corners)?);
+    ((0, 8), &[(0, 8, 16, 8)], (8, 16), &[(Side::L, 0, 8, 0)]),
     // the right end
-    let corners = [right(16, 8, 0)];
-    assert!(rt; pulls(alloc, at(16, 8), &portals, at(8, 16), &corners)?);
+    ((16, 8), &[(0, 8, 16, 8)], (8, 16), &[(Side::R, 16, 8, 0)]),
     // the goal is the left end
-    let corners = [left(0, 8, 0)];
-    assert!(rt; pulls(alloc, at(8, 0), &portals, at(0, 8), &corners)?);
+    ((8, 0), &[(0, 8, 16, 8)], (0, 8), &[(Side::L, 0, 8, 0)]),
     // the right end
-    let corners = [right(16, 8, 0)];
-    assert!(rt; pulls(alloc, at(8, 0), &portals, at(16, 8), &corners)?);
+    ((8, 0), &[(0, 8, 16, 8)], (16, 8), &[(Side::R, 16, 8, 0)]),
     // the start lies beside the portal, on its line
-    let corners = [right(16, 8, 0)];
-    assert!(rt; pulls(alloc, at(24, 8), &portals, at(8, 16), &corners)?);
+    ((24, 8), &[(0, 8, 16, 8)], (8, 16), &[(Side::R, 16, 8, 0)]),
     // on the other side
-    let corners = [left(0, 8, 0)];
-    assert!(rt; pulls(alloc, at(-8, 8), &portals, at(8, 16), &corners)?);
+    ((-8, 8), &[(0, 8, 16, 8)], (8, 16), &[(Side::L, 0, 8, 0)]),
     // the goal lies beside the portal, on its line
-    let corners = [right(16, 8, 0)];
-    assert!(rt; pulls(alloc, at(8, 0), &portals, at(24, 8), &corners)?);
+    ((8, 0), &[(0, 8, 16, 8)], (24, 8), &[(Side::R, 16, 8, 0)]),
     // and there is another portal
-    let portals = [portal(0, 0, 16, 0), portal(0, 8, 16, 8)];
-    let corners = [right(16, 0, 0)];
-    assert!(rt; pulls(alloc, at(24, 0), &portals, at(8, 16), &corners)?);
-    Ok(())
-}
+    ((24, 0), &[(0, 0, 16, 0), (0, 8, 16, 8)], (8, 16), &[(Side::R, 16, 0, 0)]),
+];
 
 #[test]
-fn turns_round_shared_ends(rt: HostRuntime) -> Result<(), Fail> {
-    let alloc = rt.alloc();
+fn names_an_end_at_the_start_or_the_goal(rt: HostRuntime) -> Result<(), AllocError> {
+    check(&rt, rt.alloc(), &AT_START_OR_GOAL)
+}
+
+const ROUND_SHARED: [Chain; 3] = [
     // a full turn is not named again at the portals that are seen
-    let portals = [
-        portal(0, 0, 32, 0),
-        portal(0, 0, -32, 0),
-        portal(0, 0, 32, 0),
-    ];
-    let corners = [left(0, 0, 0), left(0, 0, 1), left(0, 0, 2)];
-    assert!(rt; pulls(alloc, at(16, -16), &portals, at(16, 16), &corners)?);
+    ((16, -16), &[(0, 0, 32, 0), (0, 0, -32, 0), (0, 0, 32, 0)], (16, 16), &[(Side::L, 0, 0, 0), (Side::L, 0, 0, 1), (Side::L, 0, 0, 2)]),
     // a quarter turn
-    let portals = [
-        portal(0, 0, 16, 0),
-        portal(0, 0, 16, 16),
-        portal(0, 0, 0, 16),
-    ];
-    let corners = [left(0, 0, 2)];
-    assert!(rt; pulls(alloc, at(8, -8), &portals, at(-16, 12), &corners)?);
+    ((8, -8), &[(0, 0, 16, 0), (0, 0, 16, 16), (0, 0, 0, 16)], (-16, 12), &[(Side::L, 0, 0, 2)]),
     // to the right
-    let portals = [
-        portal(-16, 0, 0, 0),
-        portal(-16, 16, 0, 0),
-        portal(0, 16, 0, 0),
-    ];
-    let corners = [right(0, 0, 2)];
-    assert!(rt; pulls(alloc, at(-8, -8), &portals, at(16, 12), &corners)?);
-    Ok(())
-}
+    ((-8, -8), &[(-16, 0, 0, 0), (-16, 16, 0, 0), (0, 16, 0, 0)], (16, 12), &[(Side::R, 0, 0, 2)]),
+];
 
 #[test]
-fn turns_on_a_spiral(rt: HostRuntime) -> Result<(), Fail> {
-    let alloc = rt.alloc();
+fn turns_round_shared_ends(rt: HostRuntime) -> Result<(), AllocError> {
+    check(&rt, rt.alloc(), &ROUND_SHARED)
+}
+
+const SPIRALS: [Chain; 2] = [
     // two turns of a spiral
-    let portals = [
-        portal(0, 0, 16, 0),
-        portal(0, 0, 0, 16),
-        portal(0, 0, -16, 0),
-        portal(0, 0, 0, -16),
-        portal(0, 0, 16, 0),
-        portal(0, 0, 0, 16),
-    ];
-    let corners = [
-        left(0, 0, 1),
-        left(0, 0, 2),
-        left(0, 0, 3),
-        left(0, 0, 4),
-        left(0, 0, 5),
-    ];
-    assert!(rt; pulls(alloc, at(8, -8), &portals, at(-8, 8), &corners)?);
+    ((8, -8), &[(0, 0, 16, 0), (0, 0, 0, 16), (0, 0, -16, 0), (0, 0, 0, -16), (0, 0, 16, 0), (0, 0, 0, 16)], (-8, 8), &[(Side::L, 0, 0, 1), (Side::L, 0, 0, 2), (Side::L, 0, 0, 3), (Side::L, 0, 0, 4), (Side::L, 0, 0, 5)]),
     // and to the right
-    let portals = [
-        portal(-16, 0, 0, 0),
-        portal(0, 16, 0, 0),
-        portal(16, 0, 0, 0),
-        portal(0, -16, 0, 0),
-        portal(-16, 0, 0, 0),
-    ];
-    let corners = [
-        right(0, 0, 1),
-        right(0, 0, 2),
-        right(0, 0, 3),
-        right(0, 0, 4),
-    ];
-    assert!(rt; pulls(alloc, at(-8, -8), &portals, at(-8, 8), &corners)?);
-    Ok(())
-}
+    ((-8, -8), &[(-16, 0, 0, 0), (0, 16, 0, 0), (16, 0, 0, 0), (0, -16, 0, 0), (-16, 0, 0, 0)], (-8, 8), &[(Side::R, 0, 0, 1), (Side::R, 0, 0, 2), (Side::R, 0, 0, 3), (Side::R, 0, 0, 4)]),
+];
 
 #[test]
-fn turns_where_portals_fold(rt: HostRuntime) -> Result<(), Fail> {
-    let alloc = rt.alloc();
+fn turns_on_a_spiral(rt: HostRuntime) -> Result<(), AllocError> {
+    check(&rt, rt.alloc(), &SPIRALS)
+}
+
+const FOLDS: [Chain; 3] = [
     // a chain in which no bend can be held by its ends
-    let portals = [portal(1, 1, 2, 1), portal(3, 1, 0, 1)];
-    let corners = [left(1, 1, 0)];
-    assert!(rt; pulls(alloc, at(0, 0), &portals, at(0, 0), &corners)?);
+    ((0, 0), &[(1, 1, 2, 1), (3, 1, 0, 1)], (0, 0), &[(Side::L, 1, 1, 0)]),
     // the second portal folds back inside the first
-    let portals = [portal(0, 1, 4, 1), portal(3, 1, 1, 1)];
-    let corners = [left(0, 1, 0), right(1, 1, 1)];
-    assert!(rt; pulls(alloc, at(2, 1), &portals, at(2, 0), &corners)?);
+    ((2, 1), &[(0, 1, 4, 1), (3, 1, 1, 1)], (2, 0), &[(Side::L, 0, 1, 0), (Side::R, 1, 1, 1)]),
     // and with its right end there
-    let portals = [portal(0, 0, 8, 0), portal(16, 0, 2, 0)];
-    let corners = [right(2, 0, 1)];
-    assert!(rt; pulls(alloc, at(4, -8), &portals, at(4, -4), &corners)?);
-    Ok(())
+    ((4, -8), &[(0, 0, 8, 0), (16, 0, 2, 0)], (4, -4), &[(Side::R, 2, 0, 1)]),
+];
+
+#[test]
+fn turns_where_portals_fold(rt: HostRuntime) -> Result<(), AllocError> {
+    check(&rt, rt.alloc(), &FOLDS)
 }

@@ -2,8 +2,9 @@
 
 use nav_ground::{AREAS, Agent, MeshKind, Setting, Span};
 use nav_text::FaultKind;
-use span_text::{FieldRefusal, read_field};
+use span_text::{FieldRefusal, FieldText, read_field};
 use std::alloc::{AllocError, Global};
+use std::process::Abort;
 
 const HEADER: [&str; 7] = [
     "nav 1\n",
@@ -37,6 +38,9 @@ fn fault_of(alloc: Global, text: &[u8]) -> (u32, u32) {
 /// Every form of line, and the first line of a script behind it.
 const EVERY_FORM: &str =
     "nav 1\nsize 1024 1\ntile 128\nagent 255 254 15\nerror 10000\nmesh contours\nlimit 1024\ncost 1 1\ncost 3 7\ncost 63 1000\nspan 0 0 0 5 0\nspan 0 0 5 8191 63\nspan 1023 0 7 8 1\nend\nscript 1 1\n";
+
+/// Where the script begins.
+const SCRIPT_AT: usize = 168;
 
 /// Its spans.
 const SPANS: [Span; 3] = [
@@ -85,15 +89,17 @@ fn every_setting() -> Setting {
     }
 }
 
+fn check_every_form(rt: &impl Abort, read: &FieldText) {
+    assert_eq!(rt; (read.used, read.lines), (SCRIPT_AT, 14));
+    assert_eq!(rt; read.setting, every_setting());
+    assert_eq!(rt; (read.field.width, read.field.depth), (1024, 1));
+    assert_eq!(rt; read.field.spans.as_slice(), SPANS.as_slice());
+}
+
 #[test]
 fn reads_every_form(rt: HostRuntime) {
     match read_field(rt.alloc(), EVERY_FORM.as_bytes()) {
-        Ok(read) => {
-            assert_eq!(rt; (read.used, read.lines), (EVERY_FORM.len() - 11, 14));
-            assert_eq!(rt; read.setting, every_setting());
-            assert_eq!(rt; (read.field.width, read.field.depth), (1024, 1));
-            assert_eq!(rt; read.field.spans.as_slice(), SPANS.as_slice());
-        }
+        Ok(read) => check_every_form(&rt, &read),
         Err(_) => assert!(rt; false),
     }
 }
@@ -106,7 +112,9 @@ fn reads_a_field_without_spans(rt: HostRuntime) -> Result<(), AllocError> {
 }
 
 /// How many lines of the header stand first, what follows them, and the line and kind of the first fault.
-const HEADER_FAULTS: [(usize, &str, u32, FaultKind); 31] = [
+type FirstFault = (usize, &'static str, u32, FaultKind);
+
+const HEADER_FAULTS: [FirstFault; 31] = [
     (0, "", 1, FaultKind::Unfinished),
     (0, "\n", 1, FaultKind::Form),
     (0, "nav 1", 1, FaultKind::Unfinished),
@@ -140,71 +148,86 @@ const HEADER_FAULTS: [(usize, &str, u32, FaultKind); 31] = [
     (6, "limit 1025\n", 7, FaultKind::Range),
 ];
 
-#[test]
-fn tells_the_first_fault(rt: HostRuntime) -> Result<(), AllocError> {
-    for (lines, tail, line, kind) in HEADER_FAULTS {
-        let text = text_with(rt.alloc(), lines, tail)?;
-        assert_eq!(rt;
-            fault_of(rt.alloc(), text.as_slice()),
-            (line, kind.number()),
-            "at {tail}"
-        );
-    }
-    Ok(())
-}
-
-/// What follows the whole header, and the line and kind of the first fault.
-const BODY_FAULTS: [(&str, u32, FaultKind); 31] = [
-    ("", 8, FaultKind::Unfinished),
-    ("end", 8, FaultKind::Unfinished),
-    ("end \n", 8, FaultKind::Form),
-    ("ends\n", 8, FaultKind::Form),
-    ("script 1 1\n", 8, FaultKind::Form),
-    ("nav 1\n", 8, FaultKind::Form),
-    ("cost 1\n", 8, FaultKind::Form),
-    ("cost 0 1\n", 8, FaultKind::Range),
-    ("cost 64 1\n", 8, FaultKind::Range),
-    ("cost 1 0\n", 8, FaultKind::Range),
-    ("cost 1 1001\n", 8, FaultKind::Range),
-    ("cost 2 5\ncost 2 6\n", 9, FaultKind::Order),
-    ("cost 2 5\ncost 1 1001\n", 9, FaultKind::Range),
-    ("cost 2 5\ncost 63 1", 9, FaultKind::Unfinished),
-    ("span 0 0 0 1\n", 8, FaultKind::Form),
-    ("span 0 0 0 1 0 0\n", 8, FaultKind::Form),
-    ("span  0 0 0 1 0\n", 8, FaultKind::Form),
-    ("span 0 0 0 01 0\n", 8, FaultKind::Form),
-    ("span 6 0 0 1 0\n", 8, FaultKind::Range),
-    ("span 0 6 0 1 0\n", 8, FaultKind::Range),
-    ("span 0 0 1 1 0\n", 8, FaultKind::Range),
-    ("span 0 0 0 8192 0\n", 8, FaultKind::Range),
-    ("span 0 0 0 1 64\n", 8, FaultKind::Range),
-    ("span 1 0 0 10 63\nspan 0 0 0 10 63\n", 9, FaultKind::Order),
-    ("span 0 1 0 10 63\nspan 5 0 0 10 63\n", 9, FaultKind::Order),
-    ("span 1 0 0 10 63\nspan 0 0 10 10 63\n", 9, FaultKind::Range),
-    ("span 0 0 0 10 63\nspan 0 0 9 12 0\n", 9, FaultKind::Overlap),
-    ("span 0 0 0 10 63\ncost 1 1\n", 9, FaultKind::Form),
-    ("span 0 0 0 10 63\ncost 0 1\n", 9, FaultKind::Form),
+/// The same behind a whole header.
+const BODY_FAULTS: [FirstFault; 31] = [
+    (7, "", 8, FaultKind::Unfinished),
+    (7, "end", 8, FaultKind::Unfinished),
+    (7, "end \n", 8, FaultKind::Form),
+    (7, "ends\n", 8, FaultKind::Form),
+    (7, "script 1 1\n", 8, FaultKind::Form),
+    (7, "nav 1\n", 8, FaultKind::Form),
+    (7, "cost 1\n", 8, FaultKind::Form),
+    (7, "cost 0 1\n", 8, FaultKind::Range),
+    (7, "cost 64 1\n", 8, FaultKind::Range),
+    (7, "cost 1 0\n", 8, FaultKind::Range),
+    (7, "cost 1 1001\n", 8, FaultKind::Range),
+    (7, "cost 2 5\ncost 2 6\n", 9, FaultKind::Order),
+    (7, "cost 2 5\ncost 1 1001\n", 9, FaultKind::Range),
+    (7, "cost 2 5\ncost 63 1", 9, FaultKind::Unfinished),
+    (7, "span 0 0 0 1\n", 8, FaultKind::Form),
+    (7, "span 0 0 0 1 0 0\n", 8, FaultKind::Form),
+    (7, "span  0 0 0 1 0\n", 8, FaultKind::Form),
+    (7, "span 0 0 0 01 0\n", 8, FaultKind::Form),
+    (7, "span 6 0 0 1 0\n", 8, FaultKind::Range),
+    (7, "span 0 6 0 1 0\n", 8, FaultKind::Range),
+    (7, "span 0 0 1 1 0\n", 8, FaultKind::Range),
+    (7, "span 0 0 0 8192 0\n", 8, FaultKind::Range),
+    (7, "span 0 0 0 1 64\n", 8, FaultKind::Range),
     (
+        7,
+        "span 1 0 0 10 63\nspan 0 0 0 10 63\n",
+        9,
+        FaultKind::Order,
+    ),
+    (
+        7,
+        "span 0 1 0 10 63\nspan 5 0 0 10 63\n",
+        9,
+        FaultKind::Order,
+    ),
+    (
+        7,
+        "span 1 0 0 10 63\nspan 0 0 10 10 63\n",
+        9,
+        FaultKind::Range,
+    ),
+    (
+        7,
+        "span 0 0 0 10 63\nspan 0 0 9 12 0\n",
+        9,
+        FaultKind::Overlap,
+    ),
+    (7, "span 0 0 0 10 63\ncost 1 1\n", 9, FaultKind::Form),
+    (7, "span 0 0 0 10 63\ncost 0 1\n", 9, FaultKind::Form),
+    (
+        7,
         "span 0 0 0 10 63\nspan 0 0 10 12 0",
         9,
         FaultKind::Unfinished,
     ),
     (
+        7,
         "span 0 0 0 10 63\nspan 0 0 10 12 0\n",
         10,
         FaultKind::Unfinished,
     ),
 ];
 
-#[test]
-fn tells_the_first_fault_behind_the_header(rt: HostRuntime) -> Result<(), AllocError> {
-    for (tail, line, kind) in BODY_FAULTS {
-        let text = text_with(rt.alloc(), 7, tail)?;
-        assert_eq!(rt;
-            fault_of(rt.alloc(), text.as_slice()),
-            (line, kind.number()),
-            "at {tail}"
-        );
+fn check_faults(rt: &impl Abort, alloc: Global, faults: &[FirstFault]) -> Result<(), AllocError> {
+    for (lines, tail, line, kind) in faults {
+        let text = text_with(alloc, *lines, tail)?;
+        let wanted = (*line, kind.number());
+        assert_eq!(rt; fault_of(alloc, text.as_slice()), wanted, "at {tail}");
     }
     Ok(())
+}
+
+#[test]
+fn tells_the_first_fault(rt: HostRuntime) -> Result<(), AllocError> {
+    check_faults(&rt, rt.alloc(), &HEADER_FAULTS)
+}
+
+#[test]
+fn tells_the_first_fault_behind_the_header(rt: HostRuntime) -> Result<(), AllocError> {
+    check_faults(&rt, rt.alloc(), &BODY_FAULTS)
 }

@@ -7,6 +7,7 @@ use nav_list::Items;
 use nav_record::{StepAnswer, write_answer, write_done, write_fault, write_reply, write_step};
 use nav_text::{FaultKind, TextFault};
 use std::alloc::{AllocError, Global};
+use std::process::Abort;
 
 /// What a step answers, and its line.
 const STEPS: [(StepAnswer, &str); 13] = [
@@ -49,14 +50,22 @@ const STEPS: [(StepAnswer, &str); 13] = [
     ),
 ];
 
-#[test]
-fn writes_steps(rt: HostRuntime) -> Result<(), AllocError> {
-    for (step, wanted) in STEPS {
-        let mut out = Vec::new(rt.alloc());
-        write_step(&mut out, &step)?;
+fn check_steps(
+    rt: &impl Abort,
+    alloc: Global,
+    steps: &[(StepAnswer, &str)],
+) -> Result<(), AllocError> {
+    for (step, wanted) in steps {
+        let mut out = Vec::new(alloc);
+        write_step(&mut out, step)?;
         assert_eq!(rt; out.as_slice(), wanted.as_bytes(), "at {wanted}");
     }
     Ok(())
+}
+
+#[test]
+fn writes_steps(rt: HostRuntime) -> Result<(), AllocError> {
+    check_steps(&rt, rt.alloc(), &STEPS)
 }
 
 #[test]
@@ -78,11 +87,11 @@ fn writes_the_other_lines(rt: HostRuntime) -> Result<(), AllocError> {
     Ok(())
 }
 
-/// The lines of the answer to a question, by the number of its line.
-fn written(alloc: Global, line: u32, answer: &Answer) -> Result<Vec<u8>, AllocError> {
+/// Whether the answer to the question in a line is written as these lines.
+fn writes(alloc: Global, line: u32, answer: &Answer, wanted: &str) -> Result<bool, AllocError> {
     let mut out = Vec::new(alloc);
     write_answer(&mut out, line, answer)?;
-    Ok(out)
+    Ok(out.as_slice() == wanted.as_bytes())
 }
 
 const FLOORS: [FloorAt; 2] = [FloorAt { y: 0, area: 63 }, FloorAt { y: 8191, area: 1 }];
@@ -91,50 +100,37 @@ const FLOORS: [FloorAt; 2] = [FloorAt { y: 0, area: 63 }, FloorAt { y: 8191, are
 fn writes_floors(rt: HostRuntime) -> Result<(), AllocError> {
     let alloc = rt.alloc();
     let floors = Answer::Floors(Items::from_vec(Vec::from_array(alloc, FLOORS)?));
-    assert_eq!(rt;
-        written(alloc, 3, &floors)?.as_slice(),
-        b"floors 3 2 0 63 8191 1\n".as_slice()
-    );
+    assert!(rt; writes(alloc, 3, &floors, "floors 3 2 0 63 8191 1\n")?);
     let none = Answer::Floors(Items::new(alloc));
-    assert_eq!(rt;
-        written(alloc, 3, &none)?.as_slice(),
-        b"floors 3 0\n".as_slice()
-    );
+    assert!(rt; writes(alloc, 3, &none, "floors 3 0\n")?);
     Ok(())
 }
 
-/// Answers without a list, and their lines.
-const ANSWERS: [(Answer, &str); 5] = [
-    (Answer::NoStart, "nostart 3\n"),
-    (Answer::NoGoal, "nogoal 3\n"),
-    (Answer::NoPath, "nopath 3\n"),
-    (
-        Answer::Reached(PolyRef {
-            tile: 4294967295,
-            index: 7,
-        }),
-        "reached 3 4294967295 7\n",
-    ),
-    (
-        Answer::Wall {
-            a: Point { x: -1, z: 0 },
-            b: Point { x: 16384, z: 32 },
-            num: 9223372036854775807,
-            den: -1,
-        },
-        "wall 3 -1 0 16384 32 9223372036854775807 -1\n",
-    ),
-];
-
 #[test]
 fn writes_answers(rt: HostRuntime) -> Result<(), AllocError> {
-    for (answer, wanted) in ANSWERS {
-        assert_eq!(rt;
-            written(rt.alloc(), 3, &answer)?.as_slice(),
-            wanted.as_bytes(),
-            "at {wanted}"
-        );
-    }
+    let alloc = rt.alloc();
+    assert!(rt; writes(alloc, 3, &Answer::NoStart, "nostart 3\n")?);
+    assert!(rt; writes(alloc, 3, &Answer::NoGoal, "nogoal 3\n")?);
+    assert!(rt; writes(alloc, 3, &Answer::NoPath, "nopath 3\n")?);
+    let reached = Answer::Reached(PolyRef {
+        tile: 4294967295,
+        index: 7,
+    });
+    assert!(rt; writes(alloc, 3, &reached, "reached 3 4294967295 7\n")?);
+    let wall = Answer::Wall {
+        a: Point { x: -1, z: 0 },
+        b: Point { x: 16384, z: 32 },
+        num: 9223372036854775807,
+        den: -1,
+    };
+    assert!(rt;
+        writes(
+            alloc,
+            3,
+            &wall,
+            "wall 3 -1 0 16384 32 9223372036854775807 -1\n"
+        )?
+    );
     Ok(())
 }
 
@@ -174,9 +170,6 @@ fn writes_a_path(rt: HostRuntime) -> Result<(), AllocError> {
     };
     let wanted =
         "path 12 18446744073709551615 0 1 1 2\nlink 3 4 16 32 48 64\nturn 16 32 L 0\nturn 48 64 R 0\n";
-    assert_eq!(rt;
-        written(alloc, 12, &Answer::Path(found))?.as_slice(),
-        wanted.as_bytes()
-    );
+    assert!(rt; writes(alloc, 12, &Answer::Path(found), wanted)?);
     Ok(())
 }

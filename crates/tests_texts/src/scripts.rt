@@ -4,6 +4,7 @@ use nav_base::{Point, Question};
 use nav_ground::Shape;
 use nav_script::{Line, ScriptRefusal, Way, read_script};
 use std::alloc::{AllocError, Global};
+use std::process::Abort;
 
 /// What is read of a text whose first line has the number 45: the number of its lines and the last of them, or the fault.
 #[derive(Clone, Copy, PartialEq, Eq, Debug)]
@@ -83,14 +84,22 @@ const RIGHT_LINES: [(&str, Line); 14] = [
     ("publish", Line::Publish),
 ];
 
-#[test]
-fn reads_right_lines(rt: HostRuntime) -> Result<(), AllocError> {
-    for (line, wanted) in RIGHT_LINES {
-        let text = format!(in rt.alloc(); "script 2 3\nadd block 0 0 0 0 0 0\n{line}\n")?;
-        let told = read_text(rt.alloc(), text.as_bytes(), Way::Play)?;
-        assert_eq!(rt; told, Told::Last(2, wanted), "at {line}");
+fn check_right_lines(
+    rt: &impl Abort,
+    alloc: Global,
+    rows: &[(&str, Line)],
+) -> Result<(), AllocError> {
+    for (line, wanted) in rows {
+        let text = format!(in alloc; "script 2 3\nadd block 0 0 0 0 0 0\n{line}\n")?;
+        let told = read_text(alloc, text.as_bytes(), Way::Play)?;
+        assert_eq!(rt; told, Told::Last(2, *wanted), "at {line}");
     }
     Ok(())
+}
+
+#[test]
+fn reads_right_lines(rt: HostRuntime) -> Result<(), AllocError> {
+    check_right_lines(&rt, rt.alloc(), &RIGHT_LINES)
 }
 
 /// A line of a script with two lanes and three workers, the way it runs, and the kind of the fault.
@@ -158,14 +167,22 @@ const WRONG_LINES: [(&str, Way, u32); 61] = [
     ("", Way::Play, 8),
 ];
 
-#[test]
-fn refuses_wrong_lines(rt: HostRuntime) -> Result<(), AllocError> {
-    for (line, way, kind) in WRONG_LINES {
-        let text = format!(in rt.alloc(); "script 2 3\nadd block 0 0 0 0 0 0\n{line}\nsettle\n")?;
-        let told = read_text(rt.alloc(), text.as_bytes(), way)?;
-        assert_eq!(rt; told, Told::Fault(47, kind), "at {line}");
+fn check_wrong_lines(
+    rt: &impl Abort,
+    alloc: Global,
+    rows: &[(&str, Way, u32)],
+) -> Result<(), AllocError> {
+    for (line, way, kind) in rows {
+        let text = format!(in alloc; "script 2 3\nadd block 0 0 0 0 0 0\n{line}\nsettle\n")?;
+        let told = read_text(alloc, text.as_bytes(), *way)?;
+        assert_eq!(rt; told, Told::Fault(47, *kind), "at {line}");
     }
     Ok(())
+}
+
+#[test]
+fn refuses_wrong_lines(rt: HostRuntime) -> Result<(), AllocError> {
+    check_wrong_lines(&rt, rt.alloc(), &WRONG_LINES)
 }
 
 /// Whole texts, and what is read of them.
@@ -209,16 +226,17 @@ const TEXTS: [(&str, Told); 19] = [
     ),
 ];
 
-#[test]
-fn reads_texts(rt: HostRuntime) -> Result<(), AllocError> {
-    for (text, wanted) in TEXTS {
-        assert_eq!(rt;
-            read_text(rt.alloc(), text.as_bytes(), Way::Play)?,
-            wanted,
-            "at {text}"
-        );
+fn check_texts(rt: &impl Abort, alloc: Global, rows: &[(&str, Told)]) -> Result<(), AllocError> {
+    for (text, wanted) in rows {
+        let told = read_text(alloc, text.as_bytes(), Way::Play)?;
+        assert_eq!(rt; told, *wanted, "at {text}");
     }
     Ok(())
+}
+
+#[test]
+fn reads_texts(rt: HostRuntime) -> Result<(), AllocError> {
+    check_texts(&rt, rt.alloc(), &TEXTS)
 }
 
 /// A text of a line, then another line so many times, then a last line.
@@ -312,15 +330,20 @@ const LONG_TEXTS: [(&str, u32, Way, &str, Told); 10] = [
     ),
 ];
 
-#[test]
-fn counts_lines(rt: HostRuntime) -> Result<(), AllocError> {
-    for (line, count, way, last, wanted) in LONG_TEXTS {
-        let text = repeated(rt.alloc(), "script 1 1\n", line, count, last)?;
-        assert_eq!(rt;
-            read_text(rt.alloc(), text.as_slice(), way)?,
-            wanted,
-            "at {last}"
-        );
+fn check_long_texts(
+    rt: &impl Abort,
+    alloc: Global,
+    rows: &[(&str, u32, Way, &str, Told)],
+) -> Result<(), AllocError> {
+    for (line, count, way, last, wanted) in rows {
+        let text = repeated(alloc, "script 1 1\n", line, *count, last)?;
+        let told = read_text(alloc, text.as_slice(), *way)?;
+        assert_eq!(rt; told, *wanted, "at {last}");
     }
     Ok(())
+}
+
+#[test]
+fn counts_lines(rt: HostRuntime) -> Result<(), AllocError> {
+    check_long_texts(&rt, rt.alloc(), &LONG_TEXTS)
 }

@@ -3,7 +3,7 @@ use Rattle.std.specs.Prelude.{All}
 use Rattle.std.proofs.lemmas.List.Elements.{All-cons, All-nil}
 use Rattle.mesh_types.specs.declared.links.Link.{Link}
 use Rattle.mesh_types.specs.LinkIndex.{AreBelow}
-use Rattle.tests_mesh.proofs.meshes.puts_links_in_order.Goals as goal
+use Rattle.tests_mesh.proofs.meshes.finds_links.Goals as goal
 
 -- one link of the first polygon
 one_below : (links : List Link) (link : Link) → links ≡ link ∷ [] → link.from.index ≡ 0 → AreBelow 3 links

@@ -1,0 +1,1 @@
+// read NOTE.md at the top of the clone
