@@ -5,13 +5,13 @@ ghost use Rattle.nav_base.specs.Point.{HasCoordinates};
 ghost use Rattle.nav_ground.specs.Limits.{IsSetting};
 ghost use Rattle.mesh_types.specs.Soundness.{IsSound};
 
-use mesh_types::{Corner, Mesh, Side};
+use mesh_types::{Answer, Corner, Mesh, PathFound, Side};
 use nav_base::{FloorAt, Point, Question};
 use nav_ground::{AREAS, Agent, Cell, CellRef, FreeLayer, MeshKind, Setting};
 use nav_list::Items;
 use nav_query::answer;
 use std::alloc::{AllocError, Global};
-use std::test::Fail;
+use std::process::Abort;
 use strip_mesh::strip_mesh;
 use tile_links::whole;
 
@@ -107,12 +107,34 @@ fn mesh(alloc: Global) -> Result<Mesh, AllocError>
     whole(alloc, &SETTING, tiles)
 }
 
-/// The answer to the question for the floors of a column.
-fn floors(alloc: Global, mesh: &Mesh, x: u32, z: u32) -> Result<mesh_types::Answer, AllocError>
+/// The floors of a column; none where the answer says something else.
+fn floors(alloc: Global, mesh: &Mesh, x: u32, z: u32) -> Result<Option<Items<FloorAt>>, AllocError>
     requires sound { IsSound mesh.now }
     requires setting { mesh.now.setting ≡ SETTING }
 {
-    answer(alloc, mesh, &Question::Floor { x, z })
+    match answer(alloc, mesh, &Question::Floor { x, z })? {
+        Answer::Floors(floors) => Ok(Some(floors)),
+        _ => Ok(None),
+    }
+}
+
+#[test]
+fn finds_floors(rt: HostRuntime) -> Result<(), AllocError> {
+    let alloc = rt.alloc();
+    let mesh = mesh(alloc)?;
+    for (x, z, wanted) in [
+        (1, 1, Some(FloorAt { y: 10, area: 1 })),
+        (0, 1, None),
+        (9, 9, None),
+    ] {
+        let Some(floors) = floors(alloc, &mesh, x, z)? else {
+            assert!(rt; false, "at {x} {z}");
+            return Ok(());
+        };
+        assert_eq!(rt; floors.get(0).copied(), wanted, "at {x} {z}");
+        assert!(rt; floors.len() <= 1);
+    }
+    Ok(())
 }
 
 fn point(x: u8, z: u8) -> Point
@@ -125,12 +147,7 @@ fn point(x: u8, z: u8) -> Point
 }
 
 /// The answer to the question for a path between two points, each at the height of the floors.
-fn path(
-    alloc: Global,
-    mesh: &Mesh,
-    from: (u8, u8),
-    to: (u8, u8),
-) -> Result<mesh_types::Answer, AllocError>
+fn path(alloc: Global, mesh: &Mesh, from: (u8, u8), to: (u8, u8)) -> Result<Answer, AllocError>
     requires sound { IsSound mesh.now }
     requires setting { mesh.now.setting ≡ SETTING }
 {
@@ -143,40 +160,68 @@ fn path(
     answer(alloc, mesh, &question)
 }
 
+/// What a question for a path misses.
+#[derive(Clone, Copy, PartialEq, Eq, Debug)]
+enum Missing {
+    Start,
+    Goal,
+    Path,
+}
+
+fn missing(answer: &Answer) -> Option<Missing> {
+    match answer {
+        Answer::NoStart => Some(Missing::Start),
+        Answer::NoGoal => Some(Missing::Goal),
+        Answer::NoPath => Some(Missing::Path),
+        _ => None,
+    }
+}
+
+/// Two points, and what misses between them.
+type Gap = ((u8, u8), (u8, u8), Missing);
+
+const GAPS: [Gap; 4] = [
+    ((40, 8), (8, 8), Missing::Start),
+    ((40, 8), (40, 8), Missing::Start),
+    ((8, 8), (40, 8), Missing::Goal),
+    ((8, 8), (8, 56), Missing::Path),
+];
+
+fn check_gaps(rt: &impl Abort, alloc: Global, mesh: &Mesh, gaps: &[Gap]) -> Result<(), AllocError>
+    requires sound { IsSound mesh.now }
+    requires setting { mesh.now.setting ≡ SETTING }
+{
+    for (from, to, wanted) in gaps {
+        let given = path(alloc, mesh, *from, *to)?;
+        assert_eq!(rt; missing(&given), Some(*wanted), "from {from:?} to {to:?}");
+    }
+    Ok(())
+}
+
 #[test]
-fn answers_questions(rt: HostRuntime) -> Result<(), Fail> {
+fn says_what_is_missing(rt: HostRuntime) -> Result<(), AllocError> {
     let alloc = rt.alloc();
     let mesh = mesh(alloc)?;
-    for (x, z, wanted) in [(1, 1, 1), (0, 1, 0), (9, 9, 0)] {
-        match floors(alloc, &mesh, x, z)? {
-            mesh_types::Answer::Floors(floors) => {
-                assert_eq!(rt; floors.len(), wanted, "at {x} {z}");
-                let lowest = floors.get(0).copied();
-                assert!(rt; lowest.is_none_or(|floor| floor == FloorAt { y: 10, area: 1 }));
-            }
-            _ => assert!(rt; false),
-        }
-    }
-    let none = [
-        ((40, 8), (8, 8), mesh_types::Answer::NoStart),
-        ((40, 8), (40, 8), mesh_types::Answer::NoStart),
-        ((8, 8), (40, 8), mesh_types::Answer::NoGoal),
-        ((8, 8), (8, 56), mesh_types::Answer::NoPath),
-    ];
-    for (from, to, wanted) in none {
-        assert!(rt; path(alloc, &mesh, from, to)? == wanted);
-    }
+    check_gaps(&rt, alloc, &mesh, &GAPS)
+}
+
+fn check_path(rt: &impl Abort, found: &PathFound) {
+    assert_eq!(rt; (found.first.tile, found.first.index), (0, 0));
+    assert_eq!(rt; (found.cost, found.links.len()), (46, 1));
+    let turn = Corner {
+        at: Point { x: 32, z: 16 },
+        side: Side::R,
+        portal: 0,
+    };
+    assert_eq!(rt; found.turns.as_slice(), [turn].as_slice());
+}
+
+#[test]
+fn finds_a_path(rt: HostRuntime) -> Result<(), AllocError> {
+    let alloc = rt.alloc();
+    let mesh = mesh(alloc)?;
     match path(alloc, &mesh, (0, 0), (48, 17))? {
-        mesh_types::Answer::Path(found) => {
-            assert_eq!(rt; (found.first.tile, found.first.index), (0, 0));
-            assert_eq!(rt; (found.cost, found.links.len()), (46, 1));
-            let turn = Corner {
-                at: Point { x: 32, z: 16 },
-                side: Side::R,
-                portal: 0,
-            };
-            assert_eq!(rt; found.turns.as_slice(), [turn].as_slice());
-        }
+        Answer::Path(found) => check_path(&rt, &found),
         _ => assert!(rt; false),
     }
     Ok(())

@@ -1,1 +1,0 @@
-// read NOTE.md at the top of the clone
