@@ -75,30 +75,76 @@ const INNER: [(u32, u32, u32); 9] = [
 /// The middle cell, which alone is kept for a radius of 2: (2, 2) is one step from the boundary, (3, 3) is two.
 const MIDDLE: (u32, u32, u32) = (3, 3, 0);
 
+/// A radius, and how many cells are kept.
+const COUNTS: [(u32, usize); 5] = [(0, 28), (1, 9), (2, 1), (3, 0), (u32::MAX, 0)];
+
+fn check_counts(
+    rt: &impl Abort,
+    alloc: Global,
+    field: &CompactField,
+    rows: &[(u32, usize)],
+) -> Result<(), AllocError>
+    requires { IsCompact field.now.cells }
+{
+    for (radius, wanted) in rows {
+        let kept = erode(alloc, field, *radius)?;
+        assert_eq!(rt; kept.len(), *wanted, "at {radius}");
+    }
+    Ok(())
+}
+
+#[test]
+fn keeps_so_many_cells(rt: HostRuntime) -> Result<(), AllocError> {
+    let alloc = rt.alloc();
+    let field = field(alloc)?;
+    check_counts(&rt, alloc, &field, &COUNTS)
+}
+
+fn check_marks(
+    rt: &impl Abort,
+    alloc: Global,
+    field: &CompactField,
+    rows: &[(u32, usize)],
+) -> Result<(), AllocError>
+    requires { IsCompact field.now.cells }
+{
+    for (radius, wanted) in rows {
+        let marks = kept_marks(alloc, field.cells.as_slice(), *radius)?;
+        let count = marks.iter().filter(|mark| **mark).count();
+        assert_eq!(rt; count, *wanted, "at {radius}");
+        assert_eq!(rt; marks.get(13).copied(), Some(*radius < 3), "at {radius}");
+    }
+    Ok(())
+}
+
+#[test]
+fn marks_so_many_cells(rt: HostRuntime) -> Result<(), AllocError> {
+    let alloc = rt.alloc();
+    let field = field(alloc)?;
+    check_marks(&rt, alloc, &field, &COUNTS)
+}
+
+fn check_kept(
+    rt: &impl Abort,
+    alloc: Global,
+    field: &CompactField,
+    radius: u32,
+    wanted: &[(u32, u32, u32)],
+) -> Result<(), AllocError>
+    requires { IsCompact field.now.cells }
+{
+    let kept = erode(alloc, field, radius)?;
+    let kept = as_tuples(alloc, &kept)?;
+    assert_eq!(rt; kept.as_slice(), wanted, "at {radius}");
+    Ok(())
+}
+
 #[test]
 fn keeps_by_hand(rt: HostRuntime) -> Result<(), AllocError> {
     let alloc = rt.alloc();
     let field = field(alloc)?;
-    for (radius, wanted) in [(0, 28), (1, 9), (2, 1), (3, 0), (u32::MAX, 0)] {
-        let kept = erode(alloc, &field, radius)?;
-        assert_eq!(rt; kept.len(), wanted, "at {radius}");
-        let marks = kept_marks(alloc, field.cells.as_slice(), radius)?;
-        assert_eq!(rt;
-            marks.iter().filter(|mark| **mark).count(),
-            wanted,
-            "at {radius}"
-        );
-        assert_eq!(rt; marks.get(13).copied(), Some(radius < 3), "at {radius}");
-    }
-    assert_eq!(rt;
-        as_tuples(alloc, &erode(alloc, &field, 1)?)?.as_slice(),
-        INNER.as_slice()
-    );
-    assert_eq!(rt;
-        as_tuples(alloc, &erode(alloc, &field, 2)?)?.as_slice(),
-        [MIDDLE].as_slice()
-    );
-    Ok(())
+    check_kept(&rt, alloc, &field, 1, &INNER)?;
+    check_kept(&rt, alloc, &field, 2, &[MIDDLE])
 }
 
 const ALL: Window = Window {

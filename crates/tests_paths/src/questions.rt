@@ -168,7 +168,7 @@ enum Missing {
     Path,
 }
 
-fn missing(answer: &Answer) -> Option<Missing> {
+fn what_misses(answer: &Answer) -> Option<Missing> {
     match answer {
         Answer::NoStart => Some(Missing::Start),
         Answer::NoGoal => Some(Missing::Goal),
@@ -193,7 +193,11 @@ fn check_gaps(rt: &impl Abort, alloc: Global, mesh: &Mesh, gaps: &[Gap]) -> Resu
 {
     for (from, to, wanted) in gaps {
         let given = path(alloc, mesh, *from, *to)?;
-        assert_eq!(rt; missing(&given), Some(*wanted), "from {from:?} to {to:?}");
+        assert_eq!(rt;
+            what_misses(&given),
+            Some(*wanted),
+            "from {from:?} to {to:?}"
+        );
     }
     Ok(())
 }
