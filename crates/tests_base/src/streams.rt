@@ -152,25 +152,30 @@ fn is_text_of<S: Source>(alloc: Global, source: &mut S) -> bool {
 }
 
 #[test]
-fn others_pass_bytes_on(rt: HostRuntime) -> Result<(), AllocError> {
+fn calm_ones_pass_bytes_on(rt: HostRuntime) -> Result<(), AllocError> {
     let alloc = rt.alloc();
     let mut calm = CalmSource::new(text(alloc)?, 3);
     assert!(rt; is_text_of(alloc, &mut calm));
     assert_eq!(rt; write_all(&mut CalmSink, TEXT), Ok(()));
+    pass_twice(&FreeGate);
+    Ok(())
+}
 
+#[test]
+fn readers_are_sources(rt: HostRuntime) {
     let mut source = StdSource::new(TEXT);
-    assert!(rt; is_text_of(alloc, &mut source));
+    assert!(rt; is_text_of(rt.alloc(), &mut source));
     assert_eq!(rt; source.faults, 0);
     let mut broken = StdSource::new(Broken);
     assert!(rt; broken.read(&mut [0; 4]).is_err());
     assert_eq!(rt; broken.faults, 1);
+}
 
-    let mut sink = StdSink::new(Vec::new(alloc));
+#[test]
+fn writers_are_sinks(rt: HostRuntime) {
+    let mut sink = StdSink::new(Vec::new(rt.alloc()));
     assert_eq!(rt; write_all(&mut sink, TEXT), Ok(()));
     assert_eq!(rt; sink.inner.as_slice(), TEXT);
-
-    pass_twice(&FreeGate);
-    Ok(())
 }
 
 /// A writer with room for four bytes takes none of the rest, which counts as an error.

@@ -5,11 +5,12 @@ ghost use Rattle.nav_ground.specs.Cells.{IsCut, IsInTile};
 ghost use Rattle.nav_ground.specs.Limits.{IsSetting};
 
 use crate::five_cells::CELLS;
-use mesh_types::{Corners, Polygon, TileMesh};
+use mesh_types::{Corners, LevelPair, Link, Polygon, RimEdge, TileMesh};
 use nav_base::Point;
 use nav_ground::{AREAS, Agent, FreeLayer, MeshKind, Setting};
 use nav_list::Items;
 use std::alloc::{AllocError, Global};
+use std::process::Abort;
 use strip_mesh::strip_mesh;
 
 /// Two tiles side by side.
@@ -59,7 +60,9 @@ fn rectangle(x0: i32, end: i32, z: i32, area: u32, low: u32, high: u32) -> Polyg
 }
 
 /// The polygon that a link leaves, the edge, the polygon entered, and the right and the left end of the portal.
-const LINKS: [(u32, u32, u32, (i32, i32), (i32, i32)); 6] = [
+type LinkRow = (u32, u32, u32, (i32, i32), (i32, i32));
+
+const LINKS: [LinkRow; 6] = [
     (0, 1, 1, (48, 0), (48, 16)),
     (0, 2, 2, (32, 16), (16, 16)),
     (0, 2, 3, (48, 16), (32, 16)),
@@ -68,10 +71,7 @@ const LINKS: [(u32, u32, u32, (i32, i32), (i32, i32)); 6] = [
     (3, 0, 0, (32, 16), (48, 16)),
 ];
 
-#[test]
-fn mesh_by_hand(rt: HostRuntime) -> Result<(), AllocError> {
-    let alloc = rt.alloc();
-    let mesh = mesh(alloc)?;
+fn check_polygons(rt: &impl Abort, mesh: &TileMesh) {
     let polys = [
         rectangle(1, 3, 0, 63, 10, 12),
         rectangle(3, 4, 0, 7, 9, 9),
@@ -79,8 +79,11 @@ fn mesh_by_hand(rt: HostRuntime) -> Result<(), AllocError> {
         rectangle(2, 3, 1, 63, 14, 14),
     ];
     assert_eq!(rt; mesh.polys.as_slice(), polys.as_slice());
-    assert_eq!(rt; mesh.links.len(), 6);
-    for (link, wanted) in mesh.links.as_slice().iter().zip(LINKS.iter()) {
+}
+
+fn check_links(rt: &impl Abort, links: &[Link], rows: &[LinkRow]) {
+    assert_eq!(rt; links.len(), rows.len());
+    for (link, wanted) in links.iter().zip(rows.iter()) {
         assert_eq!(rt;
             (link.from.index, link.edge, link.to.index),
             (wanted.0, wanted.1, wanted.2)
@@ -88,16 +91,26 @@ fn mesh_by_hand(rt: HostRuntime) -> Result<(), AllocError> {
         assert_eq!(rt; (link.portal.right.x, link.portal.right.z), wanted.3);
         assert_eq!(rt; (link.portal.left.x, link.portal.left.z), wanted.4);
     }
-    assert_eq!(rt; mesh.rim.len(), 1);
-    for entry in mesh.rim.as_slice() {
+}
+
+/// The edge of the polygon with the other area, which lies on the border to the right.
+fn check_rim(rt: &impl Abort, rim: &[RimEdge]) {
+    assert_eq!(rt; rim.len(), 1);
+    for entry in rim {
         assert_eq!(rt;
             (entry.poly, entry.edge, entry.side, entry.first),
             (1, 1, 2, 0)
         );
-        for pair in entry.pairs.as_slice() {
-            assert_eq!(rt; (pair.own, pair.other), (0, 2));
-        }
-        assert_eq!(rt; entry.pairs.len(), 1);
+        let pair = LevelPair { own: 0, other: 2 };
+        assert_eq!(rt; entry.pairs.as_slice(), [pair].as_slice());
     }
+}
+
+#[test]
+fn mesh_by_hand(rt: HostRuntime) -> Result<(), AllocError> {
+    let mesh = mesh(rt.alloc())?;
+    check_polygons(&rt, &mesh);
+    check_links(&rt, mesh.links.as_slice(), &LINKS);
+    check_rim(&rt, mesh.rim.as_slice());
     Ok(())
 }

@@ -17,9 +17,9 @@ use nav_list::Items;
 use nav_steps::Steps;
 use std::alloc::{AllocError, Global};
 use std::marker::Brand;
+use std::process::Abort;
 use std::sync::Arc;
 use std::sync::ledger::{Blank, Ledger};
-use std::test::Fail;
 use tile_build::{build_tiles, renew_tiles};
 
 /// What a table asks for: a block over the column (x, 1), a block there that sets the area 5, or that a number goes.
@@ -134,6 +134,11 @@ fn renewed<L: Ledger>(book: &mut Book, alloc: Global, blank: Blank) -> Result<u3
     book.renew(alloc, tiles)
 }
 
+/// Publishes the whole history of a book, over a blank ledger.
+fn published(book: &mut Book, alloc: Global) -> Result<u32, AllocError> {
+    renewed::<Brand>(book, alloc, Blank::new(1))
+}
+
 /// The floors of a column, as the book answers.
 fn floors(book: &Book, alloc: Global, x: u32, z: u32) -> Result<Items<FloorAt>, AllocError> {
     match book.ask(alloc, &Question::Floor { x, z })?.1 {
@@ -142,36 +147,46 @@ fn floors(book: &Book, alloc: Global, x: u32, z: u32) -> Result<Items<FloorAt>, 
     }
 }
 
+/// The lowest floor of a column.
+fn lowest(book: &Book, alloc: Global, x: u32, z: u32) -> Result<Option<FloorAt>, AllocError> {
+    let floors = floors(book, alloc, x, z)?;
+    Ok(floors.get(0).copied())
+}
+
 // A book may go from one thread to another.
 fn sent<T: Send>(value: T) -> T {
     value
 }
 
-#[test]
-fn answers_requests(rt: HostRuntime) -> Result<(), Fail> {
-    let alloc = rt.alloc();
-    let mut book = opened::<Brand>(alloc, 7, 4, 4, Blank::new(1))?;
-    let cases = [
-        (1, Asked::Block(1), Reply::Added { number: 1 }),
-        (2, Asked::Area(2), Reply::Added { number: 2 }),
-        (3, Asked::Block(3), Reply::Full { live: 2 }),
-        (4, Asked::Remove(1), Reply::Removed),
-        (5, Asked::Remove(1), Reply::Dead { number: 1 }),
-        (6, Asked::Remove(0), Reply::Dead { number: 0 }),
-        (7, Asked::Block(3), Reply::Added { number: 7 }),
-        (8, Asked::Remove(3), Reply::Dead { number: 3 }),
-        (9, Asked::Remove(7), Reply::Removed),
-        (10, Asked::Remove(2), Reply::Removed),
-        (11, Asked::Block(1), Reply::Added { number: 11 }),
-    ];
-    for (number, asked, reply) in cases {
-        assert_eq!(rt;
-            book.request(3, request_of(asked)),
-            Ok((number, reply)),
-            "at {number}"
-        );
-        assert_eq!(rt; (book.length(), book.published()), (number, 0));
+/// The number of an entry, what is asked, and the reply.
+type Asking = (u32, Asked, Reply);
+
+const ASKINGS: [Asking; 11] = [
+    (1, Asked::Block(1), Reply::Added { number: 1 }),
+    (2, Asked::Area(2), Reply::Added { number: 2 }),
+    (3, Asked::Block(3), Reply::Full { live: 2 }),
+    (4, Asked::Remove(1), Reply::Removed),
+    (5, Asked::Remove(1), Reply::Dead { number: 1 }),
+    (6, Asked::Remove(0), Reply::Dead { number: 0 }),
+    (7, Asked::Block(3), Reply::Added { number: 7 }),
+    (8, Asked::Remove(3), Reply::Dead { number: 3 }),
+    (9, Asked::Remove(7), Reply::Removed),
+    (10, Asked::Remove(2), Reply::Removed),
+    (11, Asked::Block(1), Reply::Added { number: 11 }),
+];
+
+fn check_replies(rt: &impl Abort, book: &mut Book, rows: &[Asking]) {
+    for (number, asked, reply) in rows {
+        let given = book.request(3, request_of(*asked));
+        assert_eq!(rt; given, Ok((*number, *reply)), "at {number}");
+        assert_eq!(rt; (book.length(), book.published()), (*number, 0));
     }
+}
+
+#[test]
+fn answers_requests(rt: HostRuntime) -> Result<(), AllocError> {
+    let mut book = opened::<Brand>(rt.alloc(), 7, 4, 4, Blank::new(1))?;
+    check_replies(&rt, &mut book, &ASKINGS);
     let last = Entry {
         lane: 3,
         request: request_of(Asked::Block(1)),
@@ -181,91 +196,117 @@ fn answers_requests(rt: HostRuntime) -> Result<(), Fail> {
     Ok(())
 }
 
-#[test]
-fn publishes_floors(rt: HostRuntime) -> Result<(), Fail> {
-    let alloc = rt.alloc();
-    let mut book = opened::<Brand>(alloc, 7, 4, 4, Blank::new(1))?;
-    let bare = FloorAt { y: 10, area: 63 };
-    // What is asked, whether the book settles then, and the floors of the columns (1, 1) and (2, 1).
-    let cases = [
-        (Asked::Remove(9), false, Some(bare), Some(bare)),
-        (Asked::Block(2), false, Some(bare), Some(bare)),
-        (Asked::Area(1), true, Some(FloorAt { y: 10, area: 5 }), None),
-        (
-            Asked::Block(3),
-            true,
-            Some(FloorAt { y: 10, area: 5 }),
-            None,
-        ),
-        (
-            Asked::Remove(2),
-            false,
-            Some(FloorAt { y: 10, area: 5 }),
-            None,
-        ),
-        (Asked::Remove(3), true, Some(bare), Some(bare)),
-    ];
-    for (asked, settles, first, second) in cases {
-        let _answer = book.request(0, request_of(asked));
-        if settles {
-            assert_eq!(rt;
-                renewed::<Brand>(&mut book, alloc, Blank::new(1))?,
-                book.length()
-            );
+/// What is asked, whether the book settles then, and the floors of the columns (1, 1) and (2, 1).
+type Settling = (Asked, bool, Option<FloorAt>, Option<FloorAt>);
+
+const BARE: Option<FloorAt> = Some(FloorAt { y: 10, area: 63 });
+
+const MUDDY: Option<FloorAt> = Some(FloorAt { y: 10, area: 5 });
+
+const SETTLINGS: [Settling; 6] = [
+    (Asked::Remove(9), false, BARE, BARE),
+    (Asked::Block(2), false, BARE, BARE),
+    (Asked::Area(1), true, MUDDY, None),
+    (Asked::Block(3), true, MUDDY, None),
+    (Asked::Remove(2), false, MUDDY, None),
+    (Asked::Remove(3), true, BARE, BARE),
+];
+
+fn check_settlings(
+    rt: &impl Abort,
+    alloc: Global,
+    book: &mut Book,
+    rows: &[Settling],
+) -> Result<(), AllocError> {
+    for (asked, settles, first, second) in rows {
+        let _answer = book.request(0, request_of(*asked));
+        if *settles {
+            assert_eq!(rt; published(book, alloc)?, book.length());
             assert_eq!(rt; book.published(), book.length());
         }
-        assert_eq!(rt; floors(&book, alloc, 1, 1)?.get(0).copied(), first);
-        assert_eq!(rt; floors(&book, alloc, 2, 1)?.get(0).copied(), second);
+        assert_eq!(rt; lowest(book, alloc, 1, 1)?, *first, "after {asked:?}");
+        assert_eq!(rt; lowest(book, alloc, 2, 1)?, *second, "after {asked:?}");
     }
-    // The columns of the edge and those outside have no cells, and each other column has one.
-    for (x, z, count) in [
-        (0, 1, 0),
-        (6, 1, 0),
-        (1, 0, 0),
-        (1, 3, 0),
-        (3, 2, 1),
-        (4, 2, 1),
-        (5, 1, 1),
-        (7, 2, 0),
-        (1, 4, 0),
-        (5000, 2, 0),
-    ] {
-        assert_eq!(rt; floors(&book, alloc, x, z)?.len(), count, "at {x} {z}");
+    Ok(())
+}
+
+/// A column, and how many cells it has: those of the edge and those outside have none, each other one.
+const COLUMNS: [(u32, u32, usize); 10] = [
+    (0, 1, 0),
+    (6, 1, 0),
+    (1, 0, 0),
+    (1, 3, 0),
+    (3, 2, 1),
+    (4, 2, 1),
+    (5, 1, 1),
+    (7, 2, 0),
+    (1, 4, 0),
+    (5000, 2, 0),
+];
+
+fn check_columns(
+    rt: &impl Abort,
+    alloc: Global,
+    book: &Book,
+    rows: &[(u32, u32, usize)],
+) -> Result<(), AllocError> {
+    for (x, z, count) in rows {
+        let floors = floors(book, alloc, *x, *z)?;
+        assert_eq!(rt; floors.len(), *count, "at {x} {z}");
     }
     Ok(())
 }
 
 #[test]
-fn answers_from_the_published_mesh(rt: HostRuntime) -> Result<(), Fail> {
+fn publishes_floors(rt: HostRuntime) -> Result<(), AllocError> {
     let alloc = rt.alloc();
     let mut book = opened::<Brand>(alloc, 7, 4, 4, Blank::new(1))?;
-    // The tile of the columns 1 to 3 has the strips of the rows 1 and 2, each from 16 to 64 of x.
-    let question = Question::Path {
-        from: Point { x: 24, z: 24 },
-        from_y: 10,
-        to: Point { x: 40, z: 24 },
-        to_y: 10,
-    };
-    let stays = Answer::Path(PathFound {
+    check_settlings(&rt, alloc, &mut book, &SETTLINGS)?;
+    check_columns(&rt, alloc, &book, &COLUMNS)
+}
+
+/// The tile of the columns 1 to 3 has the strips of the rows 1 and 2, each from 16 to 64 of x.
+const QUESTION: Question = Question::Path {
+    from: Point { x: 24, z: 24 },
+    from_y: 10,
+    to: Point { x: 40, z: 24 },
+    to_y: 10,
+};
+
+/// The path that stays in the first polygon.
+fn staying(alloc: Global) -> Answer {
+    Answer::Path(PathFound {
         first: PolyRef { tile: 0, index: 0 },
         cost: 0,
         links: Items::new(alloc),
         turns: Items::new(alloc),
-    });
-    assert_eq!(rt; book.ask(alloc, &question)?, (0, stays));
-    // The goal is covered once the request is published, and not before.
+    })
+}
+
+/// Whether the book answers so, with so many requests published.
+fn answers(book: &Book, alloc: Global, number: u32, wanted: &Answer) -> Result<bool, AllocError> {
+    let (published, answer) = book.ask(alloc, &QUESTION)?;
+    Ok(published == number && answer == *wanted)
+}
+
+/// The goal is covered once the request is published, and not before.
+#[test]
+fn answers_from_the_published_mesh(rt: HostRuntime) -> Result<(), AllocError> {
+    let alloc = rt.alloc();
+    let mut book = opened::<Brand>(alloc, 7, 4, 4, Blank::new(1))?;
+    let stays = staying(alloc);
+    assert!(rt; answers(&book, alloc, 0, &stays)?);
     let _answer = book.request(0, request_of(Asked::Block(2)));
-    assert_eq!(rt; book.ask(alloc, &question)?.0, 0);
-    assert!(rt; book.ask(alloc, &question)?.1 != Answer::NoGoal);
-    renewed::<Brand>(&mut book, alloc, Blank::new(1))?;
-    assert_eq!(rt; book.ask(alloc, &question)?, (1, Answer::NoGoal));
+    assert!(rt; answers(&book, alloc, 0, &stays)?);
+    published(&mut book, alloc)?;
+    assert!(rt; answers(&book, alloc, 1, &Answer::NoGoal)?);
     Ok(())
 }
 
+/// One tile of four strips, and then four tiles of three strips each, with as many links inside tiles as over borders.
 #[test]
-fn counts_polygons_and_links(rt: HostRuntime) -> Result<(), Fail> {
+fn counts_polygons_and_links(rt: HostRuntime) -> Result<(), AllocError> {
     let alloc = rt.alloc();
-    // One tile of four strips; four tiles of three strips each, with as many links inside tiles as over borders.
     let one = opened::<Brand>(alloc, 6, 6, 6, Blank::new(1))?;
     assert_eq!(rt; one.mesh_counts(), (4, 6));
     let four = opened::<Brand>(alloc, 8, 8, 4, Blank::new(1))?;
@@ -273,18 +314,23 @@ fn counts_polygons_and_links(rt: HostRuntime) -> Result<(), Fail> {
     Ok(())
 }
 
+/// Fills a history with requests that remove nothing.
+fn fill(book: &mut Book) -> bool {
+    for _ in 0..HISTORY_LIMIT {
+        if book.request(0, Request::Remove(1)).is_err() {
+            return false;
+        }
+    }
+    true
+}
+
 #[test]
-fn fills_its_history(rt: HostRuntime) -> Result<(), Fail> {
+fn fills_its_history(rt: HostRuntime) -> Result<(), AllocError> {
     let alloc = rt.alloc();
     let mut book = sent(opened::<Brand>(alloc, 7, 4, 4, Blank::new(1))?);
-    for _ in 0..HISTORY_LIMIT {
-        assert!(rt; book.request(0, Request::Remove(1)).is_ok());
-    }
+    assert!(rt; fill(&mut book));
     let full = HistoryFull { len: HISTORY_LIMIT };
     assert_eq!(rt; book.request(0, Request::Remove(1)), Err(full));
-    assert_eq!(rt;
-        renewed::<Brand>(&mut book, alloc, Blank::new(1))?,
-        HISTORY_LIMIT
-    );
+    assert_eq!(rt; published(&mut book, alloc)?, HISTORY_LIMIT);
     Ok(())
 }

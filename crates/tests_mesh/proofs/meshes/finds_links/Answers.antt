@@ -13,5 +13,5 @@ one_below links link is first =
 
 pub new-requires-clause-within : goal.new-requires-clause-within
 new-requires-clause-within g c =
-    one_below c.push.new.self.items c.link.result
-    (c.in_ok-push.ensures.items ∙ ap (λ (links : List Link). links ++ c.link.result ∷ []) c.new-list.ensures.items) c.link.ensures
+    one_below c.push.new.self.items c.link-only.result
+    (c.in_ok-push.ensures.items ∙ ap (λ (links : List Link). links ++ c.link-only.result ∷ []) c.new-list.ensures.items) c.link-only.ensures
