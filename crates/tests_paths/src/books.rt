@@ -290,17 +290,25 @@ fn answers(book: &Book, alloc: Global, number: u32, wanted: &Answer) -> Result<b
 }
 
 /// The goal is covered once the request is published, and not before.
+fn check_covering(
+    rt: &impl Abort,
+    alloc: Global,
+    book: &mut Book,
+    stays: &Answer,
+) -> Result<(), AllocError> {
+    assert!(rt; answers(book, alloc, 0, stays)?);
+    let _answer = book.request(0, request_of(Asked::Block(2)));
+    assert!(rt; answers(book, alloc, 0, stays)?);
+    published(book, alloc)?;
+    assert!(rt; answers(book, alloc, 1, &Answer::NoGoal)?);
+    Ok(())
+}
+
 #[test]
 fn answers_from_the_published_mesh(rt: HostRuntime) -> Result<(), AllocError> {
     let alloc = rt.alloc();
     let mut book = opened::<Brand>(alloc, 7, 4, 4, Blank::new(1))?;
-    let stays = staying(alloc);
-    assert!(rt; answers(&book, alloc, 0, &stays)?);
-    let _answer = book.request(0, request_of(Asked::Block(2)));
-    assert!(rt; answers(&book, alloc, 0, &stays)?);
-    published(&mut book, alloc)?;
-    assert!(rt; answers(&book, alloc, 1, &Answer::NoGoal)?);
-    Ok(())
+    check_covering(&rt, alloc, &mut book, &staying(alloc))
 }
 
 /// One tile of four strips, and then four tiles of three strips each, with as many links inside tiles as over borders.
