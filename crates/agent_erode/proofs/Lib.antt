@@ -4,4 +4,3 @@ pub mod Reaches
 pub mod Rounds
 pub mod WindowLaws
 pub mod Selected
-pub mod Literals

@@ -1,4 +1,3 @@
 pub mod Reaching
 pub mod Clearances
 pub mod Windows
-pub mod Rows

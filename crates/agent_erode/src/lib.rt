@@ -15,6 +15,3 @@ mod windows;
 
 pub use kept::{erode, erode_window, kept_marks};
 pub use windows::{Rows, is_near, rows_of};
-
-#[cfg(test)]
-mod tests;

@@ -8,6 +8,3 @@ mod columns;
 mod table;
 
 pub use table::neighbour_table;
-
-#[cfg(test)]
-mod tests;

@@ -89,6 +89,3 @@ fn ceiling_over(spans: &[Span], next: usize, span: &Span) -> u32
         _ => 65535,
     }
 }
-
-#[cfg(test)]
-mod tests;

@@ -7,4 +7,3 @@ pub mod Edges
 pub mod Rising
 pub mod Outlines
 pub mod Searches
-pub mod Literals

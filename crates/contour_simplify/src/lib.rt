@@ -12,6 +12,3 @@ mod stops;
 
 pub use outline::simplify;
 pub use run::simplify_run;
-
-#[cfg(test)]
-mod tests;

@@ -5,4 +5,3 @@ pub mod Vertices
 pub mod LinkWeights
 pub mod Searchable
 pub mod MeshWalks
-pub mod HandMesh

@@ -1,2 +1,1 @@
 pub mod MeshGraphs
-pub mod ByHand

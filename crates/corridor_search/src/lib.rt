@@ -9,6 +9,3 @@ mod mesh_graph;
 mod weights;
 
 pub use corridors::cheapest;
-
-#[cfg(test)]
-mod tests;

@@ -14,6 +14,3 @@ mod triangle;
 
 pub use cut::ears;
 pub use refusal::EarRefusal;
-
-#[cfg(test)]
-mod tests;

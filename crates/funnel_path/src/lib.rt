@@ -52,6 +52,3 @@ pub fn pull(
     }
     Ok(corners)
 }
-
-#[cfg(test)]
-mod tests;

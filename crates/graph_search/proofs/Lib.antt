@@ -7,4 +7,3 @@ pub mod Relaxing
 pub mod Stopping
 pub mod WayBack
 pub mod Turns
-pub mod RowGraphs

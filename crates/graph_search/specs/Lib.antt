@@ -2,4 +2,3 @@ pub mod Walks
 pub mod Entries
 pub mod Visited
 pub mod Searching
-pub mod Rows

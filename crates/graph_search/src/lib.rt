@@ -14,6 +14,3 @@ mod waiting;
 pub use arcs::{Arc, Step, Vertex, Walk};
 pub use graph::Graph;
 pub use search::cheapest_walk;
-
-#[cfg(test)]
-mod tests;

@@ -11,6 +11,3 @@ mod whole;
 
 pub use tile_layers::tile_of;
 pub use whole::{ground, layer};
-
-#[cfg(test)]
-mod tests;

@@ -1,4 +1,3 @@
 mod NearestLaws
 mod TileReach
 mod Scans
-mod HandMesh

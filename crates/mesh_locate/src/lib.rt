@@ -14,6 +14,3 @@ mod polygons;
 mod tiles;
 
 pub use located::locate;
-
-#[cfg(test)]
-mod tests;

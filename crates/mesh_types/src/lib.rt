@@ -37,6 +37,3 @@ pub use polygon::Polygon;
 pub use region::{Code, Region, Regions, UnitEdge};
 pub use strip::Strip;
 pub use tile::{LevelPair, RimEdge, TileMesh};
-
-#[cfg(test)]
-mod tests;

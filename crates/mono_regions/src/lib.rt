@@ -22,6 +22,3 @@ pub use index::{StripIndex, strip_index};
 pub use index_lists::IndexLists;
 pub use layer::strips;
 pub use tile_regions::regions;
-
-#[cfg(test)]
-mod tests;

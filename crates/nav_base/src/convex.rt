@@ -60,39 +60,3 @@ fn next_place(count: usize, place: usize) -> usize
 {
     if place + 1 == count { 0 } else { place + 1 }
 }
-
-#[cfg(test)]
-mod tests {
-    use super::*;
-
-    const FIVE: [Point; 5] = [
-        Point { x: 0, z: 10 },
-        Point { x: -10, z: 3 },
-        Point { x: -6, z: -8 },
-        Point { x: 6, z: -8 },
-        Point { x: 10, z: 3 },
-    ];
-
-    #[test]
-    fn tells_convex_polygons(rt: HostRuntime) {
-        let [a, b, c, d, e] = FIVE;
-        let middle = Point { x: 0, z: -8 };
-        let far = Point {
-            x: 65536,
-            z: -65536,
-        };
-        let high = Point {
-            x: -65536,
-            z: 65536,
-        };
-        assert!(rt; strictly_convex(&FIVE));
-        assert!(rt; strictly_convex(&[b, c, d]));
-        assert!(rt; strictly_convex(&[high, b, far]));
-        assert!(rt; !strictly_convex(&[]));
-        assert!(rt; !strictly_convex(&[a, b]));
-        assert!(rt; !strictly_convex(&[d, c, b]));
-        assert!(rt; !strictly_convex(&[a, b, c, middle, d, e]));
-        assert!(rt; !strictly_convex(&[a, c, e, b, d]));
-        assert!(rt; !strictly_convex(&[a, b, b, c]));
-    }
-}

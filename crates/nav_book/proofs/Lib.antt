@@ -2,4 +2,3 @@ pub mod Rows
 pub mod Tables
 pub mod Histories
 pub mod GroundTiles
-pub mod FlatFields

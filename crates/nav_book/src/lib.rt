@@ -12,6 +12,3 @@ mod counts;
 mod live;
 
 pub use book::{Book, HistoryFull};
-
-#[cfg(test)]
-mod tests;

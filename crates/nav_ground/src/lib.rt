@@ -21,6 +21,3 @@ pub use history::{Entry, Ground, HISTORY_LIMIT, Reply, Request};
 pub use setting::{AREAS, Agent, MeshKind, Setting};
 pub use shape::{Shape, bounds, covers, sets};
 pub use tiling::{TileNo, tile_bounds, tiles};
-
-#[cfg(test)]
-mod tests;

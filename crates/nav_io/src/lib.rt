@@ -25,6 +25,3 @@ pub use sinks::Sink;
 pub use sources::Source;
 pub use standard::{StdSink, StdSource};
 pub use whole::{read_all, write_all};
-
-#[cfg(test)]
-mod tests;

@@ -9,6 +9,3 @@ mod items;
 
 pub use duplicate::Duplicate;
 pub use items::Items;
-
-#[cfg(test)]
-mod tests;

@@ -15,6 +15,3 @@ mod paths;
 mod rays;
 
 pub use answering::answer;
-
-#[cfg(test)]
-mod tests;

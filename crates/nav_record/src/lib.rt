@@ -21,6 +21,3 @@ pub use fault::write_fault;
 pub use reply::write_reply;
 pub use step::{StepAnswer, write_step};
 pub use totals::Totals;
-
-#[cfg(test)]
-mod tests;

@@ -28,6 +28,3 @@ mod script;
 pub use line::Line;
 pub use reader::read_script;
 pub use script::{Script, ScriptRefusal, Way};
-
-#[cfg(test)]
-mod tests;

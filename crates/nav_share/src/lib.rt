@@ -6,6 +6,3 @@
 mod shared;
 
 pub use shared::Shared;
-
-#[cfg(test)]
-mod tests;

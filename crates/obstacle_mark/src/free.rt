@@ -48,6 +48,3 @@ pub fn mark(alloc: Global, layer: &Layer, shapes: &[Shape]) -> Result<FreeLayer,
         cells: Items::from_vec(free),
     })
 }
-
-#[cfg(test)]
-mod tests;

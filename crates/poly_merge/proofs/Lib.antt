@@ -1,3 +1,2 @@
 pub mod Walks
 pub mod Unions
-pub mod HandOutline

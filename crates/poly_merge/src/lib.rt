@@ -13,6 +13,3 @@ mod merging;
 mod union;
 
 pub use merging::merge;
-
-#[cfg(test)]
-mod tests;

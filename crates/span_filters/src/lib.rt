@@ -14,6 +14,3 @@ mod ledge;
 
 pub use filters::{filtered, low_ceilings, low_hanging};
 pub use ledge::ledges;
-
-#[cfg(test)]
-mod tests;

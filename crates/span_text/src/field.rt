@@ -176,6 +176,3 @@ pub fn read_field(alloc: Global, bytes: &[u8]) -> Result<FieldText, FieldRefusal
 {
     read_text(alloc, bytes)
 }
-
-#[cfg(test)]
-mod tests;

@@ -9,7 +9,6 @@ pub mod LinkLaws
 pub mod AwayLaws
 pub mod RimLaws
 pub mod FitLaws
-pub mod Literals
 pub mod CellTotals
 pub mod RimTotals
 pub mod LinkTotals

@@ -15,6 +15,3 @@ mod rim;
 mod tile_strips;
 
 pub use build::{strip_mesh, strip_mesh_over};
-
-#[cfg(test)]
-mod tests;

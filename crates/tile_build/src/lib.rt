@@ -11,6 +11,3 @@ mod same;
 
 pub use build::build_tile;
 pub use ground_tiles::{build_tiles, renew_tiles};
-
-#[cfg(test)]
-mod tests;

@@ -6,7 +6,6 @@ pub mod AxisWalks
 pub mod SharedRuns
 pub mod BorderPortals
 pub mod SoundMeshes
-pub mod HandTiles
 pub mod PlaceOrder
 pub mod FoundLinks
 pub mod RimTables

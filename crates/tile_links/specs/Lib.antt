@@ -1,4 +1,3 @@
 pub mod Across
 pub mod RimPlaces
 pub mod Loose
-pub mod ByHand

@@ -17,6 +17,3 @@ mod rim;
 
 pub use join::{across, cross_links, joined, whole};
 pub use rim::rim_links;
-
-#[cfg(test)]
-mod tests;

@@ -10,8 +10,6 @@
 mod booked;
 mod lock;
 pub mod pairs;
-#[cfg(test)]
-mod tests;
 mod turns;
 mod view;
 

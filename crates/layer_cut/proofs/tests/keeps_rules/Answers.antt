@@ -1,6 +1,0 @@
-use Rattle.std.proofs.Common.{◌∙◌, sym}
-use Rattle.nav_ground.proofs.Literals.{IsField-shown}
-use Rattle.layer_cut.proofs.tests.keeps_rules.Goals as goal
-
-pub returns : goal.returns
-returns c = λ h. IsField-shown c.args.field.now (sym c.is_field.ensures ∙ h)

@@ -1,5 +1,0 @@
-use Rattle.nav_book.proofs.tests.answers_requests.Given as goal
-
--- each call's ledger is the blank one that it is handed
-abbrev pub ghosts-opened : goal.ghosts-opened
-ghosts-opened a a' = record { name = a'.blank.name; parts = a'.blank.parts }

@@ -1,8 +1,0 @@
-use Rattle.nav_book.proofs.tests.publishes_floors.Given as goal
-
--- each call's ledger is the blank one that it is handed
-abbrev pub ghosts-opened : goal.ghosts-opened
-ghosts-opened a a' = record { name = a'.blank.name; parts = a'.blank.parts }
-
-abbrev pub ghosts-renewed : goal.ghosts-renewed
-ghosts-renewed a a' = record { name = a'.blank.name; parts = a'.blank.parts }

@@ -1,0 +1,6 @@
+use Rattle.std.proofs.Common.{◌≡◌}
+use Rattle.turn_lock.specs.Locks.{IsOf}
+use Rattle.tests_base.proofs.turns.add_all.Given as goal
+
+abbrev pub invariant-loop-number : goal.invariant-loop-number
+invariant-loop-number g l = IsOf l.lock l.pass × (l.pass.number ≡ l.fn.pass.number)

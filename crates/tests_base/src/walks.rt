@@ -1,0 +1,136 @@
+//! Searches in a small graph.
+
+ghost use Rattle.std.specs.Prelude.{◌≡◌, ◌<◌, ◌++◌, length, map, slice_index_or, OnOk};
+ghost use Rattle.graph_search.specs.Walks.{ends_of};
+ghost use Rattle.tests_base.specs.Rows.{vertex_at, pair_arc};
+
+use graph_search::{Graph, Step, Vertex, cheapest_walk};
+use std::alloc::{AllocError, Global};
+
+/// A graph of ten vertices in one block: for each of them, where its two arcs end and what they weigh.
+#[derive(Clone, Copy)]
+struct Rows<'a> {
+    rows: &'a [[(u32, u32); 2]],
+}
+
+/// The vertex at a place.
+fn at(place: u32) -> Vertex
+    ensures { result ≡ vertex_at place }
+{
+    Vertex { block: 0, place }
+}
+
+impl Graph for Rows<'_> {
+    ghost use Rattle.tests_base.specs.Rows.{AreRows, ten_vertices, row_arcs, none_left};
+
+    ghost is_sound = { λ g. AreRows g.rows.now };
+
+    ghost vertices = { λ _. ten_vertices };
+
+    ghost arcs = { λ g. row_arcs g.rows.now };
+
+    ghost estimates = { λ _. none_left };
+
+    ghost heaviest = { λ _. 100 };
+
+    fn push_ends(&self, from: Vertex, ends: &mut Vec<Vertex>) -> Result<(), AllocError> {
+        match self.rows.get(from.place as usize) {
+            Some(row) => push_row(row, ends),
+            None => Ok(()),
+        }
+    }
+
+    fn weight(&self, step: Step, _to: Vertex) -> u64 {
+        match self.rows.get(step.from.place as usize) {
+            Some(row) => weight_in(row, step.place),
+            None => 0,
+        }
+    }
+
+    fn estimate(&self, _from: Vertex) -> u64 {
+        0
+    }
+}
+
+/// What the arc at a place weighs.
+fn weight_in(row: &[(u32, u32)], place: usize) -> u64
+    requires { place < length row.now }
+    ensures { result ≡ (slice_index_or row.now place (0, 0)).1 }
+{
+    u64::from(row[place].1)
+}
+
+/// Appends the vertices at which arcs end.
+fn push_row(row: &[(u32, u32)], ends: &mut Vec<Vertex>) -> Result<(), AllocError>
+    ensures { OnOk result (ends.new.items ≡ ends.old.items ++ ends_of (map pair_arc row.now)) }
+{
+    for pair in row {
+        ends.push(at(pair.0))?;
+    }
+    Ok(())
+}
+
+/// From 0 to 3 by two arcs, and by one that weighs more; two arcs from 3 to 4, of which the second weighs less; a ring of arcs of weight
+/// 0 through 4, 5 and 6; loops of weight 0 and of more; and vertices that no arc leads to, 2 and 9 with loops alone, 7 and 8 with an arc
+/// to 0.
+const ROWS: [[(u32, u32); 2]; 10] = [
+    [(3, 9), (1, 4)],
+    [(3, 4), (1, 7)],
+    [(2, 0), (2, 3)],
+    [(4, 2), (4, 1)],
+    [(5, 0), (5, 6)],
+    [(6, 0), (5, 0)],
+    [(4, 0), (6, 0)],
+    [(8, 5), (8, 9)],
+    [(7, 5), (0, 1)],
+    [(9, 0), (9, 0)],
+];
+
+/// What a cheapest walk from one place to another costs.
+fn least_cost(alloc: Global, from: u32, to: u32) -> Result<Option<u64>, AllocError>
+    requires { from < 10 }
+{
+    let graph = Rows { rows: &ROWS };
+    let walk = cheapest_walk(alloc, &graph, at(from), at(to))?;
+    Ok(walk.map(|walk| walk.cost))
+}
+
+#[test]
+fn searches_a_small_graph(rt: HostRuntime) -> Result<(), AllocError> {
+    let alloc = rt.alloc();
+    let table = [
+        (0, 0, Some(0)),
+        (0, 1, Some(4)),
+        (0, 3, Some(8)),
+        (0, 4, Some(9)),
+        (0, 6, Some(9)),
+        (6, 5, Some(0)),
+        (7, 3, Some(14)),
+        (8, 6, Some(10)),
+        (3, 0, None),
+        (0, 7, None),
+        (2, 4, None),
+    ];
+    for (from, to, cost) in table {
+        assert!(rt; from < 10);
+        assert_eq!(rt; least_cost(alloc, from, to)?, cost, "from {from} to {to}");
+    }
+    Ok(())
+}
+
+#[test]
+fn gives_the_steps(rt: HostRuntime) -> Result<(), AllocError> {
+    let alloc = rt.alloc();
+    let graph = Rows { rows: &ROWS };
+    let Some(walk) = cheapest_walk(alloc, &graph, at(0), at(4))? else {
+        assert!(rt; false, "there is a walk");
+        return Ok(());
+    };
+    let wanted = [(0, 1), (1, 0), (3, 1)];
+    assert_eq!(rt; walk.steps.len(), 3);
+    for (step, (from, place)) in walk.steps.iter().zip(wanted) {
+        let from = at(from);
+        assert_eq!(rt; *step, Step { from, place });
+    }
+    Ok(())
+}

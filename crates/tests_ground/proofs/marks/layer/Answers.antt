@@ -1,0 +1,7 @@
+use Rattle.std.proofs.Common.{◌∙◌, sym, subst, refl}
+use Rattle.nav_ground.specs.Cells.{IsCut}
+use Rattle.nav_ground.proofs.Literals.{IsCut-shown}
+use Rattle.tests_ground.proofs.marks.layer.Goals as goal
+
+pub returns-clause-cut : goal.returns-clause-cut
+returns-clause-cut c = subst IsCut (sym (c.from_vec.ensures ∙ c.in_ok-from_array.ensures.items)) (IsCut-shown _ refl)

@@ -1,0 +1,179 @@
+//! A small bridge, by hand.
+
+ghost use Rattle.std.specs.Prelude.{◌≡◌, IfOk, length, OnOk};
+ghost use Rattle.nav_ground.specs.Fields.{IsField, AreAreas};
+ghost use Rattle.nav_ground.specs.Cells.{IsCompact};
+
+use compact_layer::{CompactField, compact, neighbour};
+use nav_ground::{Agent, Cell, CellRef, Field, Span};
+use nav_list::{Duplicate, Items};
+use std::alloc::{AllocError, Global};
+use std::process::Abort;
+
+/// Three columns by two. A bridge crosses the second row; a step leads up to the column in the middle of the first, and boards hang over
+/// two columns, which agents do not walk on.
+const SPANS: [Span; 11] = [
+    Span {
+        x: 0,
+        z: 0,
+        bottom: 0,
+        top: 10,
+        area: 63,
+    },
+    Span {
+        x: 1,
+        z: 0,
+        bottom: 0,
+        top: 14,
+        area: 63,
+    },
+    Span {
+        x: 2,
+        z: 0,
+        bottom: 0,
+        top: 10,
+        area: 63,
+    },
+    Span {
+        x: 2,
+        z: 0,
+        bottom: 20,
+        top: 22,
+        area: 0,
+    },
+    Span {
+        x: 0,
+        z: 1,
+        bottom: 0,
+        top: 10,
+        area: 63,
+    },
+    Span {
+        x: 0,
+        z: 1,
+        bottom: 30,
+        top: 40,
+        area: 63,
+    },
+    Span {
+        x: 1,
+        z: 1,
+        bottom: 0,
+        top: 10,
+        area: 63,
+    },
+    Span {
+        x: 1,
+        z: 1,
+        bottom: 19,
+        top: 21,
+        area: 0,
+    },
+    Span {
+        x: 1,
+        z: 1,
+        bottom: 30,
+        top: 40,
+        area: 63,
+    },
+    Span {
+        x: 2,
+        z: 1,
+        bottom: 0,
+        top: 10,
+        area: 63,
+    },
+    Span {
+        x: 2,
+        z: 1,
+        bottom: 30,
+        top: 45,
+        area: 63,
+    },
+];
+
+const BESIDE: [u32; 11] = [63, 5, 63, 0, 63, 63, 63, 0, 63, 63, 63];
+
+const AGENT: Agent = Agent {
+    height: 10,
+    climb: 4,
+    radius: 0,
+};
+
+/// Place, floor, ceiling, area, and levels in the four directions.
+type Row = ((u32, u32, u32), (u32, u32, u32), [Option<u32>; 4]);
+
+const ROWS: [Row; 9] = [
+    ((0, 0, 0), (10, 65535, 63), [None, Some(0), Some(0), None]),
+    ((1, 0, 0), (14, 65535, 5), [Some(0), None, None, None]),
+    ((2, 0, 0), (10, 20, 63), [None, Some(0), None, None]),
+    ((0, 1, 0), (10, 30, 63), [None, None, None, Some(0)]),
+    ((0, 1, 1), (40, 65535, 63), [None, None, Some(1), None]),
+    ((1, 1, 0), (10, 19, 63), [None, None, None, None]),
+    ((1, 1, 1), (40, 65535, 63), [Some(1), None, None, None]),
+    ((2, 1, 0), (10, 30, 63), [None, None, None, Some(0)]),
+    ((2, 1, 1), (45, 65535, 63), [None, None, None, None]),
+];
+
+fn field(alloc: Global) -> Result<Field, AllocError>
+    ensures rules { IfOk result (λ field. IsField field) }
+    ensures few { IfOk result (λ field. length field.spans ≡ 11) }
+{
+    Ok(Field {
+        width: 3,
+        depth: 2,
+        spans: Items::from_vec(Vec::from_array(alloc, SPANS)?),
+    })
+}
+
+fn place(at: (u32, u32, u32)) -> CellRef {
+    CellRef {
+        x: at.0,
+        z: at.1,
+        level: at.2,
+    }
+}
+
+fn check_cells(rt: &impl Abort, cells: &[Cell]) {
+    assert_eq!(rt; cells.len(), ROWS.len());
+    for (cell, row) in cells.iter().zip(ROWS.iter()) {
+        assert_eq!(rt; cell.at, place(row.0));
+        assert_eq!(rt; (cell.floor, cell.ceiling, cell.area), row.1);
+        assert_eq!(rt; cell.next, row.2);
+    }
+}
+
+fn check_neighbours(rt: &impl Abort, compact: &CompactField)
+    requires { IsCompact compact.now.cells }
+{
+    let cells = compact.cells.as_slice();
+    for (i, dir, wanted) in [
+        (0, 0, None),
+        (0, 1, Some((0, 1, 0))),
+        (0, 2, Some((1, 0, 0))),
+        (1, 0, Some((0, 0, 0))),
+        (3, 3, Some((0, 0, 0))),
+        (4, 2, Some((1, 1, 1))),
+        (6, 0, Some((0, 1, 1))),
+        (6, 2, None),
+    ] {
+        if i < cells.len() && dir < 4 {
+            assert_eq!(rt;
+                neighbour(compact, cells[i].at, dir),
+                wanted.map(place),
+                "cell {i}, {dir}"
+            );
+        }
+    }
+}
+
+#[test]
+fn bridge(rt: HostRuntime) -> Result<(), AllocError> {
+    let alloc = rt.alloc();
+    let field = field(alloc)?;
+    let cells = compact(alloc, &field, &BESIDE, &AGENT)?;
+    check_cells(&rt, cells.cells.as_slice());
+    check_neighbours(&rt, &cells);
+    assert!(rt; cells.duplicate(alloc)? == cells);
+    Ok(())
+}

@@ -1,0 +1,24 @@
+//! Tests of the ground: tiles and shapes, the filters, cells and their connections, erosion, the cut and the marks of obstacles.
+//!
+//! The tests use public calls alone, and compare them with tables that were worked out by hand. They stand apart from what they test,
+//! so that no crate is proved a second time with its tests.
+#![tactic(auto)]
+
+#[cfg(test)]
+mod connections;
+#[cfg(test)]
+mod cuts;
+#[cfg(test)]
+mod erosion;
+#[cfg(test)]
+mod filters;
+#[cfg(test)]
+mod marks;
+#[cfg(test)]
+mod neighbours;
+#[cfg(test)]
+mod rows;
+#[cfg(test)]
+mod rules;
+#[cfg(test)]
+mod tiles_and_shapes;

@@ -1,0 +1,42 @@
+//! The table of a small list of cells, worked out by hand.
+
+ghost use Rattle.std.specs.Prelude.{IfOk};
+ghost use Rattle.nav_ground.specs.Cells.{IsCells};
+
+use crate::rows::{Row, cells_of};
+use cell_table::neighbour_table;
+use nav_ground::Cell;
+use std::alloc::{AllocError, Global};
+use std::test::Fail;
+
+/// Levels with gaps, two levels of one column, a name of a cell that is not there, and columns at the field's corner.
+const ROWS: [Row; 5] = [
+    (0, 0, 2, [None, None, Some(7), None]),
+    (1, 0, 0, [None, Some(4), None, None]),
+    (1, 0, 7, [Some(2), Some(1), Some(0), None]),
+    (1, 1, 4, [None, None, None, Some(0)]),
+    (1, 1, 9, [Some(0), None, None, Some(9)]),
+];
+
+fn cells(alloc: Global) -> Result<Vec<Cell>, AllocError>
+    ensures { IfOk result (λ cells. IsCells cells.items) }
+{
+    let cells = cells_of(alloc, &ROWS)?;
+    Ok(cells)
+}
+
+#[test]
+fn finds_named_cells(rt: HostRuntime) -> Result<(), Fail> {
+    let alloc = rt.alloc();
+    let cells = cells(alloc)?;
+    let table = neighbour_table(alloc, cells.as_slice())?;
+    let wanted = [
+        [5, 5, 2, 5],
+        [5, 3, 5, 5],
+        [0, 5, 5, 5],
+        [5, 5, 5, 1],
+        [5, 5, 5, 5],
+    ];
+    assert_eq!(rt; table.as_slice(), wanted.as_slice());
+    Ok(())
+}

@@ -1,0 +1,89 @@
+//! The rules of fields and of areas, tested when a test runs: what passes may be handed to the calls that require them.
+
+ghost use Rattle.std.specs.Prelude.{◌≡◌, ◌&&◌, IsTrue, nat_le};
+ghost use Rattle.std.specs.List.{list_all};
+ghost use Rattle.nav_ground.specs.Fields.{IsField, AreAreas};
+ghost use Rattle.nav_ground.proofs.Literals;
+
+use nav_ground::{Field, Span};
+
+/// Whether a field keeps the rules of fields.
+pub(crate) fn keeps_rules(field: &Field) -> bool
+    ensures { IsTrue result → IsField field.now }
+{
+    is_field(field)
+}
+
+fn is_field(field: &Field) -> bool
+    ensures { result ≡ Literals.is_field field.now }
+{
+    let spans = field.spans.as_slice();
+    let sized = both(is_size(field.width), is_size(field.depth));
+    let listed = both(
+        are_spans(field.width, field.depth, spans),
+        is_ordered(spans),
+    );
+    both(both(sized, spans.len() <= 2000000), listed)
+}
+
+fn both(a: bool, b: bool) -> bool
+    ensures { result ≡ (a && b) }
+{
+    a && b
+}
+
+fn are_spans(width: u32, depth: u32, spans: &[Span]) -> bool
+    ensures { result ≡ list_all (Literals.is_span width depth) spans.now }
+{
+    spans.iter().all(|span| is_span(width, depth, span))
+}
+
+fn are_after(first: &Span, rest: &[Span]) -> bool
+    ensures { result ≡ list_all (Literals.is_span_before first.now) rest.now }
+{
+    rest.iter().all(|span| is_span_before(first, span))
+}
+
+fn is_size(n: u32) -> bool
+    ensures { result ≡ Literals.is_size n }
+{
+    1 <= n && n <= 1024
+}
+
+fn is_span(width: u32, depth: u32, span: &Span) -> bool
+    ensures { result ≡ Literals.is_span width depth span.now }
+{
+    span.x < width
+        && span.z < depth
+        && span.bottom < span.top
+        && span.top <= 8191
+        && span.area <= 63
+}
+
+fn is_ordered(spans: &[Span]) -> bool
+    ensures { result ≡ Literals.is_ordered_by Literals.is_span_before spans.now }
+{
+    match spans {
+        [] => true,
+        [first, rest @ ..] => both(are_after(first, rest), is_ordered(rest)),
+    }
+}
+
+fn is_span_before(a: &Span, b: &Span) -> bool
+    ensures { result ≡ Literals.is_span_before a.now b.now }
+{
+    a.z < b.z || (a.z == b.z && (a.x < b.x || (a.x == b.x && a.top <= b.bottom)))
+}
+
+/// Whether areas are those of spans.
+pub(crate) fn are_areas(areas: &[u32]) -> bool
+    ensures { IsTrue result → AreAreas areas.now }
+{
+    all_small(areas)
+}
+
+fn all_small(areas: &[u32]) -> bool
+    ensures { result ≡ list_all (λ area. nat_le area 63) areas.now }
+{
+    areas.iter().all(|area| *area <= 63)
+}

@@ -1,0 +1,3 @@
+pub mod HandSettings
+mod Literals
+mod HandTiles

@@ -1,0 +1,2 @@
+pub mod HandSettings
+pub mod TwoTiles

@@ -1,0 +1,109 @@
+//! The build of a small tile by hand.
+
+ghost use Rattle.std.specs.Prelude.{◌≡◌, ◌<◌};
+
+use mesh_types::TileMesh;
+use nav_ground::{AREAS, Agent, Cell, CellRef, Layer, MeshKind, Setting, Shape};
+use nav_list::Items;
+use nav_steps::Steps;
+use std::alloc::{AllocError, Global};
+use std::marker::Brand;
+use std::sync::ledger::{Blank, Ledger};
+use tile_build::build_tile;
+
+/// Three cells in a row, each connected to the next.
+const CELLS: [Cell; 3] = [
+    Cell {
+        at: CellRef {
+            x: 1,
+            z: 2,
+            level: 0,
+        },
+        floor: 10,
+        ceiling: 65535,
+        area: 63,
+        next: [None, None, Some(0), None],
+    },
+    Cell {
+        at: CellRef {
+            x: 2,
+            z: 2,
+            level: 0,
+        },
+        floor: 12,
+        ceiling: 65535,
+        area: 63,
+        next: [Some(0), None, Some(0), None],
+    },
+    Cell {
+        at: CellRef {
+            x: 3,
+            z: 2,
+            level: 0,
+        },
+        floor: 14,
+        ceiling: 65535,
+        area: 63,
+        next: [Some(0), None, None, None],
+    },
+];
+
+const SETTING: Setting = Setting {
+    width: 4,
+    depth: 4,
+    tile: 4,
+    agent: Agent {
+        height: 10,
+        climb: 4,
+        radius: 0,
+    },
+    error: 169,
+    mesh: MeshKind::Strips,
+    limit: 4,
+    costs: [1; AREAS],
+    clear: false,
+};
+
+/// The tile of the three cells under a block over the middle one, or under none.
+fn built<L: Ledger>(
+    alloc: Global,
+    blocked: bool,
+    steps: &mut Steps<L>,
+) -> Result<TileMesh, AllocError> {
+    let layer = Layer {
+        tile: 0,
+        cells: Items::from_vec(Vec::from_array(alloc, CELLS)?),
+        radius: 0,
+        wide: Items::new(alloc),
+    };
+    let block = Shape::Block {
+        x0: 2,
+        x1: 2,
+        y0: 0,
+        y1: 100,
+        z0: 2,
+        z1: 2,
+    };
+    let shapes = [block];
+    let count = if blocked { 1 } else { 0 };
+    build_tile(alloc, &layer, &SETTING, &shapes[..count], steps)
+}
+
+/// How many polygons the tile has as a whole and parted, with a counter over a blank ledger.
+fn polygons<L: Ledger>(alloc: Global, blank: Blank) -> Result<(usize, usize), AllocError>
+    requires name { blank.name ≡ L.name }
+    requires parts { blank.parts ≡ L.parts }
+    requires some { 0 < blank.parts }
+{
+    let mut steps = Steps::<L>::new(blank);
+    let whole = built(alloc, false, &mut steps)?;
+    let parted = built(alloc, true, &mut steps)?;
+    Ok((whole.polys.len(), parted.polys.len()))
+}
+
+#[test]
+fn builds_a_tile(rt: HostRuntime) -> Result<(), AllocError> {
+    let alloc = rt.alloc();
+    assert_eq!(rt; polygons::<Brand>(alloc, Blank::new(1))?, (1, 2));
+    Ok(())
+}

@@ -1,0 +1,3 @@
+mod CorridorMeshes
+mod PlaceMeshes
+mod FlatFields

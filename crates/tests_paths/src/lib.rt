@@ -1,0 +1,18 @@
+//! Tests of what is asked of a mesh: taut paths, the polygon of a place, corridors, whole answers, and books over small grounds.
+//!
+//! The tests use public calls alone, and compare them with tables that were worked out by hand. They stand apart from what they test,
+//! so that no crate is proved a second time with its tests.
+#![tactic(auto)]
+
+#[cfg(test)]
+mod books;
+#[cfg(test)]
+mod chains;
+#[cfg(test)]
+mod corridors;
+#[cfg(test)]
+mod places;
+#[cfg(test)]
+mod questions;
+#[cfg(test)]
+mod settings;

@@ -1,0 +1,14 @@
+//! Tests of regions and what is made of them: contours, outlines, triangles and pieces.
+//!
+//! The tests use public calls alone, and compare them with tables that were worked out by hand. They stand apart from what they test,
+//! so that no crate is proved a second time with its tests.
+#![tactic(auto)]
+
+#[cfg(test)]
+mod cut_outlines;
+#[cfg(test)]
+mod outlines;
+#[cfg(test)]
+mod pieces;
+#[cfg(test)]
+mod stacks;

@@ -1,0 +1,233 @@
+//! A field text of every form of line, and the line and kind of the first fault of wrong ones.
+
+use nav_ground::{AREAS, Agent, MeshKind, Setting, Span};
+use nav_text::FaultKind;
+use span_text::{FieldRefusal, FieldText, read_field};
+use std::alloc::{AllocError, Global};
+use std::process::Abort;
+
+const HEADER: [&str; 7] = [
+    "nav 1\n",
+    "size 6 6\n",
+    "tile 6\n",
+    "agent 10 4 0\n",
+    "error 169\n",
+    "mesh strips\n",
+    "limit 4\n",
+];
+
+/// The first lines of a header, and what follows them.
+fn text_with(alloc: Global, lines: usize, tail: &str) -> Result<Vec<u8>, AllocError> {
+    let mut text = Vec::new(alloc);
+    for line in HEADER.iter().take(lines) {
+        text.extend_from_slice(line.as_bytes())?;
+    }
+    text.extend_from_slice(tail.as_bytes())?;
+    Ok(text)
+}
+
+/// The line and kind of the fault of a text; zeros where it has none.
+fn fault_of(alloc: Global, text: &[u8]) -> (u32, u32) {
+    match read_field(alloc, text) {
+        Ok(_) => (0, 0),
+        Err(FieldRefusal::Fault(fault)) => (fault.line, fault.kind),
+        Err(FieldRefusal::OutOfMemory) => (0, 99),
+    }
+}
+
+/// Every form of line, and the first line of a script behind it.
+const EVERY_FORM: &str =
+    "nav 1\nsize 1024 1\ntile 128\nagent 255 254 15\nerror 10000\nmesh contours\nlimit 1024\ncost 1 1\ncost 3 7\ncost 63 1000\nspan 0 0 0 5 0\nspan 0 0 5 8191 63\nspan 1023 0 7 8 1\nend\nscript 1 1\n";
+
+/// Where the script begins.
+const SCRIPT_AT: usize = 168;
+
+/// Its spans.
+const SPANS: [Span; 3] = [
+    Span {
+        x: 0,
+        z: 0,
+        bottom: 0,
+        top: 5,
+        area: 0,
+    },
+    Span {
+        x: 0,
+        z: 0,
+        bottom: 5,
+        top: 8191,
+        area: 63,
+    },
+    Span {
+        x: 1023,
+        z: 0,
+        bottom: 7,
+        top: 8,
+        area: 1,
+    },
+];
+
+/// Its setting.
+fn every_setting() -> Setting {
+    let mut costs = [1; AREAS];
+    costs[3] = 7;
+    costs[63] = 1000;
+    Setting {
+        width: 1024,
+        depth: 1,
+        tile: 128,
+        agent: Agent {
+            height: 255,
+            climb: 254,
+            radius: 15,
+        },
+        error: 10000,
+        mesh: MeshKind::Contours,
+        limit: 1024,
+        costs,
+        clear: false,
+    }
+}
+
+fn check_every_form(rt: &impl Abort, read: &FieldText) {
+    assert_eq!(rt; (read.used, read.lines), (SCRIPT_AT, 14));
+    assert_eq!(rt; read.setting, every_setting());
+    assert_eq!(rt; (read.field.width, read.field.depth), (1024, 1));
+    assert_eq!(rt; read.field.spans.as_slice(), SPANS.as_slice());
+}
+
+#[test]
+fn reads_every_form(rt: HostRuntime) {
+    match read_field(rt.alloc(), EVERY_FORM.as_bytes()) {
+        Ok(read) => check_every_form(&rt, &read),
+        Err(_) => assert!(rt; false),
+    }
+}
+
+#[test]
+fn reads_a_field_without_spans(rt: HostRuntime) -> Result<(), AllocError> {
+    let text = text_with(rt.alloc(), 7, "end\n")?;
+    assert!(rt; read_field(rt.alloc(), text.as_slice()).is_ok());
+    Ok(())
+}
+
+/// How many lines of the header stand first, what follows them, and the line and kind of the first fault.
+type FirstFault = (usize, &'static str, u32, FaultKind);
+
+const HEADER_FAULTS: [FirstFault; 31] = [
+    (0, "", 1, FaultKind::Unfinished),
+    (0, "\n", 1, FaultKind::Form),
+    (0, "nav 1", 1, FaultKind::Unfinished),
+    (0, "nav 2\n", 1, FaultKind::Form),
+    (0, "nav 01\n", 1, FaultKind::Form),
+    (0, "nav 1 \n", 1, FaultKind::Form),
+    (0, "nav 1\r\n", 1, FaultKind::Form),
+    (1, "", 2, FaultKind::Unfinished),
+    (1, "size 6\n", 2, FaultKind::Form),
+    (1, "size 06 6\n", 2, FaultKind::Form),
+    (1, "size 6 6 \n", 2, FaultKind::Form),
+    (1, "size 6 4294967296\n", 2, FaultKind::Form),
+    (1, "size 0 6\n", 2, FaultKind::Range),
+    (1, "size 6 1025\n", 2, FaultKind::Range),
+    (1, "size 6 6", 2, FaultKind::Unfinished),
+    (2, "tile\n", 3, FaultKind::Form),
+    (2, "tile 3\n", 3, FaultKind::Range),
+    (2, "tile 129\n", 3, FaultKind::Range),
+    (3, "agent 10 4\n", 4, FaultKind::Form),
+    (3, "agent 0 0 0\n", 4, FaultKind::Range),
+    (3, "agent 256 0 0\n", 4, FaultKind::Range),
+    (3, "agent 255 255 0\n", 4, FaultKind::Range),
+    (3, "agent 10 10 16\n", 4, FaultKind::Range),
+    (3, "agent 10 10 0\n", 4, FaultKind::Climb),
+    (4, "error 1 2\n", 5, FaultKind::Form),
+    (4, "error 10001\n", 5, FaultKind::Range),
+    (5, "mesh strip\n", 6, FaultKind::Form),
+    (5, "mesh contours \n", 6, FaultKind::Form),
+    (6, "limit x\n", 7, FaultKind::Form),
+    (6, "limit 0\n", 7, FaultKind::Range),
+    (6, "limit 1025\n", 7, FaultKind::Range),
+];
+
+/// The same behind a whole header.
+const BODY_FAULTS: [FirstFault; 31] = [
+    (7, "", 8, FaultKind::Unfinished),
+    (7, "end", 8, FaultKind::Unfinished),
+    (7, "end \n", 8, FaultKind::Form),
+    (7, "ends\n", 8, FaultKind::Form),
+    (7, "script 1 1\n", 8, FaultKind::Form),
+    (7, "nav 1\n", 8, FaultKind::Form),
+    (7, "cost 1\n", 8, FaultKind::Form),
+    (7, "cost 0 1\n", 8, FaultKind::Range),
+    (7, "cost 64 1\n", 8, FaultKind::Range),
+    (7, "cost 1 0\n", 8, FaultKind::Range),
+    (7, "cost 1 1001\n", 8, FaultKind::Range),
+    (7, "cost 2 5\ncost 2 6\n", 9, FaultKind::Order),
+    (7, "cost 2 5\ncost 1 1001\n", 9, FaultKind::Range),
+    (7, "cost 2 5\ncost 63 1", 9, FaultKind::Unfinished),
+    (7, "span 0 0 0 1\n", 8, FaultKind::Form),
+    (7, "span 0 0 0 1 0 0\n", 8, FaultKind::Form),
+    (7, "span  0 0 0 1 0\n", 8, FaultKind::Form),
+    (7, "span 0 0 0 01 0\n", 8, FaultKind::Form),
+    (7, "span 6 0 0 1 0\n", 8, FaultKind::Range),
+    (7, "span 0 6 0 1 0\n", 8, FaultKind::Range),
+    (7, "span 0 0 1 1 0\n", 8, FaultKind::Range),
+    (7, "span 0 0 0 8192 0\n", 8, FaultKind::Range),
+    (7, "span 0 0 0 1 64\n", 8, FaultKind::Range),
+    (
+        7,
+        "span 1 0 0 10 63\nspan 0 0 0 10 63\n",
+        9,
+        FaultKind::Order,
+    ),
+    (
+        7,
+        "span 0 1 0 10 63\nspan 5 0 0 10 63\n",
+        9,
+        FaultKind::Order,
+    ),
+    (
+        7,
+        "span 1 0 0 10 63\nspan 0 0 10 10 63\n",
+        9,
+        FaultKind::Range,
+    ),
+    (
+        7,
+        "span 0 0 0 10 63\nspan 0 0 9 12 0\n",
+        9,
+        FaultKind::Overlap,
+    ),
+    (7, "span 0 0 0 10 63\ncost 1 1\n", 9, FaultKind::Form),
+    (7, "span 0 0 0 10 63\ncost 0 1\n", 9, FaultKind::Form),
+    (
+        7,
+        "span 0 0 0 10 63\nspan 0 0 10 12 0",
+        9,
+        FaultKind::Unfinished,
+    ),
+    (
+        7,
+        "span 0 0 0 10 63\nspan 0 0 10 12 0\n",
+        10,
+        FaultKind::Unfinished,
+    ),
+];
+
+fn check_faults(rt: &impl Abort, alloc: Global, faults: &[FirstFault]) -> Result<(), AllocError> {
+    for (lines, tail, line, kind) in faults {
+        let text = text_with(alloc, *lines, tail)?;
+        let wanted = (*line, kind.number());
+        assert_eq!(rt; fault_of(alloc, text.as_slice()), wanted, "at {tail}");
+    }
+    Ok(())
+}
+
+#[test]
+fn tells_the_first_fault(rt: HostRuntime) -> Result<(), AllocError> {
+    check_faults(&rt, rt.alloc(), &HEADER_FAULTS)
+}
+
+#[test]
+fn tells_the_first_fault_behind_the_header(rt: HostRuntime) -> Result<(), AllocError> {
+    check_faults(&rt, rt.alloc(), &BODY_FAULTS)
+}

@@ -1,0 +1,175 @@
+//! Every form of line once, beside its text written by hand.
+
+use mesh_types::{Answer, Corner, Link, PathFound, PolyRef, Portal, Side};
+use nav_base::{FloorAt, Point};
+use nav_ground::Reply;
+use nav_list::Items;
+use nav_record::{StepAnswer, write_answer, write_done, write_fault, write_reply, write_step};
+use nav_text::{FaultKind, TextFault};
+use std::alloc::{AllocError, Global};
+use std::process::Abort;
+
+/// What a step answers, and its line.
+const STEPS: [(StepAnswer, &str); 13] = [
+    (StepAnswer::Aim { k: 0 }, "aim 0\n"),
+    (
+        StepAnswer::Claimed {
+            worker: 15,
+            tile: 4294967295,
+        },
+        "claim 15 tile 4294967295\n",
+    ),
+    (StepAnswer::NoTile { worker: 3 }, "claim 3 none\n"),
+    (StepAnswer::Busy { worker: 4294967295 }, "busy 4294967295\n"),
+    (StepAnswer::Idle { worker: 0 }, "idle 0\n"),
+    (
+        StepAnswer::Back {
+            worker: 1,
+            tile: 20,
+        },
+        "back 1 tile 20\n",
+    ),
+    (
+        StepAnswer::Taken { worker: 2, tile: 0 },
+        "submit 2 taken 0\n",
+    ),
+    (
+        StepAnswer::Stale {
+            worker: 10,
+            tile: 7,
+        },
+        "submit 10 stale 7\n",
+    ),
+    (StepAnswer::Published { k: 65536 }, "published 65536\n"),
+    (StepAnswer::Same { k: 9 }, "same 9\n"),
+    (StepAnswer::NotYet { tile: 63 }, "notyet 63\n"),
+    (StepAnswer::Settled { k: 12 }, "settled 12\n"),
+    (
+        StepAnswer::HistoryFull { len: 65536 },
+        "history full 65536\n",
+    ),
+];
+
+fn check_steps(
+    rt: &impl Abort,
+    alloc: Global,
+    steps: &[(StepAnswer, &str)],
+) -> Result<(), AllocError> {
+    for (step, wanted) in steps {
+        let mut out = Vec::new(alloc);
+        write_step(&mut out, step)?;
+        assert_eq!(rt; out.as_slice(), wanted.as_bytes(), "at {wanted}");
+    }
+    Ok(())
+}
+
+#[test]
+fn writes_steps(rt: HostRuntime) -> Result<(), AllocError> {
+    check_steps(&rt, rt.alloc(), &STEPS)
+}
+
+#[test]
+fn writes_the_other_lines(rt: HostRuntime) -> Result<(), AllocError> {
+    let mut out = Vec::new(rt.alloc());
+    write_reply(&mut out, 1, &Reply::Added { number: 1 })?;
+    write_reply(&mut out, 2, &Reply::Full { live: 1024 })?;
+    write_reply(&mut out, 65536, &Reply::Removed)?;
+    write_reply(&mut out, 4, &Reply::Dead { number: 4294967295 })?;
+    write_done(&mut out, 0, 4294967295)?;
+    write_fault(
+        &mut out,
+        &TextFault::new(4294967295, FaultKind::TooManyLines),
+    )?;
+    write_fault(&mut out, &TextFault { line: 0, kind: 0 })?;
+    let wanted = "entry 1 added\nentry 2 full 1024\nentry 65536 removed\nentry 4 dead 4294967295\n\
+        done 0 4294967295\nfault 4294967295 11\nfault 0 0\n";
+    assert_eq!(rt; out.as_slice(), wanted.as_bytes());
+    Ok(())
+}
+
+/// Whether the answer to the question in a line is written as these lines.
+fn writes(alloc: Global, line: u32, answer: &Answer, wanted: &str) -> Result<bool, AllocError> {
+    let mut out = Vec::new(alloc);
+    write_answer(&mut out, line, answer)?;
+    Ok(out.as_slice() == wanted.as_bytes())
+}
+
+const FLOORS: [FloorAt; 2] = [FloorAt { y: 0, area: 63 }, FloorAt { y: 8191, area: 1 }];
+
+#[test]
+fn writes_floors(rt: HostRuntime) -> Result<(), AllocError> {
+    let alloc = rt.alloc();
+    let floors = Answer::Floors(Items::from_vec(Vec::from_array(alloc, FLOORS)?));
+    assert!(rt; writes(alloc, 3, &floors, "floors 3 2 0 63 8191 1\n")?);
+    let none = Answer::Floors(Items::new(alloc));
+    assert!(rt; writes(alloc, 3, &none, "floors 3 0\n")?);
+    Ok(())
+}
+
+#[test]
+fn writes_answers(rt: HostRuntime) -> Result<(), AllocError> {
+    let alloc = rt.alloc();
+    assert!(rt; writes(alloc, 3, &Answer::NoStart, "nostart 3\n")?);
+    assert!(rt; writes(alloc, 3, &Answer::NoGoal, "nogoal 3\n")?);
+    assert!(rt; writes(alloc, 3, &Answer::NoPath, "nopath 3\n")?);
+    let reached = Answer::Reached(PolyRef {
+        tile: 4294967295,
+        index: 7,
+    });
+    assert!(rt; writes(alloc, 3, &reached, "reached 3 4294967295 7\n")?);
+    let wall = Answer::Wall {
+        a: Point { x: -1, z: 0 },
+        b: Point { x: 16384, z: 32 },
+        num: 9223372036854775807,
+        den: -1,
+    };
+    assert!(rt;
+        writes(
+            alloc,
+            3,
+            &wall,
+            "wall 3 -1 0 16384 32 9223372036854775807 -1\n"
+        )?
+    );
+    Ok(())
+}
+
+const FIRST: PolyRef = PolyRef { tile: 0, index: 1 };
+
+const LINK: Link = Link {
+    from: FIRST,
+    edge: 2,
+    to: PolyRef { tile: 3, index: 4 },
+    portal: Portal {
+        left: Point { x: 16, z: 32 },
+        right: Point { x: 48, z: 64 },
+    },
+};
+
+const TURNS: [Corner; 2] = [
+    Corner {
+        at: Point { x: 16, z: 32 },
+        side: Side::L,
+        portal: 0,
+    },
+    Corner {
+        at: Point { x: 48, z: 64 },
+        side: Side::R,
+        portal: 0,
+    },
+];
+
+#[test]
+fn writes_a_path(rt: HostRuntime) -> Result<(), AllocError> {
+    let alloc = rt.alloc();
+    let found = PathFound {
+        first: FIRST,
+        cost: 18446744073709551615,
+        links: Items::from_vec(Vec::from_array(alloc, [LINK])?),
+        turns: Items::from_vec(Vec::from_array(alloc, TURNS)?),
+    };
+    let wanted =
+        "path 12 18446744073709551615 0 1 1 2\nlink 3 4 16 32 48 64\nturn 16 32 L 0\nturn 48 64 R 0\n";
+    assert!(rt; writes(alloc, 12, &Answer::Path(found), wanted)?);
+    Ok(())
+}

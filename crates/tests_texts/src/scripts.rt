@@ -1,0 +1,349 @@
+//! Each line form once good and once with each fault that it can have, and the faults of whole texts.
+
+use nav_base::{Point, Question};
+use nav_ground::Shape;
+use nav_script::{Line, ScriptRefusal, Way, read_script};
+use std::alloc::{AllocError, Global};
+use std::process::Abort;
+
+/// What is read of a text whose first line has the number 45: the number of its lines and the last of them, or the fault.
+#[derive(Clone, Copy, PartialEq, Eq, Debug)]
+enum Told {
+    Script { lanes: u32, workers: u32 },
+    Last(usize, Line),
+    Fault(u32, u32),
+}
+
+fn read_text(alloc: Global, text: &[u8], way: Way) -> Result<Told, AllocError> {
+    match read_script(alloc, text, 45, way) {
+        Ok(script) => match script.lines.as_slice().last() {
+            Some(line) => Ok(Told::Last(script.lines.len(), *line)),
+            None => Ok(Told::Script {
+                lanes: script.lanes,
+                workers: script.workers,
+            }),
+        },
+        Err(ScriptRefusal::Fault(fault)) => Ok(Told::Fault(fault.line, fault.kind)),
+        Err(ScriptRefusal::OutOfMemory) => Err(AllocError),
+    }
+}
+
+const FROM: Point = Point { x: 16384, z: 0 };
+
+const TO: Point = Point { x: 7, z: 16384 };
+
+/// A line of each form, and what it says.
+const RIGHT_LINES: [(&str, Line); 14] = [
+    ("floor 1023 0", Line::Ask(Question::Floor { x: 1023, z: 0 })),
+    (
+        "path 16384 0 8191 7 16384 0",
+        Line::Ask(Question::Path {
+            from: FROM,
+            from_y: 8191,
+            to: TO,
+            to_y: 0,
+        }),
+    ),
+    (
+        "ray 16384 0 8191 7 16384",
+        Line::Ask(Question::Ray {
+            from: FROM,
+            from_y: 8191,
+            to: TO,
+        }),
+    ),
+    (
+        "add block 0 1023 7 8191 5 6",
+        Line::Add(Shape::Block {
+            x0: 0,
+            x1: 1023,
+            y0: 7,
+            y1: 8191,
+            z0: 5,
+            z1: 6,
+        }),
+    ),
+    (
+        "add cylinder 2048 1 1023 8190 8191",
+        Line::Add(Shape::Cylinder {
+            cx: 2048,
+            cz: 1,
+            r: 1023,
+            y0: 8190,
+            y1: 8191,
+        }),
+    ),
+    ("remove 4294967295", Line::Remove(4294967295)),
+    ("drop 1", Line::Undo(1)),
+    ("settle", Line::Settle),
+    ("lane 1", Line::Lane(1)),
+    ("aim", Line::Aim),
+    ("claim 2", Line::Claim(2)),
+    ("back 0", Line::Back(0)),
+    ("submit 1", Line::Submit(1)),
+    ("publish", Line::Publish),
+];
+
+fn check_right_lines(
+    rt: &impl Abort,
+    alloc: Global,
+    rows: &[(&str, Line)],
+) -> Result<(), AllocError> {
+    for (line, wanted) in rows {
+        let text = format!(in alloc; "script 2 3\nadd block 0 0 0 0 0 0\n{line}\n")?;
+        let told = read_text(alloc, text.as_bytes(), Way::Play)?;
+        assert_eq!(rt; told, Told::Last(2, *wanted), "at {line}");
+    }
+    Ok(())
+}
+
+#[test]
+fn reads_right_lines(rt: HostRuntime) -> Result<(), AllocError> {
+    check_right_lines(&rt, rt.alloc(), &RIGHT_LINES)
+}
+
+/// A line of a script with two lanes and three workers, the way it runs, and the kind of the fault.
+const WRONG_LINES: [(&str, Way, u32); 61] = [
+    ("floor 0 1024", Way::Play, 2),
+    ("floor 1024 0", Way::Live, 2),
+    ("floor 0", Way::Play, 8),
+    ("floor 0 0 0", Way::Play, 8),
+    ("floor 0 0 ", Way::Play, 8),
+    ("floor  0 0", Way::Play, 8),
+    (" floor 0 0", Way::Play, 8),
+    ("floor 00 0", Way::Play, 8),
+    ("floor 0 4294967296", Way::Play, 8),
+    ("floor 0 4294967295", Way::Play, 2),
+    ("Floor 0 0", Way::Play, 8),
+    ("floor 0 0\r", Way::Play, 8),
+    ("path 16385 0 0 0 0 0", Way::Play, 2),
+    ("path 0 16385 0 0 0 0", Way::Play, 2),
+    ("path 0 0 8192 0 0 0", Way::Play, 2),
+    ("path 0 0 0 16385 0 0", Way::Play, 2),
+    ("path 0 0 0 0 16385 0", Way::Play, 2),
+    ("path 0 0 0 0 0 8192", Way::Play, 2),
+    ("path 0 0 0 0 0", Way::Play, 8),
+    ("ray 16385 0 0 0 0", Way::Play, 2),
+    ("ray 0 16385 0 0 0", Way::Play, 2),
+    ("ray 0 0 8192 0 0", Way::Play, 2),
+    ("ray 0 0 0 16385 0", Way::Play, 2),
+    ("ray 0 0 0 0 16385", Way::Play, 2),
+    ("ray 0 0 0 0 0 0", Way::Play, 8),
+    ("add block 1 0 0 0 0 0", Way::Play, 2),
+    ("add block 0 1024 0 0 0 0", Way::Play, 2),
+    ("add block 0 0 1 0 0 0", Way::Play, 2),
+    ("add block 0 0 0 8192 0 0", Way::Play, 2),
+    ("add block 0 0 0 0 1 0", Way::Play, 2),
+    ("add block 0 0 0 0 0 1024", Way::Play, 2),
+    ("add block 0 0 0 0 0", Way::Play, 8),
+    ("add area 1 block 0 0 0 0 0 0", Way::Play, 8),
+    ("add cylinder 2049 0 0 0 0", Way::Play, 2),
+    ("add cylinder 0 2049 0 0 0", Way::Play, 2),
+    ("add cylinder 0 0 1024 0 0", Way::Play, 2),
+    ("add cylinder 0 0 0 1 0", Way::Play, 2),
+    ("add cylinder 0 0 0 0 8192", Way::Play, 2),
+    ("add", Way::Play, 8),
+    ("remove", Way::Play, 8),
+    ("remove -1", Way::Play, 8),
+    ("drop 0", Way::Play, 2),
+    ("drop 2", Way::Play, 10),
+    ("drop 2", Way::Live, 10),
+    ("drop", Way::Play, 8),
+    ("settle 1", Way::Play, 8),
+    ("lane 2", Way::Play, 9),
+    ("lane 2", Way::Live, 9),
+    ("lane", Way::Play, 8),
+    ("claim 3", Way::Play, 9),
+    ("back 3", Way::Play, 9),
+    ("submit 3", Way::Play, 9),
+    ("claim", Way::Play, 8),
+    ("claim 0", Way::Live, 8),
+    ("back 0", Way::Live, 8),
+    ("submit 0", Way::Live, 8),
+    ("aim", Way::Live, 8),
+    ("publish", Way::Live, 8),
+    ("aims", Way::Play, 8),
+    ("jump", Way::Play, 8),
+    ("", Way::Play, 8),
+];
+
+fn check_wrong_lines(
+    rt: &impl Abort,
+    alloc: Global,
+    rows: &[(&str, Way, u32)],
+) -> Result<(), AllocError> {
+    for (line, way, kind) in rows {
+        let text = format!(in alloc; "script 2 3\nadd block 0 0 0 0 0 0\n{line}\nsettle\n")?;
+        let told = read_text(alloc, text.as_bytes(), *way)?;
+        assert_eq!(rt; told, Told::Fault(47, *kind), "at {line}");
+    }
+    Ok(())
+}
+
+#[test]
+fn refuses_wrong_lines(rt: HostRuntime) -> Result<(), AllocError> {
+    check_wrong_lines(&rt, rt.alloc(), &WRONG_LINES)
+}
+
+/// Whole texts, and what is read of them.
+const TEXTS: [(&str, Told); 19] = [
+    ("", Told::Fault(45, 7)),
+    ("script 1 1", Told::Fault(45, 7)),
+    (
+        "script 16 8\n",
+        Told::Script {
+            lanes: 16,
+            workers: 8,
+        },
+    ),
+    (
+        "script 1 1\n",
+        Told::Script {
+            lanes: 1,
+            workers: 1,
+        },
+    ),
+    ("script 0 1\n", Told::Fault(45, 2)),
+    ("script 17 1\n", Told::Fault(45, 2)),
+    ("script 1 0\n", Told::Fault(45, 2)),
+    ("script 1 9\n", Told::Fault(45, 2)),
+    ("script 1\n", Told::Fault(45, 1)),
+    ("scripts 1 1\n", Told::Fault(45, 1)),
+    ("\n", Told::Fault(45, 1)),
+    ("jump\nscript 1 1", Told::Fault(45, 1)),
+    ("script 1 1\npublish", Told::Fault(46, 7)),
+    ("script 1 1\njump", Told::Fault(46, 7)),
+    ("script 1 1\njump\n", Told::Fault(46, 8)),
+    ("script 1 1\nlane 1\n", Told::Fault(46, 9)),
+    ("script 1 1\ndrop 1\n", Told::Fault(46, 10)),
+    (
+        "script 2 1\nadd block 0 0 0 0 0 0\nlane 1\ndrop 1\n",
+        Told::Fault(48, 10),
+    ),
+    (
+        "script 2 1\nlane 1\nadd block 0 0 0 0 0 0\nlane 0\nlane 1\ndrop 1\n",
+        Told::Last(5, Line::Undo(1)),
+    ),
+];
+
+fn check_texts(rt: &impl Abort, alloc: Global, rows: &[(&str, Told)]) -> Result<(), AllocError> {
+    for (text, wanted) in rows {
+        let told = read_text(alloc, text.as_bytes(), Way::Play)?;
+        assert_eq!(rt; told, *wanted, "at {text}");
+    }
+    Ok(())
+}
+
+#[test]
+fn reads_texts(rt: HostRuntime) -> Result<(), AllocError> {
+    check_texts(&rt, rt.alloc(), &TEXTS)
+}
+
+/// A text of a line, then another line so many times, then a last line.
+fn repeated(
+    alloc: Global,
+    first: &str,
+    line: &str,
+    count: u32,
+    last: &str,
+) -> Result<Vec<u8>, AllocError> {
+    let mut text = Vec::new(alloc);
+    text.extend_from_slice(first.as_bytes())?;
+    for _ in 0..count {
+        text.extend_from_slice(line.as_bytes())?;
+    }
+    text.extend_from_slice(last.as_bytes())?;
+    Ok(text)
+}
+
+/// A line, how often it stands, the way it runs, the line behind it, and what is read.
+const LONG_TEXTS: [(&str, u32, Way, &str, Told); 10] = [
+    (
+        "settle\n",
+        299999,
+        Way::Play,
+        "settle\n",
+        Told::Last(300000, Line::Settle),
+    ),
+    (
+        "settle\n",
+        300000,
+        Way::Play,
+        "jump\n",
+        Told::Fault(300046, 11),
+    ),
+    (
+        "settle\n",
+        300000,
+        Way::Play,
+        "jump",
+        Told::Fault(300046, 7),
+    ),
+    (
+        "remove 0\n",
+        65535,
+        Way::Live,
+        "remove 1\n",
+        Told::Last(65536, Line::Remove(1)),
+    ),
+    (
+        "remove 0\n",
+        65536,
+        Way::Live,
+        "settle\n",
+        Told::Last(65537, Line::Settle),
+    ),
+    (
+        "remove 0\n",
+        65536,
+        Way::Live,
+        "drop",
+        Told::Fault(65582, 7),
+    ),
+    (
+        "remove 0\n",
+        65536,
+        Way::Live,
+        "drop\n",
+        Told::Fault(65582, 11),
+    ),
+    (
+        "remove 0\n",
+        65536,
+        Way::Live,
+        "add area\n",
+        Told::Fault(65582, 11),
+    ),
+    (
+        "remove 0\n",
+        65536,
+        Way::Live,
+        "removes 0\n",
+        Told::Fault(65582, 8),
+    ),
+    (
+        "remove 0\n",
+        65536,
+        Way::Play,
+        "remove 1\n",
+        Told::Last(65537, Line::Remove(1)),
+    ),
+];
+
+fn check_long_texts(
+    rt: &impl Abort,
+    alloc: Global,
+    rows: &[(&str, u32, Way, &str, Told)],
+) -> Result<(), AllocError> {
+    for (line, count, way, last, wanted) in rows {
+        let text = repeated(alloc, "script 1 1\n", line, *count, last)?;
+        let told = read_text(alloc, text.as_slice(), *way)?;
+        assert_eq!(rt; told, *wanted, "at {last}");
+    }
+    Ok(())
+}
+
+#[test]
+fn counts_lines(rt: HostRuntime) -> Result<(), AllocError> {
+    check_long_texts(&rt, rt.alloc(), &LONG_TEXTS)
+}

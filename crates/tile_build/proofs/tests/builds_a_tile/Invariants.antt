@@ -1,5 +1,0 @@
-use Rattle.tile_build.proofs.tests.builds_a_tile.Given as goal
-
--- the call's ledger is the blank one that it is handed
-abbrev pub ghosts-polygons : goal.ghosts-polygons
-ghosts-polygons a a' = record { name = a'.blank.name; parts = a'.blank.parts }
