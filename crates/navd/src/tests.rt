@@ -116,12 +116,7 @@ fn ends_with_the_status_of_its_cause(rt: HostRuntime) -> Result<(), Fail> {
             Status::BadText,
             b"fault 47 2\n",
         ),
-        (
-            "play",
-            b"aim\n",
-            Status::BadText,
-            b"fault 0 0\n",
-        ),
+        ("play", b"aim\n", Status::BadText, b"fault 0 0\n"),
     ];
     for (word, script, status, held) in cases {
         let ran = run_once(&rt, alloc, word, level(alloc, script)?, (100, 0), (8, 0))?;

@@ -302,7 +302,12 @@ const SHOTS: [Shot; 6] = [
     ((40, 8), (8, 8), None),
 ];
 
-fn check_shots(rt: &impl Abort, alloc: Global, mesh: &Mesh, shots: &[Shot]) -> Result<(), AllocError>
+fn check_shots(
+    rt: &impl Abort,
+    alloc: Global,
+    mesh: &Mesh,
+    shots: &[Shot],
+) -> Result<(), AllocError>
     requires sound { IsSound mesh.now }
     requires setting { mesh.now.setting ≡ SETTING }
 {

@@ -3,10 +3,10 @@
 ghost use Rattle.std.specs.Prelude.{◌≡◌, IfOk};
 ghost use Rattle.mesh_types.specs.Ears.{AreEarsOf, CanBeCut};
 
-use poly_merge::merge;
 use mesh_types::{Outline, Triangle};
 use nav_base::Point;
 use nav_list::Items;
+use poly_merge::merge;
 use std::alloc::{AllocError, Global};
 use std::test::Fail;
 

@@ -4,8 +4,8 @@ ghost use Rattle.std.specs.Prelude.{◌≡◌, IfOk, map};
 ghost use Rattle.nav_ground.specs.Cells.{IsCut};
 ghost use Rattle.tests_regions.specs.Rows.{cell_of};
 
-use mono_regions::regions;
 use mesh_types::Regions;
+use mono_regions::regions;
 use nav_ground::{Cell, CellRef, FreeLayer};
 use nav_list::Items;
 use std::alloc::{AllocError, Global};
