@@ -27,7 +27,7 @@ two_sides a b c =
     equal (coordinates (a ∷ b ∷ c ∷ [])) (sum (cross_term (place 0) (place 1)) (cross_term (place 1) (place 2)))
     (sum (cross_term (place 0) (place 2)) (orient_term (place 0) (place 1) (place 2))) refl
 
-three_sides : (a b c : Point) → cross_of a b +ℤ (cross_of b c +ℤ cross_of c a) ≡ orient_of a b c
+pub three_sides : (a b c : Point) → cross_of a b +ℤ (cross_of b c +ℤ cross_of c a) ≡ orient_of a b c
 unfolding cross_of dot_of orient_of
 three_sides a b c =
     equal (coordinates (a ∷ b ∷ c ∷ [])) (sum (cross_term (place 0) (place 1)) (sum (cross_term (place 1) (place 2)) (cross_term (place 2) (place 0))))

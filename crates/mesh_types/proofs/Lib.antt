@@ -20,3 +20,4 @@ pub mod ChoiceLaws
 pub mod EarLaws
 pub mod MergeLaws
 pub mod AreaLaws
+pub mod UnionAreas
