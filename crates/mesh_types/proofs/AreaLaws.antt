@@ -1,5 +1,5 @@
 -- Areas: a cut takes away exactly the area of its triangle.
-use Rattle.std.proofs.Common.{◌≡◌, ◌≢◌, ℕ, zero, suc, ◌+◌, ◌-◌, ◌<◌, ◌≤◌, ℤ, pos, ◌+ℤ◌, ◌-ℤ◌, Bool, true, false, List, [], ◌∷◌, ◌++◌, length, get_or, take, drop, Option, refl, sym, ap, subst, ◌∙◌, inl, inr, arith}
+use Rattle.std.proofs.Common.{◌≡◌, ◌≢◌, ℕ, zero, suc, ◌+◌, ◌-◌, ◌<◌, ◌≤◌, ℤ, pos, ◌+ℤ◌, Bool, true, false, List, [], ◌∷◌, ◌++◌, length, get_or, Option, refl, sym, ap, ◌∙◌, inl, inr, arith}
 use Rattle.std.specs.Prelude.{None, Some, Ok, Err, Result, slice_index, if◌then◌else◌}
 use Rattle.std.specs.Int.Signed.{lt_z}
 use Rattle.std.specs.Option.{option_map_or}
@@ -157,7 +157,7 @@ cut_ears-area corners (suc above) rest triangles count is = ear (best_ear corner
     ear : (o : Option ℕ) → best_ear corners rest ≡ o
         → option_map_or (λ i. and_then (triangle_at rest i) (cut_ears corners above (remove rest i))) o (Err rest) ≡ Ok triangles
         → ((i : ℕ) (others : List Triangle) → length (remove rest i) ≡ above + 3 → cut_ears corners above (remove rest i) ≡ Ok others
-            → turns_of corners others ≡ area_of corners (remove rest i))
+        → turns_of corners others ≡ area_of corners (remove rest i))
         → turns_of corners triangles ≡ area_of corners rest
     ear None e same others_are = absurd (cc)
     ear (Some i) e same others_are =

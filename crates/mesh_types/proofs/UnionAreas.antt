@@ -1,6 +1,6 @@
 -- Areas of pieces: two pieces together have the area of both.
-use Rattle.std.proofs.Common.{◌≡◌, ◌≢◌, ℕ, zero, suc, ◌+◌, ◌-◌, ◌<◌, ◌≤◌, ℤ, pos, ◌+ℤ◌, ◌-ℤ◌, Bool, true, List, [], ◌∷◌, ◌++◌, length, get_or, take, drop, map, All, refl, sym, ap, subst, ◌∙◌, inl, inr, arith, length-append, length-drop, length-take, get_or-drop, get_or-take}
-use Rattle.std.specs.Prelude.{slice_index, slice_set, ◌&&◌, ◌==◌}
+use Rattle.std.proofs.Common.{◌≡◌, ◌≢◌, ℕ, zero, suc, ◌+◌, ◌<◌, ◌≤◌, ℤ, ◌+ℤ◌, true, List, [], ◌∷◌, ◌++◌, length, get_or, take, drop, map, All, refl, sym, ap, ◌∙◌, inl, inr, arith, length-append, length-drop, length-take, get_or-drop, get_or-take}
+use Rattle.std.specs.Prelude.{slice_index, slice_set, ◌==◌}
 use Rattle.std.specs.List.{remove}
 use Rattle.std.proofs.lemmas.Int.{ints}
 use Rattle.std.proofs.lemmas.Bool.{and_parts, cases_eq}
@@ -15,7 +15,7 @@ use Rattle.nav_base.specs.Convex.{corner_at, place_after}
 use Rattle.nav_base.proofs.OrientLaws.{cross_of-exchanged}
 use Rattle.mesh_types.specs.declared.outline.Triangle.{Triangle}
 use Rattle.mesh_types.specs.declared.outline.Piece.{Piece}
-use Rattle.mesh_types.specs.Ears.{area_of, crosses_along, turns_of, turn_of}
+use Rattle.mesh_types.specs.Ears.{area_of, crosses_along, turns_of}
 use Rattle.mesh_types.specs.Merging.{IsPieceOf, Merge, areas_of, edge_end, is_facing, joined, past_edge, piece_of, places_at, union_of}
 use Rattle.mesh_types.proofs.AreaLaws.{three_sides}
 use Rattle.mesh_types.proofs.MergeLaws.{piece_at}
