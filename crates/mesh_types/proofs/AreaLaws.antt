@@ -1,5 +1,5 @@
 -- Areas: a cut takes away exactly the area of its triangle.
-use Rattle.std.proofs.Common.{◌≡◌, ◌≢◌, ℕ, zero, suc, ◌+◌, ◌-◌, ◌<◌, ◌≤◌, ℤ, pos, ◌+ℤ◌, ◌-ℤ◌, Bool, true, false, List, [], ◌∷◌, ◌++◌, length, get_or, take, drop, Option, refl, sym, ap, subst, ◌∙◌, inl, inr, arith}
+use Rattle.std.proofs.Common.{◌≡◌, ◌≢◌, ℕ, zero, suc, ◌+◌, ◌-◌, ◌<◌, ◌≤◌, ℤ, pos, ◌+ℤ◌, Bool, true, false, List, [], ◌∷◌, ◌++◌, length, get_or, Option, refl, sym, ap, ◌∙◌, inl, inr, arith}
 use Rattle.std.specs.Prelude.{None, Some, Ok, Err, Result, slice_index, if◌then◌else◌}
 use Rattle.std.specs.Int.Signed.{lt_z}
 use Rattle.std.specs.Option.{option_map_or}
@@ -27,7 +27,7 @@ two_sides a b c =
     equal (coordinates (a ∷ b ∷ c ∷ [])) (sum (cross_term (place 0) (place 1)) (cross_term (place 1) (place 2)))
     (sum (cross_term (place 0) (place 2)) (orient_term (place 0) (place 1) (place 2))) refl
 
-three_sides : (a b c : Point) → cross_of a b +ℤ (cross_of b c +ℤ cross_of c a) ≡ orient_of a b c
+pub three_sides : (a b c : Point) → cross_of a b +ℤ (cross_of b c +ℤ cross_of c a) ≡ orient_of a b c
 unfolding cross_of dot_of orient_of
 three_sides a b c =
     equal (coordinates (a ∷ b ∷ c ∷ [])) (sum (cross_term (place 0) (place 1)) (sum (cross_term (place 1) (place 2)) (cross_term (place 2) (place 0))))

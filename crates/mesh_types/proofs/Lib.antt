@@ -21,3 +21,4 @@ pub mod ChoiceLaws
 pub mod EarLaws
 pub mod MergeLaws
 pub mod AreaLaws
+pub mod UnionAreas

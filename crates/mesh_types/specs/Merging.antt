@@ -1,7 +1,7 @@
 -- Merging: the triangles of an outline united into larger convex pieces.
 --
 -- The corners of a piece are places of the outline, in a list that runs round. The edge at a position leads from the place there to the next.
-use Rattle.std.specs.Prelude.{ℕ, zero, suc, ◌+◌, ◌-◌, ◌==◌, pos, Bool, ◌&&◌, ◌||◌, nat_le, nat_lt, List, [], ◌∷◌, ◌++◌, length, slice_index, slice_index_or, slice_set, take, drop, map, filter, ◌<◌, ◌≤◌, All, Option}
+use Rattle.std.specs.Prelude.{ℕ, zero, suc, ◌+◌, ◌-◌, ◌==◌, ℤ, pos, ◌+ℤ◌, Bool, ◌&&◌, ◌||◌, nat_le, nat_lt, List, [], ◌∷◌, ◌++◌, length, slice_index, slice_index_or, slice_set, take, drop, map, filter, ◌<◌, ◌≤◌, All, Option}
 use Rattle.std.specs.Int.Signed.{lt_z}
 use Rattle.std.specs.Option.{option_map, option_map_or}
 use Rattle.std.specs.List.{filter_map, find, flat_map, list_all, range_with_len, remove}
@@ -12,6 +12,7 @@ use Rattle.nav_base.specs.Deviation.{square_of}
 use Rattle.mesh_types.specs.declared.outline.Triangle.{Triangle}
 use Rattle.mesh_types.specs.declared.outline.Piece.{Piece}
 use Rattle.mesh_types.specs.Choices.{first_best}
+use Rattle.mesh_types.specs.Ears.{area_of}
 
 -- ---- strict convexity, as a test
 
@@ -116,3 +117,8 @@ pub record IsPieceOf (corners : List Point) (piece : Piece) : Type 0 where
   pub places : All (λ place. place < length corners) piece.corners
   pub most : length piece.corners ≤ 6
   pub convex : IsStrictlyConvex (map (corner_at corners) piece.corners)
+
+-- twice the area of pieces together
+abbrev pub areas_of : List Point → List Piece → ℤ
+areas_of corners [] = pos 0
+areas_of corners (piece ∷ pieces) = area_of corners piece.corners +ℤ areas_of corners pieces

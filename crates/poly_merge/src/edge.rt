@@ -1,6 +1,6 @@
 //! Edges of pieces.
 
-ghost use Rattle.std.specs.Prelude.{◌≡◌, ◌<◌, length, slice_index, IfSome};
+ghost use Rattle.std.specs.Prelude.{◌≡◌, ◌<◌, length, slice_index, true, IfSome};
 ghost use Rattle.std.specs.List.{find, range_with_len};
 ghost use Rattle.nav_base.specs.Convex.{place_after};
 ghost use Rattle.mesh_types.specs.Merging.{edge_end, is_facing, places_at};
@@ -37,6 +37,7 @@ pub(crate) fn facing(first: &[u32], edge: usize, second: &[u32]) -> Option<usize
     requires { edge < length first.now }
     ensures value { result ≡ find (is_facing first.now edge second.now) (range_with_len 0 (length second.now)) }
     ensures there { IfSome result (λ facing. facing < length second.now) }
+    ensures shared { IfSome result (λ facing. is_facing first.now edge second.now facing ≡ true) }
 {
     for facing in 0..second.len() {
         if is_facing(first, edge, second, facing) {

@@ -1,8 +1,8 @@
 //! All merges of an outline.
 
 ghost use Rattle.std.specs.Prelude.{◌≡◌, ◌+◌, ◌≤◌, None, All, IfOk, length};
-ghost use Rattle.mesh_types.specs.Ears.{AreEarsOf, CanBeCut};
-ghost use Rattle.mesh_types.specs.Merging.{IsPieceOf, best_merge, merged};
+ghost use Rattle.mesh_types.specs.Ears.{AreEarsOf, CanBeCut, outline_area};
+ghost use Rattle.mesh_types.specs.Merging.{IsPieceOf, areas_of, best_merge, merged};
 
 use crate::choice::best_merge;
 use crate::join::{join, triangular};
@@ -21,6 +21,8 @@ pub fn merge(
     ensures value { IfOk result (λ pieces. pieces ≡ merged outline.now.corners triangles) }
     ensures pieces { IfOk result (All (IsPieceOf outline.now.corners)) }
 
+    // Together they have exactly the area that the outline runs round.
+    ensures area { IfOk result (λ pieces. areas_of outline.now.corners pieces ≡ outline_area outline.now.corners) }
     ensures few { IfOk result (λ pieces. length pieces + 2 ≤ length outline.now.corners) }
 
     // No two pieces are left that could be united.

@@ -2,8 +2,10 @@ use Rattle.std.proofs.Common.{◌≡◌, All, map, length, sym, ap, subst, ◌�
 use Rattle.std.specs.Prelude.{None, Some, IfSome}
 use Rattle.std.specs.Option.{option_map}
 use Rattle.std.proofs.lemmas.List.{length-map}
-use Rattle.mesh_types.specs.Merging.{IsPieceOf, best_merge, merge_all, piece_of}
+use Rattle.mesh_types.specs.Merging.{IsPieceOf, areas_of, best_merge, merge_all, piece_of}
 use Rattle.mesh_types.proofs.EarLaws.{ears_of-triangles}
+use Rattle.mesh_types.proofs.AreaLaws.{ears_of-area}
+use Rattle.mesh_types.proofs.UnionAreas.{area-union, areas-joined, areas-triangles, piece-some}
 use Rattle.mesh_types.proofs.MergeLaws.{best_merge-admissible, joined-pieces, length-joined, merge_all-none, merge_all-some, merged-begun, triangles-pieces}
 use Rattle.poly_merge.specs.Seen.{IsMergeOf, seen}
 use Rattle.poly_merge.proofs.merging.merge.Goals as goal
@@ -16,6 +18,7 @@ loop-next-init c =
     record {
       pieces = subst (All (IsPieceOf corners)) (sym made) (triangles-pieces corners _ c.args.triangles (ears_of-triangles corners c.args.triangles c.requires.outline.enough c.requires.triangles.cut));
       few = omega (arith, count, (ears_of-triangles corners c.args.triangles c.requires.outline.enough c.requires.triangles.cut).count, c.requires.outline.enough);
+      area = ap (areas_of corners) made ∙ areas-triangles corners c.args.triangles ∙ ears_of-area corners c.args.triangles c.requires.outline.enough c.requires.triangles.cut;
       merged = merged-begun corners c.args.triangles ∙ (λ i. merge_all corners (sym count i) (sym made i));
     }
 
@@ -41,6 +44,10 @@ loop-next-preserved c =
       pieces = subst (All (IsPieceOf corners)) (sym c.in_ok-join.ensures)
           (joined-pieces corners pieces m c.loop-next.invariant.pieces (omega (arith, (there c).first, (there c).second)) (there c).second (best_merge-admissible corners pieces m (best c)));
       few = omega (arith, c.loop-next.invariant.few, length-joined pieces m (there c).second, ap length c.in_ok-join.ensures);
+      area = ap (areas_of corners) c.in_ok-join.ensures
+          ∙ areas-joined corners pieces m (there c).first (there c).second
+          (area-union corners pieces m (there c).edge (there c).facing (piece-some corners pieces m.first c.loop-next.invariant.pieces (omega (arith, (there c).first, (there c).second)))
+          (piece-some corners pieces m.second c.loop-next.invariant.pieces (there c).second) (there c).shared) ∙ c.loop-next.invariant.area;
       merged = c.loop-next.invariant.merged ∙ merge_all-some corners pieces m (best c) (there c).second ∙ (λ i. merge_all corners (length (sym c.in_ok-join.ensures i)) (sym c.in_ok-join.ensures i));
     }
 

@@ -1,5 +1,6 @@
 use Rattle.std.proofs.Common.{◌≡◌, ◌+◌, ◌≤◌, length, All}
-use Rattle.mesh_types.specs.Merging.{IsPieceOf, merge_all, merged}
+use Rattle.mesh_types.specs.Ears.{outline_area}
+use Rattle.mesh_types.specs.Merging.{IsPieceOf, areas_of, merge_all, merged}
 use Rattle.poly_merge.proofs.merging.merge.Given as goal
 
 -- what is left to merge leads to the pieces of the outline
@@ -7,6 +8,7 @@ abbrev pub invariant-loop-next : goal.invariant-loop-next
 invariant-loop-next l = record {
   pieces : All (IsPieceOf l.outline.corners) l.pieces.items;
   few : length l.pieces.items + 2 ≤ length l.outline.corners;
+  area : areas_of l.outline.corners l.pieces.items ≡ outline_area l.outline.corners;
   merged : merged l.outline.corners l.fn.triangles ≡ merge_all l.outline.corners (length l.pieces.items) l.pieces.items;
 }
 
