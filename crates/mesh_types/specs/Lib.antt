@@ -15,3 +15,5 @@ pub mod Taut
 pub mod Floors
 pub mod Right
 pub mod Rings
+pub mod Regions
+pub mod Contours
