@@ -1,0 +1,2 @@
+//! Contours of regions.
+#![tactic(auto)]
