@@ -15,6 +15,10 @@ AreRows (strip ∷ []) = strip.x0 ≤ strip.x1
 AreRows (strip ∷ next ∷ rest) =
     (strip.x0 ≤ strip.x1) × (next.z ≡ strip.z + 1) × (strip.x0 ≤ next.x1) × (next.x0 ≤ strip.x1) × AreRows (next ∷ rest)
 
+pub first_ordered : (strip : Strip) (rest : List Strip) → AreRows (strip ∷ rest) → strip.x0 ≤ strip.x1
+first_ordered strip [] rows = rows
+first_ordered strip (next ∷ rest) rows = rows.0
+
 -- a strip, if there is one, has a column
 abbrev pub covers : Option Strip → ℕ → Bool
 covers strip x = option_map_or (λ (s : Strip). is_within s.x0 s.x1 x) strip false
@@ -86,10 +90,6 @@ module _ {X : Type 0} (g : X → ℕ) (edge : ℕ → Strip → ℕ → X) where
         sum_tops strip strip.x0 next.x0,
         sum_bottoms next next.x0 strip.x0,
       )
-    where
-      first_ordered : (strip : Strip) (rest : List Strip) → AreRows (strip ∷ rest) → strip.x0 ≤ strip.x1
-      first_ordered strip [] rows = rows
-      first_ordered strip (next ∷ rest) rows = rows.0
 
   -- so the walk round the stack holds what lies at its rim
   pub round_is_rims : (strips : List Strip) → AreRows strips → sum_by g (round edge strips) ≡ rim_sums g edge None strips
