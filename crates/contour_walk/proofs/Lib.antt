@@ -1,3 +1,4 @@
 pub mod Ranges
 pub mod Sums
 pub mod Corners
+pub mod Paths
