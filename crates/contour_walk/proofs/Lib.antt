@@ -2,3 +2,4 @@ pub mod Ranges
 pub mod Sums
 pub mod Corners
 pub mod Paths
+pub mod Rims

@@ -48,6 +48,9 @@ within_below first last x less = grind (arith, nat_tests)
 pub within_above : (first last x : ℕ) → last < x → is_within first last x ≡ false
 within_above first last x more = grind (arith, nat_tests)
 
+pub within_is : (first last x : ℕ) → is_within first last x ≡ true → (first ≤ x) × (x ≤ last)
+within_is first last x is = (grind (arith, nat_tests), grind (arith, nat_tests))
+
 -- of the columns of a range, those outside another that overlaps it stand before it or after it
 pub over_outside : (f : ℕ → ℕ) (l h l' h' : ℕ) → l ≤ h → l' ≤ h' → l ≤ h' → l' ≤ h
     → over (λ x. cond (is_within l' h' x) 0 (f x)) l (h + 1 - l) ≡ over f l (l' - l) + over f (h' + 1) (h + 1 - (h' + 1))
