@@ -3,3 +3,4 @@ pub mod Sums
 pub mod Corners
 pub mod Paths
 pub mod Rims
+pub mod RimSums

@@ -64,7 +64,7 @@ holding_column at s strip holds =
     ]))
 
 -- the columns of a stack, row by row
-no_lower : (s : Strip) (rest : List Strip) (z x : ℕ) → AreRows (s ∷ rest) → z < s.z → has_column (s ∷ rest) z x ≡ false
+pub no_lower : (s : Strip) (rest : List Strip) (z x : ℕ) → AreRows (s ∷ rest) → z < s.z → has_column (s ∷ rest) z x ≡ false
 no_lower s [] z x rows less =
     ap (λ b. b && is_within s.x0 s.x1 x || false) (ne_eqb s.z z (λ e. omega (arith, e, less)))
 no_lower s (t ∷ rest) z x rows less =
