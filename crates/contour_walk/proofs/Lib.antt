@@ -4,3 +4,4 @@ pub mod Corners
 pub mod Paths
 pub mod Rims
 pub mod RimSums
+pub mod Permuted
