@@ -5,3 +5,4 @@ pub mod Paths
 pub mod Rims
 pub mod RimSums
 pub mod Permuted
+pub mod Turned

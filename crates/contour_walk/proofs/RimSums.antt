@@ -13,7 +13,7 @@ use Rattle.mesh_types.specs.declared.region.UnitEdge.{UnitEdge}
 use Rattle.mesh_types.specs.Regions.{IsStrip, IsUpon}
 use Rattle.mesh_types.specs.Contours.{cell_in, is_rim, edge_of, place_in, columns, strips_in, places_in, rim_edges_of}
 use Rattle.mesh_types.proofs.Totals.{sum_by-map, sum_by-flat_map, sum_by-filter, sum_by-plus}
-use Rattle.contour_walk.specs.Walk.{round}
+use Rattle.contour_walk.specs.Walk.{edge_at, round}
 use Rattle.contour_walk.proofs.Ranges.{over, over_same, over_first, over_last}
 use Rattle.contour_walk.proofs.Sums.{AreRows, covers, head_of, across, rim_sum, rim_sums, first_ordered, round_is_rims}
 use Rattle.contour_walk.proofs.Rims.{IsIn, IsWoven, has_column, no_lower, StandsOn, stands_next, rim_left, rim_right, rim_top, rim_bottom}
@@ -44,25 +44,24 @@ cond_not a true n is = ap (λ c. cond c n 0) is
 cond_not a false n is = ap (λ c. cond c n 0) is
 
 module _ (window : Window) (cells : List Cell) (regions : Regions) (id : ℕ) (fabric : IsWoven cells regions id) (g : UnitEdge → ℕ) where
-  -- the edge of a cell of a strip
-  abbrev pub edge_at : ℕ → Strip → ℕ → UnitEdge
-  edge_at dir strip x = edge_of window cells regions dir (place_in strip x)
+  abbrev pub edge : ℕ → Strip → ℕ → UnitEdge
+  edge = edge_at window cells regions
 
   -- what lies at the rim of a cell
   at_rim : Option Strip → Strip → Option Strip → ℕ → ℕ
   at_rim below strip above x =
-      cond (covers below x) 0 (g (edge_at 3 strip x)) + cond (covers above x) 0 (g (edge_at 1 strip x))
-      + (cond (x == strip.x0) (g (edge_at 0 strip x)) 0 + cond (x == strip.x1) (g (edge_at 2 strip x)) 0)
+      cond (covers below x) 0 (g (edge 3 strip x)) + cond (covers above x) 0 (g (edge 1 strip x))
+      + (cond (x == strip.x0) (g (edge 0 strip x)) 0 + cond (x == strip.x1) (g (edge 2 strip x)) 0)
 
   cell_sum : (below : Option Strip) (strip : Strip) (rest : List Strip) (x : ℕ) → StandsOn cells regions id fabric below strip rest → IsIn strip x
       → sum_by g (rim_edges_of window cells regions id (place_in strip x)) ≡ at_rim below strip (head_of rest) x
   unfolding at_rim
   cell_sum below strip rest x stands inside =
       let test : ℕ → Bool = λ dir. is_rim cells regions id dir (cell_in cells (place_in strip x)) in
-      let weight : ℕ → ℕ = λ dir. g (edge_at dir strip x) in
+      let weight : ℕ → ℕ = λ dir. g (edge dir strip x) in
       omega (
         arith,
-        sum_by-map g (λ dir. edge_at dir strip x) (filter test (range_with_len 0 4)),
+        sum_by-map g (λ dir. edge dir strip x) (filter test (range_with_len 0 4)),
         sum_by-filter weight test (range_with_len 0 4),
         sum_four (λ dir. cond (test dir) (weight dir) 0),
         ap (λ b. cond b (weight 0) 0) (rim_left cells regions id fabric below strip rest x stands inside),
@@ -72,15 +71,15 @@ module _ (window : Window) (cells : List Cell) (regions : Regions) (id : ℕ) (f
       )
 
   strip_sum : (below : Option Strip) (strip : Strip) (rest : List Strip) → StandsOn cells regions id fabric below strip rest
-      → across strip (λ x. sum_by g (rim_edges_of window cells regions id (place_in strip x))) ≡ rim_sum g edge_at below strip (head_of rest)
+      → across strip (λ x. sum_by g (rim_edges_of window cells regions id (place_in strip x))) ≡ rim_sum g edge below strip (head_of rest)
   unfolding at_rim
   strip_sum below strip rest stands =
       let ordered = first_ordered strip rest stands.rows in
       let xs : List ℕ = columns strip in
-      let f3 : ℕ → ℕ = λ x. cond (covers below x) 0 (g (edge_at 3 strip x)) in
-      let f1 : ℕ → ℕ = λ x. cond (covers (head_of rest) x) 0 (g (edge_at 1 strip x)) in
-      let f0 : ℕ → ℕ = λ x. cond (x == strip.x0) (g (edge_at 0 strip x)) 0 in
-      let f2 : ℕ → ℕ = λ x. cond (x == strip.x1) (g (edge_at 2 strip x)) 0 in
+      let f3 : ℕ → ℕ = λ x. cond (covers below x) 0 (g (edge 3 strip x)) in
+      let f1 : ℕ → ℕ = λ x. cond (covers (head_of rest) x) 0 (g (edge 1 strip x)) in
+      let f0 : ℕ → ℕ = λ x. cond (x == strip.x0) (g (edge 0 strip x)) 0 in
+      let f2 : ℕ → ℕ = λ x. cond (x == strip.x1) (g (edge 2 strip x)) 0 in
       omega (
         arith,
         over_same (λ x. sum_by g (rim_edges_of window cells regions id (place_in strip x))) (at_rim below strip (head_of rest)) strip.x0 (strip.x1 + 1 - strip.x0)
@@ -88,8 +87,8 @@ module _ (window : Window) (cells : List Cell) (regions : Regions) (id : ℕ) (f
         sum_by-plus (λ x. f3 x + f1 x) (λ x. f0 x + f2 x) xs,
         sum_by-plus f3 f1 xs,
         sum_by-plus f0 f2 xs,
-        over_first (λ x. g (edge_at 0 strip x)) strip.x0 strip.x1 ordered,
-        over_last (λ x. g (edge_at 2 strip x)) strip.x0 strip.x1 ordered,
+        over_first (λ x. g (edge 0 strip x)) strip.x0 strip.x1 ordered,
+        over_last (λ x. g (edge 2 strip x)) strip.x0 strip.x1 ordered,
       )
 
   -- the rims of the cells of a strip
@@ -97,7 +96,7 @@ module _ (window : Window) (cells : List Cell) (regions : Regions) (id : ℕ) (f
   strip_rim strip = sum_by (λ (at : CellRef). sum_by g (rim_edges_of window cells regions id at)) (map (place_in strip) (columns strip))
 
   strips_sum : (below : Option Strip) (strip : Strip) (rest : List Strip) → StandsOn cells regions id fabric below strip rest
-      → sum_by strip_rim (strip ∷ rest) ≡ rim_sums g edge_at below (strip ∷ rest)
+      → sum_by strip_rim (strip ∷ rest) ≡ rim_sums g edge below (strip ∷ rest)
   strips_sum below strip [] stands =
       omega (
         arith,
@@ -127,13 +126,13 @@ module _ (window : Window) (cells : List Cell) (regions : Regions) (id : ℕ) (f
 
   -- the walk round a region holds its rim
   pub rim_is_round : AreRows (strips_in regions id)
-      → sum_by g (flat_map (rim_edges_of window cells regions id) (places_in regions id)) ≡ sum_by g (round edge_at (strips_in regions id))
+      → sum_by g (flat_map (rim_edges_of window cells regions id) (places_in regions id)) ≡ sum_by g (round edge (strips_in regions id))
   rim_is_round rows =
       sum_by-flat_map g (rim_edges_of window cells regions id) (places_in regions id)
       ∙ sum_by-flat_map (λ (at : CellRef). sum_by g (rim_edges_of window cells regions id at)) (λ (strip : Strip). map (place_in strip) (columns strip)) (strips_in regions id)
       ∙ by_case (strips_in regions id) refl rows
     where
-      by_case : (strips : List Strip) → strips_in regions id ≡ strips → AreRows strips → sum_by strip_rim strips ≡ sum_by g (round edge_at strips)
+      by_case : (strips : List Strip) → strips_in regions id ≡ strips → AreRows strips → sum_by strip_rim strips ≡ sum_by g (round edge strips)
       by_case [] is rows = refl
       by_case (strip ∷ rest) is rows =
-          strips_sum None strip rest (first_stands strip rest is rows) ∙ sym (round_is_rims g edge_at (strip ∷ rest) rows)
+          strips_sum None strip rest (first_stands strip rest is rows) ∙ sym (round_is_rims g edge (strip ∷ rest) rows)

@@ -1,7 +1,16 @@
 -- The walk round a stack of strips, in what stands for each edge: by the direction of the edge, its strip, and its column.
 use Rattle.std.specs.Prelude.{ℕ, ◌+◌, ◌-◌, List, [], ◌∷◌, ◌++◌, map, reverse}
 use Rattle.std.specs.List.{range_with_len}
+use Rattle.nav_ground.specs.declared.cell.Cell.{Cell}
+use Rattle.nav_ground.specs.declared.cell.Window.{Window}
 use Rattle.mesh_types.specs.declared.strip.Strip.{Strip}
+use Rattle.mesh_types.specs.declared.region.Regions.{Regions}
+use Rattle.mesh_types.specs.declared.region.UnitEdge.{UnitEdge}
+use Rattle.mesh_types.specs.Contours.{edge_of, place_in}
+
+-- the edge toward a direction of the cell of a strip in a column
+abbrev pub edge_at : Window → List Cell → Regions → ℕ → Strip → ℕ → UnitEdge
+edge_at window cells regions dir strip x = edge_of window cells regions dir (place_in strip x)
 
 -- along the bottom of a strip from a column up to another, to the right, and along its top, to the left
 abbrev pub bottoms : {X : Type 0} → (ℕ → Strip → ℕ → X) → Strip → ℕ → ℕ → List X

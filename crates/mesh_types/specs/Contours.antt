@@ -59,34 +59,34 @@ edge_beginning dir at =
 abbrev pub edge_ending : ℕ → CellRef → Point
 edge_ending dir at = edge_beginning ((dir + 3) % 4) at
 
-abbrev pub edge_of : Window → List Cell → Regions → ℕ → Cell → UnitEdge
-edge_of window cells regions dir cell = record {
-  from = edge_beginning dir cell.at;
-  to = edge_ending dir cell.at;
-  code = code_beyond window cells regions dir cell;
+abbrev pub edge_of : Window → List Cell → Regions → ℕ → CellRef → UnitEdge
+edge_of window cells regions dir at = record {
+  from = edge_beginning dir at;
+  to = edge_ending dir at;
+  code = code_beyond window cells regions dir (cell_in cells at);
 }
 
--- the places of the cells of a strip, and the cells of a region, strip by strip
+-- the places of the cells of a strip, and of those of a region, strip by strip
 abbrev pub place_in : Strip → ℕ → CellRef
 place_in strip x = record { x = x; z = strip.z; level = get_or strip.levels (x - strip.x0) 0 }
 
 abbrev pub columns : Strip → List ℕ
 columns strip = range_with_len strip.x0 (strip.x1 + 1 - strip.x0)
 
-abbrev pub cells_in : List Cell → Strip → List Cell
-cells_in cells strip = map (λ x. cell_in cells (place_in strip x)) (columns strip)
+abbrev pub strips_in : Regions → ℕ → List Strip
+strips_in regions id = (get_or regions.regions id (record { strips = [] })).strips
 
-abbrev pub region_cells : List Cell → Regions → ℕ → List Cell
-region_cells cells regions id = flat_map (cells_in cells) (get_or regions.regions id (record { strips = [] })).strips
+abbrev pub places_in : Regions → ℕ → List CellRef
+places_in regions id = flat_map (λ (strip : Strip). map (place_in strip) (columns strip)) (strips_in regions id)
 
 -- the rim of a region: for each of its cells and each direction the edge, where it is at the rim
-abbrev pub rim_edges_of : Window → List Cell → Regions → ℕ → Cell → List UnitEdge
-rim_edges_of window cells regions id cell =
-    map (λ dir. edge_of window cells regions dir cell) (filter (λ dir. is_rim cells regions id dir cell) (range_with_len 0 4))
+abbrev pub rim_edges_of : Window → List Cell → Regions → ℕ → CellRef → List UnitEdge
+rim_edges_of window cells regions id at =
+    map (λ dir. edge_of window cells regions dir at) (filter (λ dir. is_rim cells regions id dir (cell_in cells at)) (range_with_len 0 4))
 
 abbrev pub rim_of : Setting → FreeLayer → Regions → ℕ → List UnitEdge
 rim_of setting free regions id =
-    flat_map (rim_edges_of (tile_window setting free.tile) free.cells regions id) (region_cells free.cells regions id)
+    flat_map (rim_edges_of (tile_window setting free.tile) free.cells regions id) (places_in regions id)
 
 -- one corner is the other or comes before it: by x, then by z
 abbrev pub IsNoLater : Point → Point → Type 0
