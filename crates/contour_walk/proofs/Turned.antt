@@ -14,11 +14,8 @@ use Rattle.nav_base.specs.declared.point.Point.{Point}
 use Rattle.nav_base.specs.Point.{IsCellCorner}
 use Rattle.nav_ground.specs.declared.cell.Cell.{Cell}
 use Rattle.nav_ground.specs.declared.cell.CellRef.{CellRef}
-use Rattle.nav_ground.specs.declared.cell.FreeLayer.{FreeLayer}
 use Rattle.nav_ground.specs.declared.cell.Window.{Window}
-use Rattle.nav_ground.specs.declared.setting.Setting.{Setting}
 use Rattle.nav_ground.specs.Cells.{IsCells}
-use Rattle.nav_ground.specs.Tiling.{tile_window}
 use Rattle.nav_ground.proofs.Found.{found_in}
 use Rattle.nav_ground.proofs.Kept.{AllPairs-map}
 use Rattle.mesh_types.specs.declared.strip.Strip.{Strip}
@@ -90,38 +87,38 @@ edge_fits window cells regions at small small' =
     (corner_fits at.x at.z (omega (arith, small)) (omega (arith, small')), λ e. omega (arith, x_of at.x at.z (at.x + 1) at.z e))
 
 module _
-  (setting : Setting) (free : FreeLayer) (regions : Regions) (id : ℕ) (cells_rules : IsCells free.cells)
-  (fabric : IsWoven free.cells regions id) (strip : Strip) (rest : List Strip) (is : strips_in regions id ≡ strip ∷ rest) (rows : AreRows (strip ∷ rest)) where
+  (window : Window) (cells : List Cell) (regions : Regions) (id : ℕ) (cells_rules : IsCells cells)
+  (fabric : IsWoven cells regions id) (strip : Strip) (rest : List Strip) (is : strips_in regions id ≡ strip ∷ rest) (rows : AreRows (strip ∷ rest)) where
   abbrev pub edge : ℕ → Strip → ℕ → UnitEdge
-  edge = edge_at (tile_window setting free.tile) free.cells regions
+  edge = edge_at window cells regions
 
   abbrev pub walk : List UnitEdge
   walk = round edge (strip ∷ rest)
 
   -- so are all edges of the rim
-  rim_fits : All IsFit (rim_of setting free regions id)
+  rim_fits : All IsFit (rim_of window cells regions id)
   rim_fits =
-      all_of_each IsFit (rim_edges_of (tile_window setting free.tile) free.cells regions id) (places_in regions id)
-      (all_of_each (λ (at : CellRef). All IsFit (rim_edges_of (tile_window setting free.tile) free.cells regions id at))
+      all_of_each IsFit (rim_edges_of window cells regions id) (places_in regions id)
+      (all_of_each (λ (at : CellRef). All IsFit (rim_edges_of window cells regions id at))
       (λ (s : Strip). map (place_in s) (columns s)) (strips_in regions id)
       (λ k d there. each (get_or (strips_in regions id) k d) (All-contains_itself (strips_in regions id) k d there) (fabric.strips k d there).some))
     where
-      one : (at : CellRef) → at.x < 1024 → at.z < 1024 → All IsFit (rim_edges_of (tile_window setting free.tile) free.cells regions id at)
+      one : (at : CellRef) → at.x < 1024 → at.z < 1024 → All IsFit (rim_edges_of window cells regions id at)
       one at small small' =
-          let test : ℕ → Bool = λ dir. is_rim free.cells regions id dir (cell_in free.cells at) in
-          All-map IsFit (λ dir. edge_of (tile_window setting free.tile) free.cells regions dir at) (filter test (range_with_len 0 4))
-          (All-filter test (λ dir. IsFit (edge_of (tile_window setting free.tile) free.cells regions dir at)) (range_with_len 0 4)
-          (edge_fits (tile_window setting free.tile) free.cells regions at small small'))
+          let test : ℕ → Bool = λ dir. is_rim cells regions id dir (cell_in cells at) in
+          All-map IsFit (λ dir. edge_of window cells regions dir at) (filter test (range_with_len 0 4))
+          (All-filter test (λ dir. IsFit (edge_of window cells regions dir at)) (range_with_len 0 4)
+          (edge_fits window cells regions at small small'))
 
       each : (s : Strip) → Contains (strips_in regions id) s → s.x0 ≤ s.x1
-          → All (λ (at : CellRef). All IsFit (rim_edges_of (tile_window setting free.tile) free.cells regions id at)) (map (place_in s) (columns s))
+          → All (λ (at : CellRef). All IsFit (rim_edges_of window cells regions id at)) (map (place_in s) (columns s))
       each s own ordered =
-          All-map (λ (at : CellRef). All IsFit (rim_edges_of (tile_window setting free.tile) free.cells regions id at)) (place_in s) (columns s)
+          All-map (λ (at : CellRef). All IsFit (rim_edges_of window cells regions id at)) (place_in s) (columns s)
           (λ k d there.
           let x : ℕ = get_or (columns s) k d in
           let count = length-range_with_len s.x0 (s.x1 + 1 - s.x0) in
           let value : x ≡ s.x0 + k = get_or-range_with_len s.x0 (s.x1 + 1 - s.x0) k d (omega (arith, there, count)) in
-          let small = small_cell free.cells cells_rules (place_in s x) in
+          let small = small_cell cells cells_rules (place_in s x) in
           let at = fabric.there s x own (omega (arith, value), omega (arith, value, there, count, ordered)) in
           one (place_in s x) (omega (arith, small.0, ap (λ (r : CellRef). r.x) at)) (omega (arith, small.1, ap (λ (r : CellRef). r.z) at)))
 
@@ -149,10 +146,10 @@ module _
           ap (sum_by g) (take-append-drop m walk),
         )
 
-    pub turned_rim : IsPermutation (rim_of setting free regions id) edges
+    pub turned_rim : IsPermutation (rim_of window cells regions id) edges
     turned_rim =
-        edges_permuted (rim_of setting free regions id) edges (λ g.
-        rim_is_round (tile_window setting free.tile) free.cells regions id fabric g (let P : List Strip → Type 0 = AreRows in subst P (sym is) rows)
+        edges_permuted (rim_of window cells regions id) edges (λ g.
+        rim_is_round window cells regions id fabric g (let P : List Strip → Type 0 = AreRows in subst P (sym is) rows)
         ∙ ap (λ strips. sum_by g (round edge strips)) is
         ∙ sym (turned_sum g))
 
@@ -176,7 +173,7 @@ module _
 
     pub turned_ring : IsRing edges
     turned_ring =
-        let fits : All IsFit edges = All-permutation IsFit (rim_of setting free regions id) edges turned_rim rim_fits in
+        let fits : All IsFit edges = All-permutation IsFit (rim_of window cells regions id) edges turned_rim rim_fits in
         record {
           closed = turned_closed;
           apart = AllPairs-map AreApart (λ (e : UnitEdge). e.from) edges (λ i j d less there same.

@@ -1,12 +1,17 @@
 -- The walk round a stack of strips, in what stands for each edge: by the direction of the edge, its strip, and its column.
-use Rattle.std.specs.Prelude.{ℕ, ◌+◌, ◌-◌, List, [], ◌∷◌, ◌++◌, map, reverse}
+use Rattle.std.specs.Prelude.{◌≡◌, ℕ, ◌+◌, ◌-◌, ◌<◌, List, [], ◌∷◌, ◌++◌, map, length, get_or, reverse}
 use Rattle.std.specs.List.{range_with_len}
 use Rattle.nav_ground.specs.declared.cell.Cell.{Cell}
 use Rattle.nav_ground.specs.declared.cell.Window.{Window}
 use Rattle.mesh_types.specs.declared.strip.Strip.{Strip}
 use Rattle.mesh_types.specs.declared.region.Regions.{Regions}
 use Rattle.mesh_types.specs.declared.region.UnitEdge.{UnitEdge}
+use Rattle.mesh_types.specs.Regions.{IsUpon}
 use Rattle.mesh_types.specs.Contours.{edge_of, place_in}
+
+-- each strip lies on the one before
+abbrev pub AreUpon : List Strip → Type 0
+AreUpon strips = (k : ℕ) (d : Strip) → k + 1 < length strips → IsUpon (get_or strips k d) (get_or strips (k + 1) d)
 
 -- the edge toward a direction of the cell of a strip in a column
 abbrev pub edge_at : Window → List Cell → Regions → ℕ → Strip → ℕ → UnitEdge

@@ -4,13 +4,10 @@ use Rattle.std.specs.List.{find, flat_map, list_any, position, range_with_len}
 use Rattle.std.specs.List.Sorted.{IsPermutation}
 use Rattle.std.specs.Option.{option_map_or}
 use Rattle.nav_base.specs.declared.point.Point.{Point}
-use Rattle.nav_ground.specs.declared.setting.Setting.{Setting}
 use Rattle.nav_ground.specs.declared.cell.Cell.{Cell}
 use Rattle.nav_ground.specs.declared.cell.CellRef.{CellRef}
-use Rattle.nav_ground.specs.declared.cell.FreeLayer.{FreeLayer}
 use Rattle.nav_ground.specs.declared.cell.Window.{Window}
 use Rattle.nav_ground.specs.Cells.{is_naming}
-use Rattle.nav_ground.specs.Tiling.{tile_window}
 use Rattle.mesh_types.specs.declared.strip.Strip.{Strip}
 use Rattle.mesh_types.specs.declared.region.Region.{Region}
 use Rattle.mesh_types.specs.declared.region.Regions.{Regions}
@@ -84,17 +81,16 @@ abbrev pub rim_edges_of : Window → List Cell → Regions → ℕ → CellRef �
 rim_edges_of window cells regions id at =
     map (λ dir. edge_of window cells regions dir at) (filter (λ dir. is_rim cells regions id dir (cell_in cells at)) (range_with_len 0 4))
 
-abbrev pub rim_of : Setting → FreeLayer → Regions → ℕ → List UnitEdge
-rim_of setting free regions id =
-    flat_map (rim_edges_of (tile_window setting free.tile) free.cells regions id) (places_in regions id)
+abbrev pub rim_of : Window → List Cell → Regions → ℕ → List UnitEdge
+rim_of window cells regions id = flat_map (rim_edges_of window cells regions id) (places_in regions id)
 
 -- one corner is the other or comes before it: by x, then by z
 abbrev pub IsNoLater : Point → Point → Type 0
 IsNoLater a b = (a.x <ℤ b.x) ⊎ ((a.x ≡ b.x) × (a.z ≤ℤ b.z))
 
--- a contour of a region holds each edge of its rim once; each ends where the next begins, and the last where the first begins; the first
--- begins at the least corner
-pub record IsContour (setting : Setting) (free : FreeLayer) (regions : Regions) (id : ℕ) (edges : List UnitEdge) : Type 0 where
-  pub rim : IsPermutation (rim_of setting free regions id) edges
+-- a contour of a region, among the cells and the regions of a tile with these columns, holds each edge of the region's rim once; each ends
+-- where the next begins, and the last where the first begins; the first begins at the least corner
+pub record IsContour (window : Window) (cells : List Cell) (regions : Regions) (id : ℕ) (edges : List UnitEdge) : Type 0 where
+  pub rim : IsPermutation (rim_of window cells regions id) edges
   pub closed : endings edges ≡ drop 1 (beginnings edges) ++ take 1 (beginnings edges)
   pub least : (k : ℕ) (d : UnitEdge) → k < length edges → IsNoLater (get_or edges 0 d).from (get_or edges k d).from
