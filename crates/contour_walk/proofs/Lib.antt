@@ -6,3 +6,6 @@ pub mod Rims
 pub mod RimSums
 pub mod Permuted
 pub mod Turned
+pub mod Places
+pub mod CodeLaws
+pub mod Marks

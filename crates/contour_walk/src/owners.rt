@@ -1,10 +1,11 @@
 //! The number of the region of each cell.
 
-ghost use Rattle.std.specs.Prelude.{◌≡◌, ◌<◌, ◌≤◌, ◌+◌, IfOk, All, length, map};
+ghost use Rattle.std.specs.Prelude.{◌≡◌, ℕ, ◌<◌, ◌≤◌, IfOk, All, length, map, slice_index_or};
+ghost use Rattle.std.specs.List.{list_any};
 ghost use Rattle.nav_ground.specs.Cells.{IsCells};
 ghost use Rattle.mesh_types.specs.declared.region.Region.{Region};
 ghost use Rattle.mesh_types.specs.Regions.{is_holding};
-ghost use Rattle.contour_walk.specs.Tables.{owner_of, is_same, is_in_region, IsMarked, IsFit};
+ghost use Rattle.contour_walk.specs.Tables.{owner_of, IsMarked, IsFit};
 
 use crate::lookup::{index_of, place_in};
 use mesh_types::{Region, Strip};
@@ -18,25 +19,27 @@ pub fn owners(alloc: Global, cells: &[Cell], regions: &[Region]) -> Result<Vec<u
     requires fit { All (λ (region : Region). All IsFit region.strips) regions.now }
     ensures { IfOk result (λ owners. owners.items ≡ map (owner_of regions.now) cells.now) }
 {
-    let mut owners = Vec::with_capacity(alloc, cells.len())?;
-    for _ in 0..cells.len() {
-        owners.push(regions.len() as u32)?;
-    }
+    let mut owners = vec![in alloc; regions.len() as u32; cells.len()]?;
     for number in (0..regions.len()).rev() {
-        mark_region(owners.as_mut_slice(), cells, &regions[number], number as u32);
+        mark_region(
+            owners.as_mut_slice(),
+            cells,
+            regions[number].strips.as_slice(),
+            number as u32,
+        );
     }
     Ok(owners)
 }
 
-/// Writes the number of a region at the index of each of its cells.
-fn mark_region(owners: &mut [u32], cells: &[Cell], region: &Region, number: u32)
+/// Writes the number of a region at the index of each cell of its strips.
+fn mark_region(owners: &mut [u32], cells: &[Cell], strips: &[Strip], number: u32)
     requires cells { IsCells cells.now }
     requires same { length owners.old ≡ length cells.now }
-    requires fit { All IsFit region.now.strips }
-    ensures { IsMarked (λ at. is_in_region at region.now) cells.now number owners.old owners.new }
+    requires fit { All IsFit strips.now }
+    ensures { IsMarked (λ at. list_any (is_holding at) strips.now) cells.now number owners.old owners.new }
 {
-    for strip in region.strips.as_slice() {
-        mark_strip(owners, cells, strip, number);
+    for k in 0..strips.len() {
+        mark_strip(owners, cells, &strips[k], number);
     }
 }
 
@@ -58,6 +61,8 @@ fn mark_strip(owners: &mut [u32], cells: &[Cell], strip: &Strip, number: u32)
 /// Writes a number at an index, if it is one.
 fn mark(owners: &mut [u32], index: usize, number: u32)
     ensures same { length owners.new ≡ length owners.old }
+    ensures here { (d : ℕ) → index < length owners.old → slice_index_or owners.new index d ≡ number }
+    ensures others { (k d : ℕ) → (k ≡ index → ⊥) → slice_index_or owners.new k d ≡ slice_index_or owners.old k d }
 {
     if index < owners.len() {
         owners[index] = number;

@@ -1,0 +1,7 @@
+use Rattle.contour_walk.proofs.sides.push_bottoms.Goals as goal
+
+pub loop-x-preserved : goal.loop-x-preserved
+loop-x-preserved c = ?
+
+pub returns : goal.returns
+returns c = ?
