@@ -9,3 +9,5 @@ pub mod Turned
 pub mod Places
 pub mod CodeLaws
 pub mod Marks
+pub mod Loops
+pub mod Earliest
