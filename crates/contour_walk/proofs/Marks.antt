@@ -8,8 +8,7 @@ use Rattle.nav_ground.specs.Cells.{IsCells}
 use Rattle.mesh_types.specs.declared.strip.Strip.{Strip}
 use Rattle.mesh_types.specs.declared.region.Region.{Region}
 use Rattle.mesh_types.specs.StripMeshes.{some_cell}
-use Rattle.mesh_types.specs.Regions.{is_holding, IsStrip}
-use Rattle.mesh_types.specs.Contours.{place_in}
+use Rattle.mesh_types.specs.Regions.{is_holding, IsStrip, place_in}
 use Rattle.contour_walk.specs.Tables.{index_of, is_same, is_in_region, owner_of, IsMarked, IsFit}
 
 -- each cell has the number of the first region, from one on, that holds it, or how many regions there are

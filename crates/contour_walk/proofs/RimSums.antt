@@ -10,13 +10,13 @@ use Rattle.nav_ground.specs.declared.cell.Window.{Window}
 use Rattle.mesh_types.specs.declared.strip.Strip.{Strip}
 use Rattle.mesh_types.specs.declared.region.Regions.{Regions}
 use Rattle.mesh_types.specs.declared.region.UnitEdge.{UnitEdge}
-use Rattle.mesh_types.specs.Regions.{IsStrip, IsUpon}
-use Rattle.mesh_types.specs.Contours.{cell_in, is_rim, edge_of, place_in, columns, strips_in, places_in, rim_edges_of}
+use Rattle.mesh_types.specs.Regions.{IsStrip, IsUpon, IsIn, place_in}
+use Rattle.mesh_types.specs.Contours.{cell_in, is_rim, edge_of, columns, strips_in, places_in, rim_edges_of}
 use Rattle.mesh_types.proofs.Totals.{sum_by-map, sum_by-flat_map, sum_by-filter, sum_by-plus}
 use Rattle.contour_walk.specs.Walk.{edge_at, round}
 use Rattle.contour_walk.proofs.Ranges.{over, over_same, over_first, over_last}
 use Rattle.contour_walk.proofs.Sums.{AreRows, covers, head_of, across, rim_sum, rim_sums, first_ordered, round_is_rims}
-use Rattle.contour_walk.proofs.Rims.{IsIn, IsWoven, has_column, no_lower, StandsOn, stands_next, rim_left, rim_right, rim_top, rim_bottom}
+use Rattle.contour_walk.proofs.Rims.{IsFabric, has_column, no_lower, StandsOn, stands_next, rim_left, rim_right, rim_top, rim_bottom}
 
 -- a stack of strips is rows that overlap
 pub rows_of : (strips : List Strip) → All IsStrip strips
@@ -43,7 +43,7 @@ cond_not : (a b : Bool) (n : ℕ) → a ≡ not b → cond a n 0 ≡ cond b 0 n
 cond_not a true n is = ap (λ c. cond c n 0) is
 cond_not a false n is = ap (λ c. cond c n 0) is
 
-module _ (window : Window) (cells : List Cell) (regions : Regions) (id : ℕ) (fabric : IsWoven cells regions id) (g : UnitEdge → ℕ) where
+module _ (window : Window) (cells : List Cell) (regions : Regions) (id : ℕ) (fabric : IsFabric cells regions id) (g : UnitEdge → ℕ) where
   abbrev pub edge : ℕ → Strip → ℕ → UnitEdge
   edge = edge_at window cells regions
 

@@ -18,17 +18,13 @@ use Rattle.nav_ground.proofs.Found.{found_in}
 use Rattle.mesh_types.specs.declared.strip.Strip.{Strip}
 use Rattle.mesh_types.specs.declared.region.Region.{Region}
 use Rattle.mesh_types.specs.declared.region.Regions.{Regions}
-use Rattle.mesh_types.specs.Regions.{is_holding, IsStrip}
-use Rattle.mesh_types.specs.Contours.{cell_in, region_at, region_beyond, is_rim, place_in, strips_in}
+use Rattle.mesh_types.specs.Regions.{is_holding, IsStrip, IsIn, place_in}
+use Rattle.mesh_types.specs.Contours.{cell_in, region_at, region_beyond, is_rim, strips_in}
 use Rattle.contour_walk.proofs.Ranges.{is_within, within_yes, within_below, within_above, within_is}
 use Rattle.contour_walk.proofs.Sums.{AreRows, covers, head_of}
 
--- a column of a strip
-abbrev pub IsIn : Strip → ℕ → Type 0
-IsIn strip x = (strip.x0 ≤ x) × (x ≤ strip.x1)
-
 -- the cells of a region are cells, and any two of them in neighbouring columns are connected
-pub record IsWoven (cells : List Cell) (regions : Regions) (id : ℕ) : Type 0 where
+pub record IsFabric (cells : List Cell) (regions : Regions) (id : ℕ) : Type 0 where
   pub strips : All IsStrip (strips_in regions id)
   pub there : (s : Strip) (x : ℕ) → Contains (strips_in regions id) s → IsIn s x → (cell_in cells (place_in s x)).at ≡ place_in s x
   pub woven : (dir : ℕ) (s t : Strip) (x y : ℕ) → dir < 4 → Contains (strips_in regions id) s → Contains (strips_in regions id) t → IsIn s x → IsIn t y
@@ -86,7 +82,7 @@ next_row : (s : Strip) (rest : List Strip) (z x : ℕ) → AreRows (s ∷ rest) 
 next_row s [] z x rows same = ap (λ b. b && is_within s.x0 s.x1 x || false) (ne_eqb s.z z (λ e. omega (arith, e, same)))
 next_row s (t ∷ rest) z x rows same = later_row s t rest z x (omega (arith, same)) ∙ own_row t rest z x rows.4 (omega (arith, same, rows.1))
 
-module _ (cells : List Cell) (regions : Regions) (id : ℕ) (fabric : IsWoven cells regions id) where
+module _ (cells : List Cell) (regions : Regions) (id : ℕ) (fabric : IsFabric cells regions id) where
   abbrev pub all : List Strip
   all = strips_in regions id
 

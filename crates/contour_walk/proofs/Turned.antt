@@ -22,14 +22,15 @@ use Rattle.mesh_types.specs.declared.strip.Strip.{Strip}
 use Rattle.mesh_types.specs.declared.region.Regions.{Regions}
 use Rattle.mesh_types.specs.declared.region.UnitEdge.{UnitEdge}
 use Rattle.mesh_types.specs.StripMeshes.{corner, some_cell}
-use Rattle.mesh_types.specs.Contours.{is_at, cell_in, is_rim, edge_beginning, edge_ending, edge_of, place_in, columns, strips_in, places_in, rim_edges_of, rim_of}
+use Rattle.mesh_types.specs.Regions.{place_in, IsIn}
+use Rattle.mesh_types.specs.Contours.{is_at, cell_in, is_rim, edge_beginning, edge_ending, edge_of, columns, strips_in, places_in, rim_edges_of, rim_of}
 use Rattle.mesh_types.specs.Rings.{beginnings, endings, AreApart, IsRing}
 use Rattle.contour_walk.specs.Walk.{edge_at, round}
 use Rattle.contour_walk.proofs.Sums.{AreRows}
 use Rattle.contour_walk.proofs.Corners.{spot, round_begun}
 use Rattle.contour_walk.proofs.Paths.{IsPath, path_turned, path_closed, AreDrawn, round_path}
 use Rattle.contour_walk.proofs.Permuted.{edges_permuted, once_apart}
-use Rattle.contour_walk.proofs.Rims.{IsIn, IsWoven}
+use Rattle.contour_walk.proofs.Rims.{IsFabric}
 use Rattle.contour_walk.proofs.RimSums.{rim_is_round}
 
 all_of_each : {X Y : Type 0} (P : Y → Type 0) (f : X → List Y) (xs : List X) → All (λ x. All P (f x)) xs → All P (flat_map f xs)
@@ -88,7 +89,7 @@ edge_fits window cells regions at small small' =
 
 module _
   (window : Window) (cells : List Cell) (regions : Regions) (id : ℕ) (cells_rules : IsCells cells)
-  (fabric : IsWoven cells regions id) (strip : Strip) (rest : List Strip) (is : strips_in regions id ≡ strip ∷ rest) (rows : AreRows (strip ∷ rest)) where
+  (fabric : IsFabric cells regions id) (strip : Strip) (rest : List Strip) (is : strips_in regions id ≡ strip ∷ rest) (rows : AreRows (strip ∷ rest)) where
   abbrev pub edge : ℕ → Strip → ℕ → UnitEdge
   edge = edge_at window cells regions
 

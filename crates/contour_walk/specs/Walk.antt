@@ -6,8 +6,8 @@ use Rattle.nav_ground.specs.declared.cell.Window.{Window}
 use Rattle.mesh_types.specs.declared.strip.Strip.{Strip}
 use Rattle.mesh_types.specs.declared.region.Regions.{Regions}
 use Rattle.mesh_types.specs.declared.region.UnitEdge.{UnitEdge}
-use Rattle.mesh_types.specs.Regions.{IsUpon}
-use Rattle.mesh_types.specs.Contours.{edge_of, place_in}
+use Rattle.mesh_types.specs.Regions.{IsUpon, place_in}
+use Rattle.mesh_types.specs.Contours.{edge_of}
 
 -- each strip lies on the one before
 abbrev pub AreUpon : List Strip → Type 0

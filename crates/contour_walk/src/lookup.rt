@@ -5,7 +5,6 @@ ghost use Rattle.std.specs.List.{position_or_len};
 ghost use Rattle.nav_ground.specs.declared.cell.Cell.{Cell};
 ghost use Rattle.nav_ground.specs.Cells.{IsCells};
 ghost use Rattle.mesh_types.specs.Regions.{IsStrip};
-ghost use Rattle.mesh_types.specs.Contours;
 ghost use Rattle.contour_walk.specs.Tables.{index_of, is_before};
 
 use mesh_types::Strip;
@@ -56,7 +55,7 @@ fn is_before(at: CellRef, other: CellRef) -> bool
 pub fn place_in(strip: &Strip, x: u32) -> CellRef
     requires strip { IsStrip strip.now }
     requires column { (strip.now.x0 ≤ x) × (x ≤ strip.now.x1) }
-    ensures { result ≡ Rattle.mesh_types.specs.Contours.place_in strip.now x }
+    ensures { result ≡ Rattle.mesh_types.specs.Regions.place_in strip.now x }
 {
     CellRef {
         x,

@@ -16,7 +16,7 @@ use Rattle.mesh_types.specs.declared.region.Code.{Code}
 use Rattle.mesh_types.specs.declared.region.Code.TheVariants.{Wall, Side}
 use Rattle.mesh_types.specs.declared.region.Code.TheVariants
 use Rattle.mesh_types.specs.StripMeshes.{corner, some_cell, is_crossing}
-use Rattle.mesh_types.specs.Regions.{is_holding}
+use Rattle.mesh_types.specs.Regions.{is_holding, place_in, IsStack, IsWoven, HoldsEachOnce}
 use Rattle.mesh_types.specs.Rings.{beginnings, endings}
 
 -- the cell at a place
@@ -63,10 +63,7 @@ edge_of window cells regions dir at = record {
   code = code_beyond window cells regions dir (cell_in cells at);
 }
 
--- the places of the cells of a strip, and of those of a region, strip by strip
-abbrev pub place_in : Strip → ℕ → CellRef
-place_in strip x = record { x = x; z = strip.z; level = get_or strip.levels (x - strip.x0) 0 }
-
+-- the columns of a strip, and the places of the cells of a region, strip by strip
 abbrev pub columns : Strip → List ℕ
 columns strip = range_with_len strip.x0 (strip.x1 + 1 - strip.x0)
 
@@ -83,6 +80,12 @@ rim_edges_of window cells regions id at =
 
 abbrev pub rim_of : Window → List Cell → Regions → ℕ → List UnitEdge
 rim_of window cells regions id = flat_map (rim_edges_of window cells regions id) (places_in regions id)
+
+-- what the regions of a tile's cells keep: each is a stack of strips whose cells are connected, and each cell is in exactly one
+pub record AreRegionsOf (cells : List Cell) (regions : Regions) : Type 0 where
+  pub stacks : All IsStack regions.regions
+  pub woven : All (IsWoven cells) regions.regions
+  pub once : HoldsEachOnce cells regions
 
 -- one corner is the other or comes before it: by x, then by z
 abbrev pub IsNoLater : Point → Point → Type 0

@@ -1,9 +1,10 @@
 -- Regions: maximal chains of joined strips, row by row.
-use Rattle.std.specs.Prelude.{◌≡◌, ℕ, zero, suc, ◌+◌, ◌-◌, ◌<◌, ◌≤◌, Bool, false, not, nat_le, ◌==◌, ◌&&◌, ◌||◌, List, [], ◌∷◌, length, map, filter, get_or, slice_get, All}
+use Rattle.std.specs.Prelude.{◌≡◌, ℕ, zero, suc, ◌+◌, ◌-◌, ◌<◌, ◌≤◌, Bool, false, IsTrue, not, nat_le, ◌==◌, ◌&&◌, ◌||◌, List, [], ◌∷◌, length, map, filter, get_or, slice_get, All, Any, Contains}
 use Rattle.std.specs.List.{find, list_any, list_all, range_with_len, sum_by, count_by}
 use Rattle.std.specs.Option.{option_map_or}
 use Rattle.nav_ground.specs.declared.cell.Cell.{Cell}
 use Rattle.nav_ground.specs.declared.cell.CellRef.{CellRef}
+use Rattle.nav_ground.specs.Cells.{is_naming, is_toward}
 use Rattle.mesh_types.specs.declared.strip.Strip.{Strip}
 use Rattle.mesh_types.specs.declared.region.Region.{Region}
 use Rattle.mesh_types.specs.declared.region.Regions.{Regions}
@@ -91,3 +92,17 @@ times_held at regions = sum_by (λ (region : Region). count_by (is_holding at) r
 -- each cell is in exactly one strip of exactly one region
 abbrev pub HoldsEachOnce : List Cell → Regions → Type 0
 HoldsEachOnce cells regions = All (λ (cell : Cell). times_held cell.at regions ≡ 1) cells
+
+-- the place of the cell of a strip in a column, and whether it has one there
+abbrev pub place_in : Strip → ℕ → CellRef
+place_in strip x = record { x = x; z = strip.z; level = get_or strip.levels (x - strip.x0) 0 }
+
+abbrev pub IsIn : Strip → ℕ → Type 0
+IsIn strip x = (strip.x0 ≤ x) × (x ≤ strip.x1)
+
+-- the places of a region are those of cells, which are connected wherever their columns are neighbours
+pub record IsWoven (cells : List Cell) (region : Region) : Type 0 where
+  pub there : (strip : Strip) (x : ℕ) → Contains region.strips strip → IsIn strip x → Any (λ (cell : Cell). cell.at ≡ place_in strip x) cells
+  pub connected : (dir x y : ℕ) (from to : Strip) (cell : Cell) → dir < 4 → Contains region.strips from → Contains region.strips to
+      → IsIn from x → IsIn to y → IsTrue (is_toward dir (place_in from x) (place_in to y))
+      → Contains cells cell → cell.at ≡ place_in from x → IsTrue (is_naming dir cell (place_in to y))

@@ -1,9 +1,4 @@
-use Rattle.std.proofs.Common.{◌≡◌, ℕ, ◌<◌, length, get_or, ap, ◌∙◌, sym, subst, arith, inl, inr}
-use Rattle.std.proofs.lemmas.Bool.{cases_lt}
-use Rattle.std.proofs.lemmas.List.{get_or_default}
-use Rattle.mesh_types.specs.declared.region.UnitEdge.{UnitEdge}
-use Rattle.mesh_types.specs.Contours.{IsNoLater}
-use Rattle.contour_walk.proofs.Earliest.{no_later_more}
+use Rattle.contour_walk.proofs.Earliest.{earlier_found, earliest_stays}
 use Rattle.contour_walk.proofs.contour.least_beginning.Goals as goal
 use Rattle.contour_walk.proofs.contour.least_beginning.Goals.{then-is_before, else-is_before}
 
@@ -11,7 +6,9 @@ pub loop-k-preserved : goal.loop-k-preserved
 loop-k-preserved c =
     elim c.if-is_before.branch [
       | then-is_before w ↦
-        let q2 : ℕ = c.is_before.ensures.yes in
-        ?
-      | else-is_before w ↦ ?
+          earlier_found c.args.edges.now c.loop-k.least c.if-is_before.least c.loop-k.k _ w.least-is c.loop-k-test.true c.loop-k.invariant.0
+          (c.is_before.ensures.yes w.if-is_before.true) c.loop-k.invariant.1
+      | else-is_before w ↦
+          earliest_stays c.args.edges.now c.loop-k.least c.if-is_before.least c.loop-k.k _ w.least-is c.loop-k-test.true c.loop-k.invariant.0
+          (c.is_before.ensures.no w.if-is_before.false) c.loop-k.invariant.1
     ]
