@@ -11,3 +11,4 @@ pub mod CodeLaws
 pub mod Marks
 pub mod Loops
 pub mod Earliest
+pub mod Fabric
