@@ -1,14 +1,13 @@
 //! The edges of cells with their codes.
 
-ghost use Rattle.std.specs.Prelude.{◌≡◌, ◌<◌, ◌≤◌, IfOk, All, length, slice_index_or};
+ghost use Rattle.std.specs.Prelude.{◌≡◌, ◌<◌, ◌≤◌, IfOk, length, slice_index_or};
 ghost use Rattle.nav_ground.specs.Limits.{IsSetting};
 ghost use Rattle.nav_ground.specs.Cells.{IsCell, IsCells};
 ghost use Rattle.nav_ground.specs.Tiling.{tile_count, tile_window};
 ghost use Rattle.nav_ground.specs.declared.cell.Cell.{Cell};
-ghost use Rattle.mesh_types.specs.declared.region.Region.{Region};
 ghost use Rattle.mesh_types.specs.StripMeshes.{corner, is_crossing};
-ghost use Rattle.mesh_types.specs.Contours.{cell_in, edge_of, code_beyond, region_beyond};
-ghost use Rattle.contour_walk.specs.Tables.{index_of, IsFit, IsTableOf};
+ghost use Rattle.mesh_types.specs.Contours.{AreRegionsOf, cell_in, edge_of, code_beyond, region_beyond};
+ghost use Rattle.contour_walk.specs.Tables.{index_of, IsTableOf};
 
 use crate::owners::owners;
 use crate::table::RegionTable;
@@ -29,8 +28,7 @@ pub fn region_table(
     requires setting { IsSetting setting.now }
     requires tile { free.now.tile < tile_count setting.now }
     requires cells { IsCells free.now.cells }
-    requires few { length regions.now.regions ≤ 2000000 }
-    requires fit { All (λ (region : Region). All IsFit region.strips) regions.now.regions }
+    requires regions { AreRegionsOf free.now.cells regions.now }
     ensures window { IfOk result (λ table. table.window ≡ tile_window setting.now free.now.tile) }
     ensures tables { IfOk result (λ table. IsTableOf free.now.cells regions.now.regions table) }
 {

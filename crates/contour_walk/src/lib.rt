@@ -8,12 +8,13 @@
 #![tactic(auto)]
 
 mod codes;
-mod contour;
 mod lookup;
 mod owners;
+mod round;
 mod sides;
 mod table;
 
 pub use codes::region_table;
+pub use round::{contour, contour_over};
 pub use table::RegionTable;
 

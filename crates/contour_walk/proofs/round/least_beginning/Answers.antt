@@ -1,6 +1,6 @@
 use Rattle.contour_walk.proofs.Earliest.{earlier_found, earliest_stays}
-use Rattle.contour_walk.proofs.contour.least_beginning.Goals as goal
-use Rattle.contour_walk.proofs.contour.least_beginning.Goals.{then-is_before, else-is_before}
+use Rattle.contour_walk.proofs.round.least_beginning.Goals as goal
+use Rattle.contour_walk.proofs.round.least_beginning.Goals.{then-is_before, else-is_before}
 
 pub loop-k-preserved : goal.loop-k-preserved
 loop-k-preserved c =

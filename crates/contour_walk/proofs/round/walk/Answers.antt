@@ -1,6 +1,6 @@
 use Rattle.contour_walk.specs.Walk.{edge_at}
 use Rattle.contour_walk.proofs.Loops.{walked}
-use Rattle.contour_walk.proofs.contour.walk.Goals as goal
+use Rattle.contour_walk.proofs.round.walk.Goals as goal
 
 pub returns : goal.returns
 returns c =

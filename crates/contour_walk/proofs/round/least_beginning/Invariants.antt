@@ -1,7 +1,7 @@
 use Rattle.std.proofs.Common.{ℕ, ◌<◌, length, get_or}
 use Rattle.mesh_types.specs.declared.region.UnitEdge.{UnitEdge}
 use Rattle.mesh_types.specs.Contours.{IsNoLater}
-use Rattle.contour_walk.proofs.contour.least_beginning.Given as goal
+use Rattle.contour_walk.proofs.round.least_beginning.Given as goal
 
 -- no edge so far begins before the one that was found
 abbrev pub invariant-loop-k : goal.invariant-loop-k
