@@ -12,3 +12,4 @@ pub mod Marks
 pub mod Loops
 pub mod Earliest
 pub mod Fabric
+pub mod Contoured

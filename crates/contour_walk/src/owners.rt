@@ -1,6 +1,6 @@
 //! The number of the region of each cell.
 
-ghost use Rattle.std.specs.Prelude.{◌≡◌, ℕ, ◌<◌, ◌≤◌, IfOk, All, length, map, slice_index_or};
+ghost use Rattle.std.specs.Prelude.{◌≡◌, ℕ, ◌<◌, ◌≤◌, IfOk, All, length, map, replicate, slice_index_or};
 ghost use Rattle.std.specs.List.{list_any};
 ghost use Rattle.nav_ground.specs.Cells.{IsCells};
 ghost use Rattle.mesh_types.specs.declared.region.Region.{Region};
@@ -19,7 +19,7 @@ pub fn owners(alloc: Global, cells: &[Cell], regions: &[Region]) -> Result<Vec<u
     requires fit { All (λ (region : Region). All IsFit region.strips) regions.now }
     ensures { IfOk result (λ owners. owners.items ≡ map (owner_of regions.now) cells.now) }
 {
-    let mut owners = vec![in alloc; regions.len() as u32; cells.len()]?;
+    let mut owners = unowned(alloc, cells.len(), regions.len() as u32)?;
     for number in (0..regions.len()).rev() {
         mark_region(
             owners.as_mut_slice(),
@@ -29,6 +29,13 @@ pub fn owners(alloc: Global, cells: &[Cell], regions: &[Region]) -> Result<Vec<u
         );
     }
     Ok(owners)
+}
+
+/// So many owners that are none.
+fn unowned(alloc: Global, count: usize, none: u32) -> Result<Vec<u32>, AllocError>
+    ensures { IfOk result (λ owners. owners.items ≡ replicate count none) }
+{
+    Ok(vec![in alloc; none; count]?)
 }
 
 /// Writes the number of a region at the index of each cell of its strips.
