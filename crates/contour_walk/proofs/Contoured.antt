@@ -1,8 +1,10 @@
 -- What the code needs of the regions of a tile's cells, and what its walk gives.
 use Rattle.std.proofs.Common.{◌≡◌, ℕ, ◌+◌, ◌-◌, ◌<◌, ◌≤◌, Bool, true, false, cond, length, List, [], ◌∷◌, ◌++◌, get_or, ap, ◌∙◌, sym, refl, subst, arith, zero, suc}
 use Rattle.std.specs.Prelude.{All, Any, Contains, take, drop}
-use Rattle.std.specs.List.{sum_by, count_by}
-use Rattle.std.proofs.lemmas.List.{drop_more, get_or_default}
+use Rattle.std.specs.List.{sum_by, count_by, range_with_len}
+use Rattle.std.specs.List.Sorted.{IsPermutation}
+use Rattle.std.proofs.lemmas.List.{drop_more, get_or_default, length-append, length-map}
+use Rattle.std.proofs.lemmas.List.FromFn.{length-range_with_len}
 use Rattle.std.proofs.lemmas.List.Elements.{All-contains, All-append, All-drop, All-take, Contains-get_or}
 use Rattle.std.proofs.lemmas.List.Sums.{sum_by-cons}
 use Rattle.nav_ground.specs.declared.cell.Cell.{Cell}
@@ -14,12 +16,12 @@ use Rattle.mesh_types.specs.declared.region.Region.{Region}
 use Rattle.mesh_types.specs.declared.region.Regions.{Regions}
 use Rattle.mesh_types.specs.declared.region.UnitEdge.{UnitEdge}
 use Rattle.mesh_types.specs.Regions.{is_holding, times_held, IsStrip, IsStack, IsIn, IsWoven, place_in}
-use Rattle.mesh_types.specs.Rings.{IsRing}
-use Rattle.mesh_types.specs.Contours.{strips_in, AreRegionsOf, IsNoLater, IsContour}
+use Rattle.mesh_types.specs.Rings.{beginnings, endings, IsRing}
+use Rattle.mesh_types.specs.Contours.{strips_in, AreRegionsOf, rim_of, IsNoLater, IsContour}
 use Rattle.mesh_types.proofs.Totals.{sum_by-exchanged, sum_by-one, sum_by-no_more}
 use Rattle.contour_walk.specs.Tables.{IsFit}
-use Rattle.contour_walk.specs.Walk.{edge_at, round, AreUpon}
-use Rattle.contour_walk.proofs.Sums.{AreRows}
+use Rattle.contour_walk.specs.Walk.{edge_at, bottoms, right_side, top_side, left_side, round, AreUpon}
+use Rattle.contour_walk.proofs.Sums.{AreRows, first_ordered}
 use Rattle.contour_walk.proofs.Permuted.{some_counted}
 use Rattle.contour_walk.proofs.RimSums.{rows_of}
 use Rattle.contour_walk.proofs.Fabric.{holds_own, fabric}
@@ -81,10 +83,10 @@ module _ (cells : List Cell) (rules' : IsCells cells) (regions : Regions) (are :
     stack = are.stacks id (record { strips = [] }) there
 
     -- the strips of a region, as the code reads them
-    pub strips_read : (slice : List Region) (r : Region) (strips : List Strip) → slice ≡ regions.regions → r ≡ get_or slice id r → strips ≡ r.strips
+    pub strips_read : (slice : List Region) (r : Region) (strips : List Strip) → slice ≡ regions.regions → strips ≡ (get_or slice id r).strips
         → strips ≡ strips_in regions id
-    strips_read slice r strips is at are' =
-        are' ∙ ap (λ (q : Region). q.strips) (at ∙ ap (λ rs. get_or rs id r) is ∙ get_or_default regions.regions id r (record { strips = [] }) there)
+    strips_read slice r strips is are' =
+        are' ∙ ap (λ (q : Region). q.strips) (ap (λ rs. get_or rs id r) is ∙ get_or_default regions.regions id r (record { strips = [] }) there)
 
     pub region_some : 0 < length (strips_in regions id)
     region_some = stack.some
@@ -111,4 +113,47 @@ module _ (cells : List Cell) (rules' : IsCells cells) (regions : Regions) (are :
       pub walk_contour : (0 < length walk → m < length walk)
           → ((k : ℕ) (d : UnitEdge) → k < length walk → IsNoLater (get_or walk m d).from (get_or walk k d).from)
           → IsContour window cells regions id edges
-      walk_contour inside least = ?
+      walk_contour inside least =
+          record { rim = rim_closed.0; closed = rim_closed.1; least = first }
+        where
+          by_case : (strips : List Strip) → strips_in regions id ≡ strips
+              → IsPermutation (rim_of window cells regions id) edges × (endings edges ≡ drop 1 (beginnings edges) ++ take 1 (beginnings edges)) × (0 < length walk)
+          by_case [] is = absurd (omega (arith, region_some, ap length is))
+          by_case (strip ∷ rest) is =
+              let rows : AreRows (strip ∷ rest) = let P : List Strip → Type 0 = AreRows in subst P is (rows_of (strips_in regions id) stack.strips stack.upon) in
+              let walked' : walk ≡ round (edge_at window cells regions) (strip ∷ rest) = walked ∙ ap (round (edge_at window cells regions)) is in
+              let turned' = turned ∙ ap (λ w. drop m w ++ take m w) walked' in (
+                turned_rim window cells regions id rules' (fabric cells rules' regions are id there) strip rest is rows m edges turned',
+                turned_closed window cells regions id rules' (fabric cells rules' regions are id there) strip rest is rows m edges turned',
+                some_edges strip rest rows walked',
+              )
+            where
+              some_edges : (strip : Strip) (rest : List Strip) → AreRows (strip ∷ rest) → walk ≡ round (edge_at window cells regions) (strip ∷ rest) → 0 < length walk
+              some_edges strip rest rows walked' =
+                  let under : List UnitEdge = bottoms (edge_at window cells regions) strip strip.x0 (strip.x1 + 1) in
+                  omega (
+                    arith,
+                    ap length walked',
+                    length-append under (right_side (edge_at window cells regions) (strip ∷ rest) ++ (top_side (edge_at window cells regions) (strip ∷ rest) ++ left_side (edge_at window cells regions) (strip ∷ rest))),
+                    length-map (range_with_len strip.x0 (strip.x1 + 1 - strip.x0)) (edge_at window cells regions 3 strip),
+                    length-range_with_len strip.x0 (strip.x1 + 1 - strip.x0),
+                    first_ordered strip rest rows,
+                  )
+
+          rim_closed : IsPermutation (rim_of window cells regions id) edges × (endings edges ≡ drop 1 (beginnings edges) ++ take 1 (beginnings edges)) × (0 < length walk)
+          rim_closed = by_case (strips_in regions id) refl
+
+          first : (k : ℕ) (d : UnitEdge) → k < length edges → IsNoLater (get_or edges 0 d).from (get_or edges k d).from
+          first k d below =
+              let here : m < length walk = inside rim_closed.2 in
+              let P : UnitEdge → Type 0 = λ e. IsNoLater (get_or walk m d).from e.from in
+              let all : All P walk = λ j e there'.
+              let Q : UnitEdge → Type 0 = P in
+              subst Q (get_or_default walk j d e there') (least j d there') in
+              let each : All P edges =
+              let R : List UnitEdge → Type 0 = All P in
+              subst R (sym turned) (All-append P (drop m walk) (take m walk) (All-drop P m walk all) (All-take P m walk all)) in
+              let is : get_or edges 0 d ≡ get_or walk m d =
+              ap (λ es. get_or es 0 d) (turned ∙ ap (λ es. es ++ take m walk) (drop_more walk m d here)) in
+              let S : UnitEdge → Type 0 = λ e. IsNoLater e.from (get_or edges k d).from in
+              subst S (sym is) (each k d below)

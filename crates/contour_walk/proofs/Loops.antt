@@ -1,11 +1,17 @@
 -- One step more of the loops along the sides of a region.
 use Rattle.std.proofs.Common.{◌≡◌, ℕ, ◌+◌, ◌-◌, ◌<◌, ◌≤◌, List, [], ◌∷◌, ◌++◌, length, get_or, map, ap, ◌∙◌, sym, refl, subst, arith, zero, suc, min}
-use Rattle.std.specs.Prelude.{reverse, drop}
+use Rattle.std.specs.Prelude.{reverse, take, drop}
 use Rattle.std.specs.List.{range_with_len}
+use Rattle.std.proofs.Math.Seq.{take-append_seam}
 use Rattle.std.proofs.lemmas.List.{append_assoc, append-nil, map-append, reverse-append, drop_more, drop_all}
 use Rattle.std.proofs.lemmas.List.FromFn.{map-range_with_len_more}
 use Rattle.mesh_types.specs.declared.strip.Strip.{Strip}
 use Rattle.contour_walk.specs.Walk.{tops, bottoms, to_right_end, to_left_end, right_side, top_side, left_side, round}
+
+-- a vector all of whose elements were written through a slice
+pub written_back : {X : Type 0} (n : ℕ) (old new : List X) → n ≡ length new → take n (new ++ drop (length new) old) ≡ new
+written_back n old new same =
+    ap (λ i. take i (new ++ drop (length new) old)) same ∙ take-append_seam new (drop (length new) old)
 
 -- one element more, at the end
 pub one_more : {X : Type 0} (old before more so_far next : List X) (e x : X) → before ≡ old ++ so_far → more ≡ before ++ e ∷ [] → e ≡ x

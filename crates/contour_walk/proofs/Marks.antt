@@ -179,6 +179,15 @@ region_marked cells regions k n r before after there next is numbers marked =
         by_case (is_in_region (get_or cells i some_cell).at) (is_in_region (get_or cells i some_cell).at r) refl (get_or before i 0) (get_or after i 0)
         (numbers.each i there') (marked.each i there')
 
+pub region_step : (cells : List Cell) (regions : List Region) (k n : ℕ) (r : Region) (strips : List Strip) (before mid after : List ℕ) → k < length regions
+    → n ≡ k + 1 → r ≡ get_or regions k r → strips ≡ (get_or regions k r).strips → mid ≡ before → HasNumbers cells regions n before
+    → IsMarked (λ (at : CellRef). list_any (is_holding at) strips) cells k mid after → HasNumbers cells regions k after
+region_step cells regions k n r strips before mid after there next is are same numbers marked =
+    let P : List Strip → Type 0 = λ ss. IsMarked (λ (at : CellRef). list_any (is_holding at) ss) cells k mid after in
+    let Q : List ℕ → Type 0 = λ os. IsMarked (λ (at : CellRef). list_any (is_holding at) r.strips) cells k os after in
+    region_marked cells regions k n r before after there next is numbers
+    (subst Q same (subst P (are ∙ ap (λ (q : Region). q.strips) (sym is)) marked))
+
 -- where no region is left the number of each cell is how many there are
 pub no_numbers : (cells : List Cell) (regions : List Region) (owners : List ℕ) → owners ≡ replicate (length cells) (length regions)
     → HasNumbers cells regions (length regions) owners
