@@ -71,11 +71,11 @@ pub record IsBegunOnce (vx vz : ℕ) (strip : Strip) (n : ℕ) : Type 0 where
   pub most : n ≤ 1
 
 module _
-  {X : Type 0} (edge : ℕ → Strip → ℕ → X) (g : X → ℕ) (vx vz : ℕ)
-  (left : (strip : Strip) (x : ℕ) → g (edge 0 strip x) ≡ spot vx vz x (strip.z + 1))
-  (top : (strip : Strip) (x : ℕ) → g (edge 1 strip x) ≡ spot vx vz (x + 1) (strip.z + 1))
-  (right : (strip : Strip) (x : ℕ) → g (edge 2 strip x) ≡ spot vx vz (x + 1) strip.z)
-  (bottom : (strip : Strip) (x : ℕ) → g (edge 3 strip x) ≡ spot vx vz x strip.z) where
+    {X : Type 0} (edge : ℕ → Strip → ℕ → X) (g : X → ℕ) (vx vz : ℕ)
+    (left : (strip : Strip) (x : ℕ) → g (edge 0 strip x) ≡ spot vx vz x (strip.z + 1))
+    (top : (strip : Strip) (x : ℕ) → g (edge 1 strip x) ≡ spot vx vz (x + 1) (strip.z + 1))
+    (right : (strip : Strip) (x : ℕ) → g (edge 2 strip x) ≡ spot vx vz (x + 1) strip.z)
+    (bottom : (strip : Strip) (x : ℕ) → g (edge 3 strip x) ≡ spot vx vz x strip.z) where
   once_is : (n m first end : ℕ) → n ≡ m → IsOnce m first end vx → IsOnce n first end vx
   once_is n m first end is (inl none) = inl (is ∙ none)
   once_is n m first end is (inr some) = inr (is ∙ some.0, some.1, some.2)
@@ -140,8 +140,8 @@ module _
             is,
             right_none strip (λ e. omega (arith, e, above)),
             top_apart (sum_by g (tops edge strip strip.x0 (strip.x1 + 1))) (g (edge 0 strip strip.x0)) strip.x0 strip.x1 ordered
-            (moved _ (strip.x0 + 1) (strip.x0 + (strip.x1 + 1 - strip.x0) + 1) (strip.x0 + 1) (strip.x1 + 2) refl (omega (arith, ordered)) (tops_once strip strip.x0 (strip.x1 + 1)))
-            (left_once strip),
+                (moved _ (strip.x0 + 1) (strip.x0 + (strip.x1 + 1 - strip.x0) + 1) (strip.x0 + 1) (strip.x1 + 2) refl (omega (arith, ordered)) (tops_once strip strip.x0 (strip.x1 + 1)))
+                (left_once strip),
           )
           | inr under ↦ omega (
             arith,

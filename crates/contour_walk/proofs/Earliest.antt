@@ -27,14 +27,14 @@ pub earlier_found : (edges : List UnitEdge) (least least' k : ℕ) (e : UnitEdge
 earlier_found edges least least' k e is there there' before all = (
   λ some. omega (arith, is, there),
   λ j d less.
-    let P : ℕ → Type 0 = λ n. IsNoLater (get_or edges n d).from (get_or edges j d).from in
-    subst P (sym is) (elim (cases_lt j k) [
-      | inl earlier ↦ later_chain _ _ _ (at_default d) (all j d earlier)
-      | inr last ↦
-          let same : k ≡ j = omega (arith, last, less) in
-          let Q : ℕ → Type 0 = λ n. IsNoLater (get_or edges k d).from (get_or edges n d).from in
-          subst Q same (not_later_itself (get_or edges k d).from)
-    ]),
+      let P : ℕ → Type 0 = λ n. IsNoLater (get_or edges n d).from (get_or edges j d).from in
+      subst P (sym is) (elim (cases_lt j k) [
+        | inl earlier ↦ later_chain _ _ _ (at_default d) (all j d earlier)
+        | inr last ↦
+            let same : k ≡ j = omega (arith, last, less) in
+            let Q : ℕ → Type 0 = λ n. IsNoLater (get_or edges k d).from (get_or edges n d).from in
+            subst Q same (not_later_itself (get_or edges k d).from)
+      ]),
 )
   where
     at_default : (d : UnitEdge) → IsNoLater (get_or edges k d).from (get_or edges least d).from
@@ -52,14 +52,14 @@ pub earliest_stays : (edges : List UnitEdge) (least least' k : ℕ) (e : UnitEdg
 earliest_stays edges least least' k e is there there' after all = (
   λ some. let inside = there' some in omega (arith, is, inside),
   λ j d less.
-    let P : ℕ → Type 0 = λ n. IsNoLater (get_or edges n d).from (get_or edges j d).from in
-    subst P (sym is) (elim (cases_lt j k) [
-      | inl earlier ↦ all j d earlier
-      | inr last ↦
-          let same : k ≡ j = omega (arith, last, less) in
-          let Q : ℕ → Type 0 = λ n. IsNoLater (get_or edges least d).from (get_or edges n d).from in
-          subst Q same (at_default d)
-    ]),
+      let P : ℕ → Type 0 = λ n. IsNoLater (get_or edges n d).from (get_or edges j d).from in
+      subst P (sym is) (elim (cases_lt j k) [
+        | inl earlier ↦ all j d earlier
+        | inr last ↦
+            let same : k ≡ j = omega (arith, last, less) in
+            let Q : ℕ → Type 0 = λ n. IsNoLater (get_or edges least d).from (get_or edges n d).from in
+            subst Q same (at_default d)
+      ]),
 )
   where
     at_default : (d : UnitEdge) → IsNoLater (get_or edges least d).from (get_or edges k d).from

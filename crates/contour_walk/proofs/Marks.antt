@@ -49,11 +49,11 @@ held_place at s strip holds =
       | inl inside ↦ (
         (least, omega (arith, inside, least, strip.levels)),
         ap (λ k. record { x = at.x; z = k; level = at.level }) (sym (eqb-true s.z at.z inner.0))
-          ∙ ap (λ k. record { x = at.x; z = s.z; level = k }) (sym (eqb-true (get_or s.levels (at.x - s.x0) 0) at.level
-          (sym (ap (λ o. option_map_or (λ level. level == at.level) o false) (slice_get-get_or s.levels (at.x - s.x0) 0 inside)) ∙ outer.1))),
+            ∙ ap (λ k. record { x = at.x; z = s.z; level = k }) (sym (eqb-true (get_or s.levels (at.x - s.x0) 0) at.level
+            (sym (ap (λ o. option_map_or (λ level. level == at.level) o false) (slice_get-get_or s.levels (at.x - s.x0) 0 inside)) ∙ outer.1))),
       )
       | inr past ↦ absurd (both_ways (option_map_or (λ level. level == at.level) (slice_get s.levels (at.x - s.x0)) false)
-        (ap (λ o. option_map_or (λ level. level == at.level) o false) (slice_get_past s.levels (at.x - s.x0) past)) outer.1)
+          (ap (λ o. option_map_or (λ level. level == at.level) o false) (slice_get_past s.levels (at.x - s.x0) past)) outer.1)
     ]
 
 -- one column more of a strip is marked

@@ -65,7 +65,7 @@ module _ {X P : Type 0} (from to : X → P) (at : ℕ → ℕ → P) (edge : ℕ
   right_path strip first (suc count) = (
     drawn.bottom_from strip first,
     path_between from to _ _ _ _ (map (edge 3 strip) (range_with_len (first + 1) count)) (sym (drawn.bottom_to strip first))
-      (at_same (first + 1 + count) (first + suc count) strip.z strip.z (omega arith) refl) (right_path strip (first + 1) count),
+        (at_same (first + 1 + count) (first + suc count) strip.z strip.z (omega arith) refl) (right_path strip (first + 1) count),
   )
 
   left_path : (strip : Strip) (first count : ℕ)
@@ -117,9 +117,9 @@ module _ {X P : Type 0} (from to : X → P) (at : ℕ → ℕ → P) (edge : ℕ
   right_side_path strip (next ∷ rest) rows = (
     drawn.right_from strip strip.x1,
     path_append from to _ (at (next.x1 + 1) next.z) _ (to_right_end edge strip next) (right_side edge (next ∷ rest))
-      (path_between from to _ _ _ _ (to_right_end edge strip next) (sym (drawn.right_to strip strip.x1)) (at_same (next.x1 + 1) (next.x1 + 1) (strip.z + 1) next.z refl (sym rows.1))
-      (across_path strip next (next.x1 + 1) (strip.x1 + 1) rows.1))
-      (right_side_path next rest rows.4),
+        (path_between from to _ _ _ _ (to_right_end edge strip next) (sym (drawn.right_to strip strip.x1)) (at_same (next.x1 + 1) (next.x1 + 1) (strip.z + 1) next.z refl (sym rows.1))
+        (across_path strip next (next.x1 + 1) (strip.x1 + 1) rows.1))
+        (right_side_path next rest rows.4),
   )
 
   top_side_path : (strip : Strip) (rest : List Strip) → AreRows (strip ∷ rest)

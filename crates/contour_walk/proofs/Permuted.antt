@@ -111,10 +111,10 @@ same_point p q = int_eq p.x q.x && int_eq p.z q.z
 tells_point : (p q : Point) → Decides (same_point p q) (p ≡ q)
 tells_point p q = (
   λ h.
-    let parts = and_parts (int_eq p.x q.x) (int_eq p.z q.z) h in
-    let x = (Decides-int_eq p.x q.x).0 parts.0 in
-    let z = (Decides-int_eq p.z q.z).0 parts.1 in
-    ap (λ k. record { x = k; z = p.z }) x ∙ ap (λ k. record { x = q.x; z = k }) z,
+      let parts = and_parts (int_eq p.x q.x) (int_eq p.z q.z) h in
+      let x = (Decides-int_eq p.x q.x).0 parts.0 in
+      let z = (Decides-int_eq p.z q.z).0 parts.1 in
+      ap (λ k. record { x = k; z = p.z }) x ∙ ap (λ k. record { x = q.x; z = k }) z,
   λ e. and_from (int_eq p.x q.x) (int_eq p.z q.z) ((Decides-int_eq p.x q.x).1 (ap (λ (r : Point). r.x) e)) ((Decides-int_eq p.z q.z).1 (ap (λ (r : Point). r.z) e)),
 )
 
@@ -124,17 +124,17 @@ same_edge a b = same_point a.from b.from && (same_point a.to b.to && same_code a
 tells_edge : (a b : UnitEdge) → Decides (same_edge a b) (a ≡ b)
 tells_edge a b = (
   λ h.
-    let first = and_parts (same_point a.from b.from) (same_point a.to b.to && same_code a.code b.code) h in
-    let more = and_parts (same_point a.to b.to) (same_code a.code b.code) first.1 in
-    ap (λ p. record { from = p; to = a.to; code = a.code }) ((tells_point a.from b.from).0 first.0)
-    ∙ ap (λ p. record { from = b.from; to = p; code = a.code }) ((tells_point a.to b.to).0 more.0)
-    ∙ ap (λ c. record { from = b.from; to = b.to; code = c }) ((tells_code a.code b.code).0 more.1),
+      let first = and_parts (same_point a.from b.from) (same_point a.to b.to && same_code a.code b.code) h in
+      let more = and_parts (same_point a.to b.to) (same_code a.code b.code) first.1 in
+      ap (λ p. record { from = p; to = a.to; code = a.code }) ((tells_point a.from b.from).0 first.0)
+      ∙ ap (λ p. record { from = b.from; to = p; code = a.code }) ((tells_point a.to b.to).0 more.0)
+      ∙ ap (λ c. record { from = b.from; to = b.to; code = c }) ((tells_code a.code b.code).0 more.1),
   λ e.
-    and_from (same_point a.from b.from) (same_point a.to b.to && same_code a.code b.code)
-    ((tells_point a.from b.from).1 (ap (λ (r : UnitEdge). r.from) e))
-    (and_from (same_point a.to b.to) (same_code a.code b.code)
-    ((tells_point a.to b.to).1 (ap (λ (r : UnitEdge). r.to) e))
-    ((tells_code a.code b.code).1 (ap (λ (r : UnitEdge). r.code) e))),
+      and_from (same_point a.from b.from) (same_point a.to b.to && same_code a.code b.code)
+      ((tells_point a.from b.from).1 (ap (λ (r : UnitEdge). r.from) e))
+      (and_from (same_point a.to b.to) (same_code a.code b.code)
+      ((tells_point a.to b.to).1 (ap (λ (r : UnitEdge). r.to) e))
+      ((tells_code a.code b.code).1 (ap (λ (r : UnitEdge). r.code) e))),
 )
 
 pub edges_permuted : (xs ys : List UnitEdge) → ((g : UnitEdge → ℕ) → sum_by g xs ≡ sum_by g ys) → IsPermutation xs ys

@@ -30,9 +30,9 @@ rows_of (strip ∷ next ∷ rest) each upon =
       one.left,
       one.right,
       rows_of (next ∷ rest) (All-tail IsStrip strip (next ∷ rest) each) (λ k d there.
-      let one_on : suc k + 1 ≡ suc (k + 1) = omega arith in
-      let P : ℕ → Type 0 = λ n. IsUpon (get_or (next ∷ rest) k d) (get_or (strip ∷ next ∷ rest) n d) in
-      subst P one_on (upon (suc k) d (omega (arith, there)))),
+          let one_on : suc k + 1 ≡ suc (k + 1) = omega arith in
+          let P : ℕ → Type 0 = λ n. IsUpon (get_or (next ∷ rest) k d) (get_or (strip ∷ next ∷ rest) n d) in
+          subst P one_on (upon (suc k) d (omega (arith, there)))),
     )
 
 sum_four : (h : ℕ → ℕ) → sum_by h (range_with_len 0 4) ≡ h 0 + (h 1 + (h 2 + h 3))
@@ -83,7 +83,7 @@ module _ (window : Window) (cells : List Cell) (regions : Regions) (id : ℕ) (f
       omega (
         arith,
         over_same (λ x. sum_by g (rim_edges_of window cells regions id (place_in strip x))) (at_rim below strip (head_of rest)) strip.x0 (strip.x1 + 1 - strip.x0)
-        (λ x least most. cell_sum below strip rest x stands (least, omega (arith, most, ordered))),
+            (λ x least most. cell_sum below strip rest x stands (least, omega (arith, most, ordered))),
         sum_by-plus (λ x. f3 x + f1 x) (λ x. f0 x + f2 x) xs,
         sum_by-plus f3 f1 xs,
         sum_by-plus f0 f2 xs,

@@ -56,7 +56,7 @@ holding_column at s strip holds =
     (within_yes s.x0 s.x1 at.x least (elim (cases_lt (at.x - s.x0) (length s.levels)) [
       | inl inside ↦ omega (arith, inside, least, strip.levels)
       | inr past ↦ absurd (both_ways (option_map_or (λ level. level == at.level) (slice_get s.levels (at.x - s.x0)) false)
-        (ap (λ o. option_map_or (λ level. level == at.level) o false) (slice_get_past s.levels (at.x - s.x0) past)) outer.1)
+          (ap (λ o. option_map_or (λ level. level == at.level) o false) (slice_get_past s.levels (at.x - s.x0) past)) outer.1)
     ]))
 
 -- the columns of a stack, row by row

@@ -88,8 +88,8 @@ edge_fits window cells regions at small small' =
     (corner_fits at.x at.z (omega (arith, small)) (omega (arith, small')), λ e. omega (arith, x_of at.x at.z (at.x + 1) at.z e))
 
 module _
-  (window : Window) (cells : List Cell) (regions : Regions) (id : ℕ) (cells_rules : IsCells cells)
-  (fabric : IsFabric cells regions id) (strip : Strip) (rest : List Strip) (is : strips_in regions id ≡ strip ∷ rest) (rows : AreRows (strip ∷ rest)) where
+    (window : Window) (cells : List Cell) (regions : Regions) (id : ℕ) (cells_rules : IsCells cells)
+    (fabric : IsFabric cells regions id) (strip : Strip) (rest : List Strip) (is : strips_in regions id ≡ strip ∷ rest) (rows : AreRows (strip ∷ rest)) where
   abbrev pub edge : ℕ → Strip → ℕ → UnitEdge
   edge = edge_at window cells regions
 
@@ -178,13 +178,13 @@ module _
         record {
           closed = turned_closed;
           apart = AllPairs-map AreApart (λ (e : UnitEdge). e.from) edges (λ i j d less there same.
-          let v : Point = (get_or edges i d).from in
-          let x : unsigned_abs (get_or edges j d).from.x ≡ unsigned_abs v.x = ap (λ (p : Point). unsigned_abs p.x) (sym same) in
-          let z : unsigned_abs (get_or edges j d).from.z ≡ unsigned_abs v.z = ap (λ (p : Point). unsigned_abs p.z) (sym same) in
-          once_apart (λ (e : UnitEdge). unsigned_abs e.from.x == unsigned_abs v.x && unsigned_abs e.from.z == unsigned_abs v.z) edges i j d
-          (begun_once (unsigned_abs v.x) (unsigned_abs v.z)) less there
-          (and_from _ _ (eq-eqb (unsigned_abs v.x) (unsigned_abs v.x) refl) (eq-eqb (unsigned_abs v.z) (unsigned_abs v.z) refl))
-          (and_from _ _ (eq-eqb (unsigned_abs (get_or edges j d).from.x) (unsigned_abs v.x) x) (eq-eqb (unsigned_abs (get_or edges j d).from.z) (unsigned_abs v.z) z)));
+              let v : Point = (get_or edges i d).from in
+              let x : unsigned_abs (get_or edges j d).from.x ≡ unsigned_abs v.x = ap (λ (p : Point). unsigned_abs p.x) (sym same) in
+              let z : unsigned_abs (get_or edges j d).from.z ≡ unsigned_abs v.z = ap (λ (p : Point). unsigned_abs p.z) (sym same) in
+              once_apart (λ (e : UnitEdge). unsigned_abs e.from.x == unsigned_abs v.x && unsigned_abs e.from.z == unsigned_abs v.z) edges i j d
+              (begun_once (unsigned_abs v.x) (unsigned_abs v.z)) less there
+              (and_from _ _ (eq-eqb (unsigned_abs v.x) (unsigned_abs v.x) refl) (eq-eqb (unsigned_abs v.z) (unsigned_abs v.z) refl))
+              (and_from _ _ (eq-eqb (unsigned_abs (get_or edges j d).from.x) (unsigned_abs v.x) x) (eq-eqb (unsigned_abs (get_or edges j d).from.z) (unsigned_abs v.z) z)));
           moving = λ k d there. (fits k d there).1;
           inside = All-map IsCellCorner (λ (e : UnitEdge). e.from) edges (λ k d there. (fits k d there).0);
         }

@@ -114,13 +114,7 @@ fn code(
 }
 
 /// The code of the edge toward a direction of the cell with an index.
-fn code_of(
-    cells: &[Cell],
-    regions: &Regions,
-    table: &RegionTable,
-    index: usize,
-    dir: u32,
-) -> Code
+fn code_of(cells: &[Cell], regions: &Regions, table: &RegionTable, index: usize, dir: u32) -> Code
     requires cells { IsCells cells.now }
     requires table { IsTableOf cells.now regions.now.regions table.now }
     requires index { index < length cells.now }

@@ -37,9 +37,25 @@ fn walk(
     let first = &strips[0];
     let last = &strips[strips.len() - 1];
     let mut edges = Vec::new(alloc);
-    push_bottoms(&mut edges, cells, regions, table, first, first.x0, first.x1 + 1)?;
+    push_bottoms(
+        &mut edges,
+        cells,
+        regions,
+        table,
+        first,
+        first.x0,
+        first.x1 + 1,
+    )?;
     push_right_side(&mut edges, cells, regions, table, strips)?;
-    push_tops(&mut edges, cells, regions, table, last, last.x0, last.x1 + 1)?;
+    push_tops(
+        &mut edges,
+        cells,
+        regions,
+        table,
+        last,
+        last.x0,
+        last.x1 + 1,
+    )?;
     push_left_side(&mut edges, cells, regions, table, strips)?;
     Ok(edges)
 }

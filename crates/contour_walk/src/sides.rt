@@ -107,8 +107,24 @@ pub fn push_right_side(
         push_end(edges, cells, regions, table, strip, strip.x1, 2)?;
         if k + 1 < strips.len() {
             let next = &strips[k + 1];
-            push_tops(edges, cells, regions, table, strip, next.x1 + 1, strip.x1 + 1)?;
-            push_bottoms(edges, cells, regions, table, next, strip.x1 + 1, next.x1 + 1)?;
+            push_tops(
+                edges,
+                cells,
+                regions,
+                table,
+                strip,
+                next.x1 + 1,
+                strip.x1 + 1,
+            )?;
+            push_bottoms(
+                edges,
+                cells,
+                regions,
+                table,
+                next,
+                strip.x1 + 1,
+                next.x1 + 1,
+            )?;
         }
     }
     Ok(())

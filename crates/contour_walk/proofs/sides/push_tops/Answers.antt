@@ -13,9 +13,9 @@ loop-x-preserved c =
     let edge = edge_at c.args.table.now.window c.args.cells.now c.args.regions.now 1 c.args.strip.now in (
       omega (arith, c.loop-x-test.true),
       one_more c.args.edges.now.items _ _ (map edge (reverse (range_with_len c.loop-x.x (c.args.end - c.loop-x.x)))) _ _ (edge (c.loop-x.x - 1))
-        c.loop-x.invariant.1 c.in_ok-push.ensures.items
-        (c.edge.ensures ∙ ap (λ (at : CellRef). edge_of c.args.table.now.window c.args.cells.now c.args.regions.now 1 at) c.place_in-at.ensures)
-        (more_left edge c.loop-x.x c.args.end (omega (arith, c.loop-x-test.true)) c.loop-x.auto.x),
+          c.loop-x.invariant.1 c.in_ok-push.ensures.items
+          (c.edge.ensures ∙ ap (λ (at : CellRef). edge_of c.args.table.now.window c.args.cells.now c.args.regions.now 1 at) c.place_in-at.ensures)
+          (more_left edge c.loop-x.x c.args.end (omega (arith, c.loop-x-test.true)) c.loop-x.auto.x),
     )
 
 pub returns : goal.returns
