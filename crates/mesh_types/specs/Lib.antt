@@ -4,6 +4,7 @@ pub mod Runs
 pub mod Strips
 pub mod LinkOrder
 pub mod StripMeshes
+pub mod Regions
 pub mod BorderLinks
 pub mod WholeMesh
 pub mod Soundness

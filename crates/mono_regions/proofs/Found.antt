@@ -1,10 +1,12 @@
 -- The first element that passes, by two tests that agree, and where only one can pass.
-use Rattle.std.proofs.Common.{◌≡◌, ℕ, ◌<◌, ◌≤◌, Bool, true, false, length, List, [], ◌∷◌, map, get_or, refl, arith}
+use Rattle.std.proofs.Common.{◌≡◌, ℕ, ◌+◌, ◌<◌, ◌≤◌, Bool, true, false, length, List, [], ◌∷◌, ◌++◌, map, filter, get_or, ap, ◌∙◌, refl, arith}
 use Rattle.std.specs.Prelude.{All}
-use Rattle.std.specs.List.{position_or_len}
-use Rattle.std.proofs.lemmas.Bool.{false_from_ne_true}
-use Rattle.std.proofs.lemmas.List.Elements.{All-head, All-tail}
+use Rattle.std.specs.List.{position_or_len, range_with_len}
+use Rattle.std.proofs.lemmas.Bool.{false_from_ne_true, cond-true, cond-false}
+use Rattle.std.proofs.lemmas.List.{append-nil}
+use Rattle.std.proofs.lemmas.List.Elements.{All-head, All-tail, filter-append}
 use Rattle.std.proofs.lemmas.List.Sums.{position_or_len_is, prefix_len-le-length}
+use Rattle.nav_ground.proofs.Selections.{range-push}
 
 -- two tests that agree at each element find the same first
 pub position_same : {A : Type 0} (p q : A → Bool) (xs : List A) → All (λ x. p x ≡ q x) xs → position_or_len p xs ≡ position_or_len q xs
@@ -38,3 +40,19 @@ position-map_same p q f g (x ∷ xs) each =
     let here = All-head (λ y. p (f y) ≡ q (g y)) x xs each in
     let rest = position-map_same p q f g xs (All-tail (λ y. p (f y) ≡ q (g y)) x xs each) in
     cc
+
+-- one number more of a range, with what passes
+pub passes_next : (p : ℕ → Bool) (n : ℕ) → p n ≡ true → filter p (range_with_len 0 (n + 1)) ≡ filter p (range_with_len 0 n) ++ n ∷ []
+passes_next p n passes =
+    ap (filter p) (range-push 0 n)
+    ∙ filter-append p (range_with_len 0 n) ((0 + n) ∷ [])
+    ∙ ap (λ k. filter p (range_with_len 0 n) ++ filter p (k ∷ [])) {x = 0 + n} {y = n} (omega arith)
+    ∙ ap (λ (xs : List ℕ). filter p (range_with_len 0 n) ++ xs) (cond-true (p n) (n ∷ []) [] passes)
+
+pub fails_next : (p : ℕ → Bool) (n : ℕ) → p n ≡ false → filter p (range_with_len 0 (n + 1)) ≡ filter p (range_with_len 0 n)
+fails_next p n fails =
+    ap (filter p) (range-push 0 n)
+    ∙ filter-append p (range_with_len 0 n) ((0 + n) ∷ [])
+    ∙ ap (λ k. filter p (range_with_len 0 n) ++ filter p (k ∷ [])) {x = 0 + n} {y = n} (omega arith)
+    ∙ ap (λ (xs : List ℕ). filter p (range_with_len 0 n) ++ xs) (cond-false (p n) (n ∷ []) [] fails)
+    ∙ append-nil (filter p (range_with_len 0 n))

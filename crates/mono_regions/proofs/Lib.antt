@@ -6,3 +6,13 @@ pub mod Owners
 pub mod RunLaws
 pub mod Named
 pub mod StripLaws
+pub mod Scans
+pub mod Touches
+pub mod JoinLaws
+pub mod Tabled
+pub mod Upon
+pub mod Following
+pub mod Gathered
+pub mod Stacks
+pub mod Held
+pub mod Woven

@@ -32,7 +32,7 @@ named_is cells rules' i dir j small there inside =
     (λ h. subst P (sym (eqb-true j n h)) named)
 
 -- so the cells at indices hold it where the index named is among them
-held_is : (cells : List Cell) → IsCells cells → (i dir : ℕ) → dir < 4 → index_named cells (cell_at cells i) dir < length cells
+pub held_is : (cells : List Cell) → IsCells cells → (i dir : ℕ) → dir < 4 → index_named cells (cell_at cells i) dir < length cells
     → (run : List ℕ) → All (λ j. j < length cells) run
     → holds_named dir (cell_at cells i) (map (cell_at cells) run) ≡ has_index (index_named cells (cell_at cells i) dir) run
 held_is cells rules' i dir small inside [] each = refl
@@ -42,7 +42,7 @@ held_is cells rules' i dir small inside (j ∷ run) each =
     ap (λ b. b || holds_named dir (cell_at cells i) (map (cell_at cells) run)) here
     ∙ ap (λ b. (j == index_named cells (cell_at cells i) dir) || b) rest
 
-held_not : (cells : List Cell) (i dir : ℕ) → length cells ≤ index_named cells (cell_at cells i) dir
+pub held_not : (cells : List Cell) (i dir : ℕ) → length cells ≤ index_named cells (cell_at cells i) dir
     → (run : List ℕ) → All (λ j. j < length cells) run
     → holds_named dir (cell_at cells i) (map (cell_at cells) run) ≡ false
 held_not cells i dir past [] each = refl

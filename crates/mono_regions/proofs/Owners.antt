@@ -2,7 +2,7 @@
 use Rattle.std.proofs.Common.{◌≡◌, ℕ, ◌+◌, ◌-◌, ◌<◌, ◌≤◌, Bool, true, false, length, List, [], ◌∷◌, ◌++◌, map, filter, get_or, ap, ◌∙◌, sym, refl, arith, zero, suc, inl, inr}
 use Rattle.std.specs.Prelude.{◌==◌, ◌||◌, ◌&&◌, nat_lt, not, All}
 use Rattle.std.specs.List.{position_or_len, range_with_len, concat}
-use Rattle.std.proofs.lemmas.Bool.{cases_lt, lt-ltb, le-ltb, ltb-false, cond-true, cond-false, ne_eqb, eq-eqb, not-true}
+use Rattle.std.proofs.lemmas.Bool.{cases_lt, lt-ltb, le-ltb, ltb-false, cond-true, ne_eqb, eq-eqb, not-true}
 use Rattle.std.proofs.lemmas.List.{get_or_at, get_or_append_left, length-append, length-map, map_push, append-nil}
 use Rattle.std.proofs.lemmas.List.Elements.{All-head, All-tail, All-filter, All-map, filter-append, filter_passes}
 use Rattle.std.proofs.lemmas.List.Folds.{concat-append}
@@ -10,13 +10,12 @@ use Rattle.std.proofs.lemmas.List.FromFn.{get_or-range_with_len, length-range_wi
 use Rattle.std.proofs.lemmas.List.Sums.{position_or_len_is, length-filter, count_by-le-length}
 use Rattle.nav_ground.specs.declared.cell.Cell.{Cell}
 use Rattle.nav_ground.specs.Cells.{IsCut, is_naming}
-use Rattle.nav_ground.proofs.Selections.{range-push}
 use Rattle.cell_table.proofs.Tables.{any_position}
 use Rattle.mesh_types.specs.Strips.{is_followed_by}
 use Rattle.mono_regions.specs.Lists.{starts_of}
 use Rattle.mono_regions.specs.Indices.{cell_at, along, run_at, begins_at, firsts_below, index_runs, has_index, owner_of}
 use Rattle.mono_regions.proofs.Cuts.{one_more_start}
-use Rattle.mono_regions.proofs.Found.{position_same, position_most}
+use Rattle.mono_regions.proofs.Found.{position_same, position_most, passes_next, fails_next}
 use Rattle.mono_regions.proofs.Chains.{along_before, begins_where, followed_back, follows_back}
 use Rattle.mono_regions.proofs.Walks.{held_with, held_alone}
 
@@ -37,19 +36,10 @@ begins_past cells cut i there begins = ltb-false _ _ (not-true _ (sym (begins_is
 
 -- one cell more among the first ones
 pub one_first : (cells : List Cell) (n : ℕ) → begins_at cells n ≡ true → firsts_below cells (n + 1) ≡ firsts_below cells n ++ n ∷ []
-one_first cells n begins =
-    ap (filter (begins_at cells)) (range-push 0 n)
-    ∙ filter-append (begins_at cells) (range_with_len 0 n) ((0 + n) ∷ [])
-    ∙ ap (λ k. firsts_below cells n ++ filter (begins_at cells) (k ∷ [])) {x = 0 + n} {y = n} (omega arith)
-    ∙ ap (λ (xs : List ℕ). firsts_below cells n ++ xs) (cond-true (begins_at cells n) (n ∷ []) [] begins)
+one_first cells n begins = passes_next (begins_at cells) n begins
 
 pub no_first : (cells : List Cell) (n : ℕ) → begins_at cells n ≡ false → firsts_below cells (n + 1) ≡ firsts_below cells n
-no_first cells n begins =
-    ap (filter (begins_at cells)) (range-push 0 n)
-    ∙ filter-append (begins_at cells) (range_with_len 0 n) ((0 + n) ∷ [])
-    ∙ ap (λ k. firsts_below cells n ++ filter (begins_at cells) (k ∷ [])) {x = 0 + n} {y = n} (omega arith)
-    ∙ ap (λ (xs : List ℕ). firsts_below cells n ++ xs) (cond-false (begins_at cells n) (n ∷ []) [] begins)
-    ∙ append-nil (firsts_below cells n)
+no_first cells n begins = fails_next (begins_at cells) n begins
 
 pub few_firsts : (cells : List Cell) (n : ℕ) → length (firsts_below cells n) ≤ n
 few_firsts cells n =

@@ -89,7 +89,7 @@ walk_step cells (suc n) i k d inside =
         subst P (sym is) (further j (omega (arith, inside', ap length is)))
 
 -- the first cells of strips rise
-firsts_rise : (cells : List Cell) (n : ℕ) → AllPairs (λ a b. a < b) (firsts_below cells n)
+pub firsts_rise : (cells : List Cell) (n : ℕ) → AllPairs (λ a b. a < b) (firsts_below cells n)
 firsts_rise cells n =
     AllPairs-filter (λ a b. a < b) (begins_at cells) (range_with_len 0 n)
     (λ i j d less there.

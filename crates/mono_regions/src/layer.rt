@@ -29,7 +29,7 @@ pub fn strips(alloc: Global, free: &FreeLayer) -> Result<Vec<Strip>, AllocError>
 }
 
 /// The strip of cells along a row, by their indices.
-fn strip(alloc: Global, cells: &[Cell], run: &[u32]) -> Result<Strip, AllocError>
+pub fn strip(alloc: Global, cells: &[Cell], run: &[u32]) -> Result<Strip, AllocError>
     requires cells { IsCut cells.now }
     requires run { AreIndices cells.now run.now }
     ensures { IfOk result (λ strip. strip ≡ strip_at cells.now run.now) }
