@@ -16,5 +16,4 @@ pub mod Taut
 pub mod Floors
 pub mod Right
 pub mod Rings
-pub mod Regions
 pub mod Contours
