@@ -5,6 +5,7 @@ ghost use Rattle.nav_ground.specs.Limits.{IsSetting};
 ghost use Rattle.nav_ground.specs.Cells.{IsCell, IsCells};
 ghost use Rattle.nav_ground.specs.Tiling.{tile_count, tile_window};
 ghost use Rattle.nav_ground.specs.declared.cell.Cell.{Cell};
+ghost use Rattle.nav_ground.specs.declared.cell.CellRef.{CellRef};
 ghost use Rattle.mesh_types.specs.StripMeshes.{corner, is_crossing};
 ghost use Rattle.mesh_types.specs.Contours.{AreRegionsOf, cell_in, edge_of, code_beyond, region_beyond};
 ghost use Rattle.contour_walk.specs.Tables.{index_of, IsTableOf};
@@ -60,7 +61,7 @@ pub fn edge(
     UnitEdge {
         from: beginning(dir, at),
         to: beginning((dir + 3) % 4, at),
-        code: code(cells, regions, table, index, at, dir),
+        code: code(cells, regions, table, index, dir),
     }
 }
 
@@ -90,22 +91,19 @@ fn corner(x: u32, z: u32) -> Point
     }
 }
 
-/// The code of the edge toward a direction of the cell at a place.
+/// The code of the edge toward a direction of the cell at a place, by the index of that cell; a wall where there is none.
 fn code(
     cells: &[Cell],
     regions: &Regions,
     table: &RegionTable,
     index: usize,
-    at: CellRef,
     dir: u32,
 ) -> Code
     requires cells { IsCells cells.now }
     requires table { IsTableOf cells.now regions.now.regions table.now }
-    requires index { index ≡ index_of cells.now at }
     requires dir { dir < 4 }
-    ensures { result ≡ code_beyond table.now.window cells.now regions.now dir (cell_in cells.now at) }
+    ensures { (at : CellRef) → index ≡ index_of cells.now at → result ≡ code_beyond table.now.window cells.now regions.now dir (cell_in cells.now at) }
 {
-    let _ = at;
     if index < cells.len() {
         code_of(cells, regions, table, index, dir)
     } else {
