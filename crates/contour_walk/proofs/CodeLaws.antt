@@ -1,26 +1,24 @@
 -- The codes of edges, as they are read from the tables.
-use Rattle.std.proofs.Common.{◌≡◌, ℕ, ◌<◌, ◌≤◌, Bool, true, false, cond, length, List, [], ◌∷◌, map, get_or, ap, ◌∙◌, sym, refl, subst, arith, zero, suc, Option, Some, None}
+use Rattle.std.proofs.Common.{◌≡◌, ℕ, ◌<◌, ◌≤◌, false, cond, length, List, [], map, get_or, ap, ◌∙◌, sym, refl, subst, arith, zero, suc, Some, None}
 use Rattle.std.specs.Prelude.{nat_lt, slice_get, unwrap_or}
-use Rattle.std.specs.List.{find, list_any, position, position_or_len}
 use Rattle.std.specs.Option.{option_and_then, option_map_or}
 use Rattle.std.proofs.lemmas.Bool.{cond-true, cond-false, lt-ltb, le-ltb, and_right}
-use Rattle.std.proofs.lemmas.List.{get_or-map, get_or_default}
+use Rattle.std.proofs.lemmas.List.{get_or-map}
 use Rattle.std.proofs.lemmas.List.Folds.{find_at}
 use Rattle.std.proofs.lemmas.Option.{slice_get-get_or, slice_get_past}
 use Rattle.nav_ground.specs.declared.cell.Cell.{Cell}
 use Rattle.nav_ground.specs.declared.cell.CellRef.{CellRef}
 use Rattle.nav_ground.specs.declared.cell.Window.{Window}
-use Rattle.nav_ground.specs.Cells.{is_naming, next_level}
+use Rattle.nav_ground.specs.Cells.{is_naming}
 use Rattle.nav_ground.proofs.Found.{find_none}
 use Rattle.mesh_types.specs.declared.region.Region.{Region}
 use Rattle.mesh_types.specs.declared.region.Regions.{Regions}
-use Rattle.mesh_types.specs.declared.region.Code.{Code}
 use Rattle.mesh_types.specs.declared.region.Code.TheVariants.{Wall, Side, Region as Beyond}
-use Rattle.mesh_types.specs.StripMeshes.{some_cell, is_crossing, is_at_side}
+use Rattle.mesh_types.specs.StripMeshes.{some_cell, is_at_side}
 use Rattle.mesh_types.specs.Contours.{is_at, cell_in, region_at, region_beyond, code_beyond}
 use Rattle.cell_table.specs.Table.{index_named, indices_named, neighbour_table}
 use Rattle.cell_table.proofs.Places.{naming_nowhere}
-use Rattle.contour_walk.specs.Tables.{index_of, is_in_region, owner_of}
+use Rattle.contour_walk.specs.Tables.{index_of, owner_of}
 
 -- what the code finds in the neighbour table
 pub read_at : (cells : List Cell) (table : List (List ℕ)) (i dir : ℕ) (d : Cell) → table ≡ neighbour_table cells → i < length cells → dir < 4

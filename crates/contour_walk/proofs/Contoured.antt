@@ -1,11 +1,11 @@
 -- What the code needs of the regions of a tile's cells, and what its walk gives.
-use Rattle.std.proofs.Common.{◌≡◌, ℕ, ◌+◌, ◌-◌, ◌<◌, ◌≤◌, Bool, true, false, cond, length, List, [], ◌∷◌, ◌++◌, get_or, ap, ◌∙◌, sym, refl, subst, arith, zero, suc}
-use Rattle.std.specs.Prelude.{All, Any, Contains, take, drop}
+use Rattle.std.proofs.Common.{◌≡◌, ℕ, ◌+◌, ◌-◌, ◌<◌, ◌≤◌, true, length, List, [], ◌∷◌, ◌++◌, get_or, ap, ◌∙◌, sym, refl, subst, arith, zero, suc}
+use Rattle.std.specs.Prelude.{All, take, drop}
 use Rattle.std.specs.List.{sum_by, count_by, range_with_len}
 use Rattle.std.specs.List.Sorted.{IsPermutation}
 use Rattle.std.proofs.lemmas.List.{drop_more, get_or_default, length-append, length-map}
 use Rattle.std.proofs.lemmas.List.FromFn.{length-range_with_len}
-use Rattle.std.proofs.lemmas.List.Elements.{All-contains, All-append, All-drop, All-take, Contains-get_or}
+use Rattle.std.proofs.lemmas.List.Elements.{All-append, All-drop, All-take, Contains-get_or}
 use Rattle.std.proofs.lemmas.List.Sums.{sum_by-cons}
 use Rattle.nav_ground.specs.declared.cell.Cell.{Cell}
 use Rattle.nav_ground.specs.declared.cell.CellRef.{CellRef}
@@ -15,7 +15,7 @@ use Rattle.mesh_types.specs.declared.strip.Strip.{Strip}
 use Rattle.mesh_types.specs.declared.region.Region.{Region}
 use Rattle.mesh_types.specs.declared.region.Regions.{Regions}
 use Rattle.mesh_types.specs.declared.region.UnitEdge.{UnitEdge}
-use Rattle.mesh_types.specs.Regions.{is_holding, times_held, IsStrip, IsStack, IsIn, IsWoven, place_in}
+use Rattle.mesh_types.specs.Regions.{is_holding, times_held, IsStrip, IsStack, IsIn, IsWoven}
 use Rattle.mesh_types.specs.Rings.{beginnings, endings, IsRing}
 use Rattle.mesh_types.specs.Contours.{strips_in, AreRegionsOf, rim_of, IsNoLater, IsContour}
 use Rattle.mesh_types.proofs.Totals.{sum_by-exchanged, sum_by-one, sum_by-no_more}

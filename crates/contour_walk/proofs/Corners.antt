@@ -1,14 +1,14 @@
 -- No corner begins two edges of the walk round a stack of strips.
-use Rattle.std.proofs.Common.{◌≡◌, ℕ, ◌+◌, ◌-◌, ◌<◌, ◌≤◌, ◌⊎◌, Bool, true, false, cond, List, [], ◌∷◌, ◌++◌, ap, ◌∙◌, sym, refl, arith, zero, suc, inl, inr}
+use Rattle.std.proofs.Common.{◌≡◌, ℕ, ◌+◌, ◌-◌, ◌<◌, ◌≤◌, ◌⊎◌, Bool, true, false, cond, List, [], ◌∷◌, ◌++◌, ap, ◌∙◌, refl, arith, zero, suc, inl, inr}
 use Rattle.std.specs.Prelude.{◌==◌, ◌&&◌}
-use Rattle.std.specs.List.{range_with_len, sum_by}
-use Rattle.std.proofs.lemmas.Bool.{cases_lt, eqb-true, ne_eqb, and_right}
-use Rattle.std.proofs.lemmas.List.Sums.{sum_by-cons, sum_by-append}
+use Rattle.std.specs.List.{sum_by}
+use Rattle.std.proofs.lemmas.Bool.{cases_lt, ne_eqb, and_right}
+use Rattle.std.proofs.lemmas.List.Sums.{sum_by-append}
 use Rattle.nav_ground.proofs.Directions.{both_equal}
 use Rattle.mesh_types.specs.declared.strip.Strip.{Strip}
-use Rattle.contour_walk.specs.Walk.{bottoms, tops, to_right_end, to_left_end, right_side, top_side, left_side, round}
+use Rattle.contour_walk.specs.Walk.{bottoms, tops, right_side, top_side, left_side, round}
 use Rattle.contour_walk.proofs.Ranges.{over, over_more, over_none}
-use Rattle.contour_walk.proofs.Sums.{AreRows, first_ordered, sides_sum, sides_more, sides_one, sum_tops, sum_bottoms, across}
+use Rattle.contour_walk.proofs.Sums.{AreRows, first_ordered, sides_sum, sides_more, sides_one, sum_tops, sum_bottoms}
 
 -- so many are at most one, and if there is one then the number lies in a range
 abbrev pub IsOnce : ℕ → ℕ → ℕ → ℕ → Type 0

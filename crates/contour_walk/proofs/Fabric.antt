@@ -1,9 +1,9 @@
 -- The regions of a tile's cells are woven: what lies beyond an edge within a region is that region.
-use Rattle.std.proofs.Common.{◌≡◌, ℕ, ◌+◌, ◌-◌, ◌<◌, ◌≤◌, Bool, true, false, cond, length, List, [], ◌∷◌, get_or, ap, ◌∙◌, sym, refl, subst, arith, zero, suc, Option, Some, None}
-use Rattle.std.specs.Prelude.{nat_lt, nat_le, ◌==◌, ◌&&◌, All, Any, Contains, slice_get, unwrap_or}
-use Rattle.std.specs.List.{find, list_any, position, position_or_len, sum_by, count_by}
+use Rattle.std.proofs.Common.{◌≡◌, ℕ, ◌-◌, ◌<◌, ◌≤◌, Bool, true, false, cond, length, List, [], get_or, ap, ◌∙◌, sym, refl, subst, arith, Some, None}
+use Rattle.std.specs.Prelude.{nat_lt, nat_le, ◌==◌, ◌&&◌, Any, Contains, slice_get, unwrap_or}
+use Rattle.std.specs.List.{position_or_len, count_by}
 use Rattle.std.specs.Option.{option_and_then, option_map_or}
-use Rattle.std.proofs.lemmas.Bool.{cond-true, lt-ltb, false_from_ne_true, and_parts, and_from, eqb-true, eq-eqb, cases_Bool}
+use Rattle.std.proofs.lemmas.Bool.{cond-true, lt-ltb, false_from_ne_true, and_parts, and_from, eqb-true, eq-eqb}
 use Rattle.std.proofs.lemmas.Bool.Decides.{nat_tests}
 use Rattle.std.proofs.lemmas.List.Elements.{All-contains, Contains-get_or}
 use Rattle.std.proofs.lemmas.List.Folds.{Any-from_list_any, list_any_at}
@@ -18,7 +18,7 @@ use Rattle.mesh_types.specs.declared.strip.Strip.{Strip}
 use Rattle.mesh_types.specs.declared.region.Region.{Region}
 use Rattle.mesh_types.specs.declared.region.Regions.{Regions}
 use Rattle.mesh_types.specs.StripMeshes.{some_cell}
-use Rattle.mesh_types.specs.Regions.{is_holding, times_held, IsStrip, IsStack, IsIn, IsWoven, HoldsEachOnce, place_in}
+use Rattle.mesh_types.specs.Regions.{is_holding, times_held, IsStrip, IsStack, IsIn, IsWoven, place_in}
 use Rattle.mesh_types.specs.Contours.{is_at, cell_in, region_at, region_beyond, strips_in, AreRegionsOf}
 use Rattle.mesh_types.proofs.Totals.{sum_by-no_more}
 use Rattle.contour_walk.specs.Tables.{is_in_region}

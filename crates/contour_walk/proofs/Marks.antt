@@ -1,5 +1,5 @@
 -- Numbers that are written at the cells of strips and regions.
-use Rattle.std.proofs.Common.{◌≡◌, ℕ, ◌+◌, ◌-◌, ◌<◌, ◌≤◌, Bool, true, false, cond, length, List, [], ◌∷◌, ◌++◌, map, get_or, ap, ◌∙◌, sym, refl, subst, arith, zero, suc, inl, inr}
+use Rattle.std.proofs.Common.{◌≡◌, ℕ, ◌+◌, ◌-◌, ◌<◌, ◌≤◌, Bool, true, false, cond, length, List, [], ◌∷◌, map, get_or, ap, ◌∙◌, sym, refl, subst, arith, inl, inr}
 use Rattle.std.specs.Prelude.{not, nat_lt, nat_le, take, drop, ◌==◌, ◌&&◌, ◌||◌, slice_get, replicate}
 use Rattle.std.specs.List.{list_any, position_or_len}
 use Rattle.std.specs.Option.{option_map_or}
@@ -18,7 +18,7 @@ use Rattle.mesh_types.specs.declared.region.Region.{Region}
 use Rattle.mesh_types.specs.StripMeshes.{some_cell}
 use Rattle.mesh_types.specs.Regions.{is_holding, IsStrip, IsIn, place_in}
 use Rattle.mesh_types.specs.Contours.{is_at}
-use Rattle.contour_walk.specs.Tables.{index_of, is_same, is_in_region, owner_of, IsMarked, IsFit}
+use Rattle.contour_walk.specs.Tables.{index_of, is_in_region, owner_of, IsMarked, IsFit}
 use Rattle.contour_walk.proofs.Places.{found_there}
 use Rattle.contour_walk.proofs.Fabric.{is_at_place, place_is, holds_own}
 

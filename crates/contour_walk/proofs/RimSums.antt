@@ -1,5 +1,5 @@
 -- The rim of a region, summed: strip by strip what lies at the rim of each between those below and above it.
-use Rattle.std.proofs.Common.{◌≡◌, ℕ, ◌+◌, ◌-◌, ◌<◌, ◌≤◌, Bool, true, false, cond, List, [], ◌∷◌, ◌++◌, length, get_or, map, ap, ◌∙◌, sym, refl, subst, arith, zero, suc, Option, Some, None}
+use Rattle.std.proofs.Common.{◌≡◌, ℕ, ◌+◌, ◌-◌, ◌<◌, Bool, true, false, cond, List, [], ◌∷◌, length, get_or, map, ap, ◌∙◌, sym, refl, subst, arith, suc, Option, Some, None}
 use Rattle.std.specs.Prelude.{not, ◌==◌, All, Contains}
 use Rattle.std.specs.List.{filter, flat_map, range_with_len, sum_by}
 use Rattle.std.proofs.lemmas.List.Elements.{All-head, All-tail, All-contains_itself}
@@ -11,10 +11,10 @@ use Rattle.mesh_types.specs.declared.strip.Strip.{Strip}
 use Rattle.mesh_types.specs.declared.region.Regions.{Regions}
 use Rattle.mesh_types.specs.declared.region.UnitEdge.{UnitEdge}
 use Rattle.mesh_types.specs.Regions.{IsStrip, IsUpon, IsIn, place_in}
-use Rattle.mesh_types.specs.Contours.{cell_in, is_rim, edge_of, columns, strips_in, places_in, rim_edges_of}
+use Rattle.mesh_types.specs.Contours.{cell_in, is_rim, columns, strips_in, places_in, rim_edges_of}
 use Rattle.mesh_types.proofs.Totals.{sum_by-map, sum_by-flat_map, sum_by-filter, sum_by-plus}
 use Rattle.contour_walk.specs.Walk.{edge_at, round}
-use Rattle.contour_walk.proofs.Ranges.{over, over_same, over_first, over_last}
+use Rattle.contour_walk.proofs.Ranges.{over_same, over_first, over_last}
 use Rattle.contour_walk.proofs.Sums.{AreRows, covers, head_of, across, rim_sum, rim_sums, first_ordered, round_is_rims}
 use Rattle.contour_walk.proofs.Rims.{IsFabric, has_column, no_lower, StandsOn, stands_next, rim_left, rim_right, rim_top, rim_bottom}
 

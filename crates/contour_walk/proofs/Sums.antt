@@ -1,12 +1,11 @@
 -- The walk round a stack of strips holds what lies at its rim, each once: whatever is summed over both gives the same.
-use Rattle.std.proofs.Common.{◌≡◌, ℕ, ◌+◌, ◌-◌, ◌<◌, ◌≤◌, Bool, true, false, cond, List, [], ◌∷◌, ◌++◌, ap, ◌∙◌, sym, refl, arith, zero, suc, Option, Some, None}
-use Rattle.std.specs.Prelude.{◌==◌}
-use Rattle.std.specs.List.{range_with_len, sum_by}
+use Rattle.std.proofs.Common.{◌≡◌, ℕ, ◌+◌, ◌-◌, ◌≤◌, Bool, false, cond, List, [], ◌∷◌, ◌++◌, refl, arith, Option, Some, None}
+use Rattle.std.specs.List.{sum_by}
 use Rattle.std.specs.Option.{option_map_or}
 use Rattle.std.proofs.lemmas.List.Sums.{sum_by-cons, sum_by-append}
 use Rattle.mesh_types.specs.declared.strip.Strip.{Strip}
 use Rattle.contour_walk.specs.Walk.{bottoms, tops, to_right_end, to_left_end, right_side, top_side, left_side, round}
-use Rattle.contour_walk.proofs.Ranges.{over, over_same, over_outside, is_within, sum_right, sum_left}
+use Rattle.contour_walk.proofs.Ranges.{over, over_outside, is_within, sum_right, sum_left}
 
 -- each strip has a column, and lies on the one before
 abbrev pub AreRows : List Strip → Type 0

@@ -1,12 +1,12 @@
 -- The walk round a region, begun at any of its corners, is a contour and a ring.
-use Rattle.std.proofs.Common.{◌≡◌, ℕ, ◌+◌, ◌-◌, ◌<◌, ◌≤◌, Bool, true, false, cond, List, [], ◌∷◌, ◌++◌, length, get_or, map, ap, ◌∙◌, sym, refl, subst, arith, zero, suc, Option, Some, None}
-use Rattle.std.specs.Prelude.{pos, unsigned_abs, ◌≤ℤ◌, All, AllPairs, Contains, take, drop, unwrap_or, ◌==◌, ◌&&◌}
+use Rattle.std.proofs.Common.{◌≡◌, ℕ, ◌+◌, ◌-◌, ◌<◌, ◌≤◌, Bool, List, [], ◌∷◌, ◌++◌, get_or, map, ap, ◌∙◌, sym, refl, subst, arith, zero, suc, Option, Some, None}
+use Rattle.std.specs.Prelude.{unsigned_abs, All, Contains, take, drop, unwrap_or, ◌==◌, ◌&&◌}
 use Rattle.std.specs.List.{filter, flat_map, find, range_with_len, sum_by}
 use Rattle.std.specs.List.Sorted.{IsPermutation}
 use Rattle.std.proofs.lemmas.Bool.{and_from, eq-eqb}
 use Rattle.std.proofs.lemmas.Int.{ints}
 use Rattle.std.proofs.lemmas.List.{take-append-drop}
-use Rattle.std.proofs.lemmas.List.Elements.{All-head, All-tail, All-cons, All-append, All-map, All-filter, All-contains, All-contains_itself}
+use Rattle.std.proofs.lemmas.List.Elements.{All-head, All-tail, All-append, All-map, All-filter, All-contains_itself}
 use Rattle.std.proofs.lemmas.List.FromFn.{get_or-range_with_len, length-range_with_len}
 use Rattle.std.proofs.lemmas.List.Sums.{sum_by-append}
 use Rattle.std.proofs.lemmas.List.Sorted.{All-permutation}
@@ -22,8 +22,8 @@ use Rattle.mesh_types.specs.declared.strip.Strip.{Strip}
 use Rattle.mesh_types.specs.declared.region.Regions.{Regions}
 use Rattle.mesh_types.specs.declared.region.UnitEdge.{UnitEdge}
 use Rattle.mesh_types.specs.StripMeshes.{corner, some_cell}
-use Rattle.mesh_types.specs.Regions.{place_in, IsIn}
-use Rattle.mesh_types.specs.Contours.{is_at, cell_in, is_rim, edge_beginning, edge_ending, edge_of, columns, strips_in, places_in, rim_edges_of, rim_of}
+use Rattle.mesh_types.specs.Regions.{place_in}
+use Rattle.mesh_types.specs.Contours.{is_at, cell_in, is_rim, edge_of, columns, strips_in, places_in, rim_edges_of, rim_of}
 use Rattle.mesh_types.specs.Rings.{beginnings, endings, AreApart, IsRing}
 use Rattle.contour_walk.specs.Walk.{edge_at, round}
 use Rattle.contour_walk.proofs.Sums.{AreRows}

@@ -1,11 +1,10 @@
 -- What the codes of edges are read from, and the strips that are looked up.
-use Rattle.std.specs.Prelude.{◌≡◌, ℕ, ◌<◌, ◌≤◌, nat_lt, Bool, cond, ◌==◌, ◌&&◌, ◌||◌, List, map, length, get_or, All}
+use Rattle.std.specs.Prelude.{◌≡◌, ℕ, ◌<◌, nat_lt, Bool, cond, ◌==◌, ◌&&◌, ◌||◌, List, map, length, get_or}
 use Rattle.std.specs.List.{list_any, position_or_len}
 use Rattle.nav_ground.specs.declared.cell.Cell.{Cell}
 use Rattle.nav_ground.specs.declared.cell.CellRef.{CellRef}
 use Rattle.mesh_types.specs.declared.strip.Strip.{Strip}
 use Rattle.mesh_types.specs.declared.region.Region.{Region}
-use Rattle.mesh_types.specs.declared.region.Regions.{Regions}
 use Rattle.mesh_types.specs.StripMeshes.{some_cell}
 use Rattle.mesh_types.specs.Regions.{is_holding, IsStrip}
 use Rattle.mesh_types.specs.Contours.{is_at}

@@ -92,13 +92,7 @@ fn corner(x: u32, z: u32) -> Point
 }
 
 /// The code of the edge toward a direction of the cell at a place, by the index of that cell; a wall where there is none.
-fn code(
-    cells: &[Cell],
-    regions: &Regions,
-    table: &RegionTable,
-    index: usize,
-    dir: u32,
-) -> Code
+fn code(cells: &[Cell], regions: &Regions, table: &RegionTable, index: usize, dir: u32) -> Code
     requires cells { IsCells cells.now }
     requires table { IsTableOf cells.now regions.now.regions table.now }
     requires dir { dir < 4 }

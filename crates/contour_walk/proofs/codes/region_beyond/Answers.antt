@@ -1,4 +1,4 @@
-use Rattle.std.proofs.Common.{◌<◌, ◌∙◌, sym, arith, ap, length, get_or}
+use Rattle.std.proofs.Common.{◌∙◌, sym, arith, ap, length, get_or}
 use Rattle.cell_table.proofs.Tables.{table_length}
 use Rattle.contour_walk.proofs.CodeLaws.{read_at, beyond_none, beyond_some, beyond_outside}
 use Rattle.contour_walk.proofs.codes.region_beyond.Goals as goal

@@ -1,4 +1,4 @@
-use Rattle.std.proofs.Common.{List, length, get_or, ap, ◌∙◌, sym, subst, arith}
+use Rattle.std.proofs.Common.{List, length, ap, sym, subst, arith}
 use Rattle.std.specs.Prelude.{All}
 use Rattle.mesh_types.specs.declared.region.Region.{Region}
 use Rattle.contour_walk.specs.Tables.{IsFit}

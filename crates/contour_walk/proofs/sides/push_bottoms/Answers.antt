@@ -1,4 +1,4 @@
-use Rattle.std.proofs.Common.{◌≡◌, ◌-◌, ◌++◌, ◌∙◌, ap, map, arith, refl}
+use Rattle.std.proofs.Common.{◌-◌, ◌++◌, ◌∙◌, ap, map, arith, refl}
 use Rattle.std.specs.List.{range_with_len}
 use Rattle.nav_ground.specs.declared.cell.CellRef.{CellRef}
 use Rattle.mesh_types.specs.Contours.{edge_of}

@@ -1,4 +1,4 @@
-use Rattle.std.proofs.Common.{List, ap, ◌++◌, ◌∙◌, sym, subst, arith}
+use Rattle.std.proofs.Common.{ap, ◌++◌, ◌∙◌}
 use Rattle.std.specs.Global.{Vec}
 use Rattle.mesh_types.specs.declared.region.UnitEdge.{UnitEdge}
 use Rattle.contour_walk.specs.Walk.{edge_at, right_side}

@@ -1,7 +1,6 @@
-use Rattle.std.proofs.Common.{◌≡◌, ◌<◌, ◌-◌, ◌++◌, ◌∙◌, ap, map, arith, refl, inl, inr}
+use Rattle.std.proofs.Common.{◌-◌, ◌++◌, ◌∙◌, ap, map, arith}
 use Rattle.std.specs.Prelude.{reverse}
 use Rattle.std.specs.List.{range_with_len}
-use Rattle.std.proofs.lemmas.Bool.{cases_lt}
 use Rattle.nav_ground.specs.declared.cell.CellRef.{CellRef}
 use Rattle.mesh_types.specs.Contours.{edge_of}
 use Rattle.contour_walk.specs.Walk.{edge_at}
