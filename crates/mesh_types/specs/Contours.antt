@@ -1,5 +1,5 @@
 -- Contours: the rim of a region, and the closed list of its edges.
-use Rattle.std.specs.Prelude.{◌≡◌, ℕ, ◌+◌, ◌-◌, ◌%◌, ◌≤◌, ◌<◌, ◌⊎◌, Bool, false, not, ◌==◌, ◌&&◌, if◌then◌else◌, List, [], map, filter, length, get_or, take, drop, ◌++◌, All, Option, option_and_then, unwrap_or, ◌≤ℤ◌, ◌<ℤ◌}
+use Rattle.std.specs.Prelude.{◌≡◌, ℕ, ◌+◌, ◌-◌, ◌%◌, ◌<◌, ◌⊎◌, Bool, false, not, ◌==◌, ◌&&◌, if◌then◌else◌, List, [], map, filter, length, get_or, take, drop, ◌++◌, All, Option, option_and_then, unwrap_or, ◌≤ℤ◌, ◌<ℤ◌}
 use Rattle.std.specs.List.{find, flat_map, list_any, position, range_with_len}
 use Rattle.std.specs.List.Sorted.{IsPermutation}
 use Rattle.std.specs.Option.{option_map_or}
