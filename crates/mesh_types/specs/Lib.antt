@@ -21,3 +21,4 @@ pub mod Simplified
 pub mod Choices
 pub mod Ears
 pub mod Merging
+pub mod Contours

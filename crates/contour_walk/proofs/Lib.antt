@@ -1,0 +1,15 @@
+pub mod Ranges
+pub mod Sums
+pub mod Corners
+pub mod Paths
+pub mod Rims
+pub mod RimSums
+pub mod Permuted
+pub mod Turned
+pub mod Places
+pub mod CodeLaws
+pub mod Marks
+pub mod Loops
+pub mod Earliest
+pub mod Fabric
+pub mod Contoured

@@ -1,0 +1,172 @@
+//! The edges of cells with their codes.
+
+ghost use Rattle.std.specs.Prelude.{◌≡◌, ◌<◌, ◌≤◌, IfOk, length, slice_index_or};
+ghost use Rattle.nav_ground.specs.Limits.{IsSetting};
+ghost use Rattle.nav_ground.specs.Cells.{IsCell, IsCells};
+ghost use Rattle.nav_ground.specs.Tiling.{tile_count, tile_window};
+ghost use Rattle.nav_ground.specs.declared.cell.Cell.{Cell};
+ghost use Rattle.nav_ground.specs.declared.cell.CellRef.{CellRef};
+ghost use Rattle.mesh_types.specs.StripMeshes.{corner, is_crossing};
+ghost use Rattle.mesh_types.specs.Contours.{AreRegionsOf, cell_in, edge_of, code_beyond, region_beyond};
+ghost use Rattle.contour_walk.specs.Tables.{index_of, IsTableOf};
+
+use crate::owners::owners;
+use crate::table::RegionTable;
+use cell_table::neighbour_table;
+use mesh_types::{Code, Regions, UnitEdge};
+use nav_base::Point;
+use nav_ground::{Cell, CellRef, FreeLayer, Setting, Window, tile_bounds};
+use nav_list::Items;
+use std::alloc::{AllocError, Global};
+
+/// The tables of a tile's free cells and regions.
+pub fn region_table(
+    alloc: Global,
+    free: &FreeLayer,
+    setting: &Setting,
+    regions: &Regions,
+) -> Result<RegionTable, AllocError>
+    requires setting { IsSetting setting.now }
+    requires tile { free.now.tile < tile_count setting.now }
+    requires cells { IsCells free.now.cells }
+    requires regions { AreRegionsOf free.now.cells regions.now }
+    ensures window { IfOk result (λ table. table.window ≡ tile_window setting.now free.now.tile) }
+    ensures tables { IfOk result (λ table. IsTableOf free.now.cells regions.now.regions table) }
+{
+    let cells = free.cells.as_slice();
+    Ok(RegionTable {
+        window: tile_bounds(setting, free.tile),
+        neighbours: Items::from_vec(neighbour_table(alloc, cells)?),
+        owners: Items::from_vec(owners(alloc, cells, regions.regions.as_slice())?),
+    })
+}
+
+/// The edge toward a direction of the cell at a place, by the index of that cell.
+pub fn edge(
+    cells: &[Cell],
+    regions: &Regions,
+    table: &RegionTable,
+    index: usize,
+    at: CellRef,
+    dir: u32,
+) -> UnitEdge
+    requires cells { IsCells cells.now }
+    requires table { IsTableOf cells.now regions.now.regions table.now }
+    requires index { index ≡ index_of cells.now at }
+    requires x { at.x < 1024 }
+    requires z { at.z < 1024 }
+    requires dir { dir < 4 }
+    ensures { result ≡ edge_of table.now.window cells.now regions.now dir at }
+{
+    UnitEdge {
+        from: beginning(dir, at),
+        to: beginning((dir + 3) % 4, at),
+        code: code(cells, regions, table, index, dir),
+    }
+}
+
+/// The corner at which the edge of a place toward a direction begins.
+fn beginning(dir: u32, at: CellRef) -> Point
+    requires x { at.x < 1024 }
+    requires z { at.z < 1024 }
+    ensures { result ≡ Rattle.mesh_types.specs.Contours.edge_beginning dir at }
+{
+    match dir {
+        0 => corner(at.x, at.z + 1),
+        1 => corner(at.x + 1, at.z + 1),
+        2 => corner(at.x + 1, at.z),
+        _ => corner(at.x, at.z),
+    }
+}
+
+/// A corner in whole cells.
+fn corner(x: u32, z: u32) -> Point
+    requires x { x ≤ 1024 }
+    requires z { z ≤ 1024 }
+    ensures { result ≡ corner x z }
+{
+    Point {
+        x: x as i32,
+        z: z as i32,
+    }
+}
+
+/// The code of the edge toward a direction of the cell at a place, by the index of that cell; a wall where there is none.
+fn code(cells: &[Cell], regions: &Regions, table: &RegionTable, index: usize, dir: u32) -> Code
+    requires cells { IsCells cells.now }
+    requires table { IsTableOf cells.now regions.now.regions table.now }
+    requires dir { dir < 4 }
+    ensures { (at : CellRef) → index ≡ index_of cells.now at → result ≡ code_beyond table.now.window cells.now regions.now dir (cell_in cells.now at) }
+{
+    if index < cells.len() {
+        code_of(cells, regions, table, index, dir)
+    } else {
+        Code::Wall
+    }
+}
+
+/// The code of the edge toward a direction of the cell with an index.
+fn code_of(cells: &[Cell], regions: &Regions, table: &RegionTable, index: usize, dir: u32) -> Code
+    requires cells { IsCells cells.now }
+    requires table { IsTableOf cells.now regions.now.regions table.now }
+    requires index { index < length cells.now }
+    requires dir { dir < 4 }
+    ensures { (d : Cell) → result ≡ code_beyond table.now.window cells.now regions.now dir (slice_index_or cells.now index d) }
+{
+    if is_crossing(&table.window, dir, &cells[index]) {
+        return Code::Side(dir);
+    }
+    match region_beyond(cells, regions, table, index, dir) {
+        Some(region) => Code::Region(region),
+        None => Code::Wall,
+    }
+}
+
+/// The number of the region of the free cell that a cell names in a direction.
+fn region_beyond(
+    cells: &[Cell],
+    regions: &Regions,
+    table: &RegionTable,
+    index: usize,
+    dir: u32,
+) -> Option<u32>
+    requires cells { IsCells cells.now }
+    requires table { IsTableOf cells.now regions.now.regions table.now }
+    requires index { index < length cells.now }
+    requires dir { dir < 4 }
+    ensures { (d : Cell) → result ≡ region_beyond cells.now regions.now dir (slice_index_or cells.now index d) }
+{
+    let next = table.neighbours.as_slice()[index][dir as usize] as usize;
+    if next >= cells.len() {
+        return None;
+    }
+    let owner = table.owners.as_slice()[next];
+    if (owner as usize) < regions.regions.len() {
+        Some(owner)
+    } else {
+        None
+    }
+}
+
+/// Whether a cell has a kept neighbour across the side of the tile in a direction.
+fn is_crossing(window: &Window, dir: u32, cell: &Cell) -> bool
+    requires dir { dir < 4 }
+    requires cell { IsCell cell.now }
+    ensures { result ≡ is_crossing window.now dir cell.now }
+{
+    is_at_side(window, dir, cell.at) && cell.next[dir as usize].is_some()
+}
+
+/// Whether the neighbouring column of a place in a direction lies outside the tile.
+fn is_at_side(window: &Window, dir: u32, at: CellRef) -> bool
+    requires x { at.x < 1024 }
+    requires z { at.z < 1024 }
+    ensures { result ≡ Rattle.mesh_types.specs.StripMeshes.is_at_side window.now dir at }
+{
+    match dir {
+        0 => at.x as i32 <= window.x0,
+        1 => window.z1 <= at.z as i32,
+        2 => window.x1 <= at.x as i32,
+        _ => at.z as i32 <= window.z0,
+    }
+}

@@ -1,0 +1,136 @@
+//! The contour of a region.
+
+ghost use Rattle.std.specs.Prelude.{◌≡◌, ◌<◌, ◌≤◌, IfOk, All, length, slice_index_or, ℕ, true, false, take, drop, ◌++◌};
+ghost use Rattle.nav_ground.specs.Limits.{IsSetting};
+ghost use Rattle.nav_ground.specs.Cells.{IsCells};
+ghost use Rattle.nav_ground.specs.Tiling.{tile_count, tile_window};
+ghost use Rattle.mesh_types.specs.declared.region.UnitEdge.{UnitEdge};
+ghost use Rattle.mesh_types.specs.Contours.{AreRegionsOf, IsContour, IsNoLater};
+ghost use Rattle.mesh_types.specs.Rings.{IsRing};
+ghost use Rattle.contour_walk.specs.Tables.{IsFit, IsTableOf};
+ghost use Rattle.contour_walk.specs.Walk.{edge_at, round, AreUpon};
+
+use crate::codes::region_table;
+use crate::sides::{push_bottoms, push_left_side, push_right_side, push_tops};
+use crate::table::RegionTable;
+use mesh_types::{Regions, Strip, UnitEdge};
+use nav_base::Point;
+use nav_ground::{Cell, FreeLayer, Setting};
+use nav_list::Items;
+use std::alloc::{AllocError, Global};
+
+/// The walk round a stack of strips, from the left end of its first strip's bottom.
+fn walk(
+    alloc: Global,
+    cells: &[Cell],
+    regions: &Regions,
+    table: &RegionTable,
+    strips: &[Strip],
+) -> Result<Vec<UnitEdge>, AllocError>
+    requires cells { IsCells cells.now }
+    requires table { IsTableOf cells.now regions.now.regions table.now }
+    requires some { 0 < length strips.now }
+    requires fit { All IsFit strips.now }
+    requires upon { AreUpon strips.now }
+    ensures { IfOk result (λ edges. edges.items ≡ round (edge_at table.now.window cells.now regions.now) strips.now) }
+{
+    let first = &strips[0];
+    let last = &strips[strips.len() - 1];
+    let mut edges = Vec::new(alloc);
+    push_bottoms(
+        &mut edges,
+        cells,
+        regions,
+        table,
+        first,
+        first.x0,
+        first.x1 + 1,
+    )?;
+    push_right_side(&mut edges, cells, regions, table, strips)?;
+    push_tops(
+        &mut edges,
+        cells,
+        regions,
+        table,
+        last,
+        last.x0,
+        last.x1 + 1,
+    )?;
+    push_left_side(&mut edges, cells, regions, table, strips)?;
+    Ok(edges)
+}
+
+/// The first place at which an edge begins at the least corner.
+fn least_beginning(edges: &[UnitEdge]) -> usize
+    ensures there { 0 < length edges.now → result < length edges.now }
+    ensures least { (k : ℕ) (d : UnitEdge) → k < length edges.now
+        → IsNoLater (slice_index_or edges.now result d).from (slice_index_or edges.now k d).from }
+{
+    let mut least = 0;
+    for k in 0..edges.len() {
+        if is_before(edges[k].from, edges[least].from) {
+            least = k;
+        }
+    }
+    least
+}
+
+/// Whether a corner comes before another: by x, then by z.
+fn is_before(a: Point, b: Point) -> bool
+    ensures yes { result ≡ true → IsNoLater a b }
+    ensures no { result ≡ false → IsNoLater b a }
+{
+    a.x < b.x || (a.x == b.x && a.z < b.z)
+}
+
+/// The contour of the region with a number, by the tables of its tile: the edges at its rim in whole cells, counterclockwise, from the
+/// least corner by x and then z.
+pub fn contour_over(
+    alloc: Global,
+    cells: &[Cell],
+    regions: &Regions,
+    table: &RegionTable,
+    id: u32,
+) -> Result<Items<UnitEdge>, AllocError>
+    requires cells { IsCells cells.now }
+    requires regions { AreRegionsOf cells.now regions.now }
+    requires table { IsTableOf cells.now regions.now.regions table.now }
+    requires there { id < length regions.now.regions }
+    ensures contour { IfOk result (IsContour table.now.window cells.now regions.now id) }
+    ensures ring { IfOk result IsRing }
+{
+    let strips = regions.regions.as_slice()[id as usize].strips.as_slice();
+    let mut edges = walk(alloc, cells, regions, table, strips)?;
+    let least = least_beginning(edges.as_slice());
+    turn(edges.as_mut_slice(), least);
+    Ok(Items::from_vec(edges))
+}
+
+/// Puts the edge at a place first, and those before it behind the others.
+fn turn(edges: &mut [UnitEdge], first: usize)
+    requires { first ≤ length edges.old }
+    ensures { edges.new ≡ drop first edges.old ++ take first edges.old }
+{
+    edges.rotate_left(first);
+}
+
+/// The contour of the region with a number, of the regions of a tile's free cells: the edges at its rim in whole cells, counterclockwise,
+/// from the least corner by x and then z. Where all contours of a tile are wanted, `region_table` and `contour_over` make its tables once.
+pub fn contour(
+    alloc: Global,
+    free: &FreeLayer,
+    setting: &Setting,
+    regions: &Regions,
+    id: u32,
+) -> Result<Items<UnitEdge>, AllocError>
+    requires setting { IsSetting setting.now }
+    requires tile { free.now.tile < tile_count setting.now }
+    requires cells { IsCells free.now.cells }
+    requires regions { AreRegionsOf free.now.cells regions.now }
+    requires there { id < length regions.now.regions }
+    ensures contour { IfOk result (IsContour (tile_window setting.now free.now.tile) free.now.cells regions.now id) }
+    ensures ring { IfOk result IsRing }
+{
+    let table = region_table(alloc, free, setting, regions)?;
+    contour_over(alloc, free.cells.as_slice(), regions, &table, id)
+}
