@@ -17,6 +17,3 @@ mod table;
 pub use codes::region_table;
 pub use round::{contour, contour_over};
 pub use table::RegionTable;
-
-#[cfg(test)]
-mod tests;

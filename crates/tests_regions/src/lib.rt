@@ -5,6 +5,10 @@
 #![tactic(auto)]
 
 #[cfg(test)]
+mod cell_rows;
+#[cfg(test)]
+mod contours;
+#[cfg(test)]
 mod cut_outlines;
 #[cfg(test)]
 mod outlines;

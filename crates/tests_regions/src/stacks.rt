@@ -1,17 +1,13 @@
 //! Regions by hand.
 
-ghost use Rattle.std.specs.Prelude.{◌≡◌, IfOk, map};
+ghost use Rattle.std.specs.Prelude.{◌≡◌, IfOk};
 ghost use Rattle.nav_ground.specs.Cells.{IsCut};
-ghost use Rattle.tests_regions.specs.Rows.{cell_of};
 
+use crate::cell_rows::{Row, free_of, ring};
 use mesh_types::Regions;
 use mono_regions::regions;
-use nav_ground::{Cell, CellRef, FreeLayer};
-use nav_list::Items;
+use nav_ground::FreeLayer;
 use std::alloc::{AllocError, Global};
-
-/// The x, z, level and area of a cell, and the levels that it names toward x - 1, z + 1, x + 1 and z - 1.
-type Row = (u32, u32, u32, u32, [Option<u32>; 4]);
 
 /// The first row has the columns 1 to 3, the last of which has another area and a neighbour in another tile; the second row has the columns
 /// 1 and 2 on two levels, which are connected to the first row alone.
@@ -21,22 +17,6 @@ const LEVELS: [Row; 5] = [
     (3, 0, 0, 7, [Some(0), None, Some(2), None]),
     (1, 1, 0, 63, [None, None, None, Some(0)]),
     (2, 1, 1, 63, [None, None, None, Some(0)]),
-];
-
-/// A square of 4 by 4 cells from (1, 1) on, of which the middle 2 by 2 are blocked.
-const RING: [Row; 12] = [
-    (1, 1, 0, 63, [None, Some(0), Some(0), None]),
-    (2, 1, 0, 63, [Some(0), None, Some(0), None]),
-    (3, 1, 0, 63, [Some(0), None, Some(0), None]),
-    (4, 1, 0, 63, [Some(0), Some(0), None, None]),
-    (1, 2, 0, 63, [None, Some(0), None, Some(0)]),
-    (4, 2, 0, 63, [None, Some(0), None, Some(0)]),
-    (1, 3, 0, 63, [None, Some(0), None, Some(0)]),
-    (4, 3, 0, 63, [None, Some(0), None, Some(0)]),
-    (1, 4, 0, 63, [None, None, Some(0), Some(0)]),
-    (2, 4, 0, 63, [Some(0), None, Some(0), None]),
-    (3, 4, 0, 63, [Some(0), None, Some(0), None]),
-    (4, 4, 0, 63, [Some(0), None, None, Some(0)]),
 ];
 
 /// The first two rows join. The third has a common column with the second that is not connected, the fourth has another area than the third,
@@ -60,41 +40,11 @@ fn levels(alloc: Global) -> Result<FreeLayer, AllocError>
     Ok(free)
 }
 
-fn ring(alloc: Global) -> Result<FreeLayer, AllocError>
-    ensures { IfOk result (λ free. IsCut free.cells) }
-{
-    let free = free_of(alloc, &RING)?;
-    Ok(free)
-}
-
 fn stairs(alloc: Global) -> Result<FreeLayer, AllocError>
     ensures { IfOk result (λ free. IsCut free.cells) }
 {
     let free = free_of(alloc, &STAIRS)?;
     Ok(free)
-}
-
-fn free_of(alloc: Global, rows: &[Row]) -> Result<FreeLayer, AllocError>
-    ensures { IfOk result (λ free. free.cells ≡ map cell_of rows.now) }
-{
-    let mut cells = Vec::new(alloc);
-    for (x, z, level, area, next) in rows {
-        cells.push(Cell {
-            at: CellRef {
-                x: *x,
-                z: *z,
-                level: *level,
-            },
-            floor: 10,
-            ceiling: 65535,
-            area: *area,
-            next: *next,
-        })?;
-    }
-    Ok(FreeLayer {
-        tile: 0,
-        cells: Items::from_vec(cells),
-    })
 }
 
 /// The number of the region, the row and the columns of each strip, region by region.

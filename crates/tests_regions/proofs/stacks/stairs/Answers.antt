@@ -4,4 +4,4 @@ use Rattle.nav_ground.proofs.Literals.{IsCut-shown}
 use Rattle.tests_regions.proofs.stacks.stairs.Goals as goal
 
 pub returns : goal.returns
-returns c = subst IsCut (sym c.in_ok-free.ensures) (IsCut-shown _ refl)
+returns c = subst IsCut (sym c.in_ok-free.ensures.cells) (IsCut-shown _ refl)

@@ -1,6 +1,6 @@
 use Rattle.std.proofs.Common.{◌≡◌, take, map}
 use Rattle.tests_regions.specs.Rows.{cell_of}
-use Rattle.tests_regions.proofs.stacks.free_of.Given as goal
+use Rattle.tests_regions.proofs.cell_rows.free_of.Given as goal
 
 -- the cells so far
 abbrev pub invariant-loop-x : goal.invariant-loop-x
