@@ -1,7 +1,8 @@
--- A ray that goes on over a link enters the next polygon: no exit of it has the beginning of the ray on its right.
-use Rattle.std.proofs.Common.{◌≡◌, ℕ, ℤ, pos, ◌+ℤ◌, ◌-ℤ◌, ◌*ℤ◌, ◌≤ℤ◌, ◌<ℤ◌, [], ◌∷◌, refl, sym, ap, subst, ◌∙◌, arith}
+-- A ray that goes on over a link enters the next polygon: no exit of it has the beginning of the ray on its right, and none has a lesser exit
+-- fraction than the one before.
+use Rattle.std.proofs.Common.{◌≡◌, ℕ, ◌<◌, ℤ, pos, ◌+ℤ◌, ◌-ℤ◌, ◌*ℤ◌, ◌≤ℤ◌, ◌<ℤ◌, [], ◌∷◌, length, refl, sym, ap, subst, ◌∙◌, arith}
 use Rattle.std.specs.Prelude.{Some}
-use Rattle.std.proofs.lemmas.Int.{ints, by_lt_z}
+use Rattle.std.proofs.lemmas.Int.{ints}
 use Rattle.std.proofs.lemmas.Option.{same_Some}
 use lib.IntN.{neg_ℤ, *ℤ_comm, *ℤ-zero}
 use Rattle.nav_base.specs.declared.point.Point.{Point}
@@ -9,14 +10,14 @@ use Rattle.nav_base.specs.Point.{from_to, dot_of, cross_of, orient_of}
 use Rattle.nav_base.proofs.Polynomials.{at, opposite, difference, product, equal}
 use Rattle.nav_base.proofs.PointTerms.{place, coordinates, from_to_term, dot_term}
 use Rattle.nav_base.proofs.OrientLaws.{orient_of-apart, orient_of-crossing, dot_of-cross_of}
-use Rattle.nav_base.proofs.Signs.{product-not_negative, product-not_positive, product-negative, factor-not_negative}
+use Rattle.nav_base.proofs.Signs.{product-not_negative, product-not_positive, factor-not_negative}
 use Rattle.mesh_types.specs.declared.links.Link.{Link}
 use Rattle.mesh_types.specs.declared.links.PolyRef.{PolyRef}
 use Rattle.mesh_types.specs.declared.links.Portal.{Portal}
 use Rattle.mesh_types.specs.declared.mesh.Mesh.{Mesh}
 use Rattle.mesh_types.specs.declared.polygon.Polygon.{Polygon}
 use Rattle.mesh_types.specs.Corridors.{IsLinkOf}
-use Rattle.mesh_types.specs.Rays.{side_of, IsExit, IsHeldAt, Meets}
+use Rattle.mesh_types.specs.Rays.{exit_num, exit_den, side_of, IsExit, IsHeldAt, Meets}
 use Rattle.mesh_types.specs.Soundness.{edge_begin, edge_end, along, LiesAlong, IsPortalOut, IsSound}
 use Rattle.mesh_types.specs.WholeMesh.{poly_at}
 use Rattle.mesh_types.proofs.MeshLinks.{leads}
@@ -78,35 +79,60 @@ module _ (u v from to : Point) (lies : LiesAlong u v from to) where
       above : (a b c : ℤ) → c ≡ b -ℤ a → a <ℤ b → pos 0 <ℤ c
       above a b c e h = omega (arith, ints)
 
-  -- so a point that is not to the right of the way is not to the right of the part, and one that is to the right is so of the part
-  left_of_part : (p : Point) → pos 0 ≤ℤ orient_of u v p → pos 0 ≤ℤ orient_of from to p
-  left_of_part p h =
-      factor-not_negative (along u v v) _ long
-      (subst (λ (n : ℤ). pos 0 ≤ℤ n) (sym (same_turn u v from to p lies)) (product-not_negative _ _ (weak _ forward) h))
-    where
-      weak : (n : ℤ) → pos 0 <ℤ n → pos 0 ≤ℤ n
-      weak n k = omega (arith, ints)
-
-  right_of_part : (p : Point) → orient_of u v p <ℤ pos 0 → orient_of from to p <ℤ pos 0
-  right_of_part p h =
-      by_lt_z (orient_of from to p) (pos 0) (λ right. right)
-      (λ left. absurd (clash _ _ (same_turn u v from to p lies) (product-not_negative _ _ (weak _ long) left) (product-negative _ _ forward h)))
-    where
-      weak : (n : ℤ) → pos 0 <ℤ n → pos 0 ≤ℤ n
-      weak n k = omega (arith, ints)
-
-      clash : (a b : ℤ) → a ≡ b → pos 0 ≤ℤ a → b <ℤ pos 0 → ⊥
-      clash a b e k m = omega (arith, ints)
-
 -- ---- the next polygon
 
--- where the turns from the portal and from an exit of the next polygon are joined like this, the beginning of the ray is not to the exit's right
-not_right : (al be r l a b m n : ℤ) → al *ℤ r -ℤ be *ℤ l ≡ a *ℤ n -ℤ b *ℤ m → pos 0 ≤ℤ al → be ≤ℤ pos 0 → pos 0 ≤ℤ r → pos 0 ≤ℤ l → pos 0 ≤ℤ a → b <ℤ pos 0
-    → n <ℤ pos 0 → pos 0 ≤ℤ m
-not_right al be r l a b m n e hal hbe hr hl ha hb hn =
-    factor-not_negative (neg_ℤ b) m (turned b hb)
-    (above _ _ _ _ _ e (opposed b m) (product-not_negative al r hal hr) (subst (λ (k : ℤ). k ≤ℤ pos 0) (*ℤ_comm l be) (product-not_positive l be hl hbe))
-    (product-not_positive a n ha (weak n hn)))
+-- over an edge, and through a portal of it that a ray meets: the turns of the edge and of any edge of the next polygon
+joined : (polygon next : Polygon) (ray : Ray) (edge other : ℕ) (portal : Portal) → IsPortalOut polygon edge portal → HoldsEnds next portal → Meets ray.from ray.to portal
+    → other < length next.corners
+    → pos 0 ≤ℤ (side_of polygon edge ray.from *ℤ side_of next other ray.to -ℤ side_of polygon edge ray.to *ℤ side_of next other ray.from)
+joined polygon next ray edge other portal out held meets there =
+    factor-not_negative w _ (forward u v right left out.lies)
+    (subst (λ (n : ℤ). pos 0 ≤ℤ n) (scaled (along u v v) w (orient_of right left ray.from) (orient_of right left ray.to) (side_of polygon edge ray.from)
+    (side_of polygon edge ray.to) (side_of next other ray.from) (side_of next other ray.to) (same_turn u v right left ray.from out.lies)
+    (same_turn u v right left ray.to out.lies))
+    (product-not_negative (along u v v) (orient_of right left ray.from *ℤ side_of next other ray.to -ℤ orient_of right left ray.to *ℤ side_of next other ray.from)
+    (weak _ (long u v right left out.lies))
+    (apart _ _ _ (orient_of-crossing (edge_begin next other) (edge_end next other) ray.from ray.to right left)
+    (product-not_negative (orient_of ray.from ray.to left) (side_of next other right) meets.left (held.right other there))
+    (subst (λ (k : ℤ). k ≤ℤ pos 0) (*ℤ_comm (side_of next other left) (orient_of ray.from ray.to right))
+    (product-not_positive (side_of next other left) (orient_of ray.from ray.to right) (held.left other there) meets.right)))))
+  where
+    u : Point
+    u = edge_begin polygon edge
+
+    v : Point
+    v = edge_end polygon edge
+
+    left : Point
+    left = portal.left
+
+    right : Point
+    right = portal.right
+
+    w : ℤ
+    w = dot_of (from_to u v) (from_to right left)
+
+    weak : (k : ℤ) → pos 0 <ℤ k → pos 0 ≤ℤ k
+    weak k h = omega (arith, ints)
+
+    apart : (p q x : ℤ) → p -ℤ q ≡ x → pos 0 ≤ℤ p → q ≤ℤ pos 0 → pos 0 ≤ℤ x
+    apart p q x h hp hq = omega (arith, ints)
+
+    -- the two factors pass from the portal's turns to the edge's
+    scaled : (k w a' b' a b m n : ℤ) → k *ℤ a' ≡ w *ℤ a → k *ℤ b' ≡ w *ℤ b → k *ℤ (a' *ℤ n -ℤ b' *ℤ m) ≡ w *ℤ (a *ℤ n -ℤ b *ℤ m)
+    scaled k w a' b' a b m n e f = spread k a' b' m n ∙ (λ i. e i *ℤ n -ℤ f i *ℤ m) ∙ sym (spread w a b m n)
+      where
+        spread : (k a b m n : ℤ) → k *ℤ (a *ℤ n -ℤ b *ℤ m) ≡ (k *ℤ a) *ℤ n -ℤ (k *ℤ b) *ℤ m
+        spread k a b m n =
+            equal (k ∷ a ∷ b ∷ m ∷ n ∷ []) (product (at 0) (difference (product (at 1) (at 4)) (product (at 2) (at 3))))
+            (difference (product (product (at 0) (at 1)) (at 4)) (product (product (at 0) (at 2)) (at 3))) refl
+
+-- so over an exit the next polygon is entered
+enters : (polygon next : Polygon) (ray : Ray) (edge : ℕ) (portal : Portal) → IsEntered polygon ray → IsExit polygon ray.to edge
+    → IsPortalOut polygon edge portal → HoldsEnds next portal → Meets ray.from ray.to portal → IsEntered next ray
+enters polygon next ray edge portal entered exit out held meets other is =
+    not_right (side_of polygon edge ray.from) (side_of polygon edge ray.to) (side_of next other ray.from) (side_of next other ray.to)
+    (joined polygon next ray edge other portal out held meets is.there) (entered edge exit) exit.beyond is.beyond
   where
     turned : (k : ℤ) → k <ℤ pos 0 → pos 0 <ℤ neg_ℤ k
     turned k h = omega (arith, ints)
@@ -117,19 +143,28 @@ not_right al be r l a b m n e hal hbe hr hl ha hb hn =
     opposed : (k j : ℤ) → neg_ℤ k *ℤ j ≡ neg_ℤ (k *ℤ j)
     opposed k j = equal (k ∷ j ∷ []) (product (opposite (at 0)) (at 1)) (opposite (product (at 0) (at 1))) refl
 
-    above : (p q x y z : ℤ) → p -ℤ q ≡ x -ℤ y → z ≡ neg_ℤ y → pos 0 ≤ℤ p → q ≤ℤ pos 0 → x ≤ℤ pos 0 → pos 0 ≤ℤ z
-    above p q x y z h k hp hq hx = omega (arith, ints)
+    above : (x y z : ℤ) → z ≡ neg_ℤ y → pos 0 ≤ℤ (x -ℤ y) → x ≤ℤ pos 0 → pos 0 ≤ℤ z
+    above x y z e h k = omega (arith, ints)
 
--- over an exit and through a portal that the ray meets
-enters : (polygon next : Polygon) (ray : Ray) (edge : ℕ) (portal : Portal) → IsEntered polygon ray → IsExit polygon ray.to edge
-    → IsPortalOut polygon edge portal → HoldsEnds next portal → Meets ray.from ray.to portal → IsEntered next ray
-enters polygon next ray edge portal entered exit out held meets other is =
-    not_right (orient_of ray.from ray.to portal.left) (orient_of ray.from ray.to portal.right) (side_of next other portal.right) (side_of next other portal.left)
-    (orient_of portal.right portal.left ray.from) (orient_of portal.right portal.left ray.to) (side_of next other ray.from) (side_of next other ray.to)
-    (orient_of-crossing (edge_begin next other) (edge_end next other) ray.from ray.to portal.right portal.left) meets.left meets.right
-    (held.right other is.there) (held.left other is.there)
-    (left_of_part (edge_begin polygon edge) (edge_end polygon edge) portal.right portal.left out.lies ray.from (entered edge exit))
-    (right_of_part (edge_begin polygon edge) (edge_end polygon edge) portal.right portal.left out.lies ray.to exit.beyond) is.beyond
+    not_right : (a b m n : ℤ) → pos 0 ≤ℤ (a *ℤ n -ℤ b *ℤ m) → pos 0 ≤ℤ a → b <ℤ pos 0 → n <ℤ pos 0 → pos 0 ≤ℤ m
+    not_right a b m n h ha hb hn =
+        factor-not_negative (neg_ℤ b) m (turned b hb) (above _ _ _ (opposed b m) h (product-not_positive a n ha (weak n hn)))
+
+-- and exit fractions never fall from one polygon to the next
+pub fractions_rise : (polygon next : Polygon) (ray : Ray) (edge other : ℕ) (portal : Portal) → IsPortalOut polygon edge portal → HoldsEnds next portal
+    → Meets ray.from ray.to portal → other < length next.corners
+    → (exit_num polygon ray.from edge *ℤ exit_den next ray.from ray.to other) ≤ℤ (exit_num next ray.from other *ℤ exit_den polygon ray.from ray.to edge)
+fractions_rise polygon next ray edge other portal out held meets there =
+    together _ _ _ (crossed (side_of polygon edge ray.from) (side_of polygon edge ray.to) (side_of next other ray.from) (side_of next other ray.to))
+    (joined polygon next ray edge other portal out held meets there)
+  where
+    crossed : (a b m n : ℤ) → m *ℤ (a -ℤ b) -ℤ a *ℤ (m -ℤ n) ≡ a *ℤ n -ℤ b *ℤ m
+    crossed a b m n =
+        equal (a ∷ b ∷ m ∷ n ∷ []) (difference (product (at 2) (difference (at 0) (at 1))) (product (at 0) (difference (at 2) (at 3))))
+        (difference (product (at 0) (at 3)) (product (at 1) (at 2))) refl
+
+    together : (x y d : ℤ) → y -ℤ x ≡ d → pos 0 ≤ℤ d → x ≤ℤ y
+    together x y d e k = omega (arith, ints)
 
 -- the polygon of a reference is entered
 pub record IsEnteredAt (mesh : Mesh) (ray : Ray) (at : PolyRef) : Type 0 where
