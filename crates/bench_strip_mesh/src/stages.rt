@@ -1,15 +1,16 @@
 //! The stages of a mesh.
 
-ghost use Rattle.std.specs.Prelude.{◌≡◌, ◌<◌, ◌↔◌, IsTrue, take};
+ghost use Rattle.std.specs.Prelude.{◌≡◌, ◌<◌, ◌↔◌, [], IsTrue, take};
 ghost use Rattle.nav_ground.specs.Limits.{IsSetting};
 ghost use Rattle.nav_ground.specs.Fields.{IsField};
+ghost use Rattle.nav_ground.specs.Grounds.{IsGround};
 ghost use Rattle.span_text.specs.FieldText.{IsFieldText};
-ghost use Rattle.tile_build.specs.Meshes.{IsOfStrips};
+ghost use Rattle.tile_build.specs.Meshes.{IsOfStrips, tiles_under};
 
 use layer_cut::ground;
 use mesh_types::{Mesh, TileMesh, copy_mesh};
 use nav_book::Book;
-use nav_ground::{MeshKind, Setting};
+use nav_ground::{Ground, MeshKind, Setting};
 use nav_list::Items;
 use nav_share::Shared;
 use nav_steps::Steps;
@@ -58,13 +59,48 @@ pub fn staged<L: Ledger>(
     if stage < 3 || !is_of_strips(&whole.setting) {
         return Ok(made);
     }
+    built::<L>(alloc, whole, made, stage, copies, blank)
+}
+
+/// Goes on from the ground.
+fn built<L: Ledger>(
+    alloc: Global,
+    whole: Ground,
+    made: Made,
+    stage: u32,
+    copies: u32,
+    blank: Blank,
+) -> Result<Made, AllocError>
+    requires ground { IsGround whole }
+    requires strips { IsOfStrips whole.setting }
+    requires name { blank.name ≡ L.name }
+    requires parts { blank.parts ≡ L.parts }
+    requires some { 0 < blank.parts }
+{
+    let mut made = made;
     let mut steps = Steps::<L>::new(blank);
     let tiles = build_tiles(alloc, &whole, &[], &mut steps)?;
     count_tiles(&mut made, tiles.as_slice());
     if stage < 4 {
         return Ok(made);
     }
-    let book = Book::begin(alloc, Arc::new(alloc, whole)?, tiles)?;
+    booked(alloc, whole, tiles, made, copies)
+}
+
+/// Goes on from the tiles.
+fn booked(
+    alloc: Global,
+    whole: Ground,
+    tiles: Items<Shared<TileMesh>>,
+    made: Made,
+    copies: u32,
+) -> Result<Made, AllocError>
+    requires ground { IsGround whole }
+    requires tiles { tiles ≡ tiles_under whole [] }
+{
+    let mut made = made;
+    let level = Arc::new(alloc, whole)?;
+    let book = Book::begin(alloc, level, tiles)?;
     count_cross(&mut made, book.mesh());
     make_copies(alloc, book.mesh(), copies)?;
     Ok(made)
