@@ -2,7 +2,7 @@
 use Rattle.std.proofs.Common.{◌≡◌, ℕ, ◌+◌, ◌<◌, Bool, true, false, cond, List, [], ◌∷◌, ◌++◌, length, take, map, filter, get_or, slice_set, ◌⊎◌, ap, ◌∙◌, sym, subst, arith, inl, inr}
 use Rattle.std.specs.List.{range_with_len}
 use Rattle.std.proofs.lemmas.Bool.{eq-eqb, ne_eqb, cases_order}
-use Rattle.std.proofs.lemmas.List.{append-nil, map-append, get_or-map, get_or-set_same, get_or-set_other, length-set}
+use Rattle.std.proofs.lemmas.List.{append-nil, map-append, get_or-map, get_or-set_same, get_or-set_other, length-set, length-map}
 use Rattle.std.proofs.lemmas.List.Elements.{filter_more, filter-append}
 use Rattle.std.proofs.lemmas.List.FromFn.{length-map-range_with_len, get_or-map-range_with_len, fill_by_all, map-range_with_len_more}
 use Rattle.nav_ground.specs.declared.cell.Cell.{Cell}
@@ -15,6 +15,10 @@ use Rattle.nav_ground.specs.Limits.{IsSetting}
 use Rattle.nav_ground.specs.Tiling.{tile_count, tile_window, is_in_window}
 use Rattle.layer_cut.specs.Tiles.{tile_at, IsInField, AreInField, layer_with}
 use Rattle.layer_cut.proofs.TilePlaces.{in_window_is}
+
+-- marks that say of each cell whether it passes a test stand beside the cells
+pub marks_beside : (cells : List Cell) (marks : List Bool) (p : Cell → Bool) → marks ≡ map p cells → length marks ≡ length cells
+marks_beside cells marks p is = ap length is ∙ length-map cells p
 
 -- one more element that passes a test, or that does not
 pub passes_more : {X : Type 0} (p : X → Bool) (xs : List X) (i : ℕ) (d : X) → i < length xs → p (get_or xs i d) ≡ true

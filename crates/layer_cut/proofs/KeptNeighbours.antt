@@ -23,6 +23,19 @@ level_at [] dir level h = absurd cc
 level_at (n ∷ ns) zero level h = h
 level_at (n ∷ ns) (suc d) level h = level_at ns d level h
 
+-- and so is that it is not connected there
+none_at : (next : List (Option ℕ)) (dir : ℕ) → get_or next dir None ≡ None → option_and_then (λ (n : Option ℕ). n) (slice_get next dir) ≡ None
+none_at [] dir h = refl
+none_at (n ∷ ns) zero h = h
+none_at (n ∷ ns) (suc d) h = none_at ns d h
+
+-- it then names no kept level either
+pub none_kept : (kept : List Cell) (cell : Cell) (dir : ℕ) (level : Option ℕ) → level ≡ None → get_or cell.next dir None ≡ None
+    → level ≡ kept_level kept cell dir
+none_kept kept cell dir level is none =
+    elim (has_neighbour kept cell dir) as (λ b. level ≡ (if b then next_level cell dir else None))
+    [ true ↦ is ∙ sym (none_at cell.next dir none) | false ↦ is ]
+
 -- a cell that names a level has a column in that direction
 pub column_toward : (cells : List Cell) (cell : Cell) (dir level : ℕ) → IsCompact cells → Contains cells cell → dir < 4
     → next_level cell dir ≡ Some level → HasColumnToward dir cell.at

@@ -41,7 +41,6 @@ pub fn ground(alloc: Global, setting: Setting, field: Field) -> Result<Ground, A
 /// agent's radius and two more on each side of it, and searches the list of spans for where their rows begin. The radius is for the
 /// neighbours across the border and the walks to them, the two more are for the connections of the cells where those walks begin and for
 /// the filters of the cells so connected; where the radius is 0 they are for the neighbours and their filters.
-#[tactic(auto, using(crate::proofs::NearbyField::field_in_rules, crate::proofs::NearbyField::field_in_sized, crate::proofs::NearbyLayer::layer_from_near, crate::proofs::FieldCells::layer_rules_of))]
 pub fn layer(
     alloc: Global,
     field: &Field,

@@ -6,6 +6,7 @@ pub mod NearRoots
 pub mod OrientLaws
 pub mod PointTerms
 pub mod Polynomials
+pub mod Readings
 pub mod RootLaws
 pub mod Signs
 pub mod Sizes

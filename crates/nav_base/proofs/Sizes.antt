@@ -18,10 +18,11 @@ from_to-corners a b p q = record { across = omega (arith, ints); along = omega (
 pub from_to-coordinates : (a b : Point) → HasCoordinates a → HasCoordinates b → IsWithin (2 ^ 17) (from_to a b)
 from_to-coordinates a b p q = record { across = omega (arith, ints); along = omega (arith, ints) }
 
-unsigned_abs-+ℤ : (m n : ℤ) → unsigned_abs (m +ℤ n) ≤ unsigned_abs m + unsigned_abs n
+-- a sum and a difference are no farther from zero than both numbers together
+pub unsigned_abs-+ℤ : (m n : ℤ) → unsigned_abs (m +ℤ n) ≤ unsigned_abs m + unsigned_abs n
 unsigned_abs-+ℤ m n = omega (arith, ints)
 
-unsigned_abs--ℤ : (m n : ℤ) → unsigned_abs (m -ℤ n) ≤ unsigned_abs m + unsigned_abs n
+pub unsigned_abs--ℤ : (m n : ℤ) → unsigned_abs (m -ℤ n) ≤ unsigned_abs m + unsigned_abs n
 unsigned_abs--ℤ m n = omega (arith, ints)
 
 product_bound : (k : ℕ) (m n : ℤ) → unsigned_abs m ≤ k → unsigned_abs n ≤ k → unsigned_abs (m *ℤ n) ≤ k * k

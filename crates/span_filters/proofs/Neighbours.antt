@@ -27,6 +27,10 @@ spans_of_field field rules' = record {
   order = rules'.order;
 }
 
+-- and of the list that the code reads them from
+pub spans_read : (field : Field) (spans : List Span) → IsField field → spans ≡ field.spans → AreSpans spans
+spans_read field spans rules' same = subst AreSpans (sym same) (spans_of_field field rules')
+
 -- two spans in order: the first begins at an earlier place, in no later column, and in one column ends before the other begins
 start_rises : (a b : Span) → IsSpan 1024 1024 a → IsSpan 1024 1024 b → IsSpanBefore a b → start_of a < start_of b
 start_rises a b pa pb (inl below) = omega (arith, below, pa.x, pa.solid, pa.top)

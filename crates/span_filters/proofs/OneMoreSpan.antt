@@ -1,12 +1,18 @@
 -- The areas that a filter leaves, and what spans have passed, span by span.
-use Rattle.std.proofs.Common.{◌≡◌, ℕ, ◌+◌, ◌<◌, ◌≤◌, Bool, length, List, [], ◌∷◌, ◌++◌, take, get_or, ap, ◌∙◌, sym, refl, arith, zero, suc}
+use Rattle.std.proofs.Common.{◌≡◌, ℕ, ◌+◌, ◌<◌, ◌≤◌, Bool, length, List, [], ◌∷◌, ◌++◌, take, get_or, map, ap, ap₂, ◌∙◌, sym, refl, arith, zero, suc}
 use Rattle.std.specs.Prelude.{if◌then◌else◌}
+use Rattle.std.proofs.lemmas.List.{map_more}
 use Rattle.nav_ground.specs.declared.field.Span.{Span}
 use Rattle.nav_ground.specs.Filters.{areas_without}
 use Rattle.span_filters.specs.declared.ledge.Passed.{Passed}
 use Rattle.span_filters.specs.Columns.{AreSpans, IsPassed, column_beside, place_of}
 use Rattle.span_filters.specs.Looks.{ArePassed}
 use Rattle.span_filters.proofs.Neighbours.{beside_rises}
+
+-- one more element, mapped
+pub mapped_more : {X Y : Type 0} (f : X → Y) (xs : List X) (made : List Y) (i : ℕ) (y : Y) (d : X) → i < length xs → made ≡ map f (take i xs) → y ≡ f (get_or xs i d)
+    → made ++ y ∷ [] ≡ map f (take (i + 1) xs)
+mapped_more f xs made i y d there before is = ap₂ (λ ys z. ys ++ z ∷ []) before is ∙ sym (map_more f xs i d there)
 
 -- one more span and the area beside it
 without_next : (p : Span → Bool) (spans : List Span) (areas : List ℕ) (i : ℕ) (d : Span) (e : ℕ) → i < length spans → i < length areas

@@ -1,8 +1,29 @@
-use Rattle.std.proofs.Common.{ap, ◌∙◌, sym}
+use Rattle.std.proofs.Common.{[], ap, ◌∙◌, sym, arith}
+use Rattle.std.proofs.lemmas.List.Elements.{Contains-get_or}
+use Rattle.nav_ground.specs.declared.cell.Cell.{Cell}
 use Rattle.nav_ground.specs.Clearance.{is_kept, kept_cells}
-use Rattle.layer_cut.proofs.HandedOut.{cut_in, cut_outside, cut_unmarked}
+use Rattle.layer_cut.proofs.HandedOut.{cut_in, cut_outside, cut_unmarked, marks_beside}
 use Rattle.layer_cut.proofs.tile_layers.cut.Goals as goal
 use Rattle.layer_cut.proofs.tile_layers.cut.Goals.{then-marks-i+then-is_inside+in_ok-push, else-marks-i, else-marks-i-via-then-marks-i+else-is_inside, else-marks-i-via-else-marks-i}
+
+abbrev no_cell : Cell
+no_cell = record { at = record { x = 0; z = 0; level = 0 }; floor = 0; ceiling = 0; area = 0; next = [] }
+
+pub bounds-marks-i : goal.bounds-marks-i
+bounds-marks-i c =
+    omega (arith, marks_beside c.args.cells.now c.args.marks.now (is_kept c.args.cells.now c.args.setting.now.agent.radius) c.requires.marks)
+
+pub is_inside-requires : goal.is_inside-requires
+is_inside-requires c =
+    let cell = c.requires.cells.rules.each c.loop-i.i no_cell c.loop-i-test.true in
+    (cell.x, cell.z)
+
+pub layer_cell-requires : goal.layer_cell-requires
+layer_cell-requires c = record {
+  cells = c.requires.cells;
+  cell = Contains-get_or c.args.cells.now c.loop-i.i no_cell c.loop-i-test.true;
+  marks = marks_beside c.args.cells.now c.args.marks.now (is_kept c.args.cells.now c.args.setting.now.agent.radius) c.requires.marks;
+}
 
 pub loop-i-preserved : goal.loop-i-preserved
 loop-i-preserved c =

@@ -1,18 +1,16 @@
 -- The absolute value of a product is the product of the absolute values.
-use Rattle.std.proofs.Common.{◌^◌, ◌*ℤ◌, ℤ, FitsSigned, w64, arith, lit<}
+use Rattle.std.proofs.Common.{◌^◌}
 use Rattle.std.specs.Int.RustNames.{unsigned_abs}
-use Rattle.std.proofs.lemmas.Int.{to_z-of_z, unsigned_abs-mul, fits_signed_mul}
+use Rattle.std.proofs.lemmas.Int.{unsigned_abs-mul}
 use Rattle.std.proofs.lemmas.Nat.{mul-le}
-use Rattle.nav_base.specs.Reach.{IsWithinReach}
+use Rattle.nav_base.proofs.Readings.{product_fits, product_is_read}
 use Rattle.nav_base.proofs.vector.product.Goals as goal
 
-product-fits : (m n : ℤ) → IsWithinReach m → IsWithinReach n → FitsSigned w64 (m *ℤ n)
-product-fits m n p q = fits_signed_mul w64 m n (2 ^ 17) (2 ^ 17) p.near q.near (lit< tt)
+pub overflow_mul-result : goal.overflow_mul-result
+overflow_mul-result c = product_fits c.args.m c.args.n c.requires.first c.requires.second
 
 pub returns-clause-value : goal.returns-clause-value
-returns-clause-value c =
-    let fits = product-fits c.args.m c.args.n c.requires.first c.requires.second in
-    grind (arith, to_z-of_z)
+returns-clause-value c = product_is_read c.args.m c.args.n c.requires.first c.requires.second
 
 pub returns-clause-small : goal.returns-clause-small
 returns-clause-small c =

@@ -6,6 +6,9 @@ use Rattle.span_filters.proofs.columns.pass.Goals as goal
 abbrev no_span : Span
 no_span = record { x = 0; z = 0; bottom = 0; top = 0; area = 0 }
 
+pub start_of-requires : goal.start_of-requires
+start_of-requires c = c.requires.spans.each c.loop-passed.passed no_span c.loop-passed-test.true
+
 pub returns-else-start_of-place : goal.returns-else-start_of-place
 returns-else-start_of-place c = record {
   passed = c.loop-passed.invariant;

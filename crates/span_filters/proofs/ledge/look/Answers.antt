@@ -22,6 +22,9 @@ loop-i-init c = record {
 abbrev no_span : Span
 no_span = record { x = 0; z = 0; bottom = 0; top = 0; area = 0 }
 
+pub column_of-requires : goal.column_of-requires
+column_of-requires c = c.requires.spans.each c.loop-i.i no_span c.loop-i-test.true
+
 pub returns : goal.returns
 returns c =
     let rest = filter (is_in c.args.column) (drop c.loop-i.i c.args.spans.now) in
