@@ -348,6 +348,14 @@ module _ (vertices : List Vertex) (arcs : Vertex → List Arc) (estimate : Verte
       more = omega arith;
     }
 
+    -- it leads to a closed vertex, which cost no more
+    pub following-closed : IsClosed (at to) → IsFollowing vertices arcs estimate heaviest vertex closed at waiting at waiting (place + 1) 1
+    following-closed is_closed =
+        let falls : estimate vertex ≤ (arc_of arcs own_step).weight + estimate to =
+        subst (λ (v : Vertex). estimate vertex ≤ (arc_of arcs own_step).weight + estimate v) enters
+            (estimate-no_more vertices arcs estimate heaviest searchable vertex member place below) in
+        following-no_less (omega (arith, closing.greatest to is_closed, falls))
+
     -- or it leads to less
     module _ (at' : Vertex → Visit) (waiting' : List Entry) where
       abbrev Better : Vertex → Type 0

@@ -1,18 +1,19 @@
 //! The mesh of a tile as strips.
 
-ghost use Rattle.std.specs.Prelude.{◌≡◌, IfOk};
+ghost use Rattle.std.specs.Prelude.{◌≡◌, IfOk, map};
 ghost use Rattle.nav_ground.specs.Limits.{IsSetting};
 ghost use Rattle.nav_ground.specs.Cells.{IsCut, IsInTile};
 ghost use Rattle.mesh_types.specs.Soundness.{IsFit};
-ghost use Rattle.mesh_types.specs.StripMeshes.{strip_mesh_of};
+ghost use Rattle.mesh_types.specs.StripMeshes.{strip_polygon, strip_links, strip_rim, strip_mesh_of};
+ghost use Rattle.strip_mesh.specs.Indexed.{AreIndexed, runs_in};
 
 use crate::inner::inner_links;
 use crate::polygons::polygons;
 use crate::rim::rim;
 use crate::tile_strips::TileStrips;
-use mesh_types::TileMesh;
-use nav_ground::{FreeLayer, Setting, tile_bounds};
-use nav_list::Duplicate;
+use mesh_types::{Links, Polygon, RimEdge, TileMesh};
+use nav_ground::{FreeLayer, Setting, Window, tile_bounds};
+use nav_list::{Duplicate, Items};
 use std::alloc::{AllocError, Global};
 
 /// The mesh of a tile from its free cells: a rectangle for each strip, the links between the strips, and the rim. The mesh keeps a copy of
@@ -49,7 +50,7 @@ pub fn strip_mesh_over(
     Ok(mesh)
 }
 
-/// The mesh, part by part.
+/// The mesh: its parts beside the free cells that they were made from.
 #[tactic(auto, unfolding(mesh_types::specs::StripMeshes::strip_mesh_of))]
 fn mesh(alloc: Global, free: FreeLayer, setting: &Setting) -> Result<TileMesh, AllocError>
     requires setting { IsSetting setting.now }
@@ -60,14 +61,37 @@ fn mesh(alloc: Global, free: FreeLayer, setting: &Setting) -> Result<TileMesh, A
     let tile = free.tile;
     let window = tile_bounds(setting, tile);
     let strips = TileStrips::new(alloc, free)?;
-    let polys = polygons(alloc, &strips)?;
-    let links = inner_links(alloc, &strips)?;
-    let rim = rim(alloc, &strips, &window)?;
+    let StripParts { polys, links, rim } = strip_parts(alloc, &strips, &window)?;
     Ok(TileMesh {
         tile,
-        free: strips.free,
+        free: strips.into_free(),
         polys,
         links,
         rim,
     })
+}
+
+/// What strips add to a mesh.
+#[derive(Drop)]
+struct StripParts {
+    polys: Items<Polygon>,
+    links: Links,
+    rim: Items<RimEdge>,
+}
+
+/// The polygons of strips, the links between them, and the rim.
+fn strip_parts(
+    alloc: Global,
+    strips: &TileStrips,
+    window: &Window,
+) -> Result<StripParts, AllocError>
+    requires { AreIndexed strips.now }
+    ensures polys { IfOk result (λ parts. parts.polys ≡ map strip_polygon (runs_in strips.now)) }
+    ensures links { IfOk result (λ parts. parts.links ≡ strip_links strips.now.free.tile (runs_in strips.now)) }
+    ensures rim { IfOk result (λ parts. parts.rim ≡ strip_rim window.now (runs_in strips.now)) }
+{
+    let polys = polygons(alloc, strips)?;
+    let links = inner_links(alloc, strips)?;
+    let rim = rim(alloc, strips, window)?;
+    Ok(StripParts { polys, links, rim })
 }

@@ -41,6 +41,13 @@ impl TileStrips {
         })
     }
 
+    /// The tile's free cells again; the rest is given up.
+    pub fn into_free(self) -> FreeLayer
+        ensures { result ≡ self.free }
+    {
+        self.free
+    }
+
     /// How many strips there are.
     pub fn count(&self) -> u32
         requires { AreIndexed self.now }

@@ -1,5 +1,6 @@
 use Rattle.std.proofs.Common.{◌≡◌, ℕ, ◌+◌, ◌*◌, ◌≤◌, ◌∙◌, arith, sym, ap, subst, length}
 use Rattle.std.specs.BinaryHeap.{heap_items}
+use Rattle.std.proofs.lemmas.Result.{IfOk-from_err}
 use Rattle.graph_search.specs.declared.visits.Visit.{Visit}
 use Rattle.graph_search.specs.declared.waiting.Waiting.{Waiting}
 use Rattle.graph_search.specs.Visited.{visit_at, IsClosed}
@@ -107,3 +108,48 @@ loop-vertex-preserved g c =
 pub returns-clause-none : goal.returns-clause-none
 returns-clause-none g c =
     apart _ _ _ _ c.requires.searchable c.args.from c.args.to _ _ _ c.loop-vertex.invariant (none_left c.pop.result _ c.in_default.not-Some c.pop.ensures.none)
+
+pub returns-in_err-search-clause-found : goal.returns-in_err-search-clause-found
+returns-in_err-search-clause-found g c = IfOk-from_err c.from_residual.result _ c.from_residual.ensures.0
+
+pub returns-in_err-search-clause-few : goal.returns-in_err-search-clause-few
+returns-in_err-search-clause-few g c = IfOk-from_err c.from_residual.result _ c.from_residual.ensures.0
+
+pub returns-in_err-search-clause-none : goal.returns-in_err-search-clause-none
+returns-in_err-search-clause-none g c = IfOk-from_err c.from_residual.result _ c.from_residual.ensures.0
+
+pub returns-in_err-close-clause-found : goal.returns-in_err-close-clause-found
+returns-in_err-close-clause-found g c = IfOk-from_err c.from_residual-in_err-close.result _ c.from_residual-in_err-close.ensures.0
+
+pub returns-in_err-close-clause-few : goal.returns-in_err-close-clause-few
+returns-in_err-close-clause-few g c = IfOk-from_err c.from_residual-in_err-close.result _ c.from_residual-in_err-close.ensures.0
+
+pub returns-in_err-close-clause-none : goal.returns-in_err-close-clause-none
+returns-in_err-close-clause-none g c = IfOk-from_err c.from_residual-in_err-close.result _ c.from_residual-in_err-close.ensures.0
+
+pub returns-in_err-walk_to-clause-found : goal.returns-in_err-walk_to-clause-found
+returns-in_err-walk_to-clause-found g c = IfOk-from_err c.from_residual-in_err-walk_to.result _ c.from_residual-in_err-walk_to.ensures.0
+
+pub returns-in_err-walk_to-clause-few : goal.returns-in_err-walk_to-clause-few
+returns-in_err-walk_to-clause-few g c = IfOk-from_err c.from_residual-in_err-walk_to.result _ c.from_residual-in_err-walk_to.ensures.0
+
+pub returns-in_err-walk_to-clause-none : goal.returns-in_err-walk_to-clause-none
+returns-in_err-walk_to-clause-none g c = IfOk-from_err c.from_residual-in_err-walk_to.result _ c.from_residual-in_err-walk_to.ensures.0
+
+pub returns-in_err-push_ends-clause-found : goal.returns-in_err-push_ends-clause-found
+returns-in_err-push_ends-clause-found g c = IfOk-from_err c.from_residual-in_err-push_ends.result _ c.from_residual-in_err-push_ends.ensures.0
+
+pub returns-in_err-push_ends-clause-few : goal.returns-in_err-push_ends-clause-few
+returns-in_err-push_ends-clause-few g c = IfOk-from_err c.from_residual-in_err-push_ends.result _ c.from_residual-in_err-push_ends.ensures.0
+
+pub returns-in_err-push_ends-clause-none : goal.returns-in_err-push_ends-clause-none
+returns-in_err-push_ends-clause-none g c = IfOk-from_err c.from_residual-in_err-push_ends.result _ c.from_residual-in_err-push_ends.ensures.0
+
+pub returns-in_err-relax-clause-found : goal.returns-in_err-relax-clause-found
+returns-in_err-relax-clause-found g c = IfOk-from_err c.from_residual-in_err-relax.result _ c.from_residual-in_err-relax.ensures.0
+
+pub returns-in_err-relax-clause-few : goal.returns-in_err-relax-clause-few
+returns-in_err-relax-clause-few g c = IfOk-from_err c.from_residual-in_err-relax.result _ c.from_residual-in_err-relax.ensures.0
+
+pub returns-in_err-relax-clause-none : goal.returns-in_err-relax-clause-none
+returns-in_err-relax-clause-none g c = IfOk-from_err c.from_residual-in_err-relax.result _ c.from_residual-in_err-relax.ensures.0

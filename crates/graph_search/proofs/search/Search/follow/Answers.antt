@@ -1,12 +1,26 @@
 use Rattle.std.proofs.Common.{◌≡◌, ℕ, ◌+◌, ◌∷◌, arith, ap, subst}
 use Rattle.std.specs.BinaryHeap.{heap_items}
 use Rattle.std.specs.List.Sorted.{IsPermutation}
+use Rattle.std.proofs.lemmas.Result.{IfOk-from_err}
 use Rattle.graph_search.specs.declared.visits.Visit.{Visit}
 use Rattle.graph_search.specs.Walks.{arc_of}
 use Rattle.graph_search.specs.Visited.{visit_at, IsWritten}
 use Rattle.graph_search.specs.Entries.{entry}
-use Rattle.graph_search.proofs.Relaxing.{end-member, key-fits, following-no_less, following-better}
+use Rattle.graph_search.proofs.Relaxing.{end-member, key-fits, following-no_less, following-closed, following-better}
 use Rattle.graph_search.proofs.search.Search.follow.Goals as goal
+
+pub returns-then-known-ne0-clause-followed : goal.returns-then-known-ne0-clause-followed
+returns-then-known-ne0-clause-followed g c =
+    let rank = ap (λ (u : Visit). u.rank) c.get-known.ensures in
+    following-closed _ _ _ _ c.requires.searchable c.args.last.from c.requires.there c.args.last.place c.requires.place c.args.to c.requires.end c.args.self.now.closed c.requires.few
+    _ _ c.requires.known c.requires.closing c.requires.relaxing (omega (arith, rank, c.if-known-ne0.true))
+
+pub overflow_add-through : goal.overflow_add-through
+overflow_add-through g c =
+    let cost = ap (λ (u : Visit). u.cost) c.get.ensures in
+    let fits = key-fits _ _ _ _ c.requires.searchable c.args.last.from c.requires.there c.args.last.place c.requires.place c.args.to c.requires.end c.args.self.now.closed c.requires.few
+    _ _ c.requires.known c.requires.closing c.requires.relaxing in
+    omega (arith, fits, cost, c.weight.ensures)
 
 pub returns-then-known-through-clause-followed : goal.returns-then-known-through-clause-followed
 returns-then-known-through-clause-followed g c =
@@ -39,3 +53,9 @@ returns-clause-followed g c =
     (subst (λ (n : ℕ). IsWritten at c.args.to (record { cost = n; rank = 0; last = c.args.last }) (visit_at c.set.new.self)) through c.in_ok-set.ensures)
     (subst (λ (n : ℕ). IsPermutation (entry (n + g.G.Graph.estimates c.args.graph.now c.args.to) c.args.to ∷ waiting) (heap_items c.push.new.self.heap)) through
     (subst (λ (k : ℕ). IsPermutation (entry (c.get.result.cost + c.weight.result + k) c.args.to ∷ waiting) (heap_items c.push.new.self.heap)) c.estimate.ensures c.in_ok-push.ensures))
+
+pub returns-in_err-set-clause-followed : goal.returns-in_err-set-clause-followed
+returns-in_err-set-clause-followed g c = IfOk-from_err c.from_residual.result _ c.from_residual.ensures.0
+
+pub returns-in_err-push-clause-followed : goal.returns-in_err-push-clause-followed
+returns-in_err-push-clause-followed g c = IfOk-from_err c.from_residual-in_err-push.result _ c.from_residual-in_err-push.ensures.0
