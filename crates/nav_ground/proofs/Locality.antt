@@ -1,5 +1,5 @@
 -- Locality: the free cells of a layer under shapes are those under the shapes that touch its tile.
-use Rattle.std.proofs.Common.{◌≡◌, ℕ, Bool, true, false, cond, List, [], ◌∷◌, map, filter, get_or, ap, ◌∙◌, sym, refl, Option, Some, None}
+use Rattle.std.proofs.Common.{◌≡◌, ℕ, Bool, true, false, cond, List, [], ◌∷◌, map, filter, get_or, ap, ◌∙◌, sym, refl, Option, None}
 use Rattle.std.specs.Prelude.{All, not, is_none, ◌&&◌, ◌||◌, if◌then◌else◌, unwrap_or}
 use Rattle.std.specs.List.{list_any, filter_map, last_or, cons_option}
 use Rattle.std.proofs.lemmas.Bool.{both_ways, and_parts}
@@ -7,11 +7,10 @@ use Rattle.std.proofs.lemmas.List.Elements.{All-head, All-tail}
 use Rattle.nav_ground.specs.declared.setting.Setting.{Setting}
 use Rattle.nav_ground.specs.declared.cell.Cell.{Cell}
 use Rattle.nav_ground.specs.declared.cell.Layer.{Layer}
-use Rattle.nav_ground.specs.declared.cell.FreeLayer.{FreeLayer}
 use Rattle.nav_ground.specs.declared.shape.Shape.{Shape}
 use Rattle.nav_ground.specs.Cells.{IsInTile, is_naming, next_level}
 use Rattle.nav_ground.specs.Shapes.{area_set_by}
-use Rattle.nav_ground.specs.FreeCells.{is_over, is_blocked, is_free, area_given, area_under, is_lost, free_next, free_cell_of, free_layer_of}
+use Rattle.nav_ground.specs.FreeCells.{is_over, is_blocked, is_free, area_given, area_under, free_next, free_cell_of, free_layer_of}
 use Rattle.nav_ground.specs.Tiling.{tile_window, IsInWindow}
 use Rattle.nav_ground.specs.Touching.{is_touching, touching_shapes}
 use Rattle.nav_ground.proofs.ShapeLaws.{is_covering-Covers}

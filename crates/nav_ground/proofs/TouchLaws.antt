@@ -1,6 +1,6 @@
 -- Laws of touching: the test tells which tiles a shape touches, and a shape covers no cell of a tile that it does not touch.
 use Rattle.std.proofs.Common.{◌≡◌, ℕ, ℤ, pos, negsuc, ◌+◌, ◌*◌, ◌-◌, ◌/◌, ◌%◌, ◌<◌, ◌≤◌, ◌↔◌, true, inl, inr, arith}
-use Rattle.std.specs.Prelude.{◌-ℤ◌, ◌≤ℤ◌, int_le, ◌&&◌, min}
+use Rattle.std.specs.Prelude.{◌-ℤ◌, ◌≤ℤ◌, int_le, min}
 use Rattle.std.specs.Int.{div_ceil}
 use Rattle.std.proofs.Math.Nat.{mod-lt}
 use Rattle.std.proofs.lemmas.Bool.{and_parts, and_from, cases_lt}
@@ -10,7 +10,7 @@ use Rattle.nav_ground.specs.declared.cell.Window.{Window}
 use Rattle.nav_ground.specs.declared.shape.Shape.{Shape}
 use Rattle.nav_ground.specs.declared.shape.Shape.TheVariants.{Block, Cylinder, AreaBlock, AreaCylinder}
 use Rattle.nav_ground.specs.Limits.{IsSetting, IsShape}
-use Rattle.nav_ground.specs.Shapes.{Covers, is_covering, bounds_of}
+use Rattle.nav_ground.specs.Shapes.{Covers, bounds_of}
 use Rattle.nav_ground.specs.Tiling.{tiles_in_row, tile_rows, tile_count, corner_x, corner_z, tile_window, IsInWindow}
 use Rattle.nav_ground.specs.Touching.{Touches, are_meeting, are_overlapping, is_touching}
 use Rattle.nav_ground.proofs.Places.{begins_inside, some_columns, row_is}

@@ -1,7 +1,8 @@
 //! Tiles and shapes by hand.
 
 use crate::{
-    AREAS, Agent, MeshKind, Setting, Shape, Window, bounds, covers, sets, tile_bounds, tiles, touches,
+    AREAS, Agent, MeshKind, Setting, Shape, Window, bounds, covers, sets, tile_bounds, tiles,
+    touches,
 };
 use nav_list::Duplicate;
 use std::alloc::AllocError;

@@ -128,7 +128,7 @@ cross_kept setting news tiles tile are old =
     let above = or_parts (is_new_across setting news tile.tile 1) _ left.1 in
     let right = or_parts (is_new_across setting news tile.tile 2) _ above.1 in
     let over : (side : ℕ) → is_new_across setting news tile.tile side ≡ false
-        → links_over setting (tiles_after news tiles) tile side ≡ links_over setting tiles tile side = λ side. over_kept setting news tiles tile side are in
+    → links_over setting (tiles_after news tiles) tile side ≡ links_over setting tiles tile side = λ side. over_kept setting news tiles tile side are in
     ap (cross_links setting (tiles_after news tiles)) (stays news tile first.0)
     ∙ ap ordered_links (λ i. over 0 left.0 i ++ (over 1 above.0 i ++ (over 2 right.0 i ++ (over 3 right.1 i ++ []))))
 
