@@ -1,7 +1,7 @@
 -- Tiles with new ones in place: they are one for each tile, and away from the new ones the links over borders stay.
-use Rattle.std.proofs.Common.{◌≡◌, ℕ, zero, suc, ◌+◌, ◌<◌, ◌≤◌, Bool, true, false, eqb, List, [], ◌∷◌, ◌++◌, length, map, get_or, ap, ◌∙◌, sym, refl, subst, arith, tests, ⊎_elim, Ok, Err, Result, Option, Some, None}
-use Rattle.std.specs.Prelude.{All, AllPairs, slice_get, ◌==◌, ◌||◌, is_some, unwrap_or, option_and_then}
-use Rattle.std.specs.List.{find, flat_map, range_with_len}
+use Rattle.std.proofs.Common.{◌≡◌, ℕ, ◌+◌, ◌<◌, ◌≤◌, Bool, true, false, List, [], ◌++◌, length, map, get_or, ap, ◌∙◌, sym, refl, subst, arith, tests, ⊎_elim, Ok, Err, Result, Option, Some, None}
+use Rattle.std.specs.Prelude.{slice_get, ◌==◌, is_some, unwrap_or, option_and_then}
+use Rattle.std.specs.List.{find}
 use Rattle.std.specs.List.Sorted.{IsBinarySearchResult, IsSearchInRange}
 use Rattle.std.specs.Option.{option_map, option_map_or}
 use Rattle.std.specs.Ordering.{nat_cmp, ordering_index}
@@ -13,7 +13,6 @@ use Rattle.std.proofs.lemmas.List.{length-map, get_or-map}
 use Rattle.std.proofs.lemmas.List.Elements.{All-map}
 use Rattle.std.proofs.lemmas.Option.{slice_get-map, slice_get_within, get_or_from_slice_get}
 use Rattle.nav_ground.specs.declared.setting.Setting.{Setting}
-use Rattle.nav_ground.specs.Tiling.{tile_count}
 use Rattle.nav_ground.proofs.Found.{find_none, find_is, found_in}
 use Rattle.mesh_types.specs.declared.links.Link.{Link}
 use Rattle.mesh_types.specs.declared.tile.TileMesh.{TileMesh}
@@ -22,17 +21,14 @@ use Rattle.mesh_types.specs.BorderLinks.{border_links}
 use Rattle.mesh_types.specs.LinkOrder.{ordered_links}
 use Rattle.mesh_types.specs.Soundness.{AreTiles, IsFit, polygon_count}
 use Rattle.mesh_types.specs.WholeMesh.{tile_across, links_over, cross_links, mesh_of}
-use Rattle.tile_links.specs.NewTiles.{New, AreNew, IsWhole, new_tile, tile_after, tiles_after, is_new, is_new_across, is_near_new}
+use Rattle.tile_links.specs.NewTiles.{New, AreNew, AreRising, IsWhole, new_tile, tile_after, tiles_after, is_new, is_new_across, is_near_new}
 
 -- the test of a number
 abbrev has_number : ℕ → New → Bool
 has_number number new = new.0 == number
 
-abbrev IsRising : List New → Type 0
-IsRising news = AllPairs (λ (a b : New). a.0 < b.0) news
-
 -- what a binary search by the numbers finds is the new tile mesh with the number
-pub searched_new : (news : List New) (number : ℕ) (found : Result ℕ ℕ) → IsRising news → IsSearchInRange found (length news)
+pub searched_new : (news : List New) (number : ℕ) (found : Result ℕ ℕ) → AreRising news → IsSearchInRange found (length news)
     → IsBinarySearchResult (λ (new : New). nat_cmp new.0 number) news found
     → MatchResult found (λ i. (d : New) → Some (get_or news i d).1 ≡ new_tile news number) (λ i. None ≡ new_tile news number)
 searched_new news number (Ok i) rising there equal = λ d.

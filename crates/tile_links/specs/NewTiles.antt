@@ -18,9 +18,13 @@ pub record IsWhole (mesh : Mesh) : Type 0 where
 abbrev pub New : Type 0
 New = ℕ × TileMesh
 
+-- the numbers rise
+abbrev pub AreRising : List New → Type 0
+AreRising news = AllPairs (λ (a b : New). a.0 < b.0) news
+
 -- new tile meshes: their numbers rise and are those of tiles, each number is its tile mesh's own, and each tile mesh is fit for the setting
 pub record AreNew (setting : Setting) (news : List New) : Type 0 where
-  pub rising : AllPairs (λ (a b : New). a.0 < b.0) news
+  pub rising : AreRising news
   pub there : All (λ (new : New). new.0 < tile_count setting) news
   pub own : All (λ (new : New). new.1.tile ≡ new.0) news
   pub fit : All (λ (new : New). IsFit setting new.1) news

@@ -1,6 +1,6 @@
 //! Tiles replaced in a mesh.
 
-ghost use Rattle.std.specs.Prelude.{◌≡◌, ◌≤◌, ◌<◌, ℕ, IfOk, IfErr, OnOk, OnErr, length, map, get_or, false, List, AllPairs};
+ghost use Rattle.std.specs.Prelude.{◌≡◌, ◌≤◌, ◌<◌, ℕ, IfOk, IfErr, OnOk, OnErr, length, map, get_or, false, List};
 ghost use Rattle.std.specs.Option.{option_copied};
 ghost use Rattle.nav_ground.specs.Limits.{IsSetting};
 ghost use Rattle.nav_ground.specs.Tiling.{tile_count};
@@ -8,7 +8,7 @@ ghost use Rattle.mesh_types.specs.declared.links.Link.{Link};
 ghost use Rattle.mesh_types.specs.declared.tile.TileMesh.{TileMesh};
 ghost use Rattle.mesh_types.specs.Soundness.{AreTiles, IsSound, polygon_count};
 ghost use Rattle.mesh_types.specs.WholeMesh.{mesh_of};
-ghost use Rattle.tile_links.specs.NewTiles.{AreNew, IsWhole, New, tiles_after};
+ghost use Rattle.tile_links.specs.NewTiles.{AreNew, AreRising, IsWhole, tiles_after};
 
 use crate::join::{across, cross_links};
 use mesh_types::{Links, Mesh, TileMesh};
@@ -77,7 +77,7 @@ fn tiles_after(
     tiles: &[Shared<TileMesh>],
     news: &[(TileNo, Shared<TileMesh>)],
 ) -> Result<Vec<Shared<TileMesh>>, AllocError>
-    requires { AllPairs (λ (a b : New). a.0 < b.0) news.now }
+    requires { AreRising news.now }
     ensures { IfOk result (λ after. after.items ≡ Rattle.tile_links.specs.NewTiles.tiles_after news.now tiles.now) }
 {
     let mut after = Vec::with_capacity(alloc, tiles.len())?;
@@ -92,7 +92,7 @@ fn tile_after(
     tile: &Shared<TileMesh>,
     news: &[(TileNo, Shared<TileMesh>)],
 ) -> Result<Shared<TileMesh>, AllocError>
-    requires { AllPairs (λ (a b : New). a.0 < b.0) news.now }
+    requires { AreRising news.now }
     ensures { IfOk result (λ after. after ≡ Rattle.tile_links.specs.NewTiles.tile_after news.now tile.now) }
 {
     match new_tile(news, tile.get().tile) {
@@ -111,7 +111,7 @@ fn cross_after(
 ) -> Result<Vec<Shared<Links>>, AllocError>
     requires setting { IsSetting setting.now }
     requires tiles { AreTiles setting.now tiles.now }
-    requires rising { AllPairs (λ (a b : New). a.0 < b.0) news.now }
+    requires rising { AreRising news.now }
     requires beside { length cross.now ≡ length tiles.now }
     requires kept { (t : ℕ) (d : List Link) (e : TileMesh) → t < length tiles.now
         → Rattle.tile_links.specs.NewTiles.is_near_new setting.now news.now t ≡ false
@@ -134,7 +134,7 @@ fn cross_after(
 fn is_near_new(setting: &Setting, news: &[(TileNo, Shared<TileMesh>)], tile: TileNo) -> bool
     requires setting { IsSetting setting.now }
     requires there { tile < tile_count setting.now }
-    requires rising { AllPairs (λ (a b : New). a.0 < b.0) news.now }
+    requires rising { AreRising news.now }
     ensures { result ≡ Rattle.tile_links.specs.NewTiles.is_near_new setting.now news.now tile }
 {
     is_new(news, tile)
@@ -153,7 +153,7 @@ fn is_new_across(
 ) -> bool
     requires setting { IsSetting setting.now }
     requires there { tile < tile_count setting.now }
-    requires rising { AllPairs (λ (a b : New). a.0 < b.0) news.now }
+    requires rising { AreRising news.now }
     ensures { result ≡ Rattle.tile_links.specs.NewTiles.is_new_across setting.now news.now tile side }
 {
     match across(setting, tile, side) {
@@ -164,7 +164,7 @@ fn is_new_across(
 
 /// Whether a tile is replaced.
 fn is_new(news: &[(TileNo, Shared<TileMesh>)], number: TileNo) -> bool
-    requires { AllPairs (λ (a b : New). a.0 < b.0) news.now }
+    requires { AreRising news.now }
     ensures { result ≡ Rattle.tile_links.specs.NewTiles.is_new news.now number }
 {
     new_tile(news, number).is_some()
@@ -172,7 +172,7 @@ fn is_new(news: &[(TileNo, Shared<TileMesh>)], number: TileNo) -> bool
 
 /// The new tile mesh with a number, if there is one.
 fn new_tile(news: &[(TileNo, Shared<TileMesh>)], number: TileNo) -> Option<&Shared<TileMesh>>
-    requires { AllPairs (λ (a b : New). a.0 < b.0) news.now }
+    requires { AreRising news.now }
     ensures { option_copied result ≡ Rattle.tile_links.specs.NewTiles.new_tile news.now number }
 {
     match news.binary_search_by_key(&number, |new| new.0) {
