@@ -12,5 +12,7 @@ pub mod CompactLaws
 pub mod LayerLaws
 pub mod AliveLaws
 pub mod ShapeLaws
+pub mod TouchLaws
 pub mod FreeLayers
+pub mod Locality
 pub mod Literals

@@ -8,6 +8,7 @@ pub mod Connection
 pub mod Clearance
 pub mod Layers
 pub mod Shapes
+pub mod Touching
 pub mod FreeCells
 pub mod History
 pub mod Grounds

@@ -4,6 +4,7 @@ ghost use Rattle.nav_ground.specs.Limits.{IsShape};
 
 use nav_ground::{
     AREAS, Agent, MeshKind, Setting, Shape, Window, bounds, covers, sets, tile_bounds, tiles,
+    touches,
 };
 use nav_list::Duplicate;
 use std::alloc::AllocError;
@@ -151,4 +152,33 @@ fn shapes_have_bounds(rt: HostRuntime) {
     assert_eq!(rt; bounds(&POND), window(-1, 1, 1022, 1025));
     let given = [sets(&BLOCK), sets(&DISC), sets(&MUD), sets(&POND)];
     assert_eq!(rt; given, [None, None, Some(7), Some(63)]);
+}
+
+#[test]
+fn touched_tiles_by_hand(rt: HostRuntime) {
+    // A block in the columns that tile 2 would have, were it not cut at the field's edge.
+    let beyond = Shape::Block {
+        x0: 10,
+        x1: 11,
+        y0: 0,
+        y1: 0,
+        z0: 0,
+        z1: 3,
+    };
+    for (shape, wanted) in [
+        (BLOCK, [true, true, false, true, true, false]),
+        (DISC, [true, true, false, true, true, false]),
+        (DISC_LEFT, [true, true, false, true, true, false]),
+        (MUD, [false; 6]),
+        (POND, [false; 6]),
+        (beyond, [false; 6]),
+    ] {
+        for tile in 0..6 {
+            assert_eq!(rt;
+                touches(&SETTING, tile, &shape),
+                wanted[tile as usize],
+                "{shape:?} and tile {tile}"
+            );
+        }
+    }
 }

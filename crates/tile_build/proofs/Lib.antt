@@ -1,3 +1,4 @@
+pub mod LocalTiles
 pub mod FreeInTile
 pub mod LinkTotals
 pub mod GroundTiles

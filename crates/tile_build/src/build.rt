@@ -3,6 +3,7 @@
 ghost use Rattle.std.specs.Prelude.{◌≡◌, ◌+◌, IfOk, All};
 ghost use Rattle.nav_ground.specs.Grounds.{IsLayerOf};
 ghost use Rattle.nav_ground.specs.Limits.{IsSetting, IsShape};
+ghost use Rattle.nav_ground.specs.Touching.{touching_shapes};
 ghost use Rattle.mesh_types.specs.Builds.{tile_mesh_of};
 ghost use Rattle.mesh_types.specs.Soundness.{IsFit};
 ghost use Rattle.tile_build.specs.Meshes.{IsOfStrips};
@@ -15,7 +16,8 @@ use std::alloc::{AllocError, Global};
 use std::sync::ledger::Ledger;
 use strip_mesh::strip_mesh_over;
 
-/// The mesh of a layer under a list of shapes. It takes one step, also where memory is refused. So far every tile is built as strips.
+/// The mesh of a layer under a list of shapes, which is also its mesh under those of them that touch its tile. It takes one step, also
+/// where memory is refused. So far every tile is built as strips.
 pub fn build_tile<L: Ledger>(
     alloc: Global,
     layer: &Layer,
@@ -29,6 +31,7 @@ pub fn build_tile<L: Ledger>(
     requires shapes { All IsShape shapes.now }
     requires strips { IsOfStrips setting.now }
     ensures value { IfOk result (λ tile. tile ≡ tile_mesh_of setting.now layer.now shapes.now) }
+    ensures local { IfOk result (λ tile. tile ≡ tile_mesh_of setting.now layer.now (touching_shapes setting.now layer.now.tile shapes.now)) }
     ensures fit { IfOk result (IsFit setting.now) }
     ensures step { steps.new ≡ steps.old + 1 }
 {

@@ -6,6 +6,8 @@ pub mod AxisWalks
 pub mod SharedRuns
 pub mod BorderPortals
 pub mod SoundMeshes
+pub mod ReplacedTiles
+pub mod HandTiles
 pub mod PlaceOrder
 pub mod FoundLinks
 pub mod RimTables

@@ -1,3 +1,5 @@
 pub mod Across
 pub mod RimPlaces
 pub mod Loose
+pub mod NewTiles
+pub mod ByHand

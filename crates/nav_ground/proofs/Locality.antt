@@ -1,0 +1,110 @@
+-- Locality: the free cells of a layer under shapes are those under the shapes that touch its tile.
+use Rattle.std.proofs.Common.{◌≡◌, ℕ, Bool, true, false, cond, List, [], ◌∷◌, map, filter, get_or, ap, ◌∙◌, sym, refl, Option, None}
+use Rattle.std.specs.Prelude.{All, not, is_none, ◌&&◌, ◌||◌, if◌then◌else◌, unwrap_or}
+use Rattle.std.specs.List.{list_any, filter_map, last_or, cons_option}
+use Rattle.std.proofs.lemmas.Bool.{both_ways, and_parts}
+use Rattle.std.proofs.lemmas.List.Elements.{All-head, All-tail}
+use Rattle.nav_ground.specs.declared.setting.Setting.{Setting}
+use Rattle.nav_ground.specs.declared.cell.Cell.{Cell}
+use Rattle.nav_ground.specs.declared.cell.Layer.{Layer}
+use Rattle.nav_ground.specs.declared.shape.Shape.{Shape}
+use Rattle.nav_ground.specs.Cells.{IsInTile, is_naming, next_level}
+use Rattle.nav_ground.specs.Shapes.{area_set_by}
+use Rattle.nav_ground.specs.FreeCells.{is_over, is_blocked, is_free, area_given, area_under, free_next, free_cell_of, free_layer_of}
+use Rattle.nav_ground.specs.Tiling.{tile_window, IsInWindow}
+use Rattle.nav_ground.specs.Touching.{is_touching, touching_shapes}
+use Rattle.nav_ground.proofs.ShapeLaws.{is_covering-Covers}
+use Rattle.nav_ground.proofs.TouchLaws.{covered_touches}
+
+-- a test passes only what another keeps; a look-up gives something only there
+any_kept : {X : Type 0} (p q : X → Bool) → ((x : X) → p x ≡ true → q x ≡ true) → (xs : List X) → list_any p (filter q xs) ≡ list_any p xs
+any_kept p q within [] = refl
+any_kept p q within (x ∷ xs) = by_tests (any_kept p q within xs) (p x) refl (q x) refl
+  where
+    by_tests : list_any p (filter q xs) ≡ list_any p xs → (passes : Bool) → p x ≡ passes → (kept : Bool) → q x ≡ kept
+        → list_any p (cond kept (x ∷ filter q xs) (filter q xs)) ≡ (p x || list_any p xs)
+    by_tests rest passes is true is_kept = ap (λ b. p x || b) rest
+    by_tests rest true is false is_kept = absurd (both_ways (q x) is_kept (within x is))
+    by_tests rest false is false is_kept = rest ∙ ap (λ b. b || list_any p xs) (sym is)
+
+found_kept : {X Y : Type 0} (f : X → Option Y) (q : X → Bool) → ((x : X) → q x ≡ false → f x ≡ None) → (xs : List X)
+    → filter_map f (filter q xs) ≡ filter_map f xs
+found_kept f q within [] = refl
+found_kept f q within (x ∷ xs) = by_test (found_kept f q within xs) (q x) refl
+  where
+    by_test : filter_map f (filter q xs) ≡ filter_map f xs → (kept : Bool) → q x ≡ kept → filter_map f (cond kept (x ∷ filter q xs) (filter q xs)) ≡ cons_option (f x) (filter_map f xs)
+    by_test rest true is = ap (cons_option (f x)) rest
+    by_test rest false is = rest ∙ ap (λ found. cons_option found (filter_map f xs)) (sym (within x is))
+
+-- two tests, and two functions, that agree at the elements of a list
+any_same : {X : Type 0} (p q : X → Bool) (xs : List X) → All (λ x. p x ≡ q x) xs → list_any p xs ≡ list_any q xs
+any_same p q [] same = refl
+any_same p q (x ∷ xs) same =
+    ap (λ b. b || list_any p xs) (All-head (λ y. p y ≡ q y) x xs same) ∙ ap (λ b. q x || b) (any_same p q xs (All-tail (λ y. p y ≡ q y) x xs same))
+
+kept_same : {X Y : Type 0} (f g : X → Y) (p q : X → Bool) (xs : List X) → All (λ x. (f x ≡ g x) × (p x ≡ q x)) xs
+    → map f (filter p xs) ≡ map g (filter q xs)
+kept_same f g p q [] same = refl
+kept_same f g p q (x ∷ xs) same =
+    let here = All-head (λ y. (f y ≡ g y) × (p y ≡ q y)) x xs same in
+    let rest = kept_same f g p q xs (All-tail (λ y. (f y ≡ g y) × (p y ≡ q y)) x xs same) in
+    by_test (q x) here.0 here.1 rest
+  where
+    by_test : (kept : Bool) → f x ≡ g x → p x ≡ kept → map f (filter p xs) ≡ map g (filter q xs)
+        → map f (cond (p x) (x ∷ filter p xs) (filter p xs)) ≡ map g (cond kept (x ∷ filter q xs) (filter q xs))
+    by_test true same' is rest = ap (λ b. map f (cond b (x ∷ filter p xs) (filter p xs))) is ∙ cc
+    by_test false same' is rest = ap (λ b. map f (cond b (x ∷ filter p xs) (filter p xs))) is ∙ rest
+
+module _ (setting : Setting) (layer : Layer) (shapes : List Shape) (rules' : IsInTile setting layer.tile layer.cells) where
+  abbrev few : List Shape
+  few = touching_shapes setting layer.tile shapes
+
+  -- a cell lies in the tile
+  abbrev IsInside : Cell → Type 0
+  IsInside cell = IsInWindow (tile_window setting layer.tile) cell.at.x cell.at.z
+
+  -- so a shape that covers it touches the tile
+  over_touches : (cell : Cell) → IsInside cell → (shape : Shape) → is_over cell shape ≡ true → is_touching setting layer.tile shape ≡ true
+  over_touches cell inside shape over =
+      covered_touches setting layer.tile shape cell.at.x cell.at.z cell.floor inside
+      ((is_covering-Covers shape cell.at.x cell.at.z cell.floor).0 over)
+
+  none_given : (cell : Cell) → IsInside cell → (shape : Shape) → is_touching setting layer.tile shape ≡ false → area_given cell shape ≡ None
+  none_given cell inside shape apart = by_test (is_over cell shape) refl
+    where
+      by_test : (over : Bool) → is_over cell shape ≡ over → (if over then area_set_by shape else None) ≡ None
+      by_test true is = absurd (both_ways (is_touching setting layer.tile shape) apart (over_touches cell inside shape is))
+      by_test false is = refl
+
+  -- and it is blocked, and given its area, by the shapes that touch the tile alone
+  same_blocked : (cell : Cell) → IsInside cell → is_blocked few cell ≡ is_blocked shapes cell
+  same_blocked cell inside =
+      any_kept (λ (shape : Shape). is_none (area_set_by shape) && is_over cell shape) (is_touching setting layer.tile)
+      (λ shape stops. over_touches cell inside shape (and_parts (is_none (area_set_by shape)) (is_over cell shape) stops).1) shapes
+
+  same_area : (cell : Cell) → IsInside cell → area_under few cell ≡ area_under shapes cell
+  same_area cell inside =
+      ap (λ areas. unwrap_or (last_or None areas) cell.area)
+      (found_kept (area_given cell) (is_touching setting layer.tile) (none_given cell inside) shapes)
+
+  same_next : (cell : Cell) (dir : ℕ) → free_next layer.cells few cell dir ≡ free_next layer.cells shapes cell dir
+  same_next cell dir =
+      ap (λ lost. if lost then None else next_level cell dir)
+      (any_same (λ (other : Cell). is_naming dir cell other.at && is_blocked few other) (λ (other : Cell). is_naming dir cell other.at && is_blocked shapes other)
+      layer.cells (λ k d there. ap (λ b. is_naming dir cell (get_or layer.cells k d).at && b) (same_blocked (get_or layer.cells k d) (rules'.inside k d there))))
+
+  same_cell : (cell : Cell) → IsInside cell → free_cell_of layer.cells few cell ≡ free_cell_of layer.cells shapes cell
+  same_cell cell inside = λ i. record cell {
+    area = same_area cell inside i;
+    next = same_next cell 0 i ∷ same_next cell 1 i ∷ same_next cell 2 i ∷ same_next cell 3 i ∷ [];
+  }
+
+  -- the free cells of a layer under shapes are those under the shapes that touch its tile
+  pub free_layer_local : free_layer_of layer (touching_shapes setting layer.tile shapes) ≡ free_layer_of layer shapes
+  free_layer_local =
+      ap (λ (cells : List Cell). record { tile = layer.tile; cells = cells })
+      (kept_same (free_cell_of layer.cells few) (free_cell_of layer.cells shapes) (is_free few) (is_free shapes) layer.cells
+      (λ k d there.
+      let cell : Cell = get_or layer.cells k d in
+      let inside = rules'.inside k d there in
+      (same_cell cell inside, ap not (same_blocked cell inside))))

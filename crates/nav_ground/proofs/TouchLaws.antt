@@ -1,0 +1,107 @@
+-- Laws of touching: the test tells which tiles a shape touches, and a shape covers no cell of a tile that it does not touch.
+use Rattle.std.proofs.Common.{◌≡◌, ℕ, ℤ, pos, negsuc, ◌+◌, ◌*◌, ◌-◌, ◌/◌, ◌%◌, ◌<◌, ◌≤◌, ◌↔◌, true, inl, inr, arith}
+use Rattle.std.specs.Prelude.{◌-ℤ◌, ◌≤ℤ◌, int_le, min}
+use Rattle.std.specs.Int.{div_ceil}
+use Rattle.std.proofs.Math.Nat.{mod-lt}
+use Rattle.std.proofs.lemmas.Bool.{and_parts, and_from, cases_lt}
+use Rattle.std.proofs.lemmas.Int.{ints}
+use Rattle.nav_ground.specs.declared.setting.Setting.{Setting}
+use Rattle.nav_ground.specs.declared.cell.Window.{Window}
+use Rattle.nav_ground.specs.declared.shape.Shape.{Shape}
+use Rattle.nav_ground.specs.declared.shape.Shape.TheVariants.{Block, Cylinder, AreaBlock, AreaCylinder}
+use Rattle.nav_ground.specs.Limits.{IsSetting, IsShape}
+use Rattle.nav_ground.specs.Shapes.{Covers, bounds_of}
+use Rattle.nav_ground.specs.Tiling.{tiles_in_row, tile_rows, tile_count, corner_x, corner_z, tile_window, IsInWindow}
+use Rattle.nav_ground.specs.Touching.{Touches, are_meeting, are_overlapping, is_touching}
+use Rattle.nav_ground.proofs.Places.{begins_inside, some_columns, row_is}
+use Rattle.nav_ground.proofs.ShapeLaws.{covered_in_bounds}
+
+-- the order of signed numbers as a test
+le_test : (a b c : ℤ) → a ≤ℤ b → b ≤ℤ c → int_le a c ≡ true
+le_test a b c below above = grind (arith, ints)
+
+no_more : (a b : ℤ) → int_le a b ≡ true → a ≤ℤ b
+no_more a b h = grind (arith, ints)
+
+-- two rectangles with a column in common meet
+meeting : (a b : Window) (x z : ℕ) → IsInWindow a x z → IsInWindow b x z → are_meeting a b ≡ true
+meeting a b x z in_a in_b =
+    and_from _ _ (and_from _ _ (le_test a.x0 (pos x) b.x1 in_a.x_least in_b.x_most) (le_test b.x0 (pos x) a.x1 in_b.x_least in_a.x_most))
+    (and_from _ _ (le_test a.z0 (pos z) b.z1 in_a.z_least in_b.z_most) (le_test b.z0 (pos z) a.z1 in_b.z_least in_a.z_most))
+
+-- a number in two ranges
+record IsInBoth (a0 a1 b0 b1 : ℤ) : Type 0 where
+  at : ℕ
+  a_least : a0 ≤ℤ pos at
+  a_most : pos at ≤ℤ a1
+  b_least : b0 ≤ℤ pos at
+  b_most : pos at ≤ℤ b1
+
+-- of two ranges that overlap and are not empty, the later beginning is in both
+in_both : (a0 a1 : ℤ) (b0 b1 : ℕ) → a0 ≤ℤ a1 → b0 ≤ b1 → a0 ≤ℤ pos b1 → pos b0 ≤ℤ a1 → IsInBoth a0 a1 (pos b0) (pos b1)
+in_both (negsuc n) a1 b0 b1 some_a some_b left right =
+    record { at = b0; a_least = grind (arith, ints); a_most = right; b_least = grind (arith, ints); b_most = grind (arith, ints) }
+in_both (pos n) a1 b0 b1 some_a some_b left right = elim (cases_lt n b0) [
+  | inl before ↦ record { at = b0; a_least = grind (arith, ints); a_most = right; b_least = grind (arith, ints); b_most = grind (arith, ints) }
+  | inr after ↦ record { at = n; a_least = grind (arith, ints); a_most = some_a; b_least = grind (arith, ints); b_most = left }
+]
+
+-- a rectangle that holds a column, were there columns below 0 too
+record IsSome (window : Window) : Type 0 where
+  x : window.x0 ≤ℤ window.x1
+  z : window.z0 ≤ℤ window.z1
+
+-- the bounds of a shape are such
+range_some : (first last : ℕ) → first ≤ last → pos first ≤ℤ pos last
+range_some first last h = grind (arith, ints)
+
+reach_some : (c r : ℕ) → (pos (div_ceil c 2) -ℤ pos (r + 1)) ≤ℤ pos (c / 2 + r)
+reach_some c r = omega (arith, ints)
+
+bounds_some : (shape : Shape) → IsShape shape → IsSome (bounds_of shape)
+bounds_some (Block x0 x1 y0 y1 z0 z1) limits = record { x = range_some x0 x1 limits.x; z = range_some z0 z1 limits.z }
+bounds_some (Cylinder cx cz r y0 y1) limits = record { x = reach_some cx r; z = reach_some cz r }
+bounds_some (AreaBlock area x0 x1 y0 y1 z0 z1) (area', limits) = record { x = range_some x0 x1 limits.x; z = range_some z0 z1 limits.z }
+bounds_some (AreaCylinder area cx cz r y0 y1) limits = record { x = reach_some cx r; z = reach_some cz r }
+
+-- the columns of a tile along an axis
+side_some : (place tile edge : ℕ) → 1 ≤ tile → place < div_ceil edge tile → place * tile ≤ min edge (place * tile + tile) - 1
+side_some place tile edge some there = let inside = begins_inside place tile edge some there in omega (arith, inside)
+
+-- a shape and a tile that meet have a column in common
+common : (setting : Setting) (tile : ℕ) (shape : Shape) → IsSetting setting → tile < tile_count setting → IsShape shape
+    → is_touching setting tile shape ≡ true → Touches setting tile shape
+common setting tile shape limits there rules' is =
+    let window = bounds_of shape in
+    let square = tile_window setting tile in
+    let parts = and_parts (are_overlapping window.x0 window.x1 square.x0 square.x1) _ is in
+    let xs = and_parts (int_le window.x0 square.x1) _ parts.0 in
+    let zs = and_parts (int_le window.z0 square.z1) _ parts.1 in
+    let columns = some_columns (tiles_in_row setting) (tile_rows setting) tile there in
+    let side : 1 ≤ setting.tile = omega (arith, limits.tile_least) in
+    let some = bounds_some shape rules' in
+    let x = in_both window.x0 window.x1 (corner_x setting tile) _ some.x
+    (side_some (tile % tiles_in_row setting) setting.tile setting.width side (mod-lt tile columns)) (no_more _ _ xs.0) (no_more _ _ xs.1) in
+    let z = in_both window.z0 window.z1 (corner_z setting tile) _ some.z
+    (side_some (tile / tiles_in_row setting) setting.tile setting.depth side (row_is tile (tiles_in_row setting) (tile_rows setting) columns there))
+    (no_more _ _ zs.0) (no_more _ _ zs.1) in
+    record {
+      x = x.at;
+      z = z.at;
+      in_bounds = record { x_least = x.a_least; x_most = x.a_most; z_least = z.a_least; z_most = z.a_most };
+      in_tile = record { x_least = x.b_least; x_most = x.b_most; z_least = z.b_least; z_most = z.b_most };
+    }
+
+-- the test tells which tiles a shape touches
+pub is_touching_Touches : (setting : Setting) (tile : ℕ) (shape : Shape) → IsSetting setting → tile < tile_count setting → IsShape shape
+    → (is_touching setting tile shape ≡ true) ↔ Touches setting tile shape
+is_touching_Touches setting tile shape limits there rules' = (
+  common setting tile shape limits there rules',
+  λ touched. meeting (bounds_of shape) (tile_window setting tile) touched.x touched.z touched.in_bounds touched.in_tile,
+)
+
+-- a shape that covers a cell of a tile touches the tile
+pub covered_touches : (setting : Setting) (tile : ℕ) (shape : Shape) (x z floor : ℕ) → IsInWindow (tile_window setting tile) x z
+    → Covers shape x z floor → is_touching setting tile shape ≡ true
+covered_touches setting tile shape x z floor inside covered =
+    meeting (bounds_of shape) (tile_window setting tile) x z (covered_in_bounds shape x z floor covered) inside

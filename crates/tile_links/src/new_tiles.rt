@@ -1,0 +1,182 @@
+//! Tiles replaced in a mesh.
+
+ghost use Rattle.std.specs.Prelude.{◌≡◌, ◌≤◌, ◌<◌, ℕ, IfOk, IfErr, OnOk, OnErr, length, map, get_or, false, List};
+ghost use Rattle.std.specs.Option.{option_copied};
+ghost use Rattle.nav_ground.specs.Limits.{IsSetting};
+ghost use Rattle.nav_ground.specs.Tiling.{tile_count};
+ghost use Rattle.mesh_types.specs.declared.links.Link.{Link};
+ghost use Rattle.mesh_types.specs.declared.tile.TileMesh.{TileMesh};
+ghost use Rattle.mesh_types.specs.Soundness.{AreTiles, IsSound, polygon_count};
+ghost use Rattle.mesh_types.specs.WholeMesh.{mesh_of};
+ghost use Rattle.tile_links.specs.NewTiles.{AreNew, AreRising, IsWhole, tiles_after};
+
+use crate::join::{across, cross_links};
+use mesh_types::{Links, Mesh, TileMesh};
+use nav_ground::{Setting, TileNo};
+use nav_list::Items;
+use nav_share::Shared;
+use std::alloc::{AllocError, Global};
+
+/// Puts new tile meshes into a mesh, each with the number of its tile. The links over the borders of those tiles and of the tiles beside
+/// them are made again; all other tiles and lists of links are shared with the mesh as it was. Where memory is refused, the mesh is
+/// unchanged and the new tile meshes come back.
+pub fn replace(
+    mesh: &mut Mesh,
+    alloc: Global,
+    news: Vec<(TileNo, Shared<TileMesh>)>,
+) -> Result<(), (Vec<(TileNo, Shared<TileMesh>)>, AllocError)>
+    requires setting { IsSetting mesh.old.setting }
+    requires mesh { IsWhole mesh.old }
+    requires news { AreNew mesh.old.setting news.items }
+    requires few { polygon_count (tiles_after news.items mesh.old.tiles) ≤ 8000000 }
+    ensures mesh { OnOk result (mesh.new ≡ mesh_of mesh.old.setting (tiles_after news.items mesh.old.tiles)) }
+    ensures sound { OnOk result (IsSound mesh.new) }
+    ensures unchanged { OnErr result (mesh.new ≡ mesh.old) }
+    ensures returned { IfErr result (λ refused. refused.0 ≡ news) }
+{
+    match replaced(alloc, mesh, news.as_slice()) {
+        Ok(made) => {
+            *mesh = made;
+            Ok(())
+        }
+        Err(refused) => Err((news, refused)),
+    }
+}
+
+/// The mesh that is had when new tile meshes are put into one.
+fn replaced(
+    alloc: Global,
+    mesh: &Mesh,
+    news: &[(TileNo, Shared<TileMesh>)],
+) -> Result<Mesh, AllocError>
+    requires setting { IsSetting mesh.now.setting }
+    requires mesh { IsWhole mesh.now }
+    requires news { AreNew mesh.now.setting news.now }
+    requires few { polygon_count (tiles_after news.now mesh.now.tiles) ≤ 8000000 }
+    ensures mesh { IfOk result (λ made. made ≡ mesh_of mesh.now.setting (tiles_after news.now mesh.now.tiles)) }
+    ensures sound { IfOk result IsSound }
+{
+    let tiles = tiles_after(alloc, mesh.tiles.as_slice(), news)?;
+    let cross = cross_after(
+        alloc,
+        &mesh.setting,
+        mesh.cross.as_slice(),
+        tiles.as_slice(),
+        news,
+    )?;
+    Ok(Mesh {
+        setting: mesh.setting,
+        tiles: Items::from_vec(tiles),
+        cross: Items::from_vec(cross),
+    })
+}
+
+/// Tiles with the new ones in place.
+fn tiles_after(
+    alloc: Global,
+    tiles: &[Shared<TileMesh>],
+    news: &[(TileNo, Shared<TileMesh>)],
+) -> Result<Vec<Shared<TileMesh>>, AllocError>
+    requires { AreRising news.now }
+    ensures { IfOk result (λ after. after.items ≡ Rattle.tile_links.specs.NewTiles.tiles_after news.now tiles.now) }
+{
+    let mut after = Vec::with_capacity(alloc, tiles.len())?;
+    for tile in tiles {
+        after.push(tile_after(tile, news)?)?;
+    }
+    Ok(after)
+}
+
+/// What stands in the place of a tile once the new ones have come.
+fn tile_after(
+    tile: &Shared<TileMesh>,
+    news: &[(TileNo, Shared<TileMesh>)],
+) -> Result<Shared<TileMesh>, AllocError>
+    requires { AreRising news.now }
+    ensures { IfOk result (λ after. after ≡ Rattle.tile_links.specs.NewTiles.tile_after news.now tile.now) }
+{
+    match new_tile(news, tile.get().tile) {
+        Some(new) => Ok(new.share()?),
+        None => Ok(tile.share()?),
+    }
+}
+
+/// The links that leave each tile, given those that left the tiles before the new ones came.
+fn cross_after(
+    alloc: Global,
+    setting: &Setting,
+    cross: &[Shared<Links>],
+    tiles: &[Shared<TileMesh>],
+    news: &[(TileNo, Shared<TileMesh>)],
+) -> Result<Vec<Shared<Links>>, AllocError>
+    requires setting { IsSetting setting.now }
+    requires tiles { AreTiles setting.now tiles.now }
+    requires rising { AreRising news.now }
+    requires beside { length cross.now ≡ length tiles.now }
+    requires kept { (t : ℕ) (d : List Link) (e : TileMesh) → t < length tiles.now
+        → Rattle.tile_links.specs.NewTiles.is_near_new setting.now news.now t ≡ false
+        → get_or cross.now t d ≡ Rattle.mesh_types.specs.WholeMesh.cross_links setting.now tiles.now (get_or tiles.now t e) }
+    ensures { IfOk result (λ after. after.items ≡ map (Rattle.mesh_types.specs.WholeMesh.cross_links setting.now tiles.now) tiles.now) }
+{
+    let mut after = Vec::with_capacity(alloc, tiles.len())?;
+    for (i, tile) in tiles.iter().enumerate() {
+        if is_near_new(setting, news, i as u32) {
+            let links = cross_links(alloc, setting, tiles, tile.get())?;
+            after.push(Shared::new(alloc, links)?)?;
+        } else {
+            after.push(cross[i].share()?)?;
+        }
+    }
+    Ok(after)
+}
+
+/// Whether a tile or one across a side of it is replaced.
+fn is_near_new(setting: &Setting, news: &[(TileNo, Shared<TileMesh>)], tile: TileNo) -> bool
+    requires setting { IsSetting setting.now }
+    requires there { tile < tile_count setting.now }
+    requires rising { AreRising news.now }
+    ensures { result ≡ Rattle.tile_links.specs.NewTiles.is_near_new setting.now news.now tile }
+{
+    is_new(news, tile)
+        || is_new_across(setting, news, tile, 0)
+        || is_new_across(setting, news, tile, 1)
+        || is_new_across(setting, news, tile, 2)
+        || is_new_across(setting, news, tile, 3)
+}
+
+/// Whether the tile across a side of a tile is replaced.
+fn is_new_across(
+    setting: &Setting,
+    news: &[(TileNo, Shared<TileMesh>)],
+    tile: TileNo,
+    side: u32,
+) -> bool
+    requires setting { IsSetting setting.now }
+    requires there { tile < tile_count setting.now }
+    requires rising { AreRising news.now }
+    ensures { result ≡ Rattle.tile_links.specs.NewTiles.is_new_across setting.now news.now tile side }
+{
+    match across(setting, tile, side) {
+        Some(other) => is_new(news, other),
+        None => false,
+    }
+}
+
+/// Whether a tile is replaced.
+fn is_new(news: &[(TileNo, Shared<TileMesh>)], number: TileNo) -> bool
+    requires { AreRising news.now }
+    ensures { result ≡ Rattle.tile_links.specs.NewTiles.is_new news.now number }
+{
+    new_tile(news, number).is_some()
+}
+
+/// The new tile mesh with a number, if there is one.
+fn new_tile(news: &[(TileNo, Shared<TileMesh>)], number: TileNo) -> Option<&Shared<TileMesh>>
+    requires { AreRising news.now }
+    ensures { option_copied result ≡ Rattle.tile_links.specs.NewTiles.new_tile news.now number }
+{
+    match news.binary_search_by_key(&number, |new| new.0) {
+        Ok(place) => Some(&news[place].1),
+        Err(_) => None,
+    }
+}
