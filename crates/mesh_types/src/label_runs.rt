@@ -15,7 +15,7 @@ pub struct Run {
 }
 
 /// The maximal runs of places with one label, in order. A place may have no label.
-#[tactic(auto, unfolding(crate::specs::Runs::runs_of), using(crate::proofs::Labels::one_more_place))]
+#[tactic(auto, unfolding(crate::specs::Runs::runs_of))]
 pub fn runs(alloc: Global, labels: &[Option<u32>]) -> Result<Vec<Run>, AllocError>
     requires { length labels.now < 2 ^ 32 }
     ensures { IfOk result (λ runs. runs.items ≡ runs_of labels.now) }
