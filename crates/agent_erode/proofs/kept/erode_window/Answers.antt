@@ -1,8 +1,8 @@
-use Rattle.std.proofs.Common.{◌≡◌, ap, ◌∙◌, sym, true, false, ◌&&◌, List, subst, get_or}
+use Rattle.std.proofs.Common.{◌≡◌, ap, ◌∙◌, sym, true, false, ◌&&◌, List, length, subst, get_or, arith}
 use Rattle.std.specs.Global.{Vec}
 use Rattle.std.specs.List.{filter}
 use Rattle.std.proofs.lemmas.Bool.{and_from, and_left, and_right}
-use Rattle.std.proofs.lemmas.List.{take_all}
+use Rattle.std.proofs.lemmas.List.{take_all, length-map}
 use Rattle.nav_ground.specs.declared.cell.Cell.{Cell}
 use Rattle.nav_ground.specs.declared.cell.CellRef.{CellRef}
 use Rattle.nav_ground.specs.Cells.{IsCells}
@@ -20,6 +20,10 @@ pub marks-requires : goal.marks-requires
 marks-requires c =
     let are = c.as_slice-cells.ensures.value ∙ c.in_ok-near.ensures ∙ ap (cells_in (widened c.args.window c.args.radius)) c.as_slice.ensures in
     subst IsCells (sym are) (cells_in_rules (widened c.args.window c.args.radius) c.args.compact.now.cells c.requires.rules)
+
+pub bounds-marks-i : goal.bounds-marks-i
+bounds-marks-i c =
+    omega (arith, ap length (c.as_slice-marks.ensures.value ∙ c.in_ok-marks.ensures) ∙ length-map _ (is_kept c.as_slice-cells.result.now c.args.radius))
 
 pub loop-i-preserved : goal.loop-i-preserved
 loop-i-preserved c =
