@@ -1,15 +1,17 @@
 //! Links over a border by hand: two tiles side by side, of which one has two levels there.
 
-ghost use Rattle.std.specs.Prelude.{◌≡◌, ◌<◌, IfOk};
-ghost use Rattle.tile_links.specs.ByHand.{hand_polygon, hand_tile, left_tile, right_tile};
+ghost use Rattle.std.specs.Prelude.{◌≡◌, ◌<◌, [], ◌∷◌, IfOk};
+ghost use Rattle.mesh_types.specs.WholeMesh.{mesh_of};
+ghost use Rattle.tile_links.specs.ByHand.{hand_polygon, hand_setting, hand_tile, left_tile, right_tile};
 
-use crate::{across, rim_links, whole};
+use crate::{across, replace, rim_links, whole};
 use mesh_types::{
     Corners, LevelPair, Link, Links, Mesh, PolyRef, Polygon, Portal, RimEdge, TileMesh,
 };
 use nav_base::Point;
 use nav_ground::{AREAS, Agent, FreeLayer, MeshKind, Setting};
 use nav_list::Items;
+use nav_share::Shared;
 use std::alloc::{AllocError, Global};
 
 const SETTING: Setting = Setting {
@@ -158,11 +160,24 @@ fn both_ways(alloc: Global) -> Result<(Vec<Link>, Vec<Link>), AllocError> {
     Ok((there, back))
 }
 
-fn mesh(alloc: Global) -> Result<Mesh, AllocError> {
+fn mesh(alloc: Global) -> Result<Mesh, AllocError>
+    ensures { IfOk result (λ mesh. mesh ≡ mesh_of hand_setting (left_tile ∷ right_tile ∷ [])) }
+{
     let mut tiles = Vec::new(alloc);
     tiles.push(left(alloc)?)?;
     tiles.push(right(alloc)?)?;
     whole(alloc, &SETTING, tiles)
+}
+
+/// The mesh once a tile without polygons has come in the right tile's place.
+fn mesh_emptied(alloc: Global) -> Result<Mesh, AllocError> {
+    let mut mesh = mesh(alloc)?;
+    let empty = tile(alloc, 1, Vec::new(alloc), Vec::new(alloc))?;
+    let news = Vec::from_array(alloc, [(1, Shared::new(alloc, empty)?)])?;
+    match replace(&mut mesh, alloc, news) {
+        Ok(()) => Ok(mesh),
+        Err((_, refused)) => Err(refused),
+    }
 }
 
 /// The tile across a side of one of the two.
@@ -201,6 +216,12 @@ fn two_tiles_by_hand(rt: HostRuntime) -> Result<(), AllocError> {
     for (place, wanted) in [(0, &rightward), (1, &leftward)] {
         let links = mesh.cross.get(place).map(|links| links.get().as_slice());
         assert_eq!(rt; links, Some(wanted.as_slice()), "of tile {place}");
+    }
+    let mesh = mesh_emptied(alloc)?;
+    assert_eq!(rt; (mesh.tiles.len(), mesh.cross.len()), (2, 2));
+    for place in 0..2 {
+        let links = mesh.cross.get(place).map(|links| links.len());
+        assert_eq!(rt; links, Some(0), "of tile {place}");
     }
     Ok(())
 }
