@@ -10,15 +10,17 @@ use Rattle.nav_base.specs.declared.point.Point.{Point}
 use Rattle.nav_base.specs.Point.{IsCellCorner, orient_of, cross_of}
 use Rattle.nav_base.specs.Convex.{IsStrictlyConvex, LiesLeft, place_after, side_of_edge}
 use Rattle.nav_ground.specs.declared.cell.Window.{Window}
-use Rattle.nav_ground.specs.Tiling.{tile_window}
+use Rattle.nav_ground.specs.Tiling.{tile_count, tile_window}
 use Rattle.nav_ground.proofs.Literals.{IsCut-shown}
 use Rattle.mesh_types.specs.declared.polygon.Polygon.{Polygon}
 use Rattle.mesh_types.specs.declared.tile.TileMesh.{TileMesh}
 use Rattle.mesh_types.specs.Soundness.{IsPolygon, IsInSquare, IsRimOf, IsFit, AreTiles}
 use Rattle.tests_mesh.specs.HandSettings.{plain_setting, point}
-use Rattle.tests_mesh.specs.TwoTiles.{hand_polygon, left_tile, right_tile, left_entry, lower_entry, upper_entry}
+use Rattle.tests_mesh.specs.TwoTiles.{hand_polygon, hand_tile, left_tile, right_tile, left_entry, lower_entry, upper_entry}
 use Rattle.tests_mesh.proofs.HandSettings.{four, corner, in_square}
+use Rattle.mesh_types.specs.WholeMesh.{mesh_of}
 use Rattle.tile_links.specs.Across.{AreAcross}
+use Rattle.tile_links.specs.NewTiles.{New, AreNew, IsWhole}
 
 -- a test of every number below a number
 each_below : (p : ℕ → Bool) (a n : ℕ) → list_all p (range_with_len a n) ≡ true → (i : ℕ) → i < n → p (a + i) ≡ true
@@ -162,3 +164,26 @@ AreAcross-right = record { setting = plain_setting; across = refl; first_fit = l
 
 pub AreAcross-left : AreAcross right_tile left_tile 0
 AreAcross-left = record { setting = plain_setting; across = refl; first_fit = right_fits; second_fit = left_fits }
+
+empty_fits : IsFit plain_setting (hand_tile 1 [] [])
+empty_fits = record {
+  of_tile = refl;
+  free = IsCut-shown [] refl;
+  in_tile = record { there = omega arith; inside = All-nil _ };
+  polys = All-nil _;
+  square = All-nil _;
+  links = All-nil _;
+  rim = All-nil _;
+}
+
+pub AreNew-hand : AreNew plain_setting ((1, hand_tile 1 [] []) ∷ [])
+AreNew-hand = record {
+  rising = λ i j d before there. absurd (omega (arith, before, there));
+  there = All-cons (λ (new : New). new.0 < tile_count plain_setting) (1, hand_tile 1 [] []) [] (omega arith) (All-nil _);
+  own = All-cons (λ (new : New). new.1.tile ≡ new.0) (1, hand_tile 1 [] []) [] refl (All-nil _);
+  fit = All-cons (λ (new : New). IsFit plain_setting new.1) (1, hand_tile 1 [] []) [] empty_fits (All-nil _);
+}
+
+pub IsWhole-hand : IsWhole (mesh_of plain_setting (left_tile ∷ right_tile ∷ []))
+unfolding mesh_of
+IsWhole-hand = record { tiles = AreTiles-hand; is = refl }

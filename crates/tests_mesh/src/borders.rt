@@ -1,6 +1,8 @@
 //! Links over a border by hand: two tiles side by side, of which one has two levels there.
 
-ghost use Rattle.std.specs.Prelude.{◌≡◌, ◌<◌, IfOk};
+ghost use Rattle.std.specs.Prelude.{◌≡◌, ◌<◌, [], ◌∷◌, IfOk};
+ghost use Rattle.mesh_types.specs.WholeMesh.{mesh_of};
+ghost use Rattle.tests_mesh.specs.HandSettings.{plain_setting};
 ghost use Rattle.tests_mesh.specs.TwoTiles.{hand_polygon, hand_tile, left_tile, right_tile};
 
 use mesh_types::{
@@ -9,9 +11,10 @@ use mesh_types::{
 use nav_base::Point;
 use nav_ground::{AREAS, Agent, FreeLayer, MeshKind, Setting};
 use nav_list::Items;
+use nav_share::Shared;
 use std::alloc::{AllocError, Global};
 use std::process::Abort;
-use tile_links::{across, rim_links, whole};
+use tile_links::{across, replace, rim_links, whole};
 
 const SETTING: Setting = Setting {
     width: 8,
@@ -165,11 +168,24 @@ fn leftward(alloc: Global) -> Result<Vec<Link>, AllocError> {
     rim_links(alloc, &other, &one, 0)
 }
 
-fn mesh(alloc: Global) -> Result<Mesh, AllocError> {
+fn mesh(alloc: Global) -> Result<Mesh, AllocError>
+    ensures { IfOk result (λ mesh. mesh ≡ mesh_of plain_setting (left_tile ∷ right_tile ∷ [])) }
+{
     let mut tiles = Vec::new(alloc);
     tiles.push(left(alloc)?)?;
     tiles.push(right(alloc)?)?;
     whole(alloc, &SETTING, tiles)
+}
+
+/// The mesh once a tile without polygons has come in the right tile's place.
+fn mesh_emptied(alloc: Global) -> Result<Mesh, AllocError> {
+    let mut mesh = mesh(alloc)?;
+    let empty = tile(alloc, 1, Vec::new(alloc), Vec::new(alloc))?;
+    let news = Vec::from_array(alloc, [(1, Shared::new(alloc, empty)?)])?;
+    match replace(&mut mesh, alloc, news) {
+        Ok(()) => Ok(mesh),
+        Err((_, refused)) => Err(refused),
+    }
 }
 
 /// The tile across a side of one of the two.
@@ -224,5 +240,14 @@ fn a_mesh_has_the_links_of_each_tile(rt: HostRuntime) -> Result<(), AllocError> 
     assert_eq!(rt; mesh.cross.len(), 2);
     check_cross(&rt, &mesh, 0, &to_right);
     check_cross(&rt, &mesh, 1, &to_left);
+    Ok(())
+}
+
+#[test]
+fn a_tile_replaced_has_its_links_alone(rt: HostRuntime) -> Result<(), AllocError> {
+    let mesh = mesh_emptied(rt.alloc())?;
+    assert_eq!(rt; (mesh.tiles.len(), mesh.cross.len()), (2, 2));
+    check_cross(&rt, &mesh, 0, &[]);
+    check_cross(&rt, &mesh, 1, &[]);
     Ok(())
 }

@@ -7,7 +7,6 @@ pub mod SharedRuns
 pub mod BorderPortals
 pub mod SoundMeshes
 pub mod ReplacedTiles
-pub mod HandTiles
 pub mod PlaceOrder
 pub mod FoundLinks
 pub mod RimTables

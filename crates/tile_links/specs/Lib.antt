@@ -2,4 +2,3 @@ pub mod Across
 pub mod RimPlaces
 pub mod Loose
 pub mod NewTiles
-pub mod ByHand
