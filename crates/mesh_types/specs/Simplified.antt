@@ -13,6 +13,7 @@ use Rattle.mesh_types.specs.declared.outline.Simplified.{Simplified}
 use Rattle.mesh_types.specs.declared.outline.Simplified.TheVariants.{Flat, Outline}
 use Rattle.mesh_types.specs.LinkOrder.{point_cmp}
 use Rattle.mesh_types.specs.Rings.{beginnings}
+use Rattle.mesh_types.specs.Ears.{CanBeCut}
 
 -- a corner is before another: by x, then by z
 abbrev pub is_before : Point → Point → Bool
@@ -130,9 +131,9 @@ simplified_of error edges =
     if nat_lt (length kept) 3 then Flat
     else Outline (record { corners = beginnings kept; codes = codes_of kept })
 
--- an outline has at least three corners, which are corners of cells, and a code for each
+-- an outline can be cut: it has at least three corners and not too many; they are corners of cells, and each has a code
 pub record IsOutline (outline : outlines.Outline) : Type 0 where
-  pub several : 3 ≤ length outline.corners
+  pub cut : CanBeCut outline.corners
   pub coded : length outline.codes ≡ length outline.corners
   pub inside : All IsCellCorner outline.corners
 
