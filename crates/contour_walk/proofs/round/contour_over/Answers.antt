@@ -2,11 +2,12 @@ use Rattle.std.proofs.Common.{◌≡◌, ℕ, ◌<◌, ◌++◌, List, length, g
 use Rattle.std.specs.Prelude.{All, take, drop}
 use Rattle.mesh_types.specs.declared.strip.Strip.{Strip}
 use Rattle.mesh_types.specs.declared.region.UnitEdge.{UnitEdge}
-use Rattle.mesh_types.specs.Contours.{strips_in, IsNoLater}
+use Rattle.mesh_types.specs.Contours.{strips_in}
 use Rattle.contour_walk.specs.Tables.{IsFit}
 use Rattle.contour_walk.specs.Walk.{edge_at, round}
 use Rattle.contour_walk.proofs.Contoured.{strips_read, region_fits, walk_contour, walk_ring}
 use Rattle.contour_walk.proofs.Loops.{written_back}
+use Rattle.contour_walk.proofs.Earliest.{IsNoLater}
 use Rattle.contour_walk.proofs.round.contour_over.Goals as goal
 
 pub walk-requires-clause-fit : goal.walk-requires-clause-fit
