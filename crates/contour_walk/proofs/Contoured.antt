@@ -29,7 +29,7 @@ use Rattle.contour_walk.proofs.Turned.{turned_rim, turned_closed, turned_ring}
 use Rattle.contour_walk.proofs.Earliest.{IsNoLater}
 
 -- a term of a sum is no more than the sum
-term_most : {X : Type 0} (f : X → ℕ) (xs : List X) (k : ℕ) (d : X) → k < length xs → f (get_or xs k d) ≤ sum_by f xs
+pub term_most : {X : Type 0} (f : X → ℕ) (xs : List X) (k : ℕ) (d : X) → k < length xs → f (get_or xs k d) ≤ sum_by f xs
 term_most f [] k d there = absurd (omega (arith, there))
 term_most f (x ∷ xs) zero d there = omega (arith, sum_by-cons f x xs)
 term_most f (x ∷ xs) (suc k) d there = omega (arith, sum_by-cons f x xs, term_most f xs k d (omega (arith, there)))

@@ -1,7 +1,6 @@
 //! The index of the cell at a place.
 
 ghost use Rattle.std.specs.Prelude.{◌≡◌, ◌<◌, ◌≤◌, ℕ, true, false, length, slice_index_or};
-ghost use Rattle.std.specs.List.{position_or_len};
 ghost use Rattle.nav_ground.specs.declared.cell.Cell.{Cell};
 ghost use Rattle.nav_ground.specs.Cells.{IsCells};
 ghost use Rattle.mesh_types.specs.Regions.{IsStrip};

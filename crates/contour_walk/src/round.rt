@@ -1,6 +1,6 @@
 //! The contour of a region.
 
-ghost use Rattle.std.specs.Prelude.{◌≡◌, ◌<◌, ◌≤◌, IfOk, All, length, slice_index_or, ℕ, true, false, take, drop, ◌++◌};
+ghost use Rattle.std.specs.Prelude.{◌≡◌, ◌*◌, ◌<◌, ◌≤◌, IfOk, All, length, slice_index_or, ℕ, false, take, drop, ◌++◌};
 ghost use Rattle.nav_ground.specs.Limits.{IsSetting};
 ghost use Rattle.nav_ground.specs.Cells.{IsCells};
 ghost use Rattle.nav_ground.specs.Tiling.{tile_count, tile_window};
@@ -99,6 +99,7 @@ pub fn contour_over(
     requires there { id < length regions.now.regions }
     ensures contour { IfOk result (IsContour table.now.window cells.now regions.now id) }
     ensures ring { IfOk result IsRing }
+    ensures few { IfOk result (λ edges. length edges ≤ 4 * length cells.now) }
 {
     let strips = regions.regions.as_slice()[id as usize].strips.as_slice();
     let mut edges = walk(alloc, cells, regions, table, strips)?;
@@ -131,6 +132,7 @@ pub fn contour(
     requires there { id < length regions.now.regions }
     ensures contour { IfOk result (IsContour (tile_window setting.now free.now.tile) free.now.cells regions.now id) }
     ensures ring { IfOk result IsRing }
+    ensures few { IfOk result (λ edges. length edges ≤ 4 * length free.now.cells) }
 {
     let table = region_table(alloc, free, setting, regions)?;
     contour_over(alloc, free.cells.as_slice(), regions, &table, id)

@@ -1,7 +1,7 @@
 -- A ring has few edges: no two begin at one corner of a cell.
-use Rattle.std.proofs.Common.{◌≡◌, ℕ, ◌+◌, ◌*◌, ◌<◌, ◌≤◌, ℤ, ◌≤ℤ◌, pos, Bool, true, List, length, get_or, map, arith, eqb, ap, ◌∙◌, sym, subst}
-use Rattle.std.specs.Prelude.{All, Contains, unsigned_abs, ◌≢◌}
-use Rattle.std.specs.List.{AllPairs, list_any, IsDistinct}
+use Rattle.std.proofs.Common.{◌≡◌, ℕ, ◌+◌, ◌*◌, ◌<◌, ◌≤◌, ℤ, ◌≤ℤ◌, pos, List, length, get_or, map, arith, eqb, ap, ◌∙◌}
+use Rattle.std.specs.Prelude.{All, unsigned_abs, ◌≢◌}
+use Rattle.std.specs.List.{AllPairs, IsDistinct}
 use Rattle.std.proofs.lemmas.Bool.{eqb-true}
 use Rattle.std.proofs.lemmas.Bool.Decides.{Decides-eqb}
 use Rattle.std.proofs.lemmas.Int.{ints}
@@ -14,7 +14,7 @@ use Rattle.nav_base.specs.declared.point.Point.{Point}
 use Rattle.nav_base.specs.Point.{IsCellCorner}
 use Rattle.nav_ground.proofs.Kept.{AllPairs-map}
 use Rattle.mesh_types.specs.declared.region.UnitEdge.{UnitEdge}
-use Rattle.mesh_types.specs.Rings.{AreApart, beginnings, IsRing}
+use Rattle.mesh_types.specs.Rings.{beginnings, IsRing}
 
 -- the corners of cells, numbered row by row
 abbrev number : Point → ℕ

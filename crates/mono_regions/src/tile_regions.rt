@@ -1,6 +1,6 @@
 //! The regions of a tile.
 
-ghost use Rattle.std.specs.Prelude.{◌≡◌, ◌<◌, IfOk, All, length, map};
+ghost use Rattle.std.specs.Prelude.{◌≡◌, ◌<◌, IfOk, length, map};
 ghost use Rattle.nav_ground.specs.Cells.{IsCut};
 ghost use Rattle.mesh_types.specs.StripMeshes.{strip_runs};
 ghost use Rattle.mesh_types.specs.Regions.{numbers, chain_from, region_of, regions_of, AreRegionsOf};

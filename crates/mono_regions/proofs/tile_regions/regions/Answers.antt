@@ -1,11 +1,9 @@
 use Rattle.std.proofs.Common.{◌≡◌, ◌<◌, ℕ, List, length, ap, ◌∙◌, sym, subst, arith}
-use Rattle.std.specs.Prelude.{All}
 use Rattle.std.specs.Global.{Vec}
 use Rattle.std.proofs.lemmas.List.FromFn.{length-map-range_with_len}
 use Rattle.nav_ground.specs.declared.cell.Cell.{Cell}
 use Rattle.nav_ground.specs.Cells.{IsCut}
 use Rattle.mesh_types.specs.declared.region.Region.{Region}
-use Rattle.mesh_types.specs.declared.region.Regions.{Regions}
 use Rattle.mesh_types.specs.StripMeshes.{strip_runs}
 use Rattle.mesh_types.specs.Regions.{begins_region, AreRegionsOf}
 use Rattle.mono_regions.specs.Joining.{touched_from, joined_from}
