@@ -115,11 +115,11 @@ outline_is error edges simplified ring is = subst (λ (s : Simplified). IfOutlin
       cut = record {
         enough = omega (arith, ltb-false (length (kept_edges error edges)) 3 many, length-map (kept_edges error edges) (λ (edge : UnitEdge). edge.from));
         few = omega (
-            arith,
-            length-map (kept_edges error edges) (λ (edge : UnitEdge). edge.from),
-            length-filter (begins_among (kept_corners error edges)) edges,
-            count_by-le-length (begins_among (kept_corners error edges)) edges,
-            few_edges edges ring,
+          arith,
+          length-map (kept_edges error edges) (λ (edge : UnitEdge). edge.from),
+          length-filter (begins_among (kept_corners error edges)) edges,
+          count_by-le-length (begins_among (kept_corners error edges)) edges,
+          few_edges edges ring,
         );
         points = λ k d there. HasCoordinates-corner (get_or corners k d) (inside k d there);
       };
