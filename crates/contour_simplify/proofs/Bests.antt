@@ -6,7 +6,7 @@ use Rattle.std.proofs.lemmas.List.{get_or_default}
 use Rattle.std.proofs.lemmas.List.Folds.{list_any_at, list_any_none}
 use Rattle.std.proofs.lemmas.List.MinMax.{IsFirstBest-none, IsFirstBest-keeps, IsFirstBest-takes}
 use Rattle.std.proofs.lemmas.List.Sums.{prefix_len_is}
-use Rattle.mesh_types.specs.Simplified.{first_best_place}
+use Rattle.mesh_types.specs.Choices.{first_best_place}
 
 module _ {X : Type 0} (beats : X → X → Bool) where
   -- the place that a loop over all of them ends with is the first that none beats

@@ -7,7 +7,8 @@ use Rattle.std.proofs.lemmas.List.Elements.{All-push, All-take, All-drop}
 use Rattle.std.proofs.lemmas.List.Sums.{sum_by-append}
 use Rattle.nav_base.specs.declared.point.Point.{Point}
 use Rattle.nav_base.specs.Point.{IsCellCorner}
-use Rattle.mesh_types.specs.Simplified.{first_best_place, deviates_more, deviates_over, kept_walking}
+use Rattle.mesh_types.specs.Choices.{first_best_place}
+use Rattle.mesh_types.specs.Simplified.{deviates_more, deviates_over, kept_walking}
 use Rattle.contour_simplify.specs.declared.run.Half.{Half}
 use Rattle.contour_simplify.specs.Halves.{IsHalf, IsPart, IsStraight, IsSplit}
 use Rattle.contour_simplify.proofs.Bests.{best_there}

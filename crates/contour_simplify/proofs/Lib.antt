@@ -1,6 +1,5 @@
 pub mod Bests
 pub mod Deviations
-pub mod CornerOrder
 pub mod Mirrored
 pub mod Halving
 pub mod Edges

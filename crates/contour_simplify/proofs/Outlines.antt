@@ -9,9 +9,11 @@ use Rattle.std.proofs.lemmas.List.{get_or-map, take_more, take_all, length-drop,
 use Rattle.std.proofs.lemmas.List.Concat.{flat_map-append}
 use Rattle.std.proofs.lemmas.List.Elements.{All-append, All-map, All-filter, filter_agree}
 use Rattle.std.proofs.lemmas.List.Sorted.{list_any-IsPermutation}
+use Rattle.std.proofs.lemmas.List.Sums.{length-filter, count_by-le-length}
 use Rattle.std.proofs.lemmas.Slice.Zip.{length-zip, get_or-zip}
 use Rattle.nav_base.specs.declared.point.Point.{Point}
 use Rattle.nav_base.specs.Point.{IsCellCorner}
+use Rattle.nav_base.proofs.Sizes.{HasCoordinates-corner}
 use Rattle.mesh_types.specs.declared.region.UnitEdge.{UnitEdge}
 use Rattle.mesh_types.specs.declared.region.Code.{Code}
 use Rattle.mesh_types.specs.declared.outline.Simplified.{Simplified}
@@ -20,6 +22,7 @@ use Rattle.mesh_types.specs.declared.outline.Simplified.TheVariants.{Flat, Outli
 use Rattle.mesh_types.specs.Rings.{IsRing, beginnings}
 use Rattle.mesh_types.specs.LinkOrder.{point_cmp}
 use Rattle.mesh_types.specs.Simplified.{runs_between, twice_round, kept_corners, kept_edges, begins_among, codes_of, simplified_of, IsOutline, IfOutline}
+use Rattle.mesh_types.proofs.RingLaws.{few_edges}
 
 runs_count : (stops : List ℕ) → length (runs_between stops) ≡ length stops - 1
 runs_count stops = omega (arith, length-zip stops (drop 1 stops), length-drop 1 stops)
@@ -100,12 +103,26 @@ outline_is error edges simplified ring is = subst (λ (s : Simplified). IfOutlin
         subst IsCellCorner (get_or-map (λ (edge : UnitEdge). edge.from) edges k d (get_or edges k d).from there)
         (ring.inside k (get_or edges k d).from (omega (arith, there, length-map edges (λ (edge : UnitEdge). edge.from))))
 
+    inside : All IsCellCorner corners
+    inside =
+        All-map IsCellCorner (λ (edge : UnitEdge). edge.from) (kept_edges error edges)
+        (All-filter (begins_among (kept_corners error edges)) (λ (edge : UnitEdge). IsCellCorner edge.from) edges edges_inside)
+
     by_case : (test : Bool) → nat_lt (length (kept_edges error edges)) 3 ≡ test
         → IfOutline (if test then Flat else Outline (record { corners = corners; codes = codes_of (kept_edges error edges) })) IsOutline
     by_case true few = tt
     by_case false many = record {
-      several = omega (arith, ltb-false (length (kept_edges error edges)) 3 many, length-map (kept_edges error edges) (λ (edge : UnitEdge). edge.from));
+      cut = record {
+        enough = omega (arith, ltb-false (length (kept_edges error edges)) 3 many, length-map (kept_edges error edges) (λ (edge : UnitEdge). edge.from));
+        few = omega (
+          arith,
+          length-map (kept_edges error edges) (λ (edge : UnitEdge). edge.from),
+          length-filter (begins_among (kept_corners error edges)) edges,
+          count_by-le-length (begins_among (kept_corners error edges)) edges,
+          few_edges edges ring,
+        );
+        points = λ k d there. HasCoordinates-corner (get_or corners k d) (inside k d there);
+      };
       coded = omega (arith, length-map (kept_edges error edges) (λ (edge : UnitEdge). edge.from), length-map (kept_edges error edges) (λ (edge : UnitEdge). edge.code));
-      inside = All-map IsCellCorner (λ (edge : UnitEdge). edge.from) (kept_edges error edges)
-          (All-filter (begins_among (kept_corners error edges)) (λ (edge : UnitEdge). IsCellCorner edge.from) edges edges_inside);
+      inside = inside;
     }

@@ -14,10 +14,12 @@ use Rattle.std.proofs.lemmas.List.Sums.{prefix_len_stops}
 use Rattle.nav_base.specs.declared.point.Point.{Point}
 use Rattle.mesh_types.specs.declared.region.UnitEdge.{UnitEdge}
 use Rattle.mesh_types.specs.Rings.{IsRing, beginnings}
-use Rattle.mesh_types.specs.Simplified.{is_before, first_best_place, does_change, changes, extremes, kept_places, stops, twice_round, origin}
+use Rattle.mesh_types.specs.LinkOrder.{is_point_before}
+use Rattle.mesh_types.specs.Choices.{first_best_place}
+use Rattle.mesh_types.specs.Simplified.{does_change, changes, extremes, kept_places, stops, twice_round, origin}
 use Rattle.contour_simplify.specs.Rounds.{AreStops}
 use Rattle.contour_simplify.proofs.Bests.{best_there}
-use Rattle.contour_simplify.proofs.CornerOrder.{before_order, before_either}
+use Rattle.mesh_types.proofs.LinkOrderLaws.{points_order, points_tie}
 
 -- places of a contour in rising order
 pub record AreKept (count : ℕ) (places : List ℕ) : Type 0 where
@@ -53,16 +55,16 @@ unbeaten beats order xs d k some there = by_case (beats (get_or xs k d) (get_or 
     by_case true is = absurd (both_ways _ (prefix_len_stops (λ x. list_any (λ y. beats y x) xs) xs d (best_there beats order xs d some))
         (list_any_at (λ y. beats y (get_or xs (first_best_place beats xs) d)) xs k d there is))
 
-pub greatest_order : IsStrictWeakOrder (λ p q. is_before q p)
-greatest_order = IsStrictWeakOrder-flip is_before before_order
+pub greatest_order : IsStrictWeakOrder (λ p q. is_point_before q p)
+greatest_order = IsStrictWeakOrder-flip is_point_before points_order
 
 -- a corner that is both the least and the greatest is the only one
-alone : (corners : List Point) (k : ℕ) → 0 < length corners → k < length corners → first_best_place is_before corners ≡ first_best_place (λ p q. is_before q p) corners
-    → get_or corners k origin ≡ get_or corners (first_best_place is_before corners) origin
+alone : (corners : List Point) (k : ℕ) → 0 < length corners → k < length corners → first_best_place is_point_before corners ≡ first_best_place (λ p q. is_point_before q p) corners
+    → get_or corners k origin ≡ get_or corners (first_best_place is_point_before corners) origin
 alone corners k some there same =
-    before_either (get_or corners k origin) (get_or corners (first_best_place is_before corners) origin)
-    (unbeaten is_before before_order corners origin k some there)
-    (ap (λ (best : ℕ). is_before (get_or corners best origin) (get_or corners k origin)) same ∙ unbeaten (λ p q. is_before q p) greatest_order corners origin k some there)
+    points_tie (get_or corners k origin) (get_or corners (first_best_place is_point_before corners) origin)
+    (unbeaten is_point_before points_order corners origin k some there)
+    (ap (λ (best : ℕ). is_point_before (get_or corners best origin) (get_or corners k origin)) same ∙ unbeaten (λ p q. is_point_before q p) greatest_order corners origin k some there)
 
 -- a ring has more than one edge
 several : (edges : List UnitEdge) → IsRing edges → 0 < length edges → 1 < length edges
@@ -71,7 +73,7 @@ several (edge ∷ []) ring some = absurd (ring.moving 0 edge (omega arith) (sym 
 several (edge ∷ other ∷ edges) ring some = omega arith
 
 differ : (edges : List UnitEdge) → IsRing edges → 0 < length edges
-    → first_best_place is_before (beginnings edges) ≡ first_best_place (λ p q. is_before q p) (beginnings edges) → ⊥
+    → first_best_place is_point_before (beginnings edges) ≡ first_best_place (λ p q. is_point_before q p) (beginnings edges) → ⊥
 differ edges ring some same =
     let corners : List Point = beginnings edges in
     let size : length corners ≡ length edges = length-map edges (λ (edge : UnitEdge). edge.from) in
@@ -95,9 +97,9 @@ pair_kept count a b first second apart = record {
 extremes_kept : (edges : List UnitEdge) → IsRing edges → 0 < length edges → AreKept (length edges) (extremes (beginnings edges))
 extremes_kept edges ring some =
     let size : length (beginnings edges) ≡ length edges = length-map edges (λ (edge : UnitEdge). edge.from) in
-    pair_kept (length edges) (first_best_place is_before (beginnings edges)) (first_best_place (λ p q. is_before q p) (beginnings edges))
-    (omega (arith, size, best_there is_before before_order (beginnings edges) origin (omega (arith, size, some))))
-    (omega (arith, size, best_there (λ p q. is_before q p) greatest_order (beginnings edges) origin (omega (arith, size, some))))
+    pair_kept (length edges) (first_best_place is_point_before (beginnings edges)) (first_best_place (λ p q. is_point_before q p) (beginnings edges))
+    (omega (arith, size, best_there is_point_before points_order (beginnings edges) origin (omega (arith, size, some))))
+    (omega (arith, size, best_there (λ p q. is_point_before q p) greatest_order (beginnings edges) origin (omega (arith, size, some))))
     (differ edges ring some)
 
 pub places_kept : (edges : List UnitEdge) → IsRing edges → 0 < length edges → AreKept (length edges) (kept_places edges)

@@ -3,7 +3,8 @@ use Rattle.std.specs.Prelude.{ℕ, ◌≡◌, ◌<◌, true, false, List, length
 use Rattle.std.specs.List.{list_any}
 use Rattle.nav_base.specs.declared.point.Point.{Point}
 use Rattle.nav_base.specs.Point.{IsCellCorner}
-use Rattle.mesh_types.specs.Simplified.{first_best_place, deviates_more, deviates_over}
+use Rattle.mesh_types.specs.Choices.{first_best_place}
+use Rattle.mesh_types.specs.Simplified.{deviates_more, deviates_over}
 use Rattle.contour_simplify.specs.declared.run.Half.{Half}
 
 -- all corners of the half are corners of cells

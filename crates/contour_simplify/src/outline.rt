@@ -3,7 +3,8 @@
 ghost use Rattle.std.specs.Prelude.{◌≡◌, ◌↔◌, ◌<◌, IfOk, length, filter, nat_lt, if◌then◌else◌};
 ghost use Rattle.std.specs.List.Sorted.{IsSortedBy};
 ghost use Rattle.mesh_types.specs.Rings.{IsRing, beginnings};
-ghost use Rattle.mesh_types.specs.Simplified.{simplified_of, IsOutline, IfOutline, kept_edges, begins_among, codes_of, is_among, is_before};
+ghost use Rattle.mesh_types.specs.LinkOrder.{is_point_before};
+ghost use Rattle.mesh_types.specs.Simplified.{simplified_of, IsOutline, IfOutline, kept_edges, begins_among, codes_of, is_among};
 
 use crate::kept::{kept_corners, twice_round};
 use crate::run::corner_order;
@@ -37,7 +38,7 @@ pub fn simplify(alloc: Global, edges: &[UnitEdge], error: u32) -> Result<Simplif
 
 /// The edges that begin at corners of a sorted list, as an outline.
 fn outline(alloc: Global, edges: &[UnitEdge], kept: &[Point]) -> Result<Outline, AllocError>
-    requires { IsSortedBy is_before kept.now }
+    requires { IsSortedBy is_point_before kept.now }
     ensures corners { IfOk result (λ outline. outline.corners ≡ beginnings (filter (begins_among kept.now) edges.now)) }
     ensures codes { IfOk result (λ outline. outline.codes ≡ codes_of (filter (begins_among kept.now) edges.now)) }
 {
@@ -57,7 +58,7 @@ fn outline(alloc: Global, edges: &[UnitEdge], kept: &[Point]) -> Result<Outline,
 
 /// Whether a corner is one of a sorted list.
 fn is_among(corners: &[Point], corner: Point) -> bool
-    requires { IsSortedBy is_before corners.now }
+    requires { IsSortedBy is_point_before corners.now }
     ensures { result ≡ is_among corners.now corner }
 {
     corners

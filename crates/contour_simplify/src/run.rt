@@ -4,9 +4,9 @@ ghost use Rattle.std.specs.Prelude.{◌≡◌, ◌+◌, ◌<◌, IfOk, All, leng
 ghost use Rattle.std.specs.List.{IsFirstBest};
 ghost use Rattle.nav_base.specs.declared.point.Point.{Point};
 ghost use Rattle.nav_base.specs.Point.{IsCellCorner};
-ghost use Rattle.mesh_types.specs.LinkOrder.{point_cmp};
+ghost use Rattle.mesh_types.specs.LinkOrder.{point_cmp, is_point_before};
 ghost use Rattle.mesh_types.specs.Rings.{AreApart};
-ghost use Rattle.mesh_types.specs.Simplified.{is_before, deviates_more, kept_walking, kept_inside};
+ghost use Rattle.mesh_types.specs.Simplified.{deviates_more, kept_walking, kept_inside};
 ghost use Rattle.contour_simplify.specs.Halves.{IsHalf, IsPart, IsStraight, IsSplit};
 
 use nav_base::{Point, dev, exceeds, less};
@@ -139,7 +139,7 @@ fn farthest(half: Half<'_>) -> usize
 
 /// Whether a corner is before another: by x, then by z.
 pub(crate) fn is_before(a: Point, b: Point) -> bool
-    ensures { result ≡ is_before a b }
+    ensures { result ≡ is_point_before a b }
 {
     corner_order(&a, &b).is_lt()
 }

@@ -1,8 +1,8 @@
 //! The places of a contour that are kept at first.
 
 ghost use Rattle.std.specs.Prelude.{◌≡◌, ◌+◌, ◌^◌, ◌<◌, ◌↔◌, IfOk, IsTrue, length, [], ◌∷◌};
-ghost use Rattle.mesh_types.specs.Rings.{IsRing, beginnings};
-ghost use Rattle.mesh_types.specs.Simplified.{is_same, does_change, place_before, changes, extremes, kept_places, stops};
+ghost use Rattle.mesh_types.specs.Rings.{IsRing, beginnings, place_before};
+ghost use Rattle.mesh_types.specs.Simplified.{is_same, does_change, changes, extremes, kept_places, stops};
 
 use crate::run::is_before;
 use mesh_types::{Code, UnitEdge};

@@ -15,9 +15,9 @@ use Rattle.mesh_types.specs.declared.strip.Strip.{Strip}
 use Rattle.mesh_types.specs.declared.region.Region.{Region}
 use Rattle.mesh_types.specs.declared.region.Regions.{Regions}
 use Rattle.mesh_types.specs.declared.region.UnitEdge.{UnitEdge}
-use Rattle.mesh_types.specs.Regions.{is_holding, times_held, IsStrip, IsStack, IsIn, IsWoven}
+use Rattle.mesh_types.specs.Regions.{is_holding, times_held, IsStrip, IsStack, IsIn, IsWoven, AreRegionsOf}
 use Rattle.mesh_types.specs.Rings.{beginnings, endings, IsRing}
-use Rattle.mesh_types.specs.Contours.{strips_in, AreRegionsOf, rim_of, IsNoLater, IsContour}
+use Rattle.mesh_types.specs.Contours.{strips_in, rim_of, IsContour}
 use Rattle.mesh_types.proofs.Totals.{sum_by-exchanged, sum_by-one, sum_by-no_more}
 use Rattle.contour_walk.specs.Tables.{IsFit}
 use Rattle.contour_walk.specs.Walk.{edge_at, bottoms, right_side, top_side, left_side, round, AreUpon}
@@ -26,9 +26,10 @@ use Rattle.contour_walk.proofs.Permuted.{some_counted}
 use Rattle.contour_walk.proofs.RimSums.{rows_of}
 use Rattle.contour_walk.proofs.Fabric.{holds_own, fabric}
 use Rattle.contour_walk.proofs.Turned.{turned_rim, turned_closed, turned_ring}
+use Rattle.contour_walk.proofs.Earliest.{IsNoLater}
 
 -- a term of a sum is no more than the sum
-term_most : {X : Type 0} (f : X → ℕ) (xs : List X) (k : ℕ) (d : X) → k < length xs → f (get_or xs k d) ≤ sum_by f xs
+pub term_most : {X : Type 0} (f : X → ℕ) (xs : List X) (k : ℕ) (d : X) → k < length xs → f (get_or xs k d) ≤ sum_by f xs
 term_most f [] k d there = absurd (omega (arith, there))
 term_most f (x ∷ xs) zero d there = omega (arith, sum_by-cons f x xs)
 term_most f (x ∷ xs) (suc k) d there = omega (arith, sum_by-cons f x xs, term_most f xs k d (omega (arith, there)))

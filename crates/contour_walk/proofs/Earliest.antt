@@ -1,27 +1,27 @@
 -- The order of corners by x and then by z.
-use Rattle.std.proofs.Common.{◌≡◌, ℕ, ◌+◌, ◌<◌, ℤ, ◌≤ℤ◌, ◌<ℤ◌, ◌⊎◌, List, length, get_or, ◌∙◌, sym, refl, subst, arith, inl, inr}
+use Rattle.std.proofs.Common.{◌≡◌, true, ℕ, ◌+◌, ◌<◌, ap, false, List, length, get_or, sym, subst, arith, inl, inr}
+use Rattle.std.specs.Ordering.{is_lt}
 use Rattle.std.proofs.lemmas.Bool.{cases_lt}
+use Rattle.std.proofs.lemmas.Cmp.{tied_itself}
 use Rattle.std.proofs.lemmas.List.{get_or_default}
-use Rattle.std.proofs.lemmas.Int.{ints}
 use Rattle.nav_base.specs.declared.point.Point.{Point}
 use Rattle.mesh_types.specs.declared.region.UnitEdge.{UnitEdge}
-use Rattle.mesh_types.specs.Contours.{IsNoLater}
+use Rattle.mesh_types.specs.LinkOrder.{is_point_before}
+use Rattle.mesh_types.proofs.LinkOrderLaws.{point_total, points_order}
 
-pub not_later_itself : (a : Point) → IsNoLater a a
-not_later_itself a = inr (refl, omega (arith, ints))
+-- a corner does not come after another
+abbrev pub IsNoLater : Point → Point → Type 0
+IsNoLater a b = is_point_before b a ≡ false
 
-chain : (ax az bx bz cx cz : ℤ) → (ax <ℤ bx) ⊎ ((ax ≡ bx) × (az ≤ℤ bz)) → (bx <ℤ cx) ⊎ ((bx ≡ cx) × (bz ≤ℤ cz)) → (ax <ℤ cx) ⊎ ((ax ≡ cx) × (az ≤ℤ cz))
-chain ax az bx bz cx cz (inl less) (inl less') = inl (omega (arith, ints))
-chain ax az bx bz cx cz (inl less) (inr same) = inl (omega (arith, ints, same.0))
-chain ax az bx bz cx cz (inr same) (inl less) = inl (omega (arith, ints, same.0))
-chain ax az bx bz cx cz (inr same) (inr same') = inr (same.0 ∙ same'.0, omega (arith, ints, same.1, same'.1))
+not_later_itself : (a : Point) → IsNoLater a a
+not_later_itself a = ap is_lt (tied_itself point_total a)
 
-pub later_chain : (a b c : Point) → IsNoLater a b → IsNoLater b c → IsNoLater a c
-later_chain a b c ab bc = chain a.x a.z b.x b.z c.x c.z ab bc
+later_chain : (a b c : Point) → IsNoLater a b → IsNoLater b c → IsNoLater a c
+later_chain a b c ab bc = points_order.chain c b a bc ab
 
 -- one edge more is looked at: where it begins before the earliest so far it is the earliest, else that stays so
 pub earlier_found : (edges : List UnitEdge) (least least' k : ℕ) (e : UnitEdge) → least' ≡ k → k < length edges → (0 < length edges → least < length edges)
-    → IsNoLater (get_or edges k e).from (get_or edges least e).from
+    → is_point_before (get_or edges k e).from (get_or edges least e).from ≡ true
     → ((j : ℕ) (d : UnitEdge) → j < k → IsNoLater (get_or edges least d).from (get_or edges j d).from)
     → (0 < length edges → least' < length edges) × ((j : ℕ) (d : UnitEdge) → j < k + 1 → IsNoLater (get_or edges least' d).from (get_or edges j d).from)
 earlier_found edges least least' k e is there there' before all = (
@@ -29,7 +29,7 @@ earlier_found edges least least' k e is there there' before all = (
   λ j d less.
       let P : ℕ → Type 0 = λ n. IsNoLater (get_or edges n d).from (get_or edges j d).from in
       subst P (sym is) (elim (cases_lt j k) [
-        | inl earlier ↦ later_chain _ _ _ (at_default d) (all j d earlier)
+        | inl earlier ↦ later_chain (get_or edges k d).from (get_or edges least d).from (get_or edges j d).from (at_default d) (all j d earlier)
         | inr last ↦
             let same : k ≡ j = omega (arith, last, less) in
             let Q : ℕ → Type 0 = λ n. IsNoLater (get_or edges k d).from (get_or edges n d).from in
@@ -43,7 +43,7 @@ earlier_found edges least least' k e is there there' before all = (
         let b : get_or edges least e ≡ get_or edges least d = get_or_default edges least e d (there' (omega (arith, there))) in
         let P : UnitEdge → Type 0 = λ x. IsNoLater x.from (get_or edges least d).from in
         let Q : UnitEdge → Type 0 = λ x. IsNoLater (get_or edges k e).from x.from in
-        subst P a (subst Q b before)
+        subst P a (subst Q b (points_order.one_way (get_or edges k e).from (get_or edges least e).from before))
 
 pub earliest_stays : (edges : List UnitEdge) (least least' k : ℕ) (e : UnitEdge) → least' ≡ least → k < length edges → (0 < length edges → least < length edges)
     → IsNoLater (get_or edges least e).from (get_or edges k e).from

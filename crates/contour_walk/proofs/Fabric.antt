@@ -18,8 +18,8 @@ use Rattle.mesh_types.specs.declared.strip.Strip.{Strip}
 use Rattle.mesh_types.specs.declared.region.Region.{Region}
 use Rattle.mesh_types.specs.declared.region.Regions.{Regions}
 use Rattle.mesh_types.specs.StripMeshes.{some_cell}
-use Rattle.mesh_types.specs.Regions.{is_holding, times_held, IsStrip, IsStack, IsIn, IsWoven, place_in}
-use Rattle.mesh_types.specs.Contours.{is_at, cell_in, region_at, region_beyond, strips_in, AreRegionsOf}
+use Rattle.mesh_types.specs.Regions.{is_holding, times_held, IsStrip, IsStack, IsIn, IsWoven, place_in, AreRegionsOf}
+use Rattle.mesh_types.specs.Contours.{is_at, cell_in, region_at, region_beyond, strips_in}
 use Rattle.mesh_types.proofs.Totals.{sum_by-no_more}
 use Rattle.contour_walk.specs.Tables.{is_in_region}
 use Rattle.contour_walk.proofs.Permuted.{counted, some_counted, once_apart}

@@ -13,3 +13,4 @@ pub mod Loops
 pub mod Earliest
 pub mod Fabric
 pub mod Contoured
+pub mod Fewness

@@ -22,14 +22,14 @@ apart_numbers : (ax az al x z l : ℕ) → (nat_lt az z || (az == z && (nat_lt a
 apart_numbers ax az al x z l h = grind (arith, nat_tests)
 
 -- what comes before a cell that is not past a place comes before that place
-before_before : (a b at : CellRef) → IsCellBefore a b → (is_before at b ≡ true) ⊎ (is_same at b ≡ true) → is_before at a ≡ true
+before_before : (a b at : CellRef) → IsCellBefore a b → (is_before b at ≡ true) ⊎ (is_same at b ≡ true) → is_before a at ≡ true
 before_before a b at order here = before_numbers a.x a.z a.level b.x b.z b.level at.x at.z at.level order here
 
-before_apart : (at a : CellRef) → is_before at a ≡ true → is_same at a ≡ false
+before_apart : (at a : CellRef) → is_before a at ≡ true → is_same at a ≡ false
 before_apart at a h = apart_numbers a.x a.z a.level at.x at.z at.level h
 
 all_before : (cells : List Cell) → IsCells cells → (at : CellRef) (i k : ℕ) (d : Cell) → k < i → i < length cells
-    → (is_before at (get_or cells i d).at ≡ true) ⊎ (is_same at (get_or cells i d).at ≡ true) → is_before at (get_or cells k d).at ≡ true
+    → (is_before (get_or cells i d).at at ≡ true) ⊎ (is_same at (get_or cells i d).at ≡ true) → is_before (get_or cells k d).at at ≡ true
 all_before cells rules' at i k d less there here = before_before _ _ at (rules'.order k i d less there) here
 
 -- a cell at the place is the first
@@ -42,8 +42,8 @@ found_there cells rules' at i d there here =
 
 -- none is there where the one after those before the place is not
 pub found_nowhere : (cells : List Cell) → IsCells cells → (at : CellRef) (least : ℕ) → least ≤ length cells
-    → ((k : ℕ) (d : Cell) → k < least → is_before at (get_or cells k d).at ≡ true)
-    → ((k : ℕ) (d : Cell) → least ≤ k → k < length cells → is_before at (get_or cells k d).at ≡ false)
+    → ((k : ℕ) (d : Cell) → k < least → is_before (get_or cells k d).at at ≡ true)
+    → ((k : ℕ) (d : Cell) → least ≤ k → k < length cells → is_before (get_or cells k d).at at ≡ false)
     → ((d : Cell) → least < length cells → is_same at (get_or cells least d).at ≡ false)
     → length cells ≡ index_of cells at
 found_nowhere cells rules' at least most before after here =
@@ -52,7 +52,7 @@ found_nowhere cells rules' at least most before after here =
       | inl less ↦ before_apart at (get_or cells k some_cell).at (before k some_cell less)
       | inr rest ↦ elim (cases_lt least k) [
         | inl more ↦ false_from_ne_true (is_same at (get_or cells k some_cell).at) (λ same.
-            both_ways (is_before at (get_or cells least some_cell).at) (after least some_cell (omega arith) (omega (arith, more, there)))
+            both_ways (is_before (get_or cells least some_cell).at at) (after least some_cell (omega arith) (omega (arith, more, there)))
             (all_before cells rules' at k least some_cell more there (inr same)))
         | inr same ↦
             let is : least ≡ k = omega (arith, rest, same) in
@@ -63,12 +63,12 @@ found_nowhere cells rules' at least most before after here =
     (λ more. absurd (omega (arith, more))))
 
 -- so cells are parted by what comes before a place
-pub parted_before : (cells : List Cell) → IsCells cells → (at : CellRef) → IsPartitionedBy (λ (cell : Cell). is_before at cell.at) cells
+pub parted_before : (cells : List Cell) → IsCells cells → (at : CellRef) → IsPartitionedBy (λ (cell : Cell). is_before cell.at at) cells
 parted_before cells rules' at i j d before there here =
     elim (cases_lt i j) [
       | inl less ↦ all_before cells rules' at j i d less there (inl here)
       | inr more ↦
           let same : j ≡ i = omega (arith, before, more) in
-          let P : ℕ → Type 0 = λ n. is_before at (get_or cells n d).at ≡ true in
+          let P : ℕ → Type 0 = λ n. is_before (get_or cells n d).at at ≡ true in
           subst P same here
     ]

@@ -21,7 +21,7 @@ is_same at other = other.x == at.x && other.z == at.z && other.level == at.level
 
 abbrev pub is_before : CellRef → CellRef → Bool
 is_before at other =
-    nat_lt other.z at.z || (other.z == at.z && (nat_lt other.x at.x || (other.x == at.x && nat_lt other.level at.level)))
+    nat_lt at.z other.z || (at.z == other.z && (nat_lt at.x other.x || (at.x == other.x && nat_lt at.level other.level)))
 
 -- the number of the first region that holds a place, or how many regions there are
 abbrev pub is_in_region : CellRef → Region → Bool

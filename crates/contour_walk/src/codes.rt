@@ -7,7 +7,8 @@ ghost use Rattle.nav_ground.specs.Tiling.{tile_count, tile_window};
 ghost use Rattle.nav_ground.specs.declared.cell.Cell.{Cell};
 ghost use Rattle.nav_ground.specs.declared.cell.CellRef.{CellRef};
 ghost use Rattle.mesh_types.specs.StripMeshes.{corner, is_crossing};
-ghost use Rattle.mesh_types.specs.Contours.{AreRegionsOf, cell_in, edge_of, code_beyond, region_beyond};
+ghost use Rattle.mesh_types.specs.Regions.{AreRegionsOf};
+ghost use Rattle.mesh_types.specs.Contours.{cell_in, edge_of, code_beyond, region_beyond};
 ghost use Rattle.contour_walk.specs.Tables.{index_of, IsTableOf};
 
 use crate::owners::owners;

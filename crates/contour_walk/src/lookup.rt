@@ -1,7 +1,6 @@
 //! The index of the cell at a place.
 
 ghost use Rattle.std.specs.Prelude.{◌≡◌, ◌<◌, ◌≤◌, ℕ, true, false, length, slice_index_or};
-ghost use Rattle.std.specs.List.{position_or_len};
 ghost use Rattle.nav_ground.specs.declared.cell.Cell.{Cell};
 ghost use Rattle.nav_ground.specs.Cells.{IsCells};
 ghost use Rattle.mesh_types.specs.Regions.{IsStrip};
@@ -30,10 +29,10 @@ pub fn index_of(cells: &[Cell], guess: usize, at: CellRef) -> usize
 fn cells_before(cells: &[Cell], at: CellRef) -> usize
     requires { IsCells cells.now }
     ensures most { result ≤ length cells.now }
-    ensures before { (k : ℕ) (d : Cell) → k < result → is_before at (slice_index_or cells.now k d).at ≡ true }
-    ensures after { (k : ℕ) (d : Cell) → result ≤ k → k < length cells.now → is_before at (slice_index_or cells.now k d).at ≡ false }
+    ensures before { (k : ℕ) (d : Cell) → k < result → is_before (slice_index_or cells.now k d).at at ≡ true }
+    ensures after { (k : ℕ) (d : Cell) → result ≤ k → k < length cells.now → is_before (slice_index_or cells.now k d).at at ≡ false }
 {
-    cells.partition_point(|cell| is_before(at, cell.at))
+    cells.partition_point(|cell| is_before(cell.at, at))
 }
 
 /// Whether two places are the same.
@@ -47,8 +46,8 @@ fn is_at(at: CellRef, other: CellRef) -> bool
 fn is_before(at: CellRef, other: CellRef) -> bool
     ensures { result ≡ is_before at other }
 {
-    other.z < at.z
-        || (other.z == at.z && (other.x < at.x || (other.x == at.x && other.level < at.level)))
+    at.z < other.z
+        || (at.z == other.z && (at.x < other.x || (at.x == other.x && at.level < other.level)))
 }
 
 /// The place of the cell of a strip in a column.

@@ -1,11 +1,13 @@
 //! The contour of a region.
 
-ghost use Rattle.std.specs.Prelude.{◌≡◌, ◌<◌, ◌≤◌, IfOk, All, length, slice_index_or, ℕ, true, false, take, drop, ◌++◌};
+ghost use Rattle.std.specs.Prelude.{◌≡◌, ◌*◌, ◌<◌, ◌≤◌, IfOk, All, length, slice_index_or, ℕ, false, take, drop, ◌++◌};
 ghost use Rattle.nav_ground.specs.Limits.{IsSetting};
 ghost use Rattle.nav_ground.specs.Cells.{IsCells};
 ghost use Rattle.nav_ground.specs.Tiling.{tile_count, tile_window};
 ghost use Rattle.mesh_types.specs.declared.region.UnitEdge.{UnitEdge};
-ghost use Rattle.mesh_types.specs.Contours.{AreRegionsOf, IsContour, IsNoLater};
+ghost use Rattle.mesh_types.specs.Regions.{AreRegionsOf};
+ghost use Rattle.mesh_types.specs.Contours.{IsContour};
+ghost use Rattle.mesh_types.specs.LinkOrder.{is_point_before};
 ghost use Rattle.mesh_types.specs.Rings.{IsRing};
 ghost use Rattle.contour_walk.specs.Tables.{IsFit, IsTableOf};
 ghost use Rattle.contour_walk.specs.Walk.{edge_at, round, AreUpon};
@@ -64,7 +66,7 @@ fn walk(
 fn least_beginning(edges: &[UnitEdge]) -> usize
     ensures there { 0 < length edges.now → result < length edges.now }
     ensures least { (k : ℕ) (d : UnitEdge) → k < length edges.now
-        → IsNoLater (slice_index_or edges.now result d).from (slice_index_or edges.now k d).from }
+        → is_point_before (slice_index_or edges.now k d).from (slice_index_or edges.now result d).from ≡ false }
 {
     let mut least = 0;
     for k in 0..edges.len() {
@@ -77,10 +79,9 @@ fn least_beginning(edges: &[UnitEdge]) -> usize
 
 /// Whether a corner comes before another: by x, then by z.
 fn is_before(a: Point, b: Point) -> bool
-    ensures yes { result ≡ true → IsNoLater a b }
-    ensures no { result ≡ false → IsNoLater b a }
+    ensures { result ≡ is_point_before a b }
 {
-    a.x < b.x || (a.x == b.x && a.z < b.z)
+    a.x.cmp(&b.x).then(a.z.cmp(&b.z)).is_lt()
 }
 
 /// The contour of the region with a number, by the tables of its tile: the edges at its rim in whole cells, counterclockwise, from the
@@ -98,6 +99,7 @@ pub fn contour_over(
     requires there { id < length regions.now.regions }
     ensures contour { IfOk result (IsContour table.now.window cells.now regions.now id) }
     ensures ring { IfOk result IsRing }
+    ensures few { IfOk result (λ edges. length edges ≤ 4 * length cells.now) }
 {
     let strips = regions.regions.as_slice()[id as usize].strips.as_slice();
     let mut edges = walk(alloc, cells, regions, table, strips)?;
@@ -131,6 +133,7 @@ pub fn contour(
     requires there { id < length regions.now.regions }
     ensures contour { IfOk result (IsContour (tile_window setting.now free.now.tile) free.now.cells regions.now id) }
     ensures ring { IfOk result IsRing }
+    ensures few { IfOk result (λ edges. length edges ≤ 4 * length free.now.cells) }
 {
     let table = region_table(alloc, free, setting, regions)?;
     contour_over(alloc, free.cells.as_slice(), regions, &table, id)

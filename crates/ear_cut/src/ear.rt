@@ -6,7 +6,8 @@ ghost use Rattle.std.specs.Option.{option_map_or};
 ghost use Rattle.nav_base.specs.Point.{HasCoordinates};
 ghost use Rattle.nav_base.specs.Convex.{place_after};
 ghost use Rattle.mesh_types.specs.Choices.{or_later};
-ghost use Rattle.mesh_types.specs.Ears.{ArePlacesOf, IsTriangleOf, best_ear, is_blocked_by, is_ear, is_narrower, position_before, triangle_at};
+ghost use Rattle.mesh_types.specs.Ears.{ArePlacesOf, IsTriangleOf, best_ear, is_blocked_by, is_ear, is_narrower, triangle_at};
+ghost use Rattle.mesh_types.specs.Rings.{place_before};
 
 use crate::triangle::{is_blocked_by, runs_counterclockwise, width};
 use mesh_types::Triangle;
@@ -100,7 +101,7 @@ pub(crate) fn triangle_at(rest: &[u32], position: usize) -> Triangle
 /// The position before one, the last before the first.
 fn position_before(count: usize, position: usize) -> usize
     requires { position < count }
-    ensures value { result ≡ position_before count position }
+    ensures value { result ≡ place_before count position }
     ensures there { result < count }
 {
     if position == 0 {

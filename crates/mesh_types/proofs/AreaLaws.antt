@@ -17,7 +17,8 @@ use Rattle.nav_base.specs.Convex.{corner_at, place_after}
 use Rattle.nav_base.proofs.Polynomials.{sum, equal}
 use Rattle.nav_base.proofs.PointTerms.{place, coordinates, cross_term, orient_term}
 use Rattle.mesh_types.specs.declared.outline.Triangle.{Triangle}
-use Rattle.mesh_types.specs.Ears.{and_then, area_of, outline_area, best_ear, crosses_along, cut_ears, ears_of, position_before, triangle_at, turn_of, turns_of}
+use Rattle.mesh_types.specs.Ears.{put_before, area_of, outline_area, best_ear, crosses_along, cut_ears, ears_of, triangle_at, turn_of, turns_of}
+use Rattle.mesh_types.specs.Rings.{place_before}
 use Rattle.mesh_types.proofs.EarLaws.{best_ear-is}
 
 -- the crosses along two sides of a triangle, and along the third
@@ -79,7 +80,7 @@ area-first corners b c rest =
     joined bc walk other ac ab turn e f = omega (arith, ints)
 
 -- positions around another
-before_later : (count i : ℕ) → i ≡ position_before count (suc i)
+before_later : (count i : ℕ) → i ≡ place_before count (suc i)
 before_later count i = grind (arith, nat_tests)
 
 after_first : (count : ℕ) → 2 ≤ count → 1 ≡ place_after count 0
@@ -108,13 +109,13 @@ pub area-remove : (corners : List Point) (rest : List ℕ) (i : ℕ) → i < len
 area-remove corners [] i below enough = absurd (omega (arith, below))
 area-remove corners (b ∷ []) i below enough = absurd (omega (arith, enough))
 area-remove corners (b ∷ c ∷ rest) zero below enough =
-    let before : get_or (c ∷ rest) (length rest) 0 ≡ slice_index (b ∷ c ∷ rest) (position_before (length (b ∷ c ∷ rest)) 0) =
-    ap (λ k. get_or (b ∷ c ∷ rest) k 0) {x = suc (length rest)} {y = position_before (length (b ∷ c ∷ rest)) 0} (omega arith) in
+    let before : get_or (c ∷ rest) (length rest) 0 ≡ slice_index (b ∷ c ∷ rest) (place_before (length (b ∷ c ∷ rest)) 0) =
+    ap (λ k. get_or (b ∷ c ∷ rest) k 0) {x = suc (length rest)} {y = place_before (length (b ∷ c ∷ rest)) 0} (omega arith) in
     let after : c ≡ slice_index (b ∷ c ∷ rest) (place_after (length (b ∷ c ∷ rest)) 0) = ap (λ k. get_or (b ∷ c ∷ rest) k 0) (after_first (length (b ∷ c ∷ rest)) (omega (arith, enough))) in
     area-first corners b c rest ∙ (λ j. area_of corners (c ∷ rest) +ℤ orient_of (corner_at corners (before j)) (corner_at corners b) (corner_at corners (after j)))
 area-remove corners (first ∷ c ∷ rest) (suc i) below enough =
     let there : i < length (c ∷ rest) = omega (arith, below) in
-    let before : get_or (first ∷ c ∷ rest) i 0 ≡ slice_index (first ∷ c ∷ rest) (position_before (length (first ∷ c ∷ rest)) (suc i)) =
+    let before : get_or (first ∷ c ∷ rest) i 0 ≡ slice_index (first ∷ c ∷ rest) (place_before (length (first ∷ c ∷ rest)) (suc i)) =
     ap (λ k. get_or (first ∷ c ∷ rest) k 0) (before_later (length (first ∷ c ∷ rest)) i) in
     crosses-remove corners first first (c ∷ rest) i there
     ∙ (λ j. crosses_along corners first first (remove (c ∷ rest) i) +ℤ orient_of (corner_at corners (before j)) (corner_at corners (get_or (c ∷ rest) i 0)) (corner_at corners (behind first (c ∷ rest) i there j)))
@@ -138,7 +139,7 @@ last-area corners (a ∷ b ∷ c ∷ d ∷ rest) triangles count true is = absur
 -- an ear before triangles
 ear-area : (corners : List Point) (rest : List ℕ) (i : ℕ) (triangles : List Triangle) (r : Result (List Triangle) (List ℕ)) → i < length rest → 3 ≤ length rest
     → ((others : List Triangle) → r ≡ Ok others → turns_of corners others ≡ area_of corners (remove rest i))
-    → and_then (triangle_at rest i) r ≡ Ok triangles → turns_of corners triangles ≡ area_of corners rest
+    → put_before (triangle_at rest i) r ≡ Ok triangles → turns_of corners triangles ≡ area_of corners rest
 ear-area corners rest i triangles (Ok others) below enough others_are is =
     let same : triangle_at rest i ∷ others ≡ triangles = cc in
     ap (turns_of corners) (sym same) ∙ ap (λ n. turn_of corners (triangle_at rest i) +ℤ n) (others_are others refl)
@@ -155,7 +156,7 @@ cut_ears-area corners zero rest triangles count is = last-area corners rest tria
 cut_ears-area corners (suc above) rest triangles count is = ear (best_ear corners rest) refl is (λ i others fewer cut. cut_ears-area corners above (remove rest i) others fewer cut)
   where
     ear : (o : Option ℕ) → best_ear corners rest ≡ o
-        → option_map_or (λ i. and_then (triangle_at rest i) (cut_ears corners above (remove rest i))) o (Err rest) ≡ Ok triangles
+        → option_map_or (λ i. put_before (triangle_at rest i) (cut_ears corners above (remove rest i))) o (Err rest) ≡ Ok triangles
         → ((i : ℕ) (others : List Triangle) → length (remove rest i) ≡ above + 3 → cut_ears corners above (remove rest i) ≡ Ok others
         → turns_of corners others ≡ area_of corners (remove rest i))
         → turns_of corners triangles ≡ area_of corners rest

@@ -18,7 +18,8 @@ use Rattle.nav_base.proofs.ConvexLaws.{place_after-in}
 use Rattle.nav_base.specs.declared.point.Point.{Point}
 use Rattle.mesh_types.specs.declared.outline.Triangle.{Triangle}
 use Rattle.mesh_types.specs.Choices.{or_later, first_best}
-use Rattle.mesh_types.specs.Ears.{ArePlacesOf, IsTriangleOf, turn_of, triangle_at, is_ear, is_narrower, width_at, position_before, best_ear, and_then, last_cut, cut_ears, ears_of}
+use Rattle.mesh_types.specs.Ears.{ArePlacesOf, IsTriangleOf, turn_of, triangle_at, is_ear, is_narrower, width_at, best_ear, put_before, last_cut, cut_ears, ears_of}
+use Rattle.mesh_types.specs.Rings.{place_before}
 use Rattle.mesh_types.proofs.ChoiceLaws.{first_best-push, first_best-all, filter-passes}
 
 -- a test that is passed
@@ -32,8 +33,8 @@ all_below count =
     (λ i there. let same = get_or-range_with_len 0 count i 0 (omega (arith, there, length-range_with_len 0 count)) in omega (arith, there, same, length-range_with_len 0 count))
 
 -- the position before one is in the list
-position_before-in : (count i : ℕ) → i < count → position_before count i < count
-position_before-in count i below = grind (arith, nat_tests)
+place_before-in : (count i : ℕ) → i < count → place_before count i < count
+place_before-in count i below = grind (arith, nat_tests)
 
 -- the best ear is an ear
 pub best_ear-is : (corners : List Point) (rest : List ℕ) (i : ℕ) → best_ear corners rest ≡ Some i → (i < length rest) × (is_ear corners rest i ≡ true)
@@ -50,24 +51,24 @@ pub after-none : (r : Result (List Triangle) (List ℕ)) → after [] r ≡ r
 after-none (Ok triangles) = refl
 after-none (Err left) = refl
 
-pub after-more : (before : List Triangle) (t : Triangle) (r : Result (List Triangle) (List ℕ)) → after before (and_then t r) ≡ after (before ++ t ∷ []) r
+pub after-more : (before : List Triangle) (t : Triangle) (r : Result (List Triangle) (List ℕ)) → after before (put_before t r) ≡ after (before ++ t ∷ []) r
 after-more before t (Ok triangles) = ap Ok (sym (append_assoc before (t ∷ []) triangles))
 after-more before t (Err left) = refl
 
 -- the cut of one ear
 pub cut_ears-some : (corners : List Point) (rest : List ℕ) (i : ℕ) → 3 < length rest → best_ear corners rest ≡ Some i
-    → cut_ears corners (length rest - 3) rest ≡ and_then (triangle_at rest i) (cut_ears corners (length (remove rest i) - 3) (remove rest i))
+    → cut_ears corners (length rest - 3) rest ≡ put_before (triangle_at rest i) (cut_ears corners (length (remove rest i) - 3) (remove rest i))
 unfolding cut_ears
 cut_ears-some corners rest i more is =
     let above : ℕ = length (remove rest i) - 3 in
     ap (λ n. cut_ears corners n rest) {x = length rest - 3} {y = suc above} (omega (arith, length-remove rest i (best_ear-is corners rest i is).0))
-    ∙ ap (λ o. option_map_or (λ i. and_then (triangle_at rest i) (cut_ears corners above (remove rest i))) o (Err rest)) is
+    ∙ ap (λ o. option_map_or (λ i. put_before (triangle_at rest i) (cut_ears corners above (remove rest i))) o (Err rest)) is
 
 -- where there is no ear
 pub cut_ears-none : (corners : List Point) (rest : List ℕ) → 3 < length rest → best_ear corners rest ≡ None → cut_ears corners (length rest - 3) rest ≡ Err rest
 unfolding cut_ears
 cut_ears-none corners rest more is = ap (λ n. cut_ears corners n rest) {x = length rest - 3} {y = suc (length rest - 4)} (omega arith)
-    ∙ ap (λ o. option_map_or (λ i. and_then (triangle_at rest i) (cut_ears corners (length rest - 4) (remove rest i))) o (Err rest)) is
+    ∙ ap (λ o. option_map_or (λ i. put_before (triangle_at rest i) (cut_ears corners (length rest - 4) (remove rest i))) o (Err rest)) is
 
 -- the last three
 pub cut_ears-last : (corners : List Point) (rest : List ℕ) → length rest ≤ 3 → cut_ears corners (length rest - 3) rest ≡ last_cut corners rest
@@ -84,7 +85,7 @@ pub record AreTriangles (corners : List Point) (many : ℕ) (triangles : List Tr
 pub triangle_at-there : (corners : List Point) (rest : List ℕ) (i : ℕ) → ArePlacesOf corners rest → i < length rest → IsTriangleOf corners (triangle_at rest i)
 triangle_at-there corners rest i places there =
     let at : (k : ℕ) → k < length rest → slice_index rest k < length corners = λ k below. All-get_or (λ place. place < length corners) rest k 0 below places in
-    record { a = at _ (position_before-in (length rest) i there); b = at i there; c = at _ (place_after-in (length rest) i there) }
+    record { a = at _ (place_before-in (length rest) i there); b = at i there; c = at _ (place_after-in (length rest) i there) }
 
 -- the places that remain after a cut name corners
 pub places-remove : (corners : List Point) (rest : List ℕ) (i : ℕ) → ArePlacesOf corners rest → ArePlacesOf corners (remove rest i)
@@ -118,7 +119,7 @@ last-triangles corners rest triangles count places false turn is = absurd (cc)
 -- an ear before triangles
 ear-triangles : (corners : List Point) (rest : List ℕ) (i many : ℕ) (triangles : List Triangle) (r : Result (List Triangle) (List ℕ)) → ArePlacesOf corners rest
     → (i < length rest) × (is_ear corners rest i ≡ true) → ((others : List Triangle) → r ≡ Ok others → AreTriangles corners many others)
-    → and_then (triangle_at rest i) r ≡ Ok triangles → AreTriangles corners (many + 1) triangles
+    → put_before (triangle_at rest i) r ≡ Ok triangles → AreTriangles corners (many + 1) triangles
 ear-triangles corners rest i many triangles (Ok others) places ear others_are is =
     let same : triangle_at rest i ∷ others ≡ triangles = cc in
     subst (AreTriangles corners (many + 1)) same
@@ -134,7 +135,7 @@ cut_ears-triangles corners (suc above) rest triangles count places is =
     (λ i others fewer cut. cut_ears-triangles corners above (remove rest i) others fewer (places-remove corners rest i places) cut)
   where
     ear : (o : Option ℕ) → best_ear corners rest ≡ o
-        → option_map_or (λ i. and_then (triangle_at rest i) (cut_ears corners above (remove rest i))) o (Err rest) ≡ Ok triangles
+        → option_map_or (λ i. put_before (triangle_at rest i) (cut_ears corners above (remove rest i))) o (Err rest) ≡ Ok triangles
         → ((i : ℕ) (others : List Triangle) → length (remove rest i) ≡ above + 3 → cut_ears corners above (remove rest i) ≡ Ok others → AreTriangles corners (above + 1) others)
         → AreTriangles corners (suc above + 1) triangles
     ear None e same others_are = absurd (cc)

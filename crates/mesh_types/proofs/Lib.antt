@@ -22,3 +22,4 @@ pub mod EarLaws
 pub mod MergeLaws
 pub mod AreaLaws
 pub mod UnionAreas
+pub mod RingLaws

@@ -16,7 +16,7 @@ use Rattle.std.proofs.lemmas.List.Sums.{sum_by-cons}
 use Rattle.nav_base.specs.declared.point.Point.{Point}
 use Rattle.mesh_types.specs.declared.links.PolyRef.{PolyRef}
 use Rattle.mesh_types.specs.declared.links.Link.{Link}
-use Rattle.mesh_types.specs.LinkOrder.{poly_cmp, point_cmp, link_cmp, put_link, ordered_links}
+use Rattle.mesh_types.specs.LinkOrder.{poly_cmp, point_cmp, is_point_before, link_cmp, put_link, ordered_links}
 use Rattle.mesh_types.proofs.Sorting.{Rises, rises_from_sorted, same_in_order}
 
 poly_total : IsTotalOrder poly_cmp
@@ -24,7 +24,7 @@ poly_total =
     then_total {R = on (λ (p : PolyRef). p.tile) nat_cmp} {S = on (λ (p : PolyRef). p.index) nat_cmp}
     (on_total (λ (p : PolyRef). p.tile) nat_cmp_total) (on_total (λ (p : PolyRef). p.index) nat_cmp_total)
 
-point_total : IsTotalOrder point_cmp
+pub point_total : IsTotalOrder point_cmp
 point_total =
     then_total {R = on (λ (p : Point). p.x) int_cmp} {S = on (λ (p : Point). p.z) int_cmp}
     (on_total (λ (p : Point). p.x) int_cmp_total) (on_total (λ (p : Point). p.z) int_cmp_total)
@@ -77,6 +77,18 @@ before a b = is_lt (link_cmp a b)
 
 pub links_order : IsStrictWeakOrder before
 links_order = ranks_by link_total (λ (link : Link). link)
+
+pub points_order : IsStrictWeakOrder is_point_before
+points_order = ranks_by point_total (λ p. p)
+
+-- points of which neither comes before the other are equal
+pub points_tie : (a b : Point) → is_point_before a b ≡ false → is_point_before b a ≡ false → a ≡ b
+points_tie a b ab ba = by_case (point_cmp a b) refl ab (ap is_lt (sym (point_total.antisymm b a)) ∙ ba)
+  where
+    by_case : (o : Ordering) → point_cmp a b ≡ o → is_lt (point_cmp a b) ≡ false → is_lt (ordering_reverse (point_cmp a b)) ≡ false → a ≡ b
+    by_case Less is first second = absurd (both_ways _ first (ap is_lt is))
+    by_case Equal is first second = point_tie a b is
+    by_case Greater is first second = absurd (both_ways _ second (ap (λ o. is_lt (ordering_reverse o)) is))
 
 -- links of which neither comes before the other are equal
 pub links_tie : (a b : Link) → before a b ≡ false → before b a ≡ false → a ≡ b

@@ -1,5 +1,5 @@
 -- Contours: the rim of a region, and the closed list of its edges.
-use Rattle.std.specs.Prelude.{◌≡◌, ℕ, ◌+◌, ◌-◌, ◌%◌, ◌<◌, ◌⊎◌, Bool, false, not, ◌==◌, ◌&&◌, if◌then◌else◌, List, [], map, filter, length, get_or, take, drop, ◌++◌, All, Option, option_and_then, unwrap_or, ◌≤ℤ◌, ◌<ℤ◌}
+use Rattle.std.specs.Prelude.{◌≡◌, ℕ, ◌+◌, ◌-◌, ◌%◌, ◌<◌, Bool, false, not, ◌==◌, ◌&&◌, if◌then◌else◌, List, [], map, filter, length, get_or, Option, option_and_then, unwrap_or}
 use Rattle.std.specs.List.{find, flat_map, list_any, position, range_with_len}
 use Rattle.std.specs.List.Sorted.{IsPermutation}
 use Rattle.std.specs.Option.{option_map_or}
@@ -15,9 +15,10 @@ use Rattle.mesh_types.specs.declared.region.UnitEdge.{UnitEdge}
 use Rattle.mesh_types.specs.declared.region.Code.{Code}
 use Rattle.mesh_types.specs.declared.region.Code.TheVariants.{Wall, Side}
 use Rattle.mesh_types.specs.declared.region.Code.TheVariants
+use Rattle.mesh_types.specs.LinkOrder.{is_point_before}
 use Rattle.mesh_types.specs.StripMeshes.{corner, some_cell, is_crossing}
-use Rattle.mesh_types.specs.Regions.{is_holding, place_in, IsStack, IsWoven, HoldsEachOnce}
-use Rattle.mesh_types.specs.Rings.{beginnings, endings}
+use Rattle.mesh_types.specs.Regions.{is_holding, place_in}
+use Rattle.mesh_types.specs.Rings.{IsClosed}
 
 -- the cell at a place
 abbrev pub is_at : CellRef → Cell → Bool
@@ -35,7 +36,7 @@ abbrev pub region_beyond : List Cell → Regions → ℕ → Cell → Option ℕ
 region_beyond cells regions dir cell =
     option_and_then (λ (other : Cell). region_at regions other.at) (find (λ (other : Cell). is_naming dir cell other.at) cells)
 
--- the edge of a cell toward a direction is at the rim of a region where the cell that it names there is not free or not of the region
+-- the edge of a cell toward a direction is at the rim of a region unless the cell names a free cell of that region there
 abbrev pub is_rim : List Cell → Regions → ℕ → ℕ → Cell → Bool
 is_rim cells regions id dir cell = not (option_map_or (λ r. r == id) (region_beyond cells regions dir cell) false)
 
@@ -81,19 +82,9 @@ rim_edges_of window cells regions id at =
 abbrev pub rim_of : Window → List Cell → Regions → ℕ → List UnitEdge
 rim_of window cells regions id = flat_map (rim_edges_of window cells regions id) (places_in regions id)
 
--- what the regions of a tile's cells keep: each is a stack of strips whose cells are connected, and each cell is in exactly one
-pub record AreRegionsOf (cells : List Cell) (regions : Regions) : Type 0 where
-  pub stacks : All IsStack regions.regions
-  pub woven : All (IsWoven cells) regions.regions
-  pub once : HoldsEachOnce cells regions
-
--- one corner is the other or comes before it: by x, then by z
-abbrev pub IsNoLater : Point → Point → Type 0
-IsNoLater a b = (a.x <ℤ b.x) ⊎ ((a.x ≡ b.x) × (a.z ≤ℤ b.z))
-
--- a contour of a region, among the cells and the regions of a tile with these columns, holds each edge of the region's rim once; each ends
--- where the next begins, and the last where the first begins; the first begins at the least corner
+-- a contour of a region, among the cells and the regions of a tile with these columns, is a closed list that holds each edge of the region's rim
+-- once; no edge begins at a corner before that of the first
 pub record IsContour (window : Window) (cells : List Cell) (regions : Regions) (id : ℕ) (edges : List UnitEdge) : Type 0 where
   pub rim : IsPermutation (rim_of window cells regions id) edges
-  pub closed : endings edges ≡ drop 1 (beginnings edges) ++ take 1 (beginnings edges)
-  pub least : (k : ℕ) (d : UnitEdge) → k < length edges → IsNoLater (get_or edges 0 d).from (get_or edges k d).from
+  pub closed : IsClosed edges
+  pub least : (k : ℕ) (d : UnitEdge) → k < length edges → is_point_before (get_or edges k d).from (get_or edges 0 d).from ≡ false

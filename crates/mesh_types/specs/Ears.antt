@@ -1,7 +1,7 @@
 -- Ears: how an outline is cut into triangles, ear by ear.
 --
 -- The corners of an outline are named by their places, from 0. The remaining places stand in a list that runs round: its first follows its last.
-use Rattle.std.specs.Prelude.{◌≡◌, ℕ, zero, suc, ◌-◌, ◌<◌, ◌≤◌, ◌==◌, ℤ, pos, ◌+ℤ◌, Bool, not, ◌&&◌, nat_lt, if◌then◌else◌, List, [], ◌∷◌, length, slice_index, filter, All, Option, Result, Ok, Err}
+use Rattle.std.specs.Prelude.{◌≡◌, ℕ, zero, suc, ◌-◌, ◌<◌, ◌≤◌, ℤ, pos, ◌+ℤ◌, Bool, not, ◌&&◌, nat_lt, if◌then◌else◌, List, [], ◌∷◌, length, slice_index, filter, All, Option, Result, Ok, Err}
 use Rattle.std.specs.Int.Signed.{le_z, lt_z}
 use Rattle.std.specs.Ordering.{int_eq}
 use Rattle.std.specs.Option.{option_map_or}
@@ -12,6 +12,7 @@ use Rattle.nav_base.specs.Convex.{corner_at, place_after}
 use Rattle.nav_base.specs.Deviation.{square_of}
 use Rattle.mesh_types.specs.declared.outline.Triangle.{Triangle}
 use Rattle.mesh_types.specs.Choices.{first_best}
+use Rattle.mesh_types.specs.Rings.{place_before}
 
 -- an outline that can be cut: it has at least three corners, its places are numbers of 32 bits, and its corners are points of the plane
 pub record CanBeCut (corners : List Point) : Type 0 where
@@ -55,13 +56,9 @@ is_blocked_by corners t place =
 
 -- ---- ears
 
--- the position before one in a list that runs round
-abbrev pub position_before : ℕ → ℕ → ℕ
-position_before count i = if i == 0 then count - 1 else i - 1
-
 -- the triangle of the place at a position, between the places before and after it
 abbrev pub triangle_at : List ℕ → ℕ → Triangle
-triangle_at rest i = record { a = slice_index rest (position_before (length rest) i); b = slice_index rest i; c = slice_index rest (place_after (length rest) i) }
+triangle_at rest i = record { a = slice_index rest (place_before (length rest) i); b = slice_index rest i; c = slice_index rest (place_after (length rest) i) }
 
 -- an ear: the list turns to the left there, and no remaining corner blocks the triangle
 abbrev pub is_ear : List Point → List ℕ → ℕ → Bool
@@ -82,9 +79,9 @@ best_ear corners rest = first_best (is_narrower corners rest) (filter (is_ear co
 -- ---- the cut
 
 -- a triangle before those that the rest gives
-abbrev pub and_then : Triangle → Result (List Triangle) (List ℕ) → Result (List Triangle) (List ℕ)
-and_then t (Ok triangles) = Ok (t ∷ triangles)
-and_then t (Err left) = Err left
+abbrev pub put_before : Triangle → Result (List Triangle) (List ℕ) → Result (List Triangle) (List ℕ)
+put_before t (Ok triangles) = Ok (t ∷ triangles)
+put_before t (Err left) = Err left
 
 -- the last three places give a triangle where it runs counterclockwise
 abbrev pub last_cut : List Point → List ℕ → Result (List Triangle) (List ℕ)
@@ -94,7 +91,7 @@ last_cut corners rest = if lt_z (pos 0) (turn_of corners (triangle_at rest 1)) t
 -- the last triangle does not run counterclockwise, the remaining places are left.
 unfoldable pub cut_ears : List Point → ℕ → List ℕ → Result (List Triangle) (List ℕ)
 cut_ears corners zero rest = last_cut corners rest
-cut_ears corners (suc above) rest = option_map_or (λ i. and_then (triangle_at rest i) (cut_ears corners above (remove rest i))) (best_ear corners rest) (Err rest)
+cut_ears corners (suc above) rest = option_map_or (λ i. put_before (triangle_at rest i) (cut_ears corners above (remove rest i))) (best_ear corners rest) (Err rest)
 
 -- the triangles of an outline, or the places that are left where there is no ear
 unfoldable pub ears_of : List Point → Result (List Triangle) (List ℕ)

@@ -14,6 +14,10 @@ poly_cmp a b = ordering_then (nat_cmp a.tile b.tile) (nat_cmp a.index b.index)
 abbrev pub point_cmp : Point → Point → Ordering
 point_cmp a b = ordering_then (int_cmp a.x b.x) (int_cmp a.z b.z)
 
+-- a point comes before another: by x, then by z
+abbrev pub is_point_before : Point → Point → Bool
+is_point_before a b = is_lt (point_cmp a b)
+
 -- links by the polygon that they leave, then by the edge, then by the polygon entered, then by the right and by the left end of the portal
 abbrev pub link_cmp : Link → Link → Ordering
 link_cmp a b =

@@ -106,3 +106,9 @@ pub record IsWoven (cells : List Cell) (region : Region) : Type 0 where
   pub connected : (dir x y : ℕ) (from to : Strip) (cell : Cell) → dir < 4 → Contains region.strips from → Contains region.strips to
       → IsIn from x → IsIn to y → IsTrue (is_toward dir (place_in from x) (place_in to y))
       → Contains cells cell → cell.at ≡ place_in from x → IsTrue (is_naming dir cell (place_in to y))
+
+-- what the regions of a tile's cells keep: each is a stack of strips whose cells are connected, and each cell is in exactly one
+pub record AreRegionsOf (cells : List Cell) (regions : Regions) : Type 0 where
+  pub stacks : All IsStack regions.regions
+  pub woven : All (IsWoven cells) regions.regions
+  pub once : HoldsEachOnce cells regions

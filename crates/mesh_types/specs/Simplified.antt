@@ -1,7 +1,7 @@
 -- Simplified: contours with fewer corners.
-use Rattle.std.specs.Prelude.{◌≡◌, ◌≤◌, All, ℕ, zero, suc, pos, ◌+◌, ◌-◌, ◌*◌, Bool, true, false, not, nat_lt, ◌==◌, if◌then◌else◌, List, [], ◌∷◌, ◌++◌, length, map, take, drop, get_or, filter, reverse, min, max}
-use Rattle.std.specs.List.{prefix_len, list_any, range_with_len, flat_map, slice_range, zip}
-use Rattle.std.specs.Ordering.{is_lt, is_eq}
+use Rattle.std.specs.Prelude.{◌≡◌, All, ℕ, zero, suc, pos, ◌+◌, ◌-◌, ◌*◌, Bool, true, false, not, nat_lt, ◌==◌, if◌then◌else◌, List, [], ◌∷◌, ◌++◌, length, map, take, drop, get_or, filter, reverse, min, max}
+use Rattle.std.specs.List.{list_any, range_with_len, flat_map, slice_range, zip}
+use Rattle.std.specs.Ordering.{is_eq}
 use Rattle.nav_base.specs.declared.point.Point.{Point}
 use Rattle.nav_base.specs.Point.{IsCellCorner}
 use Rattle.nav_base.specs.Deviation.{deviation_of}
@@ -11,16 +11,10 @@ use Rattle.mesh_types.specs.declared.region.UnitEdge.{UnitEdge}
 use Rattle.mesh_types.specs.declared.outline.Outline as outlines
 use Rattle.mesh_types.specs.declared.outline.Simplified.{Simplified}
 use Rattle.mesh_types.specs.declared.outline.Simplified.TheVariants.{Flat, Outline}
-use Rattle.mesh_types.specs.LinkOrder.{point_cmp}
-use Rattle.mesh_types.specs.Rings.{beginnings}
-
--- a corner is before another: by x, then by z
-abbrev pub is_before : Point → Point → Bool
-is_before a b = is_lt (point_cmp a b)
-
--- the first place whose element none beats
-unfoldable pub first_best_place : {X : Type 0} → (X → X → Bool) → List X → ℕ
-first_best_place beats xs = prefix_len (λ x. list_any (λ y. beats y x) xs) xs
+use Rattle.mesh_types.specs.LinkOrder.{point_cmp, is_point_before}
+use Rattle.mesh_types.specs.Rings.{beginnings, place_before}
+use Rattle.mesh_types.specs.Choices.{first_best_place}
+use Rattle.mesh_types.specs.Ears.{CanBeCut}
 
 -- p deviates more than q from the segment from a to b
 abbrev pub deviates_more : Point → Point → Point → Point → Bool
@@ -44,7 +38,7 @@ kept_walking (suc depth) error a inner b =
 -- the inner corners that are kept of a run from a to b, in its order: it is walked from its lesser end
 unfoldable pub kept_inside : ℕ → Point → List Point → Point → List Point
 kept_inside error a inner b =
-    if is_before a b then kept_walking (length inner) error a inner b else reverse (kept_walking (length inner) error b (reverse inner) a)
+    if is_point_before a b then kept_walking (length inner) error a inner b else reverse (kept_walking (length inner) error b (reverse inner) a)
 
 -- two codes are the same
 abbrev pub is_same : Code → Code → Bool
@@ -61,10 +55,6 @@ origin = record { x = pos 0; z = pos 0 }
 abbrev pub code_at : List UnitEdge → ℕ → Code
 code_at edges place = (get_or edges place (record { from = origin; to = origin; code = Wall })).code
 
--- the place before another on the way round
-abbrev pub place_before : ℕ → ℕ → ℕ
-place_before count place = (if place == 0 then count else place) - 1
-
 -- the edge that ends at a place and the edge that begins there have different codes
 abbrev pub does_change : List UnitEdge → ℕ → Bool
 does_change edges place = not (is_same (code_at edges (place_before (length edges) place)) (code_at edges place))
@@ -76,8 +66,8 @@ changes edges = filter (does_change edges) (range_with_len 0 (length edges))
 -- the places of the least and of the greatest corner, in order
 abbrev pub extremes : List Point → List ℕ
 extremes corners =
-    let least = first_best_place is_before corners in
-    let greatest = first_best_place (λ p q. is_before q p) corners in
+    let least = first_best_place is_point_before corners in
+    let greatest = first_best_place (λ p q. is_point_before q p) corners in
     min least greatest ∷ max least greatest ∷ []
 
 -- the places that are kept at first: where the code changes, and those of the least and the greatest corner where it never does
@@ -92,7 +82,7 @@ twice_round edges = beginnings edges ++ beginnings edges
 unfoldable pub stops : List UnitEdge → List ℕ
 stops edges = kept_places edges ++ map (λ place. place + length edges) (take 1 (kept_places edges))
 
--- what the run from one stop to the next leaves of its corners, without its last
+-- the corners that are kept of the run from one stop to the next, without its last
 unfoldable pub left_of_run : ℕ → List Point → ℕ × ℕ → List Point
 left_of_run error corners run =
     let a = get_or corners run.0 origin in
@@ -119,7 +109,7 @@ is_among corners corner = list_any (λ other. is_eq (point_cmp other corner)) co
 abbrev pub begins_among : List Point → UnitEdge → Bool
 begins_among corners edge = is_among corners edge.from
 
--- the edges that begin at kept corners, in the contour's order
+-- the edges that begin at kept corners, in the contour's order; the corners of a ring differ, so that a point tells its place
 unfoldable pub kept_edges : ℕ → List UnitEdge → List UnitEdge
 kept_edges error edges = filter (begins_among (kept_corners error edges)) edges
 
@@ -130,9 +120,9 @@ simplified_of error edges =
     if nat_lt (length kept) 3 then Flat
     else Outline (record { corners = beginnings kept; codes = codes_of kept })
 
--- an outline has at least three corners, which are corners of cells, and a code for each
+-- an outline can be cut: it has at least three corners and not too many; they are corners of cells, and each has a code
 pub record IsOutline (outline : outlines.Outline) : Type 0 where
-  pub several : 3 ≤ length outline.corners
+  pub cut : CanBeCut outline.corners
   pub coded : length outline.codes ≡ length outline.corners
   pub inside : All IsCellCorner outline.corners
 

@@ -4,8 +4,8 @@ use crate::region::Code;
 use nav_base::Point;
 use nav_list::Items;
 
-/// A simplified contour: the corners that were kept, in whole cells and in the contour's order, counterclockwise, and for each corner the
-/// code of the edge that begins there.
+/// A simplified contour: the corners that were kept, in whole cells and in the contour's order, and for each corner the code of the
+/// edge that begins there.
 #[derive(PartialEq, Eq, Debug, Drop)]
 pub struct Outline {
     pub corners: Items<Point>,

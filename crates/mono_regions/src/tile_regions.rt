@@ -1,9 +1,9 @@
 //! The regions of a tile.
 
-ghost use Rattle.std.specs.Prelude.{◌≡◌, ◌<◌, IfOk, All, length, map};
+ghost use Rattle.std.specs.Prelude.{◌≡◌, ◌<◌, IfOk, length, map};
 ghost use Rattle.nav_ground.specs.Cells.{IsCut};
 ghost use Rattle.mesh_types.specs.StripMeshes.{strip_runs};
-ghost use Rattle.mesh_types.specs.Regions.{numbers, chain_from, region_of, regions_of, IsStack, IsWoven, HoldsEachOnce};
+ghost use Rattle.mesh_types.specs.Regions.{numbers, chain_from, region_of, regions_of, AreRegionsOf};
 ghost use Rattle.mono_regions.specs.Joining.{IsTableOf, joined_from};
 
 use crate::joins::{is_unjoined, joined_strips};
@@ -24,9 +24,7 @@ use std::alloc::{AllocError, Global};
 pub fn regions(alloc: Global, free: &FreeLayer) -> Result<Regions, AllocError>
     requires { IsCut free.now.cells }
     ensures regions { IfOk result (λ regions. regions ≡ regions_of free.now.cells) }
-    ensures stacks { IfOk result (λ regions. All IsStack regions.regions) }
-    ensures woven { IfOk result (λ regions. All (IsWoven free.now.cells) regions.regions) }
-    ensures once { IfOk result (λ regions. HoldsEachOnce free.now.cells regions) }
+    ensures kept { IfOk result (AreRegionsOf free.now.cells) }
 {
     let cells = free.cells.as_slice();
     let strips = strip_table(alloc, cells)?;

@@ -14,13 +14,13 @@ use Rattle.nav_base.specs.Point.{IsCellCorner}
 use Rattle.mesh_types.specs.declared.region.UnitEdge.{UnitEdge}
 use Rattle.mesh_types.specs.LinkOrder.{point_cmp}
 use Rattle.mesh_types.specs.Rings.{IsRing, AreApart, beginnings, endings}
-use Rattle.contour_simplify.proofs.CornerOrder.{corner_total}
+use Rattle.mesh_types.proofs.LinkOrderLaws.{point_total}
 
 abbrev are_apart : Point → Point → Bool
 are_apart a b = not (is_eq (point_cmp a b))
 
 apart_shown : (a b : Point) → are_apart a b ≡ true → AreApart a b
-apart_shown a b test same = both_ways (is_eq (point_cmp a b)) (not-true (is_eq (point_cmp a b)) test) (ap is_eq (ap (point_cmp a) (sym same) ∙ tied_itself corner_total a))
+apart_shown a b test same = both_ways (is_eq (point_cmp a b)) (not-true (is_eq (point_cmp a b)) test) (ap is_eq (ap (point_cmp a) (sym same) ∙ tied_itself point_total a))
 
 all_shown : {X : Type 0} (p : X → Bool) (P : X → Type 0) → ((x : X) → p x ≡ true → P x) → (xs : List X) → list_all p xs ≡ true → All P xs
 all_shown p P shown [] test = All-nil P

@@ -6,8 +6,9 @@ use Rattle.std.proofs.lemmas.Fn.{always_returns_same}
 use Rattle.nav_base.specs.declared.point.Point.{Point}
 use Rattle.mesh_types.specs.declared.region.UnitEdge.{UnitEdge}
 use Rattle.mesh_types.specs.Rings.{beginnings}
-use Rattle.mesh_types.specs.Simplified.{is_before, begins_among, codes_of, kept_edges, kept_corners}
-use Rattle.contour_simplify.proofs.CornerOrder.{before_order}
+use Rattle.mesh_types.specs.LinkOrder.{is_point_before}
+use Rattle.mesh_types.specs.Simplified.{begins_among, codes_of, kept_edges, kept_corners}
+use Rattle.mesh_types.proofs.LinkOrderLaws.{points_order}
 use Rattle.contour_simplify.proofs.Rising.{stops_are}
 use Rattle.contour_simplify.proofs.Outlines.{nothing_left, simplified_is, same_among, flat_if, corners_inside, outline_is}
 use Rattle.contour_simplify.proofs.outline.simplify.Goals as goal
@@ -31,7 +32,7 @@ kept_corners-requires-clause-stops c =
 
 pub outline-requires : goal.outline-requires
 outline-requires c =
-    rw c.as_slice-3.ensures.value (c.sort_unstable_by.ensures.sorted is_before before_order (always_returns_same _ _ _ (λ a r f k. search rules)))
+    rw c.as_slice-3.ensures.value (c.sort_unstable_by.ensures.sorted is_point_before points_order (always_returns_same _ _ _ (λ a r f k. search rules)))
 
 pub returns-clause-value : goal.returns-clause-value
 unfolding kept_corners

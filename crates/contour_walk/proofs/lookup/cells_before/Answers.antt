@@ -8,10 +8,10 @@ use Rattle.contour_walk.proofs.lookup.cells_before.Goals as goal
 
 -- the search finds where the cells end that come before, since cells stand in order
 point : (c : goal.After-partition_point)
-    → IsPartitionPoint (λ (cell : Cell). is_before c.args.at cell.at ≡ true)
-    (λ (cell : Cell). is_before c.args.at cell.at ≡ false) c.args.cells.now c.partition_point.result
+    → IsPartitionPoint (λ (cell : Cell). is_before cell.at c.args.at ≡ true)
+    (λ (cell : Cell). is_before cell.at c.args.at ≡ false) c.args.cells.now c.partition_point.result
 point c =
-    IsPartitionPoint-from_clause (λ (cell : Cell). is_before c.args.at cell.at) _ _ c.partition_point.ensures.partitioned
+    IsPartitionPoint-from_clause (λ (cell : Cell). is_before cell.at c.args.at) _ _ c.partition_point.ensures.partitioned
     (parted_before c.args.cells.now c.requires c.args.at) (λ a r q k. search rules)
 
 pub returns-clause-before : goal.returns-clause-before

@@ -2,11 +2,13 @@ use Rattle.std.proofs.Common.{◌≡◌, ℕ, ◌<◌, ◌++◌, List, length, g
 use Rattle.std.specs.Prelude.{All, take, drop}
 use Rattle.mesh_types.specs.declared.strip.Strip.{Strip}
 use Rattle.mesh_types.specs.declared.region.UnitEdge.{UnitEdge}
-use Rattle.mesh_types.specs.Contours.{strips_in, IsNoLater}
+use Rattle.mesh_types.specs.Contours.{strips_in}
 use Rattle.contour_walk.specs.Tables.{IsFit}
 use Rattle.contour_walk.specs.Walk.{edge_at, round}
 use Rattle.contour_walk.proofs.Contoured.{strips_read, region_fits, walk_contour, walk_ring}
+use Rattle.contour_walk.proofs.Fewness.{contour_few}
 use Rattle.contour_walk.proofs.Loops.{written_back}
+use Rattle.contour_walk.proofs.Earliest.{IsNoLater}
 use Rattle.contour_walk.proofs.round.contour_over.Goals as goal
 
 pub walk-requires-clause-fit : goal.walk-requires-clause-fit
@@ -48,3 +50,7 @@ pub returns-clause-ring : goal.returns-clause-ring
 returns-clause-ring c =
     walk_ring c.args.cells.now c.requires.cells c.args.regions.now c.requires.regions c.args.id c.requires.there c.args.table.now.window
     c.in_ok-edges.edges.items c.from_vec.result c.least_beginning-least.result (walked c) (turned c)
+
+pub returns-clause-few : goal.returns-clause-few
+returns-clause-few c =
+    contour_few c.args.table.now.window c.args.cells.now c.args.regions.now c.requires.regions c.args.id c.requires.there c.from_vec.result (returns-clause-contour c)

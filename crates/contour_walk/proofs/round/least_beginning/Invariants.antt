@@ -1,6 +1,6 @@
 use Rattle.std.proofs.Common.{ℕ, ◌<◌, length, get_or}
 use Rattle.mesh_types.specs.declared.region.UnitEdge.{UnitEdge}
-use Rattle.mesh_types.specs.Contours.{IsNoLater}
+use Rattle.contour_walk.proofs.Earliest.{IsNoLater}
 use Rattle.contour_walk.proofs.round.least_beginning.Given as goal
 
 -- no edge so far begins before the one that was found

@@ -1,13 +1,11 @@
 use Rattle.std.proofs.Common.{◌≡◌, ◌<◌, ℕ, List, length, ap, ◌∙◌, sym, subst, arith}
-use Rattle.std.specs.Prelude.{All}
 use Rattle.std.specs.Global.{Vec}
 use Rattle.std.proofs.lemmas.List.FromFn.{length-map-range_with_len}
 use Rattle.nav_ground.specs.declared.cell.Cell.{Cell}
 use Rattle.nav_ground.specs.Cells.{IsCut}
 use Rattle.mesh_types.specs.declared.region.Region.{Region}
-use Rattle.mesh_types.specs.declared.region.Regions.{Regions}
 use Rattle.mesh_types.specs.StripMeshes.{strip_runs}
-use Rattle.mesh_types.specs.Regions.{begins_region, IsStack, IsWoven, HoldsEachOnce}
+use Rattle.mesh_types.specs.Regions.{begins_region, AreRegionsOf}
 use Rattle.mono_regions.specs.Joining.{touched_from, joined_from}
 use Rattle.mono_regions.proofs.JoinLaws.{strips_few, number_of, seen_among, begins_is}
 use Rattle.mono_regions.proofs.Gathered.{region_at, one_region, no_region, all_regions}
@@ -102,14 +100,10 @@ returns-clause-regions c =
     (omega (arith, c.loop-first-test.false, c.len-first-end.ensures, c.in_ok-joined.joined.ok.0, ap length c.in_ok-joined.ensures, joined, count))
     c.from_vec.ensures c.loop-first.invariant
 
-pub returns-clause-stacks : goal.returns-clause-stacks
-returns-clause-stacks c =
-    subst (λ (regions : Regions). All IsStack regions.regions) (sym (returns-clause-regions c)) (are_stacks c.args.free.now.cells c.requires)
-
-pub returns-clause-once : goal.returns-clause-once
-returns-clause-once c =
-    subst (HoldsEachOnce c.args.free.now.cells) (sym (returns-clause-regions c)) (held_once c.args.free.now.cells c.requires)
-
-pub returns-clause-woven : goal.returns-clause-woven
-returns-clause-woven c =
-    subst (λ (regions : Regions). All (IsWoven c.args.free.now.cells) regions.regions) (sym (returns-clause-regions c)) (are_woven c.args.free.now.cells c.requires)
+pub returns-clause-kept : goal.returns-clause-kept
+returns-clause-kept c =
+    subst (AreRegionsOf c.args.free.now.cells) (sym (returns-clause-regions c)) (record {
+      stacks = are_stacks c.args.free.now.cells c.requires;
+      woven = are_woven c.args.free.now.cells c.requires;
+      once = held_once c.args.free.now.cells c.requires;
+    })
