@@ -353,7 +353,7 @@ module _ (vertices : List Vertex) (arcs : Vertex → List Arc) (estimate : Verte
     following-closed is_closed =
         let falls : estimate vertex ≤ (arc_of arcs own_step).weight + estimate to =
         subst (λ (v : Vertex). estimate vertex ≤ (arc_of arcs own_step).weight + estimate v) enters
-            (estimate-no_more vertices arcs estimate heaviest searchable vertex member place below) in
+        (estimate-no_more vertices arcs estimate heaviest searchable vertex member place below) in
         following-no_less (omega (arith, closing.greatest to is_closed, falls))
 
     -- or it leads to less
