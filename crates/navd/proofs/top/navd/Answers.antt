@@ -1,4 +1,4 @@
-use Rattle.std.proofs.Common.{rules, Err, refl, ap, subst, sym, inl, inr}
+use Rattle.std.proofs.Common.{rules, Err, refl, ap, subst, sym, ◌∙◌, inl, inr}
 use Rattle.navd.specs.Inputs.{IsPlay}
 use Rattle.navd.proofs.TopLaws.{broken, differ, ends_apart, took_none, took_within, took_many, took_all, ended_well, play_due, fault_due, no_play_known, quiet_ends}
 use Rattle.navd.proofs.top.navd.Goals as goal
@@ -149,10 +149,4 @@ pub returns-clause-took : goal.returns-clause-took
 returns-clause-took g c = took_all _ _ _ c.in-Ok.ensures.ok c.in-Ok.ensures.short
 
 pub returns-in-Err-ReadFault-clause-took : goal.returns-in-Err-ReadFault-clause-took
-returns-in-Err-ReadFault-clause-took g c = took_within _ _ (c.in-Err-ReadFault.ensures.fault_within (ap Err c.in-Err-ReadFault.field-0-is))
-
-pub returns-in-Err-OutOfMemory-clause-took : goal.returns-in-Err-OutOfMemory-clause-took
-returns-in-Err-OutOfMemory-clause-took g c = took_within _ _ (c.in-Err-OutOfMemory.ensures.memory_within (ap Err c.in-Err-OutOfMemory.field-0-is))
-
-pub returns-in-Err-TooLong-clause-took : goal.returns-in-Err-TooLong-clause-took
-returns-in-Err-TooLong-clause-took g c = took_many _ _ (c.in-Err-TooLong.ensures.long (ap Err c.in-Err-TooLong.field-0-is))
+returns-in-Err-ReadFault-clause-took g c = took_within _ _ (c.read_all.ensures.fault_within (c.in-Err-ReadFault.is ∙ ap Err c.in-Err-ReadFault.field-0-is))
