@@ -150,3 +150,9 @@ returns-clause-took g c = took_all _ _ _ c.in-Ok.ensures.ok c.in-Ok.ensures.shor
 
 pub returns-in-Err-ReadFault-clause-took : goal.returns-in-Err-ReadFault-clause-took
 returns-in-Err-ReadFault-clause-took g c = took_within _ _ (c.read_all.ensures.fault_within (c.in-Err-ReadFault.is ∙ ap Err c.in-Err-ReadFault.field-0-is))
+
+pub returns-in-Err-OutOfMemory-clause-took : goal.returns-in-Err-OutOfMemory-clause-took
+returns-in-Err-OutOfMemory-clause-took g c = took_within _ _ (c.read_all.ensures.memory_within (c.in-Err-OutOfMemory.is ∙ ap Err c.in-Err-OutOfMemory.field-0-is))
+
+pub returns-in-Err-TooLong-clause-took : goal.returns-in-Err-TooLong-clause-took
+returns-in-Err-TooLong-clause-took g c = took_many _ _ (c.read_all.ensures.long (c.in-Err-TooLong.is ∙ ap Err c.in-Err-TooLong.field-0-is))
