@@ -1,12 +1,14 @@
 -- How a run ends.
-use Rattle.std.proofs.Common.{◌≡◌, ℕ, ◌+◌, ◌≤◌, List, [], length, arith, subst, sym, ◌∙◌, inl, inr}
+use Rattle.std.proofs.Common.{◌≡◌, ℕ, ◌+◌, ◌≤◌, eqb, false, List, [], length, arith, ap, subst, sym, ◌∙◌, inl, inr}
 use Rattle.std.specs.Prelude.{Option, Some, None, IfSome, String}
 use Rattle.std.specs.declared.alloc.Global.{Global}
 use Rattle.nav_io.specs.Causes.{Rose, GivesAll, TookMany, TookAtMost}
 use Rattle.std.proofs.KnownBytes.{Consumes-nil}
+use Rattle.std.proofs.lemmas.Bool.{eqb-false}
 use Rattle.nav_io.proofs.Laws.{GivesAll-known}
 use Rattle.navd.specs.declared.status.Status.{Status}
 use Rattle.navd.specs.declared.status.Status.TheVariants as statuses
+use Rattle.navd.specs.Statuses.{status_number}
 use Rattle.navd.specs.Endings.{HasEnded}
 use Rattle.navd.specs.Answers.{TellsFault}
 use Rattle.navd.specs.Inputs.{IsPlay, IsPlayed, IsFault, input_limit}
@@ -31,6 +33,20 @@ broken words before after held_before held_after faults_before faults_after text
     elim ended [
       | inl whole ↦ absurd (subst is_other (sym whole.0 ∙ is) other)
       | inr part ↦ (part.1, record { text = text; due = is_due; written = part.2 })
+    ]
+
+-- two statuses with two numbers are not the same
+pub differ : (status other : Status) (Goal : Type 0) → eqb (status_number status) (status_number other) ≡ false → status ≡ other → Goal
+differ status other Goal apart same = absurd (eqb-false _ _ apart (ap status_number same))
+
+-- a run ends with the status that was due or with WriteFault, and with no other
+pub ends_apart : (held_before held_after : Option (List ℕ)) (faults_before faults_after : ℕ) (text : List ℕ) (due status other : Status) (Goal : Type 0)
+    → HasEnded held_before held_after faults_before faults_after text due status → eqb (status_number due) (status_number other) ≡ false
+    → eqb (status_number statuses.WriteFault) (status_number other) ≡ false → status ≡ other → Goal
+ends_apart held_before held_after faults_before faults_after text due status other Goal ended not_due not_broken is =
+    elim ended [
+      | inl whole ↦ differ due other Goal not_due (sym whole.0 ∙ is)
+      | inr part ↦ differ statuses.WriteFault other Goal not_broken (sym part.0 ∙ is)
     ]
 
 -- a run whose sink did not fail ends with the status that was due

@@ -32,7 +32,6 @@ const MOST: usize = 67108864;
 /// two polygons. A text that is no input, or that asks for what is not built yet, is told by the line of its fault.
 /// The text is made whole before its first byte is written. Refusals go in the order Usage, ReadFault, TooLong, BadText;
 /// WriteFault comes in place of any status whose text could not be written, and OutOfMemory only before the first write.
-#[tactic(auto, using(crate::proofs::TopLaws::took_none, crate::proofs::TopLaws::took_within, crate::proofs::TopLaws::took_many, crate::proofs::TopLaws::took_all))]
 pub fn navd<R: Threads + Wait + Sync, S: Source, K: Sink, G: Gate + Sync, L: Ledger>(
     rt: &R,
     alloc: Global,

@@ -1,6 +1,6 @@
-use Rattle.std.proofs.Common.{rules, subst, sym, inl, inr}
+use Rattle.std.proofs.Common.{rules, Err, refl, ap, subst, sym, ◌∙◌, inl, inr}
 use Rattle.navd.specs.Inputs.{IsPlay}
-use Rattle.navd.proofs.TopLaws.{broken, ended_well, play_due, fault_due, no_play_known, quiet_ends}
+use Rattle.navd.proofs.TopLaws.{broken, differ, ends_apart, took_none, took_within, took_many, took_all, ended_well, play_due, fault_due, no_play_known, quiet_ends}
 use Rattle.navd.proofs.top.navd.Goals as goal
 
 pub returns-in-Played-clause-write_fault : goal.returns-in-Played-clause-write_fault
@@ -21,3 +21,138 @@ returns-in-Fault-clause-complete g c =
 pub returns-in-Fault-clause-wrong : goal.returns-in-Fault-clause-wrong
 returns-in-Fault-clause-wrong g c =
     quiet_ends _ _ _ _ _ (λ quiet. inl (ended_well _ _ _ _ _ _ _ c.finish-in-Fault.ensures.ended quiet))
+
+pub returns-then-not-is_form-clause-ok : goal.returns-then-not-is_form-clause-ok
+returns-then-not-is_form-clause-ok g c = ends_apart _ _ _ _ _ _ _ _ _ c.finish.ensures.ended refl refl
+
+pub returns-then-not-is_form-clause-bad_text : goal.returns-then-not-is_form-clause-bad_text
+returns-then-not-is_form-clause-bad_text g c = ends_apart _ _ _ _ _ _ _ _ _ c.finish.ensures.ended refl refl
+
+pub returns-then-not-is_form-clause-read_fault : goal.returns-then-not-is_form-clause-read_fault
+returns-then-not-is_form-clause-read_fault g c = ends_apart _ _ _ _ _ _ _ _ _ c.finish.ensures.ended refl refl
+
+pub returns-then-not-is_form-clause-too_long : goal.returns-then-not-is_form-clause-too_long
+returns-then-not-is_form-clause-too_long g c = ends_apart _ _ _ _ _ _ _ _ _ c.finish.ensures.ended refl refl
+
+pub returns-then-not-is_form-clause-no_memory : goal.returns-then-not-is_form-clause-no_memory
+returns-then-not-is_form-clause-no_memory g c = ends_apart _ _ _ _ _ _ _ _ _ c.finish.ensures.ended refl refl
+
+pub returns-in-Err-TooLong-clause-ok : goal.returns-in-Err-TooLong-clause-ok
+returns-in-Err-TooLong-clause-ok g c = ends_apart _ _ _ _ _ _ _ _ _ c.finish-in-Err-TooLong.ensures.ended refl refl
+
+pub returns-in-Err-TooLong-clause-bad_text : goal.returns-in-Err-TooLong-clause-bad_text
+returns-in-Err-TooLong-clause-bad_text g c = ends_apart _ _ _ _ _ _ _ _ _ c.finish-in-Err-TooLong.ensures.ended refl refl
+
+pub returns-in-Err-TooLong-clause-usage : goal.returns-in-Err-TooLong-clause-usage
+returns-in-Err-TooLong-clause-usage g c = ends_apart _ _ _ _ _ _ _ _ _ c.finish-in-Err-TooLong.ensures.ended refl refl
+
+pub returns-in-Err-TooLong-clause-read_fault : goal.returns-in-Err-TooLong-clause-read_fault
+returns-in-Err-TooLong-clause-read_fault g c = ends_apart _ _ _ _ _ _ _ _ _ c.finish-in-Err-TooLong.ensures.ended refl refl
+
+pub returns-in-Err-TooLong-clause-no_memory : goal.returns-in-Err-TooLong-clause-no_memory
+returns-in-Err-TooLong-clause-no_memory g c = ends_apart _ _ _ _ _ _ _ _ _ c.finish-in-Err-TooLong.ensures.ended refl refl
+
+pub returns-in-Played-clause-bad_text : goal.returns-in-Played-clause-bad_text
+returns-in-Played-clause-bad_text g c = ends_apart _ _ _ _ _ _ _ _ _ c.finish-in-Played.ensures.ended refl refl
+
+pub returns-in-Played-clause-usage : goal.returns-in-Played-clause-usage
+returns-in-Played-clause-usage g c = ends_apart _ _ _ _ _ _ _ _ _ c.finish-in-Played.ensures.ended refl refl
+
+pub returns-in-Played-clause-read_fault : goal.returns-in-Played-clause-read_fault
+returns-in-Played-clause-read_fault g c = ends_apart _ _ _ _ _ _ _ _ _ c.finish-in-Played.ensures.ended refl refl
+
+pub returns-in-Played-clause-too_long : goal.returns-in-Played-clause-too_long
+returns-in-Played-clause-too_long g c = ends_apart _ _ _ _ _ _ _ _ _ c.finish-in-Played.ensures.ended refl refl
+
+pub returns-in-Played-clause-no_memory : goal.returns-in-Played-clause-no_memory
+returns-in-Played-clause-no_memory g c = ends_apart _ _ _ _ _ _ _ _ _ c.finish-in-Played.ensures.ended refl refl
+
+pub returns-in-Fault-clause-ok : goal.returns-in-Fault-clause-ok
+returns-in-Fault-clause-ok g c = ends_apart _ _ _ _ _ _ _ _ _ c.finish-in-Fault.ensures.ended refl refl
+
+pub returns-in-Fault-clause-usage : goal.returns-in-Fault-clause-usage
+returns-in-Fault-clause-usage g c = ends_apart _ _ _ _ _ _ _ _ _ c.finish-in-Fault.ensures.ended refl refl
+
+pub returns-in-Fault-clause-read_fault : goal.returns-in-Fault-clause-read_fault
+returns-in-Fault-clause-read_fault g c = ends_apart _ _ _ _ _ _ _ _ _ c.finish-in-Fault.ensures.ended refl refl
+
+pub returns-in-Fault-clause-too_long : goal.returns-in-Fault-clause-too_long
+returns-in-Fault-clause-too_long g c = ends_apart _ _ _ _ _ _ _ _ _ c.finish-in-Fault.ensures.ended refl refl
+
+pub returns-in-Fault-clause-no_memory : goal.returns-in-Fault-clause-no_memory
+returns-in-Fault-clause-no_memory g c = ends_apart _ _ _ _ _ _ _ _ _ c.finish-in-Fault.ensures.ended refl refl
+
+pub returns-in-Err-ReadFault-clause-ok : goal.returns-in-Err-ReadFault-clause-ok
+returns-in-Err-ReadFault-clause-ok g c = differ _ _ _ refl
+
+pub returns-in-Err-ReadFault-clause-bad_text : goal.returns-in-Err-ReadFault-clause-bad_text
+returns-in-Err-ReadFault-clause-bad_text g c = differ _ _ _ refl
+
+pub returns-in-Err-ReadFault-clause-usage : goal.returns-in-Err-ReadFault-clause-usage
+returns-in-Err-ReadFault-clause-usage g c = differ _ _ _ refl
+
+pub returns-in-Err-ReadFault-clause-write_fault : goal.returns-in-Err-ReadFault-clause-write_fault
+returns-in-Err-ReadFault-clause-write_fault g c = differ _ _ _ refl
+
+pub returns-in-Err-ReadFault-clause-too_long : goal.returns-in-Err-ReadFault-clause-too_long
+returns-in-Err-ReadFault-clause-too_long g c = differ _ _ _ refl
+
+pub returns-in-Err-ReadFault-clause-no_memory : goal.returns-in-Err-ReadFault-clause-no_memory
+returns-in-Err-ReadFault-clause-no_memory g c = differ _ _ _ refl
+
+pub returns-in-Err-OutOfMemory-clause-ok : goal.returns-in-Err-OutOfMemory-clause-ok
+returns-in-Err-OutOfMemory-clause-ok g c = differ _ _ _ refl
+
+pub returns-in-Err-OutOfMemory-clause-bad_text : goal.returns-in-Err-OutOfMemory-clause-bad_text
+returns-in-Err-OutOfMemory-clause-bad_text g c = differ _ _ _ refl
+
+pub returns-in-Err-OutOfMemory-clause-usage : goal.returns-in-Err-OutOfMemory-clause-usage
+returns-in-Err-OutOfMemory-clause-usage g c = differ _ _ _ refl
+
+pub returns-in-Err-OutOfMemory-clause-read_fault : goal.returns-in-Err-OutOfMemory-clause-read_fault
+returns-in-Err-OutOfMemory-clause-read_fault g c = differ _ _ _ refl
+
+pub returns-in-Err-OutOfMemory-clause-write_fault : goal.returns-in-Err-OutOfMemory-clause-write_fault
+returns-in-Err-OutOfMemory-clause-write_fault g c = differ _ _ _ refl
+
+pub returns-in-Err-OutOfMemory-clause-too_long : goal.returns-in-Err-OutOfMemory-clause-too_long
+returns-in-Err-OutOfMemory-clause-too_long g c = differ _ _ _ refl
+
+pub returns-clause-ok : goal.returns-clause-ok
+returns-clause-ok g c = differ _ _ _ refl
+
+pub returns-clause-bad_text : goal.returns-clause-bad_text
+returns-clause-bad_text g c = differ _ _ _ refl
+
+pub returns-clause-usage : goal.returns-clause-usage
+returns-clause-usage g c = differ _ _ _ refl
+
+pub returns-clause-read_fault : goal.returns-clause-read_fault
+returns-clause-read_fault g c = differ _ _ _ refl
+
+pub returns-clause-write_fault : goal.returns-clause-write_fault
+returns-clause-write_fault g c = differ _ _ _ refl
+
+pub returns-clause-too_long : goal.returns-clause-too_long
+returns-clause-too_long g c = differ _ _ _ refl
+
+pub returns-then-not-is_form-clause-took : goal.returns-then-not-is_form-clause-took
+returns-then-not-is_form-clause-took g c = took_none _
+
+pub returns-in-Played-clause-took : goal.returns-in-Played-clause-took
+returns-in-Played-clause-took g c = took_all _ _ _ c.in-Ok.ensures.ok c.in-Ok.ensures.short
+
+pub returns-in-Fault-clause-took : goal.returns-in-Fault-clause-took
+returns-in-Fault-clause-took g c = took_all _ _ _ c.in-Ok.ensures.ok c.in-Ok.ensures.short
+
+pub returns-clause-took : goal.returns-clause-took
+returns-clause-took g c = took_all _ _ _ c.in-Ok.ensures.ok c.in-Ok.ensures.short
+
+pub returns-in-Err-ReadFault-clause-took : goal.returns-in-Err-ReadFault-clause-took
+returns-in-Err-ReadFault-clause-took g c = took_within _ _ (c.read_all.ensures.fault_within (c.in-Err-ReadFault.is ∙ ap Err c.in-Err-ReadFault.field-0-is))
+
+pub returns-in-Err-OutOfMemory-clause-took : goal.returns-in-Err-OutOfMemory-clause-took
+returns-in-Err-OutOfMemory-clause-took g c = took_within _ _ (c.read_all.ensures.memory_within (c.in-Err-OutOfMemory.is ∙ ap Err c.in-Err-OutOfMemory.field-0-is))
+
+pub returns-in-Err-TooLong-clause-took : goal.returns-in-Err-TooLong-clause-took
+returns-in-Err-TooLong-clause-took g c = took_many _ _ (c.read_all.ensures.long (c.in-Err-TooLong.is ∙ ap Err c.in-Err-TooLong.field-0-is))
