@@ -27,9 +27,10 @@ const MOST: usize = 67108864;
 ///
 /// For the word `play` the text is a play text of the input: for each line of its script in order what the history and the published
 /// mesh answer, then how far the play came. What stands after a question is right in the mesh that is published then: the floors of the free
-/// cells of a column; or, for a path, a corridor of links that no other walk undercuts, with its cost, and a line that is taut in its portals;
-/// that no polygon holds the start, or the goal, exactly where none does; or that there is no path, exactly where no walk of links joins the
-/// two polygons. A text that is no input, or that asks for what is not built yet, is told by the line of its fault.
+/// cells of a column; for a path, a corridor of links that no other walk undercuts, with its cost, and a line that is taut in its portals; that
+/// no polygon holds the start, exactly where none does, or that one holds the start and none the goal; or that there is no path, exactly where
+/// both are held and no walk of links joins the two polygons; for a ray, that no polygon holds the start, or the polygon or the wall at which
+/// the straight walk ends. A text that is no input, or that asks for what is not built yet, is told by the line of its fault.
 /// The text is made whole before its first byte is written. Refusals go in the order Usage, ReadFault, TooLong, BadText;
 /// WriteFault comes in place of any status whose text could not be written, and OutOfMemory only before the first write.
 pub fn navd<R: Threads + Wait + Sync, S: Source, K: Sink, G: Gate + Sync, L: Ledger>(
@@ -102,7 +103,8 @@ fn finish<K: Sink>(sink: &mut K, text: &[u8], status: Status) -> Status
     }
 }
 
-/// `navd` with a counter of its own and a gate at which nobody waits, for callers that count nothing. It promises the same.
+/// `navd` with a counter of its own and a gate at which nobody waits, for callers that count nothing. It promises the same but for the
+/// steps.
 pub fn run<R: Threads + Wait + Sync, S: Source, K: Sink, L: Ledger>(
     rt: &R,
     alloc: Global,
