@@ -27,6 +27,7 @@ use Rattle.mesh_types.specs.declared.region.Regions.{Regions}
 use Rattle.mesh_types.specs.declared.region.Code.{Code}
 use Rattle.mesh_types.specs.declared.door.Door.{Door}
 use Rattle.mesh_types.specs.declared.door.Part.{Part}
+use Rattle.mesh_types.specs.declared.outline.Outline as outlines
 use Rattle.mesh_types.specs.declared.links.Link.{Link}
 use Rattle.mesh_types.specs.declared.polygon.Polygon.{Polygon}
 use Rattle.mesh_types.specs.declared.tile.TileMesh.{TileMesh}
@@ -72,8 +73,8 @@ door_is window parts facets polygon edge each there inside =
       begins = get_or-map at facet.places edge 0 (record { x = pos 0; z = pos 0 }) inside;
       ends = ap (λ n. corner_at (facet_corners facet) (place_after n edge)) many
           ∙ get_or-map at facet.places (place_after (length facet.places) edge) 0 (record { x = pos 0; z = pos 0 }) (place_after-in (length facet.places) edge inside);
-      begin = ap (λ outline. corner_at outline.corners (slice_index facet.places edge)) is.outline;
-      end = ap (λ outline. corner_at outline.corners (edge_end facet.places edge)) is.outline;
+      begin = ap (λ (outline : outlines.Outline). corner_at outline.corners (slice_index facet.places edge)) is.outline;
+      end = ap (λ (outline : outlines.Outline). corner_at outline.corners (edge_end facet.places edge)) is.outline;
     }
 
 pub doors_are : (window : Window) (parts : List Part) (facets : List Facet) → All (IsFacetOf window parts) facets → All (IsDoorOf parts facets) (doors_of facets)
@@ -253,5 +254,5 @@ module _ (cells : List Cell) (regions : Regions) (window : Window) (parts : List
           subst (IsInnerLink tile) at (record {
             from_here = refl;
             to_here = refl;
-            through = subst (λ ps. LeadsThrough (slice_get ps a.polygon) (slice_get ps b.polygon) (door_link tile.tile a b)) (sym polys) (leads tile.tile a b is two facing);
+            through = subst (λ (ps : List Polygon). LeadsThrough (slice_get ps a.polygon) (slice_get ps b.polygon) (door_link tile.tile a b)) (sym polys) (leads tile.tile a b is two facing);
           })

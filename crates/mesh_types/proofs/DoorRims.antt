@@ -22,6 +22,7 @@ use Rattle.nav_ground.proofs.Found.{found_in}
 use Rattle.mesh_types.specs.declared.region.Regions.{Regions}
 use Rattle.mesh_types.specs.declared.door.Door.{Door}
 use Rattle.mesh_types.specs.declared.door.Part.{Part}
+use Rattle.mesh_types.specs.declared.polygon.Polygon.{Polygon}
 use Rattle.mesh_types.specs.declared.label_runs.Run.{Run}
 use Rattle.mesh_types.specs.declared.tile.RimEdge.{RimEdge}
 use Rattle.mesh_types.specs.declared.tile.TileMesh.{TileMesh}
@@ -74,9 +75,9 @@ module _ (setting : Setting) (cells : List Cell) (regions : Regions) (parts : Li
       let of : IsFacetOf window parts facet = each door.polygon no_facet is.there in
       let all : All (IsTileCorner window) (facet_corners facet) = corners_all (IsTileCorner window) facet of.corners of.piece.places in
       let P : Point → Type 0 = IsCellCorner in (
-        subst P is.begins (all door.edge (record { x = pos 0; z = pos 0 }) is.edge).corner,
+        subst P is.begins (all door.edge (record { x = pos 0; z = pos 0 }) is.edge).of_cell,
         subst P is.ends (all (place_after (length (facet_corners facet)) door.edge) (record { x = pos 0; z = pos 0 })
-        (place_after-in (length (facet_corners facet)) door.edge is.edge)).corner,
+        (place_after-in (length (facet_corners facet)) door.edge is.edge)).of_cell,
       )
 
   entry_fits : (door : Door) → IsDoorOf parts facets door → (side : ℕ) → side < 4 → lies_on window door side ≡ true → (run : Run)
@@ -99,7 +100,7 @@ module _ (setting : Setting) (cells : List Cell) (regions : Regions) (parts : Li
       record {
         side = small;
         polygon = facet_polygon cells regions (facet_at facets door.polygon);
-        is_there = ap (λ ps. slice_get ps door.polygon) polys ∙ polygon_there cells regions window parts facets each doors are door.polygon is.there;
+        is_there = ap (λ (ps : List Polygon). slice_get ps door.polygon) polys ∙ polygon_there cells regions window parts facets each doors are door.polygon is.there;
         edge = is.edge;
         lies = subst (λ u. L u (corner_at corners after)) (sym is.begins) (subst (L door.begin) (sym is.ends) (on_side window side door.begin door.end small inner.1 outer.1));
         runs = λ some. rw many (subst (λ u. R u (corner_at corners after)) (sym is.begins) (subst (R door.begin) (sym is.ends)

@@ -73,18 +73,18 @@ simplified_cut window error edges inside part is = by_case (nat_lt (length kept)
         (omega (arith, ltb-false (length kept) 3 many, length-map kept (λ (edge : UnitEdge). edge.from)))
         (ears_of (beginnings kept)) refl part same
 
+-- the parts of regions: at most one for each
+pub record AreParts (window : Window) (regions : Regions) (parts : List Part) : Type 0 where
+  pub few : length parts ≤ length regions.regions
+  pub each : All (IsPartIn window) parts
+
 module _ (window : Window) (cells : List Cell) (rules' : IsCells cells) (regions : Regions) (are : AreRegionsOf cells regions) where
   module _ (inside : All (λ (cell : Cell). IsInWindow window cell.at.x cell.at.z) cells) (error : ℕ) where
     part_is : (id : ℕ) → id < length regions.regions → (part : Part) → region_part window error cells regions id ≡ Some part → IsPartIn window part
     part_is id there part is =
         simplified_cut window error (contour_of window cells regions id) (contour_inside window cells regions id rules' inside are there) part is
 
-    -- the parts of the regions
-    pub record AreParts (parts : List Part) : Type 0 where
-      pub few : length parts ≤ length regions.regions
-      pub each : All (IsPartIn window) parts
-
-    pub parts_are : (parts : List Part) → parts_of window error cells regions ≡ Some parts → AreParts parts
+    pub parts_are : (parts : List Part) → parts_of window error cells regions ≡ Some parts → AreParts window regions parts
     unfolding parts_of
     parts_are parts is = by_case (list_all (λ id. is_some (region_part window error cells regions id)) (region_numbers regions)) is
       where
@@ -106,10 +106,10 @@ module _ (window : Window) (cells : List Cell) (rules' : IsCells cells) (regions
             let there' : k < length regions.regions = omega (arith, there, count) in
             part_is (get_or (region_numbers regions) k d) (omega (arith, get_or-range_with_len 0 (length regions.regions) k d there', there')) part same)
 
-        by_case : (b : Bool) → (if b then Some found else None) ≡ Some parts → AreParts parts
+        by_case : (b : Bool) → (if b then Some found else None) ≡ Some parts → AreParts window regions parts
         by_case true same =
             let at : found ≡ parts = cc in
-            subst AreParts at (record { few = few; each = each })
+            subst (AreParts window regions) at (record { few = few; each = each })
         by_case false same = absurd cc
 
   -- ---- cells of regions
@@ -172,7 +172,7 @@ module _ (window : Window) (cells : List Cell) (rules' : IsCells cells) (regions
       record {
         convex = is.piece.convex;
         most = omega (arith, is.piece.most, length-map facet.places (corner_at facet.outline.corners));
-        corners = All-weaker (IsTileCorner window) IsCellCorner (λ p at. at.corner) (map (corner_at facet.outline.corners) facet.places) inside_tile;
+        corners = All-weaker (IsTileCorner window) IsCellCorner (λ p at. at.of_cell) (map (corner_at facet.outline.corners) facet.places) inside_tile;
         area = (each 0 some_cell some).area;
         floors = low_first own;
         high = high_small own some (All-weaker IsCell (λ (cell : Cell). cell.floor ≤ 8191) (λ cell at. at.floor) own each);

@@ -45,7 +45,7 @@ places_all P cells regions are id there each =
 
 -- a corner of a cell of the tile
 pub record IsTileCorner (window : Window) (p : Point) : Type 0 where
-  pub corner : IsCellCorner p
+  pub of_cell : IsCellCorner p
   pub square : IsInSquare window p
 
 -- a place in the tile and in the largest field
@@ -68,7 +68,7 @@ at_most_1024 a h = omega (arith, ints)
 
 corner_of : (window : Window) (at : CellRef) (x z : ℕ) → IsTilePlace window at → at.x ≤ x → x ≤ at.x + 1 → at.z ≤ z → z ≤ at.z + 1 → IsTileCorner window (corner x z)
 corner_of window at x z is left right bottom top = record {
-  corner = record {
+  of_cell = record {
     left = not_negative x;
     right = at_most_1024 x (omega (arith, is.x, right));
     bottom = not_negative z;
