@@ -1,5 +1,4 @@
 pub mod LocalTiles
 pub mod FreeInTile
-pub mod LinkTotals
+pub mod BuildTotals
 pub mod GroundTiles
-pub mod SameCells
