@@ -13,7 +13,7 @@ use Rattle.mesh_types.specs.declared.region.Regions.{Regions}
 use Rattle.mesh_types.specs.declared.tile.TileMesh.{TileMesh}
 use Rattle.mesh_types.specs.ContourMeshes.{contour_mesh_of, doors_of, facet_polygon, facets_of, parts_mesh, parts_of}
 use Rattle.mesh_types.specs.Regions.{AreRegionsOf, regions_of}
-use Rattle.mesh_types.proofs.DoorRims.{few_positions, named_once}
+use Rattle.mesh_types.proofs.RimShares.{few_positions, named_once}
 use Rattle.mesh_types.proofs.DoorTotals.{few_door_links, few_doors, few_facets}
 use Rattle.mesh_types.proofs.LinkTotals.{IsSmall}
 

@@ -28,6 +28,6 @@ pub mod LinkTotals
 pub mod PieceTotals
 pub mod RegionTotals
 pub mod DoorTotals
-pub mod DoorRims
+pub mod RimShares
 pub mod ContourTotals
 pub mod TileMeshes

@@ -107,17 +107,17 @@ shape_limits history number shape requests found =
         (requests place entry (slice_get_within history place entry there))
 
 -- the shapes of the obstacles that are alive are within their limits
-pub shapes_in_limits : (history : List Entry) (k : ℕ) → All (λ (entry : Entry). IsRequest entry.request) history → All IsShape (shapes_alive history k)
-shapes_in_limits history k requests =
+pub alive_limits : (history : List Entry) (k : ℕ) → All (λ (entry : Entry). IsRequest entry.request) history → All IsShape (shapes_alive history k)
+alive_limits history k requests =
     All-found (shape_of history) IsShape (alive_after history k) (λ i d there shape found. shape_limits history _ shape requests found)
 
 -- the mesh of a ground and a history has at most 8000000 polygons and 56000000 links
 pub few_polygons_of_build : (whole : Ground) (history : List Entry) (k : ℕ) → IsGround whole → All (λ (entry : Entry). IsRequest entry.request) history
     → polygon_count (build_of whole history k).tiles ≤ 8000000
 unfolding build_of
-few_polygons_of_build whole history k rules' requests = few_polygons_under whole (shapes_alive history k) rules' (shapes_in_limits history k requests)
+few_polygons_of_build whole history k rules' requests = few_polygons_under whole (shapes_alive history k) rules' (alive_limits history k requests)
 
 pub few_links_of_build : (whole : Ground) (history : List Entry) (k : ℕ) → IsGround whole → All (λ (entry : Entry). IsRequest entry.request) history
     → link_count (build_of whole history k) ≤ 56000000
 unfolding build_of
-few_links_of_build whole history k rules' requests = few_links_under whole (shapes_alive history k) rules' (shapes_in_limits history k requests)
+few_links_of_build whole history k rules' requests = few_links_under whole (shapes_alive history k) rules' (alive_limits history k requests)
