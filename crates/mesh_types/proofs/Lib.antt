@@ -31,3 +31,14 @@ pub mod DoorTotals
 pub mod RimShares
 pub mod ContourTotals
 pub mod TileMeshes
+pub mod ContourLaws
+pub mod Counted
+pub mod Gathered
+pub mod PieceLaws
+pub mod FloorLaws
+pub mod RimPlaces
+pub mod FacetLaws
+pub mod DoorLaws
+pub mod DoorRims
+pub mod ContourFit
+pub mod RegionLaws

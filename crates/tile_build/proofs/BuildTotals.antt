@@ -31,7 +31,7 @@ use Rattle.mesh_types.proofs.LinkTotals.{HasFewLinks, IsSmall, few_links, few_po
 use Rattle.mesh_types.proofs.RunLaws.{All-found}
 use Rattle.mesh_types.proofs.TileMeshes.{of_either, mesh_of_cells}
 use Rattle.mesh_types.proofs.Totals.{sum_by-map}
-use Rattle.mono_regions.proofs.RegionLaws.{are_regions}
+use Rattle.mono_regions.proofs.RegionsKept.{regions_kept}
 use Rattle.strip_mesh.proofs.LinkTotals.{small_strips}
 use Rattle.tile_build.specs.Meshes.{tiles_under}
 use Rattle.tile_build.proofs.FreeInTile.{free_in_tile}
@@ -40,7 +40,7 @@ use Rattle.tile_build.proofs.FreeInTile.{free_in_tile}
 small_mesh : (setting : Setting) (free : FreeLayer) → IsCut free.cells → IsInTile setting free.tile free.cells → IsSmall (mesh_of_free setting free)
 small_mesh setting free cut in_tile =
     of_either IsSmall setting free (small_strips setting free cut in_tile)
-    (λ tile is. small_contours setting free tile cut in_tile (are_regions free.cells cut) is)
+    (λ tile is. small_contours setting free tile cut in_tile (regions_kept free.cells cut) is)
 
 -- every tile of the mesh is small
 small_tiles : (whole : Ground) (shapes : List Shape) → IsGround whole → All IsShape shapes → All IsSmall (tiles_under whole shapes)

@@ -2,3 +2,4 @@ pub mod LocalTiles
 pub mod FreeInTile
 pub mod BuildTotals
 pub mod GroundTiles
+pub mod TileFits
