@@ -1,14 +1,11 @@
 -- The regions of a tile have together no more cells than the tile: each cell is held once.
-use Rattle.std.proofs.Common.{◌≡◌, ℕ, ◌+◌, ◌-◌, ◌<◌, ◌≤◌, true, cond, List, [], length, map, get_or, ap, ◌∙◌, refl, subst, sym, arith, Some}
-use Rattle.std.specs.Prelude.{All, Any, Contains, ◌==◌, slice_get, false}
+use Rattle.std.proofs.Common.{◌≡◌, ℕ, ◌+◌, ◌-◌, ◌≤◌, true, cond, List, [], length, map, get_or, ap, ◌∙◌, arith}
+use Rattle.std.specs.Prelude.{All, Contains}
 use Rattle.std.specs.List.{sum_by, count_by, range_with_len}
-use Rattle.std.specs.Option.{option_map_or}
-use Rattle.std.proofs.lemmas.Bool.{and_from, eq-eqb, le-leb}
 use Rattle.std.proofs.lemmas.List.{length-map}
 use Rattle.std.proofs.lemmas.List.Concat.{length-flat_map}
 use Rattle.std.proofs.lemmas.List.Elements.{Contains-get_or}
 use Rattle.std.proofs.lemmas.List.FromFn.{length-range_with_len}
-use Rattle.std.proofs.lemmas.Option.{slice_get-get_or}
 use Rattle.nav_ground.specs.declared.cell.Cell.{Cell}
 use Rattle.nav_ground.specs.declared.cell.CellRef.{CellRef}
 use Rattle.mesh_types.specs.declared.region.Region.{Region}
@@ -16,18 +13,11 @@ use Rattle.mesh_types.specs.declared.region.Regions.{Regions}
 use Rattle.mesh_types.specs.declared.strip.Strip.{Strip}
 use Rattle.mesh_types.specs.Contours.{columns, places_in}
 use Rattle.mesh_types.specs.ContourMeshes.{region_numbers}
-use Rattle.mesh_types.specs.Regions.{AreRegionsOf, IsStrip, IsWoven, is_holding, place_in, times_held}
+use Rattle.mesh_types.specs.Regions.{AreRegionsOf, IsStrip, IsWoven, is_holding, place_in}
+use Rattle.mesh_types.proofs.RegionLaws.{holds_own}
 use Rattle.mesh_types.proofs.Totals.{numbers_within, sum_by-exchanged, sum_by-no_more, sum_by-numbers, sum_by-one, sum_by-same, sum_by-shared}
 
--- a strip holds the places of its columns
-holds_its_own : (strip : Strip) (x : ℕ) → IsStrip strip → strip.x0 ≤ x → x ≤ strip.x1 → is_holding (place_in strip x) strip ≡ true
-holds_its_own strip x rules' least most =
-    let level : ℕ = get_or strip.levels (x - strip.x0) 0 in
-    let there : slice_get strip.levels (x - strip.x0) ≡ Some level = slice_get-get_or strip.levels (x - strip.x0) 0 (omega (arith, rules'.levels, least, most)) in
-    and_from _ _ (and_from _ _ (eq-eqb strip.z strip.z refl) (le-leb strip.x0 x least))
-    (ap (λ o. option_map_or (λ own. own == level) o false) there ∙ eq-eqb level level refl)
-
--- it has no more columns than it holds cells
+-- a strip has no more columns than it holds cells
 few_columns : (cells : List Cell) (region : Region) (strip : Strip) → IsWoven cells region → Contains region.strips strip → IsStrip strip
     → length (columns strip) ≤ count_by (λ (cell : Cell). is_holding cell.at strip) cells
 few_columns cells region strip woven listed rules' =
@@ -36,7 +26,7 @@ few_columns cells region strip woven listed rules' =
     (λ x least most passes.
     let last : x ≤ strip.x1 = omega (arith, least, most, rules'.some) in
     let w = woven.there strip x listed (least, last) in
-    let holding : is_holding w.1.at strip ≡ true = ap (λ (at : CellRef). is_holding at strip) w.4 ∙ holds_its_own strip x rules' least last in
+    let holding : is_holding w.1.at strip ≡ true = ap (λ (at : CellRef). is_holding at strip) w.4 ∙ holds_own strip x rules' (least, last) in
     (w.0, w.1, w.2, w.3, (holding, ap (λ (at : CellRef). at.x) w.4))) in
     omega (arith, held, sum_by-one (range_with_len strip.x0 many), length-range_with_len strip.x0 many)
 
