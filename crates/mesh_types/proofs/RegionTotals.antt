@@ -27,7 +27,7 @@ few_columns cells region strip woven listed rules' =
     let last : x ≤ strip.x1 = omega (arith, least, most, rules'.some) in
     let w = woven.there strip x listed (least, last) in
     let holding : is_holding w.1.at strip ≡ true = ap (λ (at : CellRef). is_holding at strip) w.4 ∙ holds_own strip x rules' (least, last) in
-    (w.0, w.1, w.2, w.3, (holding, ap (λ (at : CellRef). at.x) w.4))) in
+    (w.0, w.1, w.2, w.3, record { passes = holding; is = ap (λ (at : CellRef). at.x) w.4 })) in
     omega (arith, held, sum_by-one (range_with_len strip.x0 many), length-range_with_len strip.x0 many)
 
 -- the places of a region

@@ -29,7 +29,7 @@ use Rattle.mesh_types.proofs.LinkTotals.{is_named, named_pair}
 use Rattle.mesh_types.proofs.RunLaws.{IsRunOf, in_run, part_length, run_passes, runs_are_runs}
 use Rattle.mesh_types.proofs.RunTotals.{runs_within}
 use Rattle.mesh_types.proofs.SidePlaces.{is_placed, placed_once}
-use Rattle.mesh_types.proofs.Totals.{numbers_within, once_in_range, sum_by-filter, sum_by-flat_map, sum_by-map, sum_by-no_more, sum_by-one, sum_by-range_no_more, sum_by-range_same, sum_by-same, sum_by-shared, sum_by-zero}
+use Rattle.mesh_types.proofs.Totals.{HasNumber, numbers_within, once_in_range, sum_by-filter, sum_by-flat_map, sum_by-map, sum_by-no_more, sum_by-one, sum_by-range_no_more, sum_by-range_same, sum_by-same, sum_by-shared, sum_by-zero}
 
 -- ---- a door is told by its polygon and its edge
 
@@ -140,7 +140,7 @@ module _ (window : Window) (cells : List Cell) (regions : Regions) (facets : Lis
   -- a position that a door lists is that of a cell that it owns
   listed_owned : (some : Cell → Bool) (door : Door) (position : ℕ)
       → (some (cell_of door position) && is_listed window cells regions doors door side position) ≡ true
-      → Any (λ cell. ((some cell && owns window regions doors side door cell) ≡ true) × (position_of side cell.at ≡ position)) cells
+      → Any (HasNumber (λ cell. some cell && owns window regions doors side door cell) (λ (cell : Cell). position_of side cell.at) position) cells
   listed_owned some door position is =
       let parts = and_parts (some (cell_of door position)) (is_listed window cells regions doors door side position) is in
       let listed = and_parts (belongs_to window doors side door position) (is_some (crossing_cell window cells regions door.region side position)) parts.1 in
@@ -153,7 +153,7 @@ module _ (window : Window) (cells : List Cell) (regions : Regions) (facets : Lis
         cell,
         crossing.listed.1,
         crossing.listed.2,
-        (and_from (some cell) (owns window regions doors side door cell) parts.0 owned, crossing.there),
+        record { passes = and_from (some cell) (owns window regions doors side door cell) parts.0 owned; is = crossing.there },
       )
 
   -- ---- the entries along the side

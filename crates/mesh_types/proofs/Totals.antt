@@ -177,9 +177,14 @@ sum_by-filter_map {Y = Y} h g f (x ∷ xs) each = by_case (h x) refl (sum_by-fil
     by_case None is rest = omega (arith, rest, sum_by-cons f x xs)
     by_case (Some y) is rest = omega (arith, rest, each x y is, sum_by-cons g y (filter_map h xs), sum_by-cons f x xs)
 
--- where for each number of a range that passes a test there is an element of that number, no more numbers pass than there are such elements
+-- an element that passes a test and has a number
+pub record HasNumber {X : Type 0} (q : X → Bool) (number : X → ℕ) (n : ℕ) (x : X) : Type 0 where
+  pub passes : q x ≡ true
+  pub is : number x ≡ n
+
+-- where for each number of a range that is listed there is an element with that number that passes, no more numbers are listed than elements pass
 pub numbers_within : {X : Type 0} (q : X → Bool) (number : X → ℕ) (listed : ℕ → Bool) (xs : List X) (first count : ℕ)
-    → ((n : ℕ) → first ≤ n → n < first + count → listed n ≡ true → Any (λ x. (q x ≡ true) × (number x ≡ n)) xs)
+    → ((n : ℕ) → first ≤ n → n < first + count → listed n ≡ true → Any (HasNumber q number n) xs)
     → sum_by (λ n. cond (listed n) 1 0) (range_with_len first count) ≤ sum_by (λ x. cond (q x) 1 0) xs
 numbers_within {X} q number listed xs first count there_is =
     let each = sum_by-range_no_more (λ n. cond (listed n) 1 0) (λ n. sum_by (has n) xs) first count
@@ -190,13 +195,13 @@ numbers_within {X} q number listed xs first count there_is =
     has : ℕ → X → ℕ
     has n x = cond (q x && number x == n) 1 0
 
-    by_listed : (n : ℕ) (b : Bool) → (listed n ≡ true → Any (λ x. (q x ≡ true) × (number x ≡ n)) xs) → listed n ≡ b → cond b 1 0 ≤ sum_by (has n) xs
+    by_listed : (n : ℕ) (b : Bool) → (listed n ≡ true → Any (HasNumber q number n) xs) → listed n ≡ b → cond b 1 0 ≤ sum_by (has n) xs
     by_listed n false there is = omega arith
     by_listed n true there is =
         let w = there is in
         let x : X = get_or xs w.0 w.1 in
         let passes : (q x && number x == n) ≡ true =
-        and_from (q x) (number x == n) (ap q w.3 ∙ w.4.0) (eq-eqb (number x) n (ap number w.3 ∙ w.4.1)) in
+        and_from (q x) (number x == n) (ap q w.3 ∙ w.4.passes) (eq-eqb (number x) n (ap number w.3 ∙ w.4.is)) in
         let one : has n x ≡ 1 = ap (λ b. cond b 1 0) passes in
         omega (arith, one, get_or-le-sum_by (has n) xs w.0 w.1 w.2)
 
