@@ -275,7 +275,10 @@ module _ (window : Window) (cells : List Cell) (regions : Regions) (facets : Lis
       omega (arith, within, sum_by-one cells)
     where
       one_listed : (b : Bool) → b ≡ true → 1 ≤ cond b 1 0
-      one_listed b is = let one : cond b 1 0 ≡ 1 = ap (λ (c : Bool). cond c 1 0) is in omega (arith, one)
+      one_listed b is =
+          let n : ℕ = cond b 1 0 in
+          let one : n ≡ 1 = ap (λ (c : Bool). cond c 1 0) is in
+          omega (arith, one)
 
   -- a position and level that an entry has is that of a cell of its door
   named_placed : (position level : ℕ) (door : Door) (run : Run)
