@@ -185,7 +185,7 @@ facing_points parts facets a b is is' facing =
     ]
   where
     other : (p q : Bool) → p ≡ false → (p || q) ≡ true → q ≡ true
-    other p q no either = cc
+    other p q neither either = cc
 
 -- ---- links
 

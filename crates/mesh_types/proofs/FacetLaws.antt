@@ -1,6 +1,6 @@
 -- The parts of a tile's regions lie in the tile, and their pieces are sound polygons.
-use Rattle.std.proofs.Common.{◌≡◌, ℕ, ◌+◌, ◌<◌, ◌≤◌, Bool, true, false, List, length, get_or, map, filter, ap, ◌∙◌, refl, sym, subst, arith, Option, Some, None, Result, Ok, Err}
-use Rattle.std.specs.Prelude.{All, nat_lt, is_some, if◌then◌else◌, pos}
+use Rattle.std.proofs.Common.{◌≡◌, ℕ, ◌+◌, ◌<◌, ◌≤◌, Bool, true, false, List, length, get_or, map, filter, ap, ◌∙◌, refl, sym, subst, arith, Option, Some, None, Result, Ok, Err, []}
+use Rattle.std.specs.Prelude.{All, nat_lt, is_some, if◌then◌else◌, ◌==◌, pos}
 use Rattle.std.specs.List.{filter_map, flat_map, list_all, range_with_len}
 use Rattle.std.specs.Option.{option_map_or}
 use Rattle.std.proofs.lemmas.Bool.{ltb-false, eq-eqb}

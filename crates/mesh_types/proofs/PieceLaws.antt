@@ -1,5 +1,5 @@
 -- The pieces of an outline that is cut: strictly convex polygons of its corners.
-use Rattle.std.proofs.Common.{◌≡◌, ℕ, zero, suc, ◌+◌, ◌-◌, ◌<◌, ◌≤◌, List, length, get_or, map, ap, subst, sym, refl, arith, Option, Some, None}
+use Rattle.std.proofs.Common.{◌≡◌, ℕ, zero, suc, ◌+◌, ◌-◌, ◌<◌, ◌≤◌, List, length, get_or, map, ap, subst, sym, refl, arith, Option, Some, None, true}
 use Rattle.std.specs.Prelude.{All}
 use Rattle.std.specs.List.{find, flat_map, range_with_len}
 use Rattle.std.specs.Option.{option_map, option_map_or}

@@ -1,5 +1,5 @@
 -- What holds of the places of a tile's cells holds of the places of its regions; so contours lie in the tile's square.
-use Rattle.std.proofs.Common.{◌≡◌, ℕ, zero, suc, ◌+◌, ◌-◌, ◌<◌, ◌≤◌, ℤ, pos, ◌≤ℤ◌, ◌+ℤ◌, List, length, get_or, map, filter, subst, arith}
+use Rattle.std.proofs.Common.{◌≡◌, ℕ, zero, suc, ◌+◌, ◌-◌, ◌<◌, ◌≤◌, ℤ, pos, ◌≤ℤ◌, ◌+ℤ◌, List, length, get_or, map, filter, subst, arith, Bool}
 use Rattle.std.specs.Prelude.{All, Contains}
 use Rattle.std.specs.List.{flat_map, range_with_len}
 use Rattle.std.proofs.lemmas.Int.{ints}
