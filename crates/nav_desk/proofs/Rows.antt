@@ -1,5 +1,5 @@
 -- What a test leaves of a list where it fails at one place alone, and rows by their numbers.
-use Rattle.std.proofs.Common.{◌≡◌, ℕ, zero, suc, ◌<◌, ◌≤◌, Bool, true, false, not, eqb, List, [], ◌∷◌, length, filter, get_or, sym, ap, arith, tests, ⊎_elim, Ok, Err, Result}
+use Rattle.std.proofs.Common.{◌≡◌, ℕ, zero, suc, ◌<◌, ◌≤◌, Bool, true, false, not, cond, eqb, List, [], ◌∷◌, ◌++◌, length, filter, get_or, sym, ap, ◌∙◌, arith, tests, ⊎_elim, Ok, Err, Result}
 use Rattle.std.specs.List.{remove, list_any}
 use Rattle.std.specs.List.Sorted.{IsBinarySearchResult}
 use Rattle.std.specs.Ordering.{nat_cmp, ordering_index}
@@ -10,8 +10,9 @@ use Rattle.std.proofs.lemmas.Cmp.{ranked}
 use Rattle.std.proofs.lemmas.Bool.{cases_lt, cases_order, eq-eqb, ne_eqb, not_from_true, not_from_false}
 use Rattle.std.proofs.lemmas.List.Folds.{list_any_at, list_any_none}
 use Rattle.nav_ground.proofs.Selections.{filter_all}
+use Rattle.nav_ground.specs.declared.shape.Shape.{Shape}
 use Rattle.nav_desk.specs.declared.live.Live.{Live}
-use Rattle.nav_desk.specs.LiveTable.{is_row_of, rows_without, IsRising}
+use Rattle.nav_desk.specs.LiveTable.{is_row_of, rows_without, shapes_in, IsRising}
 
 -- a test that fails at one place alone leaves the list without that element
 pub filter_but_one : {A : Type 0} (p : A → Bool) (xs : List A) (i : ℕ) → i < length xs → ((d : A) → p (get_or xs i d) ≡ false)
@@ -81,3 +82,16 @@ searched_rows rows number (Err i) rising there parts =
         ⊎_elim (λ below. omega (arith, same, ranked (get_or rows k d).number number Less (sym (point.0 k d (omega arith) below))))
         (λ past. omega (arith, same, ranked (get_or rows k d).number number Greater (sym (point.1 k d past within))))
         (cases_lt k i)
+
+-- what a test keeps of the shapes stays where a row comes or goes whose shape does not pass
+pub added_unseen : (p : Shape → Bool) (rows : List Live) (row : Live) → p row.shape ≡ false → filter p (shapes_in (rows ++ row ∷ [])) ≡ filter p (shapes_in rows)
+added_unseen p [] row fails = ap (λ b. cond b (row.shape ∷ []) []) fails
+added_unseen p (x ∷ rows) row fails = ap (λ rest. cond (p x.shape) (x.shape ∷ rest) rest) (added_unseen p rows row fails)
+
+pub removed_unseen : (p : Shape → Bool) (rows : List Live) (i : ℕ) (row : Live) → i < length rows → row ≡ get_or rows i row → p row.shape ≡ false
+    → filter p (shapes_in (remove rows i)) ≡ filter p (shapes_in rows)
+removed_unseen p [] i row there is fails = absurd (omega (arith, there))
+removed_unseen p (x ∷ rows) zero row there is fails =
+    sym (ap (λ b. cond b (x.shape ∷ filter p (shapes_in rows)) (filter p (shapes_in rows))) (ap (λ (r : Live). p r.shape) (sym is) ∙ fails))
+removed_unseen p (x ∷ rows) (suc i) row there is fails =
+    ap (λ rest. cond (p x.shape) (x.shape ∷ rest) rest) (removed_unseen p rows i row (omega (arith, there)) is fails)

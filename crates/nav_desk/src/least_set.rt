@@ -1,6 +1,6 @@
 //! A set of tiles that gives its least member.
 
-ghost use Rattle.std.specs.Prelude.{◌≡◌, ◌<◌, false, length, replicate, slice_set, IfOk};
+ghost use Rattle.std.specs.Prelude.{◌≡◌, ℕ, ◌<◌, ◌≤◌, false, true, length, min, replicate, slice_set, IfOk, if◌then◌else◌};
 ghost use Rattle.nav_desk.specs.Flags.{flag_of, least_below};
 
 use nav_ground::TileNo;
@@ -45,6 +45,13 @@ impl LeastSet {
         self.flags[tile as usize]
     }
 
+    /// How many tiles there are.
+    pub(crate) fn count(&self) -> u32
+        ensures { result ≡ length self.now }
+    {
+        self.flags.len() as u32
+    }
+
     /// Makes a tile a member, or takes it out.
     pub(crate) fn put(&mut self, tile: TileNo, member: bool)
         requires { tile < length self.old }
@@ -52,9 +59,7 @@ impl LeastSet {
     {
         let place = tile as usize;
         self.flags[place] = member;
-        if member && place < self.first {
-            self.first = place;
-        }
+        self.first = start_after(self.first, place, member);
     }
 
     /// The least member, if there is one.
@@ -62,12 +67,33 @@ impl LeastSet {
         ensures least { result ≡ least_below (length self.old) (flag_of self.old) }
         ensures kept { self.new ≡ self.old }
     {
-        while self.first < self.flags.len() {
-            if self.flags[self.first] {
-                return Some(self.first as u32);
-            }
-            self.first += 1;
+        let place = next_set(self.flags.as_slice(), self.first);
+        self.first = place;
+        if place < self.flags.len() {
+            Some(place as u32)
+        } else {
+            None
         }
-        None
     }
+}
+
+/// Where looking may start once a flag was written.
+fn start_after(start: usize, place: usize, flag: bool) -> usize
+    ensures { result ≡ (if flag then min start place else start) }
+{
+    if flag { start.min(place) } else { start }
+}
+
+/// The first flag from a place on that is set, or the end.
+fn next_set(flags: &[bool], start: usize) -> usize
+    requires { start ≤ length flags.now }
+    ensures within { result ≤ length flags.now }
+    ensures before { (k : ℕ) → start ≤ k → k < result → flag_of flags.now k ≡ false }
+    ensures set { result < length flags.now → flag_of flags.now result ≡ true }
+{
+    let mut place = start;
+    while place < flags.len() && !flags[place] {
+        place += 1;
+    }
+    place
 }

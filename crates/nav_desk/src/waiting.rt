@@ -1,6 +1,6 @@
 //! Which tiles await a build, and which builds are claimed.
 
-ghost use Rattle.std.specs.Prelude.{◌≡◌, ◌<◌, false, length, replicate, slice_set, IfOk};
+ghost use Rattle.std.specs.Prelude.{◌≡◌, ◌<◌, ◌&&◌, not, false, length, replicate, slice_set, IfOk};
 ghost use Rattle.nav_desk.specs.Flags.{flag_of, least_below};
 ghost use Rattle.nav_desk.specs.Waiting.{least_ready};
 
@@ -49,28 +49,30 @@ impl WaitingTiles {
 
     /// Makes a tile awaited, or not.
     pub(crate) fn set_awaited(&mut self, tile: TileNo, awaited: bool)
-        requires { (tile < length self.old.awaited) × (length self.old.claimed ≡ length self.old.awaited) }
+        requires { tile < length self.old.awaited }
         ensures { self.new ≡ record self.old { awaited = slice_set self.old.awaited tile awaited } }
     {
         self.awaited.put(tile, awaited);
-        self.ready.put(tile, awaited && !self.claimed[tile as usize]);
+        let claimed = self.claimed[tile as usize];
+        self.ready.put(tile, is_ready(awaited, claimed));
     }
 
     /// Claims a tile, or ends the claim on it.
     pub(crate) fn set_claimed(&mut self, tile: TileNo, claimed: bool)
-        requires { (tile < length self.old.awaited) × (length self.old.claimed ≡ length self.old.awaited) }
+        requires { tile < length self.old.awaited }
         ensures { self.new ≡ record self.old { claimed = slice_set self.old.claimed tile claimed } }
     {
         self.claimed[tile as usize] = claimed;
-        self.ready.put(tile, self.awaited.has(tile) && !claimed);
+        let awaited = self.awaited.has(tile);
+        self.ready.put(tile, is_ready(awaited, claimed));
     }
 
     /// Ends all claims.
     pub(crate) fn release_all(&mut self)
         ensures { self.new ≡ record self.old { claimed = replicate (length self.old.claimed) false } }
     {
-        for tile in 0..self.claimed.len() {
-            self.set_claimed(tile as u32, false);
+        for tile in 0..self.awaited.count() {
+            self.set_claimed(tile, false);
         }
     }
 
@@ -89,4 +91,11 @@ impl WaitingTiles {
     {
         self.ready.least()
     }
+}
+
+/// Whether a tile can be claimed that is awaited and claimed, or not.
+fn is_ready(awaited: bool, claimed: bool) -> bool
+    ensures { result ≡ (awaited && not claimed) }
+{
+    awaited && !claimed
 }

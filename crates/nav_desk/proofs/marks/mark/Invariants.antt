@@ -1,0 +1,12 @@
+use Rattle.std.proofs.Common.{◌≡◌, ℕ, ◌<◌, false, length}
+use Rattle.nav_ground.specs.Touching.{is_touching}
+use Rattle.nav_desk.specs.Flags.{flag_of}
+use Rattle.nav_desk.proofs.marks.mark.Given as goal
+
+-- the marks stay, and of the tiles so far those that the shape touches are marked
+abbrev pub invariant-loop-tile : goal.invariant-loop-tile
+invariant-loop-tile l = record {
+  each : length l.dirty ≡ length l.initial.dirty;
+  kept : (k : ℕ) → flag_of l.dirty k ≡ false → flag_of l.initial.dirty k ≡ false;
+  marked : (k : ℕ) → k < l.tile → flag_of l.dirty k ≡ false → is_touching l.setting k l.shape ≡ false;
+}
