@@ -1,14 +1,15 @@
 -- Laws of a book's steps: what is taken, what is awaited no more, and when a publish comes.
 use Rattle.std.proofs.Common.{◌≡◌, ℕ, zero, suc, ◌<◌, Bool, true, false, not, ◌&&◌, List, [], length, replicate, Option, Some, None, ap, sym, ◌∙◌, refl}
-use Rattle.std.specs.Prelude.{◌==◌, if◌then◌else◌, slice_index_or}
+use Rattle.std.specs.Prelude.{◌==◌, if◌then◌else◌, slice_index_or, slice_set}
 use Rattle.std.proofs.lemmas.Bool.{and_parts, both_ways, eqb-true}
 use Rattle.std.proofs.lemmas.List.{get_or-set_same}
 use Rattle.nav_ground.specs.declared.shape.Shape.{Shape}
+use Rattle.nav_ground.specs.Tiling.{tile_count}
 use Rattle.nav_desk.specs.declared.answers.Published.{Published}
 use Rattle.nav_desk.specs.declared.answers.Published.TheVariants.{New, Same, NotYet}
 use Rattle.nav_desk.specs.BookState.{BookState, is_awaited, is_claimable, least_awaited, least_claimable, stored_at, wanted_at}
 use Rattle.nav_desk.specs.SameShapes.{are_same}
-use Rattle.nav_desk.specs.Steps.{is_taken, after_put_back, after_put_back_all, after_submit, with_stored, publication, publication_by, published_by, after_publish}
+use Rattle.nav_desk.specs.Steps.{is_taken, after_put_back_all, after_submit, publication, publication_by, published_by, after_publish}
 use Rattle.nav_desk.proofs.Leasts.{none_below, least_below-same}
 use Rattle.nav_desk.proofs.SameShapes.{same_lists_decide}
 
@@ -17,10 +18,10 @@ not_from true is = refl
 not_from false is = absurd (both_ways true refl is)
 
 -- where no tile is awaited, each is stored with its touching list at the target
-pub none_awaited : (state : BookState) (tile : ℕ) → least_awaited state ≡ None → tile < length state.stored → stored_at state tile ≡ wanted_at state tile
+pub none_awaited : (state : BookState) (tile : ℕ) → least_awaited state ≡ None → tile < tile_count state.whole.setting → stored_at state tile ≡ wanted_at state tile
 none_awaited state tile none there =
     (same_lists_decide (stored_at state tile) (wanted_at state tile)).0
-    (not_from (are_same (stored_at state tile) (wanted_at state tile)) (none_below (length state.stored) (is_awaited state) tile none there))
+    (not_from (are_same (stored_at state tile) (wanted_at state tile)) (none_below (tile_count state.whole.setting) (is_awaited state) tile none there))
 
 -- a list that is taken is the touching list of its tile at the target
 pub taken_list : (state : BookState) (tile : ℕ) (shapes : List Shape) → is_taken state tile shapes ≡ true → shapes ≡ wanted_at state tile
@@ -32,7 +33,7 @@ pub taken_not_awaited : (state : BookState) (tile : ℕ) (shapes : List Shape) �
     → is_awaited (after_submit state tile shapes) tile ≡ false
 taken_not_awaited state tile shapes there taken =
     let same = (and_parts (is_awaited state tile) (are_same shapes (wanted_at state tile)) taken).1 in
-    ap (λ (b : Bool). is_awaited (if b then with_stored (after_put_back state tile) tile shapes else after_put_back state tile) tile) taken
+    ap (λ (b : Bool). not (are_same (slice_index_or (if b then slice_set state.stored tile shapes else state.stored) tile []) (wanted_at state tile))) taken
     ∙ ap (λ (list : List Shape). not (are_same list (wanted_at state tile))) (get_or-set_same state.stored tile shapes [] there)
     ∙ ap not same
 
@@ -84,7 +85,7 @@ shown_after_publish state none =
 -- where nothing is claimed, the least tile that can be claimed is the least that is awaited
 pub least_claimable-none_claimed : (state : BookState) → least_claimable (after_put_back_all state) ≡ least_awaited state
 least_claimable-none_claimed state =
-    least_below-same (length state.stored) (is_claimable (after_put_back_all state)) (is_awaited state)
+    least_below-same (tile_count state.whole.setting) (is_claimable (after_put_back_all state)) (is_awaited state)
     (λ tile _. ap (λ (claimed : Bool). is_awaited state tile && not claimed) (unclaimed (length state.claimed) tile) ∙ and_true (is_awaited state tile))
   where
     unclaimed : (count tile : ℕ) → slice_index_or (replicate count false) tile false ≡ false

@@ -1,8 +1,8 @@
 -- Flags after one of them was written.
-use Rattle.std.proofs.Common.{◌≡◌, ◌≢◌, ℕ, zero, suc, ◌+◌, ◌<◌, ◌≤◌, min, Bool, true, false, List, [], ◌∷◌, ◌++◌, length, get_or, set, drop, replicate, ap, sym, ◌∙◌, refl, subst, ⊎_elim, arith, inl, inr}
+use Rattle.std.proofs.Common.{◌≡◌, ◌≢◌, ℕ, zero, suc, ◌+◌, ◌<◌, ◌≤◌, min, Bool, true, false, List, [], ◌∷◌, ◌++◌, length, get_or, set, drop, replicate, ap, sym, ◌∙◌, refl, ⊎_elim, arith}
 use Rattle.std.specs.Prelude.{if◌then◌else◌}
 use Rattle.std.proofs.lemmas.Bool.{both_ways, cases_eq, cases_lt}
-use Rattle.std.proofs.lemmas.List.{length-set, get_or-set_same, get_or-set_other, get_or_past, drop_more, set_at, length-replicate, replicate_more, append_assoc, set_past}
+use Rattle.std.proofs.lemmas.List.{length-set, get_or-set_same, get_or-set_other, drop_more, set_at, length-replicate, replicate_more, append_assoc}
 use Rattle.nav_desk.specs.Flags.{flag_of, IsStart}
 
 -- a flag that was written, and the others
@@ -12,11 +12,17 @@ flag_written flags tile b there = get_or-set_same flags tile b false there
 pub flag_other : (flags : List Bool) (tile k : ℕ) (b : Bool) → k ≢ tile → flag_of (set flags tile b) k ≡ flag_of flags k
 flag_other flags tile k b apart = get_or-set_other flags tile k b false apart
 
--- a flag that is not set after one was set is another, and was not set
-pub not_set_after : (flags : List Bool) (tile k : ℕ) → tile < length flags → flag_of (set flags tile true) k ≡ false → (k ≢ tile) × (flag_of flags k ≡ false)
-not_set_after flags tile k there unset =
-    let apart : k ≢ tile = λ same. both_ways (flag_of (set flags tile true) tile) (subst (λ n. flag_of (set flags tile true) n ≡ false) same unset) (flag_written flags tile true there) in
-    (apart, sym (flag_other flags tile k true apart) ∙ unset)
+-- a set flag stays set where another, or itself, is set
+pub still_set : (flags : List Bool) (tile k : ℕ) → tile < length flags → flag_of flags k ≡ true → flag_of (set flags tile true) k ≡ true
+still_set flags tile k there is = ⊎_elim
+    (λ same. ap (flag_of (set flags tile true)) same ∙ flag_written flags tile true there)
+    (λ apart. flag_other flags tile k true apart ∙ is)
+    (cases_eq k tile)
+
+-- what makes a flag set is not so where the flag is not set
+pub unset : (a b : Bool) → (a ≡ true → b ≡ true) → b ≡ false → a ≡ false
+unset true b sets is = absurd (both_ways b is (sets refl))
+unset false b sets is = refl
 
 -- flags that are never set
 pub flag_of_none : (count tile : ℕ) → flag_of (replicate count false) tile ≡ false

@@ -29,15 +29,15 @@ awaited_flag inside tile kept there =
 pub least_awaited_is : (inside : Inside) → IsKept inside
     → least_below (length inside.waiting.awaited) (flag_of inside.waiting.awaited) ≡ least_awaited (state_of inside)
 least_awaited_is inside kept =
-    ap (λ count. least_below count (flag_of inside.waiting.awaited)) (kept.flags ∙ sym kept.lists)
-    ∙ least_below-same (length inside.stored.items) (flag_of inside.waiting.awaited) (is_awaited (state_of inside))
-    (λ tile there. awaited_flag inside tile kept (omega (arith, there, kept.lists)))
+    ap (λ count. least_below count (flag_of inside.waiting.awaited)) kept.flags
+    ∙ least_below-same (tile_count (arc_value inside.level).setting) (flag_of inside.waiting.awaited) (is_awaited (state_of inside))
+    (λ tile there. awaited_flag inside tile kept there)
 
 pub least_ready_is : (inside : Inside) → IsKept inside → least_ready inside.waiting ≡ least_claimable (state_of inside)
 least_ready_is inside kept =
-    ap (λ count. least_below count (is_ready inside.waiting)) (kept.flags ∙ sym kept.lists)
-    ∙ least_below-same (length inside.stored.items) (is_ready inside.waiting) (is_claimable (state_of inside))
-    (λ tile there. ap (λ b. b && not (flag_of inside.waiting.claimed tile)) (awaited_flag inside tile kept (omega (arith, there, kept.lists))))
+    ap (λ count. least_below count (is_ready inside.waiting)) kept.flags
+    ∙ least_below-same (tile_count (arc_value inside.level).setting) (is_ready inside.waiting) (is_claimable (state_of inside))
+    (λ tile there. ap (λ b. b && not (flag_of inside.waiting.claimed tile)) (awaited_flag inside tile kept there))
 
 -- a tile that was looked at again, or not marked
 pub looked_at : (setting : Setting) (live aimed : List Shape) (tile : ℕ) (stored : List Shape) (marked was now : Bool)

@@ -56,10 +56,10 @@ is_claimable state tile = is_awaited state tile && not (is_claimed state tile)
 
 -- the least such tiles
 abbrev pub least_awaited : BookState → Option ℕ
-least_awaited state = least_below (length state.stored) (is_awaited state)
+least_awaited state = least_below (tile_count state.whole.setting) (is_awaited state)
 
 abbrev pub least_claimable : BookState → Option ℕ
-least_claimable state = least_below (length state.stored) (is_claimable state)
+least_claimable state = least_below (tile_count state.whole.setting) (is_claimable state)
 
 -- what every book keeps: its ground and its history keep their rules, it shows no more entries than it aims at and aims at no more than
 -- there are, and there is one stored list and one claim a tile

@@ -37,11 +37,8 @@ job_of state tile = record { tile = tile; shapes = wanted_at state tile }
 abbrev pub next_job : BookState → Option Job
 next_job state = option_map (job_of state) (least_claimable state)
 
-abbrev pub with_claim : BookState → ℕ → BookState
-with_claim state tile = record state { claimed = slice_set state.claimed tile true }
-
 abbrev pub after_claim : BookState → BookState
-after_claim state = option_map_or (with_claim state) (least_claimable state) state
+after_claim state = record state { claimed = option_map_or (λ tile. slice_set state.claimed tile true) (least_claimable state) state.claimed }
 
 -- a tile that is put back is claimed no more
 abbrev pub after_put_back : BookState → ℕ → BookState
@@ -58,12 +55,11 @@ abbrev pub submission : BookState → ℕ → List Shape → Submitted
 submission state tile shapes = if is_taken state tile shapes then Taken else Stale
 
 -- the claim on the tile ends, and a list that is taken is stored
-abbrev pub with_stored : BookState → ℕ → List Shape → BookState
-with_stored state tile shapes = record state { stored = slice_set state.stored tile shapes }
-
 abbrev pub after_submit : BookState → ℕ → List Shape → BookState
-after_submit state tile shapes =
-    if is_taken state tile shapes then with_stored (after_put_back state tile) tile shapes else after_put_back state tile
+after_submit state tile shapes = record state {
+  claimed = slice_set state.claimed tile false;
+  stored = if is_taken state tile shapes then slice_set state.stored tile shapes else state.stored;
+}
 
 -- a publish is not yet possible while a tile is awaited, and names the least; else it shows the target, which is the same as before where
 -- that was published already

@@ -52,7 +52,8 @@ impl Desk {
     /// many live obstacles as the setting allows.
     pub fn begin(alloc: Global, level: Arc<Ground>) -> Result<Desk, AllocError>
         requires { IsGround (arc_value level) }
-        ensures { IfOk result (λ desk. desk ≡ first_state (arc_value level)) }
+        ensures state { IfOk result (λ desk. desk ≡ first_state (arc_value level)) }
+        ensures rules { IfOk result IsBook }
     {
         let limit = level.setting.limit as usize;
         let count = tiles(&level.setting);
@@ -75,6 +76,7 @@ impl Desk {
         ensures appended { OnOk result (self.new ≡ after_request self.old lane request) }
         ensures number { IfOk result (λ answer. answer.0 ≡ length self.old.history + 1) }
         ensures reply { IfOk result (λ answer. answer.1 ≡ next_reply self.old request) }
+        ensures rules { IsBook self.new }
 
         // It is refused exactly where the history is full, and then nothing changes.
         ensures full { IsErr result ↔ (length self.old.history ≡ HISTORY_LIMIT) }
@@ -101,6 +103,7 @@ impl Desk {
     pub fn aim(&mut self) -> u32
         ensures aimed { self.new ≡ after_aim self.old }
         ensures length { result ≡ length self.old.history }
+        ensures rules { IsBook self.new }
     {
         let len = self.length();
         take_over(self.live.as_slice(), &mut self.aimed);
@@ -119,9 +122,10 @@ impl Desk {
     /// memory is refused, nothing has changed.
     pub fn claim(&mut self, alloc: Global) -> Result<Option<Job>, AllocError>
         ensures job { IfOk result (λ job. job ≡ next_job self.old) }
-        ensures rules { IfOk result (λ job. IfSome job (IsJob self.old.whole.setting)) }
+        ensures fit { IfOk result (λ job. IfSome job (IsJob self.old.whole.setting)) }
         ensures claimed { OnOk result (self.new ≡ after_claim self.old) }
         ensures refused { OnErr result (self.new ≡ self.old) }
+        ensures rules { IsBook self.new }
     {
         match self.waiting.least_ready() {
             None => Ok(None),
@@ -136,14 +140,16 @@ impl Desk {
     /// Ends the claim on a tile, if there is one.
     pub fn put_back(&mut self, tile: TileNo)
         requires { tile < tile_count self.old.whole.setting }
-        ensures { self.new ≡ after_put_back self.old tile }
+        ensures state { self.new ≡ after_put_back self.old tile }
+        ensures rules { IsBook self.new }
     {
         self.waiting.set_claimed(tile, false);
     }
 
     /// Ends all claims.
     pub fn put_back_all(&mut self)
-        ensures { self.new ≡ after_put_back_all self.old }
+        ensures state { self.new ≡ after_put_back_all self.old }
+        ensures rules { IsBook self.new }
     {
         self.waiting.release_all();
     }
@@ -154,6 +160,7 @@ impl Desk {
         requires { tile < tile_count self.old.whole.setting }
         ensures answer { result ≡ submission self.old tile shapes }
         ensures stored { self.new ≡ after_submit self.old tile shapes }
+        ensures rules { IsBook self.new }
     {
         self.waiting.set_claimed(tile, false);
         if !self.waiting.is_awaited(tile) {
@@ -185,7 +192,9 @@ impl Desk {
     /// Notes that the target is published.
     pub fn publish(&mut self)
         requires { least_awaited self.old ≡ None }
-        ensures { self.new ≡ after_publish self.old }
+        ensures state { self.new ≡ after_publish self.old }
+        ensures shown { self.new.published ≡ self.old.target }
+        ensures rules { IsBook self.new }
     {
         self.published = self.target;
     }

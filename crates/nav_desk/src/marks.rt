@@ -1,6 +1,6 @@
 //! The tiles that a changed shape touches, and which of these await a build.
 
-ghost use Rattle.std.specs.Prelude.{◌≡◌, ℕ, ◌<◌, false, All, IfSome, length, slice_index_or, slice_set, [], if◌then◌else◌};
+ghost use Rattle.std.specs.Prelude.{◌≡◌, ℕ, ◌<◌, false, true, All, IfSome, length, slice_index_or, slice_set, [], if◌then◌else◌};
 ghost use Rattle.std.specs.Option.{option_map_or};
 ghost use Rattle.nav_ground.specs.Limits.{IsSetting, IsShape};
 ghost use Rattle.nav_ground.specs.Tiling.{tile_count};
@@ -20,9 +20,9 @@ pub(crate) fn mark_changed(setting: &Setting, dirty: &mut LeastSet, changed: Opt
     requires shape { IfSome changed IsShape }
     requires tiles { length dirty.old ≡ tile_count setting.now }
     ensures tiles_after { length dirty.new ≡ length dirty.old }
-    ensures kept { (tile : ℕ) → flag_of dirty.new tile ≡ false → flag_of dirty.old tile ≡ false }
-    ensures marked { (tile : ℕ) → tile < tile_count setting.now → flag_of dirty.new tile ≡ false
-        → option_map_or (is_touching setting.now tile) changed false ≡ false }
+    ensures kept { (tile : ℕ) → flag_of dirty.old tile ≡ true → flag_of dirty.new tile ≡ true }
+    ensures marked { (tile : ℕ) → tile < tile_count setting.now → option_map_or (is_touching setting.now tile) changed false ≡ true
+        → flag_of dirty.new tile ≡ true }
 {
     if let Some(shape) = changed {
         mark(setting, dirty, &shape);
@@ -35,9 +35,8 @@ fn mark(setting: &Setting, dirty: &mut LeastSet, shape: &Shape)
     requires shape { IsShape shape.now }
     requires tiles { length dirty.old ≡ tile_count setting.now }
     ensures tiles_after { length dirty.new ≡ length dirty.old }
-    ensures kept { (tile : ℕ) → flag_of dirty.new tile ≡ false → flag_of dirty.old tile ≡ false }
-    ensures marked { (tile : ℕ) → tile < tile_count setting.now → flag_of dirty.new tile ≡ false
-        → is_touching setting.now tile shape.now ≡ false }
+    ensures kept { (tile : ℕ) → flag_of dirty.old tile ≡ true → flag_of dirty.new tile ≡ true }
+    ensures marked { (tile : ℕ) → tile < tile_count setting.now → is_touching setting.now tile shape.now ≡ true → flag_of dirty.new tile ≡ true }
 {
     for tile in 0..tiles(setting) {
         if touches(setting, tile, shape) {
