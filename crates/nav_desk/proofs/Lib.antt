@@ -2,6 +2,8 @@ pub mod Leasts
 pub mod SameShapes
 pub mod BookLaws
 pub mod FlagLaws
+pub mod Touched
+pub mod Reach
 pub mod Keeping
 pub mod Rows
 pub mod Tables
