@@ -11,6 +11,7 @@ mod desk;
 mod least_set;
 mod live;
 mod marks;
+mod reach;
 mod touching;
 mod waiting;
 

@@ -1,6 +1,6 @@
 //! The tiles that a changed shape touches, and which of these await a build.
 
-ghost use Rattle.std.specs.Prelude.{◌≡◌, ℕ, ◌<◌, false, true, All, IfSome, length, slice_index_or, slice_set, [], if◌then◌else◌};
+ghost use Rattle.std.specs.Prelude.{◌≡◌, ℕ, ◌+◌, ◌<◌, ◌≤◌, ◌^◌, false, true, All, IfSome, length, slice_index_or, slice_set, [], if◌then◌else◌};
 ghost use Rattle.std.specs.Option.{option_map_or};
 ghost use Rattle.nav_ground.specs.Limits.{IsSetting, IsShape};
 ghost use Rattle.nav_ground.specs.Tiling.{tile_count};
@@ -9,9 +9,10 @@ ghost use Rattle.nav_desk.specs.Awaiting.{awaits};
 ghost use Rattle.nav_desk.specs.Flags.{flag_of};
 
 use crate::least_set::LeastSet;
+use crate::reach::{Places, places, tiles_along};
 use crate::touching::is_touching_list;
 use crate::waiting::WaitingTiles;
-use nav_ground::{Setting, Shape, TileNo, tiles, touches};
+use nav_ground::{Setting, Shape, TileNo, bounds};
 use nav_list::Items;
 
 /// Marks the tiles that a shape touches, if one has come or gone.
@@ -38,10 +39,26 @@ fn mark(setting: &Setting, dirty: &mut LeastSet, shape: &Shape)
     ensures kept { (tile : ℕ) → flag_of dirty.old tile ≡ true → flag_of dirty.new tile ≡ true }
     ensures marked { (tile : ℕ) → tile < tile_count setting.now → is_touching setting.now tile shape.now ≡ true → flag_of dirty.new tile ≡ true }
 {
-    for tile in 0..tiles(setting) {
-        if touches(setting, tile, shape) {
-            dirty.put(tile, true);
-        }
+    let columns = tiles_along(setting.width, setting.tile);
+    let rows = tiles_along(setting.depth, setting.tile);
+    let window = bounds(shape);
+    let across = places(window.x0, window.x1, setting.tile, columns);
+    let along = places(window.z0, window.z1, setting.tile, rows);
+    for row in along.first..along.end {
+        mark_run(dirty, row * columns, across);
+    }
+}
+
+/// Marks the tiles at places of a row, which begins with the tile `start`.
+fn mark_run(dirty: &mut LeastSet, start: u32, across: Places)
+    requires there { start + across.end ≤ length dirty.old }
+    requires few { length dirty.old < 2 ^ 32 }
+    ensures tiles_after { length dirty.new ≡ length dirty.old }
+    ensures kept { (tile : ℕ) → flag_of dirty.old tile ≡ true → flag_of dirty.new tile ≡ true }
+    ensures marked { (place : ℕ) → across.first ≤ place → place < across.end → flag_of dirty.new (start + place) ≡ true }
+{
+    for place in across.first..across.end {
+        dirty.put(start + place, true);
     }
 }
 

@@ -1,12 +1,13 @@
 //! Runs of desks over an empty ground of three tiles in a row. What is wanted was worked out by hand.
 
-ghost use Rattle.std.specs.Prelude.{◌≡◌, ◌<◌, IfOk, IsTrue};
+ghost use Rattle.std.specs.Prelude.{◌≡◌, ◌<◌, ◌≤◌, IsTrue};
 ghost use Rattle.nav_ground.specs.Fields.{IsField};
 ghost use Rattle.nav_ground.specs.History.{IsRequest};
+ghost use Rattle.nav_ground.specs.Limits.{IsShape};
 ghost use Rattle.nav_ground.specs.Tiling.{tile_count};
 
 use layer_cut::ground;
-use nav_desk::{Desk, Job, Published, Submitted};
+use nav_desk::{Desk, Published, Submitted};
 use nav_ground::{AREAS, Agent, Field, MeshKind, Reply, Request, Setting, Shape, TileNo, tiles};
 use nav_list::Items;
 use std::alloc::{AllocError, Global};
@@ -178,9 +179,68 @@ fn published(desk: &mut Desk) -> Published {
 }
 
 /// Asks a desk the rows of a table one after the other.
-fn check(rt: &impl Abort, desk: &mut Desk, alloc: Global, rows: &[(Asked, Told)]) {
+fn check(
+    rt: &impl Abort,
+    desk: &mut Desk,
+    alloc: Global,
+    rows: &[(Asked, Told)],
+) -> Result<(), AllocError> {
     for (asked, wanted) in rows {
-        let found = told(desk, alloc, *asked);
-        assert!(rt; found == Ok(*wanted));
+        let found = told(desk, alloc, *asked)?;
+        assert!(rt; found == *wanted);
     }
+    Ok(())
+}
+
+/// A block that touches the tile 1 comes, is built, and goes and comes again, which makes nothing awaited.
+const ONE_BLOCK: [(Asked, Told); 12] = [
+    (Asked::Look, Told::Published(Published::Same { k: 0 })),
+    (Asked::Add(5), Told::Replied(1, Reply::Added { number: 1 })),
+    (Asked::Aim, Told::Aimed(1)),
+    (Asked::Look, Told::Published(Published::NotYet { tile: 1 })),
+    (Asked::Claim, Told::Job(1, Some(block_at(5)), 1)),
+    (Asked::Claim, Told::NoJob),
+    (Asked::Back(1), Told::Nothing),
+    (Asked::Claim, Told::Job(1, Some(block_at(5)), 1)),
+    (Asked::Submit(1, None), Told::Submitted(Submitted::Stale)),
+    (Asked::Submit(1, Some(5)), Told::Submitted(Submitted::Taken)),
+    (Asked::Submit(1, Some(5)), Told::Submitted(Submitted::Stale)),
+    (Asked::Publish, Told::Published(Published::New { k: 1 })),
+];
+
+const SAME_AGAIN: [(Asked, Told); 6] = [
+    (Asked::Look, Told::Published(Published::Same { k: 1 })),
+    (Asked::Remove(1), Told::Replied(2, Reply::Removed)),
+    (Asked::Add(5), Told::Replied(3, Reply::Added { number: 3 })),
+    (Asked::Aim, Told::Aimed(3)),
+    (Asked::Claim, Told::NoJob),
+    (Asked::Publish, Told::Published(Published::New { k: 3 })),
+];
+
+/// A block over a border comes, is built in one tile after it went, and is taken there since nobody has aimed anew.
+const TWO_TILES: [(Asked, Told); 15] = [
+    (Asked::Add(7), Told::Replied(4, Reply::Added { number: 4 })),
+    (Asked::Add(0), Told::Replied(5, Reply::Full { live: 2 })),
+    (Asked::Remove(1), Told::Replied(6, Reply::Dead { number: 1 })),
+    (Asked::Aim, Told::Aimed(6)),
+    (Asked::Claim, Told::Job(1, Some(block_at(5)), 2)),
+    (Asked::Claim, Told::Job(2, Some(block_at(7)), 1)),
+    (Asked::Claim, Told::NoJob),
+    (Asked::Remove(4), Told::Replied(7, Reply::Removed)),
+    (Asked::Submit(2, Some(7)), Told::Submitted(Submitted::Taken)),
+    (Asked::Aim, Told::Aimed(7)),
+    (Asked::Look, Told::Published(Published::NotYet { tile: 2 })),
+    (Asked::BackAll, Told::Nothing),
+    (Asked::Claim, Told::Job(2, None, 0)),
+    (Asked::Submit(2, None), Told::Submitted(Submitted::Taken)),
+    (Asked::Publish, Told::Published(Published::New { k: 7 })),
+];
+
+#[test]
+fn takes_steps(rt: HostRuntime) -> Result<(), AllocError> {
+    let alloc = rt.alloc();
+    let mut desk = opened(alloc)?;
+    check(&rt, &mut desk, alloc, &ONE_BLOCK)?;
+    check(&rt, &mut desk, alloc, &SAME_AGAIN)?;
+    check(&rt, &mut desk, alloc, &TWO_TILES)
 }
