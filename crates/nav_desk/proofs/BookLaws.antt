@@ -15,7 +15,7 @@ use Rattle.nav_desk.proofs.SameShapes.{same_lists_decide}
 
 not_from : (b : Bool) → not b ≡ false → b ≡ true
 not_from true is = refl
-not_from false is = absurd (both_ways true refl is)
+not_from false is = absurd (both_ways true is refl)
 
 -- where no tile is awaited, each is stored with its touching list at the target
 pub none_awaited : (state : BookState) (tile : ℕ) → least_awaited state ≡ None → tile < tile_count state.whole.setting → stored_at state tile ≡ wanted_at state tile

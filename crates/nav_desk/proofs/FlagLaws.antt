@@ -4,6 +4,7 @@ use Rattle.std.specs.Prelude.{if◌then◌else◌}
 use Rattle.std.proofs.lemmas.Bool.{both_ways, cases_eq, cases_lt}
 use Rattle.std.proofs.lemmas.List.{length-set, get_or-set_same, get_or-set_other, drop_more, set_at, length-replicate, replicate_more, append_assoc}
 use Rattle.nav_desk.specs.Flags.{flag_of, IsStart}
+use Rattle.nav_desk.specs.Waiting.{Waiting}
 
 -- a flag that was written, and the others
 pub flag_written : (flags : List Bool) (tile : ℕ) (b : Bool) → tile < length flags → flag_of (set flags tile b) tile ≡ b
@@ -64,3 +65,9 @@ one_more_taken flags i there =
     ∙ set_at (replicate i false) (get_or flags i false) (drop (i + 1) flags) false i (length-replicate i false)
     ∙ sym (append_assoc (replicate i false) (false ∷ []) (drop (i + 1) flags))
     ∙ ap (λ front. front ++ drop (i + 1) flags) (replicate_more i false)
+
+pub released : (start now after : Waiting) (i : ℕ) → now ≡ record start { claimed = replicate i false ++ drop i start.claimed } → i < length start.claimed
+    → after ≡ record now { claimed = set now.claimed i false } → after ≡ record start { claimed = replicate (i + 1) false ++ drop (i + 1) start.claimed }
+released start now after i so_far there is =
+    is ∙ ap (λ (w : Waiting). record w { claimed = set w.claimed i false }) so_far
+    ∙ ap (λ (claims : List Bool). record start { claimed = claims }) (one_more_taken start.claimed i there)

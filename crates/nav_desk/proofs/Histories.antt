@@ -1,8 +1,8 @@
 -- Histories of a book: one entry more, and the limits of the shapes that are alive.
-use Rattle.std.proofs.Common.{◌≡◌, ℕ, zero, suc, ◌+◌, ◌<◌, List, [], ◌∷◌, ◌++◌, length, map, get_or, Some, sym, ◌∙◌, subst, arith}
-use Rattle.std.specs.List.{All}
+use Rattle.std.proofs.Common.{◌≡◌, ℕ, zero, suc, ◌+◌, ◌<◌, List, [], ◌∷◌, ◌++◌, length, map, get_or, Option, None, Some, refl, sym, ◌∙◌, subst, arith}
+use Rattle.std.specs.List.{All, filter_map, cons_option}
 use Rattle.std.proofs.lemmas.List.{length_push}
-use Rattle.std.proofs.lemmas.List.Elements.{All-push, All-map}
+use Rattle.std.proofs.lemmas.List.Elements.{All-push, All-map, All-nil, All-cons}
 use Rattle.std.proofs.lemmas.Option.{none-some, same_Some, option_and_then_some, slice_get_within, get_or_from_slice_get}
 use Rattle.nav_ground.specs.declared.history.TheConstants.{HISTORY_LIMIT}
 use Rattle.nav_ground.specs.declared.history.Entry.{Entry}
@@ -10,7 +10,7 @@ use Rattle.nav_ground.specs.declared.history.Request.{Request}
 use Rattle.nav_ground.specs.declared.history.Request.TheVariants.{Add, Remove}
 use Rattle.nav_ground.specs.declared.shape.Shape.{Shape}
 use Rattle.nav_ground.specs.Limits.{IsShape}
-use Rattle.nav_ground.specs.History.{IsHistory, IsRequest, entry_at, shape_in, shape_of, reply_to}
+use Rattle.nav_ground.specs.History.{IsHistory, IsRequest, alive_after, entry_at, shape_in, shape_of, shapes_alive, reply_to}
 use Rattle.nav_ground.proofs.AliveLaws.{IsWellReplied-push}
 use Rattle.nav_desk.specs.declared.live.Live.{Live}
 use Rattle.nav_ground.specs.declared.history.Reply.{Reply}
@@ -66,3 +66,16 @@ request_kept limit lane number history rows request reply rules table room asked
           (subst (λ r. IsLiveTable (history ++ record { lane = lane; request = request; reply = r } ∷ []) (rows_after limit (length history + 1) rows request)) (sym counted)
           (table_after limit lane history rows request table)),
     )
+
+-- the shapes that are alive are within their limits
+found_more : (history : List Entry) (number : ℕ) (rest : List Shape) (found : Option Shape) → All (λ (entry : Entry). IsRequest entry.request) history
+    → shape_of history number ≡ found → All IsShape rest → All IsShape (cons_option found rest)
+found_more history number rest None requests is limits = limits
+found_more history number rest (Some shape) requests is limits = All-cons IsShape shape rest (shape_limits history number shape requests is) limits
+
+pub alive_limits : (history : List Entry) (k : ℕ) → All (λ (entry : Entry). IsRequest entry.request) history → All IsShape (shapes_alive history k)
+alive_limits history k requests = among (alive_after history k)
+  where
+    among : (numbers : List ℕ) → All IsShape (filter_map (shape_of history) numbers)
+    among [] = All-nil IsShape
+    among (number ∷ numbers) = found_more history number (filter_map (shape_of history) numbers) (shape_of history number) requests refl (among numbers)

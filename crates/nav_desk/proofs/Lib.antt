@@ -3,7 +3,7 @@ pub mod SameShapes
 pub mod BookLaws
 pub mod FlagLaws
 pub mod Touched
-pub mod Reach
+pub mod Meetings
 pub mod Keeping
 pub mod Rows
 pub mod Tables

@@ -63,3 +63,23 @@ same_end list place within = ⊎_elim inside past (cases_lt place (length list))
     inside there =
         let x : Shape = Block 0 0 0 0 0 0 in
         ap (λ (shapes : List Shape). are_same shapes []) (drop_more list place x there) ∙ sym (ne_eqb place (length list) (λ same. omega (arith, same, there)))
+
+-- the shapes that are left decide beside what is left of the list: where the next does not stand there, where it does, and where it is passed by
+pub stops : (p : Shape → Bool) (shapes list : List Shape) (i place : ℕ) (d : Shape) (whole : Bool) → i < length shapes → p (get_or shapes i d) ≡ true
+    → ((place < length list) × (get_or list place (get_or shapes i d) ≡ get_or shapes i d) → ⊥)
+    → are_same (drop place list) (filter p (drop i shapes)) ≡ whole → false ≡ whole
+stops p shapes list i place d whole there is apart so_far =
+    sym (not_next list place (get_or shapes i d) (filter p (drop (i + 1) shapes)) apart)
+    ∙ sym (ap (are_same (drop place list)) (next_of p shapes i d true there is)) ∙ so_far
+
+pub goes_on : (p : Shape → Bool) (shapes list : List Shape) (i place : ℕ) (d : Shape) (whole : Bool) → i < length shapes → p (get_or shapes i d) ≡ true
+    → (place < length list) × (get_or list place (get_or shapes i d) ≡ get_or shapes i d)
+    → are_same (drop place list) (filter p (drop i shapes)) ≡ whole → are_same (drop (place + 1) list) (filter p (drop (i + 1) shapes)) ≡ whole
+goes_on p shapes list i place d whole there is next so_far =
+    same_next list place (get_or shapes i d) (filter p (drop (i + 1) shapes)) next.0 next.1
+    ∙ sym (ap (are_same (drop place list)) (next_of p shapes i d true there is)) ∙ so_far
+
+pub passes_by : (p : Shape → Bool) (shapes list : List Shape) (i place : ℕ) (d : Shape) (whole : Bool) → i < length shapes → p (get_or shapes i d) ≡ false
+    → are_same (drop place list) (filter p (drop i shapes)) ≡ whole → are_same (drop place list) (filter p (drop (i + 1) shapes)) ≡ whole
+passes_by p shapes list i place d whole there is so_far =
+    sym (ap (are_same (drop place list)) (next_of p shapes i d false there is)) ∙ so_far

@@ -1,6 +1,6 @@
 //! The tiles that a changed shape touches, and which of these await a build.
 
-ghost use Rattle.std.specs.Prelude.{◌≡◌, ℕ, ◌+◌, ◌<◌, ◌≤◌, ◌^◌, false, true, All, IfSome, length, slice_index_or, slice_set, [], if◌then◌else◌};
+ghost use Rattle.std.specs.Prelude.{◌≡◌, ℕ, ◌+◌, ◌*◌, ◌/◌, ◌%◌, ◌<◌, ◌≤◌, ◌^◌, false, true, All, IfSome, length, slice_index_or, slice_set, [], if◌then◌else◌};
 ghost use Rattle.std.specs.Option.{option_map_or};
 ghost use Rattle.nav_ground.specs.Limits.{IsSetting, IsShape};
 ghost use Rattle.nav_ground.specs.Tiling.{tile_count};
@@ -9,7 +9,7 @@ ghost use Rattle.nav_desk.specs.Awaiting.{awaits};
 ghost use Rattle.nav_desk.specs.Flags.{flag_of};
 
 use crate::least_set::LeastSet;
-use crate::reach::{Places, places, tiles_along};
+use crate::reach::{TileRange, places, tiles_along};
 use crate::touching::is_touching_list;
 use crate::waiting::WaitingTiles;
 use nav_ground::{Setting, Shape, TileNo, bounds};
@@ -44,13 +44,28 @@ fn mark(setting: &Setting, dirty: &mut LeastSet, shape: &Shape)
     let window = bounds(shape);
     let across = places(window.x0, window.x1, setting.tile, columns);
     let along = places(window.z0, window.z1, setting.tile, rows);
+    mark_rows(dirty, columns, along, across);
+}
+
+/// Marks the tiles at some places of some rows, where so many tiles stand in a row.
+fn mark_rows(dirty: &mut LeastSet, columns: u32, along: TileRange, across: TileRange)
+    requires columns { (1 ≤ columns) × (columns ≤ 256) }
+    requires rows { along.end ≤ 256 }
+    requires there { along.end * columns ≤ length dirty.old }
+    requires inside { across.end ≤ columns }
+    requires few { length dirty.old < 2 ^ 32 }
+    ensures tiles_after { length dirty.new ≡ length dirty.old }
+    ensures kept { (tile : ℕ) → flag_of dirty.old tile ≡ true → flag_of dirty.new tile ≡ true }
+    ensures marked { (tile : ℕ) → along.first ≤ tile / columns → tile / columns < along.end → across.first ≤ tile % columns → tile % columns < across.end
+        → flag_of dirty.new tile ≡ true }
+{
     for row in along.first..along.end {
         mark_run(dirty, row * columns, across);
     }
 }
 
 /// Marks the tiles at places of a row, which begins with the tile `start`.
-fn mark_run(dirty: &mut LeastSet, start: u32, across: Places)
+fn mark_run(dirty: &mut LeastSet, start: u32, across: TileRange)
     requires there { start + across.end ≤ length dirty.old }
     requires few { length dirty.old < 2 ^ 32 }
     ensures tiles_after { length dirty.new ≡ length dirty.old }

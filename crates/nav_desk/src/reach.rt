@@ -3,9 +3,9 @@
 ghost use Rattle.std.specs.Prelude.{◌≡◌, ℕ, ◌+◌, ◌*◌, ◌<◌, ◌≤◌, ◌≤ℤ◌, pos};
 ghost use Rattle.std.specs.Int.{div_ceil};
 
-/// Places of tiles along one axis, from `first` on, before `end`.
+/// TileRange of tiles along one axis, from `first` on, before `end`.
 #[derive(Clone, Copy, PartialEq, Eq, Debug)]
-pub(crate) struct Places {
+pub(crate) struct TileRange {
     pub(crate) first: u32,
     pub(crate) end: u32,
 }
@@ -21,7 +21,7 @@ pub(crate) fn tiles_along(edge: u32, tile: u32) -> u32
 }
 
 /// The places, of so many, whose tiles a closed range of columns can meet.
-pub(crate) fn places(from: i32, to: i32, tile: u32, count: u32) -> Places
+pub(crate) fn places(from: i32, to: i32, tile: u32, count: u32) -> TileRange
     requires { 1 ≤ tile }
     ensures few { result.end ≤ count }
     ensures met { (place last : ℕ) → place < count → pos (place * tile) ≤ℤ to → from ≤ℤ pos last → last < (place + 1) * tile
@@ -29,7 +29,7 @@ pub(crate) fn places(from: i32, to: i32, tile: u32, count: u32) -> Places
 {
     let first = or_zero(from) / tile;
     let end = (or_zero(to) / tile + 1).min(count);
-    Places { first, end }
+    TileRange { first, end }
 }
 
 /// A number, or 0 where it is below 0.

@@ -7,5 +7,5 @@ abbrev pub invariant-loop-place : goal.invariant-loop-place
 invariant-loop-place l = record {
   each : length l.dirty ≡ length l.initial.dirty;
   kept : (k : ℕ) → flag_of l.initial.dirty k ≡ true → flag_of l.dirty k ≡ true;
-  marked : (place : ℕ) → l.across.first ≤ place → place < l.place → flag_of l.dirty (l.start + place) ≡ true;
+  marked : (place : ℕ) → l.fn.across.first ≤ place → place < l.place → flag_of l.dirty (l.start + place) ≡ true;
 }

@@ -8,6 +8,7 @@ use Rattle.nav_ground.specs.Touching.{is_touching}
 use Rattle.nav_ground.proofs.AliveLaws.{shapes_alive-append}
 use Rattle.nav_desk.proofs.FlagLaws.{unset}
 use Rattle.nav_desk.proofs.Histories.{request_kept, table_limits}
+use Rattle.nav_desk.proofs.Keeping.{is_book}
 use Rattle.nav_desk.proofs.Tables.{table_rises}
 use Rattle.nav_desk.proofs.desk.Desk.request.Goals as goal
 
@@ -64,3 +65,6 @@ pub returns-clause-appended : goal.returns-clause-appended
 returns-clause-appended c =
     let reply = rw (← c.self.view_is) at (returns-clause-reply c) in
     rw (← c.self.view_is, c.push_reserved.ensures.items, reply) refl
+
+pub returns-clause-rules : goal.returns-clause-rules
+returns-clause-rules c = is_book _ (invariant_of-self c)

@@ -1,7 +1,8 @@
 -- A tile that a shape touches stands in a row and in a column of tiles that the shape's bounds reach.
-use Rattle.std.proofs.Common.{◌≡◌, ℕ, ℤ, pos, ◌+◌, ◌*◌, ◌-◌, ◌/◌, ◌%◌, ◌<◌, ◌≤◌, true, arith}
+use Rattle.std.proofs.Common.{◌≡◌, ℕ, ℤ, pos, ◌+◌, ◌*◌, ◌-◌, ◌/◌, ◌%◌, ◌<◌, ◌≤◌, true, ⊎_elim, arith}
 use Rattle.std.specs.Prelude.{◌≤ℤ◌, int_le, min}
-use Rattle.std.proofs.lemmas.Bool.{and_parts}
+use Rattle.std.proofs.Math.Nat.{div-lt_iff_lt-mul}
+use Rattle.std.proofs.lemmas.Bool.{and_parts, cases_lt}
 use Rattle.std.proofs.lemmas.Int.{ints}
 use Rattle.nav_ground.specs.declared.setting.Setting.{Setting}
 use Rattle.nav_ground.specs.declared.shape.Shape.{Shape}
@@ -46,3 +47,13 @@ met_along setting tile shape limits is =
     let square = tile_window setting tile in
     met window.z0 window.z1 (tile / tiles_in_row setting) setting.tile setting.depth (omega (arith, limits.tile_least))
     (and_parts (are_overlapping window.x0 window.x1 square.x0 square.x1) (are_overlapping window.z0 window.z1 square.z0 square.z1) is).1
+
+-- the first and the last tile that a range of columns meets
+pub first_below : (n tile place : ℕ) → 1 ≤ tile → n < (place + 1) * tile → n / tile ≤ place
+first_below n tile place some below = let less : n / tile < place + 1 = (div-lt_iff_lt-mul some).1 below in omega (arith, less)
+
+pub last_above : (n tile place : ℕ) → 1 ≤ tile → place * tile ≤ n → place ≤ n / tile
+last_above n tile place some above = ⊎_elim
+    (λ less. let past : n < place * tile = (div-lt_iff_lt-mul some).0 less in absurd (omega (arith, past, above)))
+    (λ within. within)
+    (cases_lt (n / tile) place)
