@@ -11,7 +11,6 @@ use Rattle.nav_ground.specs.Limits.{IsShape}
 use Rattle.nav_ground.specs.Tiling.{tile_count}
 use Rattle.nav_ground.specs.Touching.{is_touching, touching_shapes}
 use Rattle.nav_desk.specs.declared.desk.Desk.TheInside.{Inside}
-use Rattle.nav_desk.specs.declared.answers.Job.{Job}
 use Rattle.nav_desk.specs.declared.answers.Published.TheVariants.{New, Same}
 use Rattle.nav_desk.specs.Awaiting.{awaits}
 use Rattle.nav_desk.specs.BookState.{BookState, IsBook, is_awaited, is_claimable, least_awaited, least_claimable}

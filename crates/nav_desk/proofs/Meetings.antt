@@ -8,7 +8,7 @@ use Rattle.nav_ground.specs.declared.setting.Setting.{Setting}
 use Rattle.nav_ground.specs.declared.shape.Shape.{Shape}
 use Rattle.nav_ground.specs.Limits.{IsSetting}
 use Rattle.nav_ground.specs.Shapes.{bounds_of}
-use Rattle.nav_ground.specs.Tiling.{tiles_in_row, corner_x, corner_z, tile_window}
+use Rattle.nav_ground.specs.Tiling.{tiles_in_row, tile_window}
 use Rattle.nav_ground.specs.Touching.{are_overlapping, is_touching}
 
 no_more : (a b : ℤ) → int_le a b ≡ true → a ≤ℤ b

@@ -130,7 +130,12 @@ impl Desk {
         match self.waiting.least_ready() {
             None => Ok(None),
             Some(tile) => {
-                let shapes = touching_list(alloc, &self.level.setting, tile, self.aimed.as_slice())?;
+                let shapes = touching_list(
+                    alloc,
+                    &self.level.setting,
+                    tile,
+                    self.aimed.as_slice(),
+                )?;
                 self.waiting.set_claimed(tile, true);
                 Ok(Some(Job { tile, shapes }))
             }
@@ -166,7 +171,12 @@ impl Desk {
         if !self.waiting.is_awaited(tile) {
             return Submitted::Stale;
         }
-        if !is_touching_list(&self.level.setting, tile, self.aimed.as_slice(), shapes.as_slice()) {
+        if !is_touching_list(
+            &self.level.setting,
+            tile,
+            self.aimed.as_slice(),
+            shapes.as_slice(),
+        ) {
             return Submitted::Stale;
         }
         self.stored[tile as usize] = shapes;

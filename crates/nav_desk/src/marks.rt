@@ -120,8 +120,10 @@ fn look_at(
     requires flags { length waiting.old.awaited ≡ tile_count setting.now }
     requires claims { length waiting.old.claimed ≡ tile_count setting.now }
     ensures clean { dirty.new ≡ slice_set dirty.old tile false }
-    ensures awaited { waiting.new ≡ record waiting.old { awaited = slice_set waiting.old.awaited tile
-        (if flag_of dirty.old tile then awaits setting.now aimed.now tile (slice_index_or stored.now tile []) else flag_of waiting.old.awaited tile) } }
+    ensures awaited { waiting.new ≡ record waiting.old {
+      awaited = slice_set waiting.old.awaited tile
+          (if flag_of dirty.old tile then awaits setting.now aimed.now tile (slice_index_or stored.now tile []) else flag_of waiting.old.awaited tile);
+    } }
 {
     if dirty.has(tile) {
         dirty.put(tile, false);

@@ -1,6 +1,3 @@
-use Rattle.std.proofs.Common.{sym, subst}
-use Rattle.std.specs.Prelude.{All}
-use Rattle.nav_ground.specs.Limits.{IsShape}
 use Rattle.nav_desk.proofs.Keeping.{aimed_limits}
 use Rattle.nav_desk.proofs.desk.Desk.submit.Goals as goal
 
