@@ -1,10 +1,10 @@
 -- Fresh tile meshes with their numbers are new tile meshes, and put into the published tiles they make the stored ones.
-use Rattle.std.proofs.Common.{◌≡◌, ℕ, zero, suc, ◌+◌, ◌<◌, List, [], ◌∷◌, ◌++◌, length, get_or, map, ap, ◌∙◌, refl, sym, subst, arith, Option, Some, None}
+use Rattle.std.proofs.Common.{◌≡◌, ℕ, zero, suc, ◌+◌, ◌<◌, Bool, List, [], ◌∷◌, ◌++◌, length, get_or, map, set, take, drop, replicate, append_assoc, drop-cons, ap, ◌∙◌, refl, sym, subst, arith, Option, Some, None}
 use Rattle.std.specs.Prelude.{All, AllPairs, ◌==◌, unwrap_or}
 use Rattle.std.specs.List.{find}
 use Rattle.std.specs.Option.{option_map}
 use Rattle.std.proofs.lemmas.Bool.{cond-true, cond-false, eq-eqb, ne_eqb}
-use Rattle.std.proofs.lemmas.List.{length-map, get_or-map, ext_get_or}
+use Rattle.std.proofs.lemmas.List.{length-map, get_or-map, ext_get_or, length-replicate, replicate-append-replicate, set_at, take-append-le, take_all}
 use Rattle.std.proofs.lemmas.List.Elements.{All-nil, All-cons}
 use Rattle.std.proofs.lemmas.List.Kept.{AllPairs-cons}
 use Rattle.nav_ground.specs.declared.setting.Setting.{Setting}
@@ -100,3 +100,22 @@ tiles_with_news places (tile ∷ tiles) after one_each same in_order each =
         ∙ ap (λ n. unwrap_or (new_tile (news_of places) n) here) from_zero
         ∙ ap (λ (found : Option TileMesh). unwrap_or found here) (found_at places 0 t (omega (arith, within, one_each)))
         ∙ each t tile within
+
+-- a place more is empty
+pub one_more_empty : {X : Type 0} (a : X) (xs : List X) (i : ℕ) → i < length xs → set (replicate i a ++ drop i xs) i a ≡ replicate (i + 1) a ++ drop (i + 1) xs
+one_more_empty a xs i there =
+    let next : suc i ≡ i + 1 = omega arith in
+    ap (λ rest. set (replicate i a ++ rest) i a) (drop-cons xs i a there)
+    ∙ set_at (replicate i a) (get_or xs i a) (drop (suc i) xs) a i (length-replicate i a)
+    ∙ sym (append_assoc (replicate i a) (a ∷ []) (drop (suc i) xs))
+    ∙ ap (λ some. some ++ drop (suc i) xs) (replicate-append-replicate i 1 a)
+    ∙ ap (λ n. replicate (i + 1) a ++ drop n xs) next
+
+-- what a vector has once all that it lent was made empty
+pub all_empty : {X : Type 0} (a : X) (len : ℕ) (items lent new : List X) → len ≡ length items → lent ≡ items → new ≡ replicate (length lent) a
+    → take len (new ++ drop (length new) items) ≡ replicate (length items) a
+all_empty a len items lent new count same is =
+    let each : length new ≡ length items = ap length is ∙ length-replicate (length lent) a ∙ ap length same in
+    take-append-le len new (drop (length new) items) (omega (arith, each, count))
+    ∙ take_all len new (omega (arith, each, count))
+    ∙ is ∙ ap (λ xs. replicate (length xs) a) same

@@ -36,6 +36,10 @@ use Rattle.nav_book.specs.Results.{published_mesh, tile_under}
 use Rattle.nav_book.proofs.GroundTiles.{IsSetting-of_build, IsWhole-build, are_tiles, build_of-append, setting_of_build, tiles_of_build, whole_build}
 use Rattle.nav_book.proofs.StoredTiles.{AreTouching, few_tiles, news_are_new, stored_again, stored_with, tiles_renewed}
 
+-- so many empty places
+abbrev empty_places : ℕ → List (Option TileMesh)
+empty_places n = replicate n None
+
 -- the first state
 first_touching : (whole : Ground) → AreTouching whole [] (replicate (tile_count whole.setting) [])
 first_touching whole t e there = get_or-replicate (tile_count whole.setting) t [] e there
@@ -163,7 +167,7 @@ module _ (state : BookState) (places : List (Option TileMesh)) (shown : Mesh) (k
         let mesh : other ≡ build_of state.whole state.history state.target =
         is ∙ (λ i. mesh_of (same_setting i) (renewed i)) ∙ sym (whole_build state.whole state.history state.target) in
         let tiles : other.tiles ≡ tiles_under state.whole alive = ap (λ (m : Mesh). m.tiles) mesh ∙ tiles_of_build state.whole state.history state.target in
-        let count : replicate (length places) None ≡ replicate (tile_count state.whole.setting) None = ap (λ n. replicate n None) kept.each in
+        let count : empty_places (length places) ≡ empty_places (tile_count state.whole.setting) = ap empty_places kept.each in
         let whole : after.whole ≡ state.whole = ap (λ (s : BookState). s.whole) step in
         let lists : after.stored ≡ state.stored = ap (λ (s : BookState). s.stored) step in
         let history : after.history ≡ state.history = ap (λ (s : BookState). s.history) step in

@@ -9,12 +9,12 @@ use Rattle.nav_ground.specs.declared.history.Ground.{Ground}
 use Rattle.nav_ground.specs.declared.setting.Setting.{Setting}
 use Rattle.nav_ground.specs.declared.shape.Shape.{Shape}
 use Rattle.nav_ground.specs.Cells.{IsInTile}
-use Rattle.nav_ground.specs.Grounds.{IsGround}
+use Rattle.nav_ground.specs.Grounds.{IsGround, IsLayerOf}
 use Rattle.nav_ground.specs.Layers.{layer_of}
 use Rattle.nav_ground.specs.Limits.{IsSetting, IsShape}
 use Rattle.nav_ground.specs.Tiling.{tile_count, tiles_in_row, tile_rows}
 use Rattle.nav_ground.specs.Touching.{touching_shapes}
-use Rattle.nav_ground.proofs.LayerLaws.{IsLayerOf-from_ground, length-layers_of_ground, layer_of_ground}
+use Rattle.nav_ground.proofs.LayerLaws.{IsLayerOf-from_ground, length-layers_of_ground, layer_of_ground, no_radius_of_ground}
 use Rattle.mesh_types.specs.declared.tile.TileMesh.{TileMesh}
 use Rattle.mesh_types.specs.Soundness.{AreTiles}
 use Rattle.tile_build.specs.Meshes.{tiles_under}
@@ -103,3 +103,19 @@ stored_with whole stored fresh published tile shapes mesh ties in_stored in_fres
         ap (λ (place : Option TileMesh). unwrap_or place (get_or published t d)) (get_or-set_other fresh tile t (Some mesh) None apart)
         ∙ ties t e d there
         ∙ ap (tile_under whole t) (sym (get_or-set_other stored tile t shapes e apart))
+
+-- what stands in the place of a tile among the layers is its layer
+pub record IsLayerAt (whole : Ground) (tile : ℕ) (layer : Layer) : Type 0 where
+  pub rules : IsLayerOf whole.setting layer
+  pub near : layer.radius ≡ 0
+  pub is : layer ≡ layer_of whole.setting whole.field tile
+
+pub layer_at : (whole : Ground) (tile : ℕ) (layer : Layer) → IsGround whole → tile < tile_count whole.setting → layer ≡ get_or whole.layers tile layer
+    → IsLayerAt whole tile layer
+layer_at whole tile layer rules' there found =
+    let within : tile < length whole.layers = omega (arith, there, length-layers_of_ground whole rules') in
+    record {
+      rules = subst (IsLayerOf whole.setting) (sym found) (IsLayerOf-from_ground whole rules' tile layer within);
+      near = ap (λ (l : Layer). l.radius) found ∙ no_radius_of_ground whole rules' tile layer within;
+      is = found ∙ layer_of_ground whole tile layer rules' there;
+    }

@@ -11,13 +11,12 @@ use Rattle.nav_book.proofs.book.Book.begin.Goals as goal
 
 pub joined-requires-clause-tiles : goal.joined-requires-clause-tiles
 joined-requires-clause-tiles c =
-    rw (c.deref-2.ensures, c.requires.tiles) (are_tiles (arc_value c.args.level) [] c.requires.level (All-nil IsShape))
+    rw (c.deref.ensures, c.requires.tiles) (are_tiles (arc_value c.args.level) [] c.requires.level (All-nil IsShape))
 
 pub invariant_of-result : goal.invariant_of-result
 invariant_of-result c =
     let whole : Ground = arc_value c.args.level in
-    rw c.in_ok-desk.ensures
-    (kept_first whole c.in_ok-fresh.fresh.items c.in_ok-mesh.mesh c.requires.level
+    kept_first whole c.in_ok-desk.desk c.in_ok-fresh.fresh.items c.in_ok-mesh.mesh c.in_ok-desk.ensures.state c.in_ok-desk.ensures.rules c.requires.level
     (c.in_ok-fresh.ensures ∙ ap (λ n. replicate n None) (c.len.ensures ∙ ap length c.requires.tiles ∙ length-tiles_under whole [] c.requires.level))
-    (c.in_ok-mesh.ensures.mesh ∙ ap (λ (w : Ground). mesh_of w.setting c.args.tiles) c.deref-2.ensures ∙ ap (mesh_of whole.setting) c.requires.tiles)
-    c.in_ok-mesh.ensures.sound)
+    (c.in_ok-mesh.ensures.mesh ∙ ap (λ (w : Ground). mesh_of w.setting c.args.tiles) c.deref.ensures ∙ ap (mesh_of whole.setting) c.requires.tiles)
+    c.in_ok-mesh.ensures.sound

@@ -1,7 +1,12 @@
-use Rattle.nav_book.proofs.KeptTiles.{kept_asked}
+use Rattle.std.proofs.Common.{refl}
+use Rattle.nav_desk.specs.Steps.{after_request}
+use Rattle.nav_book.proofs.KeptTiles.{kept_unless, mesh_after_request}
 use Rattle.nav_book.proofs.book.Book.request.Goals as goal
 
 pub invariant_of-self : goal.invariant_of-self
 invariant_of-self c =
-    kept_asked c.request.result c.self.inside.desk _ c.self.inside.fresh.items c.self.inside.mesh c.args.lane c.args.request c.self.invariant c.requires
-    c.request.ensures.appended c.request.ensures.refused c.request.ensures.full
+    let state = c.self.inside.desk in
+    let places = c.self.inside.fresh.items in
+    kept_unless state places c.self.inside.mesh c.self.invariant c.request.result (after_request state c.args.lane c.args.request) _
+    c.request.ensures.appended c.request.ensures.refused c.request.ensures.rules refl refl
+    (mesh_after_request state places c.self.inside.mesh c.self.invariant c.args.lane c.args.request)
