@@ -14,7 +14,7 @@ pub mod RayLaws
 pub mod RightLaws
 pub mod Totals
 pub mod OneTile
-pub mod PolygonTotals
+pub mod GroundCells
 pub mod RunTotals
 pub mod SquareLaws
 pub mod ChoiceLaws
@@ -23,6 +23,14 @@ pub mod MergeLaws
 pub mod AreaLaws
 pub mod UnionAreas
 pub mod RingLaws
+pub mod SidePlaces
+pub mod LinkTotals
+pub mod PieceTotals
+pub mod RegionTotals
+pub mod DoorTotals
+pub mod RimShares
+pub mod ContourTotals
+pub mod TileMeshes
 pub mod ContourLaws
 pub mod Counted
 pub mod Gathered
