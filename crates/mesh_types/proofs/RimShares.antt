@@ -147,8 +147,7 @@ module _ (window : Window) (cells : List Cell) (regions : Regions) (facets : Lis
       let cell : Cell = cell_of door position in
       let crossing = crossing_is door position listed.1 in
       let belongs : belongs_to window doors side door (position_of side cell.at) ≡ true = ap (belongs_to window doors side door) crossing.there ∙ listed.0 in
-      let owned : owns window regions doors side door cell ≡ true = and_from (is_of regions door.region cell) _ crossing.of belongs in
-      (
+      let owned : owns window regions doors side door cell ≡ true = and_from (is_of regions door.region cell) _ crossing.of belongs in (
         crossing.listed.0,
         cell,
         crossing.listed.1,
