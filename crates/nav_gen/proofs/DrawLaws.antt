@@ -10,7 +10,7 @@ one_step state = mod-add-mod (state * 6364136223846793005) (2 ^ 64) 144269504088
 
 -- the draws behind the first ones begin at the state after these
 pub state_after-add : (state m n : ℕ) → state_after state (m + n) ≡ state_after (state_after state m) n
-state_after-add state zero n = ap (state_after state) (omega arith)
+state_after-add state zero n = ap (state_after state) {x = zero + n} {y = n} (omega arith)
 state_after-add state (suc m) n =
     ap (state_after state) {x = suc m + n} {y = suc (m + n)} (omega arith) ∙ state_after-add (next_state state) m n
 

@@ -85,5 +85,6 @@ field_rules number size fits =
           (elim (rows_rise size i j (omega arith) before) [ inl lower ↦ inl lower | inr same ↦ inr (same.0, inl same.1) ]);
     }
 
-pub field_text : (number size : ℕ) → IsFieldText (made_field_text number size) (made_setting size) (made_field number size)
+unfoldable pub field_text : (number size : ℕ) → IsFieldText (made_field_text number size) (made_setting size) (made_field number size)
+unfolding made_field_text
 field_text number size = record { costs = []; rise = tt; table = refl; clear = refl; width = refl; depth = refl; spelled = refl }

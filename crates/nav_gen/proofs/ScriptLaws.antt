@@ -120,9 +120,10 @@ builds_next first (suc count) adds rest next = (
 
 -- the lines of a round behind its add and its drop
 abbrev built : (state size : ℕ) → List Line
-built state size = Aim ∷ made_builds 8 ++ (Publish ∷ Ask (made_question (state_after state 3) size) ∷ [])
+built state size = made_builds ++ (Ask (made_question (state_after state 3) size) ∷ [])
 
 built_next : (state size adds : ℕ) (rest : List Line) → IsMadeSize size → AreNext adds rest → AreNext adds (built state size ++ rest)
+unfolding made_builds
 built_next state size adds rest fits next =
     let from = state_after state 3 in
     let question : IsQuestion (made_question from size) =
@@ -135,6 +136,7 @@ built_next state size adds rest fits next =
     )
 
 round_next : (state size before : ℕ) (rest : List Line) → IsMadeSize size → before < 64 → AreNext (before + 1) rest → AreNext before (made_round state size before ++ rest)
+unfolding made_round
 round_next state size before rest fits few next =
     (shape_rules state size fits, refl, shape_short state size fits, behind (nat_lt 7 before) refl)
   where
@@ -143,7 +145,7 @@ round_next state size before rest fits few next =
         let later : 7 < before = ltb-true 7 before late in (
           (omega arith, omega arith),
           refl,
-          line_short (codes "drop") (before - 7 ∷ []) (omega arith) (omega arith) (omega arith, tt),
+          line_short (codes "drop") ((before - 7) ∷ []) (omega arith) (omega arith) (omega arith, tt),
           built_next state size (before + 1) rest fits next,
         )
     behind false early = built_next state size (before + 1) rest fits next
@@ -155,16 +157,18 @@ rounds_next state size first (suc count) fits few =
     round_next (state_after state (7 * first)) size first (flat_map (λ before. made_round (state_after state (7 * before)) size before) (range_with_len (first + 1) count))
     fits (omega arith) (rounds_next state size (first + 1) count fits (omega arith))
 
-pub made_next : (state size : ℕ) → IsMadeSize size → AreNext 0 (made_rounds state size 64)
+pub made_next : (state size : ℕ) → IsMadeSize size → AreNext 0 (made_rounds state size)
+unfolding made_rounds
 made_next state size fits = rounds_next state size 0 64 fits (omega arith)
 
-pub length-made_rounds : (state size : ℕ) → length (made_rounds state size 64) ≡ 1336
+pub length-made_rounds : (state size : ℕ) → length (made_rounds state size) ≡ 1336
+unfolding made_rounds made_round made_builds
 length-made_rounds state size = refl
 
 pub script_rules : (number size : ℕ) → IsMadeSize size → IsScript Play (made_script number size)
 script_rules number size fits =
     let state = state_after number (size * size) in
-    let those = made_rounds state size 64 in record {
+    let those = made_rounds state size in record {
       lanes_least = omega arith;
       lanes_most = omega arith;
       workers_least = omega arith;

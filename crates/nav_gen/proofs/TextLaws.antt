@@ -1,5 +1,5 @@
 -- The laws of the made text.
-use Rattle.std.proofs.Common.{◌≡◌, ℕ, ◌+◌, ◌*◌, ◌≤◌, List, [], ◌∷◌, ◌++◌, length, map, codes, refl, sym, ap, ◌∙◌, arith, append-nil, length-append}
+use Rattle.std.proofs.Common.{◌≡◌, ℕ, ◌+◌, ◌*◌, ◌≤◌, false, List, [], ◌∷◌, ◌++◌, length, map, codes, refl, sym, ap, ◌∙◌, arith, append-nil, length-append}
 use Rattle.std.proofs.lemmas.List.{length-map}
 use Rattle.std.proofs.lemmas.List.FromFn.{length-map-range_with_len}
 use Rattle.std.proofs.lemmas.Nat.{mul-le}
@@ -18,13 +18,17 @@ use Rattle.nav_gen.proofs.Short.{AreShort, short-append, text_short, line_short,
 use Rattle.nav_gen.proofs.FieldLaws.{setting_rules, field_rules, field_text}
 use Rattle.nav_gen.proofs.ScriptLaws.{made_next, next_short, length-made_rounds, script_rules}
 
+script_text_is : (number size : ℕ) → made_script_text number size ≡ script_text (made_script number size)
+unfolding made_script_text
+script_text_is number size = refl
+
 -- The made text is in the grammar.
 pub made_input : (number size : ℕ) → IsMadeSize size → IsMadeInput number size
 made_input number size fits = record {
   setting = setting_rules size fits;
   field = field_rules number size fits;
   field_text = field_text number size;
-  script_text = (refl, script_rules number size fits);
+  script_text = (script_text_is number size, script_rules number size fits);
 }
 
 count_spans : (number size : ℕ) → length (map span_text (made_spans number size)) ≡ size * size
@@ -39,17 +43,18 @@ count_field number size =
 count_script : (number size : ℕ) → length (script_lines (made_script number size)) ≡ 1337
 count_script number size =
     let state = state_after number (size * size) in
-    omega (arith, length-map (made_rounds state size 64) line_of, length-made_rounds state size)
+    omega (arith, length-map (made_rounds state size) line_of, length-made_rounds state size)
 
 script_again : (number size : ℕ) → IsMadeSize size → lines (made_script_text number size) ≡ script_lines (made_script number size)
 script_again number size fits =
     let those = script_lines (made_script number size) in
-    ap lines (sym (append-nil (text_of those)))
+    ap lines (script_text_is number size ∙ sym (append-nil (text_of those)))
     ∙ lines_again those [] (script_lines_again Play false (made_script number size) (script_rules number size fits)).1
     ∙ append-nil those
 
 -- The made text has this many lines.
 pub count_lines : (number size : ℕ) → IsMadeSize size → size * size + 1345 ≡ length (lines (made_text number size))
+unfolding field_text
 count_lines number size fits =
     let field = field_lines (made_setting size) [] (made_spans number size) in
     let all : lines (made_text number size) ≡ field ++ script_lines (made_script number size) =
@@ -92,11 +97,12 @@ field_short number size fits =
 script_short : (number size : ℕ) → IsMadeSize size → AreShort (script_lines (made_script number size))
 script_short number size fits = (
   line_short (codes "script") (1 ∷ 1 ∷ []) (omega arith) (omega arith) (omega arith, (omega arith, tt)),
-  next_short 0 (made_rounds (state_after number (size * size)) size 64) (made_next (state_after number (size * size)) size fits),
+  next_short 0 (made_rounds (state_after number (size * size)) size) (made_next (state_after number (size * size)) size fits),
 )
 
 -- The made text is no longer than an input may be.
 pub made_short : (number size : ℕ) → IsMadeSize size → length (made_text number size) ≤ 67108864
+unfolding made_field_text made_script_text
 made_short number size fits =
     let most : size ≤ 512 = fits.1 in
     let columns : size * size ≤ 512 * 512 = mul-le size size 512 512 most most in

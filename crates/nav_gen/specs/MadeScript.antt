@@ -27,19 +27,18 @@ made_question state size = Path (made_point state size) 10 (made_point (state_af
 abbrev pub made_drop : ℕ → List Line
 made_drop before = if nat_lt 7 before then Undo (before - 7) ∷ [] else []
 
--- the one worker builds up to eight tiles
-abbrev pub made_builds : ℕ → List Line
-made_builds count = flat_map (λ turn. Claim 0 ∷ Submit 0 ∷ []) (range_with_len 0 count)
+-- the one worker builds up to eight tiles, and what it built is published
+unfoldable pub made_builds : List Line
+made_builds = Aim ∷ flat_map (λ (turn : ℕ). Claim 0 ∷ Submit 0 ∷ []) (range_with_len 0 8) ++ (Publish ∷ [])
 
 -- the round with so many rounds before it, from the state before its seven draws on
-abbrev pub made_round : (state size before : ℕ) → List Line
-made_round state size before =
-    Add (made_shape state size) ∷ made_drop before ++ (Aim ∷ made_builds 8 ++ (Publish ∷ Ask (made_question (state_after state 3) size) ∷ []))
+unfoldable pub made_round : (state size before : ℕ) → List Line
+made_round state size before = Add (made_shape state size) ∷ made_drop before ++ (made_builds ++ (Ask (made_question (state_after state 3) size) ∷ []))
 
--- the first so many rounds, from the state before their draws on
-abbrev pub made_rounds : (state size count : ℕ) → List Line
-made_rounds state size count = flat_map (λ before. made_round (state_after state (7 * before)) size before) (range_with_len 0 count)
+-- the 64 rounds, from the state before their draws on
+unfoldable pub made_rounds : (state size : ℕ) → List Line
+made_rounds state size = flat_map (λ before. made_round (state_after state (7 * before)) size before) (range_with_len 0 64)
 
 -- the script that a number and a size determine; its draws follow those of the level
 abbrev pub made_script : (number size : ℕ) → Script
-made_script number size = record { lanes = 1; workers = 1; lines = made_rounds (state_after number (size * size)) size 64 }
+made_script number size = record { lanes = 1; workers = 1; lines = made_rounds (state_after number (size * size)) size }

@@ -11,11 +11,11 @@ use Rattle.nav_gen.specs.MadeField.{made_setting, made_spans, made_field}
 use Rattle.nav_gen.specs.MadeScript.{made_script}
 
 -- the field text: the setting's lines, no costs, and a line for each span
-abbrev pub made_field_text : (number size : ℕ) → List ℕ
+unfoldable pub made_field_text : (number size : ℕ) → List ℕ
 made_field_text number size = text_of (field_lines (made_setting size) [] (made_spans number size))
 
 -- the script text
-abbrev pub made_script_text : (number size : ℕ) → List ℕ
+unfoldable pub made_script_text : (number size : ℕ) → List ℕ
 made_script_text number size = script_text (made_script number size)
 
 -- the whole text

@@ -1,9 +1,10 @@
 //! The text of a made level.
-ghost use Rattle.std.specs.Prelude.{◌≡◌, ◌*◌, ◌++◌, [], map, OnOk};
+ghost use Rattle.std.specs.Prelude.{◌≡◌, ◌*◌, ◌++◌, map, OnOk};
 ghost use Rattle.nav_text.specs.Lines.{ended, text_of};
-ghost use Rattle.span_text.specs.FieldText.{header_lines, span_text, field_lines};
+ghost use Rattle.span_text.specs.FieldText.{header_lines, span_text};
 ghost use Rattle.nav_gen.specs.Draws.{state_after};
 ghost use Rattle.nav_gen.specs.MadeField.{IsMadeSize, made_setting, made_spans};
+ghost use Rattle.nav_gen.specs.MadeText.{made_field_text};
 
 use crate::draws::Draws;
 use crate::line::push_line;
@@ -16,8 +17,7 @@ const SETTING: &[u8] = b"tile 32\nagent 10 4 2\nerror 169\nmesh contours\nlimit 
 /// Appends the text of a level: one draw a column.
 pub fn push_field(out: &mut Vec<u8>, draws: &mut Draws, size: u32) -> Result<(), AllocError>
     requires { IsMadeSize size }
-    ensures text { OnOk result (out.new.items ≡ out.old.items
-        ++ text_of (field_lines (made_setting size) [] (made_spans draws.old size))) }
+    ensures text { OnOk result (out.new.items ≡ out.old.items ++ made_field_text draws.old size) }
     ensures state { OnOk result (draws.new ≡ state_after draws.old (size * size)) }
 {
     push_header(out, size)?;

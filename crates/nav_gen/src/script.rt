@@ -1,7 +1,7 @@
 //! The text of a made script.
-ghost use Rattle.std.specs.Prelude.{◌≡◌, ◌+◌, ◌*◌, ◌≤◌, ◌++◌, ◌∷◌, [], map, OnOk};
+ghost use Rattle.std.specs.Prelude.{◌≡◌, ◌++◌, map, OnOk};
 ghost use Rattle.nav_text.specs.Lines.{ended, text_of};
-ghost use Rattle.nav_script.specs.declared.line.Line.TheVariants.{Add, Ask, Aim, Publish};
+ghost use Rattle.nav_script.specs.declared.line.Line.TheVariants.{Add, Ask};
 ghost use Rattle.nav_script.specs.Spelling.{line_of};
 ghost use Rattle.nav_gen.specs.Draws.{state_after};
 ghost use Rattle.nav_gen.specs.MadeField.{IsMadeSize};
@@ -21,7 +21,7 @@ const STAYS: u32 = 8;
 /// Appends the lines of the rounds.
 pub fn push_rounds(out: &mut Vec<u8>, draws: &mut Draws, size: u32) -> Result<(), AllocError>
     requires { IsMadeSize size }
-    ensures { OnOk result (out.new.items ≡ out.old.items ++ text_of (map line_of (made_rounds draws.old size 64))) }
+    ensures { OnOk result (out.new.items ≡ out.old.items ++ text_of (map line_of (made_rounds draws.old size))) }
 {
     for before in 0..ROUNDS {
         push_round(out, draws, size, before)?;
@@ -70,7 +70,7 @@ fn push_drop(out: &mut Vec<u8>, before: u32) -> Result<(), AllocError>
 
 /// Appends the lines that have the changed tiles built and published.
 fn push_builds(out: &mut Vec<u8>) -> Result<(), AllocError>
-    ensures { OnOk result (out.new.items ≡ out.old.items ++ text_of (map line_of (Aim ∷ made_builds 8 ++ (Publish ∷ [])))) }
+    ensures { OnOk result (out.new.items ≡ out.old.items ++ text_of (map line_of made_builds)) }
 {
     out.extend_from_slice(b"aim\n")?;
     for _ in 0..BUILDS {

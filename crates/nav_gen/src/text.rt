@@ -1,5 +1,5 @@
 //! The whole made input.
-ghost use Rattle.std.specs.Prelude.{◌≡◌, ℕ, ◌^◌, ◌<◌, ◌≤◌, length, IfOk};
+ghost use Rattle.std.specs.Prelude.{◌≡◌, ℕ, ◌≤◌, length, IfOk};
 ghost use Rattle.nav_text.specs.Lines.{lines};
 ghost use Rattle.nav_gen.specs.MadeField.{IsMadeSize};
 ghost use Rattle.nav_gen.specs.MadeText.{made_text, IsMadeInput};
@@ -13,16 +13,23 @@ use std::alloc::{AllocError, Global};
 /// How many bytes the line of a span has at most.
 const SPAN_BYTES: usize = 21;
 /// How many bytes all other lines have together at most.
-const OTHER_BYTES: usize = 32768;
+const OTHER_BYTES: usize = 16384;
 
 /// The input that a number and a size determine: a level of `size` by `size` columns, and a script to be played in it. `size` is 32 to 512.
 /// The text has at most 67108864 bytes, as every input, and its room is taken at once.
 pub fn make(alloc: Global, number: u32, size: u32) -> Result<Vec<u8>, AllocError>
     requires { IsMadeSize size }
     ensures text { IfOk result (λ text. text.items ≡ made_text number size) }
-    // The text is in the grammar of inputs.
+    // The text is in the grammar of inputs, and is no longer than these may be.
     ensures input { IsMadeInput number size }
     ensures short { length (made_text number size) ≤ 67108864 }
+{
+    write_input(alloc, number, size)
+}
+
+fn write_input(alloc: Global, number: u32, size: u32) -> Result<Vec<u8>, AllocError>
+    requires { IsMadeSize size }
+    ensures { IfOk result (λ text. text.items ≡ made_text number size) }
 {
     let room = size as usize * size as usize * SPAN_BYTES + OTHER_BYTES;
     let mut text = Vec::with_capacity(alloc, room)?;
