@@ -37,8 +37,13 @@ count_spans number size =
 
 count_field : (number size : ℕ) → length (field_lines (made_setting size) [] (made_spans number size)) ≡ size * size + 8
 count_field number size =
-    omega (arith, count_spans number size, length-append (header_lines (made_setting size) ++ [] ++ map span_text (made_spans number size)) (codes "end" ∷ []),
-    length-append (header_lines (made_setting size) ++ []) (map span_text (made_spans number size)), length-append (header_lines (made_setting size)) [])
+    omega (
+      arith,
+      count_spans number size,
+      length-append (header_lines (made_setting size) ++ [] ++ map span_text (made_spans number size)) (codes "end" ∷ []),
+      length-append (header_lines (made_setting size) ++ []) (map span_text (made_spans number size)),
+      length-append (header_lines (made_setting size)) [],
+    )
 
 count_script : (number size : ℕ) → length (script_lines (made_script number size)) ≡ 1337
 count_script number size =
@@ -106,6 +111,12 @@ unfolding made_field_text made_script_text
 made_short number size fits =
     let most : size ≤ 512 = fits.1 in
     let columns : size * size ≤ 512 * 512 = mul-le size size 512 512 most most in
-    omega (arith, columns, length-append (made_field_text number size) (made_script_text number size),
-    text_short (field_lines (made_setting size) [] (made_spans number size)) (field_short number size fits), count_field number size,
-    text_short (script_lines (made_script number size)) (script_short number size fits), count_script number size)
+    omega (
+      arith,
+      columns,
+      length-append (made_field_text number size) (made_script_text number size),
+      text_short (field_lines (made_setting size) [] (made_spans number size)) (field_short number size fits),
+      count_field number size,
+      text_short (script_lines (made_script number size)) (script_short number size fits),
+      count_script number size,
+    )

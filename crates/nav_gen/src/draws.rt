@@ -5,6 +5,7 @@ ghost use Rattle.nav_gen.specs.Draws.{next_state, draw};
 use std::marker::Model;
 
 const FACTOR: u64 = 6364136223846793005;
+
 const STEP: u64 = 1442695040888963407;
 
 /// A stream of draws. Contracts see it as its state.

@@ -124,7 +124,8 @@ fn writes_a_summary(rt: HostRuntime) -> Result<(), AllocError> {
         links: 74,
     };
     let text = summary(rt.alloc(), 7, 32, 32189, 2369, &totals)?;
-    let wanted = "gen 7 32\ninput 32189 2369\nhistory 120 published 119\npaths 1 nopath 2 nostart 48 nogoal 13\ncost 18446744073709551615\nmesh 40 74\n";
+    let wanted =
+        "gen 7 32\ninput 32189 2369\nhistory 120 published 119\npaths 1 nopath 2 nostart 48 nogoal 13\ncost 18446744073709551615\nmesh 40 74\n";
     assert!(rt; text.as_slice() == wanted.as_bytes());
     Ok(())
 }
