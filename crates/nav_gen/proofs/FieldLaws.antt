@@ -1,6 +1,5 @@
 -- The made level is within its limits.
-use Rattle.std.proofs.Common.{◌≡◌, ℕ, ◌+◌, ◌*◌, ◌/◌, ◌%◌, ◌<◌, ◌≤◌, ◌⊎◌, Bool, true, false, cond, ◌==◌, List, [], length, inl, inr, refl, sym, ap, subst, subst₂, arith, All, AllPairs}
-use Rattle.std.specs.List.{range_with_len}
+use Rattle.std.proofs.Common.{◌≡◌, ℕ, ◌+◌, ◌*◌, ◌/◌, ◌%◌, ◌<◌, ◌≤◌, ◌⊎◌, Bool, true, false, cond, ◌==◌, [], length, inl, inr, refl, sym, ap, subst, subst₂, arith}
 use Rattle.std.proofs.Math.Nat.{mod-lt, div-mul-le_self, div-lt_iff_lt-mul}
 use Rattle.std.proofs.lemmas.Nat.{le-div, div-add-mod', mul-le}
 use Rattle.std.proofs.lemmas.Bool.{cases_order}

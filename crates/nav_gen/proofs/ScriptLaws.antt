@@ -1,5 +1,5 @@
 -- The made script is one to be played.
-use Rattle.std.proofs.Common.{◌≡◌, ℕ, zero, suc, ◌+◌, ◌-◌, ◌*◌, ◌%◌, ◌<◌, ◌≤◌, Bool, true, false, cond, ◌&&◌, eqb, nat_lt, List, [], ◌∷◌, ◌++◌, length, take, fold, map, flat_map, Some, pos, codes, refl, sym, ap, ◌∙◌, subst, subst₂, arith}
+use Rattle.std.proofs.Common.{◌≡◌, ℕ, zero, suc, ◌+◌, ◌-◌, ◌*◌, ◌%◌, ◌<◌, ◌≤◌, Bool, true, false, cond, ◌&&◌, eqb, nat_lt, List, [], ◌∷◌, ◌++◌, length, take, fold, map, flat_map, Some, codes, refl, sym, ap, ◌∙◌, subst, subst₂, arith}
 use Rattle.std.specs.Prelude.{⊤}
 use Rattle.std.specs.List.{slice_get, range_with_len}
 use Rattle.std.proofs.Math.Nat.{mod-lt}
@@ -8,14 +8,14 @@ use Rattle.std.proofs.lemmas.Int.{ints}
 use Rattle.nav_ground.specs.Limits.{IsRound}
 use Rattle.nav_text.proofs.Inversions.{some_is}
 use Rattle.nav_script.specs.declared.line.Line.{Line}
-use Rattle.nav_script.specs.declared.line.Line.TheVariants.{Ask, Add, Undo, Aim, Claim, Submit, Publish}
+use Rattle.nav_script.specs.declared.line.Line.TheVariants.{Ask, Add, Undo, Claim, Submit, Publish}
 use Rattle.nav_script.specs.declared.script.Way.TheVariants.{Play}
-use Rattle.nav_script.specs.Lanes.{next_lane, lane_after, is_add, adds_from, adds_in, adds_before}
-use Rattle.nav_script.specs.Limits.{IsPlace, IsQuestion, IsObstacle, IsLine, IsScript}
+use Rattle.nav_script.specs.Lanes.{next_lane, lane_after, is_add, adds_from, adds_before}
+use Rattle.nav_script.specs.Limits.{IsPlace, IsQuestion, IsLine, IsScript}
 use Rattle.nav_script.specs.Spelling.{line_of}
 use Rattle.nav_gen.specs.Draws.{draw, state_after}
 use Rattle.nav_gen.specs.MadeField.{IsMadeSize}
-use Rattle.nav_gen.specs.MadeScript.{made_shape, made_point, made_question, made_drop, made_builds, made_round, made_rounds, made_script}
+use Rattle.nav_gen.specs.MadeScript.{made_shape, made_point, made_question, made_builds, made_round, made_rounds, made_script}
 use Rattle.nav_gen.proofs.Short.{AreShort, line_short}
 
 -- the adds after a line
