@@ -51,13 +51,17 @@ fn made_span(size: u32, column: u32, drawn: u32) -> Span
     requires { IsMadeSize size }
     ensures { result ≡ Rattle.nav_gen.specs.MadeField.made_span size column drawn }
 {
-    let is_pillar = drawn % 64 == 0;
+    let (top, area) = if drawn % 64 == 0 {
+        (40, 0)
+    } else {
+        (10 + drawn / 64 % 2, 63)
+    };
     Span {
         x: column % size,
         z: column / size,
         bottom: 0,
-        top: if is_pillar { 40 } else { 10 + drawn / 64 % 2 },
-        area: if is_pillar { 0 } else { 63 },
+        top,
+        area,
     }
 }
 
