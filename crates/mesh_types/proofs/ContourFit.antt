@@ -1,10 +1,9 @@
 -- The mesh of a tile by the outlines of its regions is fit.
-use Rattle.std.proofs.Common.{◌≡◌, ℕ, List, get_or, map, refl, subst, Option, Some, None}
+use Rattle.std.proofs.Common.{◌≡◌, List, get_or, refl, subst, Option, Some, None}
 use Rattle.std.specs.Prelude.{All}
 use Rattle.std.specs.Option.{option_map}
 use Rattle.std.proofs.lemmas.List.Elements.{All-map}
 use Rattle.nav_ground.specs.declared.setting.Setting.{Setting}
-use Rattle.nav_ground.specs.declared.cell.Cell.{Cell}
 use Rattle.nav_ground.specs.declared.cell.FreeLayer.{FreeLayer}
 use Rattle.nav_ground.specs.Cells.{IsCut, IsInTile}
 use Rattle.nav_ground.specs.Tiling.{tile_window}
@@ -18,7 +17,7 @@ use Rattle.mesh_types.specs.Soundness.{IsFit, IsInSquare, IsPolygon}
 use Rattle.mesh_types.specs.ContourMeshes.{Facet, contour_mesh_of, doors_of, facet_polygon, facets_of, parts_mesh, parts_of}
 use Rattle.mesh_types.proofs.DoorLaws.{IsDoorOf, doors_are, links_lead}
 use Rattle.mesh_types.proofs.DoorRims.{rim_fits}
-use Rattle.mesh_types.proofs.FacetLaws.{AreParts, IsFacetOf, facet_inside, facet_sound, facets_are, parts_are}
+use Rattle.mesh_types.proofs.FacetLaws.{IsFacetOf, facet_inside, facet_sound, facets_are, parts_are}
 
 -- the mesh by the parts of regions
 pub parts_mesh_fits : (setting : Setting) (free : FreeLayer) (regions : Regions) (parts : List Part) → IsCut free.cells → IsInTile setting free.tile free.cells

@@ -1,7 +1,7 @@
 -- Doors are edges of polygons, and their links lead through them.
-use Rattle.std.proofs.Common.{◌≡◌, ◌≢◌, ℕ, zero, suc, ◌+◌, ◌*◌, ◌<◌, ◌≤◌, ℤ, pos, ◌≤ℤ◌, ◌<ℤ◌, ◌*ℤ◌, Bool, true, false, ◌+ℤ◌, ◌-ℤ◌, List, [], ◌∷◌, length, get_or, map, ap, ◌∙◌, refl, sym, subst, arith, Option, Some, None, inl, inr}
+use Rattle.std.proofs.Common.{◌≡◌, ◌≢◌, ℕ, zero, suc, ◌<◌, ℤ, pos, ◌≤ℤ◌, ◌<ℤ◌, ◌*ℤ◌, Bool, true, false, ◌+ℤ◌, ◌-ℤ◌, List, [], ◌∷◌, length, get_or, map, ap, ◌∙◌, refl, sym, subst, arith, Option, Some, None, inl, inr}
 use Rattle.std.specs.Prelude.{All, slice_get, slice_index, unsigned_abs, ◌==◌, ◌&&◌, ◌||◌}
-use Rattle.std.specs.List.{filter_map, find, flat_map, range_with_len}
+use Rattle.std.specs.List.{filter_map, find, range_with_len}
 use Rattle.std.specs.Option.{option_map}
 use Rattle.std.specs.Ordering.{int_eq}
 use Rattle.std.proofs.lemmas.Bool.{and_from, and_parts, both_ways, cases_Bool, eqb-true}
@@ -12,7 +12,7 @@ use Rattle.std.proofs.lemmas.List.Elements.{All-map}
 use Rattle.std.proofs.lemmas.List.FromFn.{get_or-range_with_len, length-range_with_len}
 use Rattle.std.proofs.lemmas.Option.{slice_get-get_or}
 use Rattle.nav_base.specs.declared.point.Point.{Point}
-use Rattle.nav_base.specs.Point.{from_to, dot_of, orient_of}
+use Rattle.nav_base.specs.Point.{dot_of}
 use Rattle.nav_base.specs.Convex.{IsStrictlyConvex, corner_at, place_after}
 use Rattle.nav_base.proofs.ConvexLaws.{IsStrictlyConvex-apart, place_after-apart, place_after-in}
 use Rattle.nav_base.proofs.LengthLaws.{square-absolute}
@@ -24,7 +24,6 @@ use Rattle.nav_ground.specs.declared.cell.Cell.{Cell}
 use Rattle.nav_ground.specs.declared.cell.Window.{Window}
 use Rattle.nav_ground.proofs.Found.{found_in}
 use Rattle.mesh_types.specs.declared.region.Regions.{Regions}
-use Rattle.mesh_types.specs.declared.region.Code.{Code}
 use Rattle.mesh_types.specs.declared.door.Door.{Door}
 use Rattle.mesh_types.specs.declared.door.Part.{Part}
 use Rattle.mesh_types.specs.declared.outline.Outline as outlines
@@ -32,7 +31,7 @@ use Rattle.mesh_types.specs.declared.links.Link.{Link}
 use Rattle.mesh_types.specs.declared.polygon.Polygon.{Polygon}
 use Rattle.mesh_types.specs.declared.tile.TileMesh.{TileMesh}
 use Rattle.mesh_types.specs.BorderLinks.{scaled}
-use Rattle.mesh_types.specs.Soundness.{IsInnerLink, IsPortalIn, IsPortalOut, LeadsThrough, LiesAlong, along}
+use Rattle.mesh_types.specs.Soundness.{IsInnerLink, LeadsThrough, LiesAlong, along}
 use Rattle.mesh_types.specs.Ears.{is_same_point}
 use Rattle.mesh_types.specs.Merging.{edge_end}
 use Rattle.mesh_types.specs.ContourMeshes.{Facet, are_facing, door_link, door_links, door_over, doors_of, facet_doors, facet_polygon, link_through, names_region, no_facet, no_part, share_corners, share_places}

@@ -1,7 +1,7 @@
 -- What the rim lists for doors lies along the sides of the tile.
-use Rattle.std.proofs.Common.{◌≡◌, ℕ, zero, suc, ◌+◌, ◌-◌, ◌<◌, ◌≤◌, ℤ, pos, ◌≤ℤ◌, ◌+ℤ◌, Bool, true, false, List, [], length, get_or, map, ap, ◌∙◌, refl, sym, subst, arith, Option, Some, None}
+use Rattle.std.proofs.Common.{◌≡◌, ℕ, zero, suc, ◌+◌, ◌-◌, ◌<◌, ◌≤◌, ℤ, pos, ◌≤ℤ◌, ◌+ℤ◌, true, List, [], length, get_or, map, ap, ◌∙◌, refl, sym, subst, arith, Option, Some, None}
 use Rattle.std.specs.Prelude.{All, slice_get, unsigned_abs, ◌&&◌}
-use Rattle.std.specs.List.{find, flat_map, range_with_len}
+use Rattle.std.specs.List.{range_with_len}
 use Rattle.std.specs.Option.{option_map_or}
 use Rattle.std.specs.Ordering.{int_eq}
 use Rattle.std.proofs.lemmas.Bool.{and_parts}
@@ -24,7 +24,6 @@ use Rattle.mesh_types.specs.declared.door.Door.{Door}
 use Rattle.mesh_types.specs.declared.door.Part.{Part}
 use Rattle.mesh_types.specs.declared.polygon.Polygon.{Polygon}
 use Rattle.mesh_types.specs.declared.label_runs.Run.{Run}
-use Rattle.mesh_types.specs.declared.tile.RimEdge.{RimEdge}
 use Rattle.mesh_types.specs.declared.tile.TileMesh.{TileMesh}
 use Rattle.mesh_types.specs.Runs.{label_if, runs_of}
 use Rattle.mesh_types.specs.Soundness.{IsRimOf, LiesOnSide, RunsOver}
@@ -77,7 +76,7 @@ module _ (setting : Setting) (cells : List Cell) (regions : Regions) (parts : Li
       let P : Point → Type 0 = IsCellCorner in (
         subst P is.begins (all door.edge (record { x = pos 0; z = pos 0 }) is.edge).of_cell,
         subst P is.ends (all (place_after (length (facet_corners facet)) door.edge) (record { x = pos 0; z = pos 0 })
-        (place_after-in (length (facet_corners facet)) door.edge is.edge)).of_cell,
+            (place_after-in (length (facet_corners facet)) door.edge is.edge)).of_cell,
       )
 
   entry_fits : (door : Door) → IsDoorOf parts facets door → (side : ℕ) → side < 4 → lies_on window door side ≡ true → (run : Run)

@@ -1,7 +1,7 @@
 -- The parts of a tile's regions lie in the tile, and their pieces are sound polygons.
-use Rattle.std.proofs.Common.{◌≡◌, ℕ, ◌+◌, ◌<◌, ◌≤◌, Bool, true, false, List, length, get_or, map, filter, ap, ◌∙◌, refl, sym, subst, arith, Option, Some, None, Result, Ok, Err, []}
+use Rattle.std.proofs.Common.{◌≡◌, ℕ, ◌<◌, ◌≤◌, Bool, true, false, List, length, get_or, map, filter, ap, ◌∙◌, refl, subst, arith, Some, None, Result, Ok, Err, []}
 use Rattle.std.specs.Prelude.{All, nat_lt, is_some, if◌then◌else◌, ◌==◌, pos}
-use Rattle.std.specs.List.{filter_map, flat_map, list_all, range_with_len}
+use Rattle.std.specs.List.{filter_map, list_all}
 use Rattle.std.specs.Option.{option_map_or}
 use Rattle.std.proofs.lemmas.Bool.{ltb-false, eq-eqb}
 use Rattle.std.proofs.lemmas.List.{length-map}
@@ -24,7 +24,7 @@ use Rattle.mesh_types.specs.declared.outline.Piece.{Piece}
 use Rattle.mesh_types.specs.declared.outline.Simplified.TheVariants.{Flat, Outline}
 use Rattle.mesh_types.specs.declared.door.Part.{Part}
 use Rattle.mesh_types.specs.Soundness.{IsPolygon, IsInSquare}
-use Rattle.mesh_types.specs.StripMeshes.{some_cell, first_of}
+use Rattle.mesh_types.specs.StripMeshes.{some_cell}
 use Rattle.mesh_types.specs.Regions.{IsStrip, IsStack, IsIn, place_in, AreRegionsOf}
 use Rattle.mesh_types.specs.Contours.{cell_in, region_at, strips_in}
 use Rattle.mesh_types.specs.Rings.{beginnings}

@@ -1,14 +1,13 @@
 -- The pieces of an outline that is cut: strictly convex polygons of its corners.
-use Rattle.std.proofs.Common.{◌≡◌, ℕ, zero, suc, ◌+◌, ◌-◌, ◌<◌, ◌≤◌, List, length, get_or, map, ap, subst, sym, refl, arith, Option, Some, None, true}
+use Rattle.std.proofs.Common.{◌≡◌, ℕ, zero, suc, ◌+◌, ◌-◌, ◌<◌, ◌≤◌, List, length, get_or, map, subst, refl, arith, Option, Some, None, true}
 use Rattle.std.specs.Prelude.{All}
-use Rattle.std.specs.List.{find, flat_map, range_with_len}
+use Rattle.std.specs.List.{find, range_with_len}
 use Rattle.std.specs.Option.{option_map, option_map_or}
-use Rattle.std.proofs.lemmas.List.FromFn.{get_or-range_with_len, length-range_with_len}
 use Rattle.nav_base.specs.declared.point.Point.{Point}
 use Rattle.mesh_types.specs.declared.outline.Triangle.{Triangle}
 use Rattle.mesh_types.specs.declared.outline.Piece.{Piece}
 use Rattle.mesh_types.specs.Ears.{AreEarsOf}
-use Rattle.mesh_types.specs.Merging.{IsPieceOf, Merge, best_merge, edge_end, is_admissible, is_facing, is_longer, joined, merge_all, merge_over, merged, merges_between, merges_from, merges_of, piece_of, places_at}
+use Rattle.mesh_types.specs.Merging.{IsPieceOf, Merge, best_merge, is_admissible, is_facing, is_longer, joined, merge_all, merge_over, merged, merges_between, merges_from, merges_of, piece_of, places_at}
 use Rattle.mesh_types.proofs.ChoiceLaws.{first_best-all, filter-passes}
 use Rattle.mesh_types.proofs.EarLaws.{ears_of-triangles}
 use Rattle.mesh_types.proofs.Gathered.{gathered_all}

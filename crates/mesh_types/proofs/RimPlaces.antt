@@ -1,7 +1,7 @@
 -- What holds of the places of a tile's cells holds of the places of its regions; so contours lie in the tile's square.
-use Rattle.std.proofs.Common.{◌≡◌, ℕ, zero, suc, ◌+◌, ◌-◌, ◌<◌, ◌≤◌, ℤ, pos, ◌≤ℤ◌, ◌+ℤ◌, List, length, get_or, map, filter, subst, arith, Bool}
+use Rattle.std.proofs.Common.{◌≡◌, ℕ, ◌+◌, ◌-◌, ◌<◌, ◌≤◌, ℤ, pos, ◌≤ℤ◌, ◌+ℤ◌, List, length, get_or, map, filter, subst, arith, Bool}
 use Rattle.std.specs.Prelude.{All, Contains}
-use Rattle.std.specs.List.{flat_map, range_with_len}
+use Rattle.std.specs.List.{range_with_len}
 use Rattle.std.proofs.lemmas.Int.{ints}
 use Rattle.std.proofs.lemmas.List.Elements.{All-contains, All-contains_itself, All-filter, All-map}
 use Rattle.std.proofs.lemmas.List.FromFn.{get_or-range_with_len, length-range_with_len}
@@ -18,7 +18,7 @@ use Rattle.mesh_types.specs.declared.region.UnitEdge.{UnitEdge}
 use Rattle.mesh_types.specs.Soundness.{IsInSquare}
 use Rattle.mesh_types.specs.StripMeshes.{corner}
 use Rattle.mesh_types.specs.Regions.{IsStrip, place_in, AreRegionsOf}
-use Rattle.mesh_types.specs.Contours.{cell_in, columns, edge_beginning, edge_of, is_rim, places_in, rim_edges_of, rim_of, strips_in}
+use Rattle.mesh_types.specs.Contours.{cell_in, columns, edge_of, is_rim, places_in, rim_edges_of, rim_of, strips_in}
 use Rattle.mesh_types.specs.ContourMeshes.{contour_of}
 use Rattle.mesh_types.proofs.ContourLaws.{round_all}
 use Rattle.mesh_types.proofs.Gathered.{all_of_each, all_four}

@@ -64,4 +64,3 @@ placed_once window cells side position level small cut inside =
     not_both side window a b small (inside i d (omega (arith, less, there))) (inside j d there) first.0 second.0
     (eqb-true _ position first'.0 ∙ sym (eqb-true _ position second'.0)) (eqb-true _ level first'.1 ∙ sym (eqb-true _ level second'.1))
     (cut.rules.order i j d less there))
-
