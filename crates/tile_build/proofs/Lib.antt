@@ -2,4 +2,3 @@ pub mod LocalTiles
 pub mod FreeInTile
 pub mod LinkTotals
 pub mod GroundTiles
-pub mod SameCells
