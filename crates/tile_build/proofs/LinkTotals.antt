@@ -70,10 +70,14 @@ shape_limits history number shape requests found =
         subst (λ (e : Entry). IsRequest e.request) (get_or_from_slice_get history place entry entry there)
         (requests place entry (slice_get_within history place entry there))
 
+-- so are those that are alive
+pub alive_limits : (history : List Entry) (k : ℕ) → All (λ (entry : Entry). IsRequest entry.request) history → All IsShape (shapes_alive history k)
+alive_limits history k requests =
+    All-found (shape_of history) IsShape (alive_after history k) (λ i d there shape found. shape_limits history _ shape requests found)
+
 -- the mesh of a ground and a history has at most 16000000 links
 pub few_links_of_build : (whole : Ground) (history : List Entry) (k : ℕ) → IsGround whole → All (λ (entry : Entry). IsRequest entry.request) history
     → link_count (build_of whole history k) ≤ 16000000
 unfolding build_of
 few_links_of_build whole history k rules' requests =
-    few_links_under whole (shapes_alive history k) rules'
-    (All-found (shape_of history) IsShape (alive_after history k) (λ i d there shape found. shape_limits history _ shape requests found))
+    few_links_under whole (shapes_alive history k) rules' (alive_limits history k requests)
