@@ -38,17 +38,15 @@ no_fault bytes result fault reads is play =
 
 -- an input that is not built cannot be played
 pub no_play : (bytes : List ℕ) (result : Result Input InputRefusal) (input : Input) → ReadsInput bytes result
-    → result ≡ Ok input → (¬ IsBuilt input.setting input.script) → IsPlay bytes → ⊥
+    → result ≡ Ok input → (¬ IsBuilt input.setting) → IsPlay bytes → ⊥
 no_play bytes result input reads is missing play =
     let P : Result Input InputRefusal → Type 0 = λ r. IsReadAs play.setting play.field play.script r in
     let same = subst P is (reads play.setting play.field play.script play.there) in
-    let S : Setting → Type 0 = λ s. IsBuilt s play.script in
-    let C : Script → Type 0 = λ s. IsBuilt input.setting s in
-    missing (subst C (sym same.2) (subst S (sym same.0) play.built))
+    missing (subst IsBuilt (sym same.0) play.built)
 
 -- what is not built yet is told as the fault 0 of line 0
 pub not_built : (bytes : List ℕ) (input : Input) (fault : TextFault) → IsInput bytes input.setting input.field input.script
-    → (¬ IsBuilt input.setting input.script) → fault ≡ record { line = 0; kind = 0 } → IsFault bytes fault
+    → (¬ IsBuilt input.setting) → fault ≡ record { line = 0; kind = 0 } → IsFault bytes fault
 not_built bytes input fault there missing told = inr (inr (record {
   setting = input.setting;
   field = input.field;

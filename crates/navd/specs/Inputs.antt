@@ -40,7 +40,7 @@ pub record IsPlay (input : List ℕ) : Type 0 where
   pub field : Field
   pub script : Script
   pub there : IsInput input setting field script
-  pub built : IsBuilt setting script
+  pub built : IsBuilt setting
 
 -- a play text of the input: one that its play may write
 pub record IsPlayed (input text : List ℕ) : Type 0 where
@@ -48,7 +48,7 @@ pub record IsPlayed (input text : List ℕ) : Type 0 where
   pub field : Field
   pub script : Script
   pub there : IsInput input setting field script
-  pub built : IsBuilt setting script
+  pub built : IsBuilt setting
   pub written : IsPlayText setting field script text
 
 -- the input does not begin with a field text: the fault is that of its first line that fails
@@ -70,7 +70,7 @@ pub record IsNotBuilt (input : List ℕ) (fault : TextFault) : Type 0 where
   pub field : Field
   pub script : Script
   pub there : IsInput input setting field script
-  pub missing : ¬ IsBuilt setting script
+  pub missing : ¬ IsBuilt setting
   pub told : fault ≡ record { line = 0; kind = 0 }
 
 -- what is wrong with an input

@@ -41,7 +41,7 @@ pub(crate) fn answer_to<R: Wait, L: Ledger>(
         Err(InputRefusal::Fault(fault)) => return told(alloc, &fault),
         Err(InputRefusal::OutOfMemory) => return Answer::OutOfMemory,
     };
-    if !built(&input.setting, &input.script) {
+    if !built(&input.setting) {
         return told(alloc, &TextFault { line: 0, kind: 0 });
     }
     let Input {

@@ -74,7 +74,7 @@ pub fn navd<R: Threads + Wait + Sync, S: Source, K: Sink, G: Gate + Sync, L: Led
     // At most the bytes of the longest input and one more are gone from the source.
     ensures took { TookAtMost (S.left source.old) (S.left source.new) (input_limit + 1) }
 
-    // Steps are taken for a play that was read alone: one for each tile, and one more at most for each tile at each `settle` line.
+    // Steps are taken for a play that was read alone: at most one for each tile, and one for each claim of its script that gives a tile.
     ensures steps { HasRunStepped (S.left source.old) (S.left source.new) steps.old steps.new }
 {
     if !is_form(words) {
