@@ -1,5 +1,5 @@
 -- A tile by outlines has few polygons and few links.
-use Rattle.std.proofs.Common.{◌≡◌, ℕ, ◌*◌, ◌≤◌, List, map, length, refl, subst, arith, Option, Some, None}
+use Rattle.std.proofs.Common.{◌≡◌, List, refl, subst, arith, Option, Some, None}
 use Rattle.std.specs.Option.{option_map}
 use Rattle.std.proofs.lemmas.List.{length-map}
 use Rattle.std.proofs.lemmas.Option.{none-some, same_Some}

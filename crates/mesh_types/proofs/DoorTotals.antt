@@ -1,7 +1,7 @@
 -- How many polygons and inner links a tile by outlines has: at most four polygons a free cell, and at most one link a corner of a polygon.
-use Rattle.std.proofs.Common.{◌≡◌, ℕ, ◌*◌, ◌≤◌, true, List, length, map, get_or, refl, ap, ◌∙◌, sym, arith, subst, Option, Some}
+use Rattle.std.proofs.Common.{◌≡◌, ℕ, ◌*◌, ◌≤◌, true, List, length, get_or, refl, ◌∙◌, sym, arith, subst, Option, Some}
 use Rattle.std.specs.Prelude.{is_some}
-use Rattle.std.specs.List.{sum_by, count_by, filter_map, list_all, range_with_len}
+use Rattle.std.specs.List.{sum_by, filter_map, list_all, range_with_len}
 use Rattle.std.proofs.lemmas.List.{length-map}
 use Rattle.std.proofs.lemmas.List.Concat.{length-flat_map}
 use Rattle.std.proofs.lemmas.List.FromFn.{length-range_with_len}

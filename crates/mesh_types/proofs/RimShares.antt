@@ -1,15 +1,14 @@
 -- What the rim of a tile by outlines has along a side: no more positions than there are free cells, and each position and level at most once.
-use Rattle.std.proofs.Common.{◌≡◌, ℕ, zero, suc, ◌+◌, ◌-◌, ◌<◌, ◌≤◌, Bool, true, false, cond, List, [], map, filter, length, get_or, ap, ◌∙◌, sym, refl, subst, arith, Option}
+use Rattle.std.proofs.Common.{◌≡◌, ℕ, ◌+◌, ◌-◌, ◌<◌, ◌≤◌, Bool, true, false, cond, List, [], map, length, get_or, ap, ◌∙◌, sym, refl, subst, arith, Option}
 use Rattle.std.specs.Prelude.{All, Any, Contains, Some, None, ◌==◌, ◌&&◌, is_some, unwrap_or}
-use Rattle.std.specs.List.{sum_by, find, flat_map, range_with_len, between}
+use Rattle.std.specs.List.{sum_by, find, range_with_len, between}
 use Rattle.std.specs.Option.{option_map_or}
 use Rattle.std.proofs.lemmas.Bool.{and_parts, and_from, eq-eqb, eqb-true}
-use Rattle.std.proofs.lemmas.List.{get_or-map, length-map}
+use Rattle.std.proofs.lemmas.List.{length-map}
 use Rattle.std.proofs.lemmas.List.Elements.{All-contains_itself}
 use Rattle.std.proofs.lemmas.List.FromFn.{get_or-range_with_len, get_or-map-range_with_len, length-range_with_len, length-map-range_with_len}
 use Rattle.std.proofs.lemmas.List.Sums.{sum_by-le-sum_by, get_or-le-sum_by}
 use Rattle.nav_ground.specs.declared.cell.Cell.{Cell}
-use Rattle.nav_ground.specs.declared.cell.CellRef.{CellRef}
 use Rattle.nav_ground.specs.declared.cell.Window.{Window}
 use Rattle.nav_ground.specs.Cells.{IsCut}
 use Rattle.nav_ground.specs.Tiling.{IsInWindow}
@@ -29,7 +28,7 @@ use Rattle.mesh_types.proofs.LinkTotals.{is_named, named_pair}
 use Rattle.mesh_types.proofs.RunLaws.{IsRunOf, in_run, part_length, run_passes, runs_are_runs}
 use Rattle.mesh_types.proofs.RunTotals.{runs_within}
 use Rattle.mesh_types.proofs.SidePlaces.{is_placed, placed_once}
-use Rattle.mesh_types.proofs.Totals.{HasNumber, numbers_within, once_in_range, sum_by-filter, sum_by-flat_map, sum_by-map, sum_by-no_more, sum_by-one, sum_by-range_no_more, sum_by-range_same, sum_by-same, sum_by-shared, sum_by-zero}
+use Rattle.mesh_types.proofs.Totals.{HasNumber, numbers_within, once_in_range, sum_by-filter, sum_by-flat_map, sum_by-map, sum_by-no_more, sum_by-one, sum_by-range_no_more, sum_by-shared, sum_by-zero}
 
 -- ---- a door is told by its polygon and its edge
 

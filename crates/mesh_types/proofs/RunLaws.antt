@@ -1,9 +1,9 @@
 -- What every maximal run of labels is: a range of places that all have its label.
-use Rattle.std.proofs.Common.{◌≡◌, ℕ, ◌+◌, ◌-◌, ◌<◌, ◌≤◌, ◌⊎◌, Bool, true, false, List, [], ◌∷◌, length, map, drop, get_or, ap, ◌∙◌, sym, refl, subst, arith, zero, suc, Option, inl, inr}
+use Rattle.std.proofs.Common.{◌≡◌, ℕ, ◌+◌, ◌-◌, ◌<◌, ◌≤◌, Bool, true, false, List, [], ◌∷◌, length, map, drop, get_or, ap, ◌∙◌, sym, refl, subst, arith, suc, Option, inl, inr}
 use Rattle.std.specs.Prelude.{None, Some, All, ◌==◌, ◌||◌, not, if◌then◌else◌}
 use Rattle.std.specs.List.{filter_map, cons_option, prefix_len, range_with_len, between}
 use Rattle.std.proofs.lemmas.Bool.{eqb-true, cases_lt}
-use Rattle.std.proofs.lemmas.List.{get_or-drop, get_or-take, get_or-map, length-drop, length-take, length-map, get_or_default}
+use Rattle.std.proofs.lemmas.List.{get_or-drop, get_or-take, get_or-map, length-drop, length-take, length-map}
 use Rattle.std.proofs.lemmas.List.Elements.{All-nil, All-cons}
 use Rattle.std.proofs.lemmas.List.FromFn.{get_or-range_with_len, length-range_with_len}
 use Rattle.std.proofs.lemmas.List.Sums.{prefix_len_passes, prefix_len-le-length}

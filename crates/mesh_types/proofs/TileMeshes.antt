@@ -1,5 +1,5 @@
 -- What holds of a tile's mesh of either kind.
-use Rattle.std.proofs.Common.{◌≡◌, List, ap, refl, Option, Some, None, ◌∙◌, sym}
+use Rattle.std.proofs.Common.{◌≡◌, List, ap, refl, Option, Some, None, sym}
 use Rattle.std.specs.Prelude.{unwrap_or}
 use Rattle.std.specs.Option.{option_map}
 use Rattle.std.proofs.lemmas.Option.{none-some, same_Some}

@@ -1,39 +1,33 @@
 -- What a book keeps from step to step.
-use Rattle.std.proofs.Common.{◌≡◌, ◌≢◌, ℕ, ◌+◌, ◌<◌, ◌≤◌, ◌^◌, Bool, true, false, List, [], ◌∷◌, ◌++◌, length, get_or, filter, ap, ◌∙◌, refl, sym, subst, arith, Option, Some, None, Result, Ok, Err, replicate}
-use Rattle.std.specs.Prelude.{All, slice_set, OnOk, OnErr, IsErr, ◌↔◌, if◌then◌else◌}
-use Rattle.std.proofs.lemmas.Bool.{false≢true}
-use Rattle.std.specs.Option.{option_map_or}
-use Rattle.std.proofs.lemmas.Option.{none-some}
-use Rattle.std.proofs.lemmas.List.{length-replicate, get_or-replicate, get_or_default, length_push, length-set}
-use Rattle.nav_ground.specs.declared.history.TheConstants.{HISTORY_LIMIT}
+use Rattle.std.proofs.Common.{◌≡◌, ℕ, ◌<◌, Bool, true, false, List, [], ◌∷◌, ◌++◌, length, ap, ◌∙◌, refl, sym, subst, arith, Option, Some, None, Result, Ok, Err, replicate}
+use Rattle.std.specs.Prelude.{slice_set, OnOk, OnErr, if◌then◌else◌}
+use Rattle.std.proofs.lemmas.List.{length-replicate, get_or-replicate, get_or_default, length-set}
 use Rattle.nav_ground.specs.declared.history.Entry.{Entry}
 use Rattle.nav_ground.specs.declared.history.Ground.{Ground}
 use Rattle.nav_ground.specs.declared.history.Request.{Request}
 use Rattle.nav_ground.specs.declared.setting.Setting.{Setting}
 use Rattle.nav_ground.specs.declared.shape.Shape.{Shape}
 use Rattle.nav_ground.specs.Grounds.{IsGround}
-use Rattle.nav_ground.specs.History.{IsHistory, IsRequest, shapes_alive}
-use Rattle.nav_ground.specs.Limits.{IsSetting, IsShape}
+use Rattle.nav_ground.specs.History.{shapes_alive}
+use Rattle.nav_ground.specs.Limits.{IsSetting}
 use Rattle.nav_ground.specs.Tiling.{tile_count}
-use Rattle.nav_ground.specs.Touching.{touching_shapes}
 use Rattle.mesh_types.specs.declared.mesh.Mesh.{Mesh}
 use Rattle.mesh_types.specs.declared.tile.TileMesh.{TileMesh}
 use Rattle.mesh_types.specs.Builds.{build_of}
-use Rattle.mesh_types.specs.Soundness.{AreTiles, IsSound, polygon_count}
+use Rattle.mesh_types.specs.Soundness.{AreTiles, IsSound}
 use Rattle.mesh_types.specs.WholeMesh.{mesh_of}
 use Rattle.tile_build.specs.Meshes.{tiles_under}
 use Rattle.tile_build.proofs.BuildTotals.{alive_limits}
-use Rattle.tile_links.specs.NewTiles.{AreNew, IsWhole, tiles_after}
-use Rattle.nav_desk.specs.declared.answers.Published.TheVariants.{New, Same, NotYet}
-use Rattle.nav_desk.specs.declared.answers.Submitted.{Submitted}
+use Rattle.tile_links.specs.NewTiles.{IsWhole, tiles_after}
+use Rattle.nav_desk.specs.declared.answers.Published.TheVariants.{New}
 use Rattle.nav_desk.specs.declared.answers.Submitted.TheVariants.{Taken, Stale}
 use Rattle.nav_desk.specs.BookState.{BookState, IsBook, first_state, least_awaited}
 use Rattle.nav_desk.specs.Steps.{next_reply, after_request, is_taken, submission, after_submit, publication, after_publish}
 use Rattle.nav_desk.proofs.BookLaws.{none_awaited, publication-New}
-use Rattle.nav_book.specs.Fresh.{AreStored, CanBePutInto, news_of}
+use Rattle.nav_book.specs.Fresh.{CanBePutInto, news_of}
 use Rattle.nav_book.specs.Representation.{AreKept}
 use Rattle.nav_book.specs.Results.{published_mesh, tile_under}
-use Rattle.nav_book.proofs.GroundTiles.{IsSetting-of_build, IsWhole-build, are_tiles, build_of-append, setting_of_build, tiles_of_build, whole_build}
+use Rattle.nav_book.proofs.GroundTiles.{IsWhole-build, are_tiles, build_of-append, setting_of_build, tiles_of_build, whole_build}
 use Rattle.nav_book.proofs.StoredTiles.{AreTouching, few_tiles, news_are_new, stored_again, stored_with, tiles_renewed}
 
 -- so many empty places

@@ -1,5 +1,5 @@
 -- What is stored of the tiles of a ground, and what it makes of the published mesh.
-use Rattle.std.proofs.Common.{◌≡◌, ◌≢◌, ℕ, ◌+◌, ◌*◌, ◌<◌, ◌≤◌, ◌^◌, List, [], length, get_or, ap, ◌∙◌, refl, sym, subst, arith, Option, Some, None, ⊎_elim, replicate}
+use Rattle.std.proofs.Common.{◌≡◌, ◌≢◌, ℕ, ◌<◌, ◌≤◌, ◌^◌, List, [], length, get_or, ap, ◌∙◌, sym, subst, arith, Option, Some, None, ⊎_elim, replicate}
 use Rattle.std.specs.Prelude.{All, unwrap_or, slice_set}
 use Rattle.std.proofs.Math.Nat.{div-le_self, mul-le-mul_left, mul-le-mul_right}
 use Rattle.std.proofs.lemmas.Bool.{cases_order}

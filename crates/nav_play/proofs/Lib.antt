@@ -1,4 +1,11 @@
 pub mod Lists
+pub mod Passing
+pub mod JobLaws
+pub mod Held
+pub mod Wholes
+pub mod Playable
 pub mod Runs
-pub mod StepCounts
+pub mod Tallying
+pub mod OneTotals
 pub mod Playing
+mod CountedPlays

@@ -1,63 +1,116 @@
 -- A play under way on its ground, with the steps that it took.
-use Rattle.std.proofs.Common.{◌≡◌, ℕ, ◌+◌, ◌<◌, List, [], length, get_or, ap, ◌∙◌, sym, subst, arith}
+use Rattle.std.proofs.Common.{◌≡◌, ℕ, ◌+◌, ◌<◌, ◌≤◌, List, [], ◌++◌, length, get_or, drop, ap, ◌∙◌, sym, subst, refl, arith}
 use Rattle.nav_ground.specs.declared.field.Field.{Field}
 use Rattle.nav_ground.specs.declared.history.Ground.{Ground}
 use Rattle.nav_ground.specs.declared.setting.Setting.{Setting}
 use Rattle.nav_ground.specs.Tiling.{tile_count}
+use Rattle.nav_record.specs.declared.totals.Totals.{Totals}
+use Rattle.nav_record.specs.Texts.{done_text}
 use Rattle.nav_script.specs.declared.line.Line.{Line}
 use Rattle.nav_script.specs.declared.script.Script.{Script}
 use Rattle.nav_steps.specs.Counts.{HasRisenAtMost}
-use Rattle.tile_build.specs.Meshes.{IsOfStrips}
-use Rattle.nav_play.specs.Built.{IsBuilt}
-use Rattle.nav_play.specs.PlayRecord.{PlayState, AddsSome, IsSaid, ground_of, state_after}
-use Rattle.nav_play.specs.Work.{most_for}
-use Rattle.nav_play.proofs.Runs.{IsUnderWay, before_lines, one_line}
-use Rattle.nav_play.proofs.StepCounts.{most_up_to, one_line_more, whole_stays}
+use Rattle.nav_play.specs.PlayRecord.{PlayState, AddsSome, IsSaid, IsTextFrom, ground_of, state_after, state_after_all}
+use Rattle.nav_play.specs.Tallies.{HasCounted, no_answers}
+use Rattle.nav_play.specs.Work.{jobs_from, jobs_of}
+use Rattle.nav_play.proofs.Runs.{IsUnderWay, begun, ended, goes_on, next_line, no_jobs, no_line, same_end, same_jobs}
+use Rattle.nav_play.proofs.Tallying.{IsTallied, tally_begun, tally_goes_on}
+use Rattle.nav_play.proofs.Wholes.{lanes_stay, whole_stays, workers_stay}
 
--- the play is under way, its ground is the one that it began with, and its steps are those of the beginning and of the lines so far at most
-pub record IsPlaying (first : PlayState) (lines : List Line) (done : ℕ) (state : PlayState) (text : List ℕ) (lanes before after : ℕ) : Type 0 where
-  pub way : IsUnderWay first lines done state text lanes
+-- the play is under way with its text and its totals, leads to the end, is still on its ground, and the steps of the lines that are left
+-- make up those that are due
+pub record IsPlaying (first : PlayState) (lines : List Line) (done : ℕ) (state : PlayState) (text : List ℕ) (totals : Totals) (before after : ℕ) : Type 0 where
+  pub way : IsUnderWay IsSaid first lines done state text
+  pub tallied : IsTallied first lines done state totals
+  pub ends : state_after_all state (drop done lines) ≡ state_after_all first lines
   pub whole : state.book.whole ≡ first.book.whole
-  pub steps : HasRisenAtMost (most_up_to (tile_count first.book.whole.setting) lines done) before after
+  pub lanes : length state.adds ≡ length first.adds
+  pub workers : length state.held ≡ length first.held
+  pub steps : after + jobs_from state (drop done lines) ≡ before + (tile_count first.book.whole.setting + jobs_from first lines)
+  pub least : before ≤ after
 
 -- no line was played: the steps are those of the beginning
-pub no_line_played : (first : PlayState) (lines : List Line) (state : PlayState) (text : List ℕ) (lanes before after : ℕ) → state ≡ first → text ≡ []
-    → length state.adds ≡ lanes → state.lane < lanes → HasRisenAtMost (tile_count first.book.whole.setting) before after
-    → IsPlaying first lines 0 state text lanes before after
-no_line_played first lines state text lanes before after same empty all lane steps = record {
-  way = before_lines first lines state text lanes same empty all lane;
+pub no_line_played : (first : PlayState) (lines : List Line) (state : PlayState) (text : List ℕ) (totals : Totals) (before after : ℕ) → state ≡ first → text ≡ []
+    → totals ≡ no_answers → after ≡ before + tile_count first.book.whole.setting → IsPlaying first lines 0 state text totals before after
+no_line_played first lines state text totals before after same empty none steps = record {
+  way = begun IsSaid first lines state text same empty;
+  tallied = tally_begun first lines state totals same none;
+  ends = ap (λ (s : PlayState). state_after_all s lines) same;
   whole = ap (λ (s : PlayState). s.book.whole) same;
-  steps = record { least = steps.least; most_risen = omega (arith, steps.most_risen) };
+  lanes = ap (λ (s : PlayState). length s.adds) same;
+  workers = ap (λ (s : PlayState). length s.held) same;
+  steps = let jobs = ap (λ (s : PlayState). jobs_from s lines) same in omega (arith, steps, jobs);
+  least = omega (arith, steps);
 }
 
--- the steps of one more line
-pub line_steps : (first : PlayState) (lines items : List Line) (done : ℕ) (state : PlayState) (text : List ℕ) (lanes before after later : ℕ) (d : Line)
-    → IsPlaying first lines done state text lanes before after
-    → items ≡ lines
-    → done < length items
-    → HasRisenAtMost (most_for (tile_count state.book.whole.setting) (get_or items done d)) after later
-    → HasRisenAtMost (most_up_to (tile_count first.book.whole.setting) lines (done + 1)) before later
-line_steps first lines items done state text lanes before after later d playing same there more =
-    one_line_more (tile_count first.book.whole.setting) done before after later lines items d same there playing.steps
-    (subst (λ (w : Ground). HasRisenAtMost (most_for (tile_count w.setting) (get_or items done d)) after later) playing.whole more)
-
-pub one_line_played : (first : PlayState) (lines items : List Line) (done : ℕ) (state next : PlayState) (text more : List ℕ) (lanes before after later : ℕ) (d : Line)
-    → IsPlaying first lines done state text lanes before after
+-- one more line
+pub one_line_played : (first : PlayState) (lines items : List Line) (done : ℕ) (state next : PlayState) (text more : List ℕ) (totals counted : Totals) (before after later : ℕ) (d : Line)
+    → IsPlaying first lines done state text totals before after
     → items ≡ lines
     → done < length items
     → AddsSome (IsSaid state (get_or items done d)) text more
     → next ≡ state_after state (get_or items done d)
-    → length next.adds ≡ length state.adds
-    → next.lane < length next.adds
-    → HasRisenAtMost (most_for (tile_count state.book.whole.setting) (get_or items done d)) after later
-    → IsPlaying first lines (done + 1) next more lanes before later
-one_line_played first lines items done state next text more lanes before after later d playing same there adds next_is kept lane steps = record {
-  way = one_line first lines items done state next text more lanes d playing.way same there adds next_is kept lane;
-  whole = ap (λ (s : PlayState). s.book.whole) next_is ∙ whole_stays state (get_or items done d) ∙ playing.whole;
-  steps = line_steps first lines items done state text lanes before after later d playing same there steps;
-}
+    → HasCounted state (get_or items done d) totals counted
+    → later ≡ after + jobs_of state (get_or items done d)
+    → IsPlaying first lines (done + 1) next more counted before later
+one_line_played first lines items done state next text more totals counted before after later d playing same there adds next_is has steps =
+    let this = get_or items done d in
+    let left = next_line lines items done d same there in
+    record {
+      way = goes_on IsSaid first lines done state next text more this playing.way left adds next_is;
+      tallied = tally_goes_on first lines done state next totals counted this playing.tallied left has next_is;
+      ends = same_end lines done state next this left next_is ∙ playing.ends;
+      whole = ap (λ (s : PlayState). s.book.whole) next_is ∙ whole_stays state this ∙ playing.whole;
+      lanes = ap (λ (s : PlayState). length s.adds) next_is ∙ lanes_stay state this ∙ playing.lanes;
+      workers = ap (λ (s : PlayState). length s.held) next_is ∙ workers_stay state this ∙ playing.workers;
+      steps = omega (arith, steps, playing.steps, same_jobs lines done state next this left next_is);
+      least = omega (arith, steps, playing.least);
+    }
 
--- the tiles of a play's ground are strips
-pub of_strips : (setting : Setting) (field : Field) (script : Script) (whole : Ground) → IsBuilt setting script → whole ≡ ground_of setting field
-    → IsOfStrips whole.setting
-of_strips setting field script whole built same = subst (λ (w : Ground). IsOfStrips w.setting) (sym same) (record { kind = built.strips })
+-- the steps up to a line that was not played to its end are among those that are due
+pub line_broken : (first : PlayState) (lines items : List Line) (done : ℕ) (state : PlayState) (text : List ℕ) (totals : Totals) (before after later : ℕ) (d : Line)
+    → IsPlaying first lines done state text totals before after
+    → items ≡ lines
+    → done < length items
+    → HasRisenAtMost (jobs_of state (get_or items done d)) after later
+    → HasRisenAtMost (tile_count first.book.whole.setting + jobs_from first lines) before later
+line_broken first lines items done state text totals before after later d playing same there risen =
+    let this = get_or items done d in
+    let jobs = same_jobs lines done state (state_after state this) this (next_line lines items done d same there) refl in
+    record {
+      least = omega (arith, playing.least, risen.least);
+      most_risen = omega (arith, playing.steps, jobs, risen.most_risen);
+    }
+
+-- all lines were played
+pub all_steps : (first : PlayState) (lines items : List Line) (done : ℕ) (state : PlayState) (text : List ℕ) (totals : Totals) (before after : ℕ)
+    → IsPlaying first lines done state text totals before after
+    → items ≡ lines
+    → length items ≤ done
+    → after ≡ before + (tile_count first.book.whole.setting + jobs_from first lines)
+all_steps first lines items done state text totals before after playing same end =
+    let none = no_jobs lines done state (no_line lines items done same end) in
+    omega (arith, playing.steps, none)
+
+pub last_state : (first : PlayState) (lines items : List Line) (done : ℕ) (state : PlayState) (text : List ℕ) (totals : Totals) (before after : ℕ)
+    → IsPlaying first lines done state text totals before after
+    → items ≡ lines
+    → length items ≤ done
+    → state_after_all first lines ≡ state
+last_state first lines items done state text totals before after playing same end =
+    sym playing.ends ∙ ap (state_after_all state) (no_line lines items done same end)
+
+pub whole_text : (first : PlayState) (lines items : List Line) (done : ℕ) (state : PlayState) (text more : List ℕ) (totals : Totals) (before after k n : ℕ)
+    → IsPlaying first lines done state text totals before after
+    → items ≡ lines
+    → length items ≤ done
+    → k ≡ state.book.published
+    → n ≡ length state.book.history
+    → more ≡ text ++ done_text k n
+    → IsTextFrom first lines more
+whole_text first lines items done state text more totals before after k n playing same end k_is n_is done_is =
+    let last = last_state first lines items done state text totals before after playing same end in
+    record {
+      said = text;
+      fits = ended IsSaid first lines done state text playing.way (no_line lines items done same end);
+      written = done_is ∙ (λ i. text ++ done_text ((k_is ∙ ap (λ (s : PlayState). s.book.published) (sym last)) i) ((n_is ∙ ap (λ (s : PlayState). length s.book.history) (sym last)) i));
+    }

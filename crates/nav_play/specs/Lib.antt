@@ -1,4 +1,7 @@
-pub mod Built
+pub mod Settling
+pub mod Jobs
 pub mod PlayRecord
+pub mod PlayTotals
+pub mod Tallies
 pub mod Players
 pub mod Work

@@ -1,5 +1,5 @@
 -- What a play of a script may write: line by line the answers of the book, and then how far the play came.
-use Rattle.std.specs.Prelude.{◌≡◌, ℕ, ◌+◌, ◌-◌, ◌==◌, if◌then◌else◌, List, [], ◌∷◌, ◌++◌, length, replicate, slice_get, slice_set, get_or, unwrap_or}
+use Rattle.std.specs.Prelude.{◌≡◌, ℕ, ◌+◌, ◌-◌, ◌==◌, if◌then◌else◌, List, [], ◌∷◌, ◌++◌, length, replicate, fold, slice_get, slice_set, get_or, unwrap_or, Option, None}
 use Rattle.nav_base.specs.declared.answers.Question.{Question}
 use Rattle.nav_ground.specs.declared.setting.Setting.{Setting}
 use Rattle.nav_ground.specs.declared.field.Field.{Field}
@@ -12,27 +12,39 @@ use Rattle.nav_ground.specs.declared.history.Request.TheVariants as requests
 use Rattle.nav_ground.specs.Layers.{layers_of}
 use Rattle.mesh_types.specs.declared.answers.Answer.{Answer}
 use Rattle.mesh_types.specs.Right.{IsRight}
-use Rattle.nav_book.specs.BookState.{BookState, next_reply, after_request, after_renewal, published_mesh}
-use Rattle.nav_record.specs.declared.step.StepAnswer.TheVariants.{Settled, HistoryFull}
+use Rattle.nav_desk.specs.declared.answers.Job.{Job}
+use Rattle.nav_desk.specs.BookState.{BookState}
+use Rattle.nav_desk.specs.BookState as books
+use Rattle.nav_desk.specs.Steps.{next_reply, after_aim, after_publish, after_request, publication}
+use Rattle.nav_book.specs.Results.{published_mesh}
+use Rattle.nav_record.specs.declared.step.StepAnswer.TheVariants as answers
 use Rattle.nav_record.specs.Texts.{reply_text, step_text, answer_text, done_text}
 use Rattle.nav_script.specs.declared.line.Line.{Line}
 use Rattle.nav_script.specs.declared.line.Line.TheVariants.{Lane, Ask, Add, Remove, Undo, Settle, Aim, Claim, Back, Submit, Publish}
 use Rattle.nav_script.specs.declared.script.Script.{Script}
+use Rattle.nav_play.specs.Jobs.{claim_said, held_after_claim, book_after_claim, back_said, book_after_back, submit_said, book_after_submit, publication_said}
+use Rattle.nav_play.specs.Settling.{after_settle}
 
--- what stands between two lines: the book, the lane of the next request, and for each lane the numbers that its add lines got,
--- 0 where nothing was added
+-- what stands between two lines: the book, the lane of the next request, for each lane the numbers that its add lines got, 0 where
+-- nothing was added, and for each worker the job of the tile that it holds, if it holds one
 pub record PlayState : Type 0 where
   pub book : BookState
   pub lane : ℕ
   pub adds : List (List ℕ)
+  pub held : List (Option Job)
 
 -- the ground of a setting and a field
 abbrev pub ground_of : Setting → Field → Ground
 ground_of setting field = record { setting = setting; field = field; layers = layers_of setting field }
 
--- a play begins with no history, in lane 0
-abbrev pub first_state : Ground → ℕ → PlayState
-first_state whole lanes = record { book = record { whole = whole; history = []; published = 0 }; lane = 0; adds = replicate lanes [] }
+-- a play begins with no history, in lane 0, and its workers hold nothing
+abbrev pub first_state : Ground → ℕ → ℕ → PlayState
+first_state whole lanes workers = record {
+  book = books.first_state whole;
+  lane = 0;
+  adds = replicate lanes [];
+  held = replicate workers None;
+}
 
 -- the book after a request: with one entry more, or as it was where its history is full
 abbrev pub requested : BookState → ℕ → Request → BookState
@@ -41,7 +53,7 @@ requested book lane request = if length book.history == HISTORY_LIMIT then book 
 -- what is written after a request: the number of its entry and its reply, or that the history is full
 abbrev pub request_text : BookState → Request → List ℕ
 request_text book request =
-    if length book.history == HISTORY_LIMIT then step_text (HistoryFull (length book.history))
+    if length book.history == HISTORY_LIMIT then step_text (answers.HistoryFull (length book.history))
     else reply_text (length book.history + 1) (next_reply book request)
 
 -- the number of an obstacle that was added; 0 where none was
@@ -69,25 +81,29 @@ number_in adds lane j = unwrap_or (slice_get (adds_of adds lane) (j - 1)) 0
 abbrev pub drop_request : PlayState → ℕ → Request
 drop_request state j = requests.Remove (number_in state.adds state.lane j)
 
+-- the job of the tile that a worker holds
+abbrev pub held_by : PlayState → ℕ → Option Job
+held_by state worker = get_or state.held worker None
+
 -- what may be written after a question: an answer that is right in the published mesh, with the length that it was asked at
 pub record IsAnswered (book : BookState) (question : Question) (text : List ℕ) : Type 0 where
   pub answer : Answer
   pub right : IsRight (published_mesh book) question answer
   pub written : text ≡ answer_text book.published answer
 
--- what may be written after a line; only questions leave a choice, and the single steps of workers are not built yet
+-- what may be written after a line; only questions leave a choice
 abbrev pub IsSaid : PlayState → Line → List ℕ → Type 0
 IsSaid state (Lane lane) text = text ≡ []
 IsSaid state (Ask question) text = IsAnswered state.book question text
 IsSaid state (Add shape) text = text ≡ request_text state.book (requests.Add shape)
 IsSaid state (Remove number) text = text ≡ request_text state.book (requests.Remove number)
 IsSaid state (Undo j) text = text ≡ request_text state.book (drop_request state j)
-IsSaid state Settle text = text ≡ step_text (Settled (length state.book.history))
-IsSaid state Aim text = ⊥
-IsSaid state (Claim worker) text = ⊥
-IsSaid state (Back worker) text = ⊥
-IsSaid state (Submit worker) text = ⊥
-IsSaid state Publish text = ⊥
+IsSaid state Settle text = text ≡ step_text (answers.Settled (length state.book.history))
+IsSaid state Aim text = text ≡ step_text (answers.Aim (length state.book.history))
+IsSaid state (Claim worker) text = text ≡ step_text (claim_said state.book worker (held_by state worker))
+IsSaid state (Back worker) text = text ≡ step_text (back_said worker (held_by state worker))
+IsSaid state (Submit worker) text = text ≡ step_text (submit_said state.book worker (held_by state worker))
+IsSaid state Publish text = text ≡ step_text (publication_said (publication state.book))
 
 -- the state after a line
 abbrev pub state_after : PlayState → Line → PlayState
@@ -99,32 +115,55 @@ state_after state (Add shape) = record state {
 }
 state_after state (Remove number) = record state { book = requested state.book state.lane (requests.Remove number) }
 state_after state (Undo j) = record state { book = requested state.book state.lane (drop_request state j) }
-state_after state Settle = record state { book = after_renewal state.book }
-state_after state Aim = state
-state_after state (Claim worker) = state
-state_after state (Back worker) = state
-state_after state (Submit worker) = state
-state_after state Publish = state
+state_after state Settle = record state { book = after_settle state.book; held = replicate (length state.held) None }
+state_after state Aim = record state { book = after_aim state.book }
+state_after state (Claim worker) = record state {
+  book = book_after_claim state.book (held_by state worker);
+  held = slice_set state.held worker (held_after_claim state.book (held_by state worker));
+}
+state_after state (Back worker) = record state {
+  book = book_after_back state.book (held_by state worker);
+  held = slice_set state.held worker None;
+}
+state_after state (Submit worker) = record state {
+  book = book_after_submit state.book (held_by state worker);
+  held = slice_set state.held worker None;
+}
+state_after state Publish = record state { book = after_publish state.book }
 
--- a text is one that fits, and behind it another that fits
-pub record IsJoined (Front Back : List ℕ → Type 0) (text : List ℕ) : Type 0 where
-  pub said : List ℕ
-  pub rest : List ℕ
-  pub parts : text ≡ said ++ rest
+-- the state after lines, one after another
+abbrev pub state_after_all : PlayState → List Line → PlayState
+state_after_all state lines = fold state_after state lines
+
+-- a list is one that fits, and behind it another that fits
+pub record IsJoined {A : Type 0} (Front Back : List A → Type 0) (list : List A) : Type 0 where
+  pub said : List A
+  pub rest : List A
+  pub parts : list ≡ said ++ rest
   pub said_fits : Front said
   pub rest_fits : Back rest
 
--- behind what was written before stands one text more, and that fits
-pub record AddsSome (Fits : List ℕ → Type 0) (before after : List ℕ) : Type 0 where
-  pub said : List ℕ
+-- behind what stood before stands one part more, and that fits
+pub record AddsSome {A : Type 0} (Fits : List A → Type 0) (before after : List A) : Type 0 where
+  pub said : List A
   pub written : after ≡ before ++ said
   pub fits : Fits said
 
--- what the lines that are left may write, one after another, and then the published length and the length of the history
-unfoldable pub IsTextFrom : PlayState → List Line → List ℕ → Type 0
-IsTextFrom state [] text = text ≡ done_text state.book.published (length state.book.history)
-IsTextFrom state (line ∷ lines) text = IsJoined (IsSaid state line) (IsTextFrom (state_after state line) lines) text
+-- what lines say, one after another, each in the state that the lines before it leave
+unfoldable pub AreSaid : {A : Type 0} → (PlayState → Line → List A → Type 0) → PlayState → List Line → List A → Type 0
+AreSaid Says state [] list = list ≡ []
+AreSaid Says state (line ∷ lines) list = IsJoined (Says state line) (AreSaid Says (state_after state line) lines) list
+
+-- a text of lines from a state on: what they may write, and then the published length and the length of the history
+pub record IsTextFrom (state : PlayState) (lines : List Line) (text : List ℕ) : Type 0 where
+  pub said : List ℕ
+  pub fits : AreSaid IsSaid state lines said
+  pub written : text ≡ said ++ done_text (state_after_all state lines).book.published (length (state_after_all state lines).book.history)
+
+-- the state in which the play of a script over a field begins
+abbrev pub first_state_of : Setting → Field → Script → PlayState
+first_state_of setting field script = first_state (ground_of setting field) script.lanes script.workers
 
 -- what a play of a script over a field may write
 abbrev pub IsPlayText : Setting → Field → Script → List ℕ → Type 0
-IsPlayText setting field script text = IsTextFrom (first_state (ground_of setting field) script.lanes) script.lines text
+IsPlayText setting field script text = IsTextFrom (first_state_of setting field script) script.lines text

@@ -1,30 +1,34 @@
--- Work: how many tiles a play builds at most.
-use Rattle.std.specs.Prelude.{ℕ, ◌+◌, ◌*◌, Bool, false, true, if◌then◌else◌}
-use Rattle.std.specs.List.{count_by}
+-- Work: how many tiles a play builds.
+use Rattle.std.specs.Prelude.{ℕ, ◌+◌, List, [], ◌∷◌, length}
 use Rattle.nav_ground.specs.declared.setting.Setting.{Setting}
+use Rattle.nav_ground.specs.declared.field.Field.{Field}
 use Rattle.nav_ground.specs.Tiling.{tile_count}
 use Rattle.nav_script.specs.declared.line.Line.{Line}
 use Rattle.nav_script.specs.declared.line.Line.TheVariants.{Lane, Ask, Add, Remove, Undo, Settle, Aim, Claim, Back, Submit, Publish}
 use Rattle.nav_script.specs.declared.script.Script.{Script}
+use Rattle.nav_play.specs.Jobs.{jobs_of_claim}
+use Rattle.nav_play.specs.PlayRecord.{PlayState, first_state_of, held_by, state_after}
+use Rattle.nav_play.specs.Settling.{awaited_tiles, settling}
 
--- a line publishes the history
-abbrev pub is_settle : Line → Bool
-is_settle (Lane lane) = false
-is_settle (Ask question) = false
-is_settle (Add shape) = false
-is_settle (Remove number) = false
-is_settle (Undo back) = false
-is_settle Settle = true
-is_settle Aim = false
-is_settle (Claim worker) = false
-is_settle (Back worker) = false
-is_settle (Submit worker) = false
-is_settle Publish = false
+-- how many claims of a line give a tile: one at most of a `claim` line, and those of a `settle` line, one for each tile that is awaited then
+abbrev pub jobs_of : PlayState → Line → ℕ
+jobs_of state Settle = length (awaited_tiles (settling state.book))
+jobs_of state (Claim worker) = jobs_of_claim state.book (held_by state worker)
+jobs_of state (Lane lane) = 0
+jobs_of state (Ask question) = 0
+jobs_of state (Add shape) = 0
+jobs_of state (Remove number) = 0
+jobs_of state (Undo back) = 0
+jobs_of state Aim = 0
+jobs_of state (Back worker) = 0
+jobs_of state (Submit worker) = 0
+jobs_of state Publish = 0
 
--- a `settle` line builds each of the tiles once at most, and no other line builds any
-abbrev pub most_for : ℕ → Line → ℕ
-most_for tiles line = if is_settle line then tiles else 0
+-- how many claims of lines give a tile, one line after another
+unfoldable pub jobs_from : PlayState → List Line → ℕ
+jobs_from state [] = 0
+jobs_from state (line ∷ lines) = jobs_of state line + jobs_from (state_after state line) lines
 
--- a play builds each tile at its beginning, and once more at most for each `settle` line
-abbrev pub most_steps : Setting → Script → ℕ
-most_steps setting script = (1 + count_by is_settle script.lines) * tile_count setting
+-- a play builds each tile at its beginning, and one tile for each claim that gives one
+abbrev pub builds_of : Setting → Field → Script → ℕ
+builds_of setting field script = tile_count setting + jobs_from (first_state_of setting field script) script.lines

@@ -1,53 +1,56 @@
 //! A play under way.
 
-ghost use Rattle.std.specs.Prelude.{◌≡◌, ◌<◌, ◌++◌, IfOk, OnOk, OnErr, IsTrue, length};
+ghost use Rattle.std.specs.Prelude.{◌≡◌, ◌+◌, ◌<◌, ◌++◌, IfOk, OnOk, OnErr, length};
 ghost use Rattle.nav_ground.specs.History.{IsRequest};
-ghost use Rattle.nav_ground.specs.Tiling.{tile_count};
-ghost use Rattle.nav_play.specs.Built.{is_built_line};
 ghost use Rattle.nav_play.specs.PlayRecord.{PlayState, AddsSome, IsSaid, IsAnswered, state_after, request_text, requested, number_got, number_added};
-ghost use Rattle.nav_play.specs.Players.{player_state, IsPlayable};
-ghost use Rattle.nav_play.specs.Work.{most_for};
+ghost use Rattle.nav_play.specs.Players.{player_state, IsPlayable, IsSteady};
+ghost use Rattle.nav_play.specs.Tallies.{HasRoom, HasCounted, HasCountedAnswer};
+ghost use Rattle.nav_play.specs.Work.{jobs_of};
 ghost use Rattle.nav_query.specs.Questions.{IsAnswerable};
 ghost use Rattle.nav_steps.specs.Counts.{HasRisenAtMost};
-ghost use Rattle.tile_build.specs.Meshes.{IsOfStrips};
 
 use crate::lanes::Lanes;
-use crate::publication::settle;
+use crate::steps::{claim, publish, put_back, settle, submit};
+use crate::tally::count;
+use crate::workers::Workers;
 use nav_base::Question;
 use nav_book::{Book, HistoryFull};
 use nav_ground::{Reply, Request};
-use nav_record::{StepAnswer, write_answer, write_reply, write_step};
+use nav_record::{StepAnswer, Totals, write_answer, write_reply, write_step};
 use nav_script::Line;
 use nav_steps::Steps;
 use std::alloc::{AllocError, Global};
 use std::sync::ledger::Ledger;
 
-/// The book, the lane of the next request, what the add lines of each lane got, and the text so far.
+/// The book, the lane of the next request, what the add lines of each lane got, what the workers hold, the totals of what `path` lines were
+/// answered so far, and the text so far.
 #[derive(Drop)]
 pub(crate) struct Player {
     pub(crate) book: Book,
     pub(crate) lane: u32,
     pub(crate) adds: Lanes,
+    pub(crate) workers: Workers,
+    pub(crate) totals: Totals,
     pub(crate) text: Vec<u8>,
 }
 
 impl Player {
-    /// Plays one line and writes what it is answered.
+    /// Plays one line and writes what it is answered. It takes one step for each tile that a claim of the line gives.
     pub(crate) fn step<L: Ledger>(
         &mut self,
         alloc: Global,
         line: &Line,
         steps: &mut Steps<L>,
     ) -> Result<(), AllocError>
-        requires built { IsTrue (is_built_line line.now) }
-        requires playable { IsPlayable (length self.old.adds) line.now }
-        requires lane { self.old.lane < length self.old.adds }
-        requires strips { IsOfStrips self.old.book.whole.setting }
+        requires playable { IsPlayable (length self.old.adds) (length self.old.workers) line.now }
+        requires steady { IsSteady self.old }
+        requires room { HasRoom self.old.totals }
         ensures text { OnOk result (AddsSome (IsSaid (player_state self.old) line.now) self.old.text.items self.new.text.items) }
         ensures state { OnOk result (player_state self.new ≡ state_after (player_state self.old) line.now) }
-        ensures lane { OnOk result (self.new.lane < length self.new.adds) }
-        ensures lanes { OnOk result (length self.new.adds ≡ length self.old.adds) }
-        ensures steps { HasRisenAtMost (most_for (tile_count self.old.book.whole.setting) line.now) steps.old steps.new }
+        ensures totals { OnOk result (HasCounted (player_state self.old) line.now self.old.totals self.new.totals) }
+        ensures steady { OnOk result (IsSteady self.new) }
+        ensures steps { OnOk result (steps.new ≡ steps.old + jobs_of (player_state self.old) line.now) }
+        ensures most { HasRisenAtMost (jobs_of (player_state self.old) line.now) steps.old steps.new }
     {
         match *line {
             Line::Lane(lane) => {
@@ -59,42 +62,79 @@ impl Player {
                 let number = self.request(Request::Add(shape))?;
                 self.adds.push(self.lane, number)
             }
-            Line::Remove(number) => {
-                let _ = self.request(Request::Remove(number))?;
-                Ok(())
-            }
+            Line::Remove(number) => self.remove(number),
             Line::Undo(j) => {
                 let dropped = self.adds.number(self.lane, j);
-                let _ = self.request(Request::Remove(dropped))?;
-                Ok(())
+                self.remove(dropped)
             }
             Line::Settle => {
-                let k = settle(&mut self.book, alloc, steps)?;
-                write_step(&mut self.text, &StepAnswer::Settled { k })
+                let answer = settle(alloc, &mut self.book, &mut self.workers, steps)?;
+                write_step(&mut self.text, &answer)
             }
-            Line::Aim | Line::Claim(_) | Line::Back(_) | Line::Submit(_) | Line::Publish =>
-                unreachable!(),
+            Line::Aim => {
+                let k = self.book.aim();
+                write_step(&mut self.text, &StepAnswer::Aim { k })
+            }
+            Line::Claim(worker) => {
+                let answer = claim(alloc, &mut self.book, &mut self.workers, worker, steps)?;
+                write_step(&mut self.text, &answer)
+            }
+            Line::Back(worker) => {
+                let answer = put_back(&mut self.book, &mut self.workers, worker);
+                write_step(&mut self.text, &answer)
+            }
+            Line::Submit(worker) => {
+                let answer = submit(&mut self.book, &mut self.workers, worker);
+                write_step(&mut self.text, &answer)
+            }
+            Line::Publish => {
+                let answer = publish(alloc, &mut self.book)?;
+                write_step(&mut self.text, &answer)
+            }
         }
     }
 
     /// Answers a question from the published mesh.
     fn ask(&mut self, alloc: Global, question: &Question) -> Result<(), AllocError>
-        requires { IsAnswerable question.now }
+        requires answerable { IsAnswerable question.now }
+        requires room { HasRoom self.old.totals }
         ensures text { OnOk result (AddsSome (IsAnswered self.old.book question.now) self.old.text.items self.new.text.items) }
+        ensures totals { OnOk result (HasCountedAnswer self.old.book question.now self.old.totals self.new.totals) }
         ensures state { player_state self.new ≡ player_state self.old }
+        ensures workers { self.new.workers ≡ self.old.workers }
     {
         let (k, answer) = self.book.ask(alloc, question)?;
+        count(&mut self.totals, question, &answer);
         write_answer(&mut self.text, k, &answer)
+    }
+
+    /// Makes a request of the current lane that the obstacle with a number goes.
+    fn remove(&mut self, number: u32) -> Result<(), AllocError>
+        requires { IsSteady self.old }
+        ensures text { OnOk result (self.new.text.items ≡ self.old.text.items ++ request_text self.old.book (Request.Remove number)) }
+        ensures book { self.new.book ≡ requested self.old.book self.old.lane (Request.Remove number) }
+        ensures lane { self.new.lane ≡ self.old.lane }
+        ensures adds { self.new.adds ≡ self.old.adds }
+        ensures workers { self.new.workers ≡ self.old.workers }
+        ensures totals { self.new.totals ≡ self.old.totals }
+        ensures steady_after { IsSteady self.new }
+    {
+        let _ = self.request(Request::Remove(number))?;
+        Ok(())
     }
 
     /// Makes a request of the current lane and writes what became of it. Gives the number of the obstacle that it added, or 0.
     fn request(&mut self, request: Request) -> Result<u32, AllocError>
-        requires { IsRequest request }
+        requires request { IsRequest request }
+        requires steady { IsSteady self.old }
         ensures number { IfOk result (λ number. number ≡ number_got self.old.book request) }
         ensures text { OnOk result (self.new.text.items ≡ self.old.text.items ++ request_text self.old.book request) }
         ensures book { self.new.book ≡ requested self.old.book self.old.lane request }
         ensures lane { self.new.lane ≡ self.old.lane }
         ensures adds { self.new.adds ≡ self.old.adds }
+        ensures workers { self.new.workers ≡ self.old.workers }
+        ensures totals { self.new.totals ≡ self.old.totals }
+        ensures steady_after { IsSteady self.new }
     {
         match self.book.request(self.lane, request) {
             Ok((number, reply)) => {

@@ -1,18 +1,25 @@
 //! The play of a whole script.
 
-ghost use Rattle.std.specs.Prelude.{◌≡◌, IfOk};
+ghost use Rattle.std.specs.Prelude.{◌≡◌, ◌+◌, ◌++◌, [], length, IfOk, OnOk};
 ghost use Rattle.nav_ground.specs.Limits.{IsSetting};
 ghost use Rattle.nav_ground.specs.Fields.{IsField};
-ghost use Rattle.nav_ground.specs.Grounds.{IsSized};
-ghost use Rattle.nav_play.specs.Built.{IsBuilt};
-ghost use Rattle.nav_play.specs.PlayRecord.{IsPlayText};
-ghost use Rattle.nav_play.specs.Work.{most_steps};
+ghost use Rattle.nav_ground.specs.Grounds.{IsBuiltFor, IsSized};
+ghost use Rattle.nav_ground.specs.Tiling.{tile_count};
+ghost use Rattle.nav_play.specs.PlayRecord.{IsPlayText, first_state_of};
+ghost use Rattle.nav_play.specs.PlayTotals.{AreTotals};
+ghost use Rattle.nav_play.specs.Players.{IsSteady, player_state};
+ghost use Rattle.nav_play.specs.Tallies.{no_answers, totals_at};
+ghost use Rattle.nav_play.specs.Work.{builds_of};
+ghost use Rattle.nav_record.specs.Texts.{done_text};
+ghost use Rattle.nav_record.specs.declared.totals.Totals.{Totals};
 ghost use Rattle.nav_script.specs.Limits.{IsScript};
 ghost use Rattle.nav_script.specs.declared.script.Way.TheVariants.{Play};
 ghost use Rattle.nav_steps.specs.Counts.{HasRisenAtMost};
 
 use crate::lanes::Lanes;
 use crate::player::Player;
+use crate::tally::nothing;
+use crate::workers::Workers;
 use layer_cut::ground;
 use nav_book::Book;
 use nav_ground::{Field, Setting};
@@ -28,13 +35,12 @@ use tile_build::build_tiles;
 #[derive(Drop)]
 pub struct PlayText {
     pub bytes: Vec<u8>,
-    /// Entries and published length; the rest is 0 so far. Nothing is promised of these numbers yet.
     pub totals: Totals,
 }
 
 /// Plays a script over a field: for each script line in order what it is answered, and then the published length and the history's length.
-/// It takes one step for each tile that it builds: all of them at its beginning, and at each `settle` line those whose free cells have changed.
-/// Only memory can be refused.
+/// It takes one step for each tile that it builds: each tile at its beginning, and one for each claim that gives one, of a `claim` line or
+/// within a `settle` line. Only memory can be refused.
 pub fn play<R: Wait, L: Ledger>(
     rt: &R,
     alloc: Global,
@@ -47,49 +53,82 @@ pub fn play<R: Wait, L: Ledger>(
     requires field { IsField field }
     requires sized { IsSized setting field }
     requires script { IsScript Play script.now }
-    requires built { IsBuilt setting script.now }
+    requires built { IsBuiltFor setting }
     ensures text { IfOk result (λ text. IsPlayText setting field script.now text.bytes.items) }
-    ensures steps { HasRisenAtMost (most_steps setting script.now) steps.old steps.new }
+    ensures totals { IfOk result (λ text. AreTotals setting field script.now text.totals) }
+
+    // All totals of one play are the same, whichever of several right answers a path line is given.
+    ensures only { IfOk result (λ text. (other : Totals) → AreTotals setting field script.now other → other ≡ text.totals) }
+    ensures steps { OnOk result (steps.new ≡ steps.old + builds_of setting field script.now) }
+    ensures most { HasRisenAtMost (builds_of setting field script.now) steps.old steps.new }
 {
-    let level = ground(alloc, setting, field)?;
-    let tiles = build_tiles(alloc, &level, &[], steps)?;
-    let book = Book::begin(alloc, Arc::new(alloc, level)?, tiles)?;
-    let mut player = Player {
-        book,
-        lane: 0,
-        adds: Lanes::new(alloc, script.lanes)?,
-        text: Vec::new(alloc),
-    };
+    let mut player = begin(alloc, setting, field, script, steps)?;
     for line in script.lines.as_slice() {
         player.step(alloc, line, steps)?;
     }
-    write_done(
-        &mut player.text,
-        player.book.published(),
-        player.book.length(),
-    )?;
-    let totals = totals_of(player.book.length(), player.book.published());
-    let Player { text, .. } = player;
-    Ok(PlayText {
-        bytes: text,
-        totals,
+    Ok(ended(player)?)
+}
+
+/// The player of a script over a field, before its first line. It takes one step for each tile.
+fn begin<L: Ledger>(
+    alloc: Global,
+    setting: Setting,
+    field: Field,
+    script: &Script,
+    steps: &mut Steps<L>,
+) -> Result<Player, AllocError>
+    requires setting { IsSetting setting }
+    requires field { IsField field }
+    requires sized { IsSized setting field }
+    requires script { IsScript Play script.now }
+    requires built { IsBuiltFor setting }
+    ensures state { IfOk result (λ player. player_state player ≡ first_state_of setting field script.now) }
+    ensures text { IfOk result (λ player. player.text.items ≡ []) }
+    ensures totals { IfOk result (λ player. player.totals ≡ no_answers) }
+    ensures steady { IfOk result IsSteady }
+    ensures steps { OnOk result (steps.new ≡ steps.old + tile_count setting) }
+    ensures most { HasRisenAtMost (tile_count setting) steps.old steps.new }
+{
+    let level = ground(alloc, setting, field)?;
+    let tiles = build_tiles(alloc, &level, &[], steps)?;
+    Ok(Player {
+        book: Book::begin(alloc, Arc::new(alloc, level)?, tiles)?,
+        lane: 0,
+        adds: Lanes::new(alloc, script.lanes)?,
+        workers: Workers::new(alloc, script.workers)?,
+        totals: nothing(),
+        text: Vec::new(alloc),
     })
 }
 
-/// The totals of a play: so far entries and published length are counted alone.
-fn totals_of(entries: u32, published: u32) -> Totals
-    ensures entries { result.entries ≡ entries }
-    ensures published { result.published ≡ published }
+/// The last line of a play, and its totals.
+fn ended(player: Player) -> Result<PlayText, AllocError>
+    ensures text { IfOk result (λ text. text.bytes.items ≡ player.text.items ++ done_text player.book.published (length player.book.history)) }
+    ensures totals { IfOk result (λ text. text.totals ≡ totals_at player.book player.totals) }
 {
+    let Player {
+        book,
+        totals,
+        mut text,
+        ..
+    } = player;
+    write_done(&mut text, book.published(), book.length())?;
+    Ok(PlayText {
+        bytes: text,
+        totals: told(&book, totals),
+    })
+}
+
+/// The totals of a play at its end, from those of its answers.
+fn told(book: &Book, totals: Totals) -> Totals
+    ensures { result ≡ totals_at book.now totals }
+{
+    let (polys, links) = book.mesh_counts();
     Totals {
-        entries,
-        published,
-        paths: 0,
-        nopath: 0,
-        nostart: 0,
-        nogoal: 0,
-        cost: 0,
-        polys: 0,
-        links: 0,
+        entries: book.length(),
+        published: book.published(),
+        polys,
+        links,
+        ..totals
     }
 }

@@ -116,7 +116,7 @@ fn ends_with_the_status_of_its_cause(rt: HostRuntime) -> Result<(), Fail> {
             Status::BadText,
             b"fault 47 2\n",
         ),
-        ("play", b"aim\n", Status::BadText, b"fault 0 0\n"),
+        ("play", b"aim\n", Status::Ok, b"aim 0\ndone 0 0\n"),
     ];
     for (word, script, status, held) in cases {
         let ran = run_once(&rt, alloc, word, level(alloc, script)?, (100, 0), (8, 0))?;
@@ -509,6 +509,56 @@ fn finds_a_path_over_four_tiles(rt: HostRuntime) -> Result<(), Fail> {
         &rt,
         ran,
         b"entry 1 added\nsettled 1\npath 1 100 0 2 4 ",
+        b"\ndone 1 1\n",
+    );
+    Ok(())
+}
+
+#[test]
+fn leads_workers(rt: HostRuntime) -> Result<(), Fail> {
+    let alloc = rt.alloc();
+    let room = square(6, 6, 0, Over::Sky);
+    // The script; the play text.
+    let cases: [(&[u8], &[u8]); 4] = [
+        // A second obstacle is aimed at before the first build comes in, which is stale.
+        (
+            b"add block 2 2 0 100 2 2\naim\nclaim 0\nadd block 3 3 0 100 2 2\naim\nsubmit 0\nclaim 0\nsubmit 0\npublish\n",
+            b"entry 1 added\naim 1\nclaim 0 tile 0\nentry 2 added\naim 2\nsubmit 0 stale 0\nclaim 0 tile 0\nsubmit 0 taken 0\npublished 2\ndone 2 2\n",
+        ),
+        // The obstacle went and came again in the same place.
+        (
+            b"add block 2 2 0 100 2 2\naim\nclaim 0\nremove 1\nadd block 2 2 0 100 2 2\naim\nsubmit 0\npublish\n",
+            b"entry 1 added\naim 1\nclaim 0 tile 0\nentry 2 removed\nentry 3 added\naim 3\nsubmit 0 taken 0\npublished 3\ndone 3 3\n",
+        ),
+        // The obstacle went, so its tile is awaited no more.
+        (
+            b"add block 2 2 0 100 2 2\naim\nclaim 0\nremove 1\naim\nsubmit 0\npublish\n",
+            b"entry 1 added\naim 1\nclaim 0 tile 0\nentry 2 removed\naim 2\nsubmit 0 stale 0\npublished 2\ndone 2 2\n",
+        ),
+        // A worker without a tile is idle, one with a tile is busy.
+        (
+            b"claim 0\nsubmit 0\nback 0\nadd block 2 2 0 100 2 2\naim\nclaim 0\nclaim 0\nback 0\nclaim 0\n",
+            b"claim 0 none\nidle 0\nidle 0\nentry 1 added\naim 1\nclaim 0 tile 0\nbusy 0\nback 0 tile 0\nclaim 0 tile 0\ndone 0 1\n",
+        ),
+    ];
+    for (script, text) in cases {
+        let ran = played(&rt, alloc, room, script)?;
+        check(&rt, ran, Status::Ok, text);
+    }
+    Ok(())
+}
+
+#[test]
+fn publishes_once_no_tile_is_awaited(rt: HostRuntime) -> Result<(), Fail> {
+    let alloc = rt.alloc();
+    // The block touches four tiles. Either of two corridors of one cost is right.
+    let script =
+        b"add block 3 4 0 100 3 4\naim\npublish\nclaim 0\nsubmit 0\npublish\nsettle\npublish\npath 40 56 10 88 72 10\n";
+    let ran = played(&rt, alloc, square(8, 4, 0, Over::Sky), script)?;
+    check_ends(
+        &rt,
+        ran,
+        b"entry 1 added\naim 1\nnotyet 0\nclaim 0 tile 0\nsubmit 0 taken 0\nnotyet 1\nsettled 1\nsame 1\npath 1 100 0 2 4 ",
         b"\ndone 1 1\n",
     );
     Ok(())

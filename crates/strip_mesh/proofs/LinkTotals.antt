@@ -1,5 +1,5 @@
 -- Tiles of strips are small: they have no more polygons than free cells, and few links.
-use Rattle.std.proofs.Common.{◌≡◌, ℕ, ◌+◌, ◌*◌, ◌≤◌, true, List, [], map, length, get_or, refl, arith, Option}
+use Rattle.std.proofs.Common.{ℕ, ◌*◌, ◌≤◌, true, List, [], map, length, get_or, refl, arith, Option}
 use Rattle.std.specs.List.{sum_by, range_with_len, flat_map}
 use Rattle.std.proofs.lemmas.List.{length-map}
 use Rattle.std.proofs.lemmas.List.Concat.{length-flat_map}

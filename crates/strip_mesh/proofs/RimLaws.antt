@@ -1,10 +1,9 @@
 -- What the rim lists lies along the sides of the tile.
-use Rattle.std.proofs.Common.{◌≡◌, ℕ, ◌+◌, ◌-◌, ◌<◌, ◌≤◌, Bool, true, false, ℤ, pos, ◌≤ℤ◌, ◌<ℤ◌, ◌+ℤ◌, length, List, [], ◌∷◌, map, get_or, take, drop, ap, ◌∙◌, sym, refl, subst, arith, zero, suc, Option}
-use Rattle.std.specs.Prelude.{All, Some, None, int_le, slice_range}
-use Rattle.std.specs.List.{between}
+use Rattle.std.proofs.Common.{◌≡◌, ℕ, ◌+◌, ◌-◌, ◌<◌, ◌≤◌, true, ℤ, pos, ◌≤ℤ◌, ◌+ℤ◌, length, List, map, get_or, ◌∙◌, sym, subst, arith, zero, suc}
+use Rattle.std.specs.Prelude.{All, None}
 use Rattle.std.proofs.lemmas.Bool.{and_parts}
 use Rattle.std.proofs.lemmas.Int.{ints}
-use Rattle.std.proofs.lemmas.List.{get_or-map, length-map, length-take, length-drop}
+use Rattle.std.proofs.lemmas.List.{get_or-map}
 use Rattle.nav_base.specs.Convex.{corner_at, place_after}
 use Rattle.nav_ground.specs.declared.cell.Cell.{Cell}
 use Rattle.nav_ground.specs.declared.cell.Window.{Window}

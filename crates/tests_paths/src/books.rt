@@ -153,11 +153,7 @@ fn build_next<L: Ledger>(
 }
 
 /// Builds all tiles that are awaited for the whole history of a book, of which there are four at most, and publishes it.
-fn settled<L: Ledger>(
-    book: &mut Book,
-    alloc: Global,
-    blank: Blank,
-) -> Result<Published, AllocError>
+fn settled<L: Ledger>(book: &mut Book, alloc: Global, blank: Blank) -> Result<Published, AllocError>
     requires name { blank.name ≡ L.name }
     requires parts { blank.parts ≡ L.parts }
     requires some { 0 < blank.parts }
@@ -435,10 +431,16 @@ const STEPS: [(Step, Told); 17] = [
     (Step::Claim, Told::Nothing),
     (Step::Publish, Told::Published(Published::Same { k: 0 })),
     (Step::Aim, Told::Length(1)),
-    (Step::Publish, Told::Published(Published::NotYet { tile: 0 })),
+    (
+        Step::Publish,
+        Told::Published(Published::NotYet { tile: 0 }),
+    ),
     (Step::Claim, Told::Tile(0)),
     (Step::Claim, Told::Nothing),
-    (Step::Publish, Told::Published(Published::NotYet { tile: 0 })),
+    (
+        Step::Publish,
+        Told::Published(Published::NotYet { tile: 0 }),
+    ),
     (Step::Ask(Asked::Area(5)), Told::Length(2)),
     (Step::Aim, Told::Length(2)),
     (Step::Back(0), Told::Nothing),

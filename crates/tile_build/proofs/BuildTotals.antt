@@ -1,5 +1,5 @@
 -- The mesh of a ground has at most 8000000 polygons and 56000000 links, whatever the obstacles.
-use Rattle.std.proofs.Common.{◌≡◌, ℕ, zero, suc, ◌*◌, ◌≤◌, List, map, length, get_or, ap, refl, sym, subst, arith, Some}
+use Rattle.std.proofs.Common.{◌≡◌, ℕ, zero, suc, ◌≤◌, List, length, get_or, ap, subst, arith, Some}
 use Rattle.std.specs.Prelude.{All}
 use Rattle.std.specs.List.{sum_by}
 use Rattle.std.proofs.lemmas.List.Elements.{All-map, All-weaker}

@@ -59,7 +59,11 @@ fn free_mesh(alloc: Global, free: FreeLayer, setting: &Setting) -> Result<TileMe
 }
 
 /// The mesh of free cells where the setting asks for outlines.
-fn contour_or_strips(alloc: Global, free: FreeLayer, setting: &Setting) -> Result<TileMesh, AllocError>
+fn contour_or_strips(
+    alloc: Global,
+    free: FreeLayer,
+    setting: &Setting,
+) -> Result<TileMesh, AllocError>
     requires setting { IsSetting setting.now }
     requires cells { IsCut free.cells }
     requires tile { IsInTile setting.now free.tile free.cells }

@@ -1,4 +1,4 @@
-use Rattle.std.proofs.Common.{◌∙◌, ap, arith, length, List, Option, None}
+use Rattle.std.proofs.Common.{◌∙◌, ap, arith, List, Option, None}
 use Rattle.std.specs.Prelude.{slice_set}
 use Rattle.mesh_types.specs.declared.tile.TileMesh.{TileMesh}
 use Rattle.nav_book.proofs.FreshTiles.{one_more_empty}

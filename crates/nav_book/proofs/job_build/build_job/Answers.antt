@@ -1,8 +1,8 @@
-use Rattle.std.proofs.Common.{◌≡◌, ◌∙◌, ap, arith, length}
+use Rattle.std.proofs.Common.{◌∙◌, ap, arith, length}
 use Rattle.nav_ground.specs.declared.cell.Layer.{Layer}
 use Rattle.nav_ground.proofs.LayerLaws.{length-layers_of_ground}
 use Rattle.mesh_types.specs.Builds.{tile_mesh_of}
-use Rattle.nav_book.proofs.StoredTiles.{IsLayerAt, layer_at}
+use Rattle.nav_book.proofs.StoredTiles.{layer_at}
 use Rattle.nav_book.proofs.job_build.build_job.Goals as goal
 
 pub bounds-as_slice-job : goal.bounds-as_slice-job

@@ -1,4 +1,4 @@
-use Rattle.std.proofs.Common.{[], ◌∙◌, ap, length, sym}
+use Rattle.std.proofs.Common.{[], ◌∙◌, ap, length}
 use Rattle.std.specs.Prelude.{replicate, None}
 use Rattle.std.proofs.lemmas.List.Elements.{All-nil}
 use Rattle.std.specs.Arc.{arc_value}

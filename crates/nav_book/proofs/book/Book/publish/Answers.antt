@@ -1,5 +1,4 @@
-use Rattle.std.proofs.Common.{◌≡◌, ◌∙◌, ap, sym, subst, List, Option, None}
-use Rattle.mesh_types.specs.declared.mesh.Mesh.{Mesh}
+use Rattle.std.proofs.Common.{◌∙◌, ap, sym, subst, List, Option, None}
 use Rattle.mesh_types.specs.declared.tile.TileMesh.{TileMesh}
 use Rattle.mesh_types.specs.WholeMesh.{mesh_of}
 use Rattle.tile_links.specs.NewTiles.{tiles_after}

@@ -1,0 +1,81 @@
+-- No line changes the ground, the number of lanes or the number of workers.
+use Rattle.std.proofs.Common.{◌≡◌, ℕ, List, [], ◌∷◌, Bool, true, false, Option, Some, None, ap, ◌∙◌, sym, refl}
+use Rattle.std.specs.Prelude.{◌==◌, if◌then◌else◌, length}
+use Rattle.std.specs.List.{fold}
+use Rattle.std.proofs.lemmas.List.{length-replicate, length-set}
+use Rattle.nav_ground.specs.declared.history.TheConstants.{HISTORY_LIMIT}
+use Rattle.nav_ground.specs.declared.history.Request.{Request}
+use Rattle.nav_desk.specs.declared.answers.Job.{Job}
+use Rattle.nav_desk.specs.BookState.{BookState}
+use Rattle.nav_desk.specs.Steps.{after_request}
+use Rattle.nav_script.specs.declared.line.Line.{Line}
+use Rattle.nav_script.specs.declared.line.Line.TheVariants.{Lane, Ask, Add, Remove, Undo, Settle, Aim, Claim, Back, Submit, Publish}
+use Rattle.nav_play.specs.Jobs.{book_after_back, book_after_claim, book_after_submit}
+use Rattle.nav_play.specs.PlayRecord.{PlayState, held_by, requested, state_after}
+use Rattle.nav_play.specs.Settling.{after_job, after_settle, all_built, awaited_tiles, settling}
+
+jobs_whole : (book : BookState) (tiles : List ℕ) → (fold after_job book tiles).whole ≡ book.whole
+jobs_whole book [] = refl
+jobs_whole book (tile ∷ tiles) = jobs_whole (after_job book tile) tiles
+
+pub settled_whole : (book : BookState) → (after_settle book).whole ≡ book.whole
+unfolding all_built
+settled_whole book = jobs_whole (settling book) (awaited_tiles (settling book))
+
+requested_whole : (book : BookState) (lane : ℕ) (request : Request) → (requested book lane request).whole ≡ book.whole
+requested_whole book lane request = by_case (length book.history == HISTORY_LIMIT)
+  where
+    by_case : (full : Bool) → (if full then book else after_request book lane request).whole ≡ book.whole
+    by_case true = refl
+    by_case false = refl
+
+pub claim_whole : (book : BookState) (held : Option Job) → (book_after_claim book held).whole ≡ book.whole
+claim_whole book None = refl
+claim_whole book (Some job) = refl
+
+pub back_whole : (book : BookState) (held : Option Job) → (book_after_back book held).whole ≡ book.whole
+back_whole book None = refl
+back_whole book (Some job) = refl
+
+pub submit_whole : (book : BookState) (held : Option Job) → (book_after_submit book held).whole ≡ book.whole
+submit_whole book None = refl
+submit_whole book (Some job) = refl
+
+pub whole_stays : (state : PlayState) (line : Line) → (state_after state line).book.whole ≡ state.book.whole
+whole_stays state (Lane lane) = refl
+whole_stays state (Ask question) = refl
+whole_stays state (Add shape) = requested_whole state.book state.lane _
+whole_stays state (Remove number) = requested_whole state.book state.lane _
+whole_stays state (Undo back) = requested_whole state.book state.lane _
+whole_stays state Settle = settled_whole state.book
+whole_stays state Aim = refl
+whole_stays state (Claim worker) = claim_whole state.book (held_by state worker)
+whole_stays state (Back worker) = back_whole state.book (held_by state worker)
+whole_stays state (Submit worker) = submit_whole state.book (held_by state worker)
+whole_stays state Publish = refl
+
+pub lanes_stay : (state : PlayState) (line : Line) → length (state_after state line).adds ≡ length state.adds
+lanes_stay state (Lane lane) = refl
+lanes_stay state (Ask question) = refl
+lanes_stay state (Add shape) = length-set state.adds state.lane _
+lanes_stay state (Remove number) = refl
+lanes_stay state (Undo back) = refl
+lanes_stay state Settle = refl
+lanes_stay state Aim = refl
+lanes_stay state (Claim worker) = refl
+lanes_stay state (Back worker) = refl
+lanes_stay state (Submit worker) = refl
+lanes_stay state Publish = refl
+
+pub workers_stay : (state : PlayState) (line : Line) → length (state_after state line).held ≡ length state.held
+workers_stay state (Lane lane) = refl
+workers_stay state (Ask question) = refl
+workers_stay state (Add shape) = refl
+workers_stay state (Remove number) = refl
+workers_stay state (Undo back) = refl
+workers_stay state Settle = length-replicate (length state.held) None
+workers_stay state Aim = refl
+workers_stay state (Claim worker) = length-set state.held worker _
+workers_stay state (Back worker) = length-set state.held worker None
+workers_stay state (Submit worker) = length-set state.held worker None
+workers_stay state Publish = refl

@@ -1,0 +1,159 @@
+//! Single steps of workers and of the book.
+
+ghost use Rattle.std.specs.Prelude.{◌≡◌, ◌+◌, ◌<◌, None, IfOk, OnOk, length, replicate, slice_set};
+ghost use Rattle.nav_book.specs.Results.{IsBuild};
+ghost use Rattle.nav_desk.specs.BookState.{IsBook};
+ghost use Rattle.nav_desk.specs.Steps.{IsJob, after_publish, publication};
+ghost use Rattle.nav_play.specs.Jobs.{claim_said, held_after_claim, book_after_claim, jobs_of_claim, back_said, book_after_back, submit_said, book_after_submit, publication_said};
+ghost use Rattle.nav_play.specs.Players.{AreHeld, held_job, job_of, jobs_of_held};
+ghost use Rattle.nav_play.specs.Settling.{IsUnclaimed, after_settle, all_built, awaited_tiles, settling};
+ghost use Rattle.nav_steps.specs.Counts.{HasRisenAtMost};
+
+use crate::workers::Workers;
+use nav_book::{Book, Job, Published, Submitted, TileResult, build_job};
+use nav_record::StepAnswer;
+use nav_steps::Steps;
+use std::alloc::{AllocError, Global};
+use std::sync::ledger::Ledger;
+
+/// A worker claims a tile. One that is not busy and is given a tile builds it at once, with one step, and holds it from then on.
+pub(crate) fn claim<L: Ledger>(
+    alloc: Global,
+    book: &mut Book,
+    workers: &mut Workers,
+    worker: u32,
+    steps: &mut Steps<L>,
+) -> Result<StepAnswer, AllocError>
+    requires there { worker < length workers.old }
+    requires held { AreHeld book.old.whole workers.old }
+    ensures answer { IfOk result (λ answer. answer ≡ claim_said book.old worker (held_job workers.old worker)) }
+    ensures book { OnOk result (book.new ≡ book_after_claim book.old (held_job workers.old worker)) }
+    ensures jobs { OnOk result (jobs_of_held workers.new ≡ slice_set (jobs_of_held workers.old) worker (held_after_claim book.old (held_job workers.old worker))) }
+    ensures held { OnOk result (AreHeld book.new.whole workers.new) }
+    ensures steps { OnOk result (steps.new ≡ steps.old + jobs_of_claim book.old (held_job workers.old worker)) }
+    ensures most { HasRisenAtMost (jobs_of_claim book.old (held_job workers.old worker)) steps.old steps.new }
+{
+    if workers.is_busy(worker) {
+        return Ok(StepAnswer::Busy { worker });
+    }
+    match book.claim(alloc)? {
+        None => Ok(StepAnswer::NoTile { worker }),
+        Some(job) => {
+            let tile = job.tile;
+            let made = built(alloc, book, job, steps)?;
+            workers.hold(worker, made);
+            Ok(StepAnswer::Claimed { worker, tile })
+        }
+    }
+}
+
+/// The build of the tile of a job. It takes one step, also where memory is refused.
+fn built<L: Ledger>(
+    alloc: Global,
+    book: &Book,
+    job: Job,
+    steps: &mut Steps<L>,
+) -> Result<TileResult, AllocError>
+    requires job { IsJob book.now.whole.setting job }
+    ensures rules { IsBook book.now }
+    ensures job { IfOk result (λ made. job_of made ≡ job) }
+    ensures made { IfOk result (IsBuild book.now.whole) }
+    ensures step { steps.new ≡ steps.old + 1 }
+{
+    let mesh = build_job(alloc, book.level(), &job, steps)?;
+    let Job { tile, shapes } = job;
+    Ok(TileResult { tile, shapes, mesh })
+}
+
+/// A worker puts back the job of the tile that it holds.
+pub(crate) fn put_back(book: &mut Book, workers: &mut Workers, worker: u32) -> StepAnswer
+    requires there { worker < length workers.old }
+    requires held { AreHeld book.old.whole workers.old }
+    ensures answer { result ≡ back_said worker (held_job workers.old worker) }
+    ensures book { book.new ≡ book_after_back book.old (held_job workers.old worker) }
+    ensures jobs { jobs_of_held workers.new ≡ slice_set (jobs_of_held workers.old) worker None }
+    ensures held { AreHeld book.new.whole workers.new }
+{
+    match workers.take(worker) {
+        None => StepAnswer::Idle { worker },
+        Some(TileResult { tile, shapes, .. }) => {
+            book.put_back(Job { tile, shapes });
+            StepAnswer::Back { worker, tile }
+        }
+    }
+}
+
+/// A worker submits the tile that it holds.
+pub(crate) fn submit(book: &mut Book, workers: &mut Workers, worker: u32) -> StepAnswer
+    requires there { worker < length workers.old }
+    requires held { AreHeld book.old.whole workers.old }
+    ensures answer { result ≡ submit_said book.old worker (held_job workers.old worker) }
+    ensures book { book.new ≡ book_after_submit book.old (held_job workers.old worker) }
+    ensures jobs { jobs_of_held workers.new ≡ slice_set (jobs_of_held workers.old) worker None }
+    ensures held { AreHeld book.new.whole workers.new }
+{
+    match workers.take(worker) {
+        None => StepAnswer::Idle { worker },
+        Some(made) => {
+            let tile = made.tile;
+            match book.submit(made) {
+                Submitted::Taken => StepAnswer::Taken { worker, tile },
+                Submitted::Stale => StepAnswer::Stale { worker, tile },
+            }
+        }
+    }
+}
+
+/// Publishes what was aimed at, where no tile is awaited.
+pub(crate) fn publish(alloc: Global, book: &mut Book) -> Result<StepAnswer, AllocError>
+    ensures answer { IfOk result (λ answer. answer ≡ publication_said (publication book.old)) }
+    ensures book { OnOk result (book.new ≡ after_publish book.old) }
+{
+    let published = book.publish(alloc)?;
+    Ok(match published {
+        Published::New { k } => StepAnswer::Published { k },
+        Published::Same { k } => StepAnswer::Same { k },
+        Published::NotYet { tile } => StepAnswer::NotYet { tile },
+    })
+}
+
+/// Puts back every job, so that no worker holds a tile, builds every tile that is awaited for the whole history, with one step each, and
+/// publishes it.
+pub(crate) fn settle<L: Ledger>(
+    alloc: Global,
+    book: &mut Book,
+    workers: &mut Workers,
+    steps: &mut Steps<L>,
+) -> Result<StepAnswer, AllocError>
+    ensures answer { IfOk result (λ answer. answer ≡ StepAnswer.Settled (length book.old.history)) }
+    ensures book { OnOk result (book.new ≡ after_settle book.old) }
+    ensures jobs { jobs_of_held workers.new ≡ replicate (length (jobs_of_held workers.old)) None }
+    ensures held { AreHeld book.new.whole workers.new }
+    ensures steps { OnOk result (steps.new ≡ steps.old + length (awaited_tiles (settling book.old))) }
+    ensures most { HasRisenAtMost (length (awaited_tiles (settling book.old))) steps.old steps.new }
+{
+    workers.drop_all();
+    book.put_back_all();
+    let k = book.aim();
+    build_all(alloc, book, steps)?;
+    let _ = book.publish(alloc)?;
+    Ok(StepAnswer::Settled { k })
+}
+
+/// Builds and submits every tile that is awaited, in rising order.
+fn build_all<L: Ledger>(
+    alloc: Global,
+    book: &mut Book,
+    steps: &mut Steps<L>,
+) -> Result<(), AllocError>
+    requires free { IsUnclaimed book.old }
+    ensures book { OnOk result (book.new ≡ all_built book.old) }
+    ensures steps { OnOk result (steps.new ≡ steps.old + length (awaited_tiles book.old)) }
+    ensures most { HasRisenAtMost (length (awaited_tiles book.old)) steps.old steps.new }
+{
+    while let Some(job) = book.claim(alloc)? {
+        let made = built(alloc, book, job, steps)?;
+        let _ = book.submit(made);
+    }
+    Ok(())
+}
