@@ -1,0 +1,4 @@
+pub mod NumberedLaws
+pub mod SortLaws
+pub mod FootingLaws
+pub mod DoorLaws
