@@ -1,6 +1,6 @@
 -- ContourMeshes: the mesh of a tile by the outlines of its regions.
 use Rattle.std.specs.Prelude.{ℕ, zero, suc, ◌+◌, ◌-◌, ◌%◌, pos, ◌+ℤ◌, unsigned_abs, Bool, false, ◌==◌, ◌&&◌, ◌||◌, nat_le, nat_lt, if◌then◌else◌, List, [], ◌∷◌, length, map, filter, get_or, slice_get, slice_index, Option, Some, None, is_some, unwrap_or, Result, Ok, Err}
-use Rattle.std.specs.Ordering.{int_eq, is_eq}
+use Rattle.std.specs.Ordering.{int_eq}
 use Rattle.std.specs.Option.{option_map, option_map_or}
 use Rattle.std.specs.List.{find, filter_map, flat_map, list_all, range_with_len}
 use Rattle.nav_base.specs.declared.point.Point.{Point}
@@ -29,7 +29,7 @@ use Rattle.mesh_types.specs.declared.label_runs.Run.{Run}
 use Rattle.mesh_types.specs.declared.tile.LevelPair.{LevelPair}
 use Rattle.mesh_types.specs.declared.tile.RimEdge.{RimEdge}
 use Rattle.mesh_types.specs.declared.tile.TileMesh.{TileMesh}
-use Rattle.mesh_types.specs.LinkOrder.{point_cmp, is_point_before, ordered_links}
+use Rattle.mesh_types.specs.LinkOrder.{is_point_before, ordered_links}
 use Rattle.mesh_types.specs.Runs.{runs_of, label_if}
 use Rattle.mesh_types.specs.Choices.{first_best}
 use Rattle.mesh_types.specs.StripMeshes.{some_cell, first_of, low_of, high_of, is_crossing, position_of, level_pair, strip_mesh_of}
@@ -44,7 +44,7 @@ use Rattle.mesh_types.specs.Merging.{edge_end, merged}
 
 -- an edge begins at a corner
 abbrev pub begins_at : Point → UnitEdge → Bool
-begins_at corner edge = is_eq (point_cmp edge.from corner)
+begins_at corner edge = is_same_point edge.from corner
 
 -- the one edge begins before the other
 abbrev pub begins_before : UnitEdge → UnitEdge → Bool

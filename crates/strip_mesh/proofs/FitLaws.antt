@@ -19,7 +19,7 @@ use Rattle.mesh_types.specs.Soundness.{IsPolygon, IsInSquare, IsInnerLink, IsRim
 use Rattle.mesh_types.specs.StripMeshes.{some_cell, strip_runs, strip_polygon, strip_beyond, strip_link, strip_links, strip_links_over, strip_rim, strip_rim_over, rim_edge, level_pair, is_crossing, outside_of, strip_mesh_of}
 use Rattle.mesh_types.proofs.RunLaws.{IsRunOf, runs_are_runs}
 use Rattle.mesh_types.proofs.LinksInOrder.{All-ordered_links}
-use Rattle.strip_mesh.proofs.Parts.{gathered_all}
+use Rattle.mesh_types.proofs.Gathered.{gathered_all}
 use Rattle.strip_mesh.proofs.RowLaws.{IsRow, row_is, own_all}
 use Rattle.strip_mesh.proofs.PolygonLaws.{polygon_sound, polygon_inside}
 use Rattle.strip_mesh.proofs.LinkLaws.{link_leads, polygon_there}

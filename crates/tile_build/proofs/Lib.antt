@@ -3,3 +3,4 @@ pub mod FreeInTile
 pub mod LinkTotals
 pub mod GroundTiles
 pub mod SameCells
+pub mod TileFits
