@@ -1,10 +1,11 @@
 -- Footings of regions, cell by cell.
-use Rattle.std.proofs.Common.{◌≡◌, ℕ, zero, suc, ◌+◌, ◌<◌, ◌≤◌, Bool, true, false, cond, min, max, length, List, [], ◌∷◌, ◌++◌, map, take, filter, get_or, Option, Some, None, ap, ◌∙◌, sym, refl, subst, arith, inl, inr}
-use Rattle.std.specs.Prelude.{◌==◌, nat_lt, fold, replicate, unwrap_or}
+use Rattle.std.proofs.Common.{◌≡◌, ℕ, zero, suc, ◌+◌, ◌<◌, ◌≤◌, Bool, true, false, cond, min, max, length, List, [], ◌∷◌, ◌++◌, map, take, drop, filter, get_or, Option, Some, None, ap, ◌∙◌, sym, refl, subst, arith, inl, inr}
+use Rattle.std.specs.Prelude.{◌==◌, nat_lt, fold, unwrap_or}
 use Rattle.std.specs.Option.{option_map_or}
 use Rattle.std.specs.List.{position_or_len}
 use Rattle.std.proofs.lemmas.Bool.{cases_eq, cases_lt, cond-false, cond-true, eq-eqb, le-ltb, lt-ltb, ne_eqb}
-use Rattle.std.proofs.lemmas.List.{append-nil, get_or-replicate, get_or_past, length-replicate}
+use Rattle.std.proofs.Math.Seq.{take-append_seam}
+use Rattle.std.proofs.lemmas.List.{append-nil, get_or-map, get_or_default, get_or_past}
 use Rattle.std.proofs.lemmas.List.Elements.{filter_more}
 use Rattle.std.proofs.lemmas.List.Sums.{fold-append}
 use Rattle.nav_base.specs.declared.point.Point.{Point}
@@ -12,7 +13,7 @@ use Rattle.nav_ground.specs.declared.cell.Cell.{Cell}
 use Rattle.mesh_types.specs.declared.region.Regions.{Regions}
 use Rattle.mesh_types.specs.declared.polygon.Polygon.{Polygon}
 use Rattle.mesh_types.specs.Contours.{region_at}
-use Rattle.mesh_types.specs.StripMeshes.{first_of, low_of, high_of}
+use Rattle.mesh_types.specs.StripMeshes.{first_of, low_of, high_of, some_cell}
 use Rattle.mesh_types.specs.ContourMeshes.{Facet, cells_of, facet_polygon, is_of}
 use Rattle.contour_walk.specs.Tables.{owner_of}
 use Rattle.contour_mesh.specs.declared.footing.Footing.{Footing}
@@ -82,18 +83,6 @@ footings_more cells regions k o c before after there is owner so_far same here o
       | inr other ↦ others id other
     ]
 
-pub no_footings : (regions : Regions) (footings : List (Option Footing)) → footings ≡ replicate (length regions.regions) None → AreFootings [] regions footings
-no_footings regions footings is = record {
-  many = ap length is ∙ length-replicate (length regions.regions) None;
-  each = λ id. ap (λ (fs : List (Option Footing)). get_or fs id None) is ∙ none_at (length regions.regions) id;
-}
-  where
-    none_at : (n id : ℕ) → get_or (replicate n (None {A = Footing})) id None ≡ None
-    none_at n id = elim (cases_lt id n) [
-      | inl there ↦ get_or-replicate n id None None there
-      | inr past ↦ get_or_past (replicate n None) id None (omega (arith, past, length-replicate n (None {A = Footing})))
-    ]
-
 -- a footing tells the area, the least and the greatest floor
 seen_all : (f : Footing) (cells : List Cell) → fold (λ (seen : Option Footing) (cell : Cell). Some (footing_with seen cell)) (Some f) cells
     ≡ Some (record {
@@ -133,3 +122,22 @@ polygons_are cells regions footings rules' (facet ∷ facets) =
     let here = polygon_is cells regions footings rules' facet in
     let rest = polygons_are cells regions footings rules' facets in
     cc
+
+-- the same of a vector that was written through a slice, by a table of owners
+pub footings_written : (cells : List Cell) (regions : Regions) (k : ℕ) (owners owners' : List ℕ) (len : ℕ) (items lent after : List (Option Footing))
+    → k < length cells → owners' ≡ map (owner_of regions.regions) cells → owners ≡ owners' → len ≡ length items → lent ≡ items
+    → AreFootings (take k cells) regions items → length after ≡ length lent
+    → (get_or owners k 0 < length lent → get_or after (get_or owners k 0) None ≡ Some (footing_with (get_or lent (get_or owners k 0) None) (get_or cells k some_cell)))
+    → ((j : ℕ) → (j ≡ get_or owners k 0 → ⊥) → get_or after j None ≡ get_or lent j None)
+    → AreFootings (take (k + 1) cells) regions (take len (after ++ drop (length after) items))
+footings_written cells regions k owners owners' len items lent after there owners_are same_owners many lent_is before same here others =
+    let P : List (Option Footing) → Type 0 = AreFootings (take (k + 1) cells) regions in
+    let c : Cell = get_or cells k some_cell in
+    let o : ℕ = get_or owners k 0 in
+    let owner : o ≡ owner_of regions.regions c =
+    ap (λ os. get_or os k 0) (same_owners ∙ owners_are) ∙ get_or-map (owner_of regions.regions) cells k some_cell 0 there in
+    let whole : take len (after ++ drop (length after) items) ≡ after =
+    ap (λ n. take n (after ++ drop (length after) items)) {x = len} {y = length after} (many ∙ ap length (sym lent_is) ∙ sym same) ∙ take-append_seam after (drop (length after) items) in
+    subst P (sym whole)
+    (footings_more cells regions k o c lent after there (get_or_default cells k some_cell c there) owner (subst (AreFootings (take k cells) regions) (sym lent_is) before)
+    same here others)

@@ -2,3 +2,6 @@ pub mod NumberedLaws
 pub mod SortLaws
 pub mod FootingLaws
 pub mod DoorLaws
+pub mod Steps
+pub mod PartLaws
+pub mod DoorSteps

@@ -1,8 +1,8 @@
 -- Lists gathered from the elements of a list and their numbers.
-use Rattle.std.proofs.Common.{◌≡◌, ℕ, zero, suc, ◌+◌, ◌<◌, length, List, [], ◌∷◌, ◌++◌, map, take, get_or, ap, ◌∙◌, sym, refl, arith}
+use Rattle.std.proofs.Common.{◌≡◌, ℕ, zero, suc, ◌+◌, ◌<◌, ◌≤◌, length, List, [], ◌∷◌, ◌++◌, map, take, drop, get_or, ap, ◌∙◌, sym, refl, arith}
 use Rattle.std.specs.Prelude.{All}
 use Rattle.std.specs.List.{flat_map, range_with_len}
-use Rattle.std.proofs.lemmas.List.{append-nil, append_assoc, length-take-le, take_more}
+use Rattle.std.proofs.lemmas.List.{append-nil, append_assoc, length-append, length-take-le, take-append-drop, take_more}
 use Rattle.std.proofs.lemmas.List.Elements.{All-append, All-nil, All-tail, All-head}
 use Rattle.mesh_types.specs.declared.door.Part.{Part}
 use Rattle.mesh_types.specs.declared.door.Door.{Door}
@@ -25,6 +25,13 @@ numbered_more {B = B} f n xs k d there =
     ∙ numbered-append f n (take k xs) (get_or xs k d ∷ [])
     ∙ ap (λ (zs : List B). numbered f n (take k xs) ++ zs) (append-nil (f (n + length (take k xs)) (get_or xs k d)))
     ∙ ap (λ m. numbered f n (take k xs) ++ f m (get_or xs k d)) {x = n + length (take k xs)} {y = n + k} (omega (arith, length-take-le k xs (omega (arith, there))))
+
+-- the first elements give no more than all
+pub numbered-take : {A B : Type 0} (f : ℕ → A → List B) (n : ℕ) (xs : List A) (k : ℕ) → length (numbered f n (take k xs)) ≤ length (numbered f n xs)
+numbered-take f n xs k =
+    let parts = numbered-append f n (take k xs) (drop k xs) in
+    let whole = ap length (sym parts) ∙ ap (λ zs. length (numbered f n zs)) (take-append-drop k xs) in
+    omega (arith, whole, length-append (numbered f n (take k xs)) (numbered f (n + length (take k xs)) (drop k xs)))
 
 -- the same by the places of the list
 pub numbered_from : {A B : Type 0} (f : ℕ → A → List B) (n : ℕ) (xs : List A) (d : A) (g : ℕ → List B)

@@ -75,7 +75,7 @@ fn mesh(
     let cells = free.cells.as_slice();
     let polys = part_polygons(alloc, cells, regions, table, parts)?;
     let doors = doors(alloc, parts)?;
-    let Ways { links, rim } = ways(alloc, cells, regions, table, doors.as_slice(), free.tile, polys.len() as u32)?;
+    let WaysOut { links, rim } = ways(alloc, cells, regions, table, doors.as_slice(), free.tile, polys.len() as u32)?;
     Ok(TileMesh {
         tile: free.tile,
         free,
@@ -104,7 +104,7 @@ fn part_polygons(
 
 /// The ways out of polygons: to others of the tile, and to its sides.
 #[derive(Drop)]
-struct Ways {
+struct WaysOut {
     links: Links,
     rim: Items<RimEdge>,
 }
@@ -118,7 +118,7 @@ fn ways(
     doors: &[Door],
     tile: TileNo,
     polygons: u32,
-) -> Result<Ways, AllocError>
+) -> Result<WaysOut, AllocError>
     requires cells { IsCells cells.now }
     requires table { IsTableOf cells.now regions.now.regions table.now }
     requires window { IsFieldWindow table.now.window }
@@ -131,5 +131,5 @@ fn ways(
     let links = door_links(alloc, doors, tile, polygons)?;
     let tables = side_tables(alloc, cells, regions, table, doors)?;
     let rim = door_rim(alloc, &table.window, &tables, doors)?;
-    Ok(Ways { links, rim })
+    Ok(WaysOut { links, rim })
 }

@@ -4,6 +4,7 @@ ghost use Rattle.std.specs.Prelude.{◌≡◌, ◌<◌, ◌≤◌, ◌+◌, ◌-
 ghost use Rattle.std.specs.Option.{option_map_or};
 ghost use Rattle.std.specs.List.{range_with_len};
 ghost use Rattle.mesh_types.specs.Runs.{label_if};
+ghost use Rattle.mesh_types.specs.StripMeshes.{level_pair};
 ghost use Rattle.mesh_types.specs.ContourMeshes.{first_position, is_same_door};
 ghost use Rattle.contour_mesh.specs.Sides.{IsFieldWindow};
 ghost use Rattle.contour_mesh.specs.RimTables.{AreInOrder, is_listed_in, pair_in, entry_in, labels_in, entries_on, rim_in};
@@ -197,7 +198,7 @@ fn pair(tables: &SideTables, door: &Door, side: u32, position: u32) -> LevelPair
 /// The levels of a cell and of its neighbour across a side.
 fn level_pair(side: u32, cell: &Cell) -> LevelPair
     requires side { side < 4 }
-    ensures { result ≡ Rattle.mesh_types.specs.StripMeshes.level_pair side cell.now }
+    ensures { result ≡ level_pair side cell.now }
 {
     LevelPair {
         own: cell.at.level,

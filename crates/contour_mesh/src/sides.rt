@@ -2,7 +2,7 @@
 
 ghost use Rattle.std.specs.Prelude.{◌≡◌, ◌<◌, IfSome};
 ghost use Rattle.mesh_types.specs.ContourMeshes.{side_of, is_on_line, point_position, first_position, end_position};
-ghost use Rattle.contour_mesh.specs.Sides.{IsFieldWindow};
+ghost use Rattle.contour_mesh.specs.Sides.{IsFieldWindow, side_along};
 
 use mesh_types::{Code, Door};
 use nav_base::Point;
@@ -25,7 +25,7 @@ pub fn side_of(window: &Window, door: &Door) -> Option<u32>
 /// A side of the tile, if it is one and a door lies on it.
 fn side_along(window: &Window, side: u32, door: &Door) -> Option<u32>
     requires window { IsFieldWindow window.now }
-    ensures value { result ≡ Rattle.contour_mesh.specs.Sides.side_along window.now side door.now }
+    ensures value { result ≡ side_along window.now side door.now }
     ensures there { IfSome result (λ found. found < 4) }
 {
     if side < 4 && is_on_line(window, side, door.begin) && is_on_line(window, side, door.end) {

@@ -26,11 +26,5 @@ pub mod RingLaws
 pub mod ContourLaws
 pub mod Counted
 pub mod Gathered
-pub mod PieceLaws
 pub mod FloorLaws
-pub mod RimPlaces
-pub mod FacetLaws
-pub mod DoorLaws
-pub mod DoorRims
-pub mod ContourFit
 pub mod RegionLaws
