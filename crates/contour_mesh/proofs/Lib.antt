@@ -5,3 +5,4 @@ pub mod DoorLaws
 pub mod Steps
 pub mod PartLaws
 pub mod DoorSteps
+pub mod FacingLaws

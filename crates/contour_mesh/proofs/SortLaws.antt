@@ -60,7 +60,7 @@ pub not_itself : {X : Type 0} (before : X → X → Bool) → IsStrictWeakOrder 
 not_itself before order x = false_from_ne_true (before x x) (λ is. both_ways (before x x) (order.one_way x x is) is)
 
 pub tie-from : {X : Type 0} (before : X → X → Bool) (x y : X) → before x y ≡ false → before y x ≡ false → ties before x y ≡ true
-tie-from before x y no no' = and_from (not (before x y)) (not (before y x)) (not_from_false (before x y) no) (not_from_false (before y x) no')
+tie-from before x y less more = and_from (not (before x y)) (not (before y x)) (not_from_false (before x y) less) (not_from_false (before y x) more)
 
 -- after an element that comes behind x, all do
 pub behind_all : {X : Type 0} (before : X → X → Bool) → IsStrictWeakOrder before → (xs : List X) → IsSortedBy before xs → (x : X) (n k : ℕ) (d : X)

@@ -27,10 +27,20 @@ pub fn door_links(
     requires polygons { All (λ (door : Door). door.polygon < polygons) doors.now }
     ensures { IfOk result (λ links. links ≡ door_links tile doors.now) }
 {
+    let links = links_in_order(alloc, doors, tile)?;
+    Links::new(alloc, links, polygons)
+}
+
+/// The links as a vector, in order.
+fn links_in_order(alloc: Global, doors: &[Door], tile: TileNo) -> Result<Vec<Link>, AllocError>
+    requires meet { All (MeetsFacing doors.now) doors.now }
+    requires corners { All JoinsCorners doors.now }
+    ensures { IfOk result (λ links. links.items ≡ door_links tile doors.now) }
+{
     let by_begin = by_begin(alloc, doors)?;
     let mut links = loose_links(alloc, doors, by_begin.as_slice(), tile)?;
     order_links(links.as_mut_slice());
-    Links::new(alloc, links, polygons)
+    Ok(links)
 }
 
 /// The links door by door.
