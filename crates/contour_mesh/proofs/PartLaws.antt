@@ -11,7 +11,16 @@ use Rattle.nav_ground.specs.declared.cell.Window.{Window}
 use Rattle.nav_ground.proofs.Selections.{range-push}
 use Rattle.mesh_types.specs.declared.region.Regions.{Regions}
 use Rattle.mesh_types.specs.declared.door.Part.{Part}
-use Rattle.mesh_types.specs.ContourMeshes.{parts_of, region_part, region_numbers}
+use Rattle.mesh_types.specs.declared.region.UnitEdge.{UnitEdge}
+use Rattle.mesh_types.specs.declared.outline.Outline as outlines
+use Rattle.mesh_types.specs.declared.outline.Simplified.{Simplified}
+use Rattle.mesh_types.specs.declared.outline.Simplified.TheVariants.{Flat, Outline}
+use Rattle.mesh_types.specs.Contours.{IsContour}
+use Rattle.mesh_types.specs.Rings.{IsRing}
+use Rattle.mesh_types.specs.Simplified.{simplified_of}
+use Rattle.mesh_types.specs.Ears.{ears_of}
+use Rattle.mesh_types.specs.ContourMeshes.{contour_of, cut_part, part_of, parts_of, region_part, region_numbers}
+use Rattle.mesh_types.proofs.ContourLaws.{contour_is}
 use Rattle.contour_mesh.specs.Parts.{IsPart}
 
 -- the parts of the first regions, each of which has one
@@ -64,3 +73,22 @@ parts_stop window error cells regions n there none =
     sym (cond-false (list_all (λ id. is_some (part id)) numbers) (Some (filter_map part numbers)) None
     (list_all_at (λ id. is_some (part id)) numbers n 0 (omega (arith, there, length-range_with_len 0 (length regions.regions)))
     (ap (λ k. is_some (part k)) at ∙ ap is_some (sym none))))
+
+-- the part of a region from a contour of it that is a ring
+simplified_is : (window : Window) (error : ℕ) (cells : List Cell) (regions : Regions) (id : ℕ) (edges lent : List UnitEdge) (s : Simplified)
+    → IsContour window cells regions id edges → IsRing edges → lent ≡ edges → s ≡ simplified_of error lent
+    → s ≡ simplified_of error (contour_of window cells regions id)
+simplified_is window error cells regions id edges lent s contour ring lent_is is =
+    is ∙ ap (simplified_of error) (lent_is ∙ contour_is window cells regions id edges contour ring)
+
+pub part_flat : (window : Window) (error : ℕ) (cells : List Cell) (regions : Regions) (id : ℕ) (edges lent : List UnitEdge) (s : Simplified)
+    → IsContour window cells regions id edges → IsRing edges → lent ≡ edges → s ≡ simplified_of error lent → s ≡ Flat
+    → None ≡ region_part window error cells regions id
+part_flat window error cells regions id edges lent s contour ring lent_is is flat =
+    ap part_of (sym flat ∙ simplified_is window error cells regions id edges lent s contour ring lent_is is)
+
+pub part_outline : (window : Window) (error : ℕ) (cells : List Cell) (regions : Regions) (id : ℕ) (edges lent : List UnitEdge) (s : Simplified) (outline : outlines.Outline)
+    → IsContour window cells regions id edges → IsRing edges → lent ≡ edges → s ≡ simplified_of error lent → s ≡ Outline outline
+    → cut_part outline (ears_of outline.corners) ≡ region_part window error cells regions id
+part_outline window error cells regions id edges lent s outline contour ring lent_is is outlined =
+    ap part_of (sym outlined ∙ simplified_is window error cells regions id edges lent s contour ring lent_is is)
