@@ -24,6 +24,12 @@ pub region_here : (regions : Regions) (cell : Cell) (o : ℕ) → o ≡ owner_of
     → region_at regions cell.at ≡ (cond (nat_lt o (length regions.regions)) (Some o) None)
 region_here regions cell o is = ap (λ n. cond (nat_lt n (length regions.regions)) (Some n) None) (sym is)
 
+-- the number in a table of owners
+pub owner_at : (cells : List Cell) (regions : Regions) (owners owners' : List ℕ) (k : ℕ) → owners' ≡ map (owner_of regions.regions) cells → owners ≡ owners'
+    → k < length cells → get_or owners k 0 ≡ owner_of regions.regions (get_or cells k some_cell)
+owner_at cells regions owners owners' k are same there =
+    ap (λ os. get_or os k 0) (same ∙ are) ∙ get_or-map (owner_of regions.regions) cells k some_cell 0 there
+
 of_here : (regions : Regions) (cell : Cell) (o id : ℕ) → o ≡ owner_of regions.regions cell → o < length regions.regions → is_of regions id cell ≡ (o == id)
 of_here regions cell o id is there =
     ap (λ (r : Option ℕ). option_map_or (λ n. n == id) r false)
@@ -134,8 +140,7 @@ footings_written cells regions k owners owners' len items lent after there owner
     let P : List (Option Footing) → Type 0 = AreFootings (take (k + 1) cells) regions in
     let c : Cell = get_or cells k some_cell in
     let o : ℕ = get_or owners k 0 in
-    let owner : o ≡ owner_of regions.regions c =
-    ap (λ os. get_or os k 0) (same_owners ∙ owners_are) ∙ get_or-map (owner_of regions.regions) cells k some_cell 0 there in
+    let owner : o ≡ owner_of regions.regions c = owner_at cells regions owners owners' k owners_are same_owners there in
     let whole : take len (after ++ drop (length after) items) ≡ after =
     ap (λ n. take n (after ++ drop (length after) items)) {x = len} {y = length after} (many ∙ ap length (sym lent_is) ∙ sym same) ∙ take-append_seam after (drop (length after) items) in
     subst P (sym whole)

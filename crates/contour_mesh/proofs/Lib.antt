@@ -6,3 +6,4 @@ pub mod Steps
 pub mod PartLaws
 pub mod DoorSteps
 pub mod FacingLaws
+pub mod PlaceLaws

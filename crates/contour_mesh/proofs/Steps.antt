@@ -64,3 +64,21 @@ one_more_kept {B = B} f p n start made next before is =
     single : (b : Bool) → cond b (f n ∷ []) [] ≡ map f (cond b (n ∷ []) [])
     single true = refl
     single false = refl
+
+-- elements made from the numbers from one on, up to one that is not past an end
+pub record AreMadeUpTo {B : Type 0} (f : ℕ → B) (start : List B) (first end next : ℕ) (made : List B) : Type 0 where
+  pub are : made ≡ start ++ map f (range_with_len first (next - first))
+  pub most : next - first ≤ end - first
+
+pub made_more : {B : Type 0} (f : ℕ → B) (start : List B) (first end next : ℕ) (made after : List B) (y : B) → first ≤ next → next < end
+    → AreMadeUpTo f start first end next made → after ≡ made ++ y ∷ [] → y ≡ f next → AreMadeUpTo f start first end (next + 1) after
+made_more f start first end next made after y least there before is made_is = record {
+  are = one_more_counted f start first (next - first) (next + 1 - first) made after y before.are is
+      (made_is ∙ ap f {x = next} {y = first + (next - first)} (omega (arith, least))) (omega (arith, least));
+  most = omega (arith, least, there);
+}
+
+pub made_all : {B : Type 0} (f : ℕ → B) (start : List B) (first end next : ℕ) (made : List B) → end ≤ next → AreMadeUpTo f start first end next made
+    → made ≡ start ++ map f (range_with_len first (end - first))
+made_all f start first end next made past before =
+    before.are ∙ ap (λ n. start ++ map f (range_with_len first n)) {x = next - first} {y = end - first} (omega (arith, past, before.most))

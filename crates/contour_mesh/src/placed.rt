@@ -109,11 +109,13 @@ pub fn first_at<T: Copy>(placed: &[Placed<T>], place: SidePlace) -> Option<T>
     ensures { result ≡ first_at placed.now place }
 {
     let first = placed.partition_point(|other| is_before(other.place, place));
-    if first < placed.len() && is_same_place(placed[first].place, place) {
-        Some(placed[first].item)
-    } else {
-        None
+    if first >= placed.len() {
+        return None;
     }
+    if !is_same_place(placed[first].place, place) {
+        return None;
+    }
+    Some(placed[first].item)
 }
 
 /// Which of two places comes first: by region, side and position.

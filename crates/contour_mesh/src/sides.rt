@@ -1,6 +1,6 @@
 //! How doors lie along the sides of a tile.
 
-ghost use Rattle.std.specs.Prelude.{◌≡◌, ◌<◌, IfSome};
+ghost use Rattle.std.specs.Prelude.{◌≡◌, ◌<◌, ◌+ℤ◌, ◌≤ℤ◌, ◌<ℤ◌, pos, IfSome};
 ghost use Rattle.mesh_types.specs.ContourMeshes.{side_of, is_on_line, point_position, first_position, end_position};
 ghost use Rattle.contour_mesh.specs.Sides.{IsFieldWindow, side_along};
 
@@ -42,10 +42,19 @@ fn is_on_line(window: &Window, side: u32, p: Point) -> bool
 {
     match side {
         0 => p.x == window.x0,
-        1 => p.z == window.z1 + 1,
-        2 => p.x == window.x1 + 1,
+        1 => p.z == line_past(window.z1),
+        2 => p.x == line_past(window.x1),
         _ => p.z == window.z0,
     }
+}
+
+/// The line at which a column of the field ends.
+fn line_past(column: i32) -> i32
+    requires least { pos 0 ≤ℤ column }
+    requires most { column <ℤ pos 1024 }
+    ensures { result ≡ column +ℤ pos 1 }
+{
+    column + 1
 }
 
 /// The first of the positions over which a door on a side runs.
