@@ -87,7 +87,8 @@ fn label_positions(
     labels: &mut Vec<Option<u32>>,
 ) -> Result<(), AllocError>
     requires order { AreInOrder tables.now }
-    ensures { OnOk result (labels.new.items ≡ labels_in tables.now door.now side) }
+    ensures value { OnOk result (labels.new.items ≡ labels_in tables.now door.now side) }
+    ensures inside { OnOk result (first_position side door.now + length labels.new.items < 2 ^ 32) }
 {
     labels.clear();
     for position in first_position(side, door)..end_position(side, door) {
@@ -143,7 +144,7 @@ fn entry(
     requires tables { AreInOrder tables.now }
     requires side { side < 4 }
     requires order { part.first ≤ part.last }
-    requires inside { first_position side door.now + part.last < 2 ^ 32 }
+    requires inside { first_position side door.now + part.last + 1 < 2 ^ 32 }
     ensures { IfOk result (λ entry. entry ≡ entry_in tables.now door.now side part) }
 {
     let first = first_position(side, door) + part.first;
