@@ -1,5 +1,5 @@
 -- The regions of a tile's cells are woven: what lies beyond an edge within a region is that region.
-use Rattle.std.proofs.Common.{Some, ◌≡◌, ℕ, ◌<◌, Bool, true, length, List, get_or, ap, ◌∙◌}
+use Rattle.std.proofs.Common.{◌≡◌, ℕ, ◌<◌, Bool, true, length, List, get_or, ap, ◌∙◌, Some}
 use Rattle.std.specs.Prelude.{Contains}
 use Rattle.std.specs.Option.{option_and_then}
 use Rattle.nav_ground.specs.declared.cell.Cell.{Cell}

@@ -1,7 +1,7 @@
 -- A contour is the walk once round the rim, and all its edges are edges of the rim.
-use Rattle.std.proofs.Common.{◌≡◌, ℕ, zero, suc, ◌+◌, ◌-◌, ◌<◌, ◌≤◌, Bool, true, false, List, [], ◌∷◌, ◌++◌, length, get_or, map, take, drop, refl, sym, ap, subst, ◌∙◌, arith, inl, inr, Option, Some, None}
-use Rattle.std.specs.Prelude.{All, Contains, ◌&&◌, if◌then◌else◌}
-use Rattle.std.specs.List.{find, AllPairs}
+use Rattle.std.proofs.Common.{◌≡◌, ℕ, zero, suc, ◌+◌, ◌-◌, ◌<◌, Bool, true, false, List, [], ◌∷◌, length, get_or, take, drop, refl, sym, ap, subst, ◌∙◌, arith, inl, inr, Option, Some, None}
+use Rattle.std.specs.Prelude.{All, Contains, if◌then◌else◌}
+use Rattle.std.specs.List.{find}
 use Rattle.std.specs.List.Sorted.{IsPermutation}
 use Rattle.std.specs.Option.{option_map_or}
 use Rattle.std.specs.Ordering.{int_eq}

@@ -1,4 +1,4 @@
-pub mod Rows
-pub mod Tables
-pub mod Histories
 pub mod GroundTiles
+pub mod FreshTiles
+pub mod StoredTiles
+pub mod KeptTiles

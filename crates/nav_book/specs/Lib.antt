@@ -1,3 +1,3 @@
-pub mod LiveTable
-pub mod BookState
+pub mod Results
+pub mod Fresh
 pub mod Representation

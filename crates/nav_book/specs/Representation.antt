@@ -1,28 +1,25 @@
 -- What the fields of a book keep at every moment.
-use Rattle.std.specs.Prelude.{◌≡◌, ◌≤◌, length, vec_capacity}
-use Rattle.std.specs.Arc.{arc_value}
-use Rattle.nav_ground.specs.declared.history.TheConstants.{HISTORY_LIMIT}
-use Rattle.nav_ground.specs.Grounds.{IsGround}
-use Rattle.nav_ground.specs.History.{IsHistory}
-use Rattle.mesh_types.specs.Builds.{build_of}
+use Rattle.std.specs.Prelude.{◌≡◌, List, length, Option}
+use Rattle.nav_ground.specs.Tiling.{tile_count}
+use Rattle.mesh_types.specs.declared.mesh.Mesh.{Mesh}
+use Rattle.mesh_types.specs.declared.tile.TileMesh.{TileMesh}
 use Rattle.mesh_types.specs.Soundness.{IsSound}
+use Rattle.nav_desk.specs.BookState.{BookState, IsBook}
 use Rattle.nav_book.specs.declared.book.Book.TheInside.{Inside}
-use Rattle.nav_book.specs.BookState.{BookState}
-use Rattle.nav_book.specs.LiveTable.{IsLiveTable}
+use Rattle.nav_book.specs.Fresh.{AreStored}
+use Rattle.nav_book.specs.Results.{published_mesh}
 
 -- what a book is seen as
 abbrev pub state_of : Inside → BookState
-state_of inside = record { whole = arc_value inside.level; history = inside.entries.items; published = inside.published }
+state_of inside = inside.desk
 
--- the history keeps the rules, the table has the obstacles that are alive, the mesh is that of the published entries and
--- sound, and there is room for a whole history and for as many live obstacles as may be
-pub record IsKept (inside : Inside) : Type 0 where
-  pub level : IsGround (arc_value inside.level)
-  pub history : IsHistory (arc_value inside.level).setting.limit inside.entries.items
-  pub room : HISTORY_LIMIT ≤ vec_capacity inside.entries
-  pub live : IsLiveTable inside.entries.items inside.live.items
-  pub live_few : length inside.live.items ≤ (arc_value inside.level).setting.limit
-  pub live_room : (arc_value inside.level).setting.limit ≤ vec_capacity inside.live
-  pub published : inside.published ≤ length inside.entries.items
-  pub mesh : inside.mesh ≡ build_of (arc_value inside.level) inside.entries.items inside.published
-  pub sound : IsSound inside.mesh
+-- the state keeps its rules, each tile has a place and a stored mesh, and what is shown is the mesh of the published entries, which is sound
+pub record AreKept (state : BookState) (places : List (Option TileMesh)) (shown : Mesh) : Type 0 where
+  pub rules : IsBook state
+  pub each : length places ≡ tile_count state.whole.setting
+  pub stored : AreStored state.whole state.stored places shown.tiles
+  pub mesh : shown ≡ published_mesh state
+  pub sound : IsSound shown
+
+abbrev pub IsKept : Inside → Type 0
+IsKept inside = AreKept inside.desk inside.fresh.items inside.mesh

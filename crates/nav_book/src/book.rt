@@ -1,21 +1,27 @@
-//! The book: its history, and the mesh that was last published.
+//! The book: its history, the tiles that wait for a build, and the mesh that was last published.
 
-ghost use Rattle.std.specs.Prelude.{◌≡◌, ◌↔◌, ◌+◌, ◌≤◌, [], length, map, IsErr, IsTrue, IfOk, IfErr, OnOk, OnErr, All};
+ghost use Rattle.std.specs.Prelude.{◌≡◌, ◌↔◌, ◌+◌, ◌<◌, ◌≤◌, ◌++◌, [], List, length, IsErr, IfOk, IfErr, IfSome, OnOk, OnErr};
 ghost use Rattle.std.specs.Arc.{arc_value};
+ghost use Rattle.nav_ground.specs.declared.history.Entry.{Entry};
 ghost use Rattle.nav_ground.specs.Grounds.{IsGround};
-ghost use Rattle.nav_ground.specs.History.{IsRequest, IsHistory, shapes_alive};
-ghost use Rattle.nav_ground.specs.Limits.{IsShape};
+ghost use Rattle.nav_ground.specs.History.{IsRequest, IsHistory};
+ghost use Rattle.nav_ground.specs.Tiling.{tile_count};
+ghost use Rattle.mesh_types.specs.Builds.{build_of};
 ghost use Rattle.mesh_types.specs.Right.{IsRight};
 ghost use Rattle.mesh_types.specs.Soundness.{IsSound, link_count, polygon_count};
 ghost use Rattle.tile_build.specs.Meshes.{tiles_under};
 ghost use Rattle.nav_query.specs.Questions.{HasLowCost, IsAnswerable};
-ghost use Rattle.nav_book.specs.BookState.{BookState, next_reply, after_request, after_renewal, published_mesh};
+ghost use Rattle.nav_desk.specs.BookState.{IsBook, first_state};
+ghost use Rattle.nav_desk.specs.Steps.{IsJob, next_reply, after_request, after_aim, next_job, after_claim, after_put_back, after_put_back_all, submission, after_submit, publication, after_publish};
+ghost use Rattle.nav_book.specs.Results.{IsBuild, published_mesh};
 
 use crate::counts::{links, polygons};
-use crate::live::{Live, answer, shapes};
+use crate::fresh::{empty, empty_places, put_in};
+use crate::result::TileResult;
 use mesh_types::{Answer, Mesh, TileMesh};
 use nav_base::Question;
-use nav_ground::{Entry, Ground, HISTORY_LIMIT, Reply, Request, Shape};
+use nav_desk::{Desk, HistoryFull, Job, Published, Submitted};
+use nav_ground::{Entry, Ground, HISTORY_LIMIT, Reply, Request};
 use nav_list::Items;
 use nav_share::Shared;
 use std::alloc::{AllocError, Global};
@@ -23,25 +29,16 @@ use std::marker::Model;
 use std::sync::Arc;
 use tile_links::joined;
 
-/// The history has as many entries as a history can have; nothing was appended.
-#[derive(Clone, Copy, PartialEq, Eq, Debug)]
-pub struct HistoryFull {
-    /// How many entries the history has.
-    pub len: u32,
-}
-
-/// The history of the requests to a ground, and the mesh as it was last published.
+/// The history of the requests to a ground, the tiles that wait for a build, and the mesh as it was last published.
 #[derive(Drop)]
 pub struct Book {
-    level: Arc<Ground>,
-    entries: Vec<Entry>,
-    live: Vec<Live>,
+    desk: Desk,
+    fresh: Vec<Option<Shared<TileMesh>>>,
     mesh: Mesh,
-    published: u32,
 }
 
 impl Model for Book {
-    ghost use Rattle.nav_book.specs.BookState.{BookState};
+    ghost use Rattle.nav_desk.specs.BookState.{BookState};
 
     ghost Value = { BookState };
 
@@ -54,7 +51,8 @@ impl Model for Book {
 
 impl Book {
     /// The book of a ground, with no entries, which shows the ground without obstacles: the tiles are those. It takes the room for a
-    /// whole history and for as many live obstacles as the setting allows, so that requests take no memory.
+    /// whole history, for as many live obstacles as the setting allows, and for what is kept of each tile, so that requests and results
+    /// take no memory.
     pub fn begin(
         alloc: Global,
         level: Arc<Ground>,
@@ -62,18 +60,12 @@ impl Book {
     ) -> Result<Book, AllocError>
         requires level { IsGround (arc_value level) }
         requires tiles { tiles ≡ tiles_under (arc_value level) [] }
-        ensures { IfOk result (λ book. book ≡ record { whole = arc_value level; history = []; published = 0 }) }
+        ensures { IfOk result (λ book. book ≡ first_state (arc_value level)) }
     {
-        let entries = Vec::with_capacity(alloc, HISTORY_LIMIT as usize)?;
-        let live = Vec::with_capacity(alloc, level.setting.limit as usize)?;
+        let fresh = empty_places(alloc, tiles.len())?;
         let mesh = joined(alloc, &level.setting, tiles)?;
-        Ok(Book {
-            level,
-            entries,
-            live,
-            mesh,
-            published: 0,
-        })
+        let desk = Desk::begin(alloc, level)?;
+        Ok(Book { desk, fresh, mesh })
     }
 
     /// Appends a request of a lane to the history, and gives the number of its entry, from 1, and its answer. What was published stays.
@@ -89,45 +81,78 @@ impl Book {
         ensures len { IfErr result (λ refused. refused.len ≡ length self.old.history) }
         ensures refused { OnErr result (self.new ≡ self.old) }
     {
-        let len = self.length();
-        if len == HISTORY_LIMIT {
-            return Err(HistoryFull { len });
-        }
-        let number = len + 1;
-        let reply = answer(&mut self.live, self.level.setting.limit, number, request);
-        self.entries.push_reserved(Entry {
-            lane,
-            request,
-            reply,
-        });
-        Ok((number, reply))
+        self.desk.request(lane, request)
     }
 
-    /// The shapes of the obstacles that are alive after the whole history, in the order of their numbers.
-    pub fn alive(&self, alloc: Global) -> Result<Vec<Shape>, AllocError>
-        ensures shapes { IfOk result (λ shapes. shapes.items ≡ shapes_alive self.now.history (length self.now.history)) }
-        ensures limits { IfOk result (λ shapes. All IsShape shapes.items) }
+    /// Makes the whole history the target, and gives its length. A tile is awaited from then on where the shapes that it was last built
+    /// under are not those that touch it at the target.
+    pub fn aim(&mut self) -> u32
+        ensures aimed { self.new ≡ after_aim self.old }
+        ensures length { result ≡ length self.old.history }
     {
-        shapes(alloc, self.live.as_slice())
+        self.desk.aim()
     }
 
-    /// Publishes the whole history, and gives its length: the tiles are those of the ground under the obstacles that are alive after it.
-    /// Where memory is refused, nothing has changed.
-    pub fn renew(
-        &mut self,
-        alloc: Global,
-        tiles: Items<Shared<TileMesh>>,
-    ) -> Result<u32, AllocError>
-        requires { tiles ≡ tiles_under self.old.whole (shapes_alive self.old.history (length self.old.history)) }
-        ensures published { OnOk result (self.new ≡ after_renewal self.old) }
-        ensures length { IfOk result (λ published. published ≡ length self.old.history) }
+    /// Claims the least tile that is awaited and not claimed, and gives it with the shapes to build it under: those that are alive at the
+    /// target and touch it. None exactly where there is no such tile. Where memory is refused, nothing has changed.
+    pub fn claim(&mut self, alloc: Global) -> Result<Option<Job>, AllocError>
+        ensures job { IfOk result (λ job. job ≡ next_job self.old) }
+        ensures fit { IfOk result (λ job. IfSome job (IsJob self.old.whole.setting)) }
+        ensures claimed { OnOk result (self.new ≡ after_claim self.old) }
         ensures refused { OnErr result (self.new ≡ self.old) }
     {
-        let mesh = joined(alloc, &self.level.setting, tiles)?;
-        let len = self.length();
-        self.mesh = mesh;
-        self.published = len;
-        Ok(len)
+        self.desk.claim(alloc)
+    }
+
+    /// Gives a job back: its tile is claimed no more.
+    pub fn put_back(&mut self, job: Job)
+        requires { job.tile < tile_count self.old.whole.setting }
+        ensures { self.new ≡ after_put_back self.old job.tile }
+    {
+        self.desk.put_back(job.tile)
+    }
+
+    /// Gives all jobs back: no tile is claimed any more.
+    pub fn put_back_all(&mut self)
+        ensures { self.new ≡ after_put_back_all self.old }
+    {
+        self.desk.put_back_all()
+    }
+
+    /// Takes a build in: its tile is claimed no more. It is stale exactly where the tile is not awaited, or was not built under the
+    /// shapes that touch it at the target, and then it is dropped, and nothing else changes. It takes no memory.
+    pub fn submit(&mut self, made: TileResult) -> Submitted
+        requires { IsBuild self.old.whole made }
+        ensures answer { result ≡ submission self.old made.tile made.shapes }
+        ensures stored { self.new ≡ after_submit self.old made.tile made.shapes }
+    {
+        let answer = self.desk.submit(made.tile, made.shapes);
+        match answer {
+            Submitted::Taken => {
+                self.fresh[made.tile as usize] = Some(made.mesh);
+                answer
+            }
+            Submitted::Stale => answer,
+        }
+    }
+
+    /// Publishes the target. It is not yet to be where a tile is awaited, of which the least is named, and it is published already where
+    /// the target is the published length; then nothing changes, and no memory is taken. Where memory is refused, nothing has changed.
+    pub fn publish(&mut self, alloc: Global) -> Result<Published, AllocError>
+        ensures answer { IfOk result (λ answer. answer ≡ publication self.old) }
+        ensures published { OnOk result (self.new ≡ after_publish self.old) }
+        ensures refused { OnErr result (self.new ≡ self.old) }
+    {
+        let answer = self.desk.publication();
+        match answer {
+            Published::New { .. } => {
+                put_in(alloc, &mut self.mesh, self.fresh.as_slice())?;
+                empty(self.fresh.as_mut_slice());
+                self.desk.publish();
+                Ok(answer)
+            }
+            _ => Ok(answer),
+        }
     }
 
     /// The published length, and an answer to the question that is right in the mesh as it was last published. A path that is found costs
@@ -139,29 +164,33 @@ impl Book {
         ensures low_cost { IfOk result (λ told. HasLowCost told.1) }
     {
         let answer = nav_query::answer(alloc, &self.mesh, question)?;
-        Ok((self.published, answer))
+        Ok((self.desk.published(), answer))
     }
 
     /// The ground, as it is without obstacles.
     pub fn level(&self) -> &Ground
         ensures value { result.now ≡ self.now.whole }
-        ensures rules { IsGround self.now.whole }
+        ensures rules { IsBook self.now }
     {
-        &self.level
+        self.desk.level()
     }
 
-    /// The mesh as it was last published.
+    /// The mesh as it was last published. It is also that of every longer history at that length.
     pub fn mesh(&self) -> &Mesh
         ensures value { result.now ≡ published_mesh self.now }
+        ensures lasting { (more : List Entry) → result.now ≡ build_of self.now.whole (self.now.history ++ more) self.now.published }
         ensures sound { IsSound (published_mesh self.now) }
     {
         &self.mesh
     }
 
-    /// How many polygons and how many links the mesh has as it was last published; a link leads one way.
+    /// How many polygons and how many links the mesh has as it was last published; a link leads one way. The obstacles may be any: there are
+    /// never more than 8000000 polygons and 64000000 links.
     pub fn mesh_counts(&self) -> (u32, u32)
         ensures polygons { result.0 ≡ polygon_count (published_mesh self.now).tiles }
         ensures links { result.1 ≡ link_count (published_mesh self.now) }
+        ensures few_polygons { result.0 ≤ 8000000 }
+        ensures few_links { result.1 ≤ 64000000 }
     {
         (polygons(self.mesh.tiles.as_slice()), links(&self.mesh))
     }
@@ -170,15 +199,23 @@ impl Book {
     pub fn length(&self) -> u32
         ensures { result ≡ length self.now.history }
     {
-        self.entries.len() as u32
+        self.desk.length()
+    }
+
+    /// How many entries the last `aim` saw: the tiles are built for the history up to there.
+    pub fn target(&self) -> u32
+        ensures value { result ≡ self.now.target }
+        ensures within { result ≤ length self.now.history }
+    {
+        self.desk.target()
     }
 
     /// How many entries the published mesh shows.
     pub fn published(&self) -> u32
         ensures value { result ≡ self.now.published }
-        ensures within { result ≤ length self.now.history }
+        ensures within { result ≤ self.now.target }
     {
-        self.published
+        self.desk.published()
     }
 
     /// The history, the oldest entry first.
@@ -186,6 +223,6 @@ impl Book {
         ensures entries { result.now ≡ self.now.history }
         ensures rules { IsHistory self.now.whole.setting.limit self.now.history }
     {
-        self.entries.as_slice()
+        self.desk.entries()
     }
 }

@@ -1,14 +1,19 @@
-//! The book of a ground: the history of requests, who is answered what, and the mesh that was last published.
+//! The book of a ground: the history of requests, the tiles that wait for a build, and the mesh that was last published.
 //!
-//! A book is seen as a `BookState`: the ground, the entries of the history, and how many of them the published mesh shows.
-//! A request appends one entry and takes no memory, since all its room was taken at the opening. `renew` publishes the whole history with
-//! tiles that its caller built under the obstacles that `alive` gives, `ask` answers from the mesh that was published last, and `mesh_counts`
-//! counts it. The history keeps the rules of histories at every moment, and the published mesh is that of the definition for the entries
-//! that it shows.
+//! A book is seen as a `BookState` of `nav_desk`, and each call is one step of its definition. A request appends one entry; an aim makes the
+//! length of the history the target; claims hand out the tiles that are awaited, with the shapes to build them under; results come in by
+//! `submit`; and `publish` puts those that came in since into the published mesh, once no tile is awaited. The published mesh is always the
+//! build from scratch of the ground with the obstacles that are alive after the published entries. `ask` answers from it, and `mesh_counts`
+//! counts it. Requests, aims and results take no memory, since all their room was taken at the opening.
 #![tactic(auto)]
 
 mod book;
 mod counts;
-mod live;
+mod fresh;
+mod job_build;
+mod result;
 
-pub use book::{Book, HistoryFull};
+pub use book::Book;
+pub use job_build::build_job;
+pub use nav_desk::{HistoryFull, Job, Published, Submitted};
+pub use result::TileResult;

@@ -1,4 +1,4 @@
-//! Tests of the ground: tiles and shapes, the filters, cells and their connections, erosion, the cut and the marks of obstacles.
+//! Tests of the ground: tiles and shapes, the filters, cells and their connections, erosion, the cut and the marks of obstacles, and the desk.
 //!
 //! The tests use public calls alone, and compare them with tables that were worked out by hand. They stand apart from what they test,
 //! so that no crate is proved a second time with its tests.
@@ -8,6 +8,8 @@
 mod connections;
 #[cfg(test)]
 mod cuts;
+#[cfg(test)]
+mod desks;
 #[cfg(test)]
 mod erosion;
 #[cfg(test)]

@@ -1,17 +1,18 @@
 //! Runs of books over small flat grounds. What is wanted was worked out by hand.
 
-ghost use Rattle.std.specs.Prelude.{◌≡◌, ◌<◌, ◌≤◌, IfOk};
+ghost use Rattle.std.specs.Prelude.{◌≡◌, ◌<◌, ◌≤◌, IfOk, IfSome};
 ghost use Rattle.nav_ground.specs.Fields.{IsField};
 ghost use Rattle.nav_ground.specs.Grounds.{IsGround};
 ghost use Rattle.nav_ground.specs.History.{IsRequest};
+ghost use Rattle.nav_book.specs.Results.{IsBuild};
 
 use layer_cut::ground;
 use mesh_types::{Answer, PathFound, PolyRef};
 use nav_base::{FloorAt, Point, Question};
-use nav_book::{Book, HistoryFull};
+use nav_book::{Book, HistoryFull, Job, Published, Submitted, TileResult, build_job};
 use nav_ground::{
     AREAS, Agent, Entry, Field, Ground, HISTORY_LIMIT, MeshKind, Reply, Request, Setting, Shape,
-    Span,
+    Span, tiles,
 };
 use nav_list::Items;
 use nav_steps::Steps;
@@ -20,7 +21,7 @@ use std::marker::Brand;
 use std::process::Abort;
 use std::sync::Arc;
 use std::sync::ledger::{Blank, Ledger};
-use tile_build::{build_tiles, renew_tiles};
+use tile_build::build_tiles;
 
 /// What a table asks for: a block over the column (x, 1), a block there that sets the area 5, or that a number goes.
 #[derive(Clone, Copy, PartialEq, Eq, Debug)]
@@ -116,27 +117,63 @@ fn opened<L: Ledger>(
     Book::begin(alloc, Arc::new(alloc, level)?, tiles)
 }
 
-/// Publishes the whole history of a book.
-fn renewed<L: Ledger>(book: &mut Book, alloc: Global, blank: Blank) -> Result<u32, AllocError>
+/// Claims the least tile that can be claimed, if there is one, and builds it.
+fn next_build<L: Ledger>(
+    book: &mut Book,
+    alloc: Global,
+    steps: &mut Steps<L>,
+) -> Result<Option<TileResult>, AllocError>
+    ensures same { book.new.whole ≡ book.old.whole }
+    ensures build { IfOk result (λ made. IfSome made (IsBuild book.old.whole)) }
+{
+    match book.level().setting.mesh {
+        MeshKind::Strips => (),
+        MeshKind::Contours => return Ok(None),
+    }
+    match book.claim(alloc)? {
+        None => Ok(None),
+        Some(job) => {
+            let mesh = build_job(alloc, book.level(), &job, steps)?;
+            let Job { tile, shapes } = job;
+            Ok(Some(TileResult { tile, shapes, mesh }))
+        }
+    }
+}
+
+/// Builds the least tile that can be claimed, if there is one, and submits it.
+fn build_next<L: Ledger>(
+    book: &mut Book,
+    alloc: Global,
+    steps: &mut Steps<L>,
+) -> Result<Option<Submitted>, AllocError> {
+    match next_build(book, alloc, steps)? {
+        None => Ok(None),
+        Some(made) => Ok(Some(book.submit(made))),
+    }
+}
+
+/// Builds all tiles that are awaited for the whole history of a book, of which there are four at most, and publishes it.
+fn settled<L: Ledger>(
+    book: &mut Book,
+    alloc: Global,
+    blank: Blank,
+) -> Result<Published, AllocError>
     requires name { blank.name ≡ L.name }
     requires parts { blank.parts ≡ L.parts }
     requires some { 0 < blank.parts }
 {
     let mut steps = Steps::<L>::new(blank);
-    let level = book.level();
-    match level.setting.mesh {
-        MeshKind::Strips => (),
-        MeshKind::Contours => return Ok(0),
+    book.put_back_all();
+    book.aim();
+    for _ in 0..4 {
+        build_next(book, alloc, &mut steps)?;
     }
-    let shapes = book.alive(alloc)?;
-    let standing = book.mesh().tiles.as_slice();
-    let tiles = renew_tiles(alloc, level, shapes.as_slice(), standing, &mut steps)?;
-    book.renew(alloc, tiles)
+    book.publish(alloc)
 }
 
 /// Publishes the whole history of a book, over a blank ledger.
-fn published(book: &mut Book, alloc: Global) -> Result<u32, AllocError> {
-    renewed::<Brand>(book, alloc, Blank::new(1))
+fn published(book: &mut Book, alloc: Global) -> Result<Published, AllocError> {
+    settled::<Brand>(book, alloc, Blank::new(1))
 }
 
 /// The floors of a column, as the book answers.
@@ -221,7 +258,8 @@ fn check_settlings(
     for (asked, settles, first, second) in rows {
         let _answer = book.request(0, request_of(*asked));
         if *settles {
-            assert_eq!(rt; published(book, alloc)?, book.length());
+            let k = book.length();
+            assert_eq!(rt; published(book, alloc)?, Published::New { k });
             assert_eq!(rt; book.published(), book.length());
         }
         assert_eq!(rt; lowest(book, alloc, 1, 1)?, *first, "after {asked:?}");
@@ -339,6 +377,173 @@ fn fills_its_history(rt: HostRuntime) -> Result<(), AllocError> {
     assert!(rt; fill(&mut book));
     let full = HistoryFull { len: HISTORY_LIMIT };
     assert_eq!(rt; book.request(0, Request::Remove(1)), Err(full));
-    assert_eq!(rt; published(&mut book, alloc)?, HISTORY_LIMIT);
+    let k = HISTORY_LIMIT;
+    assert_eq!(rt; published(&mut book, alloc)?, Published::New { k });
+    Ok(())
+}
+
+/// What is done with a book.
+#[derive(Clone, Copy, PartialEq, Eq, Debug)]
+enum Step {
+    Ask(Asked),
+    Aim,
+    Claim,
+    Back(u32),
+    AllBack,
+    Publish,
+}
+
+/// What a step was answered; a request is answered by its number, which is 0 where the history is full.
+#[derive(Clone, Copy, PartialEq, Eq, Debug)]
+enum Told {
+    Nothing,
+    Length(u32),
+    Tile(u32),
+    Published(Published),
+}
+
+fn act(book: &mut Book, alloc: Global, step: Step) -> Result<Told, AllocError> {
+    match step {
+        Step::Ask(asked) => match book.request(0, request_of(asked)) {
+            Ok((number, _reply)) => Ok(Told::Length(number)),
+            Err(_full) => Ok(Told::Length(0)),
+        },
+        Step::Aim => Ok(Told::Length(book.aim())),
+        Step::Claim => match book.claim(alloc)? {
+            Some(job) => Ok(Told::Tile(job.tile)),
+            None => Ok(Told::Nothing),
+        },
+        Step::Back(tile) => {
+            if tile < tiles(&book.level().setting) {
+                let shapes = Items::new(alloc);
+                book.put_back(Job { tile, shapes });
+            }
+            Ok(Told::Nothing)
+        }
+        Step::AllBack => {
+            book.put_back_all();
+            Ok(Told::Nothing)
+        }
+        Step::Publish => Ok(Told::Published(book.publish(alloc)?)),
+    }
+}
+
+/// Four tiles: the column 1 is of the tile 0, the column 5 of the tile 1.
+const STEPS: [(Step, Told); 17] = [
+    (Step::Publish, Told::Published(Published::Same { k: 0 })),
+    (Step::Ask(Asked::Block(1)), Told::Length(1)),
+    (Step::Claim, Told::Nothing),
+    (Step::Publish, Told::Published(Published::Same { k: 0 })),
+    (Step::Aim, Told::Length(1)),
+    (Step::Publish, Told::Published(Published::NotYet { tile: 0 })),
+    (Step::Claim, Told::Tile(0)),
+    (Step::Claim, Told::Nothing),
+    (Step::Publish, Told::Published(Published::NotYet { tile: 0 })),
+    (Step::Ask(Asked::Area(5)), Told::Length(2)),
+    (Step::Aim, Told::Length(2)),
+    (Step::Back(0), Told::Nothing),
+    (Step::Claim, Told::Tile(0)),
+    (Step::Claim, Told::Tile(1)),
+    (Step::Claim, Told::Nothing),
+    (Step::AllBack, Told::Nothing),
+    (Step::Claim, Told::Tile(0)),
+];
+
+fn check_steps(
+    rt: &impl Abort,
+    alloc: Global,
+    book: &mut Book,
+    rows: &[(Step, Told)],
+) -> Result<(), AllocError> {
+    for (step, wanted) in rows {
+        assert_eq!(rt; act(book, alloc, *step)?, *wanted, "at {step:?}");
+    }
+    Ok(())
+}
+
+#[test]
+fn hands_out_the_tiles_that_are_awaited(rt: HostRuntime) -> Result<(), AllocError> {
+    let alloc = rt.alloc();
+    let mut book = opened::<Brand>(alloc, 8, 8, 4, Blank::new(1))?;
+    check_steps(&rt, alloc, &mut book, &STEPS)
+}
+
+/// Builds the awaited tile, does something else with the book and aims again, and submits the build.
+fn submitted_late<L: Ledger>(
+    book: &mut Book,
+    alloc: Global,
+    between: &[Asked],
+    blank: Blank,
+) -> Result<Option<Submitted>, AllocError>
+    requires name { blank.name ≡ L.name }
+    requires parts { blank.parts ≡ L.parts }
+    requires some { 0 < blank.parts }
+{
+    let mut steps = Steps::<L>::new(blank);
+    let made = next_build(book, alloc, &mut steps)?;
+    ask_all(book, between);
+    book.aim();
+    match made {
+        None => Ok(None),
+        Some(made) => Ok(Some(book.submit(made))),
+    }
+}
+
+fn ask_all(book: &mut Book, requests: &[Asked])
+    ensures { book.new.whole ≡ book.old.whole }
+{
+    for asked in requests {
+        let _answer = book.request(0, request_of(*asked));
+    }
+}
+
+/// What is asked while a tile is built under the block 1, how its build is taken, what a publish is answered then, and the floors of the
+/// column (1, 1) afterwards.
+type Late = (&'static [Asked], Submitted, Published, Option<FloorAt>);
+
+const LATE: [Late; 4] = [
+    (
+        &[Asked::Area(5)],
+        Submitted::Taken,
+        Published::NotYet { tile: 1 },
+        BARE,
+    ),
+    (
+        &[Asked::Remove(1)],
+        Submitted::Stale,
+        Published::New { k: 2 },
+        BARE,
+    ),
+    (
+        &[Asked::Remove(1), Asked::Block(1)],
+        Submitted::Taken,
+        Published::New { k: 3 },
+        None,
+    ),
+    (
+        &[Asked::Area(1)],
+        Submitted::Stale,
+        Published::NotYet { tile: 0 },
+        BARE,
+    ),
+];
+
+fn check_late(rt: &impl Abort, alloc: Global, row: &Late) -> Result<(), AllocError> {
+    let mut book = opened::<Brand>(alloc, 8, 8, 4, Blank::new(1))?;
+    let _answer = book.request(0, request_of(Asked::Block(1)));
+    book.aim();
+    let taken = submitted_late::<Brand>(&mut book, alloc, row.0, Blank::new(1))?;
+    assert!(rt; taken == Some(row.1));
+    assert!(rt; book.publish(alloc)? == row.2);
+    assert!(rt; lowest(&book, alloc, 1, 1)? == row.3);
+    Ok(())
+}
+
+#[test]
+fn takes_builds_that_still_serve(rt: HostRuntime) -> Result<(), AllocError> {
+    let alloc = rt.alloc();
+    for row in &LATE {
+        check_late(&rt, alloc, row)?;
+    }
     Ok(())
 }

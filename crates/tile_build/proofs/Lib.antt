@@ -1,6 +1,5 @@
 pub mod LocalTiles
 pub mod FreeInTile
-pub mod LinkTotals
+pub mod BuildTotals
 pub mod GroundTiles
-pub mod SameCells
 pub mod TileFits

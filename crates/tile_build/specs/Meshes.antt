@@ -1,17 +1,11 @@
--- Which meshes are built so far, and the tile meshes of a ground.
-use Rattle.std.specs.Prelude.{◌≡◌, List, map}
+-- The tile meshes of a ground.
+use Rattle.std.specs.Prelude.{List, map}
 use Rattle.nav_ground.specs.declared.setting.Setting.{Setting}
-use Rattle.nav_ground.specs.declared.setting.MeshKind.TheVariants.{Strips}
 use Rattle.nav_ground.specs.declared.cell.Layer.{Layer}
 use Rattle.nav_ground.specs.declared.history.Ground.{Ground}
 use Rattle.nav_ground.specs.declared.shape.Shape.{Shape}
 use Rattle.mesh_types.specs.declared.tile.TileMesh.{TileMesh}
 use Rattle.mesh_types.specs.Builds.{tile_mesh_of}
-use Rattle.mesh_types.specs.StripMeshes.{strip_mesh_of}
-
--- a setting asks for meshes of strips
-pub record IsOfStrips (setting : Setting) : Type 0 where
-  pub kind : setting.mesh ≡ Strips
 
 -- the meshes of layers under obstacles, one by one
 abbrev pub tiles_of : Setting → List Shape → List Layer → List TileMesh
@@ -20,12 +14,3 @@ tiles_of setting shapes layers = map (λ (layer : Layer). tile_mesh_of setting l
 -- the mesh of each tile of a ground under obstacles, in order
 abbrev pub tiles_under : Ground → List Shape → List TileMesh
 tiles_under whole shapes = tiles_of whole.setting shapes whole.layers
-
--- a tile mesh is what is built of the free cells that it has
-abbrev pub IsOfItsCells : Setting → TileMesh → Type 0
-IsOfItsCells setting tile = tile ≡ strip_mesh_of setting tile.free
-
--- the tile meshes are those of a ground under some obstacles
-pub record AreTilesOf (whole : Ground) (tiles : List TileMesh) : Type 0 where
-  pub shapes : List Shape
-  pub are : tiles ≡ tiles_under whole shapes

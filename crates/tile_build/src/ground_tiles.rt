@@ -6,10 +6,9 @@ ghost use Rattle.nav_ground.specs.Grounds.{IsGround, IsLayerOf};
 ghost use Rattle.nav_ground.specs.Limits.{IsSetting, IsShape};
 ghost use Rattle.nav_ground.specs.Tiling.{tile_count};
 ghost use Rattle.nav_steps.specs.Counts.{HasRisenAtMost};
-ghost use Rattle.tile_build.specs.Meshes.{AreTilesOf, IsOfItsCells, IsOfStrips, tiles_of, tiles_under};
+ghost use Rattle.tile_build.specs.Meshes.{tiles_of, tiles_under};
 
 use crate::build::build_tile;
-use crate::renewal::renew_tile;
 use mesh_types::TileMesh;
 use nav_ground::{Ground, Layer, Setting, Shape};
 use nav_list::Items;
@@ -27,7 +26,6 @@ pub fn build_tiles<L: Ledger>(
 ) -> Result<Items<Shared<TileMesh>>, AllocError>
     requires level { IsGround whole.now }
     requires shapes { All IsShape shapes.now }
-    requires strips { IsOfStrips whole.now.setting }
     ensures tiles { IfOk result (λ tiles. tiles ≡ tiles_under whole.now shapes.now) }
     ensures steps { OnOk result (steps.new ≡ steps.old + tile_count whole.now.setting) }
     ensures most { HasRisenAtMost (tile_count whole.now.setting) steps.old steps.new }
@@ -37,33 +35,6 @@ pub fn build_tiles<L: Ledger>(
         whole.layers.as_slice(),
         &whole.setting,
         shapes,
-        steps,
-    )?;
-    Ok(Items::from_vec(tiles))
-}
-
-/// The mesh of each tile of a ground under a list of shapes, where the meshes of its tiles under another list stand. What is built
-/// again, with one step each, are the tiles whose free cells have changed; the others are shared with those that stand.
-pub fn renew_tiles<L: Ledger>(
-    alloc: Global,
-    whole: &Ground,
-    shapes: &[Shape],
-    standing: &[Shared<TileMesh>],
-    steps: &mut Steps<L>,
-) -> Result<Items<Shared<TileMesh>>, AllocError>
-    requires level { IsGround whole.now }
-    requires shapes { All IsShape shapes.now }
-    requires strips { IsOfStrips whole.now.setting }
-    requires standing { AreTilesOf whole.now standing.now }
-    ensures tiles { IfOk result (λ tiles. tiles ≡ tiles_under whole.now shapes.now) }
-    ensures most { HasRisenAtMost (tile_count whole.now.setting) steps.old steps.new }
-{
-    let tiles = renewed(
-        alloc,
-        whole.layers.as_slice(),
-        &whole.setting,
-        shapes,
-        standing,
         steps,
     )?;
     Ok(Items::from_vec(tiles))
@@ -81,7 +52,6 @@ fn built<L: Ledger>(
     requires layers { All (IsLayerOf setting.now) layers.now }
     requires near { All (λ (layer : Layer). layer.radius ≡ 0) layers.now }
     requires shapes { All IsShape shapes.now }
-    requires strips { IsOfStrips setting.now }
     ensures tiles { IfOk result (λ tiles. tiles.items ≡ tiles_of setting.now shapes.now layers.now) }
     ensures steps { OnOk result (steps.new ≡ steps.old + length layers.now) }
     ensures most { HasRisenAtMost (length layers.now) steps.old steps.new }
@@ -90,33 +60,6 @@ fn built<L: Ledger>(
     for layer in layers {
         let tile = build_tile(alloc, layer, setting, shapes, steps)?;
         tiles.push(Shared::new(alloc, tile)?)?;
-    }
-    Ok(tiles)
-}
-
-/// The meshes of layers, beside which meshes of theirs stand.
-fn renewed<L: Ledger>(
-    alloc: Global,
-    layers: &[Layer],
-    setting: &Setting,
-    shapes: &[Shape],
-    standing: &[Shared<TileMesh>],
-    steps: &mut Steps<L>,
-) -> Result<Vec<Shared<TileMesh>>, AllocError>
-    requires setting { IsSetting setting.now }
-    requires layers { All (IsLayerOf setting.now) layers.now }
-    requires near { All (λ (layer : Layer). layer.radius ≡ 0) layers.now }
-    requires shapes { All IsShape shapes.now }
-    requires strips { IsOfStrips setting.now }
-    requires standing { All (IsOfItsCells setting.now) standing.now }
-    requires beside { length standing.now ≡ length layers.now }
-    ensures tiles { IfOk result (λ tiles. tiles.items ≡ tiles_of setting.now shapes.now layers.now) }
-    ensures most { HasRisenAtMost (length layers.now) steps.old steps.new }
-{
-    let mut tiles = Vec::with_capacity(alloc, layers.len())?;
-    for (i, layer) in layers.iter().enumerate() {
-        let tile = renew_tile(alloc, layer, setting, shapes, &standing[i], steps)?;
-        tiles.push(tile)?;
     }
     Ok(tiles)
 }

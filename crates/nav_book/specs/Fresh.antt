@@ -1,0 +1,38 @@
+-- Fresh tile meshes, which are stored and not published yet: one place a tile, empty where the stored mesh is the published one.
+use Rattle.std.specs.Prelude.{◌≡◌, ℕ, ◌+◌, ◌<◌, ◌≤◌, ◌^◌, List, [], ◌∷◌, ◌++◌, length, get_or, Option, Some, None, unwrap_or}
+use Rattle.nav_ground.specs.declared.history.Ground.{Ground}
+use Rattle.nav_ground.specs.declared.shape.Shape.{Shape}
+use Rattle.nav_ground.specs.Limits.{IsSetting}
+use Rattle.nav_ground.specs.Tiling.{tile_count}
+use Rattle.mesh_types.specs.declared.mesh.Mesh.{Mesh}
+use Rattle.mesh_types.specs.declared.tile.TileMesh.{TileMesh}
+use Rattle.mesh_types.specs.Soundness.{polygon_count}
+use Rattle.tile_links.specs.NewTiles.{New, AreNew, IsWhole, tiles_after}
+use Rattle.nav_book.specs.Results.{tile_under}
+
+-- the number of a tile with its fresh mesh, if it has one
+abbrev pub new_at : ℕ → Option TileMesh → List New
+new_at tile None = []
+new_at tile (Some mesh) = (tile, mesh) ∷ []
+
+-- the fresh tile meshes with their numbers, in order, where the first place is that of a tile
+abbrev pub news_from : ℕ → List (Option TileMesh) → List New
+news_from tile [] = []
+news_from tile (place ∷ places) = new_at tile place ++ news_from (tile + 1) places
+
+-- the same where the first place is that of the first tile
+abbrev pub news_of : List (Option TileMesh) → List New
+news_of places = news_from 0 places
+
+-- each tile's fresh mesh, and its published one where it has none, is its mesh under its stored shapes
+abbrev pub AreStored : Ground → List (List Shape) → List (Option TileMesh) → List TileMesh → Type 0
+AreStored whole stored fresh published = (t : ℕ) (e : List Shape) (d : TileMesh) → t < tile_count whole.setting
+    → unwrap_or (get_or fresh t None) (get_or published t d) ≡ tile_under whole t (get_or stored t e)
+
+-- the fresh tile meshes can be put into a mesh: it is the whole of its tiles, they are new tile meshes for it, and there are not too many
+pub record CanBePutInto (mesh : Mesh) (places : List (Option TileMesh)) : Type 0 where
+  pub numbers : length places < 2 ^ 32
+  pub setting : IsSetting mesh.setting
+  pub tiles : IsWhole mesh
+  pub news : AreNew mesh.setting (news_of places)
+  pub few : polygon_count (tiles_after (news_of places) mesh.tiles) ≤ 8000000

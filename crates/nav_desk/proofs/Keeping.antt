@@ -1,0 +1,100 @@
+-- What the fields of a desk tell of the state that it is seen as.
+use Rattle.std.proofs.Common.{◌≡◌, ◌≢◌, ℕ, ◌<◌, Bool, true, false, not, ◌&&◌, List, [], length, get_or, Option, None, Some, ap, sym, ◌∙◌, refl, subst}
+use Rattle.std.specs.Prelude.{All, if◌then◌else◌, slice_set, option_map}
+use Rattle.std.specs.Option.{option_map_or}
+use Rattle.std.proofs.lemmas.Bool.{eq-eqb, ne_eqb}
+use Rattle.std.proofs.lemmas.List.Elements.{All-filter}
+use Rattle.std.specs.Arc.{arc_value}
+use Rattle.nav_ground.specs.declared.setting.Setting.{Setting}
+use Rattle.nav_ground.specs.declared.shape.Shape.{Shape}
+use Rattle.nav_ground.specs.Limits.{IsShape}
+use Rattle.nav_ground.specs.Tiling.{tile_count}
+use Rattle.nav_ground.specs.Touching.{is_touching, touching_shapes}
+use Rattle.nav_desk.specs.declared.desk.Desk.TheInside.{Inside}
+use Rattle.nav_desk.specs.declared.answers.Published.TheVariants.{New, Same}
+use Rattle.nav_desk.specs.Awaiting.{awaits}
+use Rattle.nav_desk.specs.BookState.{BookState, IsBook, is_awaited, is_claimable, least_awaited, least_claimable}
+use Rattle.nav_desk.specs.Flags.{flag_of, least_below}
+use Rattle.nav_desk.specs.Representation.{state_of, IsKept}
+use Rattle.nav_desk.specs.SameShapes.{are_same}
+use Rattle.nav_desk.specs.Steps.{IsJob, after_claim, job_of, next_job, publication, publication_by}
+use Rattle.nav_desk.specs.Waiting.{is_ready, least_ready}
+use Rattle.nav_desk.proofs.Histories.{alive_limits}
+use Rattle.nav_desk.proofs.Leasts.{least_below-same, least_passes}
+
+-- the facts that a caller can name
+pub is_book : (inside : Inside) → IsKept inside → IsBook (state_of inside)
+is_book inside kept = record { level = kept.level; replied = kept.history; aimed = kept.aims; shown = kept.shows; lists = kept.lists; claims = kept.claims }
+
+-- a flag says whether its tile is awaited
+pub awaited_flag : (inside : Inside) (tile : ℕ) → IsKept inside → tile < tile_count (arc_value inside.level).setting
+    → flag_of inside.waiting.awaited tile ≡ is_awaited (state_of inside) tile
+awaited_flag inside tile kept there =
+    kept.awaited tile there ∙ ap (λ (shapes : List Shape). awaits (arc_value inside.level).setting shapes tile (get_or inside.stored.items tile [])) kept.shapes
+
+-- so the least flags are the least tiles
+pub least_awaited_is : (inside : Inside) → IsKept inside
+    → least_below (length inside.waiting.awaited) (flag_of inside.waiting.awaited) ≡ least_awaited (state_of inside)
+least_awaited_is inside kept =
+    ap (λ count. least_below count (flag_of inside.waiting.awaited)) kept.flags
+    ∙ least_below-same (tile_count (arc_value inside.level).setting) (flag_of inside.waiting.awaited) (is_awaited (state_of inside))
+    (λ tile there. awaited_flag inside tile kept there)
+
+pub least_ready_is : (inside : Inside) → IsKept inside → least_ready inside.waiting ≡ least_claimable (state_of inside)
+least_ready_is inside kept =
+    ap (λ count. least_below count (is_ready inside.waiting)) kept.flags
+    ∙ least_below-same (tile_count (arc_value inside.level).setting) (is_ready inside.waiting) (is_claimable (state_of inside))
+    (λ tile there. ap (λ b. b && not (flag_of inside.waiting.claimed tile)) (awaited_flag inside tile kept there))
+
+-- a tile that was looked at again, or not marked
+pub looked_at : (setting : Setting) (live aimed : List Shape) (tile : ℕ) (stored : List Shape) (marked was now : Bool)
+    → now ≡ (if marked then awaits setting live tile stored else was)
+    → (marked ≡ false → touching_shapes setting tile live ≡ touching_shapes setting tile aimed)
+    → was ≡ awaits setting aimed tile stored → now ≡ awaits setting live tile stored
+looked_at setting live aimed tile stored true was now now_is clean was_is = now_is
+looked_at setting live aimed tile stored false was now now_is clean was_is =
+    now_is ∙ was_is ∙ ap (λ (list : List Shape). not (are_same stored list)) (sym (clean refl))
+
+-- the shapes at hand at the target are within their limits
+pub aimed_limits : (inside : Inside) → IsKept inside → All IsShape inside.aimed.items
+aimed_limits inside kept = subst (All IsShape) (sym kept.shapes) (alive_limits inside.entries.items inside.target kept.history.requests)
+
+-- what a publish is answered where no tile is awaited
+pub same_answer : (state : BookState) → least_awaited state ≡ None → state.target ≡ state.published → Same state.published ≡ publication state
+same_answer state none same =
+    sym (ap (λ (least : Option ℕ). publication_by least state.target state.published) none
+    ∙ ap (λ (b : Bool). if b then Same state.published else New state.target) (eq-eqb state.target state.published same))
+
+pub new_answer : (state : BookState) → least_awaited state ≡ None → state.target ≢ state.published → New state.target ≡ publication state
+new_answer state none apart =
+    sym (ap (λ (least : Option ℕ). publication_by least state.target state.published) none
+    ∙ ap (λ (b : Bool). if b then Same state.published else New state.target) (ne_eqb state.target state.published apart))
+
+-- a claim where no tile can be claimed, and where one can
+pub none_claimed : (state : BookState) → least_claimable state ≡ None → state ≡ after_claim state
+none_claimed state none =
+    sym (ap (λ (least : Option ℕ). record state { claimed = option_map_or (λ (tile : ℕ). slice_set state.claimed tile true) least state.claimed }) none)
+
+pub one_claimed : (state : BookState) (tile : ℕ) → least_claimable state ≡ Some tile
+    → record state { claimed = slice_set state.claimed tile true } ≡ after_claim state
+one_claimed state tile found =
+    sym (ap (λ (least : Option ℕ). record state { claimed = option_map_or (λ (tile : ℕ). slice_set state.claimed tile true) least state.claimed }) found)
+
+pub no_job : (state : BookState) → least_claimable state ≡ None → None ≡ next_job state
+no_job state none = sym (ap (option_map (job_of state)) none)
+
+pub one_job : (inside : Inside) (tile : ℕ) (shapes : List Shape) → IsKept inside → least_claimable (state_of inside) ≡ Some tile
+    → shapes ≡ touching_shapes (arc_value inside.level).setting tile inside.aimed.items
+    → Some (record { tile = tile; shapes = shapes }) ≡ next_job (state_of inside)
+one_job inside tile shapes kept found is =
+    ap (λ (list : List Shape). Some (record { tile = tile; shapes = list })) (is ∙ ap (touching_shapes (arc_value inside.level).setting tile) kept.shapes)
+    ∙ sym (ap (option_map (job_of (state_of inside))) found)
+
+-- a job that was claimed fits its ground
+pub job_fits : (inside : Inside) (tile : ℕ) (shapes : List Shape) → IsKept inside → least_claimable (state_of inside) ≡ Some tile
+    → shapes ≡ touching_shapes (arc_value inside.level).setting tile inside.aimed.items
+    → IsJob (arc_value inside.level).setting (record { tile = tile; shapes = shapes })
+job_fits inside tile shapes kept found is = record {
+  there = (least_passes (tile_count (arc_value inside.level).setting) tile (is_claimable (state_of inside)) found).0;
+  limits = subst (All IsShape) (sym is) (All-filter (is_touching (arc_value inside.level).setting tile) IsShape inside.aimed.items (aimed_limits inside kept));
+}

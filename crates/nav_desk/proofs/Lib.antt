@@ -1,0 +1,10 @@
+pub mod Leasts
+pub mod SameShapes
+pub mod BookLaws
+pub mod FlagLaws
+pub mod Touched
+pub mod Meetings
+pub mod Keeping
+pub mod Rows
+pub mod Tables
+pub mod Histories

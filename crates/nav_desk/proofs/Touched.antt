@@ -1,0 +1,85 @@
+-- The elements of a list that pass a test, one more at a time, and a list of shapes beside them.
+use Rattle.std.proofs.Common.{◌≡◌, ℕ, ◌+◌, ◌<◌, ◌≤◌, Bool, true, false, cond, ◌&&◌, eqb, List, [], ◌∷◌, ◌++◌, length, take, drop, filter, get_or, ap, sym, ◌∙◌, ⊎_elim, arith}
+use Rattle.std.proofs.lemmas.Bool.{cases_lt, cases_Bool, eq-eqb, ne_eqb}
+use Rattle.std.proofs.lemmas.List.{append-nil, take_more, drop_more, drop_all}
+use Rattle.std.proofs.lemmas.List.Elements.{filter-append}
+use Rattle.nav_ground.specs.declared.shape.Shape.{Shape}
+use Rattle.nav_ground.specs.declared.shape.Shape.TheVariants.{Block}
+use Rattle.nav_desk.specs.SameShapes.{is_same_shape, are_same}
+use Rattle.nav_desk.proofs.SameShapes.{same_shape_decides}
+
+-- one more element of the first ones, kept or left
+taken : {A : Type 0} (p : A → Bool) (xs : List A) (i : ℕ) (d : A) (b : Bool) → i < length xs → p (get_or xs i d) ≡ b
+    → filter p (take (i + 1) xs) ≡ filter p (take i xs) ++ cond b (get_or xs i d ∷ []) []
+taken p xs i d b there is =
+    ap (filter p) (take_more xs i d there)
+    ∙ filter-append p (take i xs) (get_or xs i d ∷ [])
+    ∙ ap (λ c. filter p (take i xs) ++ cond c (get_or xs i d ∷ []) []) is
+
+pub kept_more : {A : Type 0} (p : A → Bool) (xs : List A) (i : ℕ) (d : A) (list : List A) → i < length xs → p (get_or xs i d) ≡ true
+    → list ≡ filter p (take i xs) → list ++ get_or xs i d ∷ [] ≡ filter p (take (i + 1) xs)
+kept_more p xs i d list there is so_far = ap (λ front. front ++ get_or xs i d ∷ []) so_far ∙ sym (taken p xs i d true there is)
+
+pub left_more : {A : Type 0} (p : A → Bool) (xs : List A) (i : ℕ) (d : A) (list : List A) → i < length xs → p (get_or xs i d) ≡ false
+    → list ≡ filter p (take i xs) → list ≡ filter p (take (i + 1) xs)
+left_more p xs i d list there is so_far = so_far ∙ sym (append-nil (filter p (take i xs))) ∙ sym (taken p xs i d false there is)
+
+-- the next element of the last ones
+pub next_of : {A : Type 0} (p : A → Bool) (xs : List A) (i : ℕ) (d : A) (b : Bool) → i < length xs → p (get_or xs i d) ≡ b
+    → filter p (drop i xs) ≡ cond b (get_or xs i d ∷ filter p (drop (i + 1) xs)) (filter p (drop (i + 1) xs))
+next_of p xs i d b there is =
+    ap (filter p) (drop_more xs i d there) ∙ ap (λ c. cond c (get_or xs i d ∷ filter p (drop (i + 1) xs)) (filter p (drop (i + 1) xs))) is
+
+-- the shape that stands next in the list, and one that does not
+pub same_next : (list : List Shape) (place : ℕ) (x : Shape) (rest : List Shape) → place < length list → get_or list place x ≡ x
+    → are_same (drop (place + 1) list) rest ≡ are_same (drop place list) (x ∷ rest)
+same_next list place x rest there is =
+    sym (ap (λ (shapes : List Shape). are_same shapes (x ∷ rest)) (drop_more list place x there)
+    ∙ ap (λ b. b && are_same (drop (place + 1) list) rest) ((same_shape_decides (get_or list place x) x).1 is))
+
+pub not_next : (list : List Shape) (place : ℕ) (x : Shape) (rest : List Shape) → ((place < length list) × (get_or list place x ≡ x) → ⊥)
+    → are_same (drop place list) (x ∷ rest) ≡ false
+not_next list place x rest apart = ⊎_elim inside past (cases_lt place (length list))
+  where
+    past : length list ≤ place → are_same (drop place list) (x ∷ rest) ≡ false
+    past over = ap (λ (shapes : List Shape). are_same shapes (x ∷ rest)) (drop_all place list over)
+
+    inside : place < length list → are_same (drop place list) (x ∷ rest) ≡ false
+    inside there =
+        let other : is_same_shape (get_or list place x) x ≡ false =
+        ⊎_elim (λ same. absurd (apart (there, (same_shape_decides (get_or list place x) x).0 same))) (λ differs. differs) (cases_Bool (is_same_shape (get_or list place x) x)) in
+        ap (λ (shapes : List Shape). are_same shapes (x ∷ rest)) (drop_more list place x there)
+        ∙ ap (λ b. b && are_same (drop (place + 1) list) rest) other
+
+-- no shape is left beside a list that has ended, and only beside that
+pub same_end : (list : List Shape) (place : ℕ) → place ≤ length list → are_same (drop place list) [] ≡ eqb place (length list)
+same_end list place within = ⊎_elim inside past (cases_lt place (length list))
+  where
+    past : length list ≤ place → are_same (drop place list) [] ≡ eqb place (length list)
+    past over =
+        ap (λ (shapes : List Shape). are_same shapes []) (drop_all place list over) ∙ sym (eq-eqb place (length list) (omega (arith, over, within)))
+
+    inside : place < length list → are_same (drop place list) [] ≡ eqb place (length list)
+    inside there =
+        let x : Shape = Block 0 0 0 0 0 0 in
+        ap (λ (shapes : List Shape). are_same shapes []) (drop_more list place x there) ∙ sym (ne_eqb place (length list) (λ same. omega (arith, same, there)))
+
+-- the shapes that are left decide beside what is left of the list: where the next does not stand there, where it does, and where it is passed by
+pub stops : (p : Shape → Bool) (shapes list : List Shape) (i place : ℕ) (d : Shape) (whole : Bool) → i < length shapes → p (get_or shapes i d) ≡ true
+    → ((place < length list) × (get_or list place (get_or shapes i d) ≡ get_or shapes i d) → ⊥)
+    → are_same (drop place list) (filter p (drop i shapes)) ≡ whole → false ≡ whole
+stops p shapes list i place d whole there is apart so_far =
+    sym (not_next list place (get_or shapes i d) (filter p (drop (i + 1) shapes)) apart)
+    ∙ sym (ap (are_same (drop place list)) (next_of p shapes i d true there is)) ∙ so_far
+
+pub goes_on : (p : Shape → Bool) (shapes list : List Shape) (i place : ℕ) (d : Shape) (whole : Bool) → i < length shapes → p (get_or shapes i d) ≡ true
+    → (place < length list) × (get_or list place (get_or shapes i d) ≡ get_or shapes i d)
+    → are_same (drop place list) (filter p (drop i shapes)) ≡ whole → are_same (drop (place + 1) list) (filter p (drop (i + 1) shapes)) ≡ whole
+goes_on p shapes list i place d whole there is next so_far =
+    same_next list place (get_or shapes i d) (filter p (drop (i + 1) shapes)) next.0 next.1
+    ∙ sym (ap (are_same (drop place list)) (next_of p shapes i d true there is)) ∙ so_far
+
+pub passes_by : (p : Shape → Bool) (shapes list : List Shape) (i place : ℕ) (d : Shape) (whole : Bool) → i < length shapes → p (get_or shapes i d) ≡ false
+    → are_same (drop place list) (filter p (drop i shapes)) ≡ whole → are_same (drop place list) (filter p (drop (i + 1) shapes)) ≡ whole
+passes_by p shapes list i place d whole there is so_far =
+    sym (ap (are_same (drop place list)) (next_of p shapes i d false there is)) ∙ so_far

@@ -1,0 +1,43 @@
+use Rattle.std.proofs.Common.{◌≡◌, ◌∙◌, [], length, get_or, ap, sym, arith}
+use Rattle.std.specs.Arc.{arc_value}
+use Rattle.nav_ground.specs.Touching.{touching_shapes}
+use Rattle.nav_desk.specs.Flags.{flag_of}
+use Rattle.nav_desk.specs.LiveTable.{shapes_in}
+use Rattle.nav_desk.proofs.Histories.{table_limits}
+use Rattle.nav_desk.proofs.Keeping.{looked_at}
+use Rattle.nav_desk.proofs.Tables.{table_shapes}
+use Rattle.nav_desk.proofs.desk.Desk.aim.Goals as goal
+
+pub look_again-requires-clause-shapes : goal.look_again-requires-clause-shapes
+look_again-requires-clause-shapes c =
+    let taken = rw c.as_slice.ensures.value at c.take_over.ensures.shapes in
+    rw (c.as_slice-2.ensures.value, taken) (table_limits c.self.inside.entries.items c.self.inside.live.items c.self.invariant.history.requests c.self.invariant.table)
+
+pub invariant_of-self : goal.invariant_of-self
+invariant_of-self c =
+    let history = c.self.inside.entries.items in
+    let kept = c.self.invariant in
+    let len : c.length-len.result ≡ length history = rw (← c.self.view_is) at c.length-len.ensures in
+    let taken = rw c.as_slice.ensures.value at c.take_over.ensures.shapes in
+    let looked = rw (c.deref.ensures, c.as_slice-2.ensures.value, c.as_slice-3.ensures.value, taken) at c.look_again.ensures in
+    record {
+      level = kept.level;
+      history = kept.history;
+      room = kept.room;
+      table = kept.table;
+      few = kept.few;
+      live_room = kept.live_room;
+      aims = omega (arith, len);
+      shows = omega (arith, len, kept.shows, kept.aims);
+      shapes = rw (taken, len) (table_shapes history c.self.inside.live.items kept.table);
+      aimed_room = rw c.take_over.ensures.room kept.aimed_room;
+      lists = kept.lists;
+      marks = looked.marks_after ∙ kept.marks;
+      flags = looked.flags_after ∙ kept.flags;
+      claims = ap length looked.claimed ∙ kept.claims;
+      clean = λ tile there unmarked. ap (touching_shapes (arc_value c.self.inside.level).setting tile) (sym taken);
+      awaited = λ tile there. rw taken
+          (looked_at (arc_value c.self.inside.level).setting (shapes_in c.self.inside.live.items) c.self.inside.aimed.items tile (get_or c.self.inside.stored.items tile [])
+          (flag_of c.self.inside.dirty tile) (flag_of c.self.inside.waiting.awaited tile) (flag_of c.look_again.new.waiting.awaited tile)
+          (looked.awaited tile there) (kept.clean tile there) (kept.awaited tile there));
+    }

@@ -1,0 +1,46 @@
+use Rattle.std.proofs.Common.{length, ap, sym, ◌∙◌, arith}
+use Rattle.nav_desk.specs.BookState.{is_claimable}
+use Rattle.nav_desk.specs.Representation.{state_of}
+use Rattle.nav_desk.specs.Waiting.{Waiting}
+use Rattle.nav_desk.proofs.Keeping.{aimed_limits, job_fits, least_ready_is, no_job, none_claimed, one_claimed, one_job}
+use Rattle.nav_desk.proofs.Leasts.{least_passes}
+use Rattle.nav_desk.proofs.desk.Desk.claim.Goals as goal
+
+pub touching_list-requires-clause-there : goal.touching_list-requires-clause-there
+touching_list-requires-clause-there c =
+    rw c.deref.ensures (least_passes _ c.in-Some.tile (is_claimable (state_of c.self.inside)) (sym (c.in-Some.ensures.least ∙ least_ready_is c.self.inside c.self.invariant))).0
+
+pub touching_list-requires-clause-shapes : goal.touching_list-requires-clause-shapes
+touching_list-requires-clause-shapes c = rw c.as_slice.ensures.value (aimed_limits c.self.inside c.self.invariant)
+
+pub set_claimed-requires : goal.set_claimed-requires
+set_claimed-requires c =
+    let there = (least_passes _ c.in-Some.tile (is_claimable (state_of c.self.inside)) (sym (c.in-Some.ensures.least ∙ least_ready_is c.self.inside c.self.invariant))).0 in
+    let same = ap (λ (w : Waiting). length w.awaited) c.least_ready.ensures.kept in
+    omega (arith, there, c.self.invariant.flags, same)
+
+pub returns-in-None-clause-job : goal.returns-in-None-clause-job
+returns-in-None-clause-job c =
+    rw (← c.self.view_is) (no_job (state_of c.self.inside) (sym (c.in-None.ensures.least ∙ least_ready_is c.self.inside c.self.invariant)))
+
+pub returns-in-None-clause-claimed : goal.returns-in-None-clause-claimed
+returns-in-None-clause-claimed c =
+    rw (← c.self.view_is, c.least_ready.ensures.kept)
+    (none_claimed (state_of c.self.inside) (sym (c.in-None.ensures.least ∙ least_ready_is c.self.inside c.self.invariant)))
+
+pub returns-in_ok-shapes-in-Some-clause-job : goal.returns-in_ok-shapes-in-Some-clause-job
+returns-in_ok-shapes-in-Some-clause-job c =
+    let list = rw (c.deref.ensures, c.as_slice.ensures.value) at c.in_ok-shapes-in-Some.ensures in
+    rw (← c.self.view_is)
+    (one_job c.self.inside c.in-Some.tile c.in_ok-shapes-in-Some.shapes c.self.invariant (sym (c.in-Some.ensures.least ∙ least_ready_is c.self.inside c.self.invariant)) list)
+
+pub returns-in_ok-shapes-in-Some-clause-fit : goal.returns-in_ok-shapes-in-Some-clause-fit
+returns-in_ok-shapes-in-Some-clause-fit c =
+    let list = rw (c.deref.ensures, c.as_slice.ensures.value) at c.in_ok-shapes-in-Some.ensures in
+    rw (← c.self.view_is)
+    (job_fits c.self.inside c.in-Some.tile c.in_ok-shapes-in-Some.shapes c.self.invariant (sym (c.in-Some.ensures.least ∙ least_ready_is c.self.inside c.self.invariant)) list)
+
+pub returns-in_ok-shapes-in-Some-clause-claimed : goal.returns-in_ok-shapes-in-Some-clause-claimed
+returns-in_ok-shapes-in-Some-clause-claimed c =
+    rw (← c.self.view_is, c.set_claimed.ensures, c.least_ready.ensures.kept)
+    (one_claimed (state_of c.self.inside) c.in-Some.tile (sym (c.in-Some.ensures.least ∙ least_ready_is c.self.inside c.self.invariant)))

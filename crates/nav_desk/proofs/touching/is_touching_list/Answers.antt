@@ -1,0 +1,32 @@
+use Rattle.std.proofs.Common.{◌≡◌, ℕ, ◌+◌, drop, subst, sym, ◌∙◌, arith}
+use Rattle.std.proofs.lemmas.Bool.{both_ways}
+use Rattle.nav_ground.specs.Touching.{is_touching, touching_shapes}
+use Rattle.nav_desk.specs.SameShapes.{are_same}
+use Rattle.nav_desk.proofs.Touched.{stops, goes_on, passes_by}
+use Rattle.nav_desk.proofs.touching.is_touching_list.Goals as goal
+use Rattle.nav_desk.proofs.touching.is_touching_list.Goals.{then-touches+else-not-is_at, else-touches}
+
+pub returns-then-not-is_at : goal.returns-then-not-is_at
+returns-then-not-is_at c =
+    stops (is_touching c.args.setting.now c.args.tile) c.args.shapes.now c.args.list.now c.loop-shape.shape-index c.loop-shape.place _ _ c.loop-shape-test.true
+    (sym c.touches.ensures.test ∙ c.if-touches.true) (λ next. both_ways _ c.if-not-is_at.true (c.is_at.ensures.1 next)) c.loop-shape.invariant.rest
+
+pub loop-shape-preserved : goal.loop-shape-preserved
+loop-shape-preserved c = elim c.if-touches.branch [
+  | then-touches+else-not-is_at w ↦
+      let next = w.is_at.ensures.0 w.if-not-is_at.false in
+      record {
+        within = omega (arith, w.place-is, next.0);
+        rest = subst (λ (n : ℕ). are_same (drop n c.args.list.now) (touching_shapes c.args.setting.now c.args.tile (drop (c.loop-shape.shape-index + 1) c.args.shapes.now)) ≡ are_same c.args.list.now (touching_shapes c.args.setting.now c.args.tile c.args.shapes.now))
+            (sym w.place-is)
+            (goes_on (is_touching c.args.setting.now c.args.tile) c.args.shapes.now c.args.list.now c.loop-shape.shape-index c.loop-shape.place _ _ c.loop-shape-test.true
+            (sym c.touches.ensures.test ∙ w.if-touches.true) next c.loop-shape.invariant.rest);
+      }
+  | else-touches w ↦ record {
+    within = omega (arith, w.place-is, c.loop-shape.invariant.within);
+    rest = subst (λ (n : ℕ). are_same (drop n c.args.list.now) (touching_shapes c.args.setting.now c.args.tile (drop (c.loop-shape.shape-index + 1) c.args.shapes.now)) ≡ are_same c.args.list.now (touching_shapes c.args.setting.now c.args.tile c.args.shapes.now))
+        (sym w.place-is)
+        (passes_by (is_touching c.args.setting.now c.args.tile) c.args.shapes.now c.args.list.now c.loop-shape.shape-index c.loop-shape.place _ _ c.loop-shape-test.true
+        (sym c.touches.ensures.test ∙ w.if-touches.false) c.loop-shape.invariant.rest);
+  }
+]

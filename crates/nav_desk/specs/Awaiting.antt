@@ -1,0 +1,9 @@
+-- Awaiting: a tile stored with a list awaits a build where the shapes that touch it are others.
+use Rattle.std.specs.Prelude.{ℕ, Bool, not, List}
+use Rattle.nav_ground.specs.declared.setting.Setting.{Setting}
+use Rattle.nav_ground.specs.declared.shape.Shape.{Shape}
+use Rattle.nav_ground.specs.Touching.{touching_shapes}
+use Rattle.nav_desk.specs.SameShapes.{are_same}
+
+abbrev pub awaits : Setting → List Shape → ℕ → List Shape → Bool
+awaits setting shapes tile stored = not (are_same stored (touching_shapes setting tile shapes))

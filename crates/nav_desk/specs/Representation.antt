@@ -1,0 +1,46 @@
+-- What the fields of a desk keep at every moment.
+use Rattle.std.specs.Prelude.{◌≡◌, ℕ, ◌<◌, ◌≤◌, false, [], length, slice_index_or, vec_capacity}
+use Rattle.std.specs.Arc.{arc_value}
+use Rattle.nav_ground.specs.declared.history.TheConstants.{HISTORY_LIMIT}
+use Rattle.nav_ground.specs.Grounds.{IsGround}
+use Rattle.nav_ground.specs.History.{IsHistory, shapes_alive}
+use Rattle.nav_ground.specs.Tiling.{tile_count}
+use Rattle.nav_ground.specs.Touching.{touching_shapes}
+use Rattle.nav_desk.specs.declared.desk.Desk.TheInside.{Inside}
+use Rattle.nav_desk.specs.Awaiting.{awaits}
+use Rattle.nav_desk.specs.BookState.{BookState}
+use Rattle.nav_desk.specs.Flags.{flag_of}
+use Rattle.nav_desk.specs.LiveTable.{IsLiveTable, shapes_in}
+
+-- what a desk is seen as
+abbrev pub state_of : Inside → BookState
+state_of inside = record {
+  whole = arc_value inside.level;
+  history = inside.entries.items;
+  target = inside.target;
+  published = inside.published;
+  stored = inside.stored.items;
+  claimed = inside.waiting.claimed;
+}
+
+-- the shapes alive at the end of the history and at the target are at hand; a tile that is not marked is touched by the same of both; the
+-- flags say which tiles are awaited; and there is room for a whole history and for as many live obstacles as may be
+pub record IsKept (inside : Inside) : Type 0 where
+  pub level : IsGround (arc_value inside.level)
+  pub history : IsHistory (arc_value inside.level).setting.limit inside.entries.items
+  pub room : HISTORY_LIMIT ≤ vec_capacity inside.entries
+  pub table : IsLiveTable inside.entries.items inside.live.items
+  pub few : length inside.live.items ≤ (arc_value inside.level).setting.limit
+  pub live_room : (arc_value inside.level).setting.limit ≤ vec_capacity inside.live
+  pub aims : inside.target ≤ length inside.entries.items
+  pub shows : inside.published ≤ inside.target
+  pub shapes : inside.aimed.items ≡ shapes_alive inside.entries.items inside.target
+  pub aimed_room : (arc_value inside.level).setting.limit ≤ vec_capacity inside.aimed
+  pub lists : length inside.stored.items ≡ tile_count (arc_value inside.level).setting
+  pub marks : length inside.dirty ≡ tile_count (arc_value inside.level).setting
+  pub flags : length inside.waiting.awaited ≡ tile_count (arc_value inside.level).setting
+  pub claims : length inside.waiting.claimed ≡ tile_count (arc_value inside.level).setting
+  pub clean : (tile : ℕ) → tile < tile_count (arc_value inside.level).setting → flag_of inside.dirty tile ≡ false
+      → touching_shapes (arc_value inside.level).setting tile (shapes_in inside.live.items) ≡ touching_shapes (arc_value inside.level).setting tile inside.aimed.items
+  pub awaited : (tile : ℕ) → tile < tile_count (arc_value inside.level).setting
+      → flag_of inside.waiting.awaited tile ≡ awaits (arc_value inside.level).setting inside.aimed.items tile (slice_index_or inside.stored.items tile [])

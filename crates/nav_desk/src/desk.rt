@@ -1,0 +1,262 @@
+//! The desk: the history, which tiles await a build, and who claimed them.
+
+ghost use Rattle.std.specs.Prelude.{◌≡◌, ◌↔◌, ◌+◌, ◌<◌, ◌≤◌, None, [], length, replicate, IsErr, IfOk, IfErr, IfSome, OnOk, OnErr};
+ghost use Rattle.std.specs.Arc.{arc_value};
+ghost use Rattle.nav_ground.specs.Grounds.{IsGround};
+ghost use Rattle.nav_ground.specs.History.{IsHistory, IsRequest};
+ghost use Rattle.nav_ground.specs.Tiling.{tile_count};
+ghost use Rattle.nav_desk.specs.BookState.{IsBook, first_state, least_awaited};
+ghost use Rattle.nav_desk.specs.Steps.{IsJob, next_reply, next_job, after_request, after_aim, after_claim, after_put_back, after_put_back_all, after_submit, after_publish, submission};
+
+use crate::answers::{HistoryFull, Job, Published, Submitted};
+use crate::least_set::LeastSet;
+use crate::live::{Live, answer, take_over};
+use crate::marks::{look_again, mark_changed};
+use crate::touching::{is_touching_list, touching_list};
+use crate::waiting::WaitingTiles;
+use nav_ground::{Entry, Ground, HISTORY_LIMIT, Reply, Request, Shape, TileNo, tiles};
+use nav_list::Items;
+use std::alloc::{AllocError, Global};
+use std::marker::Model;
+use std::sync::Arc;
+
+/// The history of the requests to a ground, and for each tile the list of shapes that its stored mesh was built with and whether its build
+/// is claimed. Only `begin` and `claim` take memory.
+#[derive(Drop)]
+pub struct Desk {
+    level: Arc<Ground>,
+    entries: Vec<Entry>,
+    live: Vec<Live>,
+    target: u32,
+    published: u32,
+    aimed: Vec<Shape>,
+    stored: Vec<Items<Shape>>,
+    dirty: LeastSet,
+    waiting: WaitingTiles,
+}
+
+impl Model for Desk {
+    ghost use Rattle.nav_desk.specs.BookState.{BookState};
+
+    ghost Value = { BookState };
+
+    ghost use Rattle.nav_desk.specs.Representation.{state_of, IsKept};
+
+    ghost view = { state_of };
+
+    ghost invariant = { IsKept };
+}
+
+impl Desk {
+    /// The desk of a ground with no entries, of which each tile is stored without shapes. It takes the room for a whole history and for as
+    /// many live obstacles as the setting allows.
+    pub fn begin(alloc: Global, level: Arc<Ground>) -> Result<Desk, AllocError>
+        requires { IsGround (arc_value level) }
+        ensures state { IfOk result (λ desk. desk ≡ first_state (arc_value level)) }
+        ensures rules { IfOk result IsBook }
+    {
+        let limit = level.setting.limit as usize;
+        let count = tiles(&level.setting);
+        Ok(Desk {
+            entries: Vec::with_capacity(alloc, HISTORY_LIMIT as usize)?,
+            live: Vec::with_capacity(alloc, limit)?,
+            target: 0,
+            published: 0,
+            aimed: Vec::with_capacity(alloc, limit)?,
+            stored: empty_lists(alloc, count)?,
+            dirty: LeastSet::new(alloc, count)?,
+            waiting: WaitingTiles::new(alloc, count)?,
+            level,
+        })
+    }
+
+    /// Appends a request of a lane to the history, and gives the number of its entry, from 1, and its answer.
+    pub fn request(&mut self, lane: u32, request: Request) -> Result<(u32, Reply), HistoryFull>
+        requires { IsRequest request }
+        ensures appended { OnOk result (self.new ≡ after_request self.old lane request) }
+        ensures number { IfOk result (λ answer. answer.0 ≡ length self.old.history + 1) }
+        ensures reply { IfOk result (λ answer. answer.1 ≡ next_reply self.old request) }
+        ensures rules { IsBook self.new }
+
+        // It is refused exactly where the history is full, and then nothing changes.
+        ensures full { IsErr result ↔ (length self.old.history ≡ HISTORY_LIMIT) }
+        ensures len { IfErr result (λ refused. refused.len ≡ length self.old.history) }
+        ensures refused { OnErr result (self.new ≡ self.old) }
+    {
+        let len = self.length();
+        if len == HISTORY_LIMIT {
+            return Err(HistoryFull { len });
+        }
+        let number = len + 1;
+        let answered = answer(&mut self.live, self.level.setting.limit, number, request);
+        mark_changed(&self.level.setting, &mut self.dirty, answered.changed);
+        let reply = answered.reply;
+        self.entries.push_reserved(Entry {
+            lane,
+            request,
+            reply,
+        });
+        Ok((number, reply))
+    }
+
+    /// Makes the length of the history the target, and gives it. It looks again at the tiles that a shape touches which came or went since.
+    pub fn aim(&mut self) -> u32
+        ensures aimed { self.new ≡ after_aim self.old }
+        ensures length { result ≡ length self.old.history }
+        ensures rules { IsBook self.new }
+    {
+        let len = self.length();
+        take_over(self.live.as_slice(), &mut self.aimed);
+        look_again(
+            &self.level.setting,
+            self.aimed.as_slice(),
+            self.stored.as_slice(),
+            &mut self.dirty,
+            &mut self.waiting,
+        );
+        self.target = len;
+        len
+    }
+
+    /// Claims the least tile that is awaited and not claimed, and gives it with its touching list; none exactly where there is none. Where
+    /// memory is refused, nothing has changed.
+    pub fn claim(&mut self, alloc: Global) -> Result<Option<Job>, AllocError>
+        ensures job { IfOk result (λ job. job ≡ next_job self.old) }
+        ensures fit { IfOk result (λ job. IfSome job (IsJob self.old.whole.setting)) }
+        ensures claimed { OnOk result (self.new ≡ after_claim self.old) }
+        ensures refused { OnErr result (self.new ≡ self.old) }
+        ensures rules { IsBook self.new }
+    {
+        match self.waiting.least_ready() {
+            None => Ok(None),
+            Some(tile) => {
+                let shapes = touching_list(
+                    alloc,
+                    &self.level.setting,
+                    tile,
+                    self.aimed.as_slice(),
+                )?;
+                self.waiting.set_claimed(tile, true);
+                Ok(Some(Job { tile, shapes }))
+            }
+        }
+    }
+
+    /// Ends the claim on a tile, if there is one.
+    pub fn put_back(&mut self, tile: TileNo)
+        requires { tile < tile_count self.old.whole.setting }
+        ensures state { self.new ≡ after_put_back self.old tile }
+        ensures rules { IsBook self.new }
+    {
+        self.waiting.set_claimed(tile, false);
+    }
+
+    /// Ends all claims.
+    pub fn put_back_all(&mut self)
+        ensures state { self.new ≡ after_put_back_all self.old }
+        ensures rules { IsBook self.new }
+    {
+        self.waiting.release_all();
+    }
+
+    /// Ends the claim on a tile, if there is one, and stores the list that a mesh of the tile was built with: `Taken` exactly where the tile
+    /// is awaited and the list is its touching list at the target.
+    pub fn submit(&mut self, tile: TileNo, shapes: Items<Shape>) -> Submitted
+        requires { tile < tile_count self.old.whole.setting }
+        ensures answer { result ≡ submission self.old tile shapes }
+        ensures stored { self.new ≡ after_submit self.old tile shapes }
+        ensures rules { IsBook self.new }
+    {
+        self.waiting.set_claimed(tile, false);
+        if !self.waiting.is_awaited(tile) {
+            return Submitted::Stale;
+        }
+        if !is_touching_list(
+            &self.level.setting,
+            tile,
+            self.aimed.as_slice(),
+            shapes.as_slice(),
+        ) {
+            return Submitted::Stale;
+        }
+        self.stored[tile as usize] = shapes;
+        self.waiting.set_awaited(tile, false);
+        Submitted::Taken
+    }
+
+    /// What a publish is answered now: `NotYet` with the least awaited tile, else `Same` where the target is published already, else `New`.
+    /// Nothing changes.
+    pub fn publication(&mut self) -> Published
+        ensures answer { result ≡ Rattle.nav_desk.specs.Steps.publication self.old }
+        ensures same { self.new ≡ self.old }
+    {
+        if let Some(tile) = self.waiting.least_awaited() {
+            return Published::NotYet { tile };
+        }
+        if self.target == self.published {
+            return Published::Same { k: self.published };
+        }
+        Published::New { k: self.target }
+    }
+
+    /// Notes that the target is published.
+    pub fn publish(&mut self)
+        requires { least_awaited self.old ≡ None }
+        ensures state { self.new ≡ after_publish self.old }
+        ensures shown { self.new.published ≡ self.old.target }
+        ensures rules { IsBook self.new }
+    {
+        self.published = self.target;
+    }
+
+    /// The ground, as it is without obstacles.
+    pub fn level(&self) -> &Ground
+        ensures value { result.now ≡ self.now.whole }
+        ensures rules { IsBook self.now }
+    {
+        &self.level
+    }
+
+    /// How many entries the history has.
+    pub fn length(&self) -> u32
+        ensures { result ≡ length self.now.history }
+    {
+        self.entries.len() as u32
+    }
+
+    /// How many entries the tiles are built for.
+    pub fn target(&self) -> u32
+        ensures value { result ≡ self.now.target }
+        ensures within { result ≤ length self.now.history }
+    {
+        self.target
+    }
+
+    /// How many entries are published.
+    pub fn published(&self) -> u32
+        ensures value { result ≡ self.now.published }
+        ensures within { result ≤ self.now.target }
+    {
+        self.published
+    }
+
+    /// The history, the oldest entry first.
+    pub fn entries(&self) -> &[Entry]
+        ensures entries { result.now ≡ self.now.history }
+        ensures rules { IsHistory self.now.whole.setting.limit self.now.history }
+    {
+        self.entries.as_slice()
+    }
+}
+
+/// So many empty lists.
+fn empty_lists(alloc: Global, count: u32) -> Result<Vec<Items<Shape>>, AllocError>
+    ensures { IfOk result (λ lists. lists.items ≡ replicate count []) }
+{
+    let mut lists = Vec::with_capacity(alloc, count as usize)?;
+    for i in 0..count {
+        let _ = i;
+        lists.push(Items::new(alloc))?;
+    }
+    Ok(lists)
+}

@@ -1,0 +1,70 @@
+//! The shapes that touch a tile.
+
+ghost use Rattle.std.specs.Prelude.{◌≡◌, ◌↔◌, ◌<◌, IsTrue, IfOk, All, length, slice_index_or};
+ghost use Rattle.nav_ground.specs.Limits.{IsSetting, IsShape};
+ghost use Rattle.nav_ground.specs.Tiling.{tile_count};
+ghost use Rattle.nav_ground.specs.Touching.{touching_shapes};
+ghost use Rattle.nav_desk.specs.SameShapes.{are_same};
+
+use nav_ground::{Setting, Shape, TileNo, touches};
+use nav_list::Items;
+use std::alloc::{AllocError, Global};
+
+/// The shapes of a list that touch a tile, in order.
+pub(crate) fn touching_list(
+    alloc: Global,
+    setting: &Setting,
+    tile: TileNo,
+    shapes: &[Shape],
+) -> Result<Items<Shape>, AllocError>
+    requires setting { IsSetting setting.now }
+    requires there { tile < tile_count setting.now }
+    requires shapes { All IsShape shapes.now }
+    ensures { IfOk result (λ list. list ≡ touching_shapes setting.now tile shapes.now) }
+{
+    let mut list = Vec::new(alloc);
+    for shape in shapes {
+        if touches(setting, tile, shape) {
+            list.push(*shape)?;
+        }
+    }
+    Ok(Items::from_vec(list))
+}
+
+/// Whether a list is that of the shapes that touch a tile, in order.
+pub(crate) fn is_touching_list(
+    setting: &Setting,
+    tile: TileNo,
+    shapes: &[Shape],
+    list: &[Shape],
+) -> bool
+    requires setting { IsSetting setting.now }
+    requires there { tile < tile_count setting.now }
+    requires shapes { All IsShape shapes.now }
+    ensures { result ≡ are_same list.now (touching_shapes setting.now tile shapes.now) }
+{
+    let mut place = 0;
+    for shape in shapes {
+        if touches(setting, tile, shape) {
+            if !is_at(list, place, shape) {
+                return false;
+            }
+            place += 1;
+        }
+    }
+    place == list.len()
+}
+
+/// Whether a list has a shape at a place.
+fn is_at(list: &[Shape], place: usize, shape: &Shape) -> bool
+    ensures { IsTrue result ↔ ((place < length list.now) × (slice_index_or list.now place shape.now ≡ shape.now)) }
+{
+    place < list.len() && is_same(&list[place], shape)
+}
+
+/// Whether two shapes are the same.
+fn is_same(a: &Shape, b: &Shape) -> bool
+    ensures { IsTrue result ↔ (a.now ≡ b.now) }
+{
+    a == b
+}

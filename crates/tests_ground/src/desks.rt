@@ -1,0 +1,246 @@
+//! Runs of desks over an empty ground of three tiles in a row. What is wanted was worked out by hand.
+
+ghost use Rattle.std.specs.Prelude.{◌≡◌, ◌<◌, ◌≤◌, IsTrue};
+ghost use Rattle.nav_ground.specs.Fields.{IsField};
+ghost use Rattle.nav_ground.specs.History.{IsRequest};
+ghost use Rattle.nav_ground.specs.Limits.{IsShape};
+ghost use Rattle.nav_ground.specs.Tiling.{tile_count};
+
+use layer_cut::ground;
+use nav_desk::{Desk, Published, Submitted};
+use nav_ground::{AREAS, Agent, Field, MeshKind, Reply, Request, Setting, Shape, TileNo, tiles};
+use nav_list::Items;
+use std::alloc::{AllocError, Global};
+use std::process::Abort;
+use std::sync::Arc;
+
+/// What is asked of a desk. Blocks are those over the columns from x to x + 1 of row 1; a list has one block at most, given by its x.
+#[derive(Clone, Copy, PartialEq, Eq, Debug)]
+enum Asked {
+    Add(u32),
+    Remove(u32),
+    Aim,
+    Claim,
+    Back(TileNo),
+    BackAll,
+    Submit(TileNo, Option<u32>),
+    Look,
+    Publish,
+}
+
+/// What it is answered; of a job the tile and the block, the first one where there are several, and how many there are.
+#[derive(Clone, Copy, PartialEq, Eq, Debug)]
+enum Told {
+    Replied(u32, Reply),
+    HistoryFull,
+    Aimed(u32),
+    NoJob,
+    Job(TileNo, Option<Shape>, u32),
+    Nothing,
+    Submitted(Submitted),
+    Published(Published),
+}
+
+const fn block_at(x: u32) -> Shape {
+    Shape::Block {
+        x0: x,
+        x1: x + 1,
+        y0: 0,
+        y1: 100,
+        z0: 1,
+        z1: 1,
+    }
+}
+
+/// The desk of an empty ground whose three tiles have sides of 4 columns, where two obstacles may be alive.
+fn opened(alloc: Global) -> Result<Desk, AllocError> {
+    let setting = Setting {
+        width: 12,
+        depth: 4,
+        tile: 4,
+        agent: Agent {
+            height: 10,
+            climb: 4,
+            radius: 0,
+        },
+        error: 169,
+        mesh: MeshKind::Strips,
+        limit: 2,
+        costs: [1; AREAS],
+        clear: false,
+    };
+    let level = ground(alloc, setting, empty_field(alloc, 12, 4))?;
+    Desk::begin(alloc, Arc::new(alloc, level)?)
+}
+
+fn empty_field(alloc: Global, width: u32, depth: u32) -> Field
+    requires wide { (1 ≤ width) × (width ≤ 1024) }
+    requires deep { (1 ≤ depth) × (depth ≤ 1024) }
+    ensures rules { IsField result }
+    ensures width { result.width ≡ width }
+    ensures depth { result.depth ≡ depth }
+{
+    Field {
+        width,
+        depth,
+        spans: Items::new(alloc),
+    }
+}
+
+fn block(x: u32) -> Shape
+    ensures { IsShape result }
+{
+    let x = x.min(1000);
+    Shape::Block {
+        x0: x,
+        x1: x + 1,
+        y0: 0,
+        y1: 100,
+        z0: 1,
+        z1: 1,
+    }
+}
+
+fn told(desk: &mut Desk, alloc: Global, asked: Asked) -> Result<Told, AllocError> {
+    match asked {
+        Asked::Add(x) => Ok(replied(desk, Request::Add(block(x)))),
+        Asked::Remove(number) => Ok(replied(desk, Request::Remove(number))),
+        Asked::Aim => Ok(Told::Aimed(desk.aim())),
+        Asked::Claim => claimed(desk, alloc),
+        Asked::Back(tile) => Ok(put_back(desk, tile)),
+        Asked::BackAll => {
+            desk.put_back_all();
+            Ok(Told::Nothing)
+        }
+        Asked::Submit(tile, x) => submitted(desk, alloc, tile, x),
+        Asked::Look => Ok(Told::Published(desk.publication())),
+        Asked::Publish => Ok(Told::Published(published(desk))),
+    }
+}
+
+fn replied(desk: &mut Desk, request: Request) -> Told
+    requires { IsRequest request }
+{
+    match desk.request(7, request) {
+        Ok((number, reply)) => Told::Replied(number, reply),
+        Err(_) => Told::HistoryFull,
+    }
+}
+
+fn claimed(desk: &mut Desk, alloc: Global) -> Result<Told, AllocError> {
+    let Some(job) = desk.claim(alloc)? else {
+        return Ok(Told::NoJob);
+    };
+    Ok(Told::Job(
+        job.tile,
+        job.shapes.get(0).copied(),
+        job.shapes.len() as u32,
+    ))
+}
+
+fn is_there(desk: &Desk, tile: TileNo) -> bool
+    ensures { IsTrue result → tile < tile_count desk.now.whole.setting }
+{
+    tile < tiles(&desk.level().setting)
+}
+
+fn put_back(desk: &mut Desk, tile: TileNo) -> Told {
+    if is_there(desk, tile) {
+        desk.put_back(tile);
+    }
+    Told::Nothing
+}
+
+fn submitted(
+    desk: &mut Desk,
+    alloc: Global,
+    tile: TileNo,
+    x: Option<u32>,
+) -> Result<Told, AllocError> {
+    let mut shapes = Vec::new(alloc);
+    if let Some(x) = x {
+        shapes.push(block(x))?;
+    }
+    if !is_there(desk, tile) {
+        return Ok(Told::Nothing);
+    }
+    Ok(Told::Submitted(desk.submit(tile, Items::from_vec(shapes))))
+}
+
+/// Publishes, where that is possible.
+fn published(desk: &mut Desk) -> Published {
+    let answer = desk.publication();
+    match answer {
+        Published::New { .. } => desk.publish(),
+        Published::Same { .. } => (),
+        Published::NotYet { .. } => (),
+    }
+    answer
+}
+
+/// Asks a desk the rows of a table one after the other.
+fn check(
+    rt: &impl Abort,
+    desk: &mut Desk,
+    alloc: Global,
+    rows: &[(Asked, Told)],
+) -> Result<(), AllocError> {
+    for (asked, wanted) in rows {
+        let found = told(desk, alloc, *asked)?;
+        assert!(rt; found == *wanted);
+    }
+    Ok(())
+}
+
+/// A block that touches the tile 1 comes, is built, and goes and comes again, which makes nothing awaited.
+const ONE_BLOCK: [(Asked, Told); 12] = [
+    (Asked::Look, Told::Published(Published::Same { k: 0 })),
+    (Asked::Add(5), Told::Replied(1, Reply::Added { number: 1 })),
+    (Asked::Aim, Told::Aimed(1)),
+    (Asked::Look, Told::Published(Published::NotYet { tile: 1 })),
+    (Asked::Claim, Told::Job(1, Some(block_at(5)), 1)),
+    (Asked::Claim, Told::NoJob),
+    (Asked::Back(1), Told::Nothing),
+    (Asked::Claim, Told::Job(1, Some(block_at(5)), 1)),
+    (Asked::Submit(1, None), Told::Submitted(Submitted::Stale)),
+    (Asked::Submit(1, Some(5)), Told::Submitted(Submitted::Taken)),
+    (Asked::Submit(1, Some(5)), Told::Submitted(Submitted::Stale)),
+    (Asked::Publish, Told::Published(Published::New { k: 1 })),
+];
+
+const SAME_AGAIN: [(Asked, Told); 6] = [
+    (Asked::Look, Told::Published(Published::Same { k: 1 })),
+    (Asked::Remove(1), Told::Replied(2, Reply::Removed)),
+    (Asked::Add(5), Told::Replied(3, Reply::Added { number: 3 })),
+    (Asked::Aim, Told::Aimed(3)),
+    (Asked::Claim, Told::NoJob),
+    (Asked::Publish, Told::Published(Published::New { k: 3 })),
+];
+
+/// A block over a border comes, is built in one tile after it went, and is taken there since nobody has aimed anew.
+const TWO_TILES: [(Asked, Told); 15] = [
+    (Asked::Add(7), Told::Replied(4, Reply::Added { number: 4 })),
+    (Asked::Add(0), Told::Replied(5, Reply::Full { live: 2 })),
+    (Asked::Remove(1), Told::Replied(6, Reply::Dead { number: 1 })),
+    (Asked::Aim, Told::Aimed(6)),
+    (Asked::Claim, Told::Job(1, Some(block_at(5)), 2)),
+    (Asked::Claim, Told::Job(2, Some(block_at(7)), 1)),
+    (Asked::Claim, Told::NoJob),
+    (Asked::Remove(4), Told::Replied(7, Reply::Removed)),
+    (Asked::Submit(2, Some(7)), Told::Submitted(Submitted::Taken)),
+    (Asked::Aim, Told::Aimed(7)),
+    (Asked::Look, Told::Published(Published::NotYet { tile: 2 })),
+    (Asked::BackAll, Told::Nothing),
+    (Asked::Claim, Told::Job(2, None, 0)),
+    (Asked::Submit(2, None), Told::Submitted(Submitted::Taken)),
+    (Asked::Publish, Told::Published(Published::New { k: 7 })),
+];
+
+#[test]
+fn takes_steps(rt: HostRuntime) -> Result<(), AllocError> {
+    let alloc = rt.alloc();
+    let mut desk = opened(alloc)?;
+    check(&rt, &mut desk, alloc, &ONE_BLOCK)?;
+    check(&rt, &mut desk, alloc, &SAME_AGAIN)?;
+    check(&rt, &mut desk, alloc, &TWO_TILES)
+}
