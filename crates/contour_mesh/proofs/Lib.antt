@@ -7,3 +7,6 @@ pub mod PartLaws
 pub mod DoorSteps
 pub mod FacingLaws
 pub mod PlaceLaws
+pub mod SearchLaws
+pub mod RimLaws
+pub mod MeshLaws

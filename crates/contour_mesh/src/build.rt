@@ -68,7 +68,7 @@ fn mesh(
     requires table { IsTableOf free.cells regions.now.regions table.now }
     requires window { IsFieldWindow table.now.window }
     requires parts { All IsPart parts.now }
-    requires each { length parts.now ≡ length regions.now.regions }
+    requires each { length parts.now ≤ length regions.now.regions }
     requires few { length (facets_of parts.now) ≤ 8000000 }
     ensures { IfOk result (λ mesh. (setting : Setting) → table.now.window ≡ tile_window setting free.tile → mesh ≡ parts_mesh setting free regions.now parts.now) }
 {
@@ -95,7 +95,7 @@ fn part_polygons(
 ) -> Result<Items<Polygon>, AllocError>
     requires table { IsTableOf cells.now regions.now.regions table.now }
     requires parts { All IsPart parts.now }
-    requires each { length parts.now ≡ length regions.now.regions }
+    requires each { length parts.now ≤ length regions.now.regions }
     ensures { IfOk result (λ polys. polys ≡ map (facet_polygon cells.now regions.now) (facets_of parts.now)) }
 {
     let footings = footings(alloc, cells, regions, table)?;
