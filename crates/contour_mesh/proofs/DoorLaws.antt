@@ -1,10 +1,10 @@
 -- What the doors of a tile's parts keep.
-use Rattle.std.proofs.Common.{◌≡◌, ℕ, zero, suc, ◌+◌, ◌<◌, ◌≤◌, Bool, true, false, length, List, [], ◌∷◌, map, get_or, ap, ◌∙◌, sym, refl, subst, arith, tests, inl, inr}
-use Rattle.std.specs.Prelude.{All, ◌==◌, ◌&&◌, ◌||◌}
+use Rattle.std.proofs.Common.{◌≡◌, ℕ, ◌+◌, ◌<◌, true, length, List, get_or, ap, ◌∙◌, sym, subst, arith, tests, inl, inr}
+use Rattle.std.specs.Prelude.{All, ◌==◌, ◌&&◌}
 use Rattle.std.specs.List.{range_with_len}
-use Rattle.std.proofs.lemmas.Bool.{and_parts, cases_eq, eq-eqb, eqb-true, ne_eqb, or_cases}
+use Rattle.std.proofs.lemmas.Bool.{and_parts, eqb-true, or_cases}
 use Rattle.std.proofs.lemmas.List.{get_or_default}
-use Rattle.std.proofs.lemmas.List.Elements.{All-map, All-weaker}
+use Rattle.std.proofs.lemmas.List.Elements.{All-map}
 use Rattle.std.proofs.lemmas.List.FromFn.{get_or-range_with_len, length-range_with_len}
 use Rattle.nav_base.specs.declared.point.Point.{Point}
 use Rattle.nav_base.specs.Convex.{corner_at, place_after}
@@ -14,7 +14,7 @@ use Rattle.mesh_types.specs.declared.door.Door.{Door}
 use Rattle.mesh_types.specs.Simplified.{IsOutline}
 use Rattle.mesh_types.specs.Ears.{is_same_point}
 use Rattle.mesh_types.specs.Merging.{edge_end}
-use Rattle.mesh_types.specs.ContourMeshes.{Facet, facets_in, facets_of, doors_of, door_over, facet_doors, no_part, are_facing, share_places, share_corners, names_region}
+use Rattle.mesh_types.specs.ContourMeshes.{Facet, facets_of, doors_of, door_over, facet_doors, no_part, are_facing, share_places, share_corners, names_region}
 use Rattle.mesh_types.proofs.ContourLaws.{same_point, is_same_point-from}
 use Rattle.contour_mesh.specs.Parts.{IsPart, facets_at}
 use Rattle.contour_mesh.specs.Orders.{JoinsCorners, MeetsFacing}

@@ -1,11 +1,11 @@
 -- The polygons and the doors of parts, part by part.
-use Rattle.std.proofs.Common.{◌≡◌, ℕ, ◌+◌, ◌<◌, ◌≤◌, length, List, [], ◌∷◌, ◌++◌, map, take, get_or, Option, ap, ◌∙◌, sym, refl, arith}
-use Rattle.std.proofs.lemmas.List.{append_assoc, get_or-map, get_or_default, length-append, length-map, length-take-le, map-append, take_all}
+use Rattle.std.proofs.Common.{◌≡◌, ℕ, ◌+◌, ◌<◌, ◌≤◌, length, List, ◌++◌, map, take, get_or, Option, ap, ◌∙◌, sym, arith}
+use Rattle.std.proofs.lemmas.List.{append_assoc, get_or-map, get_or_default, length-append, length-map, map-append, take_all}
 use Rattle.mesh_types.specs.declared.door.Part.{Part}
 use Rattle.mesh_types.specs.declared.door.Door.{Door}
 use Rattle.mesh_types.specs.declared.outline.Piece.{Piece}
 use Rattle.mesh_types.specs.declared.polygon.Polygon.{Polygon}
-use Rattle.mesh_types.specs.ContourMeshes.{Facet, facets_in, facets_of, doors_of, facet_doors, no_part, no_facet}
+use Rattle.mesh_types.specs.ContourMeshes.{Facet, facets_in, facets_of, doors_of, facet_doors, no_facet}
 use Rattle.mono_regions.proofs.RunLaws.{map-map}
 use Rattle.contour_mesh.specs.declared.footing.Footing.{Footing}
 use Rattle.contour_mesh.specs.Parts.{numbered, facets_at, facet_over}

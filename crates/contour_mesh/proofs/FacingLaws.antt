@@ -1,5 +1,5 @@
 -- The doors that a door faces, in the order of their beginnings.
-use Rattle.std.proofs.Common.{◌≡◌, ℕ, ◌+◌, ◌<◌, ◌≤◌, Bool, true, false, length, List, [], ◌∷◌, map, drop, filter, get_or, Option, Some, None, ap, ◌∙◌, sym, refl, subst, arith}
+use Rattle.std.proofs.Common.{◌≡◌, ℕ, ◌<◌, Bool, true, false, length, List, drop, filter, get_or, Option, Some, None, ap, ◌∙◌, sym, refl, subst}
 use Rattle.std.specs.Prelude.{All, pos}
 use Rattle.std.specs.Option.{option_map}
 use Rattle.std.specs.List.{find, filter_map}

@@ -1,23 +1,20 @@
 -- Footings of regions, cell by cell.
-use Rattle.std.proofs.Common.{◌≡◌, ℕ, zero, suc, ◌+◌, ◌<◌, ◌≤◌, Bool, true, false, cond, min, max, length, List, [], ◌∷◌, ◌++◌, map, take, drop, filter, get_or, Option, Some, None, ap, ◌∙◌, sym, refl, subst, arith, inl, inr}
+use Rattle.std.proofs.Common.{◌≡◌, ℕ, ◌+◌, ◌<◌, ◌≤◌, true, false, cond, min, max, length, List, [], ◌∷◌, ◌++◌, map, take, drop, filter, get_or, Option, Some, None, ap, ◌∙◌, sym, refl, subst, arith, inl, inr}
 use Rattle.std.specs.Prelude.{◌==◌, nat_lt, fold, unwrap_or}
 use Rattle.std.specs.Option.{option_map_or}
-use Rattle.std.specs.List.{position_or_len}
 use Rattle.std.proofs.lemmas.Bool.{cases_eq, cases_lt, cond-false, cond-true, eq-eqb, le-ltb, lt-ltb, ne_eqb}
 use Rattle.std.proofs.Math.Seq.{take-append_seam}
 use Rattle.std.proofs.lemmas.List.{append-nil, get_or-map, get_or_default, get_or_past}
 use Rattle.std.proofs.lemmas.List.Elements.{filter_more}
 use Rattle.std.proofs.lemmas.List.Sums.{fold-append}
-use Rattle.nav_base.specs.declared.point.Point.{Point}
 use Rattle.nav_ground.specs.declared.cell.Cell.{Cell}
 use Rattle.mesh_types.specs.declared.region.Regions.{Regions}
-use Rattle.mesh_types.specs.declared.polygon.Polygon.{Polygon}
 use Rattle.mesh_types.specs.Contours.{region_at}
 use Rattle.mesh_types.specs.StripMeshes.{first_of, low_of, high_of, some_cell}
 use Rattle.mesh_types.specs.ContourMeshes.{Facet, cells_of, facet_polygon, is_of}
 use Rattle.contour_walk.specs.Tables.{owner_of}
 use Rattle.contour_mesh.specs.declared.footing.Footing.{Footing}
-use Rattle.contour_mesh.specs.Footings.{AreFootings, footing_with, footing_of, footing_at, no_footing, polygon_over, facet_over_footing}
+use Rattle.contour_mesh.specs.Footings.{AreFootings, footing_with, footing_of, no_footing, polygon_over, facet_over_footing}
 
 -- the region of a cell, by the number of the first region that holds it
 pub region_here : (regions : Regions) (cell : Cell) (o : ℕ) → o ≡ owner_of regions.regions cell

@@ -1,5 +1,5 @@
 -- The mesh of a tile by its parts.
-use Rattle.std.proofs.Common.{◌≡◌, ℕ, ◌+◌, ◌-◌, ◌*◌, ◌<◌, ◌≤◌, min, length, map, List, Option, Some, None, pos, ap, ◌∙◌, sym, subst, arith}
+use Rattle.std.proofs.Common.{◌≡◌, ℕ, ◌+◌, ◌-◌, ◌<◌, ◌≤◌, min, length, map, List, Option, Some, None, pos, ap, ◌∙◌, sym, subst, arith}
 use Rattle.std.proofs.lemmas.Int.{ints}
 use Rattle.std.specs.Prelude.{◌≤ℤ◌, ◌<ℤ◌}
 use Rattle.std.specs.Option.{option_map}
@@ -8,7 +8,7 @@ use Rattle.nav_ground.specs.declared.cell.Cell.{Cell}
 use Rattle.nav_ground.specs.declared.cell.Window.{Window}
 use Rattle.nav_ground.specs.declared.cell.FreeLayer.{FreeLayer}
 use Rattle.nav_ground.specs.Limits.{IsSetting}
-use Rattle.nav_ground.specs.Cells.{IsCells, IsCut, IsInTile}
+use Rattle.nav_ground.specs.Cells.{IsCut, IsInTile}
 use Rattle.nav_ground.specs.Tiling.{corner_x, corner_z, tile_window}
 use Rattle.mesh_types.specs.declared.region.Regions.{Regions}
 use Rattle.mesh_types.specs.declared.door.Part.{Part}

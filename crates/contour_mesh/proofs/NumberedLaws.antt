@@ -1,12 +1,11 @@
 -- Lists gathered from the elements of a list and their numbers.
-use Rattle.std.proofs.Common.{◌≡◌, ℕ, zero, suc, ◌+◌, ◌<◌, ◌≤◌, length, List, [], ◌∷◌, ◌++◌, map, take, drop, get_or, ap, ◌∙◌, sym, refl, arith}
+use Rattle.std.proofs.Common.{◌≡◌, ℕ, suc, ◌+◌, ◌<◌, ◌≤◌, length, List, [], ◌∷◌, ◌++◌, take, drop, get_or, ap, ◌∙◌, sym, refl, arith}
 use Rattle.std.specs.Prelude.{All}
 use Rattle.std.specs.List.{flat_map, range_with_len}
 use Rattle.std.proofs.lemmas.List.{append-nil, append_assoc, length-append, length-take-le, take-append-drop, take_more}
-use Rattle.std.proofs.lemmas.List.Elements.{All-append, All-nil, All-tail, All-head}
+use Rattle.std.proofs.lemmas.List.Elements.{All-append, All-nil}
 use Rattle.mesh_types.specs.declared.door.Part.{Part}
-use Rattle.mesh_types.specs.declared.door.Door.{Door}
-use Rattle.mesh_types.specs.ContourMeshes.{Facet, facets_of, facets_in, doors_of, facet_doors, no_part, no_facet}
+use Rattle.mesh_types.specs.ContourMeshes.{Facet, facets_of, doors_of, facet_doors, no_part, no_facet}
 use Rattle.contour_mesh.specs.Parts.{numbered, facets_at}
 
 pub numbered-append : {A B : Type 0} (f : ℕ → A → List B) (n : ℕ) (xs ys : List A)

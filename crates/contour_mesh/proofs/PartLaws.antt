@@ -1,6 +1,6 @@
 -- The parts of regions, one after the other.
-use Rattle.std.proofs.Common.{◌≡◌, ℕ, zero, suc, ◌+◌, ◌<◌, ◌≤◌, Bool, true, false, length, List, [], ◌∷◌, ◌++◌, map, get_or, Option, Some, None, ap, ◌∙◌, sym, refl, arith, inl, inr}
-use Rattle.std.specs.Prelude.{All, is_some, if◌then◌else◌}
+use Rattle.std.proofs.Common.{◌≡◌, ℕ, zero, suc, ◌+◌, ◌<◌, ◌≤◌, Bool, true, length, List, [], ◌∷◌, ◌++◌, get_or, Option, Some, None, ap, ◌∙◌, sym, refl, arith, inl, inr}
+use Rattle.std.specs.Prelude.{All, is_some}
 use Rattle.std.specs.List.{cons_option, filter_map, list_all, range_with_len}
 use Rattle.std.proofs.lemmas.Bool.{and_from, cases_lt, cond-false, cond-true}
 use Rattle.std.proofs.lemmas.List.Elements.{All-append, All-cons, All-nil, filter_map-append}

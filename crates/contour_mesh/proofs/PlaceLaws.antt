@@ -1,8 +1,7 @@
 -- Lists in the order of places: what stands first at a place.
-use Rattle.std.proofs.Common.{◌≡◌, ℕ, ◌+◌, ◌<◌, ◌≤◌, Bool, true, false, length, List, [], ◌∷◌, get_or, Option, Some, None, ap, ◌∙◌, sym, refl, arith, inl, inr}
-use Rattle.std.specs.Prelude.{All, ◌==◌, ◌&&◌}
+use Rattle.std.proofs.Common.{◌≡◌, ℕ, ◌<◌, ◌≤◌, true, false, length, List, get_or, Some, None, ap, ◌∙◌, sym, refl, arith, inl, inr}
+use Rattle.std.specs.Prelude.{◌==◌, ◌&&◌}
 use Rattle.std.specs.Option.{option_map}
-use Rattle.std.specs.List.{find}
 use Rattle.std.specs.List.Sorted.{IsPartitionedBy, IsSortedBy, ties}
 use Rattle.std.specs.Ordering.{is_lt, nat_cmp, on, ordering_reverse, ordering_then}
 use Rattle.std.specs.declared.cmp.Ordering.{Ordering}
@@ -17,9 +16,8 @@ use Rattle.nav_ground.proofs.Found.{find_is, find_none}
 use Rattle.contour_mesh.specs.declared.side_place.SidePlace.{SidePlace}
 use Rattle.contour_mesh.specs.declared.side_place.Placed.{Placed}
 use Rattle.contour_mesh.specs.SidePlaces.{place_cmp, is_place_before, is_same_place, stands_before, stands_at, first_at}
-use Rattle.contour_mesh.proofs.SortLaws.{behind_all, find-sorted, not_itself, tie-from}
+use Rattle.contour_mesh.proofs.SortLaws.{find-sorted, not_itself, tie-from}
 use Rattle.contour_mesh.specs.Orders.{IsSortOf}
-use Rattle.std.proofs.lemmas.List.Elements.{All-weaker}
 
 place_total : IsTotalOrder place_cmp
 place_total =
@@ -80,7 +78,6 @@ ahead_differs a place ahead =
 
 module _ {T : Type 0} (xs : List (Placed T)) (place : SidePlace) (first : ℕ)
     (ahead : (k : ℕ) (d : Placed T) → k < first → is_place_before (get_or xs k d).place place ≡ true) where
-
   pub first_there : (e : Placed T) → first < length xs → is_same_place (get_or xs first e).place place ≡ true → Some (get_or xs first e).item ≡ first_at xs place
   first_there e there same =
       ap (option_map (λ (p : Placed T). p.item))

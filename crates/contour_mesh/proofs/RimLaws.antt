@@ -1,9 +1,9 @@
 -- The rim of a tile by its tables is the rim by the definition.
-use Rattle.std.proofs.Common.{◌≡◌, ℕ, zero, suc, ◌+◌, ◌-◌, ◌<◌, ◌≤◌, Bool, true, false, cond, length, List, [], ◌∷◌, ◌++◌, map, filter, get_or, Option, Some, None, ap, ◌∙◌, sym, refl, arith, tests, inl, inr}
+use Rattle.std.proofs.Common.{◌≡◌, ℕ, ◌+◌, ◌-◌, ◌<◌, Bool, true, false, cond, List, [], ◌∷◌, ◌++◌, map, filter, Option, Some, None, ap, ◌∙◌, sym, refl, arith, tests, inl, inr}
 use Rattle.std.specs.Prelude.{◌==◌, ◌&&◌, nat_le, nat_lt, is_some, unwrap_or}
 use Rattle.std.specs.Option.{option_map, option_map_or, option_or}
 use Rattle.std.specs.List.{find, flat_map, list_any, range_with_len}
-use Rattle.std.proofs.lemmas.Bool.{and_left, and_parts, and_right, both_ways, cases_Bool, cases_eq, eq-eqb, eqb-true, false_from_ne_true, ne_eqb}
+use Rattle.std.proofs.lemmas.Bool.{and_left, and_parts, and_right, cases_eq, eq-eqb, eqb-true, false_from_ne_true, ne_eqb}
 use Rattle.std.proofs.lemmas.List.Folds.{find-append}
 use Rattle.nav_ground.specs.declared.cell.Cell.{Cell}
 use Rattle.nav_ground.specs.declared.cell.Window.{Window}
@@ -23,7 +23,7 @@ use Rattle.contour_mesh.specs.declared.side_place.SidePlace.{SidePlace}
 use Rattle.contour_mesh.specs.declared.side_place.Placed.{Placed}
 use Rattle.contour_mesh.specs.declared.side_tables.SideTables.{SideTables}
 use Rattle.contour_mesh.specs.SidePlaces.{cell_at_side, cell_places, crossings_in, door_at, door_places, first_at, placed_cells, placed_doors, stands_at}
-use Rattle.contour_mesh.specs.RimTables.{AreSideTables, entries_in, entries_on, entry_in, is_listed_in, labels_in, pair_in, place_of, rim_in}
+use Rattle.contour_mesh.specs.RimTables.{AreSideTables, entries_in, entries_on, entry_in, is_listed_in, pair_in, place_of, rim_in}
 use Rattle.contour_mesh.proofs.FacingLaws.{no_door}
 use Rattle.contour_mesh.proofs.PlaceLaws.{first_of_sort}
 use Rattle.contour_mesh.proofs.SearchLaws.{find-at, none-made, in_kept, in_range, none_passes}
@@ -199,7 +199,6 @@ module _ (window : Window) (region side position : ℕ) (small : side < 4) where
 
 module _ (window : Window) (cells : List Cell) (regions : Regions) (doors : List Door) (tables : SideTables)
     (made : AreSideTables window cells regions doors tables) where
-
   module _ (door : Door) (side : ℕ) (small : side < 4) where
     cell_there : (position : ℕ) → first_at tables.cells (place_of door side position) ≡ crossing_cell window cells regions door.region side position
     cell_there position =

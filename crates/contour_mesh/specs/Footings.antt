@@ -1,5 +1,5 @@
 -- Footings: what the cells of a region give its polygons.
-use Rattle.std.specs.Prelude.{◌≡◌, ℕ, ◌≤◌, min, max, List, length, map, fold, get_or, Option, None, Some, unwrap_or}
+use Rattle.std.specs.Prelude.{◌≡◌, ℕ, min, max, List, length, map, fold, get_or, Option, None, Some, unwrap_or}
 use Rattle.nav_base.specs.declared.point.Point.{Point}
 use Rattle.nav_base.specs.Convex.{corner_at}
 use Rattle.nav_ground.specs.declared.cell.Cell.{Cell}

@@ -1,5 +1,5 @@
 -- Parts: regions with an outline that can be cut, and the facets and doors of their pieces.
-use Rattle.std.specs.Prelude.{◌≡◌, ℕ, ◌+◌, List, [], ◌∷◌, ◌++◌, All}
+use Rattle.std.specs.Prelude.{ℕ, ◌+◌, List, [], ◌∷◌, ◌++◌, All}
 use Rattle.mesh_types.specs.declared.outline.Outline as outlines
 use Rattle.mesh_types.specs.declared.door.Part.{Part}
 use Rattle.mesh_types.specs.Simplified.{IsOutline}

@@ -14,7 +14,6 @@ use Rattle.mesh_types.specs.Runs.{runs_of, label_if}
 use Rattle.mesh_types.specs.StripMeshes.{some_cell, level_pair}
 use Rattle.mesh_types.specs.ContourMeshes.{first_position, is_same_door, positions_of, side_of}
 use Rattle.contour_mesh.specs.declared.side_place.SidePlace.{SidePlace}
-use Rattle.contour_mesh.specs.declared.side_place.Placed.{Placed}
 use Rattle.contour_mesh.specs.declared.side_tables.SideTables.{SideTables}
 use Rattle.contour_mesh.specs.Orders.{IsSortOf}
 use Rattle.contour_mesh.specs.SidePlaces.{first_at, stands_before, placed_doors, placed_cells}

@@ -45,7 +45,13 @@ pub fn contour_mesh_over(
 {
     let regions = regions(alloc, &free)?;
     let table = region_table(alloc, &free, setting, &regions)?;
-    let parts = parts(alloc, free.cells.as_slice(), &regions, &table, setting.error)?;
+    let parts = parts(
+        alloc,
+        free.cells.as_slice(),
+        &regions,
+        &table,
+        setting.error,
+    )?;
     match parts {
         None => Ok(ContourMesh::NotCut(free)),
         Some(parts) => {
@@ -75,7 +81,15 @@ fn mesh(
     let cells = free.cells.as_slice();
     let polys = part_polygons(alloc, cells, regions, table, parts)?;
     let doors = doors(alloc, parts)?;
-    let WaysOut { links, rim } = ways(alloc, cells, regions, table, doors.as_slice(), free.tile, polys.len() as u32)?;
+    let WaysOut { links, rim } = ways(
+        alloc,
+        cells,
+        regions,
+        table,
+        doors.as_slice(),
+        free.tile,
+        polys.len() as u32,
+    )?;
     Ok(TileMesh {
         tile: free.tile,
         free,

@@ -37,7 +37,11 @@ pub fn placed_cells(
 fn region_of(owner: u32, count: usize) -> Option<u32>
     ensures { result ≡ (if nat_lt owner count then Some owner else None) }
 {
-    if (owner as usize) < count { Some(owner) } else { None }
+    if (owner as usize) < count {
+        Some(owner)
+    } else {
+        None
+    }
 }
 
 /// Appends a cell of a region at its position on each side across which it has a kept neighbour.

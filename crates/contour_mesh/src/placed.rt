@@ -76,11 +76,7 @@ fn push_door(
     Ok(())
 }
 
-fn push_positions(
-    placed: &mut Vec<Placed<Door>>,
-    door: &Door,
-    side: u32,
-) -> Result<(), AllocError>
+fn push_positions(placed: &mut Vec<Placed<Door>>, door: &Door, side: u32) -> Result<(), AllocError>
     ensures { OnOk result (placed.new.items ≡ placed.old.items ++ map (door_at door.now side) (positions_of side door.now)) }
 {
     for position in first_position(side, door)..end_position(side, door) {

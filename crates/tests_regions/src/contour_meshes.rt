@@ -134,10 +134,7 @@ fn check_pair(rt: &impl Abort, polys: &[Polygon]) {
 /// The polygon that a link leaves, the edge, the polygon entered, and the right and the left end of the portal.
 type LinkRow = (u32, u32, u32, (i32, i32), (i32, i32));
 
-const LINKS: [LinkRow; 2] = [
-    (0, 3, 1, (64, 32), (48, 32)),
-    (1, 0, 0, (48, 32), (64, 32)),
-];
+const LINKS: [LinkRow; 2] = [(0, 3, 1, (64, 32), (48, 32)), (1, 0, 0, (48, 32), (64, 32))];
 
 fn check_links(rt: &impl Abort, links: &[Link], rows: &[LinkRow]) {
     assert_eq!(rt; links.len(), rows.len());

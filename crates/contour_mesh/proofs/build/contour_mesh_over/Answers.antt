@@ -1,4 +1,4 @@
-use Rattle.std.proofs.Common.{◌≡◌, ◌∙◌, List, Option, Some, ap, refl, subst, sym}
+use Rattle.std.proofs.Common.{◌∙◌, List, Option, Some, ap, refl, subst, sym}
 use Rattle.std.specs.Prelude.{All, IfSome}
 use Rattle.mesh_types.specs.declared.door.Part.{Part}
 use Rattle.mesh_types.specs.Regions.{AreRegionsOf}
@@ -10,7 +10,7 @@ use Rattle.contour_mesh.proofs.build.contour_mesh_over.Goals as goal
 pub returns-in-None-clause-value : goal.returns-in-None-clause-value
 returns-in-None-clause-value c = (
   no_mesh c.args.setting.now c.args.free c.requires.cells c.requires.tile c.in_ok-regions.regions c.in_ok-regions.ensures.kept c.in_ok-table.table.window
-  c.in_ok-table.ensures.window c.as_slice.result.now c.as_slice.ensures c.in_ok-regions.ensures.regions (sym c.in-None.is ∙ c.in_ok-parts.ensures.value),
+      c.in_ok-table.ensures.window c.as_slice.result.now c.as_slice.ensures c.in_ok-regions.ensures.regions (sym c.in-None.is ∙ c.in_ok-parts.ensures.value),
   refl,
 )
 

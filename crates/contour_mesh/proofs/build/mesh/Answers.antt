@@ -1,4 +1,4 @@
-use Rattle.std.proofs.Common.{◌≡◌, ℕ, ◌<◌, ◌∙◌, List, length, map, ap, arith, subst, sym}
+use Rattle.std.proofs.Common.{◌≡◌, ◌<◌, ◌∙◌, List, length, map, ap, arith, subst, sym}
 use Rattle.std.specs.Prelude.{All}
 use Rattle.std.proofs.lemmas.List.{length-map}
 use Rattle.std.proofs.lemmas.List.Elements.{All-weaker}
@@ -8,7 +8,7 @@ use Rattle.mesh_types.specs.declared.door.Door.{Door}
 use Rattle.mesh_types.specs.ContourMeshes.{doors_of, facet_polygon, facets_of}
 use Rattle.contour_walk.proofs.Contoured.{few_regions}
 use Rattle.contour_mesh.specs.Parts.{IsPart}
-use Rattle.contour_mesh.specs.Orders.{JoinsCorners, MeetsFacing}
+use Rattle.contour_mesh.specs.Orders.{JoinsCorners}
 use Rattle.contour_mesh.proofs.DoorLaws.{IsDoorOf, all_meet, doors_all}
 use Rattle.contour_mesh.proofs.MeshLaws.{mesh_of_parts}
 use Rattle.contour_mesh.proofs.build.mesh.Goals as goal

@@ -1,4 +1,4 @@
-use Rattle.std.proofs.Common.{ℕ, ◌∙◌, ◌++◌, [], List, Option, ap, get_or, sym, cond, None, Some}
+use Rattle.std.proofs.Common.{ℕ, ◌∙◌, ◌++◌, [], Option, ap, get_or, sym, cond, None, Some}
 use Rattle.std.specs.Prelude.{nat_lt}
 use Rattle.std.specs.Option.{option_map_or}
 use Rattle.mesh_types.specs.StripMeshes.{some_cell}

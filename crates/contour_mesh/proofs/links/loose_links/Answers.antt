@@ -1,4 +1,4 @@
-use Rattle.std.proofs.Common.{◌∙◌, ◌++◌, [], List, Option, ap, get_or}
+use Rattle.std.proofs.Common.{◌∙◌, ◌++◌, [], Option, ap, get_or}
 use Rattle.std.specs.Option.{option_map}
 use Rattle.std.specs.List.{cons_option}
 use Rattle.mesh_types.specs.declared.door.Door.{Door}

@@ -34,7 +34,7 @@ returns-clause-inside c =
       arith,
       ap length made,
       length-map-range_with_len (λ position. label_if (is_listed_in c.args.tables.now door side position)) (first_position side door)
-      (end_position side door - first_position side door),
+          (end_position side door - first_position side door),
       c.first_position-position.ensures,
       c.end_position-position-end.ensures,
       c.first_position-position.type_inv,
