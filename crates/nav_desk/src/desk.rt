@@ -254,8 +254,7 @@ fn empty_lists(alloc: Global, count: u32) -> Result<Vec<Items<Shape>>, AllocErro
     ensures { IfOk result (λ lists. lists.items ≡ replicate count []) }
 {
     let mut lists = Vec::with_capacity(alloc, count as usize)?;
-    for i in 0..count {
-        let _ = i;
+    for _tile in 0..count {
         lists.push(Items::new(alloc))?;
     }
     Ok(lists)
