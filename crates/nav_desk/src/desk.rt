@@ -26,11 +26,14 @@ use std::sync::Arc;
 pub struct Desk {
     level: Arc<Ground>,
     entries: Vec<Entry>,
+    /// The obstacles that are alive after all entries.
     live: Vec<Live>,
     target: u32,
     published: u32,
+    /// The shapes that are alive at the target.
     aimed: Vec<Shape>,
     stored: Vec<Items<Shape>>,
+    /// The tiles that a shape touches which came or went since the target.
     dirty: LeastSet,
     waiting: WaitingTiles,
 }
