@@ -26,7 +26,7 @@ flag_is c = sym (ap (λ (w : Waiting). flag_of w.awaited c.args.tile) c.set_clai
 
 same_is : (c : goal.After-set_awaited) → are_same c.args.shapes (touching_shapes (arc_value c.self.inside.level).setting c.args.tile c.self.inside.aimed.items) ≡ true
 same_is c =
-    let touching = rw (c.deref.ensures, c.as_slice.ensures.value, c.as_slice-2.ensures) at c.is_touching_list.ensures in
+    let touching = rw (c.deref.ensures, c.as_slice.ensures.value, c.as_slice-2.ensures) at c.is_touching_list.ensures.test in
     sym touching ∙ c.if-not-is_touching_list.false
 
 pub returns-clause-answer : goal.returns-clause-answer
@@ -100,7 +100,7 @@ returns-then-not-is_awaited-clause-rules c = is_book _ (invariant_of-self c)
 not_same : (c : goal.After-drop-shapes-inside-then-not-is_touching_list) → is_taken (state_of c.self.inside) c.args.tile c.args.shapes ≡ false
 not_same c =
     let there = rw (← c.self.view_is) at c.requires in
-    let touching = rw (c.deref.ensures, c.as_slice.ensures.value, c.as_slice-2.ensures) at c.is_touching_list.ensures in
+    let touching = rw (c.deref.ensures, c.as_slice.ensures.value, c.as_slice-2.ensures) at c.is_touching_list.ensures.test in
     is_taken_is c.self.inside c.args.tile c.args.shapes true false c.self.invariant there
     (sym (ap (λ (w : Waiting). flag_of w.awaited c.args.tile) c.set_claimed.ensures) ∙ sym c.is_awaited.ensures ∙ c.if-not-is_awaited.false)
     (sym touching ∙ c.if-not-is_touching_list.true)
