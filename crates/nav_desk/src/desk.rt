@@ -188,7 +188,7 @@ impl Desk {
     }
 
     /// What a publish is answered now: `NotYet` with the least awaited tile, else `Same` where the target is published already, else `New`.
-    /// Nothing changes.
+    /// Nothing changes but the place from which the next look for that tile goes on, which no caller sees.
     pub fn publication(&mut self) -> Published
         ensures answer { result ≡ Rattle.nav_desk.specs.Steps.publication self.old }
         ensures same { self.new ≡ self.old }
@@ -227,7 +227,7 @@ impl Desk {
         self.entries.len() as u32
     }
 
-    /// How many entries the tiles are built for.
+    /// How many entries the history had at the last aim.
     pub fn target(&self) -> u32
         ensures value { result ≡ self.now.target }
         ensures within { result ≤ length self.now.history }
