@@ -3,8 +3,8 @@ use Rattle.std.proofs.Common.{◌≡◌, ◌≢◌, ℕ, zero, suc, ◌+◌, ◌
 use Rattle.std.specs.Prelude.{if◌then◌else◌}
 use Rattle.std.proofs.lemmas.Bool.{both_ways, cases_eq, cases_lt}
 use Rattle.std.proofs.lemmas.List.{length-set, get_or-set_same, get_or-set_other, drop_more, set_at, length-replicate, replicate_more, append_assoc}
-use Rattle.nav_desk.specs.Flags.{flag_of, IsStart}
-use Rattle.nav_desk.specs.Waiting.{Waiting}
+use Rattle.nav_desk.specs.Flags.{flag_of}
+use Rattle.nav_desk.specs.Waiting.{Waiting, IsStart}
 
 -- a flag that was written, and the others
 pub flag_written : (flags : List Bool) (tile : ℕ) (b : Bool) → tile < length flags → flag_of (set flags tile b) tile ≡ b

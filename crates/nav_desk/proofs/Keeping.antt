@@ -1,8 +1,9 @@
 -- What the fields of a desk tell of the state that it is seen as.
-use Rattle.std.proofs.Common.{◌≡◌, ◌≢◌, ℕ, ◌<◌, Bool, true, false, not, ◌&&◌, List, [], length, get_or, Option, None, Some, ap, sym, ◌∙◌, refl, subst}
+use Rattle.std.proofs.Common.{◌≡◌, ◌≢◌, ℕ, ◌<◌, Bool, true, false, not, ◌&&◌, List, [], length, get_or, Option, None, Some, ap, sym, ◌∙◌, refl, subst, ⊎_elim, arith}
 use Rattle.std.specs.Prelude.{All, if◌then◌else◌, slice_set, option_map}
 use Rattle.std.specs.Option.{option_map_or}
-use Rattle.std.proofs.lemmas.Bool.{eq-eqb, ne_eqb}
+use Rattle.std.proofs.lemmas.Bool.{cases_eq, eq-eqb, ne_eqb}
+use Rattle.std.proofs.lemmas.List.{get_or-set_same, get_or-set_other}
 use Rattle.std.proofs.lemmas.List.Elements.{All-filter}
 use Rattle.std.specs.Arc.{arc_value}
 use Rattle.nav_ground.specs.declared.setting.Setting.{Setting}
@@ -13,12 +14,13 @@ use Rattle.nav_ground.specs.Touching.{is_touching, touching_shapes}
 use Rattle.nav_desk.specs.declared.desk.Desk.TheInside.{Inside}
 use Rattle.nav_desk.specs.declared.answers.Published.TheVariants.{New, Same}
 use Rattle.nav_desk.specs.Awaiting.{awaits}
-use Rattle.nav_desk.specs.BookState.{BookState, IsBook, is_awaited, is_claimable, least_awaited, least_claimable}
+use Rattle.nav_desk.specs.BookState.{BookState, IsBook, is_awaited, is_claimable, least_awaited, least_claimable, wanted_at}
 use Rattle.nav_desk.specs.Flags.{flag_of, least_below}
 use Rattle.nav_desk.specs.Representation.{state_of, IsKept}
 use Rattle.nav_desk.specs.SameShapes.{are_same}
-use Rattle.nav_desk.specs.Steps.{IsJob, after_claim, job_of, next_job, publication, publication_by}
-use Rattle.nav_desk.specs.Waiting.{is_ready, least_ready}
+use Rattle.nav_desk.specs.Steps.{IsJob, after_claim, job_of, is_taken, next_job, publication, publication_by}
+use Rattle.nav_desk.specs.Waiting.{Waiting, is_ready, least_ready}
+use Rattle.nav_desk.proofs.FlagLaws.{flag_written, flag_other}
 use Rattle.nav_desk.proofs.Histories.{alive_limits}
 use Rattle.nav_desk.proofs.Leasts.{least_below-same, least_passes}
 
@@ -98,3 +100,52 @@ job_fits inside tile shapes kept found is = record {
   there = (least_passes (tile_count (arc_value inside.level).setting) tile (is_claimable (state_of inside)) found).0;
   limits = subst (All IsShape) (sym is) (All-filter (is_touching (arc_value inside.level).setting tile) IsShape inside.aimed.items (aimed_limits inside kept));
 }
+
+-- where only claims have changed, all is kept
+pub kept_claims : (inside : Inside) (waiting : Waiting) → IsKept inside → waiting.awaited ≡ inside.waiting.awaited
+    → length waiting.claimed ≡ length inside.waiting.claimed → IsKept (record inside { waiting = waiting })
+kept_claims inside waiting kept same each = record {
+  level = kept.level;
+  history = kept.history;
+  room = kept.room;
+  table = kept.table;
+  few = kept.few;
+  live_room = kept.live_room;
+  aims = kept.aims;
+  shows = kept.shows;
+  shapes = kept.shapes;
+  aimed_room = kept.aimed_room;
+  lists = kept.lists;
+  marks = kept.marks;
+  flags = ap length same ∙ kept.flags;
+  claims = each ∙ kept.claims;
+  clean = kept.clean;
+  awaited = λ tile there. ap (λ (flags : List Bool). flag_of flags tile) same ∙ kept.awaited tile there;
+}
+
+-- a list is taken where its tile's flag is set and it has the shapes that touch the tile
+pub is_taken_is : (inside : Inside) (tile : ℕ) (shapes : List Shape) (flag same : Bool) → IsKept inside → tile < tile_count (arc_value inside.level).setting
+    → flag_of inside.waiting.awaited tile ≡ flag → are_same shapes (touching_shapes (arc_value inside.level).setting tile inside.aimed.items) ≡ same
+    → is_taken (state_of inside) tile shapes ≡ (flag && same)
+is_taken_is inside tile shapes flag same kept there flag_is same_is =
+    ap (λ b. b && are_same shapes (wanted_at (state_of inside) tile)) (sym (awaited_flag inside tile kept there) ∙ flag_is)
+    ∙ ap (λ b. flag && b)
+    (sym (ap (λ (list : List Shape). are_same shapes (touching_shapes (arc_value inside.level).setting tile list)) kept.shapes) ∙ same_is)
+
+-- and then its tile is awaited no more
+pub awaited_after : (inside : Inside) (tile : ℕ) (shapes : List Shape) → IsKept inside → tile < tile_count (arc_value inside.level).setting
+    → are_same shapes (touching_shapes (arc_value inside.level).setting tile inside.aimed.items) ≡ true
+    → (k : ℕ) → k < tile_count (arc_value inside.level).setting
+    → flag_of (slice_set inside.waiting.awaited tile false) k
+    ≡ awaits (arc_value inside.level).setting inside.aimed.items k (get_or (slice_set inside.stored.items tile shapes) k [])
+awaited_after inside tile shapes kept there same k within = ⊎_elim
+    (λ here.
+    ap (flag_of (slice_set inside.waiting.awaited tile false)) here
+    ∙ flag_written inside.waiting.awaited tile false (omega (arith, there, kept.flags))
+    ∙ sym (ap not same)
+    ∙ sym (ap (λ (list : List Shape). awaits (arc_value inside.level).setting inside.aimed.items tile list) (get_or-set_same inside.stored.items tile shapes [] (omega (arith, there, kept.lists))))
+    ∙ sym (ap (λ n. awaits (arc_value inside.level).setting inside.aimed.items n (get_or (slice_set inside.stored.items tile shapes) n [])) here))
+    (λ apart.
+    flag_other inside.waiting.awaited tile k false apart ∙ kept.awaited k within
+    ∙ sym (ap (λ (list : List Shape). awaits (arc_value inside.level).setting inside.aimed.items k list) (get_or-set_other inside.stored.items tile k shapes [] apart)))
+    (cases_eq k tile)

@@ -67,3 +67,6 @@ same_shape_decides a b = (same_from a b, λ same. subst (λ (c : Shape). is_same
 
 pub same_lists_decide : (shapes others : List Shape) → Decides (are_same shapes others) (shapes ≡ others)
 same_lists_decide shapes others = slice_eq-Decides same_shape_decides shapes others (are_same shapes others) refl
+
+pub test_decides : (shapes others : List Shape) (r : Bool) → r ≡ are_same shapes others → Decides r (shapes ≡ others)
+test_decides shapes others r is = slice_eq-Decides same_shape_decides shapes others r is

@@ -1,4 +1,5 @@
--- Awaiting: a tile stored with a list awaits a build where the shapes that touch it are others.
+-- Awaiting, said of the shapes at hand: a tile stored with a list is awaited where the shapes that touch it are others. Over a state it is
+-- `is_awaited`.
 use Rattle.std.specs.Prelude.{ℕ, Bool, not, List}
 use Rattle.nav_ground.specs.declared.setting.Setting.{Setting}
 use Rattle.nav_ground.specs.declared.shape.Shape.{Shape}

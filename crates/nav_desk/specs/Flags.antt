@@ -1,5 +1,5 @@
 -- Flags, one a tile, and the least number that passes a test.
-use Rattle.std.specs.Prelude.{◌≡◌, ℕ, ◌<◌, ◌≤◌, ◌^◌, Bool, false, List, length, find, Option, slice_index_or}
+use Rattle.std.specs.Prelude.{ℕ, Bool, false, List, find, Option, slice_index_or}
 use Rattle.std.specs.List.{range_with_len}
 
 -- the flag of a tile; false where there is none
@@ -9,9 +9,3 @@ flag_of flags tile = slice_index_or flags tile false
 -- the least number below a count that passes a test
 abbrev pub least_below : ℕ → (ℕ → Bool) → Option ℕ
 least_below count test = find test (range_with_len 0 count)
-
--- looking for the least flag that is set may start at a place: none before it is set
-pub record IsStart (flags : List Bool) (start : ℕ) : Type 0 where
-  pub few : length flags < 2 ^ 32
-  pub within : start ≤ length flags
-  pub none : (tile : ℕ) → tile < start → flag_of flags tile ≡ false

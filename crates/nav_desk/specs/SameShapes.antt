@@ -14,6 +14,6 @@ is_same_shape (AreaCylinder area cx cz r y0 y1) (AreaCylinder other dx dz s b0 b
     area == other && (cx == dx && (cz == dz && (r == s && (y0 == b0 && y1 == b1))))
 is_same_shape shape other = false
 
--- two lists have the same shapes in the same order
+-- two lists have the same shapes in the same order: they are equal, and the test tells so exactly (clause `own` of `is_touching_list`)
 abbrev pub are_same : List Shape → List Shape → Bool
 are_same shapes others = pointwise is_same_shape shapes others

@@ -26,11 +26,14 @@ use std::sync::Arc;
 pub struct Desk {
     level: Arc<Ground>,
     entries: Vec<Entry>,
+    /// The obstacles that are alive after all entries.
     live: Vec<Live>,
     target: u32,
     published: u32,
+    /// The shapes that are alive at the target.
     aimed: Vec<Shape>,
     stored: Vec<Items<Shape>>,
+    /// The tiles that a shape touches which came or went since the target.
     dirty: LeastSet,
     waiting: WaitingTiles,
 }
@@ -185,7 +188,7 @@ impl Desk {
     }
 
     /// What a publish is answered now: `NotYet` with the least awaited tile, else `Same` where the target is published already, else `New`.
-    /// Nothing changes.
+    /// Nothing changes but the place from which the next look for that tile goes on, which no caller sees.
     pub fn publication(&mut self) -> Published
         ensures answer { result ≡ Rattle.nav_desk.specs.Steps.publication self.old }
         ensures same { self.new ≡ self.old }
@@ -224,7 +227,7 @@ impl Desk {
         self.entries.len() as u32
     }
 
-    /// How many entries the tiles are built for.
+    /// How many entries the history had at the last aim.
     pub fn target(&self) -> u32
         ensures value { result ≡ self.now.target }
         ensures within { result ≤ length self.now.history }
@@ -254,8 +257,7 @@ fn empty_lists(alloc: Global, count: u32) -> Result<Vec<Items<Shape>>, AllocErro
     ensures { IfOk result (λ lists. lists.items ≡ replicate count []) }
 {
     let mut lists = Vec::with_capacity(alloc, count as usize)?;
-    for i in 0..count {
-        let _ = i;
+    for _tile in 0..count {
         lists.push(Items::new(alloc))?;
     }
     Ok(lists)

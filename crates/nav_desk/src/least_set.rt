@@ -17,7 +17,7 @@ pub(crate) struct LeastSet {
 
 impl Model for LeastSet {
     ghost use Rattle.std.specs.Prelude.{Bool, List};
-    ghost use Rattle.nav_desk.specs.Flags.{IsStart};
+    ghost use Rattle.nav_desk.specs.Waiting.{IsStart};
 
     ghost Value = { List Bool };
 

@@ -41,7 +41,8 @@ pub(crate) fn is_touching_list(
     requires setting { IsSetting setting.now }
     requires there { tile < tile_count setting.now }
     requires shapes { All IsShape shapes.now }
-    ensures { result ≡ are_same list.now (touching_shapes setting.now tile shapes.now) }
+    ensures test { result ≡ are_same list.now (touching_shapes setting.now tile shapes.now) }
+    ensures own { IsTrue result ↔ (list.now ≡ touching_shapes setting.now tile shapes.now) }
 {
     let mut place = 0;
     for shape in shapes {

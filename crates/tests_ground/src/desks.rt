@@ -7,8 +7,10 @@ ghost use Rattle.nav_ground.specs.Limits.{IsShape};
 ghost use Rattle.nav_ground.specs.Tiling.{tile_count};
 
 use layer_cut::ground;
-use nav_desk::{Desk, Published, Submitted};
-use nav_ground::{AREAS, Agent, Field, MeshKind, Reply, Request, Setting, Shape, TileNo, tiles};
+use nav_desk::{Desk, HistoryFull, Published, Submitted};
+use nav_ground::{
+    AREAS, Agent, Field, HISTORY_LIMIT, MeshKind, Reply, Request, Setting, Shape, TileNo, tiles,
+};
 use nav_list::Items;
 use std::alloc::{AllocError, Global};
 use std::process::Abort;
@@ -28,28 +30,17 @@ enum Asked {
     Publish,
 }
 
-/// What it is answered; of a job the tile and the block, the first one where there are several, and how many there are.
+/// What it is answered; of a job the tile, the x of its first block, and how many blocks there are.
 #[derive(Clone, Copy, PartialEq, Eq, Debug)]
 enum Told {
     Replied(u32, Reply),
     HistoryFull,
     Aimed(u32),
     NoJob,
-    Job(TileNo, Option<Shape>, u32),
+    Job(TileNo, Option<u32>, usize),
     Nothing,
     Submitted(Submitted),
     Published(Published),
-}
-
-const fn block_at(x: u32) -> Shape {
-    Shape::Block {
-        x0: x,
-        x1: x + 1,
-        y0: 0,
-        y1: 100,
-        z0: 1,
-        z1: 1,
-    }
 }
 
 /// The desk of an empty ground whose three tiles have sides of 4 columns, where two obstacles may be alive.
@@ -101,7 +92,7 @@ fn block(x: u32) -> Shape
     }
 }
 
-fn told(desk: &mut Desk, alloc: Global, asked: Asked) -> Result<Told, AllocError> {
+fn ask(desk: &mut Desk, alloc: Global, asked: Asked) -> Result<Told, AllocError> {
     match asked {
         Asked::Add(x) => Ok(replied(desk, Request::Add(block(x)))),
         Asked::Remove(number) => Ok(replied(desk, Request::Remove(number))),
@@ -131,11 +122,14 @@ fn claimed(desk: &mut Desk, alloc: Global) -> Result<Told, AllocError> {
     let Some(job) = desk.claim(alloc)? else {
         return Ok(Told::NoJob);
     };
-    Ok(Told::Job(
-        job.tile,
-        job.shapes.get(0).copied(),
-        job.shapes.len() as u32,
-    ))
+    Ok(Told::Job(job.tile, first_x(job.shapes.as_slice()), job.shapes.len()))
+}
+
+fn first_x(shapes: &[Shape]) -> Option<u32> {
+    match shapes.first() {
+        Some(Shape::Block { x0, .. }) => Some(*x0),
+        _ => None,
+    }
 }
 
 fn is_there(desk: &Desk, tile: TileNo) -> bool
@@ -186,7 +180,7 @@ fn check(
     rows: &[(Asked, Told)],
 ) -> Result<(), AllocError> {
     for (asked, wanted) in rows {
-        let found = told(desk, alloc, *asked)?;
+        let found = ask(desk, alloc, *asked)?;
         assert!(rt; found == *wanted);
     }
     Ok(())
@@ -198,10 +192,10 @@ const ONE_BLOCK: [(Asked, Told); 12] = [
     (Asked::Add(5), Told::Replied(1, Reply::Added { number: 1 })),
     (Asked::Aim, Told::Aimed(1)),
     (Asked::Look, Told::Published(Published::NotYet { tile: 1 })),
-    (Asked::Claim, Told::Job(1, Some(block_at(5)), 1)),
+    (Asked::Claim, Told::Job(1, Some(5), 1)),
     (Asked::Claim, Told::NoJob),
     (Asked::Back(1), Told::Nothing),
-    (Asked::Claim, Told::Job(1, Some(block_at(5)), 1)),
+    (Asked::Claim, Told::Job(1, Some(5), 1)),
     (Asked::Submit(1, None), Told::Submitted(Submitted::Stale)),
     (Asked::Submit(1, Some(5)), Told::Submitted(Submitted::Taken)),
     (Asked::Submit(1, Some(5)), Told::Submitted(Submitted::Stale)),
@@ -221,10 +215,13 @@ const SAME_AGAIN: [(Asked, Told); 6] = [
 const TWO_TILES: [(Asked, Told); 15] = [
     (Asked::Add(7), Told::Replied(4, Reply::Added { number: 4 })),
     (Asked::Add(0), Told::Replied(5, Reply::Full { live: 2 })),
-    (Asked::Remove(1), Told::Replied(6, Reply::Dead { number: 1 })),
+    (
+        Asked::Remove(1),
+        Told::Replied(6, Reply::Dead { number: 1 }),
+    ),
     (Asked::Aim, Told::Aimed(6)),
-    (Asked::Claim, Told::Job(1, Some(block_at(5)), 2)),
-    (Asked::Claim, Told::Job(2, Some(block_at(7)), 1)),
+    (Asked::Claim, Told::Job(1, Some(5), 2)),
+    (Asked::Claim, Told::Job(2, Some(7), 1)),
     (Asked::Claim, Told::NoJob),
     (Asked::Remove(4), Told::Replied(7, Reply::Removed)),
     (Asked::Submit(2, Some(7)), Told::Submitted(Submitted::Taken)),
@@ -243,4 +240,25 @@ fn takes_steps(rt: HostRuntime) -> Result<(), AllocError> {
     check(&rt, &mut desk, alloc, &ONE_BLOCK)?;
     check(&rt, &mut desk, alloc, &SAME_AGAIN)?;
     check(&rt, &mut desk, alloc, &TWO_TILES)
+}
+
+/// Fills a history with requests that remove nothing.
+fn fill(desk: &mut Desk) -> bool {
+    for _ in 0..HISTORY_LIMIT {
+        if desk.request(0, Request::Remove(1)).is_err() {
+            return false;
+        }
+    }
+    true
+}
+
+#[test]
+fn fills_its_history(rt: HostRuntime) -> Result<(), AllocError> {
+    let alloc = rt.alloc();
+    let mut desk = opened(alloc)?;
+    assert!(rt; fill(&mut desk));
+    let full = HistoryFull { len: HISTORY_LIMIT };
+    assert!(rt; desk.request(0, Request::Remove(1)) == Err(full));
+    assert!(rt; desk.aim() == HISTORY_LIMIT);
+    Ok(())
 }

@@ -1,13 +1,16 @@
-use Rattle.std.proofs.Common.{◌≡◌, ℕ, ◌+◌, drop, subst, sym, ◌∙◌, arith}
+use Rattle.std.proofs.Common.{◌≡◌, ℕ, ◌+◌, List, drop, ap, subst, sym, ◌∙◌, arith}
 use Rattle.std.proofs.lemmas.Bool.{both_ways}
+use Rattle.std.proofs.lemmas.List.{drop_all}
+use Rattle.nav_ground.specs.declared.shape.Shape.{Shape}
 use Rattle.nav_ground.specs.Touching.{is_touching, touching_shapes}
 use Rattle.nav_desk.specs.SameShapes.{are_same}
-use Rattle.nav_desk.proofs.Touched.{stops, goes_on, passes_by}
+use Rattle.nav_desk.proofs.SameShapes.{test_decides}
+use Rattle.nav_desk.proofs.Touched.{stops, goes_on, passes_by, same_end}
 use Rattle.nav_desk.proofs.touching.is_touching_list.Goals as goal
 use Rattle.nav_desk.proofs.touching.is_touching_list.Goals.{then-touches+else-not-is_at, else-touches}
 
-pub returns-then-not-is_at : goal.returns-then-not-is_at
-returns-then-not-is_at c =
+pub returns-then-not-is_at-clause-test : goal.returns-then-not-is_at-clause-test
+returns-then-not-is_at-clause-test c =
     stops (is_touching c.args.setting.now c.args.tile) c.args.shapes.now c.args.list.now c.loop-shape.shape-index c.loop-shape.place _ _ c.loop-shape-test.true
     (sym c.touches.ensures.test ∙ c.if-touches.true) (λ next. both_ways _ c.if-not-is_at.true (c.is_at.ensures.1 next)) c.loop-shape.invariant.rest
 
@@ -30,3 +33,16 @@ loop-shape-preserved c = elim c.if-touches.branch [
         (sym c.touches.ensures.test ∙ w.if-touches.false) c.loop-shape.invariant.rest);
   }
 ]
+
+pub returns-then-not-is_at-clause-own : goal.returns-then-not-is_at-clause-own
+returns-then-not-is_at-clause-own c = test_decides _ _ _ (returns-then-not-is_at-clause-test c)
+
+pub returns-clause-test : goal.returns-clause-test
+returns-clause-test c =
+    sym (same_end c.args.list.now c.loop-shape.place c.loop-shape.invariant.within)
+    ∙ ap (λ (left : List Shape). are_same (drop c.loop-shape.place c.args.list.now) (touching_shapes c.args.setting.now c.args.tile left))
+    (sym (drop_all c.loop-shape.shape-index c.args.shapes.now c.loop-shape-test.false))
+    ∙ c.loop-shape.invariant.rest
+
+pub returns-clause-own : goal.returns-clause-own
+returns-clause-own c = test_decides _ _ _ (returns-clause-test c)

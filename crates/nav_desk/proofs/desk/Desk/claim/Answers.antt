@@ -1,8 +1,9 @@
 use Rattle.std.proofs.Common.{length, ap, sym, ◌∙◌, arith}
+use Rattle.std.proofs.lemmas.List.{length-set}
 use Rattle.nav_desk.specs.BookState.{is_claimable}
 use Rattle.nav_desk.specs.Representation.{state_of}
 use Rattle.nav_desk.specs.Waiting.{Waiting}
-use Rattle.nav_desk.proofs.Keeping.{aimed_limits, job_fits, least_ready_is, no_job, none_claimed, one_claimed, one_job}
+use Rattle.nav_desk.proofs.Keeping.{aimed_limits, is_book, job_fits, kept_claims, least_ready_is, no_job, none_claimed, one_claimed, one_job}
 use Rattle.nav_desk.proofs.Leasts.{least_passes}
 use Rattle.nav_desk.proofs.desk.Desk.claim.Goals as goal
 
@@ -44,3 +45,24 @@ pub returns-in_ok-shapes-in-Some-clause-claimed : goal.returns-in_ok-shapes-in-S
 returns-in_ok-shapes-in-Some-clause-claimed c =
     rw (← c.self.view_is, c.set_claimed.ensures, c.least_ready.ensures.kept)
     (one_claimed (state_of c.self.inside) c.in-Some.tile (sym (c.in-Some.ensures.least ∙ least_ready_is c.self.inside c.self.invariant)))
+
+pub invariant_of-self : goal.invariant_of-self
+invariant_of-self c =
+    kept_claims c.self.inside c.least_ready.new.self c.self.invariant (ap (λ (w : Waiting). w.awaited) c.least_ready.ensures.kept)
+    (ap (λ (w : Waiting). length w.claimed) c.least_ready.ensures.kept)
+
+pub returns-in-None-clause-rules : goal.returns-in-None-clause-rules
+returns-in-None-clause-rules c = is_book _ (invariant_of-self c)
+
+pub returns-in_err-shapes-in-Some-clause-rules : goal.returns-in_err-shapes-in-Some-clause-rules
+returns-in_err-shapes-in-Some-clause-rules c =
+    is_book _
+    (kept_claims c.self.inside c.least_ready.new.self c.self.invariant (ap (λ (w : Waiting). w.awaited) c.least_ready.ensures.kept)
+    (ap (λ (w : Waiting). length w.claimed) c.least_ready.ensures.kept))
+
+pub returns-in_ok-shapes-in-Some-clause-rules : goal.returns-in_ok-shapes-in-Some-clause-rules
+returns-in_ok-shapes-in-Some-clause-rules c =
+    is_book _
+    (kept_claims c.self.inside c.set_claimed.new.self c.self.invariant
+    (ap (λ (w : Waiting). w.awaited) c.set_claimed.ensures ∙ ap (λ (w : Waiting). w.awaited) c.least_ready.ensures.kept)
+    (ap (λ (w : Waiting). length w.claimed) c.set_claimed.ensures ∙ length-set _ _ _ ∙ ap (λ (w : Waiting). length w.claimed) c.least_ready.ensures.kept))

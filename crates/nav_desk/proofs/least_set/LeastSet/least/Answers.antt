@@ -1,5 +1,6 @@
 use Rattle.std.proofs.Common.{ℕ, ◌<◌, Bool, List, length, sym, ◌∙◌, arith}
-use Rattle.nav_desk.specs.Flags.{flag_of, IsStart}
+use Rattle.nav_desk.specs.Flags.{flag_of}
+use Rattle.nav_desk.specs.Waiting.{IsStart}
 use Rattle.nav_desk.proofs.FlagLaws.{IsStart-moved}
 use Rattle.nav_desk.proofs.Leasts.{least_below-some, least_below-none}
 use Rattle.nav_desk.proofs.least_set.LeastSet.least.Goals as goal
