@@ -1,7 +1,7 @@
 -- What a book keeps from step to step.
 use Rattle.std.proofs.Common.{◌≡◌, ℕ, ◌<◌, Bool, true, false, List, [], ◌∷◌, ◌++◌, length, ap, ◌∙◌, refl, sym, subst, arith, Option, Some, None, Result, Ok, Err, replicate}
 use Rattle.std.specs.Prelude.{slice_set, OnOk, OnErr, if◌then◌else◌}
-use Rattle.std.proofs.lemmas.List.{length-replicate, get_or-replicate, get_or_default, length-set}
+use Rattle.std.proofs.lemmas.List.{length-replicate, get_or-replicate, length-set}
 use Rattle.nav_ground.specs.declared.history.Entry.{Entry}
 use Rattle.nav_ground.specs.declared.history.Ground.{Ground}
 use Rattle.nav_ground.specs.declared.history.Request.{Request}
@@ -36,7 +36,7 @@ empty_places n = replicate n None
 
 -- the first state
 first_touching : (whole : Ground) → AreTouching whole [] (replicate (tile_count whole.setting) [])
-first_touching whole t e there = get_or-replicate (tile_count whole.setting) t [] e there
+first_touching whole t there = get_or-replicate (tile_count whole.setting) t [] [] there
 
 pub kept_first : (whole : Ground) (state : BookState) (places : List (Option TileMesh)) (shown : Mesh) → state ≡ first_state whole → IsBook state → IsGround whole
     → places ≡ replicate (tile_count whole.setting) None → shown ≡ mesh_of whole.setting (tiles_under whole []) → IsSound shown → AreKept state places shown
@@ -126,9 +126,7 @@ module _ (state : BookState) (places : List (Option TileMesh)) (shown : Mesh) (k
     alive = shapes_alive state.history state.target
 
     touching : AreTouching state.whole alive state.stored
-    touching t e there =
-        let within : t < length state.stored = omega (arith, there, kept.rules.lists) in
-        get_or_default state.stored t e [] within ∙ none_awaited state t none there
+    touching t there = none_awaited state t none there
 
     same_setting : shown.setting ≡ state.whole.setting
     same_setting = ap (λ (m : Mesh). m.setting) kept.mesh ∙ setting_of_build state.whole state.history state.published

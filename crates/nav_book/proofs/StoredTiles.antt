@@ -21,7 +21,7 @@ use Rattle.tile_build.specs.Meshes.{tiles_under}
 use Rattle.tile_build.proofs.LocalTiles.{tile_mesh_local}
 use Rattle.tile_links.specs.NewTiles.{AreNew, tiles_after}
 use Rattle.nav_book.specs.Results.{tile_under}
-use Rattle.nav_book.specs.Fresh.{AreStored, news_of}
+use Rattle.nav_book.specs.Fresh.{AreStored, mesh_at_hand, news_of}
 use Rattle.nav_book.proofs.FreshTiles.{are_new, tiles_with_news}
 use Rattle.nav_book.proofs.GroundTiles.{are_tiles, length-tiles_under, get_or-tiles_under}
 
@@ -49,20 +49,20 @@ touched_tile whole shapes t rules' there =
 
 -- each stored list is that of the shapes that touch its tile
 abbrev pub AreTouching : Ground → List Shape → List (List Shape) → Type 0
-AreTouching whole shapes stored = (t : ℕ) (e : List Shape) → t < tile_count whole.setting → get_or stored t e ≡ touching_shapes whole.setting t shapes
+AreTouching whole shapes stored = (t : ℕ) → t < tile_count whole.setting → get_or stored t [] ≡ touching_shapes whole.setting t shapes
 
 module _ (whole : Ground) (shapes : List Shape) (stored : List (List Shape)) (rules' : IsGround whole) (touching : AreTouching whole shapes stored) where
   -- then a tile's mesh under its stored list is that under all the shapes
-  stored_tile : (t : ℕ) (e : List Shape) (d : TileMesh) → t < tile_count whole.setting
-      → tile_under whole t (get_or stored t e) ≡ get_or (tiles_under whole shapes) t d
-  stored_tile t e d there =
-      ap (tile_under whole t) (touching t e there) ∙ touched_tile whole shapes t rules' there ∙ sym (get_or-tiles_under whole shapes t d rules' there)
+  stored_tile : (t : ℕ) (d : TileMesh) → t < tile_count whole.setting
+      → tile_under whole t (get_or stored t []) ≡ get_or (tiles_under whole shapes) t d
+  stored_tile t d there =
+      ap (tile_under whole t) (touching t there) ∙ touched_tile whole shapes t rules' there ∙ sym (get_or-tiles_under whole shapes t d rules' there)
 
   module _ (fresh : List (Option TileMesh)) (published : List TileMesh) (one_each : length fresh ≡ tile_count whole.setting)
       (ties : AreStored whole stored fresh published) where
     now_is : (t : ℕ) (d : TileMesh) → t < tile_count whole.setting
-        → unwrap_or (get_or fresh t None) (get_or published t d) ≡ get_or (tiles_under whole shapes) t d
-    now_is t d there = ties t [] d there ∙ stored_tile t [] d there
+        → mesh_at_hand fresh published t d ≡ get_or (tiles_under whole shapes) t d
+    now_is t d there = ties t d there ∙ stored_tile t d there
 
     -- so the fresh meshes are new tile meshes
     pub news_are_new : All IsShape shapes → AreNew whole.setting (news_of fresh)
@@ -78,31 +78,31 @@ module _ (whole : Ground) (shapes : List Shape) (stored : List (List Shape)) (ru
 
   -- with these published, no place has a fresh mesh
   pub stored_again : AreStored whole stored (replicate (tile_count whole.setting) None) (tiles_under whole shapes)
-  stored_again t e d there =
+  stored_again t d there =
       ap (λ (place : Option TileMesh). unwrap_or place (get_or (tiles_under whole shapes) t d)) (get_or-replicate (tile_count whole.setting) t None None there)
-      ∙ sym (stored_tile t e d there)
+      ∙ sym (stored_tile t d there)
 
 -- a build comes in: its list is stored, and its mesh is fresh
 pub stored_with : (whole : Ground) (stored : List (List Shape)) (fresh : List (Option TileMesh)) (published : List TileMesh) (tile : ℕ)
     (shapes : List Shape) (mesh : TileMesh) → AreStored whole stored fresh published → tile < length stored → tile < length fresh
     → mesh ≡ tile_under whole tile shapes → AreStored whole (slice_set stored tile shapes) (slice_set fresh tile (Some mesh)) published
-stored_with whole stored fresh published tile shapes mesh ties in_stored in_fresh is t e d there =
+stored_with whole stored fresh published tile shapes mesh ties in_stored in_fresh is t d there =
     ⊎_elim here (λ apart. ⊎_elim (λ below. elsewhere (λ same. omega (arith, same, below))) (λ above. elsewhere (λ same. omega (arith, same, above))) apart) (cases_order t tile)
   where
     Holds : ℕ → Type 0
-    Holds n = unwrap_or (get_or (slice_set fresh tile (Some mesh)) n None) (get_or published n d) ≡ tile_under whole n (get_or (slice_set stored tile shapes) n e)
+    Holds n = mesh_at_hand (slice_set fresh tile (Some mesh)) published n d ≡ tile_under whole n (get_or (slice_set stored tile shapes) n [])
 
     here : t ≡ tile → Holds t
     here same =
         subst Holds (sym same)
         (ap (λ (place : Option TileMesh). unwrap_or place (get_or published tile d)) (get_or-set_same fresh tile (Some mesh) None in_fresh)
-        ∙ is ∙ ap (tile_under whole tile) (sym (get_or-set_same stored tile shapes e in_stored)))
+        ∙ is ∙ ap (tile_under whole tile) (sym (get_or-set_same stored tile shapes [] in_stored)))
 
     elsewhere : t ≢ tile → Holds t
     elsewhere apart =
         ap (λ (place : Option TileMesh). unwrap_or place (get_or published t d)) (get_or-set_other fresh tile t (Some mesh) None apart)
-        ∙ ties t e d there
-        ∙ ap (tile_under whole t) (sym (get_or-set_other stored tile t shapes e apart))
+        ∙ ties t d there
+        ∙ ap (tile_under whole t) (sym (get_or-set_other stored tile t shapes [] apart))
 
 -- what stands in the place of a tile among the layers is its layer
 pub record IsLayerAt (whole : Ground) (tile : ℕ) (layer : Layer) : Type 0 where

@@ -24,10 +24,14 @@ news_from tile (place ∷ places) = new_at tile place ++ news_from (tile + 1) pl
 abbrev pub news_of : List (Option TileMesh) → List New
 news_of places = news_from 0 places
 
--- each tile's fresh mesh, and its published one where it has none, is its mesh under its stored shapes
+-- the mesh that is at hand for a tile: its fresh one, and its published one where it has none
+abbrev pub mesh_at_hand : List (Option TileMesh) → List TileMesh → ℕ → TileMesh → TileMesh
+mesh_at_hand places published tile otherwise = unwrap_or (get_or places tile None) (get_or published tile otherwise)
+
+-- the mesh at hand for each tile is its mesh under its stored shapes
 abbrev pub AreStored : Ground → List (List Shape) → List (Option TileMesh) → List TileMesh → Type 0
-AreStored whole stored fresh published = (t : ℕ) (e : List Shape) (d : TileMesh) → t < tile_count whole.setting
-    → unwrap_or (get_or fresh t None) (get_or published t d) ≡ tile_under whole t (get_or stored t e)
+AreStored whole stored places published = (tile : ℕ) (otherwise : TileMesh) → tile < tile_count whole.setting
+    → mesh_at_hand places published tile otherwise ≡ tile_under whole tile (get_or stored tile [])
 
 -- the fresh tile meshes can be put into a mesh: it is the whole of its tiles, they are new tile meshes for it, and there are not too many
 pub record CanBePutInto (mesh : Mesh) (places : List (Option TileMesh)) : Type 0 where

@@ -1,5 +1,5 @@
 use Rattle.tests_paths.proofs.books.published.Given as goal
 
 -- the call's ledger is the blank one that it is handed
-abbrev pub ghosts-renewed : goal.ghosts-renewed
-ghosts-renewed a = record { name = a.blank.name; parts = a.blank.parts }
+abbrev pub ghosts-settled : goal.ghosts-settled
+ghosts-settled a = record { name = a.blank.name; parts = a.blank.parts }

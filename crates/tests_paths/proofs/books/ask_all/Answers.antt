@@ -1,0 +1,15 @@
+use Rattle.std.proofs.Common.{◌≡◌, ◌∙◌, ap, refl, Result, Ok, Err}
+use Rattle.std.specs.Prelude.{OnOk, OnErr}
+use Rattle.nav_ground.specs.declared.history.Ground.{Ground}
+use Rattle.nav_desk.specs.BookState.{BookState}
+use Rattle.tests_paths.proofs.books.ask_all.Goals as goal
+
+-- a request leaves the ground, also where it is refused
+same_ground : {A E : Type 0} (result : Result A E) (old next new : BookState) → OnOk result (new ≡ next) → OnErr result (new ≡ old)
+    → next.whole ≡ old.whole → new.whole ≡ old.whole
+same_ground (Ok answer) old next new taken refused same = ap (λ (s : BookState). s.whole) taken ∙ same
+same_ground (Err error) old next new taken refused same = ap (λ (s : BookState). s.whole) refused
+
+pub loop-asked-preserved : goal.loop-asked-preserved
+loop-asked-preserved c =
+    same_ground c.request-answer.result c.loop-asked.book _ _ c.request-answer.ensures.appended c.request-answer.ensures.refused refl ∙ c.loop-asked.invariant
