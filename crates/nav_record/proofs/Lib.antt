@@ -1,2 +1,4 @@
 pub mod OneLineLaws
 pub mod Kept
+pub mod RoomLaws
+pub mod AnswerLines

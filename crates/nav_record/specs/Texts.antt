@@ -1,5 +1,5 @@
 -- The texts of the output: the exact lines of each answer, each with its line feed.
-use Rattle.std.specs.Prelude.{ℕ, List, ◌++◌, length, codes, decimal}
+use Rattle.std.specs.Prelude.{ℕ, ◌+◌, List, ◌++◌, length, codes, decimal}
 use Rattle.std.specs.Fmt.{signed_decimal}
 use Rattle.std.specs.List.{flat_map}
 use Rattle.nav_base.specs.declared.answers.FloorAt.{FloorAt}
@@ -88,6 +88,11 @@ answer_text k (Reached at) = codes "reached " ++ decimal k ++ codes " " ++ poly_
 answer_text k (Wall a b num den) =
     codes "wall " ++ decimal k ++ codes " " ++ point_text a ++ codes " " ++ point_text b ++ codes " " ++ signed_decimal num ++ codes " "
     ++ signed_decimal den ++ codes "\n"
+
+-- an answer is one line; a path is one, and one more for each link and for each turn
+abbrev pub line_count : Answer → ℕ
+line_count (Path found) = 1 + length found.links + length found.turns
+line_count _ = 1
 
 -- the end of a play: the published length and the history's length
 abbrev pub done_text : ℕ → ℕ → List ℕ

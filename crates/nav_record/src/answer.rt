@@ -1,6 +1,7 @@
 //! Answers to questions.
-ghost use Rattle.std.specs.Prelude.{◌≡◌, ◌++◌, take, OnOk, OnErr, vec_len};
-ghost use Rattle.nav_record.specs.Texts.{answer_text};
+ghost use Rattle.std.specs.Prelude.{◌≡◌, ◌+◌, ◌≤◌, ◌++◌, length, take, IsOk, OnOk, OnErr, vec_len, vec_capacity};
+ghost use Rattle.nav_record.specs.OneLine.{HasLines};
+ghost use Rattle.nav_record.specs.Texts.{answer_text, line_count};
 
 use crate::append::append_number;
 use crate::floors::append_floors;
@@ -10,9 +11,13 @@ use std::alloc::AllocError;
 
 /// Appends the lines of an answer; `k` is the length of the version that was read. A path has a line of its own, one for each link and one
 /// for each turn; every other answer is one line. Points are in sixteenths of a cell.
+#[tactic(auto, using(crate::proofs::AnswerLines::answer_lines))]
 pub fn write_answer(out: &mut Vec<u8>, k: u32, answer: &Answer) -> Result<(), AllocError>
     ensures ok { OnOk result (out.new.items ≡ out.old.items ++ answer_text k answer.now) }
     ensures err { OnErr result (out.new.items ≡ out.old.items) }
+    ensures room { vec_len out.old + length (answer_text k answer.now) ≤ vec_capacity out.old → IsOk result }
+    // The text is whole lines: one, and for a path one more for each link and each turn.
+    ensures lines { HasLines (answer_text k answer.now) (line_count answer.now) }
 {
     let len = out.len();
     let written = append_answer(out, k, answer);
@@ -26,6 +31,7 @@ pub fn write_answer(out: &mut Vec<u8>, k: u32, answer: &Answer) -> Result<(), Al
 fn append_answer(out: &mut Vec<u8>, k: u32, answer: &Answer) -> Result<(), AllocError>
     ensures ok { OnOk result (out.new.items ≡ out.old.items ++ answer_text k answer.now) }
     ensures err { OnErr result (take (vec_len out.old) out.new.items ≡ out.old.items) }
+    ensures room { vec_len out.old + length (answer_text k answer.now) ≤ vec_capacity out.old → IsOk result }
 {
     match answer {
         Answer::Floors(floors) => append_floors(out, k, floors.as_slice()),

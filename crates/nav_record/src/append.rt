@@ -69,6 +69,8 @@ pub fn append_pair<I: Integer>(
     requires after { length after.now ≤ 16 }
     ensures ok { OnOk result (out.new.items ≡ out.old.items ++ (before.now ++ I.text first ++ between.now ++ I.text second ++ after.now)) }
     ensures err { OnErr result (out.new.items ≡ out.old.items) }
+    ensures room { vec_len out.old + length (before.now ++ I.text first ++ between.now ++ I.text second ++ after.now) ≤ vec_capacity out.old → IsOk result }
+    ensures capacity { vec_capacity out.old ≤ vec_capacity out.new }
 {
     let mut first_buffer = Buffer::new();
     let first = first_buffer.format(first).as_bytes();

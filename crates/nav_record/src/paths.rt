@@ -1,5 +1,5 @@
 //! Paths and walks. Where memory is refused a part of the lines may stand at the end.
-ghost use Rattle.std.specs.Prelude.{◌≡◌, ◌≤◌, ◌++◌, length, take, codes, decimal, OnOk, OnErr, vec_len};
+ghost use Rattle.std.specs.Prelude.{◌≡◌, ◌+◌, ◌≤◌, ◌++◌, length, take, codes, decimal, IsOk, OnOk, OnErr, vec_len, vec_capacity};
 ghost use Rattle.std.specs.Fmt.{signed_decimal};
 ghost use Rattle.std.specs.List.{flat_map};
 ghost use Rattle.nav_record.specs.Texts.{poly_text, point_text, link_text, turn_text, first_line_text, path_text};
@@ -14,6 +14,8 @@ use std::alloc::AllocError;
 pub fn append_path(out: &mut Vec<u8>, k: u32, found: &PathFound) -> Result<(), AllocError>
     ensures ok { OnOk result (out.new.items ≡ out.old.items ++ path_text k found.now) }
     ensures err { OnErr result (take (vec_len out.old) out.new.items ≡ out.old.items) }
+    ensures room { vec_len out.old + length (path_text k found.now) ≤ vec_capacity out.old → IsOk result }
+    ensures capacity { vec_capacity out.old ≤ vec_capacity out.new }
 {
     append_first_line(out, k, found)?;
     append_steps(out, found)
@@ -23,6 +25,8 @@ pub fn append_path(out: &mut Vec<u8>, k: u32, found: &PathFound) -> Result<(), A
 fn append_first_line(out: &mut Vec<u8>, k: u32, found: &PathFound) -> Result<(), AllocError>
     ensures ok { OnOk result (out.new.items ≡ out.old.items ++ first_line_text k found.now) }
     ensures err { OnErr result (take (vec_len out.old) out.new.items ≡ out.old.items) }
+    ensures room { vec_len out.old + length (first_line_text k found.now) ≤ vec_capacity out.old → IsOk result }
+    ensures capacity { vec_capacity out.old ≤ vec_capacity out.new }
 {
     append_start(out, k, found.cost, found.first)?;
     append_pair(out, b" ", found.links.len(), b" ", found.turns.len(), b"\n")
@@ -32,6 +36,8 @@ fn append_start(out: &mut Vec<u8>, k: u32, cost: u64, first: PolyRef) -> Result<
     ensures ok { OnOk result (out.new.items ≡ out.old.items
         ++ (codes "path " ++ decimal k ++ codes " " ++ decimal cost ++ codes " " ++ poly_text first)) }
     ensures err { OnErr result (take (vec_len out.old) out.new.items ≡ out.old.items) }
+    ensures room { vec_len out.old + length (codes "path " ++ decimal k ++ codes " " ++ decimal cost ++ codes " " ++ poly_text first) ≤ vec_capacity out.old → IsOk result }
+    ensures capacity { vec_capacity out.old ≤ vec_capacity out.new }
 {
     append_number(out, b"path ", k, b" ")?;
     out.extend_from_slice(Buffer::new().format(cost).as_bytes())?;
@@ -42,6 +48,8 @@ fn append_start(out: &mut Vec<u8>, k: u32, cost: u64, first: PolyRef) -> Result<
 fn append_steps(out: &mut Vec<u8>, found: &PathFound) -> Result<(), AllocError>
     ensures ok { OnOk result (out.new.items ≡ out.old.items ++ (flat_map link_text found.now.links ++ flat_map turn_text found.now.turns)) }
     ensures err { OnErr result (take (vec_len out.old) out.new.items ≡ out.old.items) }
+    ensures room { vec_len out.old + length (flat_map link_text found.now.links ++ flat_map turn_text found.now.turns) ≤ vec_capacity out.old → IsOk result }
+    ensures capacity { vec_capacity out.old ≤ vec_capacity out.new }
 {
     append_links(out, found.links.as_slice())?;
     append_turns(out, found.turns.as_slice())
@@ -51,6 +59,8 @@ fn append_steps(out: &mut Vec<u8>, found: &PathFound) -> Result<(), AllocError>
 fn append_links(out: &mut Vec<u8>, links: &[Link]) -> Result<(), AllocError>
     ensures ok { OnOk result (out.new.items ≡ out.old.items ++ flat_map link_text links.now) }
     ensures err { OnErr result (take (vec_len out.old) out.new.items ≡ out.old.items) }
+    ensures room { vec_len out.old + length (flat_map link_text links.now) ≤ vec_capacity out.old → IsOk result }
+    ensures capacity { vec_capacity out.old ≤ vec_capacity out.new }
 {
     for link in links {
         append_link(out, link)?;
@@ -61,6 +71,8 @@ fn append_links(out: &mut Vec<u8>, links: &[Link]) -> Result<(), AllocError>
 fn append_link(out: &mut Vec<u8>, link: &Link) -> Result<(), AllocError>
     ensures ok { OnOk result (out.new.items ≡ out.old.items ++ link_text link.now) }
     ensures err { OnErr result (take (vec_len out.old) out.new.items ≡ out.old.items) }
+    ensures room { vec_len out.old + length (link_text link.now) ≤ vec_capacity out.old → IsOk result }
+    ensures capacity { vec_capacity out.old ≤ vec_capacity out.new }
 {
     append_numbers(out, b"link ", link.to.tile, b" ", link.to.index, b"")?;
     append_point(out, link.portal.left, b"")?;
@@ -72,6 +84,8 @@ fn append_point(out: &mut Vec<u8>, p: Point, after: &[u8]) -> Result<(), AllocEr
     requires { length after.now ≤ 16 }
     ensures ok { OnOk result (out.new.items ≡ out.old.items ++ (codes " " ++ point_text p ++ after.now)) }
     ensures err { OnErr result (out.new.items ≡ out.old.items) }
+    ensures room { vec_len out.old + length (codes " " ++ point_text p ++ after.now) ≤ vec_capacity out.old → IsOk result }
+    ensures capacity { vec_capacity out.old ≤ vec_capacity out.new }
 {
     append_pair(out, b" ", p.x, b" ", p.z, after)
 }
@@ -80,6 +94,8 @@ fn append_point(out: &mut Vec<u8>, p: Point, after: &[u8]) -> Result<(), AllocEr
 fn append_turns(out: &mut Vec<u8>, turns: &[Corner]) -> Result<(), AllocError>
     ensures ok { OnOk result (out.new.items ≡ out.old.items ++ flat_map turn_text turns.now) }
     ensures err { OnErr result (take (vec_len out.old) out.new.items ≡ out.old.items) }
+    ensures room { vec_len out.old + length (flat_map turn_text turns.now) ≤ vec_capacity out.old → IsOk result }
+    ensures capacity { vec_capacity out.old ≤ vec_capacity out.new }
 {
     for turn in turns {
         append_turn(out, turn)?;
@@ -90,6 +106,8 @@ fn append_turns(out: &mut Vec<u8>, turns: &[Corner]) -> Result<(), AllocError>
 fn append_turn(out: &mut Vec<u8>, turn: &Corner) -> Result<(), AllocError>
     ensures ok { OnOk result (out.new.items ≡ out.old.items ++ turn_text turn.now) }
     ensures err { OnErr result (take (vec_len out.old) out.new.items ≡ out.old.items) }
+    ensures room { vec_len out.old + length (turn_text turn.now) ≤ vec_capacity out.old → IsOk result }
+    ensures capacity { vec_capacity out.old ≤ vec_capacity out.new }
 {
     append_pair(out, b"turn ", turn.at.x, b" ", turn.at.z, b"")?;
     match turn.side {
@@ -102,6 +120,8 @@ fn append_turn(out: &mut Vec<u8>, turn: &Corner) -> Result<(), AllocError>
 pub fn append_reached(out: &mut Vec<u8>, k: u32, at: PolyRef) -> Result<(), AllocError>
     ensures ok { OnOk result (out.new.items ≡ out.old.items ++ (codes "reached " ++ decimal k ++ codes " " ++ poly_text at ++ codes "\n")) }
     ensures err { OnErr result (take (vec_len out.old) out.new.items ≡ out.old.items) }
+    ensures room { vec_len out.old + length (codes "reached " ++ decimal k ++ codes " " ++ poly_text at ++ codes "\n") ≤ vec_capacity out.old → IsOk result }
+    ensures capacity { vec_capacity out.old ≤ vec_capacity out.new }
 {
     append_number(out, b"reached ", k, b"")?;
     append_numbers(out, b" ", at.tile, b" ", at.index, b"\n")
@@ -120,6 +140,8 @@ pub fn append_wall(
     ensures ok { OnOk result (out.new.items ≡ out.old.items ++ (codes "wall " ++ decimal k ++ codes " " ++ point_text a ++ codes " "
         ++ point_text b ++ codes " " ++ signed_decimal num ++ codes " " ++ signed_decimal den ++ codes "\n")) }
     ensures err { OnErr result (take (vec_len out.old) out.new.items ≡ out.old.items) }
+    ensures room { vec_len out.old + length (codes "wall " ++ decimal k ++ codes " " ++ point_text a ++ codes " " ++ point_text b ++ codes " " ++ signed_decimal num ++ codes " " ++ signed_decimal den ++ codes "\n") ≤ vec_capacity out.old → IsOk result }
+    ensures capacity { vec_capacity out.old ≤ vec_capacity out.new }
 {
     append_edge(out, k, a, b)?;
     append_pair(out, b" ", num, b" ", den, b"\n")
@@ -129,6 +151,8 @@ fn append_edge(out: &mut Vec<u8>, k: u32, a: Point, b: Point) -> Result<(), Allo
     ensures ok { OnOk result (out.new.items ≡ out.old.items
         ++ (codes "wall " ++ decimal k ++ codes " " ++ point_text a ++ codes " " ++ point_text b)) }
     ensures err { OnErr result (take (vec_len out.old) out.new.items ≡ out.old.items) }
+    ensures room { vec_len out.old + length (codes "wall " ++ decimal k ++ codes " " ++ point_text a ++ codes " " ++ point_text b) ≤ vec_capacity out.old → IsOk result }
+    ensures capacity { vec_capacity out.old ≤ vec_capacity out.new }
 {
     append_number(out, b"wall ", k, b"")?;
     append_point(out, a, b"")?;
