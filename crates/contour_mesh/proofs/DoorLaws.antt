@@ -16,7 +16,7 @@ use Rattle.mesh_types.specs.Ears.{is_same_point}
 use Rattle.mesh_types.specs.Merging.{edge_end}
 use Rattle.mesh_types.specs.ContourMeshes.{Facet, facets_of, doors_of, door_over, facet_doors, no_part, are_facing, share_places, share_corners, names_region}
 use Rattle.mesh_types.proofs.ContourLaws.{same_point, is_same_point-from}
-use Rattle.contour_mesh.specs.Parts.{IsPart, facets_at}
+use Rattle.contour_mesh.specs.Parts.{IsCutPart, facets_at}
 use Rattle.contour_mesh.specs.Orders.{JoinsCorners, MeetsFacing}
 use Rattle.contour_mesh.proofs.NumberedLaws.{numbered-all, facets_are, doors_are}
 
@@ -30,7 +30,7 @@ record IsFacet (parts : List Part) (facet : Facet) : Type 0 where
   outline : IsOutline facet.outline
   places : All (λ place. place < length facet.outline.corners) facet.places
 
-facets_all : (parts : List Part) → All IsPart parts → All (IsFacet parts) (facets_of parts)
+facets_all : (parts : List Part) → All IsCutPart parts → All (IsFacet parts) (facets_of parts)
 facets_all parts each =
     subst (All (IsFacet parts)) (sym (facets_are parts))
     (numbered-all (IsFacet parts) facets_at 0 parts (λ k m part is below same.
@@ -39,7 +39,7 @@ facets_all parts each =
     of_part : (k m : ℕ) (part : Part) → m ≡ 0 + k → k < length parts → part ≡ get_or parts k part
         → All (λ (piece : Piece). IsFacet parts (record { region = m; outline = part.outline; places = piece.corners })) part.pieces
     of_part k m part is below same j d there =
-        let fit : IsPart part = subst IsPart (sym same) (each k part below) in
+        let fit : IsCutPart part = subst IsCutPart (sym same) (each k part below) in
         let at : part ≡ get_or parts m no_part =
         same ∙ get_or_default parts k part no_part below ∙ ap (λ i. get_or parts i no_part) {x = k} {y = m} (omega (arith, is)) in
         record {
@@ -71,7 +71,7 @@ over_facet parts polygons m facet fit below e there =
       joins = record { begin = fit.outline.inside _ _ from; end = fit.outline.inside _ _ to };
     }
 
-pub doors_all : (parts : List Part) → All IsPart parts → All (IsDoorOf parts (length (facets_of parts))) (doors_of (facets_of parts))
+pub doors_all : (parts : List Part) → All IsCutPart parts → All (IsDoorOf parts (length (facets_of parts))) (doors_of (facets_of parts))
 doors_all parts each =
     let facets = facets_of parts in
     let P : Door → Type 0 = IsDoorOf parts (length facets) in

@@ -21,7 +21,7 @@ use Rattle.mesh_types.proofs.ContourLaws.{same_point, is_same_point-from}
 use Rattle.mesh_types.proofs.LinkOrderLaws.{point_total, points_order, points_tie}
 use Rattle.mesh_types.proofs.LinksInOrder.{All-ordered_links, ordered_links-polygons}
 use Rattle.mesh_types.proofs.RunLaws.{All-found}
-use Rattle.contour_mesh.specs.Orders.{IsSortOf, MeetsFacing, begins_before}
+use Rattle.contour_mesh.specs.Orders.{IsSortOf, MeetsFacing, door_begins_before}
 use Rattle.contour_mesh.proofs.SortLaws.{find-drop, find-drop_none, find-sorted, not_itself, tie-from}
 
 -- a door that stands for none
@@ -37,7 +37,7 @@ no_door = record {
   code = None;
 }
 
-pub doors_order : IsStrictWeakOrder begins_before
+pub doors_order : IsStrictWeakOrder door_begins_before
 doors_order = ranks_by point_total (λ (door : Door). door.begin)
 
 -- a list that was sorted stably
@@ -48,14 +48,14 @@ sort_made {X = X} before xs old new same rising stable all =
     record { rising = rising; stable = λ x. stable x ∙ ap (filter (ties before x)) same; all = subst P same all }
 
 -- doors that begin before a corner stand first
-pub ahead_first : (corner : Point) (doors : List Door) → IsSortedBy begins_before doors
+pub ahead_first : (corner : Point) (doors : List Door) → IsSortedBy door_begins_before doors
     → IsPartitionedBy (λ (other : Door). is_point_before other.begin corner) doors
 ahead_first corner doors sorted i j d le there later =
     let a : Door = get_or doors i d in
     let b : Door = get_or doors j d in
     true_from_ne_false (is_point_before a.begin corner) (λ none.
     both_ways (is_point_before b.begin corner)
-    (points_order.chain b.begin a.begin corner (sorted_far begins_before doors_order doors sorted i j d le there) none) later)
+    (points_order.chain b.begin a.begin corner (sorted_far door_begins_before doors_order doors sorted i j d le there) none) later)
 
 -- they do not face a door that ends there
 ahead_fails : (door other : Door) → (are_facing door other ≡ true → is_same_point other.begin door.end ≡ true) → is_point_before other.begin door.end ≡ true
@@ -72,7 +72,7 @@ ahead_passed door doors first meet ahead =
     find-drop (are_facing door) doors first (λ k d below there. ahead_fails door (get_or doors k d) (meet k d there) (ahead k d below))
 
 -- from one that begins behind the corner on, none does
-pub behind_none : (door : Door) (doors : List Door) (place : ℕ) (e : Door) (same : Bool) → IsSortedBy begins_before doors → MeetsFacing doors door
+pub behind_none : (door : Door) (doors : List Door) (place : ℕ) (e : Door) (same : Bool) → IsSortedBy door_begins_before doors → MeetsFacing doors door
     → place < length doors → is_point_before (get_or doors place e).begin door.end ≡ false → same ≡ is_same_point (get_or doors place e).begin door.end
     → same ≡ false → find (are_facing door) (drop place doors) ≡ None
 behind_none door doors place e same sorted meet there late is differs =
@@ -81,7 +81,7 @@ behind_none door doors place e same sorted meet there late is differs =
     both_ways (is_point_before door.end (get_or doors place e).begin)
     (ap (λ p. is_point_before p (get_or doors place e).begin) (sym (same_point (get_or doors k d).begin door.end (meet k d inside facing)))
     ∙ ap (λ (b : Door). is_point_before (get_or doors k d).begin b.begin) (get_or_default doors place e d there)
-    ∙ sorted_far begins_before doors_order doors sorted place k d above inside)
+    ∙ sorted_far door_begins_before doors_order doors sorted place k d above inside)
     behind))
   where
     behind : is_point_before door.end (get_or doors place e).begin ≡ true
@@ -91,23 +91,23 @@ behind_none door doors place e same sorted meet there late is differs =
 
 -- so the order of the doors does not change which one a door faces
 tie_facing : (door y : Door) → (are_facing door y ≡ true → is_same_point y.begin door.end ≡ true) → are_facing door y ≡ true
-    → ties begins_before (record door { begin = door.end }) y ≡ true
+    → ties door_begins_before (record door { begin = door.end }) y ≡ true
 tie_facing door y meet facing =
     let same = same_point y.begin door.end (meet facing) in
-    tie-from begins_before (record door { begin = door.end }) y
+    tie-from door_begins_before (record door { begin = door.end }) y
     (ap (is_point_before door.end) same ∙ not_itself is_point_before points_order door.end)
     (ap (λ p. is_point_before p door.end) same ∙ not_itself is_point_before points_order door.end)
 
-pub facing_is : (doors sorted : List Door) (door : Door) → IsSortOf begins_before doors sorted → MeetsFacing doors door
+pub facing_is : (doors sorted : List Door) (door : Door) → IsSortOf door_begins_before doors sorted → MeetsFacing doors door
     → find (are_facing door) sorted ≡ find (are_facing door) doors
 facing_is doors sorted door made meet =
     let P : Door → Type 0 = λ y. are_facing door y ≡ true → is_same_point y.begin door.end ≡ true in
-    let Q : Door → Type 0 = λ y. are_facing door y ≡ true → ties begins_before (record door { begin = door.end }) y ≡ true in
-    find-sorted begins_before (are_facing door) (record door { begin = door.end }) doors sorted made.stable
+    let Q : Door → Type 0 = λ y. are_facing door y ≡ true → ties door_begins_before (record door { begin = door.end }) y ≡ true in
+    find-sorted door_begins_before (are_facing door) (record door { begin = door.end }) doors sorted made.stable
     (All-weaker P Q (λ y m. tie_facing door y m) doors meet)
     (All-weaker P Q (λ y m. tie_facing door y m) sorted (All-permutation P doors sorted made.all meet))
 
-pub meets_sorted : (doors sorted : List Door) (door : Door) → IsSortOf begins_before doors sorted → MeetsFacing doors door → MeetsFacing sorted door
+pub meets_sorted : (doors sorted : List Door) (door : Door) → IsSortOf door_begins_before doors sorted → MeetsFacing doors door → MeetsFacing sorted door
 meets_sorted doors sorted door made meet =
     All-permutation (λ (y : Door). are_facing door y ≡ true → is_same_point y.begin door.end ≡ true) doors sorted made.all meet
 

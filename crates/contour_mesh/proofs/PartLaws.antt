@@ -21,18 +21,18 @@ use Rattle.mesh_types.specs.Simplified.{simplified_of}
 use Rattle.mesh_types.specs.Ears.{ears_of}
 use Rattle.mesh_types.specs.ContourMeshes.{contour_of, cut_part, part_of, parts_of, region_part, region_numbers}
 use Rattle.mesh_types.proofs.ContourLaws.{contour_is}
-use Rattle.contour_mesh.specs.Parts.{IsPart}
+use Rattle.contour_mesh.specs.Parts.{IsCutPart}
 
 -- the parts of the first regions, each of which has one
 pub record ArePartsSoFar (part : ℕ → Option Part) (n : ℕ) (parts : List Part) : Type 0 where
   pub are : parts ≡ filter_map part (range_with_len 0 n)
   pub some : (k : ℕ) → k < n → is_some (part k) ≡ true
-  pub each : All IsPart parts
+  pub each : All IsCutPart parts
 
 pub parts_none : (part : ℕ → Option Part) → ArePartsSoFar part 0 []
-parts_none part = record { are = refl; some = λ k below. absurd (omega (arith, below)); each = All-nil IsPart }
+parts_none part = record { are = refl; some = λ k below. absurd (omega (arith, below)); each = All-nil IsCutPart }
 
-pub parts_more : (part : ℕ → Option Part) (n : ℕ) (parts next : List Part) (p : Part) → ArePartsSoFar part n parts → Some p ≡ part n → IsPart p
+pub parts_more : (part : ℕ → Option Part) (n : ℕ) (parts next : List Part) (p : Part) → ArePartsSoFar part n parts → Some p ≡ part n → IsCutPart p
     → next ≡ parts ++ p ∷ [] → ArePartsSoFar part (n + 1) next
 parts_more part n parts next p so_far found fit is = record {
   are = is ∙ ap (λ (ps : List Part). ps ++ p ∷ []) so_far.are
@@ -43,7 +43,7 @@ parts_more part n parts next p so_far found fit is = record {
     | inl less ↦ so_far.some k less
     | inr past ↦ ap (λ j. is_some (part j)) {x = k} {y = n} (omega (arith, below, past)) ∙ ap is_some (sym found)
   ];
-  each = rw is (All-append IsPart parts (p ∷ []) so_far.each (All-cons IsPart p [] fit (All-nil IsPart)));
+  each = rw is (All-append IsCutPart parts (p ∷ []) so_far.each (All-cons IsCutPart p [] fit (All-nil IsCutPart)));
 }
 
 all_some : (p : ℕ → Bool) (first count : ℕ) → ((k : ℕ) → first ≤ k → k < first + count → p k ≡ true) → list_all p (range_with_len first count) ≡ true

@@ -15,11 +15,11 @@ use Rattle.std.proofs.lemmas.List.Sorted.{sorted_far}
 use Rattle.nav_ground.proofs.Found.{find_is, find_none}
 use Rattle.contour_mesh.specs.declared.side_place.SidePlace.{SidePlace}
 use Rattle.contour_mesh.specs.declared.side_place.Placed.{Placed}
-use Rattle.contour_mesh.specs.SidePlaces.{place_cmp, is_place_before, is_same_place, stands_before, stands_at, first_at}
+use Rattle.contour_mesh.specs.SidePlaces.{side_place_cmp, is_place_before, is_same_place, stands_before, stands_at, first_at}
 use Rattle.contour_mesh.proofs.SortLaws.{find-sorted, not_itself, tie-from}
 use Rattle.contour_mesh.specs.Orders.{IsSortOf}
 
-place_total : IsTotalOrder place_cmp
+place_total : IsTotalOrder side_place_cmp
 place_total =
     then_total {R = on (λ (p : SidePlace). p.region) nat_cmp} (on_total (λ (p : SidePlace). p.region) nat_cmp_total)
     (then_total {R = on (λ (p : SidePlace). p.side) nat_cmp} {S = on (λ (p : SidePlace). p.position) nat_cmp}
@@ -45,7 +45,7 @@ both_tie Less second is = absurd cc
 both_tie Equal second is = (refl, is)
 both_tie Greater second is = absurd cc
 
-equal_place : (a b : SidePlace) → place_cmp a b ≡ Equal → is_same_place a b ≡ true
+equal_place : (a b : SidePlace) → side_place_cmp a b ≡ Equal → is_same_place a b ≡ true
 equal_place a b is =
     let parts = both_tie _ _ is in
     let more = both_tie _ _ parts.1 in
@@ -55,13 +55,13 @@ equal_place a b is =
     (eq-eqb a.position b.position (ranked a.position b.position Equal (sym more.1)))
 
 pub place_tie : (a b : SidePlace) → is_place_before a b ≡ false → is_place_before b a ≡ false → is_same_place a b ≡ true
-place_tie a b ab ba = by_case (place_cmp a b) refl ab (ap is_lt (sym (place_total.antisymm b a)) ∙ ba)
+place_tie a b ab ba = by_case (side_place_cmp a b) refl ab (ap is_lt (sym (place_total.antisymm b a)) ∙ ba)
   where
-    by_case : (o : Ordering) → place_cmp a b ≡ o → is_lt (place_cmp a b) ≡ false → is_lt (ordering_reverse (place_cmp a b)) ≡ false
+    by_case : (o : Ordering) → side_place_cmp a b ≡ o → is_lt (side_place_cmp a b) ≡ false → is_lt (ordering_reverse (side_place_cmp a b)) ≡ false
         → is_same_place a b ≡ true
-    by_case Less is less more = absurd (both_ways (is_lt (place_cmp a b)) less (ap is_lt is))
+    by_case Less is less more = absurd (both_ways (is_lt (side_place_cmp a b)) less (ap is_lt is))
     by_case Equal is less more = equal_place a b is
-    by_case Greater is less more = absurd (both_ways (is_lt (ordering_reverse (place_cmp a b))) more (ap (λ (o : Ordering). is_lt (ordering_reverse o)) is))
+    by_case Greater is less more = absurd (both_ways (is_lt (ordering_reverse (side_place_cmp a b))) more (ap (λ (o : Ordering). is_lt (ordering_reverse o)) is))
 
 -- what stands before a place stands first
 pub ahead_first : {T : Type 0} (place : SidePlace) (xs : List (Placed T)) → IsSortedBy stands_before xs

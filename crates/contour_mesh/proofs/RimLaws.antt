@@ -23,7 +23,7 @@ use Rattle.contour_mesh.specs.declared.side_place.SidePlace.{SidePlace}
 use Rattle.contour_mesh.specs.declared.side_place.Placed.{Placed}
 use Rattle.contour_mesh.specs.declared.side_tables.SideTables.{SideTables}
 use Rattle.contour_mesh.specs.SidePlaces.{cell_at_side, cell_places, crossings_in, door_at, door_places, first_at, placed_cells, placed_doors, stands_at}
-use Rattle.contour_mesh.specs.RimTables.{AreSideTables, entries_in, entries_on, entry_in, is_listed_in, pair_in, place_of, rim_in}
+use Rattle.contour_mesh.specs.RimTables.{AreSideTables, entries_in, entries_on, entry_in, is_listed_in, pair_in, door_place, rim_in}
 use Rattle.contour_mesh.proofs.FacingLaws.{no_door}
 use Rattle.contour_mesh.proofs.PlaceLaws.{first_of_sort}
 use Rattle.contour_mesh.proofs.SearchLaws.{find-at, none-made, in_kept, in_range, none_passes}
@@ -200,19 +200,19 @@ module _ (window : Window) (region side position : ℕ) (small : side < 4) where
 module _ (window : Window) (cells : List Cell) (regions : Regions) (doors : List Door) (tables : SideTables)
     (made : AreSideTables window cells regions doors tables) where
   module _ (door : Door) (side : ℕ) (small : side < 4) where
-    cell_there : (position : ℕ) → first_at tables.cells (place_of door side position) ≡ crossing_cell window cells regions door.region side position
+    cell_there : (position : ℕ) → first_at tables.cells (door_place door side position) ≡ crossing_cell window cells regions door.region side position
     cell_there position =
-        first_of_sort (place_of door side position) some_cell (placed_cells window regions cells) tables.cells made.cells_are
+        first_of_sort (door_place door side position) some_cell (placed_cells window regions cells) tables.cells made.cells_are
         ∙ cells_first window regions door.region side position small cells
 
-    door_there : (position : ℕ) → first_at tables.doors (place_of door side position) ≡ find (runs_over window door.region side position) doors
+    door_there : (position : ℕ) → first_at tables.doors (door_place door side position) ≡ find (runs_over window door.region side position) doors
     door_there position =
-        first_of_sort (place_of door side position) no_door (placed_doors window doors) tables.doors made.doors_are
+        first_of_sort (door_place door side position) no_door (placed_doors window doors) tables.doors made.doors_are
         ∙ doors_first window door.region side position small doors
 
     listed_is : (position : ℕ) → is_listed_in tables door side position ≡ is_listed window cells regions doors door side position
     listed_is position =
-        ap (λ (o : Option Door). option_map_or (is_same_door door) o false && is_some (first_at tables.cells (place_of door side position))) (door_there position)
+        ap (λ (o : Option Door). option_map_or (is_same_door door) o false && is_some (first_at tables.cells (door_place door side position))) (door_there position)
         ∙ ap (λ (o : Option Cell). belongs_to window doors side door position && is_some o) (cell_there position)
 
     pair_is : (position : ℕ) → pair_in tables door side position ≡ crossing_pair window cells regions door.region side position

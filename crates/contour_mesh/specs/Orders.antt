@@ -14,8 +14,8 @@ pub record IsSortOf {X : Type 0} (before : X → X → Bool) (xs sorted : List X
   pub all : IsPermutation xs sorted
 
 -- a door begins before another
-abbrev pub begins_before : Door → Door → Bool
-begins_before a b = is_point_before a.begin b.begin
+abbrev pub door_begins_before : Door → Door → Bool
+door_begins_before a b = is_point_before a.begin b.begin
 
 -- the doors that a door faces begin where it ends
 abbrev pub MeetsFacing : List Door → Door → Type 0

@@ -7,7 +7,7 @@ use Rattle.mesh_types.specs.Merging.{IsPieceOf}
 use Rattle.mesh_types.specs.ContourMeshes.{Facet, facets_in}
 
 -- the outline of a part can be cut, and its pieces are pieces of that outline
-pub record IsPart (part : Part) : Type 0 where
+pub record IsCutPart (part : Part) : Type 0 where
   pub outline : IsOutline part.outline
   pub pieces : All (IsPieceOf part.outline.corners) part.pieces
 

@@ -29,18 +29,18 @@ pub record AreInOrder (tables : SideTables) : Type 0 where
   pub cells : IsSortedBy stands_before tables.cells
 
 -- the region of a door has a place at a position of a side
-abbrev pub place_of : Door → ℕ → ℕ → SidePlace
-place_of door side position = record { region = door.region; side = side; position = position }
+abbrev pub door_place : Door → ℕ → ℕ → SidePlace
+door_place door side position = record { region = door.region; side = side; position = position }
 
 -- the first door that stands there is this one, and a cell stands there
 abbrev pub is_listed_in : SideTables → Door → ℕ → ℕ → Bool
 is_listed_in tables door side position =
-    option_map_or (is_same_door door) (first_at tables.doors (place_of door side position)) false
-    && is_some (first_at tables.cells (place_of door side position))
+    option_map_or (is_same_door door) (first_at tables.doors (door_place door side position)) false
+    && is_some (first_at tables.cells (door_place door side position))
 
 -- the levels of the first cell that stands there
 abbrev pub pair_in : SideTables → Door → ℕ → ℕ → LevelPair
-pair_in tables door side position = level_pair side (unwrap_or (first_at tables.cells (place_of door side position)) some_cell)
+pair_in tables door side position = level_pair side (unwrap_or (first_at tables.cells (door_place door side position)) some_cell)
 
 -- what the rim lists for a door on a side, by the tables
 abbrev pub entry_in : SideTables → Door → ℕ → Run → RimEdge

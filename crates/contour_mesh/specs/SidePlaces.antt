@@ -15,11 +15,11 @@ use Rattle.contour_mesh.specs.declared.side_place.SidePlace.{SidePlace}
 use Rattle.contour_mesh.specs.declared.side_place.Placed.{Placed}
 
 -- places by region, then side, then position
-abbrev pub place_cmp : SidePlace → SidePlace → Ordering
-place_cmp a b = ordering_then (nat_cmp a.region b.region) (ordering_then (nat_cmp a.side b.side) (nat_cmp a.position b.position))
+abbrev pub side_place_cmp : SidePlace → SidePlace → Ordering
+side_place_cmp a b = ordering_then (nat_cmp a.region b.region) (ordering_then (nat_cmp a.side b.side) (nat_cmp a.position b.position))
 
 abbrev pub is_place_before : SidePlace → SidePlace → Bool
-is_place_before a b = is_lt (place_cmp a b)
+is_place_before a b = is_lt (side_place_cmp a b)
 
 abbrev pub stands_before : {T : Type 0} → Placed T → Placed T → Bool
 stands_before a b = is_place_before a.place b.place

@@ -9,7 +9,7 @@ ghost use Rattle.mesh_types.specs.Soundness.{IsFit};
 ghost use Rattle.mesh_types.specs.ContourMeshes.{doors_of, door_links, door_rim, facet_polygon, facets_of, parts_mesh};
 ghost use Rattle.contour_walk.specs.Tables.{IsTableOf};
 ghost use Rattle.contour_mesh.specs.Outcomes.{IsMeshOrCells, IfMade};
-ghost use Rattle.contour_mesh.specs.Parts.{IsPart};
+ghost use Rattle.contour_mesh.specs.Parts.{IsCutPart};
 ghost use Rattle.contour_mesh.specs.Orders.{JoinsCorners, MeetsFacing};
 ghost use Rattle.contour_mesh.specs.Sides.{IsFieldWindow};
 ghost use Rattle.mesh_types.specs.declared.door.Door.{Door};
@@ -73,7 +73,7 @@ fn mesh(
     requires regions { AreRegionsOf free.cells regions.now }
     requires table { IsTableOf free.cells regions.now.regions table.now }
     requires window { IsFieldWindow table.now.window }
-    requires parts { All IsPart parts.now }
+    requires parts { All IsCutPart parts.now }
     requires each { length parts.now ≤ length regions.now.regions }
     requires few { length (facets_of parts.now) ≤ 8000000 }
     ensures { IfOk result (λ mesh. (setting : Setting) → table.now.window ≡ tile_window setting free.tile → mesh ≡ parts_mesh setting free regions.now parts.now) }
@@ -108,7 +108,7 @@ fn part_polygons(
     parts: &[Part],
 ) -> Result<Items<Polygon>, AllocError>
     requires table { IsTableOf cells.now regions.now.regions table.now }
-    requires parts { All IsPart parts.now }
+    requires parts { All IsCutPart parts.now }
     requires each { length parts.now ≤ length regions.now.regions }
     ensures { IfOk result (λ polys. polys ≡ map (facet_polygon cells.now regions.now) (facets_of parts.now)) }
 {

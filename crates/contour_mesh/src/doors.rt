@@ -4,14 +4,14 @@ ghost use Rattle.std.specs.Prelude.{◌≡◌, ◌+◌, ◌<◌, ◌≤◌, ◌+
 ghost use Rattle.nav_base.specs.Convex.{place_after};
 ghost use Rattle.mesh_types.specs.Simplified.{IsOutline};
 ghost use Rattle.mesh_types.specs.ContourMeshes.{facets_in, facets_of, facet_doors, doors_of, door_over, code_between};
-ghost use Rattle.contour_mesh.specs.Parts.{IsPart, numbered, facet_over};
+ghost use Rattle.contour_mesh.specs.Parts.{IsCutPart, numbered, facet_over};
 
 use mesh_types::{Code, Door, Outline, Part};
 use std::alloc::{AllocError, Global};
 
 /// The doors of a tile's parts: the edges of the pieces, polygon by polygon.
 pub fn doors(alloc: Global, parts: &[Part]) -> Result<Vec<Door>, AllocError>
-    requires parts { All IsPart parts.now }
+    requires parts { All IsCutPart parts.now }
     requires regions { length parts.now ≤ 2000000 }
     requires polygons { length (facets_of parts.now) ≤ 8000000 }
     ensures { IfOk result (λ doors. doors.items ≡ doors_of (facets_of parts.now)) }
@@ -32,7 +32,7 @@ fn push_part_doors(
     region: u32,
     part: &Part,
 ) -> Result<(), AllocError>
-    requires part { IsPart part.now }
+    requires part { IsCutPart part.now }
     requires few { first + length part.now.pieces ≤ 8000000 }
     ensures { OnOk result (doors.new.items ≡ doors.old.items ++ numbered facet_doors first (facets_in part.now region)) }
 {

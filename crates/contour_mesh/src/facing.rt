@@ -6,7 +6,7 @@ ghost use Rattle.std.specs.List.Sorted.{IsSortedBy};
 ghost use Rattle.mesh_types.specs.LinkOrder.{is_point_before, point_cmp};
 ghost use Rattle.mesh_types.specs.Ears.{is_same_point};
 ghost use Rattle.mesh_types.specs.ContourMeshes.{are_facing, share_places, share_corners, names_region};
-ghost use Rattle.contour_mesh.specs.Orders.{IsSortOf, begins_before, MeetsFacing};
+ghost use Rattle.contour_mesh.specs.Orders.{IsSortOf, door_begins_before, MeetsFacing};
 
 use mesh_types::{Code, Door};
 use nav_base::Point;
@@ -15,7 +15,7 @@ use std::cmp::Ordering;
 
 /// Doors in the order of the corners at which they begin, by x and then z; those that begin at one corner stand as they stood.
 pub fn by_begin(alloc: Global, doors: &[Door]) -> Result<Vec<Door>, AllocError>
-    ensures { IfOk result (λ sorted. IsSortOf begins_before doors.now sorted.items) }
+    ensures { IfOk result (λ sorted. IsSortOf door_begins_before doors.now sorted.items) }
 {
     let mut sorted = Vec::from_slice(alloc, doors)?;
     sorted.sort_by(|a, b| begin_order(a, b))?;
@@ -25,7 +25,7 @@ pub fn by_begin(alloc: Global, doors: &[Door]) -> Result<Vec<Door>, AllocError>
 /// Of doors in the order of their beginnings the first that a door faces, if it faces one. Only those that begin where the door ends are
 /// looked at.
 pub fn facing(by_begin: &[Door], door: &Door) -> Option<Door>
-    requires order { IsSortedBy begins_before by_begin.now }
+    requires order { IsSortedBy door_begins_before by_begin.now }
     requires meet { MeetsFacing by_begin.now door.now }
     ensures { result ≡ find (are_facing door.now) by_begin.now }
 {

@@ -7,7 +7,7 @@ ghost use Rattle.nav_base.specs.Point.{IsCellCorner};
 ghost use Rattle.mesh_types.specs.declared.door.Door.{Door};
 ghost use Rattle.mesh_types.specs.BorderLinks.{scaled};
 ghost use Rattle.mesh_types.specs.ContourMeshes.{door_link, door_links, link_through};
-ghost use Rattle.contour_mesh.specs.Orders.{IsSortOf, begins_before, MeetsFacing, JoinsCorners};
+ghost use Rattle.contour_mesh.specs.Orders.{IsSortOf, door_begins_before, MeetsFacing, JoinsCorners};
 
 use crate::facing::{by_begin, facing};
 use mesh_types::{Door, Link, Links, PolyRef, Portal, order_links};
@@ -52,7 +52,7 @@ fn loose_links(
 ) -> Result<Vec<Link>, AllocError>
     requires meet { All (MeetsFacing doors.now) doors.now }
     requires corners { All JoinsCorners doors.now }
-    requires order { IsSortOf begins_before doors.now by_begin.now }
+    requires order { IsSortOf door_begins_before doors.now by_begin.now }
     ensures { IfOk result (λ links. links.items ≡ filter_map (link_through tile doors.now) doors.now) }
 {
     let mut links = Vec::new(alloc);

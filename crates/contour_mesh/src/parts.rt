@@ -7,7 +7,7 @@ ghost use Rattle.mesh_types.specs.Simplified.{IsOutline};
 ghost use Rattle.mesh_types.specs.Ears.{ears_of};
 ghost use Rattle.mesh_types.specs.ContourMeshes.{cut_part, region_part, parts_of};
 ghost use Rattle.contour_walk.specs.Tables.{IsTableOf};
-ghost use Rattle.contour_mesh.specs.Parts.{IsPart};
+ghost use Rattle.contour_mesh.specs.Parts.{IsCutPart};
 
 use contour_simplify::simplify;
 use contour_walk::{RegionTable, contour_over};
@@ -31,7 +31,7 @@ pub fn parts(
     requires regions { AreRegionsOf cells.now regions.now }
     requires table { IsTableOf cells.now regions.now.regions table.now }
     ensures value { IfOk result (λ parts. parts ≡ parts_of table.now.window error cells.now regions.now) }
-    ensures each { IfOk result (λ parts. IfSome parts (All IsPart)) }
+    ensures each { IfOk result (λ parts. IfSome parts (All IsCutPart)) }
 {
     let mut parts = Vec::new(alloc);
     for id in 0..regions.regions.len() as u32 {
@@ -57,7 +57,7 @@ fn region_part(
     requires table { IsTableOf cells.now regions.now.regions table.now }
     requires there { id < length regions.now.regions }
     ensures value { IfOk result (λ part. part ≡ region_part table.now.window error cells.now regions.now id) }
-    ensures part { IfOk result (λ part. IfSome part IsPart) }
+    ensures part { IfOk result (λ part. IfSome part IsCutPart) }
 {
     let edges = contour_over(alloc, cells, regions, table, id)?;
     match simplify(alloc, edges.as_slice(), error)? {
@@ -70,7 +70,7 @@ fn region_part(
 fn cut_part(alloc: Global, outline: Outline) -> Result<Option<Part>, AllocError>
     requires { IsOutline outline }
     ensures value { IfOk result (λ part. part ≡ cut_part outline (ears_of outline.corners)) }
-    ensures part { IfOk result (λ part. IfSome part IsPart) }
+    ensures part { IfOk result (λ part. IfSome part IsCutPart) }
 {
     let triangles = match ears(alloc, &outline) {
         Ok(triangles) => triangles,

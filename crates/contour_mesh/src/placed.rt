@@ -7,7 +7,7 @@ ghost use Rattle.nav_ground.specs.Cells.{IsCells};
 ghost use Rattle.mesh_types.specs.ContourMeshes.{positions_of};
 ghost use Rattle.contour_walk.specs.Tables.{IsTableOf};
 ghost use Rattle.contour_mesh.specs.Orders.{IsSortOf};
-ghost use Rattle.contour_mesh.specs.SidePlaces.{place_cmp, is_place_before, is_same_place, stands_before, first_at, door_at, door_places, placed_doors};
+ghost use Rattle.contour_mesh.specs.SidePlaces.{side_place_cmp, is_place_before, is_same_place, stands_before, first_at, door_at, door_places, placed_doors};
 ghost use Rattle.contour_mesh.specs.Sides.{IsFieldWindow};
 ghost use Rattle.contour_mesh.specs.RimTables.{AreSideTables};
 
@@ -116,7 +116,7 @@ pub fn first_at<T: Copy>(placed: &[Placed<T>], place: SidePlace) -> Option<T>
 
 /// Which of two places comes first: by region, side and position.
 fn place_order(a: SidePlace, b: SidePlace) -> Ordering
-    ensures { result ≡ place_cmp a b }
+    ensures { result ≡ side_place_cmp a b }
 {
     let side = a.side.cmp(&b.side).then(a.position.cmp(&b.position));
     a.region.cmp(&b.region).then(side)

@@ -3,7 +3,7 @@
 ghost use Rattle.std.specs.Prelude.{◌≡◌, ◌<◌, ◌≤◌, ◌++◌, IfOk, OnOk, Option, All, length, map};
 ghost use Rattle.mesh_types.specs.declared.outline.Piece.{Piece};
 ghost use Rattle.mesh_types.specs.ContourMeshes.{facets_of};
-ghost use Rattle.contour_mesh.specs.Parts.{IsPart};
+ghost use Rattle.contour_mesh.specs.Parts.{IsCutPart};
 ghost use Rattle.contour_mesh.specs.Footings.{polygon_over, facet_over_footing};
 
 use crate::footing::Footing;
@@ -19,7 +19,7 @@ pub fn polygons(
     parts: &[Part],
     footings: &[Option<Footing>],
 ) -> Result<Items<Polygon>, AllocError>
-    requires parts { All IsPart parts.now }
+    requires parts { All IsCutPart parts.now }
     requires footings { length parts.now ≤ length footings.now }
     ensures { IfOk result (λ polys. polys ≡ map (facet_over_footing footings.now) (facets_of parts.now)) }
 {
@@ -39,7 +39,7 @@ fn push_polygons(
     corners: &mut Vec<Point>,
     polys: &mut Vec<Polygon>,
 ) -> Result<(), AllocError>
-    requires { IsPart part.now }
+    requires { IsCutPart part.now }
     ensures { OnOk result (polys.new.items
         ≡ polys.old.items ++ map (λ (piece : Piece). polygon_over part.now.outline.corners footing piece.corners) part.now.pieces) }
 {

@@ -3,7 +3,7 @@ use Rattle.std.specs.Prelude.{All, IfSome}
 use Rattle.mesh_types.specs.declared.door.Part.{Part}
 use Rattle.mesh_types.specs.Regions.{AreRegionsOf}
 use Rattle.mesh_types.proofs.ContourFit.{contour_mesh_fits}
-use Rattle.contour_mesh.specs.Parts.{IsPart}
+use Rattle.contour_mesh.specs.Parts.{IsCutPart}
 use Rattle.contour_mesh.proofs.MeshLaws.{few_polygons, mesh_is, no_mesh, no_more_parts, window_fits}
 use Rattle.contour_mesh.proofs.build.contour_mesh_over.Goals as goal
 
@@ -19,8 +19,8 @@ mesh-requires-clause-window c = window_fits c.args.setting.now c.args.free.tile 
 
 pub mesh-requires-clause-parts : goal.mesh-requires-clause-parts
 mesh-requires-clause-parts c =
-    let P : Option (List Part) → Type 0 = λ found. IfSome found (All IsPart) in
-    subst (All IsPart) (sym c.as_slice-in-Some.ensures) (subst P c.in-Some.is c.in_ok-parts.ensures.each)
+    let P : Option (List Part) → Type 0 = λ found. IfSome found (All IsCutPart) in
+    subst (All IsCutPart) (sym c.as_slice-in-Some.ensures) (subst P c.in-Some.is c.in_ok-parts.ensures.each)
 
 -- the parts as they were handed over
 pub mesh-requires-clause-each : goal.mesh-requires-clause-each

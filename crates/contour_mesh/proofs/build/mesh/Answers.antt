@@ -7,14 +7,14 @@ use Rattle.mesh_types.specs.declared.door.Part.{Part}
 use Rattle.mesh_types.specs.declared.door.Door.{Door}
 use Rattle.mesh_types.specs.ContourMeshes.{doors_of, facet_polygon, facets_of}
 use Rattle.contour_walk.proofs.Contoured.{few_regions}
-use Rattle.contour_mesh.specs.Parts.{IsPart}
+use Rattle.contour_mesh.specs.Parts.{IsCutPart}
 use Rattle.contour_mesh.specs.Orders.{JoinsCorners}
 use Rattle.contour_mesh.proofs.DoorLaws.{IsDoorOf, all_meet, doors_all}
 use Rattle.contour_mesh.proofs.MeshLaws.{mesh_of_parts}
 use Rattle.contour_mesh.proofs.build.mesh.Goals as goal
 
 -- the doors of parts that were handed over as a slice
-doors_given : (parts : List Part) (lent made : List Door) → All IsPart parts → lent ≡ made → made ≡ doors_of (facets_of parts)
+doors_given : (parts : List Part) (lent made : List Door) → All IsCutPart parts → lent ≡ made → made ≡ doors_of (facets_of parts)
     → All (IsDoorOf parts (length (facets_of parts))) lent
 doors_given parts lent made each same are = subst (All (IsDoorOf parts (length (facets_of parts)))) (sym (same ∙ are)) (doors_all parts each)
 

@@ -3,7 +3,7 @@ use Rattle.std.specs.Prelude.{IfSome}
 use Rattle.mesh_types.specs.declared.door.Part.{Part}
 use Rattle.mesh_types.specs.ContourMeshes.{region_part}
 use Rattle.contour_walk.proofs.Contoured.{few_regions}
-use Rattle.contour_mesh.specs.Parts.{IsPart}
+use Rattle.contour_mesh.specs.Parts.{IsCutPart}
 use Rattle.contour_mesh.proofs.PartLaws.{parts_all, parts_more, parts_stop}
 use Rattle.contour_mesh.proofs.parts.parts.Goals as goal
 
@@ -23,7 +23,7 @@ returns-in_default-clause-value c =
 
 pub loop-id-preserved : goal.loop-id-preserved
 loop-id-preserved c =
-    let P : Option Part → Type 0 = λ found. IfSome found IsPart in
+    let P : Option Part → Type 0 = λ found. IfSome found IsCutPart in
     parts_more (region_part c.args.table.now.window c.args.error c.args.cells.now c.args.regions.now) c.loop-id.id c.loop-id.parts.items c.push.new.self.items
     c.in-Some.part c.loop-id.invariant (sym c.in-Some.is ∙ c.in_ok-part.ensures.value) (subst P c.in-Some.is c.in_ok-part.ensures.part)
     c.in_ok-push.ensures.items
