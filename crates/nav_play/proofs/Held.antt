@@ -12,17 +12,17 @@ use Rattle.nav_desk.specs.BookState.{BookState}
 use Rattle.nav_desk.specs.Steps.{next_job}
 use Rattle.nav_play.specs.Jobs.{held_after_claim}
 use Rattle.nav_book.specs.declared.result.TileResult.{TileResult}
-use Rattle.nav_play.specs.Players.{AreHeld, IsHeld, held_job, job_of, jobs_of_held}
+use Rattle.nav_play.specs.Players.{AreHeld, IsHeld, held_job, job_built, jobs_of_held}
 
 -- the job of what a worker holds
 pub job_held : (held : List (Option TileResult)) (worker : ℕ) (made : Option TileResult) → made ≡ get_or held worker None
-    → held_job held worker ≡ option_map job_of made
-job_held held worker made is = get_or-map (option_map job_of) held worker None ∙ ap (option_map job_of) (sym is)
+    → held_job held worker ≡ option_map job_built made
+job_held held worker made is = get_or-map (option_map job_built) held worker None ∙ ap (option_map job_built) (sym is)
 
 -- what another holds changes its job alone
 pub jobs_set : (held after : List (Option TileResult)) (worker : ℕ) (made : Option TileResult) → after ≡ set held worker made
-    → jobs_of_held after ≡ set (jobs_of_held held) worker (option_map job_of made)
-jobs_set held after worker made is = ap jobs_of_held is ∙ map-set (option_map job_of) held worker made
+    → jobs_of_held after ≡ set (jobs_of_held held) worker (option_map job_built made)
+jobs_set held after worker made is = ap jobs_of_held is ∙ map-set (option_map job_built) held worker made
 
 -- a worker that holds on to what it holds
 pub jobs_same : (held : List (Option TileResult)) (worker : ℕ) (job : Option Job) → held_job held worker ≡ job
@@ -54,7 +54,7 @@ none_of (suc n) = ap (λ (jobs : List (Option Job)). None ∷ jobs) (none_of n)
 pub jobs_none : (held after : List (Option TileResult)) → after ≡ replicate (length held) None
     → jobs_of_held after ≡ replicate (length (jobs_of_held held)) None
 jobs_none held after is =
-    ap jobs_of_held is ∙ none_of (length held) ∙ ap (λ (n : ℕ). replicate n None) (sym (length-map held (option_map job_of)))
+    ap jobs_of_held is ∙ none_of (length held) ∙ ap (λ (n : ℕ). replicate n None) (sym (length-map held (option_map job_built)))
 
 pub jobs_begun : (held : List (Option TileResult)) (n : ℕ) → held ≡ replicate n None → jobs_of_held held ≡ replicate n None
 jobs_begun held n is = ap jobs_of_held is ∙ none_of n
@@ -69,7 +69,7 @@ idle held worker free = by_case (get_or held worker None) refl free
 
 -- and holds the build of the job that it is given
 pub claim_jobs : (book : BookState) (held after : List (Option TileResult)) (worker : ℕ) (made : TileResult) (given : Option Job) (job : Job)
-    → is_some (get_or held worker None) ≡ false → after ≡ set held worker (Some made) → given ≡ next_job book → given ≡ Some job → job_of made ≡ job
+    → is_some (get_or held worker None) ≡ false → after ≡ set held worker (Some made) → given ≡ next_job book → given ≡ Some job → job_built made ≡ job
     → jobs_of_held after ≡ set (jobs_of_held held) worker (held_after_claim book (held_job held worker))
 claim_jobs book held after worker made given job free is next_is some same =
     jobs_set held after worker (Some made) is

@@ -13,8 +13,9 @@ use Rattle.nav_desk.specs.BookState.{BookState, IsBook, is_awaited, is_claimable
 use Rattle.nav_desk.specs.Flags.{flag_of}
 use Rattle.nav_desk.specs.SameShapes.{are_same}
 use Rattle.nav_desk.specs.Steps.{after_claim, after_put_back_all, after_submit, is_taken, job_of, next_job}
+use Rattle.nav_desk.proofs.BookLaws.{shown_after_publish}
 use Rattle.nav_desk.proofs.SameShapes.{same_lists_decide}
-use Rattle.nav_play.specs.Settling.{IsUnclaimed, after_job, all_built, awaited_tiles, settling}
+use Rattle.nav_play.specs.Settling.{IsUnclaimed, after_job, after_settle, all_built, awaited_tiles, settling}
 use Rattle.nav_play.proofs.Passing.{first_passing, others_passing, none_found, none_passes}
 
 -- where no tile is claimed, the least tile that can be claimed is the least awaited one
@@ -170,6 +171,22 @@ turns_end book given free next_is none = by_case (least_claimable book) refl
     by_case (Some tile) is =
         let e : Some (job_of book tile) ≡ None = sym (ap (option_map (job_of book)) is) ∙ sym next_is ∙ none in
         absurd cc
+
+-- what is built keeps the target, and once no tile is awaited a publish shows it
+jobs_target : (book : BookState) (tiles : List ℕ) → (fold after_job book tiles).target ≡ book.target
+jobs_target book [] = refl
+jobs_target book (tile ∷ tiles) = jobs_target (after_job book tile) tiles
+
+built_target : (book : BookState) → (all_built book).target ≡ book.target
+unfolding all_built
+built_target book = jobs_target book (awaited_tiles book)
+
+-- a settled book shows its whole history
+pub settled_shows : (book : BookState) → awaited_tiles (all_built (settling book)) ≡ [] → (after_settle book).published ≡ length book.history
+settled_shows book none =
+    shown_after_publish (all_built (settling book))
+    (none_found (is_awaited (all_built (settling book))) (range_with_len 0 (tile_count (all_built (settling book)).whole.setting)) none)
+    ∙ built_target (settling book)
 
 -- no tile is claimed once all are put back
 pub unclaimed_by_all : (book : BookState) → IsUnclaimed (settling book)

@@ -38,8 +38,8 @@ abbrev pub ground_of : Setting → Field → Ground
 ground_of setting field = record { setting = setting; field = field; layers = layers_of setting field }
 
 -- a play begins with no history, in lane 0, and its workers hold nothing
-abbrev pub first_state : Ground → ℕ → ℕ → PlayState
-first_state whole lanes workers = record {
+abbrev pub opening_state : Ground → ℕ → ℕ → PlayState
+opening_state whole lanes workers = record {
   book = books.first_state whole;
   lane = 0;
   adds = replicate lanes [];
@@ -67,7 +67,7 @@ number_added (Dead number) = 0
 abbrev pub number_got : BookState → Request → ℕ
 number_got book request = if length book.history == HISTORY_LIMIT then 0 else number_added (next_reply book request)
 
--- the numbers of a lane; those of all lanes, with one more for one lane; and the one of the lane's j-th add line, counted from 1
+-- the numbers of a lane; those of all lanes, with one more for one lane; and the one of the lane's j-th add line, where j is at least 1
 abbrev pub adds_of : List (List ℕ) → ℕ → List ℕ
 adds_of adds lane = get_or adds lane []
 
@@ -105,7 +105,7 @@ IsSaid state (Back worker) text = text ≡ step_text (back_said worker (held_by 
 IsSaid state (Submit worker) text = text ≡ step_text (submit_said state.book worker (held_by state worker))
 IsSaid state Publish text = text ≡ step_text (publication_said (publication state.book))
 
--- the state after a line
+-- the state after a line; a `settle` puts back the jobs of the tiles that workers hold with all others, so that no worker holds a tile
 abbrev pub state_after : PlayState → Line → PlayState
 state_after state (Lane lane) = record state { lane = lane }
 state_after state (Ask question) = state
@@ -162,7 +162,7 @@ pub record IsTextFrom (state : PlayState) (lines : List Line) (text : List ℕ) 
 
 -- the state in which the play of a script over a field begins
 abbrev pub first_state_of : Setting → Field → Script → PlayState
-first_state_of setting field script = first_state (ground_of setting field) script.lanes script.workers
+first_state_of setting field script = opening_state (ground_of setting field) script.lanes script.workers
 
 -- what a play of a script over a field may write
 abbrev pub IsPlayText : Setting → Field → Script → List ℕ → Type 0

@@ -80,7 +80,8 @@ pub record TellEnd (state : PlayState) (totals : Totals) : Type 0 where
   pub polys : totals.polys ≡ polygon_count (published_mesh state.book).tiles
   pub links : totals.links ≡ link_count (published_mesh state.book)
 
--- these are totals of the play of a script over a field: they count right answers to its `path` lines, and tell how far it came
+-- these are totals of the play of a script over a field: they count right answers to its `path` lines, and tell how far it came. Whether the
+-- answers are those that are written does not matter: all right answers give the same totals
 pub record AreTotals (setting : Setting) (field : Field) (script : Script) (totals : Totals) : Type 0 where
   pub given : List Answer
   pub right : AreSaid IsCounted (first_state_of setting field script) script.lines given

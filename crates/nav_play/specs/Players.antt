@@ -13,12 +13,12 @@ use Rattle.nav_script.specs.declared.line.Line.{Line}
 use Rattle.nav_script.specs.declared.line.Line.TheVariants.{Lane, Ask, Add, Remove, Undo, Settle, Aim, Claim, Back, Submit, Publish}
 
 -- the job of a tile that was built
-abbrev pub job_of : TileResult → Job
-job_of made = record { tile = made.tile; shapes = made.shapes }
+abbrev pub job_built : TileResult → Job
+job_built made = record { tile = made.tile; shapes = made.shapes }
 
 -- the jobs of the tiles that workers hold
 abbrev pub jobs_of_held : List (Option TileResult) → List (Option Job)
-jobs_of_held held = map (option_map job_of) held
+jobs_of_held held = map (option_map job_built) held
 
 -- the job of the tile that a worker holds
 abbrev pub held_job : List (Option TileResult) → ℕ → Option Job

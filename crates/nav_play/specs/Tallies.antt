@@ -1,4 +1,4 @@
--- The totals while a play is under way: the answers are counted, and the rest is still 0.
+-- The running totals of a play under way, one answer after another, with the rest still 0. What totals mean is said in PlayTotals.
 use Rattle.std.specs.Prelude.{◌≡◌, ◌+◌, ◌<◌, ◌≤◌, ◌^◌, length}
 use Rattle.nav_base.specs.declared.answers.Question.{Question}
 use Rattle.nav_base.specs.declared.answers.Question.TheVariants as questions

@@ -1,11 +1,11 @@
 //! Single steps of workers and of the book.
 
-ghost use Rattle.std.specs.Prelude.{◌≡◌, ◌+◌, ◌<◌, None, IfOk, OnOk, length, replicate, slice_set};
+ghost use Rattle.std.specs.Prelude.{◌≡◌, ◌+◌, ◌<◌, [], None, IfOk, OnOk, length, replicate, slice_set};
 ghost use Rattle.nav_book.specs.Results.{IsBuild};
 ghost use Rattle.nav_desk.specs.BookState.{IsBook};
 ghost use Rattle.nav_desk.specs.Steps.{IsJob, after_publish, publication};
 ghost use Rattle.nav_play.specs.Jobs.{claim_said, held_after_claim, book_after_claim, jobs_of_claim, back_said, book_after_back, submit_said, book_after_submit, publication_said};
-ghost use Rattle.nav_play.specs.Players.{AreHeld, held_job, job_of, jobs_of_held};
+ghost use Rattle.nav_play.specs.Players.{AreHeld, held_job, job_built, jobs_of_held};
 ghost use Rattle.nav_play.specs.Settling.{IsUnclaimed, after_settle, all_built, awaited_tiles, settling};
 ghost use Rattle.nav_steps.specs.Counts.{HasRisenAtMost};
 
@@ -56,7 +56,7 @@ fn built<L: Ledger>(
 ) -> Result<TileResult, AllocError>
     requires job { IsJob book.now.whole.setting job }
     ensures rules { IsBook book.now }
-    ensures job { IfOk result (λ made. job_of made ≡ job) }
+    ensures job { IfOk result (λ made. job_built made ≡ job) }
     ensures made { IfOk result (IsBuild book.now.whole) }
     ensures step { steps.new ≡ steps.old + 1 }
 {
@@ -127,6 +127,8 @@ pub(crate) fn settle<L: Ledger>(
 ) -> Result<StepAnswer, AllocError>
     ensures answer { IfOk result (λ answer. answer ≡ StepAnswer.Settled (length book.old.history)) }
     ensures book { OnOk result (book.new ≡ after_settle book.old) }
+    // So the publish at its end never has to wait for a tile.
+    ensures shown { OnOk result (book.new.published ≡ length book.old.history) }
     ensures jobs { jobs_of_held workers.new ≡ replicate (length (jobs_of_held workers.old)) None }
     ensures held { AreHeld book.new.whole workers.new }
     ensures steps { OnOk result (steps.new ≡ steps.old + length (awaited_tiles (settling book.old))) }
@@ -148,6 +150,7 @@ fn build_all<L: Ledger>(
 ) -> Result<(), AllocError>
     requires free { IsUnclaimed book.old }
     ensures book { OnOk result (book.new ≡ all_built book.old) }
+    ensures none { OnOk result (awaited_tiles book.new ≡ []) }
     ensures steps { OnOk result (steps.new ≡ steps.old + length (awaited_tiles book.old)) }
     ensures most { HasRisenAtMost (length (awaited_tiles book.old)) steps.old steps.new }
 {

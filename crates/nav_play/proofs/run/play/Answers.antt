@@ -2,7 +2,7 @@ use Rattle.std.proofs.Common.{◌∙◌, ℕ, List, [], length, ap, sym, refl, a
 use Rattle.std.specs.Option.{option_map}
 use Rattle.std.proofs.lemmas.List.{length-map, length-replicate}
 use Rattle.nav_desk.specs.declared.answers.Job.{Job}
-use Rattle.nav_play.specs.Players.{job_of}
+use Rattle.nav_play.specs.Players.{job_built}
 use Rattle.nav_play.proofs.OneTotals.{one_totals}
 use Rattle.nav_play.proofs.Playable.{line_playable}
 use Rattle.nav_play.proofs.Playing.{all_steps, are_totals, line_broken, no_line_played, one_line_played, whole_text}
@@ -19,7 +19,7 @@ pub step-requires-clause-playable : goal.step-requires-clause-playable
 step-requires-clause-playable g c =
     line_playable c.args.script.now _ _ _ _ _ c.requires.script c.as_slice-line-items.ensures c.loop-line-test.true
     (c.loop-line.invariant.playing.lanes ∙ length-replicate {A = List ℕ} c.args.script.now.lanes [])
-    (sym (length-map c.loop-line.player.workers (option_map job_of)) ∙ c.loop-line.invariant.playing.workers
+    (sym (length-map c.loop-line.player.workers (option_map job_built)) ∙ c.loop-line.invariant.playing.workers
     ∙ length-replicate {A = Option Job} c.args.script.now.workers None)
 
 pub step-requires-clause-room : goal.step-requires-clause-room

@@ -1,6 +1,7 @@
 use Rattle.std.proofs.Common.{◌+◌, ◌∙◌, ap, length, sym, arith}
 use Rattle.nav_desk.specs.declared.answers.Job.{Job}
 use Rattle.nav_desk.specs.Steps.{after_submit}
+use Rattle.nav_play.specs.Settling.{awaited_tiles}
 use Rattle.nav_play.proofs.JobLaws.{one_left, turn, turns_end}
 use Rattle.nav_play.proofs.steps.build_all.Goals as goal
 
@@ -48,3 +49,8 @@ returns-clause-steps g c =
 
 pub returns-clause-most : goal.returns-clause-most
 returns-clause-most g c = record { least = c.loop-job.invariant.least; most_risen = omega (arith, c.loop-job.invariant.count) }
+
+pub returns-clause-none : goal.returns-clause-none
+returns-clause-none g c =
+    let end = turns_end c.loop-job.book c.in_ok-job.field-0 c.loop-job.invariant.free c.in_ok-job.ensures.job c.in_default.is in
+    ap awaited_tiles (c.in_ok-job.ensures.claimed ∙ end.same) ∙ end.left

@@ -1,6 +1,6 @@
 use Rattle.std.proofs.Common.{rules, Err, refl, ap, subst, sym, ◌∙◌, inl, inr}
 use Rattle.navd.specs.Inputs.{IsPlay}
-use Rattle.navd.proofs.TopLaws.{broken, differ, ends_apart, took_none, took_within, took_many, took_all, ended_well, play_due, fault_due, no_play_known, quiet_ends}
+use Rattle.navd.proofs.TopLaws.{broken, differ, ends_apart, took_none, took_within, took_many, took_all, ended_well, play_due, fault_due, no_play_known, play_known, quiet_ends}
 use Rattle.navd.proofs.top.navd.Goals as goal
 
 pub returns-in-Played-clause-write_fault : goal.returns-in-Played-clause-write_fault
@@ -156,3 +156,10 @@ returns-in-Err-OutOfMemory-clause-took g c = took_within _ _ (c.read_all.ensures
 
 pub returns-in-Err-TooLong-clause-took : goal.returns-in-Err-TooLong-clause-took
 returns-in-Err-TooLong-clause-took g c = took_many _ _ (c.read_all.ensures.long (c.in-Err-TooLong.is ∙ ap Err c.in-Err-TooLong.field-0-is))
+
+pub returns-in-Played-clause-wrong : goal.returns-in-Played-clause-wrong
+returns-in-Played-clause-wrong g c =
+    let played = c.in-Played.ensures.right in
+    let play : IsPlay c.as_slice.result.now =
+    record { setting = played.setting; field = played.field; script = played.script; there = played.there; built = played.built } in
+    play_known _ _ c.in-Ok.input.items _ _ _ _ c.in-Ok.ensures.ok (subst IsPlay c.as_slice.ensures.value play)
