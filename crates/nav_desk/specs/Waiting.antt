@@ -27,7 +27,7 @@ pub record IsStart (flags : List Bool) (start : ℕ) : Type 0 where
   pub within : start ≤ length flags
   pub none : (tile : ℕ) → tile < start → flag_of flags tile ≡ false
 
--- and so many are set
+-- a set of flags as it is kept: looking for the least may start at a place, and so many flags are set
 pub record IsLeastSet (flags : List Bool) (start members : ℕ) : Type 0 where
   pub place : IsStart flags start
   pub counted : members ≡ set_count flags
