@@ -1,10 +1,13 @@
 -- Flags after one of them was written.
-use Rattle.std.proofs.Common.{◌≡◌, ◌≢◌, ℕ, zero, suc, ◌+◌, ◌<◌, ◌≤◌, min, Bool, true, false, List, [], ◌∷◌, ◌++◌, length, get_or, set, drop, replicate, ap, sym, ◌∙◌, refl, ⊎_elim, arith}
-use Rattle.std.specs.Prelude.{if◌then◌else◌}
+use Rattle.std.proofs.Common.{◌≡◌, ◌≢◌, ℕ, zero, suc, ◌+◌, ◌<◌, ◌≤◌, min, Bool, true, false, Option, Some, None, List, [], ◌∷◌, length, set, replicate, cond, ap, sym, subst, ◌∙◌, refl, ⊎_elim, arith}
+use Rattle.std.specs.Prelude.{IfSome, if◌then◌else◌}
 use Rattle.std.proofs.lemmas.Bool.{both_ways, cases_eq, cases_lt}
-use Rattle.std.proofs.lemmas.List.{length-set, get_or-set_same, get_or-set_other, drop_more, set_at, length-replicate, replicate_more, append_assoc}
-use Rattle.nav_desk.specs.Flags.{flag_of}
-use Rattle.nav_desk.specs.Waiting.{Waiting, IsStart}
+use Rattle.std.proofs.lemmas.List.{length-set, get_or-set_same, get_or-set_other}
+use Rattle.std.proofs.lemmas.List.Sums.{sum_by-set}
+use Rattle.std.proofs.lemmas.List.Folds.{sum_by-replicate}
+use Rattle.nav_desk.specs.Flags.{flag_of, set_count, least_below}
+use Rattle.nav_desk.specs.Waiting.{Waiting, IsStart, IsLeastSet}
+use Rattle.nav_desk.proofs.Leasts.{least_passes, none_below}
 
 -- a flag that was written, and the others
 pub flag_written : (flags : List Bool) (tile : ℕ) (b : Bool) → tile < length flags → flag_of (set flags tile b) tile ≡ b
@@ -57,17 +60,67 @@ IsStart-moved flags start next is within unset = record {
   none = λ k before. ⊎_elim (λ early. is.none k early) (λ late. unset k late before) (cases_lt k start);
 }
 
--- one more flag of the first ones taken away
-pub one_more_taken : (flags : List Bool) (i : ℕ) → i < length flags
-    → set (replicate i false ++ drop i flags) i false ≡ replicate (i + 1) false ++ drop (i + 1) flags
-one_more_taken flags i there =
-    ap (λ rest. set (replicate i false ++ rest) i false) (drop_more flags i false there)
-    ∙ set_at (replicate i false) (get_or flags i false) (drop (i + 1) flags) false i (length-replicate i false)
-    ∙ sym (append_assoc (replicate i false) (false ∷ []) (drop (i + 1) flags))
-    ∙ ap (λ front. front ++ drop (i + 1) flags) (replicate_more i false)
+-- how many flags are set, after one was written
+pub count_written : (flags : List Bool) (tile : ℕ) (b : Bool) → tile < length flags
+    → set_count (set flags tile b) + cond (flag_of flags tile) 1 0 ≡ set_count flags + cond b 1 0
+count_written flags tile b there = sum_by-set (λ (flag : Bool). cond flag 1 0) flags tile b false there
 
-pub released : (start now after : Waiting) (i : ℕ) → now ≡ record start { claimed = replicate i false ++ drop i start.claimed } → i < length start.claimed
-    → after ≡ record now { claimed = set now.claimed i false } → after ≡ record start { claimed = replicate (i + 1) false ++ drop (i + 1) start.claimed }
-released start now after i so_far there is =
-    is ∙ ap (λ (w : Waiting). record w { claimed = set w.claimed i false }) so_far
-    ∙ ap (λ (claims : List Bool). record start { claimed = claims }) (one_more_taken start.claimed i there)
+-- one less where a set flag was taken away
+pub one_less : (flags : List Bool) (tile : ℕ) → tile < length flags → flag_of flags tile ≡ true → set_count (set flags tile false) < set_count flags
+one_less flags tile there is =
+    let counts = subst (λ (b : Bool). set_count (set flags tile false) + cond b 1 0 ≡ set_count flags + 0) is (count_written flags tile false there) in
+    omega (arith, counts)
+
+-- where a flag is set, they are not none
+pub some_set : (flags : List Bool) (tile : ℕ) → tile < length flags → flag_of flags tile ≡ true → 0 < set_count flags
+some_set flags tile there is = let less = one_less flags tile there is in omega (arith, less)
+
+-- where none is set, each is not
+pub none_set : (flags : List Bool) (tile : ℕ) → set_count flags ≡ 0 → tile < length flags → flag_of flags tile ≡ false
+none_set flags tile none there = unset (flag_of flags tile) false (λ is. let some = some_set flags tile there is in absurd (omega (arith, some, none))) refl
+
+pub count_none : (count : ℕ) → set_count (replicate count false) ≡ 0
+count_none count = sum_by-replicate (λ (flag : Bool). cond flag 1 0) count false ∙ omega arith
+
+-- flags of which none is set
+pub all_unset : (flags : List Bool) → ((tile : ℕ) → tile < length flags → flag_of flags tile ≡ false) → flags ≡ replicate (length flags) false
+all_unset [] unset = refl
+all_unset (flag ∷ flags) unset =
+    ap (λ (b : Bool). b ∷ flags) (unset 0 (omega arith))
+    ∙ ap (λ (rest : List Bool). false ∷ rest) (all_unset flags (λ tile there. unset (suc tile) (omega (arith, there))))
+
+-- a set of which a tile was written, and one that was gone on in
+pub IsLeastSet-written : (flags : List Bool) (start members tile after : ℕ) (b : Bool) → tile < length flags → IsLeastSet flags start members
+    → after + cond (flag_of flags tile) 1 0 ≡ members + cond b 1 0 → IsLeastSet (set flags tile b) (if b then min start tile else start) after
+IsLeastSet-written flags start members tile after b there is counts = record {
+  place = IsStart-written flags start tile b there is.place;
+  counted = let written = count_written flags tile b there in omega (arith, counts, written, is.counted);
+}
+
+-- looking again at one marked tile
+pub looked_more : (marks flags : List Bool) (tile k : ℕ) (fresh : ℕ → Bool) → tile < length marks → tile < length flags → flag_of marks tile ≡ true
+    → (if flag_of (set marks tile false) k then fresh k else flag_of (set flags tile (fresh tile)) k) ≡ (if flag_of marks k then fresh k else flag_of flags k)
+looked_more marks flags tile k fresh there within is = ⊎_elim
+    (λ same. subst (λ (n : ℕ). (if flag_of (set marks tile false) n then fresh n else flag_of (set flags tile (fresh tile)) n) ≡ (if flag_of marks n then fresh n else flag_of flags n))
+    (sym same)
+    (ap (λ b. if b then fresh tile else flag_of (set flags tile (fresh tile)) tile) (flag_written marks tile false there)
+    ∙ flag_written flags tile (fresh tile) within
+    ∙ sym (ap (λ b. if b then fresh tile else flag_of flags tile) is)))
+    (λ apart.
+    ap (λ b. if b then fresh k else flag_of (set flags tile (fresh tile)) k) (flag_other marks tile k false apart)
+    ∙ ap (λ b. if flag_of marks k then fresh k else b) (flag_other flags tile k (fresh tile) apart))
+    (cases_eq k tile)
+
+-- the least of flags is one of them
+pub least_there : (flags : List Bool) (count : ℕ) (found : Option ℕ) → found ≡ least_below (length flags) (flag_of flags) → length flags ≡ count
+    → IfSome found (λ tile. tile < count)
+least_there flags count (Some tile) is same = let there = (least_passes (length flags) tile (flag_of flags) (sym is)).0 in omega (arith, there, same)
+least_there flags count None is same = tt
+
+-- all claims have ended where no tile is claimed
+pub released : (start now : Waiting) → now.awaited ≡ start.awaited → length now.claimed ≡ length start.claimed
+    → least_below (length now.claimed) (flag_of now.claimed) ≡ None → now ≡ record start { claimed = replicate (length start.claimed) false }
+released start now same each none =
+    ap (λ (flags : List Bool). record now { awaited = flags }) same
+    ∙ ap (λ (claims : List Bool). record start { claimed = claims })
+    (all_unset now.claimed (λ tile there. none_below (length now.claimed) (flag_of now.claimed) tile none there) ∙ ap (λ count. replicate count false) each)

@@ -1,13 +1,15 @@
 -- The steps of a book: what each is answered, and the state after it. What a step does not name stays.
-use Rattle.std.specs.Prelude.{ℕ, ◌<◌, Bool, true, false, ◌&&◌, ◌==◌, if◌then◌else◌, List, [], ◌∷◌, ◌++◌, length, replicate, slice_set, Option, Some, None, option_map, All}
+use Rattle.std.specs.Prelude.{ℕ, ◌+◌, ◌<◌, Bool, true, false, ◌&&◌, ◌==◌, if◌then◌else◌, List, [], ◌∷◌, ◌++◌, length, replicate, slice_set, Option, Some, None, option_map, Result, Ok, Err, All}
 use Rattle.std.specs.Option.{option_map_or}
 use Rattle.nav_ground.specs.declared.history.Reply.{Reply}
 use Rattle.nav_ground.specs.declared.history.Request.{Request}
+use Rattle.nav_ground.specs.declared.history.TheConstants.{HISTORY_LIMIT}
 use Rattle.nav_ground.specs.declared.setting.Setting.{Setting}
 use Rattle.nav_ground.specs.declared.shape.Shape.{Shape}
 use Rattle.nav_ground.specs.History.{reply_to}
 use Rattle.nav_ground.specs.Limits.{IsShape}
 use Rattle.nav_ground.specs.Tiling.{tile_count}
+use Rattle.nav_desk.specs.declared.answers.HistoryFull.{HistoryFull}
 use Rattle.nav_desk.specs.declared.answers.Job.{Job}
 use Rattle.nav_desk.specs.declared.answers.Published.{Published}
 use Rattle.nav_desk.specs.declared.answers.Published.TheVariants.{New, Same, NotYet}
@@ -24,6 +26,17 @@ abbrev pub after_request : BookState → ℕ → Request → BookState
 after_request state lane request = record state {
   history = state.history ++ record { lane = lane; request = request; reply = next_reply state request } ∷ [];
 }
+
+-- but where the history is full it is refused with the length of the history, and nothing changes; else it gets the number of its entry, from
+-- 1, and its reply
+abbrev pub is_full : BookState → Bool
+is_full state = length state.history == HISTORY_LIMIT
+
+abbrev pub request_answer : BookState → Request → Result (ℕ × Reply) HistoryFull
+request_answer state request = if is_full state then Err (record { len = length state.history }) else Ok (length state.history + 1, next_reply state request)
+
+abbrev pub requested : BookState → ℕ → Request → BookState
+requested state lane request = if is_full state then state else after_request state lane request
 
 -- an aim makes the length of the history the target
 abbrev pub after_aim : BookState → BookState

@@ -1,6 +1,6 @@
 -- Which tiles await a build, and which builds are claimed, as flags.
 use Rattle.std.specs.Prelude.{◌≡◌, ℕ, ◌<◌, ◌≤◌, ◌^◌, Bool, false, not, ◌&&◌, List, length, Option}
-use Rattle.nav_desk.specs.Flags.{flag_of, least_below}
+use Rattle.nav_desk.specs.Flags.{flag_of, set_count, least_below}
 
 -- two flags a tile
 pub record Waiting : Type 0 where
@@ -26,3 +26,8 @@ pub record IsStart (flags : List Bool) (start : ℕ) : Type 0 where
   pub few : length flags < 2 ^ 32
   pub within : start ≤ length flags
   pub none : (tile : ℕ) → tile < start → flag_of flags tile ≡ false
+
+-- a set of flags as it is kept: looking for the least may start at a place, and so many flags are set
+pub record IsLeastSet (flags : List Bool) (start members : ℕ) : Type 0 where
+  pub place : IsStart flags start
+  pub counted : members ≡ set_count flags

@@ -77,7 +77,7 @@ fn mark_run(dirty: &mut LeastSet, start: u32, across: TileRange)
     }
 }
 
-/// Looks again at each marked tile, whether it is awaited, and takes the marks away.
+/// Looks again at each marked tile, whether it is awaited, and takes the marks away; one step where no tile is marked.
 pub(crate) fn look_again(
     setting: &Setting,
     aimed: &[Shape],
@@ -98,36 +98,29 @@ pub(crate) fn look_again(
     ensures awaited { (tile : ℕ) → tile < tile_count setting.now → flag_of waiting.new.awaited tile
         ≡ (if flag_of dirty.old tile then awaits setting.now aimed.now tile (slice_index_or stored.now tile []) else flag_of waiting.old.awaited tile) }
 {
-    for tile in 0..stored.len() {
-        look_at(setting, aimed, stored, tile as u32, dirty, waiting);
+    while let Some(tile) = dirty.least() {
+        dirty.put(tile, false);
+        look_at(setting, aimed, stored, tile, waiting);
     }
 }
 
-/// Looks again at a tile if it is marked, whether it is awaited, and takes the mark away.
+/// Looks again at a tile, whether it is awaited.
 fn look_at(
     setting: &Setting,
     aimed: &[Shape],
     stored: &[Items<Shape>],
     tile: TileNo,
-    dirty: &mut LeastSet,
     waiting: &mut WaitingTiles,
 )
     requires setting { IsSetting setting.now }
     requires shapes { All IsShape aimed.now }
     requires there { tile < tile_count setting.now }
     requires lists { length stored.now ≡ tile_count setting.now }
-    requires marks { length dirty.old ≡ tile_count setting.now }
     requires flags { length waiting.old.awaited ≡ tile_count setting.now }
-    requires claims { length waiting.old.claimed ≡ tile_count setting.now }
-    ensures clean { dirty.new ≡ slice_set dirty.old tile false }
-    ensures awaited { waiting.new ≡ record waiting.old {
-      awaited = slice_set waiting.old.awaited tile
-          (if flag_of dirty.old tile then awaits setting.now aimed.now tile (slice_index_or stored.now tile []) else flag_of waiting.old.awaited tile);
+    ensures { waiting.new ≡ record waiting.old {
+      awaited = slice_set waiting.old.awaited tile (awaits setting.now aimed.now tile (slice_index_or stored.now tile []));
     } }
 {
-    if dirty.has(tile) {
-        dirty.put(tile, false);
-        let built = is_touching_list(setting, tile, aimed, stored[tile as usize].as_slice());
-        waiting.set_awaited(tile, !built);
-    }
+    let built = is_touching_list(setting, tile, aimed, stored[tile as usize].as_slice());
+    waiting.set_awaited(tile, !built);
 }

@@ -1,6 +1,6 @@
 //! Which tiles await a build, and which builds are claimed.
 
-ghost use Rattle.std.specs.Prelude.{◌≡◌, ◌<◌, ◌&&◌, not, false, length, replicate, slice_set, IfOk};
+ghost use Rattle.std.specs.Prelude.{◌≡◌, ◌<◌, ◌&&◌, not, false, length, replicate, slice_set, IfOk, IfSome};
 ghost use Rattle.nav_desk.specs.Flags.{flag_of, least_below};
 ghost use Rattle.nav_desk.specs.Waiting.{least_ready};
 
@@ -13,7 +13,7 @@ use std::marker::Model;
 #[derive(Drop)]
 pub(crate) struct WaitingTiles {
     awaited: LeastSet,
-    claimed: Vec<bool>,
+    claimed: LeastSet,
     ready: LeastSet,
 }
 
@@ -22,9 +22,9 @@ impl Model for WaitingTiles {
 
     ghost Value = { Waiting };
 
-    ghost view = { λ tiles. record { awaited = tiles.awaited; claimed = tiles.claimed.items } };
+    ghost view = { λ tiles. record { awaited = tiles.awaited; claimed = tiles.claimed } };
 
-    ghost invariant = { λ tiles. AreReady (record { awaited = tiles.awaited; claimed = tiles.claimed.items }) tiles.ready };
+    ghost invariant = { λ tiles. AreReady (record { awaited = tiles.awaited; claimed = tiles.claimed }) tiles.ready };
 }
 
 impl WaitingTiles {
@@ -34,7 +34,7 @@ impl WaitingTiles {
     {
         Ok(WaitingTiles {
             awaited: LeastSet::new(alloc, count)?,
-            claimed: vec![in alloc; false; count as usize]?,
+            claimed: LeastSet::new(alloc, count)?,
             ready: LeastSet::new(alloc, count)?,
         })
     }
@@ -53,7 +53,7 @@ impl WaitingTiles {
         ensures { self.new ≡ record self.old { awaited = slice_set self.old.awaited tile awaited } }
     {
         self.awaited.put(tile, awaited);
-        let claimed = self.claimed[tile as usize];
+        let claimed = self.claimed.has(tile);
         self.ready.put(tile, is_ready(awaited, claimed));
     }
 
@@ -62,18 +62,27 @@ impl WaitingTiles {
         requires { tile < length self.old.awaited }
         ensures { self.new ≡ record self.old { claimed = slice_set self.old.claimed tile claimed } }
     {
-        self.claimed[tile as usize] = claimed;
+        self.claimed.put(tile, claimed);
         let awaited = self.awaited.has(tile);
         self.ready.put(tile, is_ready(awaited, claimed));
     }
 
-    /// Ends all claims.
+    /// Ends all claims; one step where there are none.
     pub(crate) fn release_all(&mut self)
         ensures { self.new ≡ record self.old { claimed = replicate (length self.old.claimed) false } }
     {
-        for tile in 0..self.awaited.count() {
+        while let Some(tile) = self.least_claimed() {
             self.set_claimed(tile, false);
         }
+    }
+
+    /// The least tile that is claimed, if there is one.
+    fn least_claimed(&mut self) -> Option<TileNo>
+        ensures least { result ≡ least_below (length self.old.claimed) (flag_of self.old.claimed) }
+        ensures there { IfSome result (λ tile. tile < length self.old.awaited) }
+        ensures kept { self.new ≡ self.old }
+    {
+        self.claimed.least()
     }
 
     /// The least tile that is awaited, if there is one.

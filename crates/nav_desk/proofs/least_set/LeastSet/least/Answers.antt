@@ -9,9 +9,9 @@ use Rattle.nav_desk.proofs.least_set.LeastSet.least.Goals.{then-place-len, else-
 pub returns-clause-least : goal.returns-clause-least
 returns-clause-least c =
     let flags : List Bool = c.self.inside.flags.items in
-    let place : ℕ = c.next_set-place.result in
-    let next = rw c.as_slice.ensures.value at c.next_set-place.ensures in
-    let start : IsStart flags place = IsStart-moved flags c.self.inside.first place c.self.invariant next.within next.before in
+    let place : ℕ = c.next_member-place.result in
+    let next = rw c.as_slice.ensures.value at c.next_member-place.ensures in
+    let start : IsStart flags place = IsStart-moved flags c.self.inside.first place c.self.invariant.place next.within next.before in
     rw (← c.self.view_is) (elim c.if-place-len.branch [
       | then-place-len w ↦
           let there : place < length flags = omega (arith, w.if-place-len.true, c.len.ensures) in

@@ -1,6 +1,14 @@
-use Rattle.std.proofs.Common.{◌≡◌, ◌++◌, false, drop, replicate}
+use Rattle.std.proofs.Common.{◌≡◌, length}
+use Rattle.nav_desk.specs.Flags.{set_count}
 use Rattle.nav_desk.proofs.waiting.WaitingTiles.release_all.Given as goal
 
--- the claims on the tiles so far have ended
+-- only claims have changed
 abbrev pub invariant-loop-tile : goal.invariant-loop-tile
-invariant-loop-tile l = l.self ≡ record l.initial.self { claimed = replicate l.tile false ++ drop l.tile l.initial.self.claimed }
+invariant-loop-tile l = record {
+  awaited : l.self.awaited ≡ l.initial.self.awaited;
+  each : length l.self.claimed ≡ length l.initial.self.claimed;
+}
+
+-- the claimed tiles
+abbrev pub decreases-loop-tile : goal.decreases-loop-tile
+decreases-loop-tile l = set_count l.self.claimed
