@@ -75,19 +75,20 @@ fn append_link(out: &mut Vec<u8>, link: &Link) -> Result<(), AllocError>
     ensures capacity { vec_capacity out.old ≤ vec_capacity out.new }
 {
     append_numbers(out, b"link ", link.to.tile, b" ", link.to.index, b"")?;
-    append_point(out, link.portal.left, b"")?;
-    append_point(out, link.portal.right, b"\n")
+    append_point(out, b" ", link.portal.left, b"")?;
+    append_point(out, b" ", link.portal.right, b"\n")
 }
 
-/// Appends a space, a point and a word, or nothing where memory is refused. The word has at most 16 bytes.
-fn append_point(out: &mut Vec<u8>, p: Point, after: &[u8]) -> Result<(), AllocError>
-    requires { length after.now ≤ 16 }
-    ensures ok { OnOk result (out.new.items ≡ out.old.items ++ (codes " " ++ point_text p ++ after.now)) }
+/// Appends a word, a point and a word, or nothing where memory is refused. Words have at most 16 bytes.
+fn append_point(out: &mut Vec<u8>, before: &[u8], p: Point, after: &[u8]) -> Result<(), AllocError>
+    requires before { length before.now ≤ 16 }
+    requires after { length after.now ≤ 16 }
+    ensures ok { OnOk result (out.new.items ≡ out.old.items ++ (before.now ++ point_text p ++ after.now)) }
     ensures err { OnErr result (out.new.items ≡ out.old.items) }
-    ensures room { vec_len out.old + length (codes " " ++ point_text p ++ after.now) ≤ vec_capacity out.old → IsOk result }
+    ensures room { vec_len out.old + length (before.now ++ point_text p ++ after.now) ≤ vec_capacity out.old → IsOk result }
     ensures capacity { vec_capacity out.old ≤ vec_capacity out.new }
 {
-    append_pair(out, b" ", p.x, b" ", p.z, after)
+    append_pair(out, before, p.x, b" ", p.z, after)
 }
 
 /// Appends a line for each turn: where it is, at which end of which portal.
@@ -109,7 +110,7 @@ fn append_turn(out: &mut Vec<u8>, turn: &Corner) -> Result<(), AllocError>
     ensures room { vec_len out.old + length (turn_text turn.now) ≤ vec_capacity out.old → IsOk result }
     ensures capacity { vec_capacity out.old ≤ vec_capacity out.new }
 {
-    append_pair(out, b"turn ", turn.at.x, b" ", turn.at.z, b"")?;
+    append_point(out, b"turn ", turn.at, b"")?;
     match turn.side {
         Side::L => append_number(out, b" L ", turn.portal, b"\n"),
         Side::R => append_number(out, b" R ", turn.portal, b"\n"),
@@ -155,6 +156,6 @@ fn append_edge(out: &mut Vec<u8>, k: u32, a: Point, b: Point) -> Result<(), Allo
     ensures capacity { vec_capacity out.old ≤ vec_capacity out.new }
 {
     append_number(out, b"wall ", k, b"")?;
-    append_point(out, a, b"")?;
-    append_point(out, b, b"")
+    append_point(out, b" ", a, b"")?;
+    append_point(out, b" ", b, b"")
 }
