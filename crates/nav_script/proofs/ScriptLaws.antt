@@ -290,7 +290,7 @@ lines_again_from way ended lanes workers before (line ∷ more) is =
       and_from _ _ one.1 rest.1,
     )
 
-script_lines_again : (way : Way) (ended : Bool) (script : Script) → IsScript way script
+pub script_lines_again : (way : Way) (ended : Bool) (script : Script) → IsScript way script
     → Leads (script_format way ended) AtScript (script_lines script) (AtLines script.lanes script.workers script.lines) × (list_all is_line (script_lines script) ≡ true)
 script_lines_again way ended script is =
     let lanes : script.lanes ≤ 16 = is.lanes_most in

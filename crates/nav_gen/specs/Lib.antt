@@ -1,0 +1,5 @@
+pub mod Draws
+pub mod MadeField
+pub mod MadeScript
+pub mod MadeText
+pub mod Summary
