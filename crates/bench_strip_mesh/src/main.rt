@@ -1,4 +1,4 @@
-//! Builds the mesh of a field as strips, up to a stage, to be timed: the input's first line says how far (1 reads the field text, 2 makes the
+//! Builds the mesh of a field, as strips or by outlines, up to a stage, to be timed: the input's first line says how far (1 reads the field text, 2 makes the
 //! ground, 3 builds the mesh of each tile, 4 joins them), the second how many copies of the mesh with one tile replaced are made after that,
 //! and the text follows.
 #![tactic(auto)]

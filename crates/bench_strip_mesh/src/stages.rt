@@ -1,16 +1,16 @@
 //! The stages of a mesh.
 
-ghost use Rattle.std.specs.Prelude.{◌≡◌, ◌<◌, ◌↔◌, [], IsTrue, take};
+ghost use Rattle.std.specs.Prelude.{◌≡◌, ◌<◌, [], take};
 ghost use Rattle.nav_ground.specs.Limits.{IsSetting};
 ghost use Rattle.nav_ground.specs.Fields.{IsField};
 ghost use Rattle.nav_ground.specs.Grounds.{IsGround};
 ghost use Rattle.span_text.specs.FieldText.{IsFieldText};
-ghost use Rattle.tile_build.specs.Meshes.{IsOfStrips, tiles_under};
+ghost use Rattle.tile_build.specs.Meshes.{tiles_under};
 
 use layer_cut::ground;
 use mesh_types::{Mesh, TileMesh, copy_mesh};
 use nav_book::Book;
-use nav_ground::{Ground, MeshKind, Setting};
+use nav_ground::Ground;
 use nav_list::Items;
 use nav_share::Shared;
 use nav_steps::Steps;
@@ -56,7 +56,7 @@ pub fn staged<L: Ledger>(
     }
     let whole = ground(alloc, read.setting, read.field)?;
     made.tiles = whole.layers.len();
-    if stage < 3 || !is_of_strips(&whole.setting) {
+    if stage < 3 {
         return Ok(made);
     }
     built::<L>(alloc, whole, made, stage, copies, blank)
@@ -72,7 +72,6 @@ fn built<L: Ledger>(
     blank: Blank,
 ) -> Result<Made, AllocError>
     requires ground { IsGround whole }
-    requires strips { IsOfStrips whole.setting }
     requires name { blank.name ≡ L.name }
     requires parts { blank.parts ≡ L.parts }
     requires some { 0 < blank.parts }
@@ -104,12 +103,6 @@ fn booked(
     count_cross(&mut made, book.mesh());
     make_copies(alloc, book.mesh(), copies)?;
     Ok(made)
-}
-
-fn is_of_strips(setting: &Setting) -> bool
-    ensures { IsTrue result ↔ IsOfStrips setting.now }
-{
-    matches!(setting.mesh, MeshKind::Strips)
 }
 
 fn count_tiles(made: &mut Made, tiles: &[Shared<TileMesh>]) {

@@ -22,9 +22,10 @@ use Rattle.mesh_types.proofs.Totals.{sum_by-exchanged, sum_by-one, sum_by-no_mor
 use Rattle.contour_walk.specs.Tables.{IsFit}
 use Rattle.contour_walk.specs.Walk.{edge_at, bottoms, right_side, top_side, left_side, round, AreUpon}
 use Rattle.contour_walk.proofs.Sums.{AreRows, first_ordered}
-use Rattle.contour_walk.proofs.Permuted.{some_counted}
+use Rattle.mesh_types.proofs.Counted.{some_counted}
 use Rattle.contour_walk.proofs.RimSums.{rows_of}
-use Rattle.contour_walk.proofs.Fabric.{holds_own, fabric}
+use Rattle.mesh_types.proofs.RegionLaws.{holds_own}
+use Rattle.contour_walk.proofs.Fabric.{fabric}
 use Rattle.contour_walk.proofs.Turned.{turned_rim, turned_closed, turned_ring}
 use Rattle.contour_walk.proofs.Earliest.{IsNoLater}
 

@@ -19,8 +19,8 @@ use Rattle.mesh_types.specs.declared.region.UnitEdge.{UnitEdge}
 use Rattle.mesh_types.specs.Regions.{is_holding, place_in, IsIn, IsStrip, IsStack, IsWoven, AreRegionsOf}
 use Rattle.mesh_types.specs.Contours.{cell_in, columns, edge_of, is_at, is_rim, places_in, rim_edges_of, rim_of, strips_in, IsContour}
 use Rattle.mesh_types.proofs.Totals.{once_in_range, sum_by-exchanged, sum_by-no_more, sum_by-one, sum_by-range_no_more, sum_by-zero}
-use Rattle.contour_walk.proofs.Permuted.{counted, some_counted}
-use Rattle.contour_walk.proofs.Fabric.{is_at_place, place_is, holds_own}
+use Rattle.mesh_types.proofs.Counted.{counted, some_counted}
+use Rattle.mesh_types.proofs.RegionLaws.{is_at_place, place_is, holds_own}
 use Rattle.contour_walk.proofs.Contoured.{term_most}
 
 fours : {X : Type 0} (xs : List X) → sum_by (λ x. 4) xs ≡ 4 * length xs

@@ -20,7 +20,7 @@ use Rattle.mesh_types.specs.Regions.{is_holding, IsStrip, IsIn, place_in}
 use Rattle.mesh_types.specs.Contours.{is_at}
 use Rattle.contour_walk.specs.Tables.{index_of, is_in_region, owner_of, IsMarked, IsFit}
 use Rattle.contour_walk.proofs.Places.{found_there}
-use Rattle.contour_walk.proofs.Fabric.{is_at_place, place_is, holds_own}
+use Rattle.mesh_types.proofs.RegionLaws.{is_at_place, place_is, holds_own}
 
 -- each cell has the number of the first region, from one on, that holds it, or how many regions there are
 pub record HasNumbers (cells : List Cell) (regions : List Region) (first : ℕ) (owners : List ℕ) : Type 0 where

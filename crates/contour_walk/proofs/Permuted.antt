@@ -1,5 +1,5 @@
 -- Lists over which every sum is the same hold the same elements; for lists of unit edges, which can be told apart.
-use Rattle.std.proofs.Common.{◌≡◌, ℕ, ◌+◌, ◌<◌, ◌≤◌, Bool, true, false, cond, List, [], ◌∷◌, ◌++◌, length, get_or, ap, ◌∙◌, sym, refl, subst, arith, zero, suc, inl, inr}
+use Rattle.std.proofs.Common.{◌≡◌, ℕ, ◌+◌, ◌<◌, ◌≤◌, Bool, true, false, cond, List, [], ◌∷◌, ◌++◌, length, get_or, ap, ◌∙◌, sym, refl, subst, arith, suc, inl, inr}
 use Rattle.std.specs.Prelude.{◌==◌, ◌&&◌, Decides, take, drop}
 use Rattle.std.specs.List.{sum_by}
 use Rattle.std.specs.List.Sorted.{IsPermutation}
@@ -13,20 +13,7 @@ use Rattle.nav_base.specs.declared.point.Point.{Point}
 use Rattle.mesh_types.specs.declared.region.UnitEdge.{UnitEdge}
 use Rattle.mesh_types.specs.declared.region.Code.{Code}
 use Rattle.mesh_types.specs.declared.region.Code.TheVariants.{Wall, Side, Region}
-
--- how many elements pass
-abbrev pub counted : {X : Type 0} → (X → Bool) → List X → ℕ
-counted p xs = sum_by (λ x. cond (p x) 1 0) xs
-
-counted_more : {X : Type 0} (p : X → Bool) (x : X) (xs : List X) → counted p (x ∷ xs) ≡ cond (p x) 1 0 + counted p xs
-counted_more p x xs = sum_by-cons (λ y. cond (p y) 1 0) x xs
-
--- an element that passes is counted
-pub some_counted : {X : Type 0} (p : X → Bool) (xs : List X) (k : ℕ) (d : X) → k < length xs → p (get_or xs k d) ≡ true → 1 ≤ counted p xs
-some_counted p [] k d there passes = absurd (omega (arith, there))
-some_counted p (x ∷ xs) zero d there passes = omega (arith, counted_more p x xs, cond-true {A = ℕ} (p x) 1 0 passes)
-some_counted p (x ∷ xs) (suc k) d there passes =
-    omega (arith, counted_more p x xs, some_counted p xs k d (omega (arith, there)) passes)
+use Rattle.mesh_types.proofs.Counted.{counted, counted_more}
 
 -- where something is counted an element passes
 pub counted_some : {X : Type 0} (p : X → Bool) (xs : List X) → 1 ≤ counted p xs → (k : ℕ) × (k < length xs) × ((d : X) → p (get_or xs k d) ≡ true)
@@ -38,16 +25,6 @@ counted_some p (x ∷ xs) some =
           let rest = counted_some p xs (omega (arith, some, counted_more p x xs, cond-false {A = ℕ} (p x) 1 0 not)) in
           (suc rest.0, omega (arith, rest.1), rest.2)
     ]
-
--- what is counted once passes at one place only
-pub once_apart : {X : Type 0} (p : X → Bool) (xs : List X) (i j : ℕ) (d : X) → counted p xs ≤ 1 → i < j → j < length xs
-    → p (get_or xs i d) ≡ true → p (get_or xs j d) ≡ true → ⊥
-once_apart p [] i j d most less there passes passes' = omega (arith, there)
-once_apart p (x ∷ xs) i zero d most less there passes passes' = omega (arith, less)
-once_apart p (x ∷ xs) zero (suc j) d most less there passes passes' =
-    omega (arith, most, counted_more p x xs, cond-true {A = ℕ} (p x) 1 0 passes, some_counted p xs j d (omega (arith, there)) passes')
-once_apart p (x ∷ xs) (suc i) (suc j) d most less there passes passes' =
-    once_apart p xs i j d (omega (arith, most, counted_more p x xs)) (omega (arith, less)) (omega (arith, there)) passes passes'
 
 module _ {X : Type 0} (same : X → X → Bool) (tells : (a b : X) → Decides (same a b) (a ≡ b)) where
   pub permuted : (xs ys : List X) → ((g : X → ℕ) → sum_by g xs ≡ sum_by g ys) → IsPermutation xs ys

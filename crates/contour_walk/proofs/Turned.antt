@@ -1,12 +1,12 @@
 -- The walk round a region, begun at any of its corners, is a contour and a ring.
-use Rattle.std.proofs.Common.{◌≡◌, ℕ, ◌+◌, ◌-◌, ◌<◌, ◌≤◌, Bool, List, [], ◌∷◌, ◌++◌, get_or, map, ap, ◌∙◌, sym, refl, subst, arith, zero, suc, Option, Some, None}
+use Rattle.std.proofs.Common.{◌≡◌, ℕ, ◌+◌, ◌-◌, ◌<◌, ◌≤◌, Bool, List, ◌∷◌, ◌++◌, get_or, map, ap, ◌∙◌, sym, refl, subst, arith, Option, Some, None}
 use Rattle.std.specs.Prelude.{unsigned_abs, All, Contains, take, drop, unwrap_or, ◌==◌, ◌&&◌}
-use Rattle.std.specs.List.{filter, flat_map, find, range_with_len, sum_by}
+use Rattle.std.specs.List.{filter, find, range_with_len, sum_by}
 use Rattle.std.specs.List.Sorted.{IsPermutation}
 use Rattle.std.proofs.lemmas.Bool.{and_from, eq-eqb}
 use Rattle.std.proofs.lemmas.Int.{ints}
 use Rattle.std.proofs.lemmas.List.{take-append-drop}
-use Rattle.std.proofs.lemmas.List.Elements.{All-head, All-tail, All-append, All-map, All-filter, All-contains_itself}
+use Rattle.std.proofs.lemmas.List.Elements.{All-map, All-filter, All-contains_itself}
 use Rattle.std.proofs.lemmas.List.FromFn.{get_or-range_with_len, length-range_with_len}
 use Rattle.std.proofs.lemmas.List.Sums.{sum_by-append}
 use Rattle.std.proofs.lemmas.List.Sorted.{All-permutation}
@@ -29,24 +29,11 @@ use Rattle.contour_walk.specs.Walk.{edge_at, round}
 use Rattle.contour_walk.proofs.Sums.{AreRows}
 use Rattle.contour_walk.proofs.Corners.{spot, round_begun}
 use Rattle.contour_walk.proofs.Paths.{IsPath, path_turned, path_closed, AreDrawn, round_path}
-use Rattle.contour_walk.proofs.Permuted.{edges_permuted, once_apart}
+use Rattle.mesh_types.proofs.Gathered.{all_of_each, all_four}
+use Rattle.mesh_types.proofs.Counted.{once_apart}
+use Rattle.contour_walk.proofs.Permuted.{edges_permuted}
 use Rattle.contour_walk.proofs.Rims.{IsFabric}
 use Rattle.contour_walk.proofs.RimSums.{rim_is_round}
-
-all_of_each : {X Y : Type 0} (P : Y → Type 0) (f : X → List Y) (xs : List X) → All (λ x. All P (f x)) xs → All P (flat_map f xs)
-all_of_each P f [] each = each_none
-  where
-    each_none : All P []
-    each_none = λ k d there. absurd (omega (arith, there))
-all_of_each P f (x ∷ xs) each =
-    All-append P (f x) (flat_map f xs) (All-head (λ y. All P (f y)) x xs each) (all_of_each P f xs (All-tail (λ y. All P (f y)) x xs each))
-
-all_four : (P : ℕ → Type 0) → P 0 → P 1 → P 2 → P 3 → All P (range_with_len 0 4)
-all_four P zero' one two three zero d there = zero'
-all_four P zero' one two three (suc zero) d there = one
-all_four P zero' one two three (suc (suc zero)) d there = two
-all_four P zero' one two three (suc (suc (suc zero))) d there = three
-all_four P zero' one two three (suc (suc (suc (suc k)))) d there = absurd (omega (arith, there))
 
 -- a cell lies in the field
 small_cell : (cells : List Cell) → IsCells cells → (at : CellRef) → ((cell_in cells at).at.x < 1024) × ((cell_in cells at).at.z < 1024)

@@ -1,14 +1,14 @@
 -- What every maximal run of labels is: a range of places that all have its label.
-use Rattle.std.proofs.Common.{◌≡◌, ℕ, ◌+◌, ◌-◌, ◌<◌, ◌≤◌, ◌⊎◌, Bool, true, false, List, [], ◌∷◌, length, drop, get_or, ap, ◌∙◌, sym, refl, subst, arith, zero, suc, Option, inl, inr}
+use Rattle.std.proofs.Common.{◌≡◌, ℕ, ◌+◌, ◌-◌, ◌<◌, ◌≤◌, Bool, true, false, List, [], ◌∷◌, length, map, drop, get_or, ap, ◌∙◌, sym, refl, subst, arith, suc, Option, inl, inr}
 use Rattle.std.specs.Prelude.{None, Some, All, ◌==◌, ◌||◌, not, if◌then◌else◌}
-use Rattle.std.specs.List.{filter_map, cons_option, prefix_len, range_with_len}
+use Rattle.std.specs.List.{filter_map, cons_option, prefix_len, range_with_len, between}
 use Rattle.std.proofs.lemmas.Bool.{eqb-true, cases_lt}
-use Rattle.std.proofs.lemmas.List.{get_or-drop, length-drop, get_or_default}
+use Rattle.std.proofs.lemmas.List.{get_or-drop, get_or-take, get_or-map, length-drop, length-take, length-map}
 use Rattle.std.proofs.lemmas.List.Elements.{All-nil, All-cons}
 use Rattle.std.proofs.lemmas.List.FromFn.{get_or-range_with_len, length-range_with_len}
 use Rattle.std.proofs.lemmas.List.Sums.{prefix_len_passes, prefix_len-le-length}
 use Rattle.mesh_types.specs.declared.label_runs.Run.{Run}
-use Rattle.mesh_types.specs.Runs.{has_label, run_with, runs_of}
+use Rattle.mesh_types.specs.Runs.{has_label, run_with, runs_of, label_if}
 
 -- a range of places that all have one label
 pub record IsRunOf (labels : List (Option ℕ)) (run : Run) : Type 0 where
@@ -73,3 +73,24 @@ runs_are_runs labels =
     let place : ℕ = get_or (range_with_len 0 (length labels)) k d in
     let there' : k < length labels = omega (arith, there, length-range_with_len 0 (length labels)) in
     run_is labels place run (omega (arith, get_or-range_with_len 0 (length labels) k d there', there')) (get_or labels place None) refl is)
+
+-- ---- the runs of places where a test holds
+
+pub labelled_true : (b : Bool) (label : ℕ) → label_if b ≡ Some label → b ≡ true
+labelled_true true label h = refl
+labelled_true false label h = absurd cc
+
+pub part_length : {A : Type 0} (own : List A) (first last : ℕ) → first ≤ last → last < length own → length (between first (last + 1) own) ≡ last + 1 - first
+part_length own first last order inside =
+    length-take (last + 1 - first) (drop first own) ∙ omega (arith, length-drop first own, order, inside)
+
+-- every element of such a run passes
+pub run_passes : {A : Type 0} (p : A → Bool) (own : List A) (run : Run) → IsRunOf (map (λ a. label_if (p a)) own) run → (k : ℕ) (d : A)
+    → run.first ≤ k → k ≤ run.last → p (get_or own k d) ≡ true
+run_passes p own run is k d least most =
+    labelled_true (p (get_or own k d)) run.label
+    (sym (get_or-map (λ a. label_if (p a)) own k d None (omega (arith, is.inside, most, length-map own (λ a. label_if (p a))))) ∙ is.labelled k least most)
+
+-- an element of a run, in the whole list
+pub in_run : {A : Type 0} (own : List A) (first last k : ℕ) (d : A) → k < last + 1 - first → get_or (between first (last + 1) own) k d ≡ get_or own (first + k) d
+in_run own first last k d inside = get_or-take (last + 1 - first) _ k d inside ∙ get_or-drop first own k d

@@ -1,11 +1,12 @@
 -- Sums and counts over lists, by elements and by places.
-use Rattle.std.proofs.Common.{◌≡◌, ℕ, zero, suc, ◌+◌, ◌<◌, ◌≤◌, Bool, true, false, cond, List, [], ◌∷◌, map, filter, length, get_or, ap, ◌∙◌, sym, refl, arith}
-use Rattle.std.specs.Prelude.{All, AllPairs, Option, Some, None}
+use Rattle.std.proofs.Common.{◌≡◌, ℕ, zero, suc, ◌+◌, ◌<◌, ◌≤◌, Bool, true, false, cond, List, [], ◌∷◌, map, filter, length, get_or, ap, ◌∙◌, sym, refl, arith, ◌*◌}
+use Rattle.std.specs.Prelude.{All, AllPairs, Any, Option, Some, None, ◌==◌, ◌&&◌}
 use Rattle.std.specs.List.{sum_by, count_by, range_with_len, flat_map, filter_map, cons_option}
-use Rattle.std.proofs.lemmas.Bool.{false_from_ne_true}
+use Rattle.std.proofs.Math.Nat.{mul-add}
+use Rattle.std.proofs.lemmas.Bool.{false_from_ne_true, and_from, eq-eqb, eqb-true}
 use Rattle.std.proofs.lemmas.List.Elements.{All-head, All-tail}
 use Rattle.std.proofs.lemmas.List.FromFn.{fill_by_all, get_or-range_with_len, length-range_with_len}
-use Rattle.std.proofs.lemmas.List.Sums.{sum_by-cons, sum_by-append}
+use Rattle.std.proofs.lemmas.List.Sums.{sum_by-cons, sum_by-append, get_or-le-sum_by}
 use Rattle.mesh_types.proofs.Keyed.{count_yes, count_no}
 
 -- a sum over what is made of elements
@@ -156,3 +157,56 @@ length-filter_map {Y = Y} h p (x ∷ xs) each =
     by_case None true is here rest = omega (arith, rest, count_yes p x xs is)
     by_case None false is here rest = omega (arith, rest, count_no p x xs is)
     by_case (Some y) b is here rest = omega (arith, rest, count_yes p x xs (here y refl))
+
+-- a sum of multiples
+pub sum_by-times : {X : Type 0} (c : ℕ) (g : X → ℕ) (xs : List X) → sum_by (λ x. c * g x) xs ≡ c * sum_by g xs
+sum_by-times c g [] = omega arith
+sum_by-times c g (x ∷ xs) =
+    sum_by-cons (λ y. c * g y) x xs
+    ∙ ap (λ n. c * g x + n) (sum_by-times c g xs)
+    ∙ sym (mul-add c (g x) (sum_by g xs))
+    ∙ ap (λ n. c * n) (sym (sum_by-cons g x xs))
+
+-- a sum over what a look-up finds
+pub sum_by-filter_map : {X Y : Type 0} (h : X → Option Y) (g : Y → ℕ) (f : X → ℕ) (xs : List X) → ((x : X) (y : Y) → h x ≡ Some y → g y ≤ f x)
+    → sum_by g (filter_map h xs) ≤ sum_by f xs
+sum_by-filter_map h g f [] each = omega arith
+sum_by-filter_map {Y = Y} h g f (x ∷ xs) each = by_case (h x) refl (sum_by-filter_map h g f xs each)
+  where
+    by_case : (o : Option Y) → h x ≡ o → sum_by g (filter_map h xs) ≤ sum_by f xs → sum_by g (cons_option o (filter_map h xs)) ≤ sum_by f (x ∷ xs)
+    by_case None is rest = omega (arith, rest, sum_by-cons f x xs)
+    by_case (Some y) is rest = omega (arith, rest, each x y is, sum_by-cons g y (filter_map h xs), sum_by-cons f x xs)
+
+-- an element that passes a test and has a number
+pub record HasNumber {X : Type 0} (q : X → Bool) (number : X → ℕ) (n : ℕ) (x : X) : Type 0 where
+  pub passes : q x ≡ true
+  pub is : number x ≡ n
+
+-- where for each number of a range that is listed there is an element with that number that passes, no more numbers are listed than elements pass
+pub numbers_within : {X : Type 0} (q : X → Bool) (number : X → ℕ) (listed : ℕ → Bool) (xs : List X) (first count : ℕ)
+    → ((n : ℕ) → first ≤ n → n < first + count → listed n ≡ true → Any (HasNumber q number n) xs)
+    → sum_by (λ n. cond (listed n) 1 0) (range_with_len first count) ≤ sum_by (λ x. cond (q x) 1 0) xs
+numbers_within {X} q number listed xs first count there_is =
+    let each = sum_by-range_no_more (λ n. cond (listed n) 1 0) (λ n. sum_by (has n) xs) first count
+    (λ n least most. by_listed n (listed n) (λ is. there_is n least most is) refl) in
+    let shared = sum_by-shared has (λ x. cond (q x) 1 0) (range_with_len first count) xs (λ k d there. by_test (get_or xs k d) (q (get_or xs k d))) in
+    omega (arith, each, shared)
+  where
+    has : ℕ → X → ℕ
+    has n x = cond (q x && number x == n) 1 0
+
+    by_listed : (n : ℕ) (b : Bool) → (listed n ≡ true → Any (HasNumber q number n) xs) → listed n ≡ b → cond b 1 0 ≤ sum_by (has n) xs
+    by_listed n false there is = omega arith
+    by_listed n true there is =
+        let w = there is in
+        let x : X = get_or xs w.0 w.1 in
+        let passes : (q x && number x == n) ≡ true =
+        and_from (q x) (number x == n) (ap q w.3 ∙ w.4.passes) (eq-eqb (number x) n (ap number w.3 ∙ w.4.is)) in
+        let one : has n x ≡ 1 = ap (λ b. cond b 1 0) passes in
+        omega (arith, one, get_or-le-sum_by (has n) xs w.0 w.1 w.2)
+
+    by_test : (x : X) (b : Bool) → sum_by (λ n. cond (b && number x == n) 1 0) (range_with_len first count) ≤ cond b 1 0
+    by_test x true =
+        once_in_range (λ n. number x == n) 1 first count
+        (λ i j less below is_i is_j. omega (arith, less, eqb-true (number x) i is_i, eqb-true (number x) j is_j))
+    by_test x false = omega (arith, sum_by-zero (range_with_len first count))

@@ -9,12 +9,12 @@ use Rattle.nav_ground.specs.FreeCells.{free_layer_of}
 use Rattle.nav_ground.specs.History.{shapes_alive}
 use Rattle.mesh_types.specs.declared.tile.TileMesh.{TileMesh}
 use Rattle.mesh_types.specs.declared.mesh.Mesh.{Mesh}
-use Rattle.mesh_types.specs.StripMeshes.{strip_mesh_of}
+use Rattle.mesh_types.specs.ContourMeshes.{mesh_of_free}
 use Rattle.mesh_types.specs.WholeMesh.{mesh_of}
 
--- the mesh of a layer under obstacles; so far every tile is built as strips
+-- the mesh of a layer under obstacles
 abbrev pub tile_mesh_of : Setting → Layer → List Shape → TileMesh
-tile_mesh_of setting layer shapes = strip_mesh_of setting (free_layer_of layer shapes)
+tile_mesh_of setting layer shapes = mesh_of_free setting (free_layer_of layer shapes)
 
 -- the mesh of a ground under obstacles
 abbrev pub mesh_under : Ground → List Shape → Mesh

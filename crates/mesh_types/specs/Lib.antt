@@ -22,3 +22,4 @@ pub mod Choices
 pub mod Ears
 pub mod Merging
 pub mod Contours
+pub mod ContourMeshes

@@ -11,8 +11,8 @@ use std::alloc::{AllocError, Global};
 pub enum RayAnswer {
     /// In the polygon that holds the point.
     Reached(PolyRef),
-    /// At an edge over which no link leads on: the edge's beginning and end, in sixteenths of a cell, and how far along the walk it lies,
-    /// as the fraction num / den, which is not reduced.
+    /// At an edge over which no link leads on: the edge's beginning and end, in sixteenths of a cell, and which part of the way from the
+    /// walk's beginning to the point leads up to it, as the fraction num / den, which is not reduced.
     Wall {
         a: Point,
         b: Point,

@@ -16,3 +16,4 @@ pub mod Gathered
 pub mod Stacks
 pub mod Held
 pub mod Woven
+pub mod RegionsKept

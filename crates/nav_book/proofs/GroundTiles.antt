@@ -21,20 +21,20 @@ use Rattle.mesh_types.specs.declared.mesh.Mesh.{Mesh}
 use Rattle.mesh_types.specs.declared.tile.TileMesh.{TileMesh}
 use Rattle.mesh_types.specs.Builds.{build_of, mesh_under, tile_mesh_of}
 use Rattle.mesh_types.specs.Soundness.{AreTiles, IsFit, polygon_count}
-use Rattle.mesh_types.specs.StripMeshes.{strip_mesh_of}
 use Rattle.mesh_types.specs.WholeMesh.{mesh_of}
-use Rattle.mesh_types.proofs.PolygonTotals.{few_polygons_under}
-use Rattle.strip_mesh.proofs.FitLaws.{strip_mesh_fits}
+use Rattle.mesh_types.proofs.TileMeshes.{mesh_of_tile}
 use Rattle.tile_build.specs.Meshes.{tiles_under}
 use Rattle.tile_links.specs.NewTiles.{IsWhole}
+use Rattle.tile_build.proofs.BuildTotals.{few_polygons_of_tiles}
 use Rattle.tile_build.proofs.FreeInTile.{free_in_tile}
+use Rattle.tile_build.proofs.TileFits.{mesh_fits}
 use Rattle.nav_book.specs.Results.{tile_under}
 
 -- each is fit for the setting
 tile_fits : (setting : Setting) (shapes : List Shape) (layer : Layer) → All IsShape shapes → IsLayerOf setting layer
     → IsFit setting (tile_mesh_of setting layer shapes)
 tile_fits setting shapes layer limits of =
-    strip_mesh_fits setting (free_layer_of layer shapes) (free_layer_cut layer shapes of.rules.cells limits) (free_in_tile setting layer shapes of.inside)
+    mesh_fits setting (free_layer_of layer shapes) (free_layer_cut layer shapes of.rules.cells limits) (free_in_tile setting layer shapes of.inside)
 
 -- there is one for each tile
 pub length-tiles_under : (whole : Ground) (shapes : List Shape) → IsGround whole → length (tiles_under whole shapes) ≡ tile_count whole.setting
@@ -52,12 +52,10 @@ get_or-tiles_under whole shapes tile d rules' there =
 
 tile_number : (whole : Ground) (shapes : List Shape) (tile : ℕ) (d : TileMesh) → IsGround whole → tile < tile_count whole.setting
     → (get_or (tiles_under whole shapes) tile d).tile ≡ tile
-unfolding strip_mesh_of layer_of
-tile_number whole shapes tile d rules' there = ap (λ (t : TileMesh). t.tile) (get_or-tiles_under whole shapes tile d rules' there)
-
-few_polygons : (whole : Ground) (shapes : List Shape) → IsGround whole → polygon_count (tiles_under whole shapes) ≤ 2000000
-unfolding mesh_of
-few_polygons whole shapes rules' = few_polygons_under whole shapes rules'
+unfolding layer_of
+tile_number whole shapes tile d rules' there =
+    ap (λ (t : TileMesh). t.tile) (get_or-tiles_under whole shapes tile d rules' there)
+    ∙ mesh_of_tile whole.setting (free_layer_of (layer_of whole.setting whole.field tile) shapes)
 
 -- they are tiles of the setting
 pub are_tiles : (whole : Ground) (shapes : List Shape) → IsGround whole → All IsShape shapes → AreTiles whole.setting (tiles_under whole shapes)
@@ -67,7 +65,7 @@ are_tiles whole shapes rules' limits = record {
   fit = All-map (IsFit whole.setting) (λ (layer : Layer). tile_mesh_of whole.setting layer shapes) whole.layers
       (All-weaker (IsLayerOf whole.setting) (λ (layer : Layer). IsFit whole.setting (tile_mesh_of whole.setting layer shapes))
       (λ layer of. tile_fits whole.setting shapes layer limits of) whole.layers (IsLayerOf-from_ground whole rules'));
-  few = omega (arith, few_polygons whole shapes rules');
+  few = few_polygons_of_tiles whole shapes rules' limits;
 }
 
 -- they make the mesh of the ground

@@ -17,7 +17,7 @@ use Rattle.mesh_types.specs.Builds.{build_of}
 use Rattle.mesh_types.specs.Soundness.{AreTiles, IsSound}
 use Rattle.mesh_types.specs.WholeMesh.{mesh_of}
 use Rattle.tile_build.specs.Meshes.{tiles_under}
-use Rattle.tile_build.proofs.LinkTotals.{alive_limits}
+use Rattle.tile_build.proofs.BuildTotals.{alive_limits}
 use Rattle.tile_links.specs.NewTiles.{IsWhole, tiles_after}
 use Rattle.nav_desk.specs.declared.answers.Published.TheVariants.{New}
 use Rattle.nav_desk.specs.declared.answers.Submitted.TheVariants.{Taken, Stale}

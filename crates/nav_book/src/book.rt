@@ -184,10 +184,13 @@ impl Book {
         &self.mesh
     }
 
-    /// How many polygons and how many links the mesh has as it was last published; a link leads one way.
+    /// How many polygons and how many links the mesh has as it was last published; a link leads one way. The obstacles may be any: there are
+    /// never more than 8000000 polygons and 64000000 links.
     pub fn mesh_counts(&self) -> (u32, u32)
         ensures polygons { result.0 ≡ polygon_count (published_mesh self.now).tiles }
         ensures links { result.1 ≡ link_count (published_mesh self.now) }
+        ensures few_polygons { result.0 ≤ 8000000 }
+        ensures few_links { result.1 ≤ 64000000 }
     {
         (polygons(self.mesh.tiles.as_slice()), links(&self.mesh))
     }

@@ -2,7 +2,6 @@
 
 ghost use Rattle.std.specs.Prelude.{◌≡◌, ◌+◌, IfOk};
 ghost use Rattle.nav_ground.specs.Grounds.{IsGround};
-ghost use Rattle.tile_build.specs.Meshes.{IsOfStrips};
 ghost use Rattle.nav_desk.specs.Steps.{IsJob};
 ghost use Rattle.nav_book.specs.Results.{tile_under};
 
@@ -23,7 +22,6 @@ pub fn build_job<L: Ledger>(
     steps: &mut Steps<L>,
 ) -> Result<Shared<TileMesh>, AllocError>
     requires level { IsGround level.now }
-    requires strips { IsOfStrips level.now.setting }
     requires job { IsJob level.now.setting job.now }
     ensures mesh { IfOk result (λ mesh. mesh ≡ tile_under level.now job.now.tile job.now.shapes) }
     ensures step { steps.new ≡ steps.old + 1 }

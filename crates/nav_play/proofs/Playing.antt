@@ -9,8 +9,6 @@ use Rattle.nav_record.specs.Texts.{done_text}
 use Rattle.nav_script.specs.declared.line.Line.{Line}
 use Rattle.nav_script.specs.declared.script.Script.{Script}
 use Rattle.nav_steps.specs.Counts.{HasRisenAtMost}
-use Rattle.tile_build.specs.Meshes.{IsOfStrips}
-use Rattle.nav_play.specs.Built.{IsBuilt}
 use Rattle.nav_play.specs.PlayRecord.{PlayState, AddsSome, IsSaid, IsTextFrom, ground_of, state_after, state_after_all}
 use Rattle.nav_play.specs.Tallies.{HasCounted, no_answers}
 use Rattle.nav_play.specs.Work.{jobs_from, jobs_of}
@@ -116,7 +114,3 @@ whole_text first lines items done state text more totals before after k n playin
       fits = ended IsSaid first lines done state text playing.way (no_line lines items done same end);
       written = done_is ∙ (λ i. text ++ done_text ((k_is ∙ ap (λ (s : PlayState). s.book.published) (sym last)) i) ((n_is ∙ ap (λ (s : PlayState). length s.book.history) (sym last)) i));
     }
-
--- the tiles of a play's ground are strips
-pub of_strips : (setting : Setting) (field : Field) (whole : Ground) → IsBuilt setting → whole ≡ ground_of setting field → IsOfStrips whole.setting
-of_strips setting field whole built same = subst (λ (w : Ground). IsOfStrips w.setting) (sym same) (record { kind = built.strips })

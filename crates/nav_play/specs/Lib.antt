@@ -1,4 +1,3 @@
-pub mod Built
 pub mod Settling
 pub mod Jobs
 pub mod PlayRecord

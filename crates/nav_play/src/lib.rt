@@ -1,6 +1,6 @@
 //! Plays a script over a field: the whole play text and the totals, from the values that the readers give.
 //!
-//! The program uses two contracts: `built` says which plays there are so far, and `play` makes a text that its definition allows:
+//! The program uses one contract: `play` makes a text that its definition allows:
 //! for each script line in order what the history and the published mesh answer, and then how far the play came. Its steps count the tiles
 //! that it builds: each at the beginning, and then one for each claim that gives a tile. Its totals count what `path` lines were answered.
 #![tactic(auto)]
@@ -8,10 +8,8 @@
 mod lanes;
 mod player;
 mod run;
-mod scope;
 mod steps;
 mod tally;
 mod workers;
 
 pub use run::{PlayText, play};
-pub use scope::built;

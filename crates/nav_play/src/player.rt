@@ -8,7 +8,6 @@ ghost use Rattle.nav_play.specs.Tallies.{HasRoom, HasCounted, HasCountedAnswer};
 ghost use Rattle.nav_play.specs.Work.{jobs_of};
 ghost use Rattle.nav_query.specs.Questions.{IsAnswerable};
 ghost use Rattle.nav_steps.specs.Counts.{HasRisenAtMost};
-ghost use Rattle.tile_build.specs.Meshes.{IsOfStrips};
 
 use crate::lanes::Lanes;
 use crate::steps::{claim, publish, put_back, settle, submit};
@@ -46,7 +45,6 @@ impl Player {
         requires playable { IsPlayable (length self.old.adds) (length self.old.workers) line.now }
         requires steady { IsSteady self.old }
         requires room { HasRoom self.old.totals }
-        requires strips { IsOfStrips self.old.book.whole.setting }
         ensures text { OnOk result (AddsSome (IsSaid (player_state self.old) line.now) self.old.text.items self.new.text.items) }
         ensures state { OnOk result (player_state self.new ≡ state_after (player_state self.old) line.now) }
         ensures totals { OnOk result (HasCounted (player_state self.old) line.now self.old.totals self.new.totals) }

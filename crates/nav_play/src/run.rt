@@ -3,9 +3,8 @@
 ghost use Rattle.std.specs.Prelude.{◌≡◌, ◌+◌, ◌++◌, [], length, IfOk, OnOk};
 ghost use Rattle.nav_ground.specs.Limits.{IsSetting};
 ghost use Rattle.nav_ground.specs.Fields.{IsField};
-ghost use Rattle.nav_ground.specs.Grounds.{IsSized};
+ghost use Rattle.nav_ground.specs.Grounds.{IsBuiltFor, IsSized};
 ghost use Rattle.nav_ground.specs.Tiling.{tile_count};
-ghost use Rattle.nav_play.specs.Built.{IsBuilt};
 ghost use Rattle.nav_play.specs.PlayRecord.{IsPlayText, first_state_of};
 ghost use Rattle.nav_play.specs.PlayTotals.{AreTotals};
 ghost use Rattle.nav_play.specs.Players.{IsSteady, player_state};
@@ -54,7 +53,7 @@ pub fn play<R: Wait, L: Ledger>(
     requires field { IsField field }
     requires sized { IsSized setting field }
     requires script { IsScript Play script.now }
-    requires built { IsBuilt setting }
+    requires built { IsBuiltFor setting }
     ensures text { IfOk result (λ text. IsPlayText setting field script.now text.bytes.items) }
     ensures totals { IfOk result (λ text. AreTotals setting field script.now text.totals) }
 
@@ -82,7 +81,7 @@ fn begin<L: Ledger>(
     requires field { IsField field }
     requires sized { IsSized setting field }
     requires script { IsScript Play script.now }
-    requires built { IsBuilt setting }
+    requires built { IsBuiltFor setting }
     ensures state { IfOk result (λ player. player_state player ≡ first_state_of setting field script.now) }
     ensures text { IfOk result (λ player. player.text.items ≡ []) }
     ensures totals { IfOk result (λ player. player.totals ≡ no_answers) }

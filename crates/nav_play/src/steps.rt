@@ -8,7 +8,6 @@ ghost use Rattle.nav_play.specs.Jobs.{claim_said, held_after_claim, book_after_c
 ghost use Rattle.nav_play.specs.Players.{AreHeld, held_job, job_of, jobs_of_held};
 ghost use Rattle.nav_play.specs.Settling.{IsUnclaimed, after_settle, all_built, awaited_tiles, settling};
 ghost use Rattle.nav_steps.specs.Counts.{HasRisenAtMost};
-ghost use Rattle.tile_build.specs.Meshes.{IsOfStrips};
 
 use crate::workers::Workers;
 use nav_book::{Book, Job, Published, Submitted, TileResult, build_job};
@@ -25,7 +24,6 @@ pub(crate) fn claim<L: Ledger>(
     worker: u32,
     steps: &mut Steps<L>,
 ) -> Result<StepAnswer, AllocError>
-    requires strips { IsOfStrips book.old.whole.setting }
     requires there { worker < length workers.old }
     requires held { AreHeld book.old.whole workers.old }
     ensures answer { IfOk result (λ answer. answer ≡ claim_said book.old worker (held_job workers.old worker)) }
@@ -56,7 +54,6 @@ fn built<L: Ledger>(
     job: Job,
     steps: &mut Steps<L>,
 ) -> Result<TileResult, AllocError>
-    requires strips { IsOfStrips book.now.whole.setting }
     requires job { IsJob book.now.whole.setting job }
     ensures rules { IsBook book.now }
     ensures job { IfOk result (λ made. job_of made ≡ job) }
@@ -128,7 +125,6 @@ pub(crate) fn settle<L: Ledger>(
     workers: &mut Workers,
     steps: &mut Steps<L>,
 ) -> Result<StepAnswer, AllocError>
-    requires strips { IsOfStrips book.old.whole.setting }
     ensures answer { IfOk result (λ answer. answer ≡ StepAnswer.Settled (length book.old.history)) }
     ensures book { OnOk result (book.new ≡ after_settle book.old) }
     ensures jobs { jobs_of_held workers.new ≡ replicate (length (jobs_of_held workers.old)) None }
@@ -150,7 +146,6 @@ fn build_all<L: Ledger>(
     book: &mut Book,
     steps: &mut Steps<L>,
 ) -> Result<(), AllocError>
-    requires strips { IsOfStrips book.old.whole.setting }
     requires free { IsUnclaimed book.old }
     ensures book { OnOk result (book.new ≡ all_built book.old) }
     ensures steps { OnOk result (steps.new ≡ steps.old + length (awaited_tiles book.old)) }

@@ -107,7 +107,8 @@ pub fn append_reached(out: &mut Vec<u8>, k: u32, at: PolyRef) -> Result<(), Allo
     append_numbers(out, b" ", at.tile, b" ", at.index, b"\n")
 }
 
-/// Appends the line of a walk that ends at an edge: the edge's beginning and end, and how far along the walk it is, as a fraction.
+/// Appends the line of a walk that ends at an edge: the edge's beginning and end, and the part of the way that leads up to it, as a
+/// fraction.
 pub fn append_wall(
     out: &mut Vec<u8>,
     k: u32,

@@ -1,9 +1,8 @@
 -- The answer to an input.
-use Rattle.std.proofs.Common.{◌≡◌, ℕ, List, subst, sym, inl, inr}
-use Rattle.std.specs.Prelude.{Result, Ok, Err}
+use Rattle.std.proofs.Common.{◌≡◌, ℕ, List, subst}
+use Rattle.std.specs.Prelude.{Result, Err}
 use Rattle.nav_ground.specs.declared.setting.Setting.{Setting}
 use Rattle.nav_ground.specs.declared.field.Field.{Field}
-use Rattle.nav_play.specs.Built.{IsBuilt}
 use Rattle.nav_script.specs.declared.script.Script.{Script}
 use Rattle.nav_text.specs.declared.fault.TextFault.{TextFault}
 use Rattle.navd.specs.declared.answer.Answer.{Answer}
@@ -13,17 +12,13 @@ use Rattle.navd.specs.declared.input.InputRefusal.{InputRefusal}
 use Rattle.navd.specs.declared.input.InputRefusal.TheVariants as input_refusals
 use Rattle.navd.specs.Answers.{IsRight, IsLineOf}
 use Rattle.navd.specs.Inputs.{IsInput, IsPlay, IsFault}
-use Rattle.navd.specs.Readings.{IsReadAs, IsInputFault}
+use Rattle.navd.specs.Readings.{IsReadAs}
 
 -- a line that tells a fault of the input is a right answer
 pub line_right : (bytes : List ℕ) (fault : TextFault) (answer : Answer) → IsFault bytes fault → IsLineOf fault answer → IsRight bytes answer
 line_right bytes fault (Played text) wrong told = elim told [ ]
 line_right bytes fault (Fault text) wrong told = record { fault = fault; wrong = wrong; told = told }
 line_right bytes fault OutOfMemory wrong told = tt
-
--- a text that is no input is at fault
-pub input_wrong : (bytes : List ℕ) (fault : TextFault) → IsInputFault bytes fault → IsFault bytes fault
-input_wrong bytes fault wrong = elim wrong [ inl in_field ↦ inl in_field | inr in_script ↦ inr (inl in_script) ]
 
 abbrev pub ReadsInput : List ℕ → Result Input InputRefusal → Type 0
 ReadsInput bytes result = (setting : Setting) (field : Field) (script : Script) → IsInput bytes setting field script
@@ -35,23 +30,3 @@ pub no_fault : (bytes : List ℕ) (result : Result Input InputRefusal) (fault : 
 no_fault bytes result fault reads is play =
     let P : Result Input InputRefusal → Type 0 = λ r. IsReadAs play.setting play.field play.script r in
     subst P is (reads play.setting play.field play.script play.there)
-
--- an input that is not built cannot be played
-pub no_play : (bytes : List ℕ) (result : Result Input InputRefusal) (input : Input) → ReadsInput bytes result
-    → result ≡ Ok input → (¬ IsBuilt input.setting) → IsPlay bytes → ⊥
-no_play bytes result input reads is missing play =
-    let P : Result Input InputRefusal → Type 0 = λ r. IsReadAs play.setting play.field play.script r in
-    let same = subst P is (reads play.setting play.field play.script play.there) in
-    missing (subst IsBuilt (sym same.0) play.built)
-
--- what is not built yet is told as the fault 0 of line 0
-pub not_built : (bytes : List ℕ) (input : Input) (fault : TextFault) → IsInput bytes input.setting input.field input.script
-    → (¬ IsBuilt input.setting) → fault ≡ record { line = 0; kind = 0 } → IsFault bytes fault
-not_built bytes input fault there missing told = inr (inr (record {
-  setting = input.setting;
-  field = input.field;
-  script = input.script;
-  there = there;
-  missing = missing;
-  told = told;
-}))

@@ -4,7 +4,6 @@ use Rattle.nav_ground.specs.declared.setting.Setting.{Setting}
 use Rattle.nav_ground.specs.declared.field.Field.{Field}
 use Rattle.nav_ground.specs.Limits.{IsSetting}
 use Rattle.nav_ground.specs.Fields.{IsField}
-use Rattle.nav_play.specs.Built.{IsBuilt}
 use Rattle.nav_play.specs.PlayRecord.{IsPlayText}
 use Rattle.nav_script.specs.declared.script.Script.{Script}
 use Rattle.nav_script.specs.declared.script.Way.TheVariants.{Play}
@@ -34,13 +33,12 @@ pub record IsInput (input : List ℕ) (setting : Setting) (field : Field) (scrip
   pub front : BeginsWithField input head tail setting field
   pub script_text : IsScriptText Play tail script
 
--- the input is in the grammar and asks for a play that is built
+-- the input is in the grammar, with some setting, field and script
 pub record IsPlay (input : List ℕ) : Type 0 where
   pub setting : Setting
   pub field : Field
   pub script : Script
   pub there : IsInput input setting field script
-  pub built : IsBuilt setting
 
 -- a play text of the input: one that its play may write
 pub record IsPlayed (input text : List ℕ) : Type 0 where
@@ -48,7 +46,6 @@ pub record IsPlayed (input text : List ℕ) : Type 0 where
   pub field : Field
   pub script : Script
   pub there : IsInput input setting field script
-  pub built : IsBuilt setting
   pub written : IsPlayText setting field script text
 
 -- the input does not begin with a field text: the fault is that of its first line that fails
@@ -64,15 +61,6 @@ pub record IsScriptFault (input : List ℕ) (fault : TextFault) : Type 0 where
   pub front : BeginsWithField input head tail setting field
   pub fails : IsFirstFaultFrom Play (length (lines head) + 1) tail fault
 
--- the input is in the grammar and asks for what is not built yet, which is told as line 0 and kind 0
-pub record IsNotBuilt (input : List ℕ) (fault : TextFault) : Type 0 where
-  pub setting : Setting
-  pub field : Field
-  pub script : Script
-  pub there : IsInput input setting field script
-  pub missing : ¬ IsBuilt setting
-  pub told : fault ≡ record { line = 0; kind = 0 }
-
 -- what is wrong with an input
 abbrev pub IsFault : List ℕ → TextFault → Type 0
-IsFault input fault = IsFieldFault input fault ⊎ (IsScriptFault input fault ⊎ IsNotBuilt input fault)
+IsFault input fault = IsFieldFault input fault ⊎ IsScriptFault input fault

@@ -1,20 +1,14 @@
 -- What reading an input gives.
-use Rattle.std.specs.Prelude.{◌≡◌, ℕ, ◌⊎◌, List, Result, Ok, Err, ⊤}
+use Rattle.std.specs.Prelude.{◌≡◌, Result, Ok, Err, ⊤}
 use Rattle.nav_ground.specs.declared.setting.Setting.{Setting}
 use Rattle.nav_ground.specs.declared.field.Field.{Field}
 use Rattle.nav_script.specs.declared.script.Script.{Script}
-use Rattle.nav_text.specs.declared.fault.TextFault.{TextFault}
 use Rattle.navd.specs.declared.input.Input.{Input}
 use Rattle.navd.specs.declared.input.InputRefusal.{InputRefusal}
 use Rattle.navd.specs.declared.input.InputRefusal.TheVariants as refusals
-use Rattle.navd.specs.Inputs.{IsFieldFault, IsScriptFault}
 
 -- it was read as this setting, field and script, unless memory ran out
 abbrev pub IsReadAs : Setting → Field → Script → Result Input InputRefusal → Type 0
 IsReadAs setting field script (Ok input) = (input.setting ≡ setting) × (input.field ≡ field) × (input.script ≡ script)
 IsReadAs setting field script (Err (refusals.Fault fault)) = ⊥
 IsReadAs setting field script (Err refusals.OutOfMemory) = ⊤
-
--- the text is no input: its first fault
-abbrev pub IsInputFault : List ℕ → TextFault → Type 0
-IsInputFault bytes fault = IsFieldFault bytes fault ⊎ IsScriptFault bytes fault

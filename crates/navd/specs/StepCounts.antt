@@ -3,19 +3,17 @@ use Rattle.std.specs.Prelude.{◌≡◌, ℕ, ◌≤◌, ◌⊎◌, List, length
 use Rattle.nav_ground.specs.declared.setting.Setting.{Setting}
 use Rattle.nav_ground.specs.declared.field.Field.{Field}
 use Rattle.nav_io.specs.Causes.{GivesAll}
-use Rattle.nav_play.specs.Built.{IsBuilt}
 use Rattle.nav_play.specs.Work.{builds_of}
 use Rattle.nav_script.specs.declared.script.Script.{Script}
 use Rattle.nav_steps.specs.Counts.{HasRisenAtMost}
 use Rattle.navd.specs.Inputs.{IsInput, input_limit}
 
--- the input asks for a play that is built, and no more steps were taken than that play may take
+-- the input is in the grammar, and no more steps were taken than its play may take
 pub record IsPlayStepped (input : List ℕ) (before after : ℕ) : Type 0 where
   pub setting : Setting
   pub field : Field
   pub script : Script
   pub there : IsInput input setting field script
-  pub built : IsBuilt setting
   pub steps : HasRisenAtMost (builds_of setting field script) before after
 
 -- no step was taken, or those of the play of an input

@@ -6,7 +6,7 @@ ghost use Rattle.navd.specs.Answers.{IsRight, IsPlayedUnless, IsLineOf};
 ghost use Rattle.navd.specs.StepCounts.{HasStepped};
 
 use crate::input::{Input, InputRefusal, read_input};
-use nav_play::{PlayText, built, play};
+use nav_play::{PlayText, play};
 use nav_record::write_fault;
 use nav_steps::Steps;
 use nav_text::TextFault;
@@ -24,7 +24,7 @@ pub(crate) enum Answer {
     OutOfMemory,
 }
 
-/// Reads an input and plays its script, or writes the line of its fault. An input that asks for what is not built yet has the fault 0 at line 0.
+/// Reads an input and plays its script, or writes the line of its fault.
 pub(crate) fn answer_to<R: Wait, L: Ledger>(
     rt: &R,
     alloc: Global,
@@ -41,9 +41,6 @@ pub(crate) fn answer_to<R: Wait, L: Ledger>(
         Err(InputRefusal::Fault(fault)) => return told(alloc, &fault),
         Err(InputRefusal::OutOfMemory) => return Answer::OutOfMemory,
     };
-    if !built(&input.setting) {
-        return told(alloc, &TextFault { line: 0, kind: 0 });
-    }
     let Input {
         setting,
         field,

@@ -5,8 +5,8 @@ ghost use Rattle.nav_ground.specs.declared.setting.Setting.{Setting};
 ghost use Rattle.nav_ground.specs.declared.field.Field.{Field};
 ghost use Rattle.nav_script.specs.declared.script.Script.{Script};
 ghost use Rattle.nav_text.specs.declared.fault.TextFault.{TextFault};
-ghost use Rattle.navd.specs.Inputs.{IsInput, input_limit};
-ghost use Rattle.navd.specs.Readings.{IsReadAs, IsInputFault};
+ghost use Rattle.navd.specs.Inputs.{IsFault, IsInput, input_limit};
+ghost use Rattle.navd.specs.Readings.{IsReadAs};
 
 use nav_ground::{Field, Setting};
 use nav_script::{Script, ScriptRefusal, Way, read_script};
@@ -35,7 +35,7 @@ pub(crate) fn read_input(alloc: Global, bytes: &[u8]) -> Result<Input, InputRefu
     ensures found { IfOk result (λ input. IsInput bytes.now input.setting input.field input.script) }
     ensures only { (setting : Setting) (field : Field) (script : Script) → IsInput bytes.now setting field script
         → IsReadAs setting field script result }
-    ensures fault { (fault : TextFault) → result ≡ Err (InputRefusal.Fault fault) → IsInputFault bytes.now fault }
+    ensures fault { (fault : TextFault) → result ≡ Err (InputRefusal.Fault fault) → IsFault bytes.now fault }
 {
     let text = match read_field(alloc, bytes) {
         Ok(text) => text,

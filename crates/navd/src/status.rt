@@ -8,7 +8,7 @@ ghost use Rattle.navd.specs.Statuses.{status_number};
 pub enum Status {
     /// The input was read to its end and the whole text was written.
     Ok,
-    /// The input is not in the grammar, or asks for what is not built yet. The line `fault LINE KIND` was written.
+    /// The input is not in the grammar. The line `fault LINE KIND` was written.
     BadText,
     /// The words are in no form. The line `fault usage` was written.
     Usage,

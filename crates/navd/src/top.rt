@@ -30,7 +30,7 @@ const MOST: usize = 67108864;
 /// cells of a column; for a path, a corridor of links that no other walk undercuts, with its cost, and a line that is taut in its portals; that
 /// no polygon holds the start, exactly where none does, or that one holds the start and none the goal; or that there is no path, exactly where
 /// both are held and no walk of links joins the two polygons; for a ray, that no polygon holds the start, or the polygon or the wall at which
-/// the straight walk ends. A text that is no input, or that asks for what is not built yet, is told by the line of its fault.
+/// the straight walk ends. A text that is no input is told by the line of its fault.
 /// The text is made whole before its first byte is written. Refusals go in the order Usage, ReadFault, TooLong, BadText;
 /// WriteFault comes in place of any status whose text could not be written, and OutOfMemory only before the first write.
 pub fn navd<R: Threads + Wait + Sync, S: Source, K: Sink, G: Gate + Sync, L: Ledger>(

@@ -1,6 +1,6 @@
 -- The mesh of a tile as strips is fit.
-use Rattle.std.proofs.Common.{◌≡◌, ℕ, ◌+◌, ◌-◌, ◌<◌, ◌≤◌, length, List, [], ◌∷◌, map, get_or, ap, ◌∙◌, sym, refl, subst, arith, Option}
-use Rattle.std.specs.Prelude.{All, Some, slice_get}
+use Rattle.std.proofs.Common.{◌≡◌, ℕ, ◌+◌, ◌-◌, ◌<◌, ◌≤◌, length, List, [], map, get_or, ◌∙◌, sym, refl, subst, arith}
+use Rattle.std.specs.Prelude.{All}
 use Rattle.std.specs.List.{flat_map, range_with_len, between}
 use Rattle.std.proofs.lemmas.List.{get_or_default, length-map}
 use Rattle.std.proofs.lemmas.List.Elements.{All-map}
@@ -15,15 +15,15 @@ use Rattle.mesh_types.specs.declared.polygon.Polygon.{Polygon}
 use Rattle.mesh_types.specs.declared.tile.RimEdge.{RimEdge}
 use Rattle.mesh_types.specs.declared.tile.TileMesh.{TileMesh}
 use Rattle.mesh_types.specs.Runs.{runs_of, label_if}
-use Rattle.mesh_types.specs.Soundness.{IsPolygon, IsInSquare, IsInnerLink, IsRimOf, RunsOver, IsFit}
-use Rattle.mesh_types.specs.StripMeshes.{some_cell, strip_runs, strip_polygon, strip_beyond, strip_link, strip_links, strip_links_over, strip_rim, strip_rim_over, rim_edge, level_pair, is_crossing, outside_of, strip_mesh_of}
-use Rattle.mesh_types.proofs.RunLaws.{IsRunOf, runs_are_runs}
+use Rattle.mesh_types.specs.Soundness.{IsPolygon, IsInSquare, IsInnerLink, IsRimOf, IsFit}
+use Rattle.mesh_types.specs.StripMeshes.{strip_runs, strip_polygon, strip_beyond, strip_link, strip_links, strip_links_over, strip_rim, strip_rim_over, rim_edge, level_pair, is_crossing, outside_of, strip_mesh_of}
+use Rattle.mesh_types.proofs.RunLaws.{IsRunOf, runs_are_runs, part_length}
 use Rattle.mesh_types.proofs.LinksInOrder.{All-ordered_links}
-use Rattle.strip_mesh.proofs.Parts.{gathered_all}
+use Rattle.mesh_types.proofs.Gathered.{gathered_all}
 use Rattle.strip_mesh.proofs.RowLaws.{IsRow, row_is, own_all}
 use Rattle.strip_mesh.proofs.PolygonLaws.{polygon_sound, polygon_inside}
 use Rattle.strip_mesh.proofs.LinkLaws.{link_leads, polygon_there}
-use Rattle.strip_mesh.proofs.RimLaws.{part_length, part_at_side, rim_placed}
+use Rattle.strip_mesh.proofs.RimLaws.{part_at_side, rim_placed}
 
 -- what holds of each strip's cells
 each_row : (cells : List Cell) → IsCut cells → All IsRow (strip_runs cells)

@@ -1,15 +1,16 @@
 -- Parts of strips, and the links along them.
-use Rattle.std.proofs.Common.{◌≡◌, ℕ, ◌+◌, ◌<◌, ◌≤◌, length, List, [], map, get_or, ap, ◌∙◌, sym, refl, subst, arith, Option, zero, suc}
+use Rattle.std.proofs.Common.{◌≡◌, ℕ, ◌<◌, ◌≤◌, length, List, [], map, get_or, ap, ◌∙◌, sym, refl, subst, arith, Option}
 use Rattle.std.specs.Prelude.{All}
 use Rattle.std.specs.List.{range_with_len, flat_map}
 use Rattle.std.proofs.lemmas.List.{length-map}
-use Rattle.std.proofs.lemmas.List.Elements.{All-append, All-nil, All-map, All-weaker}
+use Rattle.std.proofs.lemmas.List.Elements.{All-map, All-weaker}
 use Rattle.nav_ground.specs.declared.cell.Cell.{Cell}
 use Rattle.mesh_types.specs.declared.label_runs.Run.{Run}
 use Rattle.mesh_types.specs.declared.links.Link.{Link}
 use Rattle.mesh_types.specs.Runs.{runs_of}
 use Rattle.mesh_types.specs.LinkIndex.{AreOrderedLinks, AreBelow}
 use Rattle.mesh_types.specs.StripMeshes.{strip_beyond, strip_link, strip_links_over, strip_links, outside_of}
+use Rattle.mesh_types.proofs.Gathered.{gathered_all}
 use Rattle.mesh_types.proofs.RunLaws.{runs_are_runs}
 use Rattle.mesh_types.proofs.LinksInOrder.{All-ordered_links, ordered_links-polygons}
 use Rattle.strip_mesh.specs.declared.tile_strips.TileStrips.{TileStrips}
@@ -30,14 +31,6 @@ part_inside f own labels found labels_are found_are =
     let many : length labels ≡ length own = ap length labels_are ∙ length-map own f in
     subst P (sym found_are)
     (λ k d there. let is = runs_are_runs labels k d there in (is.order, omega (arith, is.inside, many)))
-
--- what holds of what each number of a range gives holds of all that is gathered
-pub gathered_all : {B : Type 0} (P : B → Type 0) (f : ℕ → List B) (first count : ℕ) → ((n : ℕ) → first ≤ n → n < first + count → All P (f n))
-    → All P (flat_map f (range_with_len first count))
-gathered_all P f first zero each = All-nil P
-gathered_all P f first (suc count) each =
-    All-append P (f first) (flat_map f (range_with_len (first + 1) count)) (each first (omega arith) (omega arith))
-    (gathered_all P f (first + 1) count (λ n least most. each n (omega (arith, least)) (omega (arith, most))))
 
 -- the links between strips leave polygons of the tile
 leaves_tile : (tile : ℕ) (runs : List (List Cell))

@@ -1,8 +1,8 @@
 -- The rectangles of strips are sound polygons in the tile's square.
-use Rattle.std.proofs.Common.{◌≡◌, ℕ, ◌+◌, ◌-◌, ◌<◌, ◌≤◌, ℤ, pos, ◌≤ℤ◌, ◌<ℤ◌, ◌+ℤ◌, length, List, [], ◌∷◌, get_or, ap, ◌∙◌, sym, refl, subst, arith, zero, suc, min, max}
-use Rattle.std.specs.Prelude.{All, fold}
+use Rattle.std.proofs.Common.{◌≡◌, ℕ, ◌+◌, ◌-◌, ◌<◌, ◌≤◌, ℤ, pos, ◌≤ℤ◌, ◌<ℤ◌, length, List, [], ◌∷◌, get_or, ◌∙◌, refl, subst, arith}
+use Rattle.std.specs.Prelude.{All}
 use Rattle.std.proofs.lemmas.Int.{ints}
-use Rattle.std.proofs.lemmas.List.Elements.{All-cons, All-nil, All-head, All-tail, All-weaker}
+use Rattle.std.proofs.lemmas.List.Elements.{All-cons, All-nil, All-weaker}
 use Rattle.nav_base.specs.declared.point.Point.{Point}
 use Rattle.nav_base.specs.Point.{IsCellCorner}
 use Rattle.nav_ground.specs.declared.cell.Cell.{Cell}
@@ -10,24 +10,10 @@ use Rattle.nav_ground.specs.declared.cell.Window.{Window}
 use Rattle.nav_ground.specs.Cells.{IsCell}
 use Rattle.nav_ground.specs.Tiling.{IsInWindow}
 use Rattle.mesh_types.specs.Soundness.{IsPolygon, IsInSquare}
-use Rattle.mesh_types.specs.StripMeshes.{some_cell, first_of, low_of, high_of, corner, strip_polygon}
+use Rattle.mesh_types.specs.StripMeshes.{some_cell, first_of, corner, strip_polygon}
+use Rattle.mesh_types.proofs.FloorLaws.{low_first, high_small}
 use Rattle.strip_mesh.proofs.Rectangles.{rectangle_convex}
 use Rattle.strip_mesh.proofs.RowLaws.{IsRow}
-
-low_most : (low : ℕ) (own : List Cell) → fold (λ low (cell : Cell). min low cell.floor) low own ≤ low
-low_most low [] = omega arith
-low_most low (cell ∷ own) = omega (arith, low_most (min low cell.floor) own)
-
-high_least : (high : ℕ) (own : List Cell) → high ≤ fold (λ high (cell : Cell). max high cell.floor) high own
-high_least high [] = omega arith
-high_least high (cell ∷ own) = omega (arith, high_least (max high cell.floor) own)
-
-high_most : (high : ℕ) (own : List Cell) → high ≤ 8191 → All (λ (cell : Cell). cell.floor ≤ 8191) own
-    → fold (λ high (cell : Cell). max high cell.floor) high own ≤ 8191
-high_most high [] small each = small
-high_most high (cell ∷ own) small each =
-    let here = All-head (λ (cell : Cell). cell.floor ≤ 8191) cell own each in
-    high_most (max high cell.floor) own (omega (arith, small, here)) (All-tail (λ (cell : Cell). cell.floor ≤ 8191) cell own each)
 
 corner_in : (x z : ℕ) → x ≤ 1024 → z ≤ 1024 → IsCellCorner (corner x z)
 corner_in x z x-in z-in = record {
@@ -61,8 +47,8 @@ polygon_sound own row =
           (corner_in x0 z (omega (arith, first.x)) (omega (arith, most))) (corner_in (x1 + 1) z end (omega (arith, most)))
           (corner_in (x1 + 1) (z + 1) end most) (corner_in x0 (z + 1) (omega (arith, first.x)) most);
       area = first.area;
-      floors = omega (arith, low_most (first_of own).floor own, high_least (first_of own).floor own);
-      high = high_most (first_of own).floor own first.floor (All-weaker IsCell (λ (cell : Cell). cell.floor ≤ 8191) (λ cell is. is.floor) own row.each);
+      floors = low_first own;
+      high = high_small own row.some (All-weaker IsCell (λ (cell : Cell). cell.floor ≤ 8191) (λ cell is. is.floor) own row.each);
     }
 
 corner_inside : (window : Window) (x z a b c d : ℕ) → x ≡ a → window.x0 ≤ℤ pos a → pos b ≤ℤ window.x1 → a ≤ b + 1 → window.z0 ≤ℤ pos c → pos d ≤ℤ window.z1

@@ -1,10 +1,9 @@
 -- What the rim lists lies along the sides of the tile.
-use Rattle.std.proofs.Common.{◌≡◌, ℕ, ◌+◌, ◌-◌, ◌<◌, ◌≤◌, Bool, true, false, ℤ, pos, ◌≤ℤ◌, ◌<ℤ◌, ◌+ℤ◌, length, List, [], ◌∷◌, map, get_or, take, drop, ap, ◌∙◌, sym, refl, subst, arith, zero, suc, Option}
-use Rattle.std.specs.Prelude.{All, Some, None, int_le, slice_range}
-use Rattle.std.specs.List.{between}
+use Rattle.std.proofs.Common.{◌≡◌, ℕ, ◌+◌, ◌-◌, ◌<◌, ◌≤◌, true, ℤ, pos, ◌≤ℤ◌, ◌+ℤ◌, length, List, map, get_or, ◌∙◌, sym, subst, arith, zero, suc}
+use Rattle.std.specs.Prelude.{All, None}
 use Rattle.std.proofs.lemmas.Bool.{and_parts}
 use Rattle.std.proofs.lemmas.Int.{ints}
-use Rattle.std.proofs.lemmas.List.{get_or-map, length-map, length-take, length-drop}
+use Rattle.std.proofs.lemmas.List.{get_or-map}
 use Rattle.nav_base.specs.Convex.{corner_at, place_after}
 use Rattle.nav_ground.specs.declared.cell.Cell.{Cell}
 use Rattle.nav_ground.specs.declared.cell.Window.{Window}
@@ -13,11 +12,9 @@ use Rattle.mesh_types.specs.declared.label_runs.Run.{Run}
 use Rattle.mesh_types.specs.Runs.{label_if}
 use Rattle.mesh_types.specs.Soundness.{LiesOnSide, RunsOver}
 use Rattle.mesh_types.specs.StripMeshes.{some_cell, first_of, strip_polygon, is_at_side, is_crossing, position_of, outside_of}
-use Rattle.mesh_types.proofs.RunLaws.{IsRunOf}
+use Rattle.mesh_types.proofs.RunLaws.{IsRunOf, labelled_true}
+use Rattle.mesh_types.proofs.SidePlaces.{at_most, squeezed}
 use Rattle.strip_mesh.proofs.RowLaws.{IsRow}
-
-pub at_most : (a b : ℤ) → int_le a b ≡ true → a ≤ℤ b
-at_most a b h = grind (arith, ints)
 
 exactly : (w : ℤ) (a b : ℕ) → w ≤ℤ pos a → pos b ≤ℤ w → a ≡ b → pos a ≡ w
 exactly w a b low high e = omega (arith, ints)
@@ -25,19 +22,8 @@ exactly w a b low high e = omega (arith, ints)
 exactly_next : (w : ℤ) (a b : ℕ) → w ≤ℤ pos a → pos b ≤ℤ w → a ≤ b → pos (b + 1) ≡ w +ℤ pos 1
 exactly_next w a b low high e = omega (arith, ints)
 
-pub squeezed : (w : ℤ) (a b : ℕ) → w ≤ℤ pos a → pos b ≤ℤ w → b ≤ a
-squeezed w a b low high = omega (arith, ints)
-
 no_more : (a b : ℕ) → a ≤ b → pos a ≤ℤ pos b
 no_more a b h = omega (arith, ints)
-
-pub labelled_true : (b : Bool) (label : ℕ) → label_if b ≡ Some label → b ≡ true
-labelled_true true label h = refl
-labelled_true false label h = absurd cc
-
-pub part_length : {A : Type 0} (own : List A) (first last : ℕ) → first ≤ last → last < length own → length (between first (last + 1) own) ≡ last + 1 - first
-part_length own first last order inside =
-    length-take (last + 1 - first) (drop first own) ∙ omega (arith, length-drop first own, order, inside)
 
 -- the cells of a part lie beside the tile's side
 pub part_at_side : (window : Window) (dir : ℕ) (own : List Cell) (part : Run)

@@ -1,30 +1,29 @@
 -- What the rim of a tile has along a side: no more positions than there are free cells, and each position and level at most once.
-use Rattle.std.proofs.Common.{◌≡◌, ℕ, zero, suc, ◌+◌, ◌-◌, ◌<◌, ◌≤◌, Bool, true, false, cond, List, [], map, length, get_or, ap, ◌∙◌, sym, refl, subst, arith, Option, inl, inr}
-use Rattle.std.specs.Prelude.{All, Some, None, ◌==◌, ◌&&◌, nat_le, slice_get, if◌then◌else◌}
+use Rattle.std.proofs.Common.{◌≡◌, ℕ, zero, suc, ◌+◌, ◌-◌, ◌<◌, ◌≤◌, Bool, true, false, cond, List, [], map, length, get_or, ap, ◌∙◌, sym, subst, arith, Option, refl}
+use Rattle.std.specs.Prelude.{All, ◌==◌}
 use Rattle.std.specs.List.{sum_by, range_with_len, flat_map, between}
-use Rattle.std.specs.Option.{option_map_or}
-use Rattle.std.proofs.lemmas.Bool.{and_parts, and_from, eq-eqb, eqb-true, leb-true}
+use Rattle.std.proofs.lemmas.Bool.{and_from, eq-eqb, eqb-true}
 use Rattle.std.proofs.lemmas.List.{get_or-map, length-map, get_or-take, get_or-drop}
-use Rattle.std.proofs.lemmas.List.Sums.{sum_by-le-sum_by, get_or-le-sum_by}
-use Rattle.std.proofs.lemmas.Option.{slice_get_within, get_or_from_slice_get}
+use Rattle.std.proofs.lemmas.List.Sums.{get_or-le-sum_by}
 use Rattle.nav_ground.specs.declared.setting.Setting.{Setting}
 use Rattle.nav_ground.specs.declared.cell.Cell.{Cell}
-use Rattle.nav_ground.specs.declared.cell.CellRef.{CellRef}
 use Rattle.nav_ground.specs.declared.cell.FreeLayer.{FreeLayer}
 use Rattle.nav_ground.specs.declared.cell.Window.{Window}
-use Rattle.nav_ground.specs.Cells.{IsCellBefore, IsCut, IsInTile}
+use Rattle.nav_ground.specs.Cells.{IsCut, IsInTile}
 use Rattle.nav_ground.specs.Tiling.{tile_window, IsInWindow}
 use Rattle.mesh_types.specs.declared.label_runs.Run.{Run}
 use Rattle.mesh_types.specs.declared.tile.LevelPair.{LevelPair}
 use Rattle.mesh_types.specs.declared.tile.RimEdge.{RimEdge}
 use Rattle.mesh_types.specs.Runs.{runs_of, label_if}
-use Rattle.mesh_types.specs.BorderLinks.{pair_at, are_meeting, along_side}
+use Rattle.mesh_types.specs.BorderLinks.{along_side}
 use Rattle.mesh_types.specs.StripMeshes.{some_cell, strip_runs, strip_rim, strip_rim_over, rim_edge, level_pair, is_crossing, is_at_side, position_of, outside_of}
-use Rattle.mesh_types.proofs.RunLaws.{IsRunOf, runs_are_runs}
+use Rattle.mesh_types.proofs.LinkTotals.{is_named, named_pair}
+use Rattle.mesh_types.proofs.RunLaws.{IsRunOf, runs_are_runs, part_length}
 use Rattle.mesh_types.proofs.RunTotals.{runs_within}
-use Rattle.mesh_types.proofs.Totals.{sum_by-map, sum_by-flat_map, sum_by-filter, sum_by-one, sum_by-zero, sum_by-no_more, sum_by-range_no_more, sum_by-numbers, once, once_in_range}
+use Rattle.mesh_types.proofs.SidePlaces.{at_most, squeezed, is_placed, placed_once}
+use Rattle.mesh_types.proofs.Totals.{sum_by-map, sum_by-flat_map, sum_by-filter, sum_by-one, sum_by-zero, sum_by-no_more, sum_by-range_no_more, sum_by-numbers, once_in_range}
 use Rattle.strip_mesh.proofs.CellTotals.{strips_within}
-use Rattle.strip_mesh.proofs.RimLaws.{at_most, squeezed, part_at_side, part_length}
+use Rattle.strip_mesh.proofs.RimLaws.{part_at_side}
 use Rattle.strip_mesh.proofs.RowLaws.{IsRow, row_is, own_all}
 
 -- the labels of a strip's cells for an edge of it along a side
@@ -103,39 +102,6 @@ few_positions window cells side cut =
     omega (arith, length-map cells_of_part (level_pair (outside_of edge)), sum_by-one cells_of_part)) in
     omega (arith, within, sum_by-one cells)
 
--- an entry has a level of its own at a position
-abbrev is_named : RimEdge → ℕ → ℕ → Bool
-is_named entry position level = option_map_or (λ (pair : LevelPair). level == pair.own) (pair_at entry position) false
-
--- a cell lies beside a side, at a position and a level
-abbrev is_placed : Window → ℕ → ℕ → ℕ → Cell → Bool
-is_placed window side position level cell = is_at_side window side cell.at && (position_of side cell.at == position && cell.at.level == level)
-
--- the pair that an entry has there
-record IsPairOf (entry : RimEdge) (position level : ℕ) : Type 0 where
-  pub begins : entry.first ≤ position
-  pub inside : position - entry.first < length entry.pairs
-  pub own : (d : LevelPair) → (get_or entry.pairs (position - entry.first) d).own ≡ level
-
-named_pair : (entry : RimEdge) (position level : ℕ) → is_named entry position level ≡ true → IsPairOf entry position level
-named_pair entry position level named = by_test (nat_le entry.first position) refl named
-  where
-    by_pair : entry.first ≤ position → (found : Option LevelPair) → slice_get entry.pairs (position - entry.first) ≡ found
-        → option_map_or (λ (pair : LevelPair). level == pair.own) found false ≡ true → IsPairOf entry position level
-    by_pair begins None at is = absurd cc
-    by_pair begins (Some pair) at is = record {
-      begins = begins;
-      inside = slice_get_within entry.pairs (position - entry.first) pair at;
-      own = λ d.
-          ap (λ (p : LevelPair). p.own) (get_or_from_slice_get entry.pairs (position - entry.first) pair d at) ∙ sym (eqb-true level pair.own is);
-    }
-
-    by_test : (b : Bool) → nat_le entry.first position ≡ b
-        → option_map_or (λ (pair : LevelPair). level == pair.own) (if b then slice_get entry.pairs (position - entry.first) else None) false ≡ true
-        → IsPairOf entry position level
-    by_test true begins is = by_pair (leb-true entry.first position begins) (slice_get entry.pairs (position - entry.first)) refl is
-    by_test false after is = absurd cc
-
 -- positions rise by one along a part of a strip beside a side
 positions_rise : (edge : ℕ) (window : Window) (own : List Cell) (first k : ℕ) → edge < 4 → IsRow own
     → All (λ (cell : Cell). IsInWindow window cell.at.x cell.at.z) own → first + k < length own
@@ -199,51 +165,8 @@ placed_in_part window own s edge position level part small row each run = by_cas
         let one : g cell ≡ 1 = ap (λ b. cond b 1 0) placed in
         omega (arith, one, get_or-le-sum_by g cells k some_cell k-in)
 
--- cells beside a side of one tile that have one position and level are one
-not_before : (a b : CellRef) → a.x ≡ b.x → a.z ≡ b.z → a.level ≡ b.level → IsCellBefore a b → ⊥
-not_before a b x z level (inl below) = omega (arith, below, z)
-not_before a b x z level (inr (row, inl left)) = omega (arith, left, x)
-not_before a b x z level (inr (row, inr (column, under))) = omega (arith, under, level)
-
-not_both : (side : ℕ) (window : Window) (a b : CellRef) → side < 4 → IsInWindow window a.x a.z → IsInWindow window b.x b.z
-    → is_at_side window side a ≡ true → is_at_side window side b ≡ true → position_of side a ≡ position_of side b → a.level ≡ b.level
-    → IsCellBefore a b → ⊥
-not_both zero window a b small in_a in_b at_a at_b same level before =
-    let ab = squeezed window.x0 a.x b.x in_a.x_least (at_most _ _ at_b) in
-    let ba = squeezed window.x0 b.x a.x in_b.x_least (at_most _ _ at_a) in
-    not_before a b (omega (arith, ab, ba)) same level before
-not_both (suc zero) window a b small in_a in_b at_a at_b same level before =
-    let ab = squeezed window.z1 a.z b.z (at_most _ _ at_a) in_b.z_most in
-    let ba = squeezed window.z1 b.z a.z (at_most _ _ at_b) in_a.z_most in
-    not_before a b same (omega (arith, ab, ba)) level before
-not_both (suc (suc zero)) window a b small in_a in_b at_a at_b same level before =
-    let ab = squeezed window.x1 a.x b.x (at_most _ _ at_a) in_b.x_most in
-    let ba = squeezed window.x1 b.x a.x (at_most _ _ at_b) in_a.x_most in
-    not_before a b (omega (arith, ab, ba)) same level before
-not_both (suc (suc (suc zero))) window a b small in_a in_b at_a at_b same level before =
-    let ab = squeezed window.z0 a.z b.z in_a.z_least (at_most _ _ at_b) in
-    let ba = squeezed window.z0 b.z a.z in_b.z_least (at_most _ _ at_a) in
-    not_before a b same (omega (arith, ab, ba)) level before
-not_both (suc (suc (suc (suc side)))) window a b small in_a in_b at_a at_b same level before = absurd (omega (arith, small))
-
-placed_once : (window : Window) (cells : List Cell) (side position level : ℕ) → side < 4 → IsCut cells
-    → All (λ (cell : Cell). IsInWindow window cell.at.x cell.at.z) cells
-    → sum_by (λ (cell : Cell). cond (is_placed window side position level cell) 1 0) cells ≤ 1
-placed_once window cells side position level small cut inside =
-    once (is_placed window side position level) 1 cells
-    (λ i j d less there at_i at_j.
-    let a : CellRef = (get_or cells i d).at in
-    let b : CellRef = (get_or cells j d).at in
-    let first = and_parts (is_at_side window side a) _ at_i in
-    let second = and_parts (is_at_side window side b) _ at_j in
-    let first' = and_parts (position_of side a == position) _ first.1 in
-    let second' = and_parts (position_of side b == position) _ second.1 in
-    not_both side window a b small (inside i d (omega (arith, less, there))) (inside j d there) first.0 second.0
-    (eqb-true _ position first'.0 ∙ sym (eqb-true _ position second'.0)) (eqb-true _ level first'.1 ∙ sym (eqb-true _ level second'.1))
-    (cut.rules.order i j d less there))
-
--- so at most one entry along a side has a level of its own at a position,
-named_once : (setting : Setting) (free : FreeLayer) (side position level : ℕ) → side < 4 → IsCut free.cells → IsInTile setting free.tile free.cells
+-- so at most one entry along a side has a level of its own at a position
+pub named_once : (setting : Setting) (free : FreeLayer) (side position level : ℕ) → side < 4 → IsCut free.cells → IsInTile setting free.tile free.cells
     → sum_by (λ (entry : RimEdge). cond (is_named entry position level) 1 0)
     (along_side side (strip_rim (tile_window setting free.tile) (strip_runs free.cells))) ≤ 1
 named_once setting free side position level small cut in_tile =
@@ -257,25 +180,3 @@ named_once setting free side position level small cut in_tile =
     ≤ sum_by (λ (cell : Cell). cond (is_placed window n position level cell) 1 0) (between part.first (part.last + 1) own) in
     subst Q on (placed_in_part window own s edge position level part small' (row_is free.cells cut s there) (own_all free.cells P cut.rules in_tile.inside s there) run)) in
     omega (arith, within, placed_once window free.cells side position level small cut in_tile.inside)
-
--- and at most one meets a pair of levels there
-pub met_once : (setting : Setting) (free : FreeLayer) (side position : ℕ) (pair : Option LevelPair) → side < 4 → IsCut free.cells
-    → IsInTile setting free.tile free.cells
-    → sum_by (λ (entry : RimEdge). cond (are_meeting pair (pair_at entry position)) 1 0)
-    (along_side side (strip_rim (tile_window setting free.tile) (strip_runs free.cells))) ≤ 1
-met_once setting free side position None small cut in_tile =
-    omega (arith, sum_by-zero (along_side side (strip_rim (tile_window setting free.tile) (strip_runs free.cells))))
-met_once setting free side position (Some pair) small cut in_tile =
-    let entries : List RimEdge = along_side side (strip_rim (tile_window setting free.tile) (strip_runs free.cells)) in
-    let fewer = sum_by-le-sum_by (λ (entry : RimEdge). cond (are_meeting (Some pair) (pair_at entry position)) 1 0)
-    (λ (entry : RimEdge). cond (is_named entry position pair.other) 1 0) entries (λ entry. by_pair (pair_at entry position)) in
-    omega (arith, fewer, named_once setting free side position pair.other small cut in_tile)
-  where
-    by_test : (a b : Bool) → cond (a && b) 1 0 ≤ cond b 1 0
-    by_test true b = omega arith
-    by_test false b = omega arith
-
-    by_pair : (found : Option LevelPair)
-        → cond (are_meeting (Some pair) found) 1 0 ≤ cond (option_map_or (λ (other : LevelPair). pair.other == other.own) found false) 1 0
-    by_pair None = omega arith
-    by_pair (Some other) = by_test (pair.own == other.other) (pair.other == other.own)

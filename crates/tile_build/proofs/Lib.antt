@@ -1,4 +1,5 @@
 pub mod LocalTiles
 pub mod FreeInTile
-pub mod LinkTotals
+pub mod BuildTotals
 pub mod GroundTiles
+pub mod TileFits

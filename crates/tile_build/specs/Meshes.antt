@@ -1,16 +1,11 @@
--- Which meshes are built so far, and the tile meshes of a ground.
-use Rattle.std.specs.Prelude.{◌≡◌, List, map}
+-- The tile meshes of a ground.
+use Rattle.std.specs.Prelude.{List, map}
 use Rattle.nav_ground.specs.declared.setting.Setting.{Setting}
-use Rattle.nav_ground.specs.declared.setting.MeshKind.TheVariants.{Strips}
 use Rattle.nav_ground.specs.declared.cell.Layer.{Layer}
 use Rattle.nav_ground.specs.declared.history.Ground.{Ground}
 use Rattle.nav_ground.specs.declared.shape.Shape.{Shape}
 use Rattle.mesh_types.specs.declared.tile.TileMesh.{TileMesh}
 use Rattle.mesh_types.specs.Builds.{tile_mesh_of}
-
--- a setting asks for meshes of strips
-pub record IsOfStrips (setting : Setting) : Type 0 where
-  pub kind : setting.mesh ≡ Strips
 
 -- the meshes of layers under obstacles, one by one
 abbrev pub tiles_of : Setting → List Shape → List Layer → List TileMesh

@@ -1,15 +1,18 @@
 //! The build of one tile.
 
-ghost use Rattle.std.specs.Prelude.{◌≡◌, ◌+◌, IfOk, All};
+ghost use Rattle.std.specs.Prelude.{◌≡◌, ◌+◌, IfOk, All, unwrap_or};
+ghost use Rattle.nav_ground.specs.Cells.{IsCut, IsInTile};
 ghost use Rattle.nav_ground.specs.Grounds.{IsLayerOf};
 ghost use Rattle.nav_ground.specs.Limits.{IsSetting, IsShape};
 ghost use Rattle.nav_ground.specs.Touching.{touching_shapes};
 ghost use Rattle.mesh_types.specs.Builds.{tile_mesh_of};
+ghost use Rattle.mesh_types.specs.ContourMeshes.{contour_mesh_of, mesh_of_free};
 ghost use Rattle.mesh_types.specs.Soundness.{IsFit};
-ghost use Rattle.tile_build.specs.Meshes.{IsOfStrips};
+ghost use Rattle.mesh_types.specs.StripMeshes.{strip_mesh_of};
 
+use contour_mesh::{ContourMesh, contour_mesh_over};
 use mesh_types::TileMesh;
-use nav_ground::{Layer, Setting, Shape};
+use nav_ground::{FreeLayer, Layer, MeshKind, Setting, Shape};
 use nav_steps::Steps;
 use obstacle_mark::mark;
 use std::alloc::{AllocError, Global};
@@ -17,7 +20,7 @@ use std::sync::ledger::Ledger;
 use strip_mesh::strip_mesh_over;
 
 /// The mesh of a layer under a list of shapes, which is also its mesh under those of them that touch its tile. It takes one step, also
-/// where memory is refused. So far every tile is built as strips.
+/// where memory is refused.
 pub fn build_tile<L: Ledger>(
     alloc: Global,
     layer: &Layer,
@@ -29,7 +32,6 @@ pub fn build_tile<L: Ledger>(
     requires layer { IsLayerOf setting.now layer.now }
     requires near { layer.now.radius ≡ 0 }
     requires shapes { All IsShape shapes.now }
-    requires strips { IsOfStrips setting.now }
     ensures value { IfOk result (λ tile. tile ≡ tile_mesh_of setting.now layer.now shapes.now) }
     ensures local { IfOk result (λ tile. tile ≡ tile_mesh_of setting.now layer.now (touching_shapes setting.now layer.now.tile shapes.now)) }
     ensures fit { IfOk result (IsFit setting.now) }
@@ -37,5 +39,39 @@ pub fn build_tile<L: Ledger>(
 {
     steps.tick();
     let free = mark(alloc, layer, shapes)?;
-    strip_mesh_over(alloc, free, setting)
+    free_mesh(alloc, free, setting)
+}
+
+/// The mesh of free cells: by the outlines of their regions where the setting asks for outlines and each region has one that can be cut,
+/// otherwise as strips.
+#[tactic(auto, unfolding(mesh_types::specs::ContourMeshes::mesh_of_free))]
+fn free_mesh(alloc: Global, free: FreeLayer, setting: &Setting) -> Result<TileMesh, AllocError>
+    requires setting { IsSetting setting.now }
+    requires cells { IsCut free.cells }
+    requires tile { IsInTile setting.now free.tile free.cells }
+    ensures value { IfOk result (λ tile. tile ≡ mesh_of_free setting.now free) }
+    ensures fit { IfOk result (IsFit setting.now) }
+{
+    match setting.mesh {
+        MeshKind::Strips => strip_mesh_over(alloc, free, setting),
+        MeshKind::Contours => contour_or_strips(alloc, free, setting),
+    }
+}
+
+/// The mesh of free cells where the setting asks for outlines.
+fn contour_or_strips(
+    alloc: Global,
+    free: FreeLayer,
+    setting: &Setting,
+) -> Result<TileMesh, AllocError>
+    requires setting { IsSetting setting.now }
+    requires cells { IsCut free.cells }
+    requires tile { IsInTile setting.now free.tile free.cells }
+    ensures value { IfOk result (λ tile. tile ≡ unwrap_or (contour_mesh_of setting.now free) (strip_mesh_of setting.now free)) }
+    ensures fit { IfOk result (IsFit setting.now) }
+{
+    match contour_mesh_over(alloc, free, setting)? {
+        ContourMesh::Made(tile) => Ok(tile),
+        ContourMesh::NotCut(free) => strip_mesh_over(alloc, free, setting),
+    }
 }

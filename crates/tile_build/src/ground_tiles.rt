@@ -6,7 +6,7 @@ ghost use Rattle.nav_ground.specs.Grounds.{IsGround, IsLayerOf};
 ghost use Rattle.nav_ground.specs.Limits.{IsSetting, IsShape};
 ghost use Rattle.nav_ground.specs.Tiling.{tile_count};
 ghost use Rattle.nav_steps.specs.Counts.{HasRisenAtMost};
-ghost use Rattle.tile_build.specs.Meshes.{IsOfStrips, tiles_of, tiles_under};
+ghost use Rattle.tile_build.specs.Meshes.{tiles_of, tiles_under};
 
 use crate::build::build_tile;
 use mesh_types::TileMesh;
@@ -26,7 +26,6 @@ pub fn build_tiles<L: Ledger>(
 ) -> Result<Items<Shared<TileMesh>>, AllocError>
     requires level { IsGround whole.now }
     requires shapes { All IsShape shapes.now }
-    requires strips { IsOfStrips whole.now.setting }
     ensures tiles { IfOk result (λ tiles. tiles ≡ tiles_under whole.now shapes.now) }
     ensures steps { OnOk result (steps.new ≡ steps.old + tile_count whole.now.setting) }
     ensures most { HasRisenAtMost (tile_count whole.now.setting) steps.old steps.new }
@@ -53,7 +52,6 @@ fn built<L: Ledger>(
     requires layers { All (IsLayerOf setting.now) layers.now }
     requires near { All (λ (layer : Layer). layer.radius ≡ 0) layers.now }
     requires shapes { All IsShape shapes.now }
-    requires strips { IsOfStrips setting.now }
     ensures tiles { IfOk result (λ tiles. tiles.items ≡ tiles_of setting.now shapes.now layers.now) }
     ensures steps { OnOk result (steps.new ≡ steps.old + length layers.now) }
     ensures most { HasRisenAtMost (length layers.now) steps.old steps.new }

@@ -1,4 +1,4 @@
-//! Builds the meshes of tiles: their cells that obstacles leave free, as strips.
+//! Builds the meshes of tiles from their cells that obstacles leave free: by the outlines of their regions or as strips, as the setting asks.
 //!
 //! The crates above use `build_tile`, which gives exactly the tile mesh of its definition, fit for the setting, and takes one step, and
 //! `build_tiles`, which builds each tile of a ground.

@@ -9,9 +9,7 @@ use Rattle.mesh_types.specs.Regions.{begins_region, AreRegionsOf}
 use Rattle.mono_regions.specs.Joining.{touched_from, joined_from}
 use Rattle.mono_regions.proofs.JoinLaws.{strips_few, number_of, seen_among, begins_is}
 use Rattle.mono_regions.proofs.Gathered.{region_at, one_region, no_region, all_regions}
-use Rattle.mono_regions.proofs.Stacks.{are_stacks}
-use Rattle.mono_regions.proofs.Woven.{are_woven}
-use Rattle.mono_regions.proofs.Held.{held_once}
+use Rattle.mono_regions.proofs.RegionsKept.{regions_kept}
 use Rattle.mono_regions.proofs.tile_regions.regions.Goals as goal
 use Rattle.mono_regions.proofs.tile_regions.regions.Goals.{then-is_unjoined+in_ok-region+in_ok-push, else-is_unjoined}
 
@@ -102,8 +100,4 @@ returns-clause-regions c =
 
 pub returns-clause-kept : goal.returns-clause-kept
 returns-clause-kept c =
-    subst (AreRegionsOf c.args.free.now.cells) (sym (returns-clause-regions c)) (record {
-      stacks = are_stacks c.args.free.now.cells c.requires;
-      woven = are_woven c.args.free.now.cells c.requires;
-      once = held_once c.args.free.now.cells c.requires;
-    })
+    subst (AreRegionsOf c.args.free.now.cells) (sym (returns-clause-regions c)) (regions_kept c.args.free.now.cells c.requires)

@@ -1,7 +1,7 @@
 use Rattle.std.proofs.Common.{◌+◌, ◌≤◌, length, take, arith, inr, ap, ◌∙◌, subst, Err}
 use Rattle.std.proofs.lemmas.List.{length-take-le}
 use Rattle.nav_text.specs.declared.fault.TextFault.{TextFault}
-use Rattle.navd.specs.Readings.{IsInputFault}
+use Rattle.navd.specs.Inputs.{IsFault}
 use Rattle.navd.proofs.InputLaws.{no_field_fault, no_script_fault, same_parts, input_of, script_fault_of, same_fault, lines_few}
 use Rattle.navd.proofs.input.read_input.Goals as goal
 
@@ -29,7 +29,7 @@ returns-in-Err-Fault-read_script-clause-only c =
 
 pub returns-in-Err-Fault-read_script-clause-fault : goal.returns-in-Err-Fault-read_script-clause-fault
 returns-in-Err-Fault-read_script-clause-fault c fault told =
-    let P : TextFault → Type 0 = λ f. IsInputFault c.args.bytes.now f in
+    let P : TextFault → Type 0 = λ f. IsFault c.args.bytes.now f in
     let is = c.in-Err-Fault-read_script.is ∙ ap (λ r. Err r) c.in-Err-Fault-read_script.field-0-is in
     subst P (same_fault c.in-Err-Fault-read_script.fault fault told)
     (inr (script_fault_of _ _ c.in-Ok.text _ _ c.in-Ok.ensures.setting c.in-Ok.ensures.field c.in-Ok.ensures.found c.split_at.ensures.back

@@ -1,4 +1,4 @@
--- A ground has no more cells than its field has spans, and its mesh no more polygons.
+-- A ground has no more cells than its field has spans, and obstacles leave no more free.
 use Rattle.std.proofs.Common.{ℕ, ◌≤◌, cond, List, length, get_or, ap, arith}
 use Rattle.std.specs.List.{sum_by, range_with_len}
 use Rattle.std.proofs.lemmas.List.{length-map}
@@ -8,7 +8,6 @@ use Rattle.nav_ground.specs.declared.field.Field.{Field}
 use Rattle.nav_ground.specs.declared.cell.Cell.{Cell}
 use Rattle.nav_ground.specs.declared.cell.Layer.{Layer}
 use Rattle.nav_ground.specs.declared.shape.Shape.{Shape}
-use Rattle.nav_ground.specs.declared.history.Entry.{Entry}
 use Rattle.nav_ground.specs.declared.history.Ground.{Ground}
 use Rattle.nav_ground.specs.Limits.{IsSetting}
 use Rattle.nav_ground.specs.Fields.{IsField}
@@ -17,15 +16,8 @@ use Rattle.nav_ground.specs.Clearance.{is_kept, cells_in}
 use Rattle.nav_ground.specs.Layers.{cells_of, kept_cells_of, layer_cell, layer_of, layers_of}
 use Rattle.nav_ground.specs.Grounds.{IsGround}
 use Rattle.nav_ground.specs.FreeCells.{is_free, free_cell_of, free_layer_of}
-use Rattle.nav_ground.specs.History.{shapes_alive}
 use Rattle.nav_ground.proofs.Kept.{few_kept}
 use Rattle.nav_ground.proofs.LayerLaws.{cells_rules}
-use Rattle.mesh_types.specs.declared.tile.TileMesh.{TileMesh}
-use Rattle.mesh_types.specs.Strips.{begins_strip, strip_cells}
-use Rattle.mesh_types.specs.StripMeshes.{strip_polygon, strip_runs, strip_mesh_of}
-use Rattle.mesh_types.specs.WholeMesh.{mesh_of}
-use Rattle.mesh_types.specs.Builds.{tile_mesh_of, mesh_under, build_of}
-use Rattle.mesh_types.specs.Soundness.{polygon_count}
 use Rattle.mesh_types.proofs.Totals.{sum_by-map, sum_by-one, sum_by-shared, once_in_range}
 use Rattle.mesh_types.proofs.OneTile.{one_tile}
 
@@ -61,31 +53,3 @@ few_cells_of_ground whole rules' =
 -- obstacles leave no more free cells than there are cells
 pub few_free : (layer : Layer) (shapes : List Shape) → length (free_layer_of layer shapes).cells ≤ length layer.cells
 few_free layer shapes = few_kept (free_cell_of layer.cells shapes) (is_free shapes) layer.cells
-
--- each strip begins at a free cell of its own
-few_polygons_of_tile : (setting : Setting) (layer : Layer) (shapes : List Shape) → length (tile_mesh_of setting layer shapes).polys ≤ length layer.cells
-unfolding strip_mesh_of
-few_polygons_of_tile setting layer shapes =
-    let cells : List Cell = (free_layer_of layer shapes).cells in
-    omega (
-      arith,
-      length-map (strip_runs cells) strip_polygon,
-      few_kept (strip_cells cells) (begins_strip cells) cells,
-      few_free layer shapes,
-    )
-
-pub few_polygons_under : (whole : Ground) (shapes : List Shape) → IsGround whole → polygon_count (mesh_under whole shapes).tiles ≤ 2000000
-unfolding mesh_of
-few_polygons_under whole shapes rules' =
-    omega (
-      arith,
-      sum_by-map (λ (tile : TileMesh). length tile.polys) (λ (layer : Layer). tile_mesh_of whole.setting layer shapes) whole.layers,
-      sum_by-le-sum_by (λ (layer : Layer). length (tile_mesh_of whole.setting layer shapes).polys) (λ (layer : Layer). length layer.cells) whole.layers
-          (λ layer. few_polygons_of_tile whole.setting layer shapes),
-      few_cells_of_ground whole rules',
-    )
-
--- the mesh of a ground and a history has at most 2000000 polygons
-pub few_polygons_of_build : (whole : Ground) (history : List Entry) (k : ℕ) → IsGround whole → polygon_count (build_of whole history k).tiles ≤ 2000000
-unfolding build_of
-few_polygons_of_build whole history k rules' = few_polygons_under whole (shapes_alive history k) rules'
