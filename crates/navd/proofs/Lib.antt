@@ -1,3 +1,5 @@
 pub mod InputLaws
 pub mod AnswerLaws
 pub mod TopLaws
+pub mod MadeLaws
+pub mod WordLaws
