@@ -2,4 +2,3 @@ pub mod InputLaws
 pub mod AnswerLaws
 pub mod TopLaws
 pub mod MadeLaws
-pub mod WordLaws

@@ -1,5 +1,5 @@
 -- Made inputs are played as inputs that were read.
-use Rattle.std.proofs.Common.{◌≡◌, ℕ, ◌≤◌, List, length, ap, subst, sym, ◌∙◌, refl}
+use Rattle.std.proofs.Common.{◌≡◌, ℕ, ◌≤◌, List, length, subst, sym, refl}
 use Rattle.nav_gen.specs.MadeField.{made_setting, made_field}
 use Rattle.nav_gen.specs.MadeScript.{made_script}
 use Rattle.nav_gen.specs.MadeText.{IsMadeInput, made_text, made_field_text, made_script_text}
@@ -55,7 +55,7 @@ made_parts number size bytes setting field script made is reads =
 pub summary_of : (number size : ℕ) (bytes : List ℕ) (setting : Setting) (field : Field) (script : Script) (totals : Totals)
     (count line_count : ℕ) (text : List ℕ) → IsMadeInput number size
     → bytes ≡ made_text number size → AreReadAs bytes setting field script → AreTotals setting field script totals
-    → count ≡ length bytes → line_count ≡ length (lines (made_text number size)) → text ≡ summary_text number size count line_count totals
+    → count ≡ length (made_text number size) → line_count ≡ length (lines (made_text number size)) → text ≡ summary_text number size count line_count totals
     → IsMadeSummary number size text
 summary_of number size bytes setting field script totals count line_count text made is reads come counted lined spelled =
     let parts = made_parts number size bytes setting field script made is reads in
@@ -66,7 +66,7 @@ summary_of number size bytes setting field script totals count line_count text m
     record {
       totals = totals;
       come = subst L parts.2 (subst F parts.1 (subst S parts.0 come));
-      spelled = subst (λ m. B (length (made_text number size)) m) lined (subst (λ n. B n line_count) (counted ∙ ap (λ xs. length xs) is) spelled);
+      spelled = subst (λ m. B (length (made_text number size)) m) lined (subst (λ n. B n line_count) counted spelled);
     }
 
 -- the steps of the play of what was read are those of the made input's play
