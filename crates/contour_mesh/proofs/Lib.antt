@@ -1,0 +1,12 @@
+pub mod NumberedLaws
+pub mod SortLaws
+pub mod FootingLaws
+pub mod DoorLaws
+pub mod Steps
+pub mod PartLaws
+pub mod DoorSteps
+pub mod FacingLaws
+pub mod PlaceLaws
+pub mod SearchLaws
+pub mod RimLaws
+pub mod MeshLaws

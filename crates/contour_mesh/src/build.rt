@@ -1,16 +1,37 @@
 //! The mesh of a tile by the outlines of its regions.
 
-ghost use Rattle.std.specs.Prelude.{IfOk};
+ghost use Rattle.std.specs.Prelude.{◌≡◌, ◌<◌, ◌≤◌, IfOk, All, length, map};
 ghost use Rattle.nav_ground.specs.Limits.{IsSetting};
-ghost use Rattle.nav_ground.specs.Cells.{IsCut, IsInTile};
+ghost use Rattle.nav_ground.specs.Cells.{IsCells, IsCut, IsInTile};
+ghost use Rattle.nav_ground.specs.Tiling.{tile_count, tile_window};
+ghost use Rattle.mesh_types.specs.Regions.{AreRegionsOf};
 ghost use Rattle.mesh_types.specs.Soundness.{IsFit};
-ghost use Rattle.contour_mesh.specs.Outcomes.{IfMade, IsMeshOrCells};
+ghost use Rattle.mesh_types.specs.ContourMeshes.{doors_of, door_links, door_rim, facet_polygon, facets_of, parts_mesh};
+ghost use Rattle.contour_walk.specs.Tables.{IsTableOf};
+ghost use Rattle.contour_mesh.specs.Outcomes.{IsMeshOrCells, IfMade};
+ghost use Rattle.contour_mesh.specs.Parts.{IsPart};
+ghost use Rattle.contour_mesh.specs.Orders.{JoinsCorners, MeetsFacing};
+ghost use Rattle.contour_mesh.specs.Sides.{IsFieldWindow};
+ghost use Rattle.mesh_types.specs.declared.door.Door.{Door};
+ghost use Rattle.nav_ground.specs.declared.setting.Setting.{Setting};
 
+use crate::doors::doors;
+use crate::footings::footings;
+use crate::links::door_links;
 use crate::outcome::ContourMesh;
-use nav_ground::{FreeLayer, Setting};
+use crate::parts::parts;
+use crate::placed::side_tables;
+use crate::polygons::polygons;
+use crate::rim::door_rim;
+use contour_walk::{RegionTable, region_table};
+use mesh_types::{Door, Links, Part, Polygon, Regions, RimEdge, TileMesh};
+use mono_regions::regions;
+use nav_ground::{Cell, FreeLayer, Setting, TileNo};
+use nav_list::Items;
 use std::alloc::{AllocError, Global};
 
-/// The mesh of a tile by the outlines of its regions, of free cells that the mesh takes over.
+/// The mesh of a tile by the outlines of its regions, from its free cells, which it takes over: the pieces of each outline as polygons, the
+/// links between them, and the rim. Where some region has no outline, or one that cannot be cut, the free cells come back.
 pub fn contour_mesh_over(
     alloc: Global,
     free: FreeLayer,
@@ -22,8 +43,107 @@ pub fn contour_mesh_over(
     ensures value { IfOk result (IsMeshOrCells setting.now free) }
     ensures fit { IfOk result (IfMade (IsFit setting.now)) }
 {
-    let _ = alloc;
-    let _ = setting;
-    drop(free);
-    Err(AllocError)
+    let regions = regions(alloc, &free)?;
+    let table = region_table(alloc, &free, setting, &regions)?;
+    let parts = parts(
+        alloc,
+        free.cells.as_slice(),
+        &regions,
+        &table,
+        setting.error,
+    )?;
+    match parts {
+        None => Ok(ContourMesh::NotCut(free)),
+        Some(parts) => {
+            let mesh = mesh(alloc, free, &regions, &table, parts.as_slice())?;
+            Ok(ContourMesh::Made(mesh))
+        }
+    }
+}
+
+/// The mesh of a tile by the parts of its regions.
+fn mesh(
+    alloc: Global,
+    free: FreeLayer,
+    regions: &Regions,
+    table: &RegionTable,
+    parts: &[Part],
+) -> Result<TileMesh, AllocError>
+    requires cells { IsCells free.cells }
+    requires regions { AreRegionsOf free.cells regions.now }
+    requires table { IsTableOf free.cells regions.now.regions table.now }
+    requires window { IsFieldWindow table.now.window }
+    requires parts { All IsPart parts.now }
+    requires each { length parts.now ≤ length regions.now.regions }
+    requires few { length (facets_of parts.now) ≤ 8000000 }
+    ensures { IfOk result (λ mesh. (setting : Setting) → table.now.window ≡ tile_window setting free.tile → mesh ≡ parts_mesh setting free regions.now parts.now) }
+{
+    let cells = free.cells.as_slice();
+    let polys = part_polygons(alloc, cells, regions, table, parts)?;
+    let doors = doors(alloc, parts)?;
+    let WaysOut { links, rim } = ways(
+        alloc,
+        cells,
+        regions,
+        table,
+        doors.as_slice(),
+        free.tile,
+        polys.len() as u32,
+    )?;
+    Ok(TileMesh {
+        tile: free.tile,
+        free,
+        polys,
+        links,
+        rim,
+    })
+}
+
+/// The polygons of parts.
+fn part_polygons(
+    alloc: Global,
+    cells: &[Cell],
+    regions: &Regions,
+    table: &RegionTable,
+    parts: &[Part],
+) -> Result<Items<Polygon>, AllocError>
+    requires table { IsTableOf cells.now regions.now.regions table.now }
+    requires parts { All IsPart parts.now }
+    requires each { length parts.now ≤ length regions.now.regions }
+    ensures { IfOk result (λ polys. polys ≡ map (facet_polygon cells.now regions.now) (facets_of parts.now)) }
+{
+    let footings = footings(alloc, cells, regions, table)?;
+    polygons(alloc, parts, footings.as_slice())
+}
+
+/// The ways out of polygons: to others of the tile, and to its sides.
+#[derive(Drop)]
+struct WaysOut {
+    links: Links,
+    rim: Items<RimEdge>,
+}
+
+/// The ways through doors.
+fn ways(
+    alloc: Global,
+    cells: &[Cell],
+    regions: &Regions,
+    table: &RegionTable,
+    doors: &[Door],
+    tile: TileNo,
+    polygons: u32,
+) -> Result<WaysOut, AllocError>
+    requires cells { IsCells cells.now }
+    requires table { IsTableOf cells.now regions.now.regions table.now }
+    requires window { IsFieldWindow table.now.window }
+    requires meet { All (MeetsFacing doors.now) doors.now }
+    requires corners { All JoinsCorners doors.now }
+    requires polygons { All (λ (door : Door). door.polygon < polygons) doors.now }
+    ensures links { IfOk result (λ ways. ways.links ≡ door_links tile doors.now) }
+    ensures rim { IfOk result (λ ways. ways.rim ≡ door_rim table.now.window cells.now regions.now doors.now) }
+{
+    let links = door_links(alloc, doors, tile, polygons)?;
+    let tables = side_tables(alloc, cells, regions, table, doors)?;
+    let rim = door_rim(alloc, &table.window, &tables, doors)?;
+    Ok(WaysOut { links, rim })
 }

@@ -150,7 +150,7 @@ fn region_beyond(
 }
 
 /// Whether a cell has a kept neighbour across the side of the tile in a direction.
-fn is_crossing(window: &Window, dir: u32, cell: &Cell) -> bool
+pub fn is_crossing(window: &Window, dir: u32, cell: &Cell) -> bool
     requires dir { dir < 4 }
     requires cell { IsCell cell.now }
     ensures { result ≡ is_crossing window.now dir cell.now }

@@ -1,19 +1,27 @@
 -- A play under way on its ground, with the steps that it took.
-use Rattle.std.proofs.Common.{◌≡◌, ℕ, ◌+◌, ◌<◌, ◌≤◌, List, [], ◌++◌, length, get_or, drop, ap, ◌∙◌, sym, subst, refl, arith}
+use Rattle.std.proofs.Common.{◌≡◌, ℕ, ◌+◌, ◌<◌, ◌≤◌, Option, None, List, [], ◌++◌, length, replicate, get_or, drop, ap, ◌∙◌, sym, subst, refl, arith}
 use Rattle.nav_ground.specs.declared.field.Field.{Field}
 use Rattle.nav_ground.specs.declared.history.Ground.{Ground}
 use Rattle.nav_ground.specs.declared.setting.Setting.{Setting}
 use Rattle.nav_ground.specs.Tiling.{tile_count}
+use Rattle.nav_desk.specs.BookState.{BookState}
+use Rattle.nav_desk.specs.BookState as books
+use Rattle.mesh_types.specs.Soundness.{link_count, polygon_count}
+use Rattle.nav_book.specs.Results.{published_mesh}
+use Rattle.nav_book.specs.declared.result.TileResult.{TileResult}
 use Rattle.nav_record.specs.declared.totals.Totals.{Totals}
 use Rattle.nav_record.specs.Texts.{done_text}
 use Rattle.nav_script.specs.declared.line.Line.{Line}
 use Rattle.nav_script.specs.declared.script.Script.{Script}
 use Rattle.nav_steps.specs.Counts.{HasRisenAtMost}
-use Rattle.nav_play.specs.PlayRecord.{PlayState, AddsSome, IsSaid, IsTextFrom, ground_of, state_after, state_after_all}
-use Rattle.nav_play.specs.Tallies.{HasCounted, no_answers}
+use Rattle.nav_play.specs.PlayRecord.{PlayState, AddsSome, IsSaid, IsTextFrom, first_state_of, ground_of, state_after, state_after_all}
+use Rattle.nav_play.specs.PlayTotals.{AreTotals, IsCounted}
+use Rattle.nav_play.specs.Tallies.{HasCounted, no_answers, totals_at}
 use Rattle.nav_play.specs.Work.{jobs_from, jobs_of}
+use Rattle.nav_play.specs.Players.{jobs_of_held}
+use Rattle.nav_play.proofs.Held.{jobs_begun}
 use Rattle.nav_play.proofs.Runs.{IsUnderWay, begun, ended, goes_on, next_line, no_jobs, no_line, same_end, same_jobs}
-use Rattle.nav_play.proofs.Tallying.{IsTallied, tally_begun, tally_goes_on}
+use Rattle.nav_play.proofs.Tallying.{IsTallied, counts, tally_begun, tally_goes_on}
 use Rattle.nav_play.proofs.Wholes.{lanes_stay, whole_stays, workers_stay}
 
 -- the play is under way with its text and its totals, leads to the end, is still on its ground, and the steps of the lines that are left
@@ -114,3 +122,37 @@ whole_text first lines items done state text more totals before after k n playin
       fits = ended IsSaid first lines done state text playing.way (no_line lines items done same end);
       written = done_is ∙ (λ i. text ++ done_text ((k_is ∙ ap (λ (s : PlayState). s.book.published) (sym last)) i) ((n_is ∙ ap (λ (s : PlayState). length s.book.history) (sym last)) i));
     }
+
+-- the totals at the end
+pub are_totals : (setting : Setting) (field : Field) (script : Script) (items : List Line) (done : ℕ) (state : PlayState) (text : List ℕ) (totals told : Totals) (before after : ℕ)
+    → IsPlaying (first_state_of setting field script) script.lines done state text totals before after
+    → items ≡ script.lines
+    → length items ≤ done
+    → told ≡ totals_at state.book totals
+    → AreTotals setting field script told
+are_totals setting field script items done state text totals told before after playing same end told_is =
+    let first = first_state_of setting field script in
+    let last = last_state first script.lines items done state text totals before after playing same end in
+    let counted = counts playing.tallied.given totals playing.tallied.is in
+    subst (AreTotals setting field script) (sym told_is) (record {
+      given = playing.tallied.given;
+      right = ended IsCounted first script.lines done state playing.tallied.given playing.tallied.way (no_line script.lines items done same end);
+      counted = record { paths = counted.paths; no_path = counted.no_path; no_start = counted.no_start; no_goal = counted.no_goal; cost = counted.cost };
+      ends = record {
+        entries = ap (λ (s : PlayState). length s.book.history) (sym last);
+        published = ap (λ (s : PlayState). s.book.published) (sym last);
+        polys = ap (λ (s : PlayState). polygon_count (published_mesh s.book).tiles) (sym last);
+        links = ap (λ (s : PlayState). link_count (published_mesh s.book)) (sym last);
+      };
+    })
+
+-- the state at the beginning
+pub begun_state : (setting : Setting) (field : Field) (script : Script) (book : BookState) (whole : Ground) (adds : List (List ℕ)) (workers : List (Option TileResult))
+    → book ≡ books.first_state whole → whole ≡ ground_of setting field → adds ≡ replicate script.lanes [] → workers ≡ replicate script.workers None
+    → ◌≡◌ {A = PlayState} (record { book = book; lane = 0; adds = adds; held = jobs_of_held workers }) (first_state_of setting field script)
+begun_state setting field script book whole adds workers begins same lanes none = λ i. record {
+  book = (begins ∙ ap books.first_state same) i;
+  lane = 0;
+  adds = lanes i;
+  held = jobs_begun workers script.workers none i;
+}

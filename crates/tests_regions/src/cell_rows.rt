@@ -12,7 +12,7 @@ use std::alloc::{AllocError, Global};
 pub(crate) type Row = (u32, u32, u32, u32, [Option<u32>; 4]);
 
 /// A square of 4 by 4 cells from (1, 1) on, of which the middle 2 by 2 are blocked.
-const RING: [Row; 12] = [
+pub(crate) const RING: [Row; 12] = [
     (1, 1, 0, 63, [None, Some(0), Some(0), None]),
     (2, 1, 0, 63, [Some(0), None, Some(0), None]),
     (3, 1, 0, 63, [Some(0), None, Some(0), None]),
@@ -25,6 +25,16 @@ const RING: [Row; 12] = [
     (2, 4, 0, 63, [Some(0), None, Some(0), None]),
     (3, 4, 0, 63, [Some(0), None, Some(0), None]),
     (4, 4, 0, 63, [Some(0), None, None, Some(0)]),
+];
+
+/// The first two rows are a region that reaches further right below and further left above. The cell over them has another area, and the
+/// second has a neighbour in another tile.
+pub(crate) const STEP: [Row; 5] = [
+    (3, 0, 0, 63, [None, Some(0), Some(0), None]),
+    (4, 0, 0, 63, [Some(0), None, Some(2), None]),
+    (2, 1, 0, 63, [None, None, Some(0), None]),
+    (3, 1, 0, 63, [Some(0), Some(0), None, Some(0)]),
+    (3, 2, 0, 7, [None, None, None, Some(0)]),
 ];
 
 /// The cells of the square.

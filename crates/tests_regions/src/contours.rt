@@ -3,7 +3,7 @@
 ghost use Rattle.std.specs.Prelude.{◌≡◌, IfOk};
 ghost use Rattle.nav_ground.specs.Cells.{IsCut};
 
-use crate::cell_rows::{Row, free_of, ring};
+use crate::cell_rows::{STEP, free_of, ring};
 use contour_walk::contour;
 use mesh_types::{Code, UnitEdge};
 use mono_regions::regions;
@@ -26,16 +26,6 @@ const RING_CONTOUR: [Wanted; 10] = [
     (3, 2, Code::Wall),
     (2, 2, Code::Region(1)),
     (1, 2, Code::Wall),
-];
-
-/// The first two rows are a region that reaches further right below and further left above. The cell over them has another area, and the
-/// second has a neighbour in another tile.
-const STEP: [Row; 5] = [
-    (3, 0, 0, 63, [None, Some(0), Some(0), None]),
-    (4, 0, 0, 63, [Some(0), None, Some(2), None]),
-    (2, 1, 0, 63, [None, None, Some(0), None]),
-    (3, 1, 0, 63, [Some(0), Some(0), None, Some(0)]),
-    (3, 2, 0, 7, [None, None, None, Some(0)]),
 ];
 
 const STEP_CONTOUR: [Wanted; 10] = [

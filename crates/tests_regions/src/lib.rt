@@ -1,4 +1,4 @@
-//! Tests of regions and what is made of them: contours, outlines, triangles and pieces.
+//! Tests of regions and what is made of them: contours, outlines, triangles, pieces and meshes.
 //!
 //! The tests use public calls alone, and compare them with tables that were worked out by hand. They stand apart from what they test,
 //! so that no crate is proved a second time with its tests.
@@ -6,6 +6,8 @@
 
 #[cfg(test)]
 mod cell_rows;
+#[cfg(test)]
+mod contour_meshes;
 #[cfg(test)]
 mod contours;
 #[cfg(test)]

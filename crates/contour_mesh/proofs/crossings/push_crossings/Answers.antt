@@ -1,0 +1,9 @@
+use Rattle.mesh_types.specs.StripMeshes.{is_crossing}
+use Rattle.contour_mesh.specs.SidePlaces.{cell_at_side}
+use Rattle.contour_mesh.proofs.Steps.{one_more_kept}
+use Rattle.contour_mesh.proofs.crossings.push_crossings.Goals as goal
+
+pub loop-side-preserved : goal.loop-side-preserved
+loop-side-preserved c =
+    one_more_kept (cell_at_side c.args.region c.args.cell.now) (λ side. is_crossing c.args.window.now side c.args.cell.now) c.loop-side.side c.args.placed.now.items
+    c.loop-side.placed.items c.push_crossing.new.placed.items c.loop-side.invariant c.in_ok-push_crossing.ensures

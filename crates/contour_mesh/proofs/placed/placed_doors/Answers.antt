@@ -1,0 +1,15 @@
+use Rattle.std.proofs.Common.{ℕ, ◌∙◌, ◌++◌, [], Option, ap, get_or, map}
+use Rattle.std.specs.Option.{option_map_or}
+use Rattle.mesh_types.specs.ContourMeshes.{positions_of}
+use Rattle.contour_mesh.specs.SidePlaces.{door_at, door_places}
+use Rattle.contour_mesh.proofs.FacingLaws.{no_door}
+use Rattle.contour_mesh.proofs.Steps.{one_more_gathered}
+use Rattle.contour_mesh.proofs.placed.placed_doors.Goals as goal
+
+pub loop-door-preserved : goal.loop-door-preserved
+loop-door-preserved c =
+    let door = get_or c.args.doors.now c.loop-door.door-index no_door in
+    one_more_gathered (door_places c.args.window.now) c.args.doors.now c.loop-door.door-index no_door c.loop-door.placed.items c.push_door.new.placed.items
+    c.loop-door-test.true c.loop-door.invariant
+    (c.in_ok-push_door.ensures
+    ∙ ap (λ (side : Option ℕ). c.loop-door.placed.items ++ option_map_or (λ s. map (door_at door s) (positions_of s door)) side []) c.side_of.ensures.value)

@@ -1,0 +1,12 @@
+use Rattle.std.proofs.Common.{[]}
+use Rattle.mesh_types.specs.Runs.{label_if}
+use Rattle.mesh_types.specs.ContourMeshes.{end_position, first_position}
+use Rattle.contour_mesh.specs.RimTables.{is_listed_in}
+use Rattle.contour_mesh.proofs.Steps.{AreMadeUpTo}
+use Rattle.contour_mesh.proofs.rim.label_positions.Given as goal
+
+-- the labels of the positions so far
+abbrev pub invariant-loop-position : goal.invariant-loop-position
+invariant-loop-position l =
+    AreMadeUpTo (λ position. label_if (is_listed_in l.tables l.door l.side position)) [] (first_position l.side l.door) (end_position l.side l.door) l.position
+    l.labels.items

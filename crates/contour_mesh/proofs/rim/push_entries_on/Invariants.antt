@@ -1,0 +1,7 @@
+use Rattle.std.proofs.Common.{◌≡◌, ◌++◌, map, take}
+use Rattle.contour_mesh.specs.RimTables.{entry_in}
+use Rattle.contour_mesh.proofs.rim.push_entries_on.Given as goal
+
+-- the entries along the runs so far
+abbrev pub invariant-loop-part : goal.invariant-loop-part
+invariant-loop-part l = l.rim.items ≡ l.initial.rim.items ++ map (entry_in l.tables l.door l.side) (take l.part-index l.parts)

@@ -1,0 +1,82 @@
+//! The parts of a tile's regions: their outlines, cut into pieces.
+
+ghost use Rattle.std.specs.Prelude.{◌≡◌, ◌<◌, [], IfOk, IfSome, All, length, unwrap_or};
+ghost use Rattle.nav_ground.specs.Cells.{IsCells};
+ghost use Rattle.mesh_types.specs.Regions.{AreRegionsOf};
+ghost use Rattle.mesh_types.specs.Simplified.{IsOutline};
+ghost use Rattle.mesh_types.specs.Ears.{ears_of};
+ghost use Rattle.mesh_types.specs.ContourMeshes.{cut_part, region_part, parts_of};
+ghost use Rattle.contour_walk.specs.Tables.{IsTableOf};
+ghost use Rattle.contour_mesh.specs.Parts.{IsPart};
+
+use contour_simplify::simplify;
+use contour_walk::{RegionTable, contour_over};
+use ear_cut::{EarRefusal, ears};
+use mesh_types::{Outline, Part, Regions, Simplified};
+use nav_ground::Cell;
+use nav_list::Items;
+use poly_merge::merge;
+use std::alloc::{AllocError, Global};
+
+/// The parts of a tile's regions, in order; none where some region has no outline, or one that cannot be cut. Outlines keep to the contours
+/// within an error, in hundredths of a squared cell.
+pub fn parts(
+    alloc: Global,
+    cells: &[Cell],
+    regions: &Regions,
+    table: &RegionTable,
+    error: u32,
+) -> Result<Option<Items<Part>>, AllocError>
+    requires cells { IsCells cells.now }
+    requires regions { AreRegionsOf cells.now regions.now }
+    requires table { IsTableOf cells.now regions.now.regions table.now }
+    ensures value { IfOk result (λ parts. parts ≡ parts_of table.now.window error cells.now regions.now) }
+    ensures each { IfOk result (λ parts. IfSome parts (All IsPart)) }
+{
+    let mut parts = Vec::new(alloc);
+    for id in 0..regions.regions.len() as u32 {
+        let Some(part) = region_part(alloc, cells, regions, table, error, id)? else {
+            return Ok(None);
+        };
+        parts.push(part)?;
+    }
+    Ok(Some(Items::from_vec(parts)))
+}
+
+/// The part of the region with a number; none where it has no outline, or one that cannot be cut.
+fn region_part(
+    alloc: Global,
+    cells: &[Cell],
+    regions: &Regions,
+    table: &RegionTable,
+    error: u32,
+    id: u32,
+) -> Result<Option<Part>, AllocError>
+    requires cells { IsCells cells.now }
+    requires regions { AreRegionsOf cells.now regions.now }
+    requires table { IsTableOf cells.now regions.now.regions table.now }
+    requires there { id < length regions.now.regions }
+    ensures value { IfOk result (λ part. part ≡ region_part table.now.window error cells.now regions.now id) }
+    ensures part { IfOk result (λ part. IfSome part IsPart) }
+{
+    let edges = contour_over(alloc, cells, regions, table, id)?;
+    match simplify(alloc, edges.as_slice(), error)? {
+        Simplified::Flat => Ok(None),
+        Simplified::Outline(outline) => cut_part(alloc, outline),
+    }
+}
+
+/// An outline and its pieces; none where it cannot be cut.
+fn cut_part(alloc: Global, outline: Outline) -> Result<Option<Part>, AllocError>
+    requires { IsOutline outline }
+    ensures value { IfOk result (λ part. part ≡ cut_part outline (ears_of outline.corners)) }
+    ensures part { IfOk result (λ part. IfSome part IsPart) }
+{
+    let triangles = match ears(alloc, &outline) {
+        Ok(triangles) => triangles,
+        Err(EarRefusal::NoEar { .. }) => return Ok(None),
+        Err(EarRefusal::OutOfMemory) => return Err(AllocError),
+    };
+    let pieces = merge(alloc, &outline, triangles)?;
+    Ok(Some(Part { outline, pieces }))
+}

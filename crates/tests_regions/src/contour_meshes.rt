@@ -1,0 +1,200 @@
+//! Tiles by the outlines of their regions, by hand.
+
+ghost use Rattle.std.specs.Prelude.{◌≤◌, length};
+
+use crate::cell_rows::{RING, STEP, free_of};
+use contour_mesh::{ContourMesh, contour_mesh_over};
+use mesh_types::{Corners, LevelPair, Link, Polygon, RimEdge, TileMesh};
+use nav_base::Point;
+use nav_ground::{AREAS, Agent, MeshKind, Setting};
+use std::alloc::{AllocError, Global};
+use std::process::Abort;
+
+/// One tile, with an error of half a cell.
+const HALF: Setting = Setting {
+    width: 6,
+    depth: 6,
+    tile: 6,
+    agent: Agent {
+        height: 10,
+        climb: 4,
+        radius: 0,
+    },
+    error: 50,
+    mesh: MeshKind::Contours,
+    limit: 4,
+    costs: [1; AREAS],
+    clear: false,
+};
+
+/// The same with a greater error.
+const WIDE: Setting = Setting {
+    width: 6,
+    depth: 6,
+    tile: 6,
+    agent: Agent {
+        height: 10,
+        climb: 4,
+        radius: 0,
+    },
+    error: 169,
+    mesh: MeshKind::Contours,
+    limit: 4,
+    costs: [1; AREAS],
+    clear: false,
+};
+
+/// Two tiles side by side.
+const PAIR: Setting = Setting {
+    width: 10,
+    depth: 5,
+    tile: 5,
+    agent: Agent {
+        height: 10,
+        climb: 4,
+        radius: 0,
+    },
+    error: 50,
+    mesh: MeshKind::Contours,
+    limit: 4,
+    costs: [1; AREAS],
+    clear: false,
+};
+
+fn half(alloc: Global) -> Result<ContourMesh, AllocError> {
+    let free = free_of(alloc, &RING)?;
+    contour_mesh_over(alloc, free, &HALF)
+}
+
+fn wide(alloc: Global) -> Result<ContourMesh, AllocError> {
+    let free = free_of(alloc, &RING)?;
+    contour_mesh_over(alloc, free, &WIDE)
+}
+
+fn pair(alloc: Global) -> Result<ContourMesh, AllocError> {
+    let free = free_of(alloc, &STEP)?;
+    contour_mesh_over(alloc, free, &PAIR)
+}
+
+/// The polygon with these corners and an area, on the floor of the rows.
+fn polygon(corners: &[Point], area: u32) -> Polygon
+    requires { length corners.now ≤ 6 }
+{
+    Polygon {
+        corners: Corners::from_slice(corners),
+        area,
+        low: 10,
+        high: 10,
+    }
+}
+
+/// A thin row, whose outline is cut into three pieces.
+fn check_thin(rt: &impl Abort, polys: &[Polygon]) {
+    assert_eq!(rt; polys.len(), 8);
+    let right = [
+        Point { x: 5, z: 1 },
+        Point { x: 5, z: 2 },
+        Point { x: 4, z: 2 },
+    ];
+    let left = [
+        Point { x: 2, z: 2 },
+        Point { x: 1, z: 2 },
+        Point { x: 1, z: 1 },
+    ];
+    let middle = [
+        Point { x: 2, z: 2 },
+        Point { x: 1, z: 1 },
+        Point { x: 5, z: 1 },
+        Point { x: 4, z: 2 },
+    ];
+    assert_eq!(rt; polys[0], polygon(&right, 63));
+    assert_eq!(rt; polys[1], polygon(&left, 63));
+    assert_eq!(rt; polys[2], polygon(&middle, 63));
+}
+
+/// Two regions, of which the upper has another area.
+fn check_pair(rt: &impl Abort, polys: &[Polygon]) {
+    assert_eq!(rt; polys.len(), 2);
+    let lower = [
+        Point { x: 2, z: 1 },
+        Point { x: 5, z: 0 },
+        Point { x: 5, z: 1 },
+        Point { x: 4, z: 2 },
+        Point { x: 3, z: 2 },
+    ];
+    let upper = [
+        Point { x: 3, z: 2 },
+        Point { x: 4, z: 2 },
+        Point { x: 3, z: 3 },
+    ];
+    assert_eq!(rt; polys[0], polygon(&lower, 63));
+    assert_eq!(rt; polys[1], polygon(&upper, 7));
+}
+
+/// The polygon that a link leaves, the edge, the polygon entered, and the right and the left end of the portal.
+type LinkRow = (u32, u32, u32, (i32, i32), (i32, i32));
+
+const LINKS: [LinkRow; 2] = [(0, 3, 1, (64, 32), (48, 32)), (1, 0, 0, (48, 32), (64, 32))];
+
+fn check_links(rt: &impl Abort, links: &[Link], rows: &[LinkRow]) {
+    assert_eq!(rt; links.len(), rows.len());
+    for (link, wanted) in links.iter().zip(rows.iter()) {
+        assert_eq!(rt;
+            (link.from.index, link.edge, link.to.index),
+            (wanted.0, wanted.1, wanted.2)
+        );
+        assert_eq!(rt; (link.portal.right.x, link.portal.right.z), wanted.3);
+        assert_eq!(rt; (link.portal.left.x, link.portal.left.z), wanted.4);
+    }
+}
+
+/// The edge of the lower region that lies on the border to the right.
+fn check_rim(rt: &impl Abort, rim: &[RimEdge]) {
+    assert_eq!(rt; rim.len(), 1);
+    for entry in rim {
+        assert_eq!(rt;
+            (entry.poly, entry.edge, entry.side, entry.first),
+            (0, 1, 2, 0)
+        );
+        let pair = LevelPair { own: 0, other: 2 };
+        assert_eq!(rt; entry.pairs.as_slice(), [pair].as_slice());
+    }
+}
+
+/// The mesh, which is made.
+fn made(rt: &impl Abort, mesh: ContourMesh) -> TileMesh {
+    match mesh {
+        ContourMesh::Made(mesh) => mesh,
+        ContourMesh::NotCut(_) => panic!(rt; "some region has no outline that can be cut"),
+    }
+}
+
+#[test]
+fn thin_rows(rt: HostRuntime) -> Result<(), AllocError> {
+    let mesh = half(rt.alloc())?;
+    let mesh = made(&rt, mesh);
+    check_thin(&rt, mesh.polys.as_slice());
+    assert_eq!(rt; mesh.links.len(), 16);
+    assert_eq!(rt; mesh.rim.len(), 0);
+    Ok(())
+}
+
+#[test]
+fn outlines_that_cannot_be_cut(rt: HostRuntime) -> Result<(), AllocError> {
+    let mesh = wide(rt.alloc())?;
+    match mesh {
+        ContourMesh::NotCut(free) => assert_eq!(rt; free.cells.len(), RING.len()),
+        ContourMesh::Made(_) => panic!(rt; "an outline crosses itself"),
+    }
+    Ok(())
+}
+
+#[test]
+fn regions_side_by_side(rt: HostRuntime) -> Result<(), AllocError> {
+    let mesh = pair(rt.alloc())?;
+    let mesh = made(&rt, mesh);
+    check_pair(&rt, mesh.polys.as_slice());
+    check_links(&rt, mesh.links.as_slice(), &LINKS);
+    check_rim(&rt, mesh.rim.as_slice());
+    Ok(())
+}
