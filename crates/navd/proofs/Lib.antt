@@ -1,3 +1,4 @@
 pub mod InputLaws
 pub mod AnswerLaws
 pub mod TopLaws
+pub mod MadeLaws

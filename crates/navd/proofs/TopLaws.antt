@@ -1,5 +1,5 @@
 -- How a run ends.
-use Rattle.std.proofs.Common.{◌≡◌, ℕ, ◌+◌, ◌≤◌, eqb, false, List, [], length, arith, ap, subst, sym, ◌∙◌, inl, inr}
+use Rattle.std.proofs.Common.{◌≡◌, ℕ, ◌+◌, ◌≤◌, eqb, false, List, [], length, arith, ap, subst, sym, ◌∙◌, refl, inl, inr}
 use Rattle.std.specs.Prelude.{Option, Some, None, IfSome, String}
 use Rattle.std.specs.declared.alloc.Global.{Global}
 use Rattle.nav_io.specs.Causes.{Rose, GivesAll, TookMany, TookAtMost}
@@ -12,7 +12,11 @@ use Rattle.navd.specs.Statuses.{status_number}
 use Rattle.navd.specs.Endings.{HasEnded}
 use Rattle.navd.specs.Answers.{TellsFault}
 use Rattle.navd.specs.Inputs.{IsPlay, IsPlayed, IsFault, input_limit}
-use Rattle.navd.specs.Outcomes.{IsDue, IsPlayDue, IsFaultDue, HasBroken}
+use Rattle.navd.specs.Made.{IsMadeSummary}
+use Rattle.navd.specs.Outcomes.{IsDue, IsPlayDue, IsFaultDue, HasBroken, HasDone}
+use Rattle.navd.specs.Words.{AskFor}
+use Rattle.navd.specs.declared.words.Form.{Form}
+use Rattle.navd.specs.declared.words.Form.TheVariants.{Gen}
 
 -- every status but WriteFault
 abbrev pub is_other : Status → Type 0
@@ -76,6 +80,27 @@ fault_due before after input bytes written text gave short same as_text tells =
       wrong = subst B same tells.wrong;
       told = as_text ∙ tells.told;
     }
+
+-- an input that has a play text can be played
+pub played_play : (bytes text : List ℕ) → IsPlayed bytes text → IsPlay bytes
+played_play bytes text played = record { setting = played.setting; field = played.field; script = played.script; there = played.there }
+
+-- a run that ends with Ok, where the summary of a made input was due, wrote it
+pub summed : (words : List (String Global)) (before held_before held_after : Option (List ℕ)) (faults_before faults_after number size : ℕ)
+    (written text : List ℕ) (form : Form) (status : Status) → AskFor words (Some form) → form ≡ Gen number size → IsMadeSummary number size text → written ≡ text
+    → HasEnded held_before held_after faults_before faults_after written statuses.Ok status → status ≡ statuses.Ok
+    → HasDone words before before held_before held_after
+summed words before held_before held_after faults_before faults_after number size written text form status asked is_form summary as_text ended is =
+    let A : Form → Type 0 = λ f. AskFor words (Some f) in
+    let T : List ℕ → Type 0 = λ xs. IsMadeSummary number size xs in
+    elim ended [
+      | inl whole ↦ inr (record {
+        text = written;
+        due = record { number = number; size = size; form = subst A is_form asked; unread = refl; summary = subst T (sym as_text) summary };
+        written = whole.1;
+      })
+      | inr part ↦ differ statuses.WriteFault statuses.Ok _ refl (sym part.0 ∙ is)
+    ]
 
 -- where what was read cannot be played, nothing is said of inputs that can
 pub no_play_known : (before after : Option (List ℕ)) (bytes : List ℕ) (Form Calm Quiet Goal : Type 0) → GivesAll before after bytes

@@ -3,6 +3,7 @@ pub mod Words
 pub mod Inputs
 pub mod Readings
 pub mod Answers
+pub mod Made
 pub mod Outcomes
 pub mod Endings
 pub mod StepCounts

@@ -6,6 +6,7 @@
 
 mod answer;
 mod input;
+mod made;
 mod status;
 mod top;
 mod words;

@@ -2,7 +2,7 @@
 ghost use Rattle.std.specs.Prelude.{◌≡◌, ◌<◌};
 
 use crate::{Status, run};
-use nav_base::push_number;
+use nav_base::{push_number, read_number};
 use nav_io::{MemorySink, MemorySource};
 use std::alloc::{AllocError, Global};
 use std::marker::Brand;
@@ -63,8 +63,29 @@ fn run_once<R: Threads + Wait + Sync>(
     requires reads { 0 < read.0 }
     requires writes { 0 < write.0 }
 {
+    run_words(rt, alloc, words_of(alloc, &[word])?, input, read, write)
+}
+
+fn words_of(alloc: Global, texts: &[&str]) -> Result<Vec<String>, AllocError> {
     let mut words = Vec::new(alloc);
-    words.push(word.to_string(alloc)?)?;
+    for text in texts {
+        words.push(text.to_string(alloc)?)?;
+    }
+    Ok(words)
+}
+
+/// One run as `run_once`, on any words.
+fn run_words<R: Threads + Wait + Sync>(
+    rt: &R,
+    alloc: Global,
+    words: Vec<String>,
+    input: Vec<u8>,
+    read: (usize, u32),
+    write: (usize, u32),
+) -> Result<Ran, AllocError>
+    requires reads { 0 < read.0 }
+    requires writes { 0 < write.0 }
+{
     let mut source = MemorySource::new(input, read.0, vec![in alloc; read.1]?);
     let mut sink = MemorySink::with_room(alloc, write.0, 2000000, vec![in alloc; write.1]?)?;
     let status = run::<_, _, _, Brand>(
@@ -635,5 +656,90 @@ fn fills_a_history(rt: HostRuntime) -> Result<(), Fail> {
         (4096, 0),
     )?;
     check(&rt, ran, Status::BadText, b"fault 300046 11\n".as_slice());
+    Ok(())
+}
+
+/// Words that are no form.
+const NO_FORMS: [&[&str]; 17] = [
+    &[],
+    &[""],
+    &["Play"],
+    &["play", ""],
+    &["play", "1", "32"],
+    &["gen"],
+    &["gen", "1"],
+    &["gen", "1", "32", ""],
+    &["gen", "", "32"],
+    &["gen", "1", "31"],
+    &["gen", "1", "513"],
+    &["gen", "01", "32"],
+    &["gen", "1", "032"],
+    &["gen", "+1", "32"],
+    &["gen", "1", "32 "],
+    &["gen", "4294967296", "32"],
+    &["--help", "1", "32"],
+];
+
+/// Runs words that are no form, over a source that fails at its first read.
+fn check_no_forms<R: Abort + Threads + Wait + Sync>(
+    rt: &R,
+    alloc: Global,
+    forms: &[&[&str]],
+) -> Result<(), AllocError> {
+    for words in forms {
+        let words = words_of(alloc, *words)?;
+        let ran = run_words(rt, alloc, words, Vec::new(alloc), (1, 1), (100, 0))?;
+        check(rt, ran, Status::Usage, b"fault usage\n");
+    }
+    Ok(())
+}
+
+#[test]
+fn refuses_words_in_no_form(rt: HostRuntime) -> Result<(), Fail> {
+    check_no_forms(&rt, rt.alloc(), &NO_FORMS)?;
+    Ok(())
+}
+
+/// The sum of the numbers in the fourth line of a text.
+fn sum_of_counts(text: &[u8]) -> u32 {
+    let Ok(text) = str::from_utf8(text) else {
+        return 0;
+    };
+    let mut sum: u32 = 0;
+    for word in text.lines().nth(3).unwrap_or("").split_whitespace() {
+        sum = sum.saturating_add(read_number(word.as_bytes(), 64).unwrap_or(0));
+    }
+    sum
+}
+
+/// The summary of a made input, over a source that fails at its first read.
+fn summary_of<R: Threads + Wait + Sync>(
+    rt: &R,
+    alloc: Global,
+    number: &str,
+    size: &str,
+) -> Result<Ran, AllocError> {
+    let words = words_of(alloc, &["gen", number, size])?;
+    run_words(rt, alloc, words, Vec::new(alloc), (1, 1), (100, 0))
+}
+
+#[test]
+fn plays_made_inputs(rt: HostRuntime) -> Result<(), Fail> {
+    let alloc = rt.alloc();
+    let first = summary_of(&rt, alloc, "1", "32")?;
+    assert!(rt; sum_of_counts(first.held.as_slice()) == 64);
+    let again = summary_of(&rt, alloc, "1", "32")?;
+    check(&rt, again, Status::Ok, first.held.as_slice());
+    let begin = b"gen 1 32\ninput 32189 2369\nhistory 120 published 120\npaths ";
+    check_ends(&rt, first, begin, b"\n");
+    Ok(())
+}
+
+#[test]
+fn leaves_what_was_written_of_a_summary(rt: HostRuntime) -> Result<(), Fail> {
+    let alloc = rt.alloc();
+    let words = words_of(alloc, &["gen", "4294967295", "32"])?;
+    let ran = run_words(&rt, alloc, words, Vec::new(alloc), (1, 1), (8, 3))?;
+    check(&rt, ran, Status::WriteFault, b"gen 4294967295 3".as_slice());
     Ok(())
 }

@@ -1,41 +1,26 @@
 use Rattle.std.proofs.Common.{rules, Err, refl, ap, subst, sym, ◌∙◌, inl, inr}
 use Rattle.navd.specs.Inputs.{IsPlay}
-use Rattle.navd.proofs.TopLaws.{broken, differ, ends_apart, took_none, took_within, took_many, took_all, ended_well, play_due, fault_due, no_play_known, play_known, quiet_ends}
+use Rattle.navd.proofs.TopLaws.{broken, differ, ends_apart, took_none, took_within, took_many, took_all, ended_well, play_due, fault_due, no_play_known, play_known, played_play, summed, quiet_ends}
 use Rattle.navd.proofs.top.navd.Goals as goal
 
 pub returns-in-Played-clause-write_fault : goal.returns-in-Played-clause-write_fault
 returns-in-Played-clause-write_fault g c is =
     broken _ _ _ _ _ _ _ _ _ _ c.finish-in-Played.ensures.ended tt
-    (inr (search rules, inr (inl (play_due _ _ _ _ _ _ c.in-Ok.ensures.ok c.in-Ok.ensures.short c.as_slice.ensures.value c.as_slice-in-Played.ensures.value c.in-Played.ensures.right)))) is
+    (inr (inr (search rules, inr (inl (play_due _ _ _ _ _ _ c.in-Ok-read_all.ensures.ok c.in-Ok-read_all.ensures.short c.as_slice-2.ensures.value c.as_slice-in-Played.ensures.value c.in-Played.ensures.right))))) is
 
 pub returns-in-Fault-clause-write_fault : goal.returns-in-Fault-clause-write_fault
 returns-in-Fault-clause-write_fault g c is =
     broken _ _ _ _ _ _ _ _ _ _ c.finish-in-Fault.ensures.ended tt
-    (inr (search rules, inr (inr (fault_due _ _ _ _ _ _ c.in-Ok.ensures.ok c.in-Ok.ensures.short c.as_slice.ensures.value c.as_slice-in-Fault.ensures.value c.in-Fault.ensures.right)))) is
+    (inr (inr (search rules, inr (inr (fault_due _ _ _ _ _ _ c.in-Ok-read_all.ensures.ok c.in-Ok-read_all.ensures.short c.as_slice-2.ensures.value c.as_slice-in-Fault.ensures.value c.in-Fault.ensures.right))))) is
 
 pub returns-in-Fault-clause-complete : goal.returns-in-Fault-clause-complete
 returns-in-Fault-clause-complete g c =
-    no_play_known _ _ c.in-Ok.input.items _ _ _ _ c.in-Ok.ensures.ok
-    (λ play. c.in-Fault.ensures.complete (subst IsPlay (sym c.as_slice.ensures.value) play))
+    no_play_known _ _ c.in-Ok-read_all.input.items _ _ _ _ c.in-Ok-read_all.ensures.ok
+    (λ play. c.in-Fault.ensures.complete (subst IsPlay (sym c.as_slice-2.ensures.value) play))
 
 pub returns-in-Fault-clause-wrong : goal.returns-in-Fault-clause-wrong
 returns-in-Fault-clause-wrong g c =
     quiet_ends _ _ _ _ _ (λ quiet. inl (ended_well _ _ _ _ _ _ _ c.finish-in-Fault.ensures.ended quiet))
-
-pub returns-then-not-is_form-clause-ok : goal.returns-then-not-is_form-clause-ok
-returns-then-not-is_form-clause-ok g c = ends_apart _ _ _ _ _ _ _ _ _ c.finish.ensures.ended refl refl
-
-pub returns-then-not-is_form-clause-bad_text : goal.returns-then-not-is_form-clause-bad_text
-returns-then-not-is_form-clause-bad_text g c = ends_apart _ _ _ _ _ _ _ _ _ c.finish.ensures.ended refl refl
-
-pub returns-then-not-is_form-clause-read_fault : goal.returns-then-not-is_form-clause-read_fault
-returns-then-not-is_form-clause-read_fault g c = ends_apart _ _ _ _ _ _ _ _ _ c.finish.ensures.ended refl refl
-
-pub returns-then-not-is_form-clause-too_long : goal.returns-then-not-is_form-clause-too_long
-returns-then-not-is_form-clause-too_long g c = ends_apart _ _ _ _ _ _ _ _ _ c.finish.ensures.ended refl refl
-
-pub returns-then-not-is_form-clause-no_memory : goal.returns-then-not-is_form-clause-no_memory
-returns-then-not-is_form-clause-no_memory g c = ends_apart _ _ _ _ _ _ _ _ _ c.finish.ensures.ended refl refl
 
 pub returns-in-Err-TooLong-clause-ok : goal.returns-in-Err-TooLong-clause-ok
 returns-in-Err-TooLong-clause-ok g c = ends_apart _ _ _ _ _ _ _ _ _ c.finish-in-Err-TooLong.ensures.ended refl refl
@@ -136,17 +121,14 @@ returns-clause-write_fault g c = differ _ _ _ refl
 pub returns-clause-too_long : goal.returns-clause-too_long
 returns-clause-too_long g c = differ _ _ _ refl
 
-pub returns-then-not-is_form-clause-took : goal.returns-then-not-is_form-clause-took
-returns-then-not-is_form-clause-took g c = took_none _
-
 pub returns-in-Played-clause-took : goal.returns-in-Played-clause-took
-returns-in-Played-clause-took g c = took_all _ _ _ c.in-Ok.ensures.ok c.in-Ok.ensures.short
+returns-in-Played-clause-took g c = took_all _ _ _ c.in-Ok-read_all.ensures.ok c.in-Ok-read_all.ensures.short
 
 pub returns-in-Fault-clause-took : goal.returns-in-Fault-clause-took
-returns-in-Fault-clause-took g c = took_all _ _ _ c.in-Ok.ensures.ok c.in-Ok.ensures.short
+returns-in-Fault-clause-took g c = took_all _ _ _ c.in-Ok-read_all.ensures.ok c.in-Ok-read_all.ensures.short
 
 pub returns-clause-took : goal.returns-clause-took
-returns-clause-took g c = took_all _ _ _ c.in-Ok.ensures.ok c.in-Ok.ensures.short
+returns-clause-took g c = took_all _ _ _ c.in-Ok-read_all.ensures.ok c.in-Ok-read_all.ensures.short
 
 pub returns-in-Err-ReadFault-clause-took : goal.returns-in-Err-ReadFault-clause-took
 returns-in-Err-ReadFault-clause-took g c = took_within _ _ (c.read_all.ensures.fault_within (c.in-Err-ReadFault.is ∙ ap Err c.in-Err-ReadFault.field-0-is))
@@ -157,9 +139,11 @@ returns-in-Err-OutOfMemory-clause-took g c = took_within _ _ (c.read_all.ensures
 pub returns-in-Err-TooLong-clause-took : goal.returns-in-Err-TooLong-clause-took
 returns-in-Err-TooLong-clause-took g c = took_many _ _ (c.read_all.ensures.long (c.in-Err-TooLong.is ∙ ap Err c.in-Err-TooLong.field-0-is))
 
+pub returns-in-Ok-clause-ok : goal.returns-in-Ok-clause-ok
+returns-in-Ok-clause-ok g c =
+    summed _ _ _ _ _ _ _ _ _ _ _ _ c.in-Some-Gen.ensures c.in-Some-Gen.field-0-is c.in-Ok.ensures.summary c.as_slice.ensures.value c.finish.ensures.ended
+
 pub returns-in-Played-clause-wrong : goal.returns-in-Played-clause-wrong
 returns-in-Played-clause-wrong g c =
-    let played = c.in-Played.ensures.right in
-    let play : IsPlay c.as_slice.result.now =
-    record { setting = played.setting; field = played.field; script = played.script; there = played.there; built = played.built } in
-    play_known _ _ c.in-Ok.input.items _ _ _ _ c.in-Ok.ensures.ok (subst IsPlay c.as_slice.ensures.value play)
+    play_known _ _ c.in-Ok-read_all.input.items _ _ _ _ c.in-Ok-read_all.ensures.ok
+    (subst IsPlay c.as_slice-2.ensures.value (played_play _ _ c.in-Played.ensures.right))
