@@ -9,7 +9,7 @@ use Rattle.nav_steps.specs.Counts.{HasRisenAtMost}
 use Rattle.std.specs.declared.alloc.Global.{Global}
 use Rattle.navd.specs.Inputs.{IsInput, input_limit}
 use Rattle.navd.specs.Made.{made_builds}
-use Rattle.navd.specs.Words.{IsGenForm}
+use Rattle.navd.specs.Words.{IsGenForm, IsPlayForm}
 
 -- the input is in the grammar, and no more steps were taken than its play may take
 pub record IsPlayStepped (input : List ℕ) (before after : ℕ) : Type 0 where
@@ -37,7 +37,8 @@ pub record IsMadeStepped (words : List (String Global)) (before after : ℕ) : T
   pub form : IsGenForm number size words
   pub steps : HasRisenAtMost (made_builds number size) before after
 
--- no step was taken, or those of the play of the input that was read, or of the made one that the words ask for
+-- no step was taken, or, where the words ask for a play, those of the play of the input that was read, or those of the made one that the words
+-- ask for
 abbrev pub HasRunStepped : List (String Global) → (left_before left_after : Option (List ℕ)) → (before after : ℕ) → Type 0
 HasRunStepped words left_before left_after before after =
-    (after ≡ before) ⊎ (IsReadStepped left_before left_after before after ⊎ IsMadeStepped words before after)
+    (after ≡ before) ⊎ ((IsPlayForm words × IsReadStepped left_before left_after before after) ⊎ IsMadeStepped words before after)
