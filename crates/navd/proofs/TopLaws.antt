@@ -97,6 +97,10 @@ play_known before after bytes Form Calm Quiet Goal gave play = by_cases before (
     by_cases None known = tt
     by_cases (Some input) known = λ form no_play short calm quiet. absurd (no_play (subst IsPlay known play))
 
+-- an input with a play text is in the grammar
+pub play_of : (bytes text : List ℕ) → IsPlayed bytes text → IsPlay bytes
+play_of bytes text played = record { setting = played.setting; field = played.field; script = played.script; there = played.there }
+
 -- what holds where the sink is quiet
 pub quiet_ends : (before : Option (List ℕ)) (Form Calm Quiet Goal : Type 0) → (Quiet → Goal)
     → IfSome before (λ input. Form → (¬ IsPlay input) → length input ≤ input_limit → Calm → Quiet → Goal)
