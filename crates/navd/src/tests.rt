@@ -268,13 +268,14 @@ enum Over {
     Step,
 }
 
-/// A square field: its side and that of its tiles, the agent's radius, how many obstacles at once, the `cost` lines, what stands there, and
-/// the lanes of the script.
+/// A square field: its side and that of its tiles, the agent's radius, the lines of the error and of the mesh, how many obstacles at once, the
+/// `cost` lines, what stands there, and the lanes of the script.
 #[derive(Clone, Copy)]
 struct SquareField {
     side: u32,
     tile: u32,
     radius: u32,
+    mesh: &'static [u8],
     limit: u32,
     costs: &'static [u8],
     over: Over,
@@ -288,6 +289,7 @@ fn square(side: u32, tile: u32, radius: u32, over: Over) -> SquareField
         side,
         tile,
         radius,
+        mesh: b"error 169\nmesh strips\n",
         limit: 4,
         costs: b"",
         over,
@@ -311,7 +313,7 @@ fn push_header(text: &mut Vec<u8>, level: &SquareField) -> Result<(), AllocError
     push_line(text, b"size", &[level.side, level.side])?;
     push_line(text, b"tile", &[level.tile])?;
     push_line(text, b"agent", &[10, 4, level.radius])?;
-    text.extend_from_slice(b"error 169\nmesh strips\n")?;
+    text.extend_from_slice(level.mesh)?;
     push_line(text, b"limit", &[level.limit])?;
     text.extend_from_slice(level.costs)?;
     Ok(())
@@ -516,6 +518,58 @@ fn finds_paths(rt: HostRuntime) -> Result<(), Fail> {
         assert!(rt; level.side < 100);
         let ran = played(&rt, alloc, level, script)?;
         check(&rt, ran, Status::Ok, text);
+    }
+    Ok(())
+}
+
+#[test]
+fn finds_paths_over_outlines(rt: HostRuntime) -> Result<(), Fail> {
+    let alloc = rt.alloc();
+    let room = square(6, 6, 0, Over::Sky);
+    let walls = square(3, 4, 0, Over::Walls);
+    // The level, the script; how the play text begins.
+    let cases: [(SquareField, &[u8], &[u8]); 4] = [
+        // One region, whose outline is one polygon.
+        (
+            SquareField {
+                mesh: b"error 169\nmesh contours\n",
+                ..room
+            },
+            ACROSS,
+            b"floors 0 1 10 63\nfloors 0 0\npath 0 0 0 0 0 0\ndone 0 0\n",
+        ),
+        // One cell, whose outline is flat with the error 50, so that the tile is a strip, and has four corners with the error 49.
+        (
+            SquareField {
+                mesh: b"error 50\nmesh contours\n",
+                ..walls
+            },
+            b"path 24 24 10 24 24 10\n",
+            b"path 0 0 0 0 0 0\ndone 0 0\n",
+        ),
+        (
+            SquareField {
+                mesh: b"error 49\nmesh contours\n",
+                ..walls
+            },
+            b"path 24 24 10 24 24 10\n",
+            b"path 0 0 0 0 0 0\ndone 0 0\n",
+        ),
+        // Four tiles of one polygon each; the straight line meets their common corner, so how many turns are listed is free.
+        (
+            SquareField {
+                mesh: b"error 169\nmesh contours\n",
+                limit: 64,
+                ..square(96, 48, 2, Over::Sky)
+            },
+            b"path 160 160 10 1400 1400 10\n",
+            b"path 0 1440 0 0 2 ",
+        ),
+    ];
+    for (level, script, text) in cases {
+        assert!(rt; level.side < 100);
+        let ran = played(&rt, alloc, level, script)?;
+        check_ends(&rt, ran, text, b"\ndone 0 0\n");
     }
     Ok(())
 }
