@@ -1,12 +1,11 @@
 -- Flags after one of them was written.
-use Rattle.std.proofs.Common.{◌≡◌, ◌≢◌, ℕ, zero, suc, ◌+◌, ◌<◌, ◌≤◌, min, Bool, true, false, Option, Some, None, List, [], ◌∷◌, length, set, replicate, cond, ap, sym, subst, ◌∙◌, refl, ⊎_elim, arith}
+use Rattle.std.proofs.Common.{◌≡◌, ◌≢◌, ℕ, zero, suc, ◌+◌, ◌<◌, ◌≤◌, Bool, true, false, Option, Some, None, List, [], ◌∷◌, length, set, replicate, cond, ap, sym, subst, ◌∙◌, refl, ⊎_elim, arith}
 use Rattle.std.specs.Prelude.{IfSome, if◌then◌else◌}
 use Rattle.std.proofs.lemmas.Bool.{both_ways, cases_eq, cases_lt}
-use Rattle.std.proofs.lemmas.List.{length-set, get_or-set_same, get_or-set_other}
+use Rattle.std.proofs.lemmas.List.{get_or-set_same, get_or-set_other}
 use Rattle.std.proofs.lemmas.List.Sums.{sum_by-set}
-use Rattle.std.proofs.lemmas.List.Folds.{sum_by-replicate}
 use Rattle.nav_desk.specs.Flags.{flag_of, set_count, least_below}
-use Rattle.nav_desk.specs.Waiting.{Waiting, IsStart, IsLeastSet}
+use Rattle.nav_desk.specs.Waiting.{Waiting, IsStart}
 use Rattle.nav_desk.proofs.Leasts.{least_passes, none_below}
 
 -- a flag that was written, and the others
@@ -33,23 +32,6 @@ pub flag_of_none : (count tile : ℕ) → flag_of (replicate count false) tile �
 flag_of_none zero tile = refl
 flag_of_none (suc count) zero = refl
 flag_of_none (suc count) (suc tile) = flag_of_none count tile
-
--- a place to start from, after a flag was written
-pub IsStart-written : (flags : List Bool) (start tile : ℕ) (b : Bool) → tile < length flags → IsStart flags start
-    → IsStart (set flags tile b) (if b then min start tile else start)
-IsStart-written flags start tile true there is = record {
-  few = omega (arith, is.few, length-set flags tile true);
-  within = omega (arith, is.within, length-set flags tile true);
-  none = λ k before. flag_other flags tile k true (λ same. omega (arith, same, before)) ∙ is.none k (omega (arith, before));
-}
-IsStart-written flags start tile false there is = record {
-  few = omega (arith, is.few, length-set flags tile false);
-  within = omega (arith, is.within, length-set flags tile false);
-  none = λ k before. ⊎_elim
-      (λ same. ap (flag_of (set flags tile false)) same ∙ flag_written flags tile false there)
-      (λ apart. flag_other flags tile k false apart ∙ is.none k before)
-      (cases_eq k tile);
-}
 
 -- a place to start from that was gone on from another
 pub IsStart-moved : (flags : List Bool) (start next : ℕ) → IsStart flags start → next ≤ length flags
@@ -79,23 +61,12 @@ some_set flags tile there is = let less = one_less flags tile there is in omega 
 pub none_set : (flags : List Bool) (tile : ℕ) → set_count flags ≡ 0 → tile < length flags → flag_of flags tile ≡ false
 none_set flags tile none there = unset (flag_of flags tile) false (λ is. let some = some_set flags tile there is in absurd (omega (arith, some, none))) refl
 
-pub count_none : (count : ℕ) → set_count (replicate count false) ≡ 0
-count_none count = sum_by-replicate (λ (flag : Bool). cond flag 1 0) count false ∙ omega arith
-
 -- flags of which none is set
 pub all_unset : (flags : List Bool) → ((tile : ℕ) → tile < length flags → flag_of flags tile ≡ false) → flags ≡ replicate (length flags) false
 all_unset [] unset = refl
 all_unset (flag ∷ flags) unset =
     ap (λ (b : Bool). b ∷ flags) (unset 0 (omega arith))
     ∙ ap (λ (rest : List Bool). false ∷ rest) (all_unset flags (λ tile there. unset (suc tile) (omega (arith, there))))
-
--- a set of which a tile was written, and one that was gone on in
-pub IsLeastSet-written : (flags : List Bool) (start members tile after : ℕ) (b : Bool) → tile < length flags → IsLeastSet flags start members
-    → after + cond (flag_of flags tile) 1 0 ≡ members + cond b 1 0 → IsLeastSet (set flags tile b) (if b then min start tile else start) after
-IsLeastSet-written flags start members tile after b there is counts = record {
-  place = IsStart-written flags start tile b there is.place;
-  counted = let written = count_written flags tile b there in omega (arith, counts, written, is.counted);
-}
 
 -- looking again at one marked tile
 pub looked_more : (marks flags : List Bool) (tile k : ℕ) (fresh : ℕ → Bool) → tile < length marks → tile < length flags → flag_of marks tile ≡ true

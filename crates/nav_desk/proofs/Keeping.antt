@@ -1,11 +1,13 @@
 -- What the fields of a desk tell of the state that it is seen as.
-use Rattle.std.proofs.Common.{◌≡◌, ◌≢◌, ℕ, ◌<◌, Bool, true, false, not, ◌&&◌, List, [], length, get_or, Option, None, Some, ap, sym, ◌∙◌, refl, subst, ⊎_elim, arith}
+use Rattle.std.proofs.Common.{◌≡◌, ◌≢◌, ℕ, ◌+◌, ◌<◌, Bool, true, false, not, ◌&&◌, List, [], length, get_or, Option, None, Some, Ok, Err, ap, sym, ◌∙◌, refl, subst, ⊎_elim, arith}
 use Rattle.std.specs.Prelude.{All, if◌then◌else◌, slice_set, option_map}
 use Rattle.std.specs.Option.{option_map_or}
 use Rattle.std.proofs.lemmas.Bool.{cases_eq, eq-eqb, ne_eqb}
 use Rattle.std.proofs.lemmas.List.{get_or-set_same, get_or-set_other}
 use Rattle.std.proofs.lemmas.List.Elements.{All-filter}
 use Rattle.std.specs.Arc.{arc_value}
+use Rattle.nav_ground.specs.declared.history.Request.{Request}
+use Rattle.nav_ground.specs.declared.history.TheConstants.{HISTORY_LIMIT}
 use Rattle.nav_ground.specs.declared.setting.Setting.{Setting}
 use Rattle.nav_ground.specs.declared.shape.Shape.{Shape}
 use Rattle.nav_ground.specs.Limits.{IsShape}
@@ -18,7 +20,7 @@ use Rattle.nav_desk.specs.BookState.{BookState, IsBook, is_awaited, is_claimable
 use Rattle.nav_desk.specs.Flags.{flag_of, least_below}
 use Rattle.nav_desk.specs.Representation.{state_of, IsKept}
 use Rattle.nav_desk.specs.SameShapes.{are_same}
-use Rattle.nav_desk.specs.Steps.{IsJob, after_claim, job_of, is_taken, next_job, publication, publication_by}
+use Rattle.nav_desk.specs.Steps.{IsJob, after_claim, after_request, job_of, is_taken, next_job, next_reply, publication, publication_by, request_answer, requested}
 use Rattle.nav_desk.specs.Waiting.{Waiting, is_ready, least_ready}
 use Rattle.nav_desk.proofs.FlagLaws.{flag_written, flag_other}
 use Rattle.nav_desk.proofs.Histories.{alive_limits}
@@ -149,3 +151,12 @@ awaited_after inside tile shapes kept there same k within = ⊎_elim
     flag_other inside.waiting.awaited tile k false apart ∙ kept.awaited k within
     ∙ sym (ap (λ (list : List Shape). awaits (arc_value inside.level).setting inside.aimed.items k list) (get_or-set_other inside.stored.items tile k shapes [] apart)))
     (cases_eq k tile)
+
+-- a request where the history is not full
+pub room_step : (state : BookState) (lane : ℕ) (request : Request) → length state.history ≢ HISTORY_LIMIT
+    → (after_request state lane request ≡ requested state lane request) × (Ok (length state.history + 1, next_reply state request) ≡ request_answer state request)
+room_step state lane request room =
+    let is = ne_eqb (length state.history) HISTORY_LIMIT room in (
+      sym (ap (λ (b : Bool). if b then state else after_request state lane request) is),
+      sym (ap (λ (b : Bool). if b then Err (record { len = length state.history }) else Ok (length state.history + 1, next_reply state request)) is),
+    )

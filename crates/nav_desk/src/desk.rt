@@ -6,7 +6,7 @@ ghost use Rattle.nav_ground.specs.Grounds.{IsGround};
 ghost use Rattle.nav_ground.specs.History.{IsHistory, IsRequest};
 ghost use Rattle.nav_ground.specs.Tiling.{tile_count};
 ghost use Rattle.nav_desk.specs.BookState.{IsBook, first_state, least_awaited};
-ghost use Rattle.nav_desk.specs.Steps.{IsJob, next_reply, next_job, after_request, after_aim, after_claim, after_put_back, after_put_back_all, after_submit, after_publish, submission};
+ghost use Rattle.nav_desk.specs.Steps.{IsJob, next_reply, next_job, request_answer, requested, after_request, after_aim, after_claim, after_put_back, after_put_back_all, after_submit, after_publish, submission};
 
 use crate::answers::{HistoryFull, Job, Published, Submitted};
 use crate::least_set::LeastSet;
@@ -76,6 +76,8 @@ impl Desk {
     /// Appends a request of a lane to the history, and gives the number of its entry, from 1, and its answer.
     pub fn request(&mut self, lane: u32, request: Request) -> Result<(u32, Reply), HistoryFull>
         requires { IsRequest request }
+        ensures state { self.new ≡ requested self.old lane request }
+        ensures answer { result ≡ request_answer self.old request }
         ensures appended { OnOk result (self.new ≡ after_request self.old lane request) }
         ensures number { IfOk result (λ answer. answer.0 ≡ length self.old.history + 1) }
         ensures reply { IfOk result (λ answer. answer.1 ≡ next_reply self.old request) }

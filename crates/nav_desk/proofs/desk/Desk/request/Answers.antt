@@ -1,14 +1,15 @@
-use Rattle.std.proofs.Common.{◌≡◌, ◌<◌, ◌∙◌, ℕ, List, length, ◌+◌, ap, refl, arith}
+use Rattle.std.proofs.Common.{◌≡◌, ◌≢◌, ◌<◌, ◌∙◌, ℕ, List, Ok, length, ◌+◌, ap, refl, subst, arith}
 use Rattle.std.specs.Arc.{arc_value}
 use Rattle.std.proofs.lemmas.List.{length_push}
 use Rattle.nav_ground.specs.declared.history.Entry.{Entry}
+use Rattle.nav_ground.specs.declared.history.Reply.{Reply}
 use Rattle.nav_ground.specs.declared.history.TheConstants.{HISTORY_LIMIT}
 use Rattle.nav_ground.specs.declared.setting.Setting.{Setting}
 use Rattle.nav_ground.specs.Touching.{is_touching}
 use Rattle.nav_ground.proofs.AliveLaws.{shapes_alive-append}
 use Rattle.nav_desk.proofs.FlagLaws.{unset}
 use Rattle.nav_desk.proofs.Histories.{request_kept, table_limits}
-use Rattle.nav_desk.proofs.Keeping.{is_book}
+use Rattle.nav_desk.proofs.Keeping.{is_book, room_step}
 use Rattle.nav_desk.proofs.Tables.{table_rises}
 use Rattle.nav_desk.proofs.desk.Desk.request.Goals as goal
 
@@ -68,3 +69,15 @@ returns-clause-appended c =
 
 pub returns-clause-rules : goal.returns-clause-rules
 returns-clause-rules c = is_book _ (invariant_of-self c)
+
+pub returns-clause-state : goal.returns-clause-state
+returns-clause-state c =
+    let room = subst (λ (n : ℕ). n ≢ HISTORY_LIMIT) c.length-len.ensures c.if-len-eq-HISTORY_LIMIT.false in
+    returns-clause-appended c ∙ (room_step c.args.self.now c.args.lane c.args.request room).0
+
+pub returns-clause-answer : goal.returns-clause-answer
+returns-clause-answer c =
+    let room = subst (λ (n : ℕ). n ≢ HISTORY_LIMIT) c.length-len.ensures c.if-len-eq-HISTORY_LIMIT.false in
+    ap (λ (n : ℕ). Ok (n + 1, c.answer-answered.result.reply)) c.length-len.ensures
+    ∙ ap (λ (reply : Reply). Ok (length c.args.self.now.history + 1, reply)) (returns-clause-reply c)
+    ∙ (room_step c.args.self.now c.args.lane c.args.request room).1
