@@ -51,21 +51,28 @@ made_parts number size bytes setting field script made is reads =
     let P : List ℕ → Type 0 = λ xs. IsInput xs (made_setting size) (made_field number size) (made_script number size) in
     reads (made_setting size) (made_field number size) (made_script number size) (subst P (sym is) (made_is_input number size made))
 
+-- totals of a play, which has no others
+abbrev pub AreAllTotals : Setting → Field → Script → Totals → Type 0
+AreAllTotals setting field script totals =
+    AreTotals setting field script totals × ((other : Totals) → AreTotals setting field script other → other ≡ totals)
+
 -- the totals of the play of what was read, in a summary with its lengths, make the summary of the made input
 pub summary_of : (number size : ℕ) (bytes : List ℕ) (setting : Setting) (field : Field) (script : Script) (totals : Totals)
     (count line_count : ℕ) (text : List ℕ) → IsMadeInput number size
-    → bytes ≡ made_text number size → AreReadAs bytes setting field script → AreTotals setting field script totals
+    → bytes ≡ made_text number size → AreReadAs bytes setting field script → AreAllTotals setting field script totals
     → count ≡ length (made_text number size) → line_count ≡ length (lines (made_text number size)) → text ≡ summary_text number size count line_count totals
     → IsMadeSummary number size text
 summary_of number size bytes setting field script totals count line_count text made is reads come counted lined spelled =
     let parts = made_parts number size bytes setting field script made is reads in
-    let S : Setting → Type 0 = λ x. AreTotals x field script totals in
-    let F : Field → Type 0 = λ x. AreTotals (made_setting size) x script totals in
-    let L : Script → Type 0 = λ x. AreTotals (made_setting size) (made_field number size) x totals in
+    let S : Setting → Type 0 = λ x. AreAllTotals x field script totals in
+    let F : Field → Type 0 = λ x. AreAllTotals (made_setting size) x script totals in
+    let L : Script → Type 0 = λ x. AreAllTotals (made_setting size) (made_field number size) x totals in
     let B : ℕ → ℕ → Type 0 = λ n m. text ≡ summary_text number size n m totals in
+    let all = subst L parts.2 (subst F parts.1 (subst S parts.0 come)) in
     record {
       totals = totals;
-      come = subst L parts.2 (subst F parts.1 (subst S parts.0 come));
+      come = all.0;
+      only = all.1;
       spelled = subst (λ m. B (length (made_text number size)) m) lined (subst (λ n. B n line_count) counted spelled);
     }
 

@@ -81,10 +81,6 @@ fault_due before after input bytes written text gave short same as_text tells =
       told = as_text ∙ tells.told;
     }
 
--- an input that has a play text can be played
-pub played_play : (bytes text : List ℕ) → IsPlayed bytes text → IsPlay bytes
-played_play bytes text played = record { setting = played.setting; field = played.field; script = played.script; there = played.there }
-
 -- a run that ends with Ok, where the summary of a made input was due, wrote it
 pub summed : (words : List (String Global)) (before held_before held_after : Option (List ℕ)) (faults_before faults_after number size : ℕ)
     (written text : List ℕ) (form : Form) (status : Status) → AskFor words (Some form) → form ≡ Gen number size → IsMadeSummary number size text → written ≡ text
@@ -121,6 +117,10 @@ play_known before after bytes Form Calm Quiet Goal gave play = by_cases before (
         → IfSome before (λ input. Form → (¬ IsPlay input) → length input ≤ input_limit → Calm → Quiet → Goal)
     by_cases None known = tt
     by_cases (Some input) known = λ form no_play short calm quiet. absurd (no_play (subst IsPlay known play))
+
+-- an input with a play text is in the grammar
+pub play_of : (bytes text : List ℕ) → IsPlayed bytes text → IsPlay bytes
+play_of bytes text played = record { setting = played.setting; field = played.field; script = played.script; there = played.there }
 
 -- what holds where the sink is quiet
 pub quiet_ends : (before : Option (List ℕ)) (Form Calm Quiet Goal : Type 0) → (Quiet → Goal)

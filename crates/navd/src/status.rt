@@ -6,7 +6,7 @@ ghost use Rattle.navd.specs.Statuses.{status_number};
 /// How a run ended. The number is the program's exit status.
 #[derive(Clone, Copy, PartialEq, Eq, Debug)]
 pub enum Status {
-    /// The input was read to its end and the whole text was written.
+    /// The input, where one is read, was read to its end, and the whole text was written.
     Ok,
     /// The input is not in the grammar. The line `fault LINE KIND` was written.
     BadText,

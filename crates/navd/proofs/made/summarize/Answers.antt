@@ -11,7 +11,7 @@ returns-in_err-totals-clause-steps g c =
 pub returns-clause-summary : goal.returns-clause-summary
 returns-clause-summary g c =
     IfOk-weaker c.summary.result _ _ (λ text spelled. summary_of _ _ _ _ _ _ _ _ _ _ c.make.ensures.input
-    (c.as_slice.ensures.value ∙ c.in_ok-text.ensures.text) c.in_ok-setting.ensures.only c.in_ok-totals.ensures.totals
+    (c.as_slice.ensures.value ∙ c.in_ok-text.ensures.text) c.in_ok-setting.ensures.only (c.in_ok-totals.ensures.totals, c.in_ok-totals.ensures.only)
     (c.len.ensures ∙ (sym c.as_slice.ensures.len ∙ ap (λ xs. length xs) (c.as_slice.ensures.value ∙ c.in_ok-text.ensures.text))) (c.line_count.ensures c.args.number) spelled) c.summary.ensures
 
 pub returns-clause-steps : goal.returns-clause-steps

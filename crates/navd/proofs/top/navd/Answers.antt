@@ -1,6 +1,6 @@
 use Rattle.std.proofs.Common.{rules, Err, refl, ap, subst, sym, ◌∙◌, inl, inr}
 use Rattle.navd.specs.Inputs.{IsPlay}
-use Rattle.navd.proofs.TopLaws.{broken, differ, ends_apart, took_none, took_within, took_many, took_all, ended_well, play_due, fault_due, no_play_known, play_known, played_play, summed, quiet_ends}
+use Rattle.navd.proofs.TopLaws.{broken, differ, ends_apart, took_none, took_within, took_many, took_all, ended_well, play_due, fault_due, no_play_known, play_known, play_of, summed, quiet_ends}
 use Rattle.navd.proofs.top.navd.Goals as goal
 
 pub returns-in-Played-clause-write_fault : goal.returns-in-Played-clause-write_fault
@@ -17,6 +17,11 @@ pub returns-in-Fault-clause-complete : goal.returns-in-Fault-clause-complete
 returns-in-Fault-clause-complete g c =
     no_play_known _ _ c.in-Ok-read_all.input.items _ _ _ _ c.in-Ok-read_all.ensures.ok
     (λ play. c.in-Fault.ensures.complete (subst IsPlay (sym c.as_slice-2.ensures.value) play))
+
+pub returns-in-Played-clause-wrong : goal.returns-in-Played-clause-wrong
+returns-in-Played-clause-wrong g c =
+    play_known _ _ c.in-Ok-read_all.input.items _ _ _ _ c.in-Ok-read_all.ensures.ok
+    (subst IsPlay c.as_slice-2.ensures.value (play_of _ _ c.in-Played.ensures.right))
 
 pub returns-in-Fault-clause-wrong : goal.returns-in-Fault-clause-wrong
 returns-in-Fault-clause-wrong g c =
@@ -142,8 +147,3 @@ returns-in-Err-TooLong-clause-took g c = took_many _ _ (c.read_all.ensures.long 
 pub returns-in-Ok-clause-ok : goal.returns-in-Ok-clause-ok
 returns-in-Ok-clause-ok g c =
     summed _ _ _ _ _ _ _ _ _ _ _ _ c.in-Some-Gen.ensures c.in-Some-Gen.field-0-is c.in-Ok.ensures.summary c.as_slice.ensures.value c.finish.ensures.ended
-
-pub returns-in-Played-clause-wrong : goal.returns-in-Played-clause-wrong
-returns-in-Played-clause-wrong g c =
-    play_known _ _ c.in-Ok-read_all.input.items _ _ _ _ c.in-Ok-read_all.ensures.ok
-    (subst IsPlay c.as_slice-2.ensures.value (played_play _ _ c.in-Played.ensures.right))
