@@ -1,9 +1,8 @@
 -- How a run ends.
-use Rattle.std.proofs.Common.{◌≡◌, ℕ, ◌+◌, ◌≤◌, eqb, false, List, [], length, arith, ap, subst, sym, ◌∙◌, refl, inl, inr}
+use Rattle.std.proofs.Common.{◌≡◌, ℕ, ◌+◌, ◌≤◌, eqb, false, List, length, arith, ap, subst, sym, ◌∙◌, refl, inl, inr}
 use Rattle.std.specs.Prelude.{Option, Some, None, IfSome, String}
 use Rattle.std.specs.declared.alloc.Global.{Global}
 use Rattle.nav_io.specs.Causes.{Rose, GivesAll, TookMany, TookAtMost}
-use Rattle.std.proofs.KnownBytes.{Consumes-nil}
 use Rattle.std.proofs.lemmas.Bool.{eqb-false}
 use Rattle.nav_io.proofs.Laws.{GivesAll-known}
 use Rattle.navd.specs.declared.status.Status.{Status}
@@ -129,9 +128,6 @@ quiet_ends None Form Calm Quiet Goal ends = tt
 quiet_ends (Some input) Form Calm Quiet Goal ends = λ form no_play short calm quiet. ends quiet
 
 -- what a run took from its source
-pub took_none : (before : Option (List ℕ)) → TookAtMost before before (input_limit + 1)
-took_none before = ([], omega arith, Consumes-nil before)
-
 pub took_within : (before after : Option (List ℕ)) → TookAtMost before after input_limit → TookAtMost before after (input_limit + 1)
 took_within before after (bytes, few, gone) = (bytes, omega (arith, few), gone)
 

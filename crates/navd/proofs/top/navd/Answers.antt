@@ -1,6 +1,6 @@
 use Rattle.std.proofs.Common.{rules, Err, refl, ap, subst, sym, ◌∙◌, inl, inr}
 use Rattle.navd.specs.Inputs.{IsPlay}
-use Rattle.navd.proofs.TopLaws.{broken, differ, ends_apart, took_none, took_within, took_many, took_all, ended_well, play_due, fault_due, no_play_known, play_known, play_of, summed, quiet_ends}
+use Rattle.navd.proofs.TopLaws.{broken, differ, ends_apart, took_within, took_many, took_all, ended_well, play_due, fault_due, no_play_known, play_known, play_of, summed, quiet_ends}
 use Rattle.navd.proofs.top.navd.Goals as goal
 
 pub returns-in-Played-clause-write_fault : goal.returns-in-Played-clause-write_fault
