@@ -1,7 +1,7 @@
 //! Made inputs: a level and a script that a number and a size determine, and the summary of their play.
 //!
 //! The numbers come from draws. The state is a number below 2^64, at first the number that the input is made of; a draw multiplies it by
-//! 6364136223846793005, adds 1442695040888963407, takes the rest modulo 2^64, and gives that divided by 2^33. The text has these lines:
+//! 6364136223846793005, adds 1442695040888963407, takes the rest modulo 2^64, and gives that divided by 2^33, rounded down. The text has these lines:
 //!
 //! | Lines | What they say |
 //! |---|---|

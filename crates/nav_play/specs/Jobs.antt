@@ -27,7 +27,7 @@ abbrev pub book_after_claim : BookState → Option Job → BookState
 book_after_claim book (Some held) = book
 book_after_claim book None = after_claim book
 
--- how many claims of it gave a tile
+-- 1 where a claim gave a job, else 0
 abbrev pub jobs_given : Option Job → ℕ
 jobs_given (Some job) = 1
 jobs_given None = 0

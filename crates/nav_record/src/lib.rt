@@ -1,8 +1,8 @@
 //! The lines of the output: what became of requests, questions and steps, faults and ends.
 //!
 //! Each function appends the whole lines of one answer to the bytes that are written so far, exactly as its definition in `specs/`
-//! spells them, or appends nothing where memory is refused. No memory is asked for where the vector has the room for all of them. All is one
-//! line but a path, which has one more for each link and each turn.
+//! spells them, or appends nothing where memory is refused. Where the vector has the room for all of them, it succeeds. All is one line but a
+//! path, which has one more for each link and each turn.
 #![tactic(auto)]
 
 mod answer;

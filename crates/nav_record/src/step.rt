@@ -11,19 +11,19 @@ use std::alloc::AllocError;
 pub enum StepAnswer {
     /// The target is now the history's length, `k`.
     Aim { k: u32 },
-    /// The worker holds the job of the tile from now on.
+    /// The worker holds the built tile from now on.
     Claimed { worker: u32, tile: u32 },
-    /// No tile waits for a job, so the worker got none.
+    /// No tile waits for a worker, so it got none.
     NoTile { worker: u32 },
-    /// The worker holds a job already and asked for another.
+    /// The worker holds a tile already and asked for another.
     Busy { worker: u32 },
-    /// The worker holds no job that it could give back or submit.
+    /// The worker holds no tile that it could give back or submit.
     Idle { worker: u32 },
     /// The worker gave the job of the tile back.
     Back { worker: u32, tile: u32 },
     /// The worker's mesh of the tile was taken.
     Taken { worker: u32, tile: u32 },
-    /// The worker's mesh of the tile came too late: the tile's obstacles are others by now.
+    /// The worker's mesh is dropped: the tile is not awaited, or has other obstacles at the target.
     Stale { worker: u32, tile: u32 },
     /// The first `k` entries are published.
     Published { k: u32 },
@@ -31,7 +31,7 @@ pub enum StepAnswer {
     Same { k: u32 },
     /// Nothing was published, since the tile still waits for its mesh.
     NotYet { tile: u32 },
-    /// Every tile was built, and the first `k` entries are published.
+    /// Every awaited tile was built, no worker holds a tile, and the first `k` entries, which are all, are published.
     Settled { k: u32 },
     /// The history has `len` entries and takes no more.
     HistoryFull { len: u32 },

@@ -1,5 +1,5 @@
-//! The program `navd`: plays a script over a level and writes what comes of it to standard output: for `play` the play text of what it reads from
-//! standard input, for `gen NUMBER SIZE` the summary of an input that it makes.
+//! The program `navd` plays a script over a level. For `play` it writes the play text of what it reads from standard input, for `gen NUMBER SIZE`
+//! the summary of an input that it makes.
 //!
 //! `navd` is the one top call: everything that the program promises is its contract. `main` makes the real source, sink, gate and counter,
 //! calls it, and ends with the status.
