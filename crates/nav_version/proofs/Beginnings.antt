@@ -1,6 +1,6 @@
 -- Beginnings of lists, and the longer of two.
 use Rattle.std.proofs.Common.{◌≡◌, ℕ, Bool, true, false, nat_lt, if◌then◌else◌, max, List, [], ◌∷◌, ◌++◌, length, sym, refl, ap, ◌∙◌, subst, arith, append-nil, append_assoc}
-use Rattle.std.proofs.lemmas.Grind.{nat_tests}
+use Rattle.std.proofs.lemmas.Bool.Decides.{nat_tests}
 use Rattle.nav_ground.specs.declared.history.Entry.{Entry}
 use Rattle.nav_version.specs.Versions.{BeginsWith}
 use Rattle.nav_version.specs.VersionRule.{longer}
@@ -31,7 +31,3 @@ length-longer own other = go (nat_lt (length own) (length other)) refl
     go : (b : Bool) → nat_lt (length own) (length other) ≡ b → length (if b then other else own) ≡ max (length own) (length other)
     go true is = grind (arith, nat_tests)
     go false is = grind (arith, nat_tests)
-
-pub longer-nil : (other : List Entry) → longer [] other ≡ other
-longer-nil [] = refl
-longer-nil (x ∷ xs) = refl

@@ -8,7 +8,7 @@ use Rattle.std.specs.Option.{option_or}
 use mathlib.Core.Option.{some, some-ne-none}
 use lib.ListN.{get_elem?}
 use Rattle.atomic_table.proofs.Lists.{at_set, at_snoc}
-use Rattle.crossbeam_utils.specs.Register.{Admits, TurnsAt, Forks, Merges}
+use Rattle.crossbeam_utils.specs.Register.{TurnsAt, Forks, Merges}
 use Rattle.nav_ground.specs.declared.history.Entry.{Entry}
 use Rattle.nav_ground.specs.declared.history.Ground.{Ground}
 use Rattle.nav_version.specs.declared.sight.Sight.{Sight}
@@ -79,13 +79,6 @@ added version sights sight each so j other is =
 pub opens : (version : Version) → IsVersion version → Stands version (sight_of version ∷ [])
 opens version rules' = record { rules = rules'; each = added version [] (sight_of version) (λ j other is. absurd (some-ne-none other (sym is))) (sight_is_so version) }
 
--- a new eye
-pub admits : Admits Stands nothing
-admits version sights stands = record {
-  rules = stands.rules;
-  each = added version sights nothing stands.each (nothing_is_so version);
-}
-
 -- publish
 pub publishes : (seat : ℕ) (sight : Sight) (last next : Version) → Follows last next → IsVersion next → TurnsAt Stands seat sight last next Publishes
 publishes seat sight last next follows rules' sights stands at_seat = (
@@ -102,7 +95,7 @@ pub enters : (seat : ℕ) (sight : Sight) (version : Version) → TurnsAt Stands
 enters seat sight version sights stands at_seat = (
   sight_of version,
   record { rules = stands.rules; each = changed version sights seat (sight_of version) stands.each (sight_is_so version) },
-  record { so = stands.each seat sight at_seat; rules = stands.rules; after = refl },
+  record { so = stands.each seat sight at_seat; rules = stands.rules; is = refl },
 )
 
 -- tell

@@ -42,9 +42,9 @@ pub record Shows (press : PressView) (version : Version) : Type 0 where
   pub entries : version.entries ≡ press.entries
   pub mesh : version.mesh ≡ published_mesh press
 
--- the eye as its press makes it: it was told what is published
+-- an eye as its press makes it: it knows what is published
 abbrev pub first_eye : PressView → EyeView
-first_eye press = record { pair = press.pair; ground = press.ground; seen = press.entries; old = [] ∷ press.entries ∷ [] }
+first_eye press = record { pair = press.pair; ground = press.ground; seen = press.entries; old = [] }
 
 -- a patch can be published over a ground and its entries so far: its tile meshes are new ones for the published mesh, with few polygons
 -- once they are in place, the entries stay few, and the mesh so made is that of the ground with the obstacles that are alive after them

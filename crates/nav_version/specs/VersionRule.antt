@@ -15,7 +15,7 @@ use Rattle.nav_version.specs.declared.version.Version.{Version}
 use Rattle.nav_version.specs.declared.sight.Sight.{Sight}
 use Rattle.nav_version.specs.Versions.{BeginsWith, IsVersion}
 
--- nothing is known yet, or no more
+-- nothing is known any more: what is left of a told length once it was learnt
 abbrev pub nothing : Sight
 nothing = record { ground = None; seen = []; old = [] }
 
@@ -49,7 +49,7 @@ Publishes before last next after = after ≡ sight_of next
 pub record Enters (before : Sight) (version same : Version) (after : Sight) : Type 0 where
   pub so : IsSo version before
   pub rules : IsVersion version
-  pub after : after ≡ sight_of version
+  pub is : after ≡ sight_of version
 
 -- tell: nothing changes, and what the press knows is known twice
 

@@ -1,13 +1,13 @@
 //! An eye, which reads what is published.
 
-ghost use Rattle.std.specs.Prelude.{◌≡◌, ◌⊎◌, IfOk, IfSome, IfNone, OnOk, OnErr, length};
+ghost use Rattle.std.specs.Prelude.{◌≡◌, ◌⊎◌, IfOk, IfSome, IfNone, OnOk, OnErr, Some, length};
 ghost use Rattle.std.specs.Arc.{arc_value};
 ghost use Rattle.mesh_types.specs.Builds.{build_of};
 ghost use Rattle.mesh_types.specs.Right.{IsRight};
 ghost use Rattle.nav_query.specs.Questions.{HasLowCost, IsAnswerable};
 ghost use Rattle.two_copies.specs.Sides.{StaysAt, view};
 ghost use Rattle.nav_version.specs.Pairs.{HasLooked, after_learning};
-ghost use Rattle.nav_version.specs.VersionRule.{Looked, nothing};
+ghost use Rattle.nav_version.specs.VersionRule.{Looked};
 
 use crate::rule::{Entering, Learning, Versions};
 use crate::sight::Sight;
@@ -50,17 +50,17 @@ impl Model for Eye {
 // Answers a question from the version that is shown, and gives the version's length; nothing where the press has ended.
 fn look(
     reader: Looker,
-    alloc: Global,
-    question: &Question,
+    asked: (Global, &Question),
 ) -> (Looker, Option<(u32, Result<Answer, AllocError>)>)
-    requires { IsAnswerable question.now }
+    requires { IsAnswerable asked.1.now }
     ensures at { StaysAt reader.place result.0.place }
-    ensures looked { IfSome result.1 (λ told. Looked (view reader.place) (view result.0.place) question.now told) }
+    ensures looked { IfSome result.1 (λ told. Looked (view reader.place) (view result.0.place) asked.entry.1.now told) }
     ensures ended { IfNone result.1 (view result.0.place ≡ view reader.place) }
 {
+    let (alloc, question) = asked;
     match reader.enter_as::<Entering>() {
         Ok(reading) => {
-            let version = reading.get();
+            let version = reading.get().get();
             let length = version.entries.len() as u32;
             let answer = nav_query::answer(alloc, &version.mesh, question);
             (reading.leave(), Some((length, answer)))
@@ -70,19 +70,17 @@ fn look(
 }
 
 impl Eye {
-    // An eye that begins with what its press told it.
-    pub(crate) fn opened(mut reader: Looker, ground: &Ground, told: Told) -> Eye
-        requires blank { view reader.place ≡ nothing }
-        requires pair { told.pair ≡ reader.place.table_id }
-        requires ground { (view told.place).ground ≡ Some ground.now }
+    // An eye whose reader was told a version of that ground and length.
+    pub(crate) fn opened(reader: Looker, ground: &Ground, seen: u32) -> Eye
+        requires ground { (view reader.place).ground ≡ Some ground.now }
+        requires seen { seen ≡ length (view reader.place).seen }
+        ensures { result ≡ record { pair = reader.place.table_id; ground = ground.now; seen = (view reader.place).seen; old = (view reader.place).old } }
     {
         let ground = Snapshot::of(ground);
-        let Told { length, place } = told;
-        reader.learn::<Learning>(place);
         Eye {
             reader,
             ground,
-            seen: length,
+            seen,
         }
     }
 
@@ -107,11 +105,7 @@ impl Eye {
     /// The length of a published version, and an answer to the question that is right in its mesh. It takes no lock and does not wait.
     ///
     /// The version goes on from all that the eye saw or learnt of. It is refused for want of memory, and where the press has ended.
-    pub fn ask(
-        &mut self,
-        alloc: Global,
-        question: &Question,
-    ) -> Result<(u32, Answer), AllocError>
+    pub fn ask(&mut self, alloc: Global, question: &Question) -> Result<(u32, Answer), AllocError>
         requires { IsAnswerable question.now }
         ensures looked { OnOk result (HasLooked self.old self.new) }
         ensures length { IfOk result (λ told. told.0 ≡ length self.new.seen) }
@@ -121,11 +115,7 @@ impl Eye {
         // After a refusal the eye has looked all the same, or nothing has changed.
         ensures refused { OnErr result (HasLooked self.old self.new ⊎ (self.new ≡ self.old)) }
     {
-        let looked = replace_with(
-            &mut self.reader,
-            (alloc, question),
-            |reader, (alloc, question)| look(reader, alloc, question),
-        );
+        let looked = replace_with(&mut self.reader, (alloc, question), look);
         let (length, answer) = looked.ok_or(AllocError)?;
         self.seen = length;
         Ok((length, answer?))

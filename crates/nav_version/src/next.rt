@@ -83,8 +83,8 @@ fn shared(
     ensures { IfOk result (λ copies. copies.items ≡ news.now) }
 {
     let mut copies = Vec::with_capacity(alloc, news.len())?;
-    for (number, tile) in news {
-        copies.push((*number, tile.share()?))?;
+    for new in news {
+        copies.push((new.0, new.1.share()?))?;
     }
     Ok(copies)
 }

@@ -3,7 +3,9 @@
 ghost use Rattle.std.specs.Prelude.{◌≡◌, ◌++◌, IfOk, IfErr, OnOk, OnErr, length, replicate};
 ghost use Rattle.std.specs.Arc.{arc_value};
 ghost use Rattle.nav_version.specs.Pairs.{IsPatch, Shows, first_eye};
-ghost use Rattle.nav_version.specs.Versions.{BeginsWith, IsVersion};
+ghost use Rattle.two_copies.specs.Sides.{StaysAt, view};
+ghost use Rattle.nav_version.specs.VersionRule.{sight_of};
+ghost use Rattle.nav_version.specs.Versions.{BeginsWith, Follows, IsVersion};
 
 use crate::eye::Eye;
 use crate::next::next_version;
@@ -19,11 +21,13 @@ use std::marker::Model;
 use std::sync::Wait;
 use two_copies::Writer;
 
+type Shower = Writer<Shared<Version>, Sight, Versions>;
+
 /// The one that publishes the versions of a pair. It is not `Drop`: `end` ends it.
 ///
 /// Contracts see the pair, its ground, and the entries of the version that is published; the published mesh is that of both.
 pub struct Press {
-    writer: Writer<Shared<Version>, Sight, Versions>,
+    writer: Shower,
 }
 
 impl Model for Press {
@@ -61,6 +65,18 @@ pub fn pair<R: Wait>(
     }
 }
 
+// The writer once it shows the next version.
+fn shown<R: Wait>(writer: Shower, next: (&R, Shared<Version>)) -> (Shower, ())
+    requires rules { IsVersion next.1 }
+    requires follows { Follows writer.shown.value next.1 }
+    ensures value { result.0.shown.value ≡ next.entry.1 }
+    ensures at { StaysAt writer.place result.0.place }
+    ensures knows { view result.0.place ≡ sight_of next.entry.1 }
+{
+    let (rt, version) = next;
+    (writer.publish_as::<Publishing, R>(rt, version), ())
+}
+
 impl Press {
     fn showing(alloc: Global, version: Version, readers: u32) -> Result<Press, AllocError>
         requires { IsVersion version }
@@ -88,9 +104,9 @@ impl Press {
         ensures same { self.new ≡ self.old }
         ensures eye { IfOk result (λ eye. eye ≡ first_eye self.old) }
     {
-        let told = self.told();
-        let reader = self.writer.reader()?;
-        Ok(Eye::opened(reader, &self.version().ground, told))
+        let reader = self.writer.reader_as::<Telling>()?;
+        let version = self.version();
+        Ok(Eye::opened(reader, &version.ground, self.length()))
     }
 
     /// Publishes the entries so far and those of the patch, with its tiles in place, and tells the new length. It waits for eyes that still
@@ -124,9 +140,7 @@ impl Press {
         requires follows { BeginsWith next.entries self.old.entries }
         ensures { self.new ≡ record self.old { entries = next.entries } }
     {
-        replace_with(&mut self.writer, (rt, next), |writer, (rt, next)| {
-            (writer.publish_as::<Publishing, R>(rt, next), ())
-        })
+        replace_with(&mut self.writer, (rt, next), shown::<R>)
     }
 
     /// How many entries the published version has.

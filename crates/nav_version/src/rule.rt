@@ -13,9 +13,7 @@ pub struct Versions;
 impl Rule<Shared<Version>, Sight> for Versions {
     ghost holds = { Stands };
 
-    ghost first = { nothing };
-
-    ghost opening = { sight_of };
+    ghost first = { sight_of };
 }
 
 /// The press shows the next version.

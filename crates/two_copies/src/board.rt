@@ -45,8 +45,7 @@ pub struct Sides<P> {
     protocol: PhantomData<P>,
 }
 
-impl<T, V, P: Rule<T, V>> TableRule<Option<Part<T>>, Doing<T, V>, Snapshot<Part<T>>>
-    for Sides<P> {
+impl<T, V, P: Rule<T, V>> TableRule<Option<Part<T>>, Doing<T, V>, Snapshot<Part<T>>> for Sides<P> {
     ghost use Rattle.two_copies.specs.Sides.{Sided, starting};
 
     ghost holds = { λ _. Sided P.holds };

@@ -6,8 +6,8 @@ ghost use Rattle.crossbeam_utils.specs.Register.{TurnsAt};
 
 use crate::board::{Doing, Place, Sides};
 use crate::part::Part;
-use crate::rule::Rule;
 use crate::plays::{Begin, Empty, End, Fill, Gather, Reach, Record, Turn};
+use crate::rule::Rule;
 use atomic_table::Shared;
 use crossbeam_utils::Backoff;
 use crossbeam_utils::rule::Outcome;
