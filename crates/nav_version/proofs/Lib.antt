@@ -1,0 +1,4 @@
+pub mod Beginnings
+pub mod Looks
+pub mod PatchLaws
+pub mod VersionSteps

@@ -1,0 +1,4 @@
+pub mod Pairs
+pub mod Representation
+pub mod VersionRule
+pub mod Versions

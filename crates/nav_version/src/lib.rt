@@ -1,0 +1,26 @@
+//! Versions of a ground's mesh that threads read without a lock, while one thread publishes the next.
+//!
+//! A `Version` is a ground, the entries of its history so far, and the mesh with the obstacles that they leave. `pair` makes one `Press`,
+//! which publishes versions, and an `Eye` for each reader, which asks. An eye takes no lock and does not wait; it answers from one
+//! published version, which goes on from all that the eye saw before and from all lengths that it learnt of. A `Told` names a published
+//! length to an eye.
+//!
+//! Contracts see of a press its pair, its ground and the published entries; of an eye its pair, its ground, the list of entries that it
+//! saw last, and older lists. Lists are all that versions are told apart by: the mesh is that of the ground and the list. Between any two
+//! steps the rule of `specs/VersionRule.antt` holds, which ties what is published to what the press, the eyes and the told lengths know.
+#![tactic(auto)]
+
+mod eye;
+mod next;
+mod patch;
+mod press;
+mod rule;
+mod sight;
+mod told;
+mod version;
+
+pub use eye::Eye;
+pub use patch::Patch;
+pub use press::{Press, pair};
+pub use told::Told;
+pub use version::Version;

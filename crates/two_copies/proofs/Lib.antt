@@ -1,0 +1,4 @@
+pub mod PartFields
+pub mod PartSteps
+mod Readers
+pub mod SidesKept

@@ -1,0 +1,48 @@
+//! The writer, which holds the two copies.
+ghost use Rattle.std.specs.Prelude.{◌≡◌, ◌+◌, ◌*◌, ◌^◌, ◌<◌, ◌≤◌, [], length};
+ghost use Rattle.std.specs.Arc.{arc_value};
+ghost use Rattle.two_copies.specs.declared.board.Role.TheVariants.{Writer as Writes};
+ghost use Rattle.two_copies.specs.Sides.{posed, plan_of, resting, unit};
+
+use crate::board::Place;
+use crate::part::{Deed, Part};
+use crate::reader::Factory;
+use crate::rule::Rule;
+use std::alloc::{Allocator, Global};
+
+mod steps;
+
+/// The copy that readers take, while the writer has the other.
+pub(crate) struct Open<T: Drop, V, P: Rule<T, V>, A: Allocator> {
+    from: Factory<T, V, P, A>,
+    place: Place<T, V>,
+    side: usize,
+    last: Vec<u64, A>,
+    deed: Deed<T, A>,
+    shown: Part<T>,
+    ghost seated: { place.table_id ≡ (arc_value from.board).shared.table_id },
+    ghost sized: { (8 * length last.items ≡ place.table_id.slots) × (0 < length last.items) × (side < 2) },
+    ghost whole: { (shown.round ≡ deed.round) × (shown.value ≡ deed.value) × (shown.count + length last.items ≡ 2 ^ 63) },
+    ghost planned: { place ≡ posed place (Writes (resting side 0 shown (plan_of place shown))) [] },
+}
+
+/// The one that shows a value to readers. It is not `Drop`: end it by `take`.
+///
+/// `left` readers may still have a part of the spare copy.
+pub struct Writer<T: Drop, V, P: Rule<T, V>, A: Allocator = Global> {
+    from: Factory<T, V, P, A>,
+    pub place: Place<T, V>,
+    side: usize,
+    left: usize,
+    last: Vec<u64, A>,
+    deed: Deed<T, A>,
+    pub shown: Part<T>,
+    spare_deed: Deed<T, A>,
+    spare: Part<T>,
+    ghost seated: { place.table_id ≡ (arc_value from.board).shared.table_id },
+    ghost sized: { (8 * length last.items ≡ place.table_id.slots) × (0 < length last.items) × (side < 2) × (left ≤ length last.items) },
+    ghost whole: { (shown.round ≡ deed.round) × (shown.value ≡ deed.value) × (shown.count + length last.items ≡ 2 ^ 63) },
+    ghost spare_whole: { (spare.round ≡ spare_deed.round) × (spare.value ≡ spare_deed.value) × (spare.count + left ≡ 2 ^ 63) },
+    ghost planned: { place ≡ posed place (Writes (resting side left shown (plan_of place shown))) [] },
+    ghost lent: { 0 < left → ((plan_of place shown).last ≡ last.items) × ((plan_of place shown).spare ≡ unit spare) },
+}
