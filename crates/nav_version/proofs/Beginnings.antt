@@ -1,33 +1,38 @@
--- Beginnings of lists, and the longer of two.
-use Rattle.std.proofs.Common.{◌≡◌, ℕ, Bool, true, false, nat_lt, if◌then◌else◌, max, List, [], ◌∷◌, ◌++◌, length, sym, refl, ap, ◌∙◌, subst, arith, append-nil, append_assoc}
-use Rattle.std.proofs.lemmas.Bool.Decides.{nat_tests}
-use Rattle.nav_ground.specs.declared.history.Entry.{Entry}
-use Rattle.nav_version.specs.Versions.{BeginsWith}
-use Rattle.nav_version.specs.VersionRule.{longer}
+-- Beginnings of lists.
+use Rattle.std.proofs.Common.{◌≡◌, ℕ, ◌<◌, ◌≤◌, Bool, true, false, List, [], ◌∷◌, ◌++◌, length, refl, ap, sym, ◌∙◌, arith, append-nil, append_assoc, length-append}
+use Rattle.std.specs.Prelude.{MatchBool}
+use mathlib.Core.List.{IsPrefix}
 
 module _ {A : Type 0} where
-  pub BeginsWith-self : (xs : List A) → BeginsWith xs xs
-  BeginsWith-self xs = ([], sym (append-nil xs))
+  -- each list begins with itself
+  pub IsPrefix-self : (xs : List A) → IsPrefix xs xs
+  IsPrefix-self xs = ([], append-nil xs)
 
-  pub BeginsWith-nil : (xs : List A) → BeginsWith xs []
-  BeginsWith-nil xs = (xs, refl)
+  pub IsPrefix-append : (xs ys zs : List A) → ys ≡ xs ++ zs → IsPrefix xs ys
+  IsPrefix-append xs ys zs is = (zs, sym is)
 
-  pub BeginsWith-trans : (xs ys zs : List A) → BeginsWith zs ys → BeginsWith ys xs → BeginsWith zs xs
-  BeginsWith-trans xs ys zs more first =
-      (first.0 ++ more.0, more.1 ∙ ap (λ (part : List A). part ++ more.0) first.1 ∙ append_assoc xs first.0 more.0)
+  pub IsPrefix-trans : (xs ys zs : List A) → IsPrefix xs ys → IsPrefix ys zs → IsPrefix xs zs
+  IsPrefix-trans xs ys zs p q = (p.0 ++ q.0, sym (append_assoc xs p.0 q.0) ∙ ap (λ (part : List A). part ++ q.0) p.1 ∙ q.1)
 
--- what holds of both lists holds of the longer one
-pub longer-is_one : (P : List Entry → Type 0) (own other : List Entry) → P own → P other → P (longer own other)
-longer-is_one P own other p q = go (nat_lt (length own) (length other))
-  where
-    go : (b : Bool) → P (if b then other else own)
-    go true = q
-    go false = p
+  -- of two beginnings of one list the shorter begins the longer
+  pub IsPrefix-shorter : (xs ys zs : List A) → IsPrefix xs zs → IsPrefix ys zs → length xs ≤ length ys → IsPrefix xs ys
+  IsPrefix-shorter [] ys zs p q le = (ys, refl)
+  IsPrefix-shorter (x ∷ xs) [] zs p q le = absurd (omega arith)
+  IsPrefix-shorter (x ∷ xs) (y ∷ ys) [] p q le = absurd (cc (p.1))
+  IsPrefix-shorter (x ∷ xs) (y ∷ ys) (z ∷ zs) p q le =
+      let heads : x ≡ y = cc (p.1, q.1) in
+      let rest = IsPrefix-shorter xs ys zs (p.0, cc (p.1)) (q.0, cc (q.1)) (omega arith) in
+      (rest.0, cc (heads, rest.1))
 
--- it is as long as the longer one
-pub length-longer : (own other : List Entry) → length (longer own other) ≡ max (length own) (length other)
-length-longer own other = go (nat_lt (length own) (length other)) refl
-  where
-    go : (b : Bool) → nat_lt (length own) (length other) ≡ b → length (if b then other else own) ≡ max (length own) (length other)
-    go true is = grind (arith, nat_tests)
-    go false is = grind (arith, nat_tests)
+  -- a beginning as long as the whole is the whole
+  pub IsPrefix-whole : (xs ys : List A) → IsPrefix xs ys → length ys ≤ length xs → xs ≡ ys
+  IsPrefix-whole [] [] p le = refl
+  IsPrefix-whole [] (y ∷ ys) p le = absurd (omega arith)
+  IsPrefix-whole (x ∷ xs) [] p le = absurd (cc (p.1))
+  IsPrefix-whole (x ∷ xs) (y ∷ ys) p le = let rest = IsPrefix-whole xs ys (p.0, cc (p.1)) (omega arith) in cc (p.1, rest)
+
+  -- of two beginnings of one list the longer goes on from the other
+  pub IsPrefix-one : (own from both : List A) (b : Bool) → IsPrefix own both → IsPrefix from both → MatchBool b (length from ≤ length own) (length own < length from)
+      → MatchBool b (IsPrefix from own) (IsPrefix own from)
+  IsPrefix-one own from both true p q le = IsPrefix-shorter from own both q p le
+  IsPrefix-one own from both false p q lt = IsPrefix-shorter own from both p q (omega arith)

@@ -1,4 +1,5 @@
+pub mod Adding
 pub mod Beginnings
-pub mod Looks
 pub mod PatchLaws
+pub mod PressLaws
 pub mod VersionSteps

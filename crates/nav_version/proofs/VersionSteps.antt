@@ -1,114 +1,86 @@
 -- Each step keeps the rule of published versions.
-use Rattle.std.proofs.Common.{◌≡◌, ◌≢◌, ℕ, List, [], ◌∷◌, ◌++◌, set, Option, Some, None, sym, refl, ap, ◌∙◌, subst, ⊎_elim}
-use Rattle.std.proofs.lemmas.Option.{none-some}
-use Rattle.std.proofs.lemmas.List.Elements.{All-nil, All-cons, All-weaker}
-use Rattle.std.specs.Arc.{arc_value}
-use Rattle.std.specs.List.{All}
-use Rattle.std.specs.Option.{option_or}
+use Rattle.std.proofs.Common.{◌≡◌, ◌≢◌, ℕ, List, [], ◌∷◌, ◌++◌, set, fold, Option, Some, None, sym, refl, ap, ◌∙◌, subst, ⊎_elim}
+use Rattle.std.proofs.lemmas.List.Sums.{fold-append}
+use Rattle.std.specs.Option.{option_map}
 use mathlib.Core.Option.{some, some-ne-none}
 use lib.ListN.{get_elem?}
 use Rattle.atomic_table.proofs.Lists.{at_set, at_snoc}
-use Rattle.crossbeam_utils.specs.Register.{TurnsAt, Forks, Merges}
-use Rattle.nav_ground.specs.declared.history.Entry.{Entry}
+use Rattle.crossbeam_utils.specs.Register.{Admits, TurnsAt, Forks, Merges}
+use Rattle.logbook.specs.Pages.{Book}
 use Rattle.nav_ground.specs.declared.history.Ground.{Ground}
-use Rattle.nav_version.specs.declared.sight.Sight.{Sight}
-use Rattle.nav_version.specs.declared.version.Version.{Version}
-use Rattle.nav_version.specs.Versions.{BeginsWith, Follows, IsVersion}
-use Rattle.nav_version.specs.VersionRule.{Enters, IsSo, Publishes, Stands, learnt, longer, nothing, sight_of}
-use Rattle.nav_version.proofs.Beginnings.{BeginsWith-nil, BeginsWith-self, BeginsWith-trans, longer-is_one}
+use Rattle.nav_version.specs.declared.shown.Shown.{Shown}
+use Rattle.nav_version.specs.VersionRule.{Enters, IsShown, IsSo, Publishes, Stands, next_of, origin}
 
--- nothing is so of every version
-nothing_is_so : (version : Version) → IsSo version nothing
-nothing_is_so version = record {
-  ground = λ ground is. absurd (none-some ground is);
-  seen = BeginsWith-nil version.entries;
-  old = All-nil (BeginsWith version.entries);
-}
+-- what was so of a version is so of another of its pair and ground
+still_so : (last next : Shown) (one : Option Shown) → origin next ≡ origin last → IsSo last one → IsSo next one
+still_so last next None same so = tt
+still_so last next (Some once) same so = so ∙ sym same
 
--- what is seen of a version is so of it
-sight_is_so : (version : Version) → IsSo version (sight_of version)
-sight_is_so version = record {
-  ground = λ ground is. sym (Some-injective is);
-  seen = BeginsWith-self version.entries;
-  old = All-nil (BeginsWith version.entries);
-}
+-- what is known of a pair and a ground is so of what is shown
+pub origin_known : (shown : Shown) (known : Option Shown) (origin' : Book × Ground) → IsSo shown known → option_map origin known ≡ Some origin' → origin' ≡ origin shown
+origin_known shown None origin' so is = absurd cc
+origin_known shown (Some once) origin' so is = Some-injective (sym is) ∙ so
   where
-    Some-injective : {x y : Ground} → Some x ≡ Some y → x ≡ y
+    Some-injective : {x y : Book × Ground} → Some x ≡ Some y → x ≡ y
     Some-injective is = cc
 
--- what was so of a version is so of one that follows it
-still_so : (last next : Version) (sight : Sight) → Follows last next → IsSo last sight → IsSo next sight
-still_so last next sight follows so = record {
-  ground = λ ground is. so.ground ground is ∙ sym follows.ground;
-  seen = BeginsWith-trans sight.seen last.entries next.entries follows.entries so.seen;
-  old = All-weaker (BeginsWith last.entries) (BeginsWith next.entries)
-      (λ (list : List Entry) first. BeginsWith-trans list last.entries next.entries follows.entries first) sight.old so.old;
-}
+module _ (shown : Shown) (known : List (Option Shown)) where
+  -- the rule after what one knows was changed
+  changed : (seat : ℕ) (one : Option Shown) → ((j : ℕ) (other : Option Shown) → get_elem? known j ≡ some other → IsSo shown other) → IsSo shown one
+      → (j : ℕ) (other : Option Shown) → get_elem? (set known seat one) j ≡ some other → IsSo shown other
+  changed seat one each so j other is =
+      ⊎_elim (λ (t : (j ≡ seat) × (one ≡ other)). subst (IsSo shown) t.1 so) (λ (t : (j ≢ seat) × (get_elem? known j ≡ some other)). each j other t.1)
+      (at_set known seat j one other is)
 
--- what is so of a version on two accounts is so of it on both together
-learnt_is_so : (version : Version) (own told : Sight) → IsSo version own → IsSo version told → IsSo version (learnt own told)
-learnt_is_so version own told so also = record {
-  ground = one_of own.ground told.ground so.ground also.ground;
-  seen = longer-is_one (BeginsWith version.entries) own.seen told.seen so.seen also.seen;
-  old = All-cons (BeginsWith version.entries) own.seen (told.seen ∷ own.old) so.seen
-      (All-cons (BeginsWith version.entries) told.seen own.old also.seen so.old);
-}
-  where
-    one_of : (a b : Option Ground) → ((ground : Ground) → a ≡ Some ground → ground ≡ arc_value version.ground)
-        → ((ground : Ground) → b ≡ Some ground → ground ≡ arc_value version.ground)
-        → (ground : Ground) → option_or a b ≡ Some ground → ground ≡ arc_value version.ground
-    one_of None b left right = right
-    one_of (Some x) b left right = left
-
--- the rule after one sight was changed
-changed : (version : Version) (sights : List Sight) (seat : ℕ) (sight : Sight)
-    → ((j : ℕ) (other : Sight) → get_elem? sights j ≡ some other → IsSo version other) → IsSo version sight
-    → (j : ℕ) (other : Sight) → get_elem? (set sights seat sight) j ≡ some other → IsSo version other
-changed version sights seat sight each so j other is =
-    ⊎_elim (λ (t : (j ≡ seat) × (sight ≡ other)). subst (IsSo version) t.1 so) (λ (t : (j ≢ seat) × (get_elem? sights j ≡ some other)). each j other t.1)
-    (at_set sights seat j sight other is)
-
--- the rule after one sight more
-added : (version : Version) (sights : List Sight) (sight : Sight)
-    → ((j : ℕ) (other : Sight) → get_elem? sights j ≡ some other → IsSo version other) → IsSo version sight
-    → (j : ℕ) (other : Sight) → get_elem? (sights ++ sight ∷ []) j ≡ some other → IsSo version other
-added version sights sight each so j other is =
-    ⊎_elim (each j other) (λ (same : sight ≡ other). subst (IsSo version) same so) (at_snoc sights sight other j is)
+  -- the rule with one more
+  added : (one : Option Shown) → ((j : ℕ) (other : Option Shown) → get_elem? known j ≡ some other → IsSo shown other) → IsSo shown one
+      → (j : ℕ) (other : Option Shown) → get_elem? (known ++ one ∷ []) j ≡ some other → IsSo shown other
+  added one each so j other is = ⊎_elim (each j other) (λ (same : one ≡ other). subst (IsSo shown) same so) (at_snoc known one other j is)
 
 -- the first version
-pub opens : (version : Version) → IsVersion version → Stands version (sight_of version ∷ [])
-opens version rules' = record { rules = rules'; each = added version [] (sight_of version) (λ j other is. absurd (some-ne-none other (sym is))) (sight_is_so version) }
+pub opens : (shown : Shown) → IsShown shown → Stands shown (None ∷ [])
+opens shown is' = record { is = is'; each = added shown [] None (λ j other is. absurd (some-ne-none other (sym is))) tt }
+
+-- a new reader, which knows nothing
+pub admits : Admits Stands None
+admits shown known stands = record { is = stands.is; each = added shown known None stands.each tt }
 
 -- publish
-pub publishes : (seat : ℕ) (sight : Sight) (last next : Version) → Follows last next → IsVersion next → TurnsAt Stands seat sight last next Publishes
-publishes seat sight last next follows rules' sights stands at_seat = (
-  sight_of next,
-  record {
-    rules = rules';
-    each = changed next sights seat (sight_of next) (λ j other is. still_so last next other follows (stands.each j other is)) (sight_is_so next);
-  },
+pub publishes : (seat : ℕ) (one : Option Shown) (last next : Shown) → origin next ≡ origin last → IsShown next → TurnsAt Stands seat one last next Publishes
+publishes seat one last next same is' known stands at_seat = (
+  Some next,
+  record { is = is'; each = changed next known seat (Some next) (λ j other is. still_so last next other same (stands.each j other is)) refl },
   refl,
 )
 
+-- what is shown once all that was pending is shown, is what was to be shown last
+pub shows_last : (shown next now : Shown) (pending before : List Shown) → now ≡ fold next_of shown pending → pending ≡ before ++ next ∷ [] → now ≡ next
+shows_last shown next now pending before is all = is ∙ ap (fold next_of shown) all ∙ fold-append next_of shown before (next ∷ [])
+
+pub publishes_last : (seat : ℕ) (one : Option Shown) (last next now : Shown) (pending before : List Shown) → now ≡ fold next_of last pending → pending ≡ before ++ next ∷ []
+    → origin next ≡ origin last → IsShown next → TurnsAt Stands seat one last now Publishes
+publishes_last seat one last next now pending before is all same is' =
+    let now_is : now ≡ next = shows_last last next now pending before is all in
+    publishes seat one last now (ap origin now_is ∙ same) (subst IsShown (sym now_is) is')
+
 -- enter
-pub enters : (seat : ℕ) (sight : Sight) (version : Version) → TurnsAt Stands seat sight version version Enters
-enters seat sight version sights stands at_seat = (
-  sight_of version,
-  record { rules = stands.rules; each = changed version sights seat (sight_of version) stands.each (sight_is_so version) },
-  record { so = stands.each seat sight at_seat; rules = stands.rules; is = refl },
-)
+pub enters : (seat : ℕ) (one : Option Shown) (shown : Shown) → TurnsAt Stands seat one shown shown Enters
+enters seat one shown known stands at_seat =
+    let so' = stands.each seat one at_seat in (
+      one,
+      record { is = stands.is; each = changed shown known seat one stands.each so' },
+      record { is = stands.is; so = so'; kept = refl },
+    )
 
 -- tell
-pub tells : (seat : ℕ) (sight : Sight) → Forks Stands seat sight sight sight
-tells seat sight version sights stands at_seat =
-    let so = stands.each seat sight at_seat in
-    record { rules = stands.rules; each = added version (set sights seat sight) sight (changed version sights seat sight stands.each so) so }
+pub tells : (seat : ℕ) (one : Option Shown) → Forks Stands seat one one one
+tells seat one shown known stands at_seat =
+    let so = stands.each seat one at_seat in
+    record { is = stands.is; each = added shown (set known seat one) one (changed shown known seat one stands.each so) so }
 
 -- learn
-pub learns : (seat : ℕ) (own : Sight) (other : ℕ) (told : Sight) → Merges Stands seat own other told (learnt own told) nothing
-learns seat own other told version sights stands at_seat apart at_other =
-    let so = stands.each seat own at_seat in
-    let told_so : IsSo version told = ⊎_elim (λ (t : (other ≡ seat) × (learnt own told ≡ told)). absurd (apart t.0))
-    (λ (t : (other ≢ seat) × (get_elem? sights other ≡ some told)). stands.each other told t.1) (at_set sights seat other (learnt own told) told at_other) in
-    let both = changed version sights seat (learnt own told) stands.each (learnt_is_so version own told so told_so) in
-    record { rules = stands.rules; each = changed version (set sights seat (learnt own told)) other nothing both (nothing_is_so version) }
+pub learns : (seat : ℕ) (own : Option Shown) (other : ℕ) (told : Option Shown) → Merges Stands seat own other told told None
+learns seat own other told shown known stands at_seat apart at_other =
+    let told_so : IsSo shown told = ⊎_elim (λ (t : (other ≡ seat) × (told ≡ told)). absurd (apart t.0))
+    (λ (t : (other ≢ seat) × (get_elem? known other ≡ some told)). stands.each other told t.1) (at_set known seat other told told at_other) in
+    record { is = stands.is; each = changed shown (set known seat told) other None (changed shown known seat told stands.each told_so) tt }

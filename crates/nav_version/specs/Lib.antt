@@ -1,3 +1,6 @@
+pub mod Histories
+pub mod Lists
+pub mod ListsKept
 pub mod Pairs
 pub mod Representation
 pub mod VersionRule

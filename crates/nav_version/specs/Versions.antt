@@ -1,5 +1,5 @@
--- Versions: what each keeps, and which goes on from which.
-use Rattle.std.specs.Prelude.{◌≡◌, ◌<◌, List, ◌++◌, length}
+-- What each version keeps.
+use Rattle.std.specs.Prelude.{◌≡◌, ◌<◌, length}
 use Rattle.std.specs.Arc.{arc_value}
 use Rattle.nav_ground.specs.Grounds.{IsGround}
 use Rattle.mesh_types.specs.Builds.{build_of}
@@ -13,12 +13,3 @@ pub record IsVersion (version : Version) : Type 0 where
   pub few : length version.entries < 4294967295
   pub mesh : version.mesh ≡ build_of (arc_value version.ground) version.entries (length version.entries)
   pub sound : IsSound version.mesh
-
--- a list begins with another
-abbrev pub BeginsWith : {A : Type 0} → List A → List A → Type 0
-BeginsWith {A} whole beginning = (rest : List A) × (whole ≡ beginning ++ rest)
-
--- a version follows another: over the same ground, with its entries and more
-pub record Follows (last next : Version) : Type 0 where
-  pub ground : arc_value next.ground ≡ arc_value last.ground
-  pub entries : BeginsWith next.entries last.entries

@@ -1,38 +1,37 @@
 //! An eye, which reads what is published.
 
-ghost use Rattle.std.specs.Prelude.{◌≡◌, ◌⊎◌, IfOk, IfSome, IfNone, OnOk, OnErr, Some, length};
-ghost use Rattle.std.specs.Arc.{arc_value};
+ghost use Rattle.std.specs.Prelude.{◌≡◌, ◌⊎◌, IfOk, IfSome, OnOk, OnErr, Some, length};
+ghost use Rattle.std.specs.Option.{option_map};
+ghost use mathlib.Core.List.{IsPrefix};
+ghost use Rattle.left_right.specs.Sides.{view};
 ghost use Rattle.mesh_types.specs.Builds.{build_of};
 ghost use Rattle.mesh_types.specs.Right.{IsRight};
 ghost use Rattle.nav_query.specs.Questions.{HasLowCost, IsAnswerable};
-ghost use Rattle.two_copies.specs.Sides.{StaysAt, view};
 ghost use Rattle.nav_version.specs.Pairs.{HasLooked, after_learning};
-ghost use Rattle.nav_version.specs.VersionRule.{Looked};
+ghost use Rattle.nav_version.specs.VersionRule.{Looked, origin};
 
-use crate::rule::{Entering, Learning, Versions};
-use crate::sight::Sight;
+use crate::rule::{Entering, Versions};
+use crate::shown::Shown;
 use crate::told::Told;
-use crate::version::Version;
 use core::mem::replace_with;
+use left_right::reader::Reader;
 use mesh_types::Answer;
 use nav_base::Question;
 use nav_ground::Ground;
-use nav_share::Shared;
 use std::alloc::{AllocError, Global};
 use std::marker::Model;
 use std::snapshot::Snapshot;
-use two_copies::Reader;
 
-type Looker = Reader<Shared<Version>, Sight, Versions>;
+type Looker = Reader<Shown, Option<Shown>, Versions>;
 
 /// One reader of a pair's published versions.
 ///
-/// Contracts see the pair, its ground, the entries that the eye saw last, and older lists: what it saw or learnt of before it last asked.
+/// Contracts see the pair, its ground, and the longest list of entries that the eye saw or learnt of.
 #[derive(Drop)]
 pub struct Eye {
     reader: Looker,
     ground: Snapshot<Ground>,
-    seen: u32,
+    told: Told,
 }
 
 impl Model for Eye {
@@ -47,40 +46,38 @@ impl Model for Eye {
     ghost invariant = { IsEyeKept };
 }
 
-// Answers a question from the version that is shown, and gives the version's length; nothing where the press has ended.
+// Answers a question from the version that is shown, and gives the version's list; nothing where the press has ended.
 fn look(
     reader: Looker,
     asked: (Global, &Question),
-) -> (Looker, Option<(u32, Result<Answer, AllocError>)>)
+) -> (Looker, Option<(Told, Result<Answer, AllocError>)>)
     requires { IsAnswerable asked.1.now }
-    ensures at { StaysAt reader.place result.0.place }
-    ensures looked { IfSome result.1 (λ told. Looked (view reader.place) (view result.0.place) asked.entry.1.now told) }
-    ensures ended { IfNone result.1 (view result.0.place ≡ view reader.place) }
+    ensures same { view result.0.place ≡ view reader.place }
+    ensures looked { IfSome result.1 (λ seen. Looked (view reader.place) asked.entry.1.now seen) }
 {
     let (alloc, question) = asked;
     match reader.enter_as::<Entering>() {
         Ok(reading) => {
-            let version = reading.get().get();
-            let length = version.entries.len() as u32;
-            let answer = nav_query::answer(alloc, &version.mesh, question);
-            (reading.leave(), Some((length, answer)))
+            let shown = reading.get();
+            let told = shown.told.again();
+            let answer = nav_query::answer(alloc, &shown.version.get().mesh, question);
+            (reading.leave(), Some((told, answer)))
         }
         Err(reader) => (reader, None),
     }
 }
 
 impl Eye {
-    // An eye whose reader was told a version of that ground and length.
-    pub(crate) fn opened(reader: Looker, ground: &Ground, seen: u32) -> Eye
-        requires ground { (view reader.place).ground ≡ Some ground.now }
-        requires seen { seen ≡ length (view reader.place).seen }
-        ensures { result ≡ record { pair = reader.place.table_id; ground = ground.now; seen = (view reader.place).seen; old = (view reader.place).old } }
+    // An eye whose reader knows the pair and the ground.
+    pub(crate) fn opened(reader: Looker, ground: &Ground, told: Told) -> Eye
+        requires { option_map origin (view reader.place) ≡ Some (told.pair, ground.now) }
+        ensures { result ≡ record { pair = told.pair; ground = ground.now; seen = told.entries } }
     {
         let ground = Snapshot::of(ground);
         Eye {
             reader,
             ground,
-            seen,
+            told,
         }
     }
 
@@ -88,18 +85,20 @@ impl Eye {
     /// with that length.
     pub fn learn(&mut self, told: Told)
         requires { told.pair ≡ self.old.pair }
-        ensures { self.new ≡ after_learning self.old told.entries }
+        ensures learnt { self.new ≡ after_learning self.old told.entries }
+        ensures own { IsPrefix self.old.seen self.new.seen }
+        ensures told { IsPrefix told.entries self.new.seen }
     {
-        let Told { length, place } = told;
-        self.reader.learn::<Learning>(place);
-        self.seen = self.seen.max(length);
+        if !self.told.goes_on(&told) {
+            self.told = told;
+        }
     }
 
     /// The length of the longest version that the eye saw or learnt of.
     pub fn seen(&self) -> u32
         ensures { result ≡ length self.now.seen }
     {
-        self.seen
+        self.told.length()
     }
 
     /// The length of a published version, and an answer to the question that is right in its mesh. It takes no lock and does not wait.
@@ -116,8 +115,12 @@ impl Eye {
         ensures refused { OnErr result (HasLooked self.old self.new ⊎ (self.new ≡ self.old)) }
     {
         let looked = replace_with(&mut self.reader, (alloc, question), look);
-        let (length, answer) = looked.ok_or(AllocError)?;
-        self.seen = length;
+        let (told, answer) = looked.ok_or(AllocError)?;
+        if !told.goes_on(&self.told) {
+            return Err(AllocError);
+        }
+        let length = told.length();
+        self.told = told;
         Ok((length, answer?))
     }
 }

@@ -5,17 +5,20 @@
 //! published version, which goes on from all that the eye saw before and from all lengths that it learnt of. A `Told` names a published
 //! length to an eye.
 //!
-//! Contracts see of a press its pair, its ground and the published entries; of an eye its pair, its ground, the list of entries that it
-//! saw last, and older lists. Lists are all that versions are told apart by: the mesh is that of the ground and the list. Between any two
-//! steps the rule of `specs/VersionRule.antt` holds, which ties what is published to what the press, the eyes and the told lengths know.
+//! Contracts see of a press its pair, its ground and the published entries; of an eye its pair, its ground, and the longest list of
+//! entries that it saw or learnt of. Lists are all that versions are told apart by: the mesh is that of the ground and the list. They are
+//! all beginnings of one history, which only grows (`specs/Histories.antt`). Between any two steps the rule of `specs/VersionRule.antt`
+//! holds, which ties the version that is shown to that history, and the press and the eyes to one pair.
 #![tactic(auto)]
 
 mod eye;
+mod history;
+mod law;
 mod next;
 mod patch;
 mod press;
 mod rule;
-mod sight;
+mod shown;
 mod told;
 mod version;
 

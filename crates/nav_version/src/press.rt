@@ -1,33 +1,36 @@
 //! The press, which publishes versions.
 
-ghost use Rattle.std.specs.Prelude.{◌≡◌, ◌++◌, IfOk, IfErr, OnOk, OnErr, length, replicate};
+ghost use Rattle.std.specs.Prelude.{◌≡◌, ◌++◌, IfOk, IfErr, OnOk, OnErr, MatchBool, Some, length, replicate};
 ghost use Rattle.std.specs.Arc.{arc_value};
+ghost use Rattle.left_right.specs.Sides.{view};
 ghost use Rattle.nav_version.specs.Pairs.{IsPatch, Shows, first_eye};
-ghost use Rattle.two_copies.specs.Sides.{StaysAt, view};
-ghost use Rattle.nav_version.specs.VersionRule.{sight_of};
-ghost use Rattle.nav_version.specs.Versions.{BeginsWith, Follows, IsVersion};
+ghost use Rattle.nav_version.specs.VersionRule.{IsShown, origin};
+ghost use Rattle.nav_version.specs.Versions.{IsVersion};
 
 use crate::eye::Eye;
+use crate::history::History;
 use crate::next::next_version;
 use crate::patch::Patch;
-use crate::rule::{Publishing, Telling, Versions};
-use crate::sight::Sight;
+use crate::rule::{Learning, Publishing, Telling, Versions};
+use crate::shown::Shown;
 use crate::told::Told;
 use crate::version::Version;
 use core::mem::replace_with;
+use left_right::writer::Writer;
+use nav_ground::Entry;
 use nav_share::Shared;
 use std::alloc::{AllocError, Global};
 use std::marker::Model;
 use std::sync::Wait;
-use two_copies::Writer;
 
-type Shower = Writer<Shared<Version>, Sight, Versions>;
+type Shower = Writer<Shown, Shown, Option<Shown>, Versions>;
 
 /// The one that publishes the versions of a pair. It is not `Drop`: `end` ends it.
 ///
 /// Contracts see the pair, its ground, and the entries of the version that is published; the published mesh is that of both.
 pub struct Press {
     writer: Shower,
+    history: History,
 }
 
 impl Model for Press {
@@ -55,7 +58,7 @@ pub fn pair<R: Wait>(
     ensures entries { IfOk result (λ made. made.0.entries ≡ version.entries) }
     ensures eyes { IfOk result (λ made. made.1.items ≡ replicate readers (first_eye made.0)) }
 {
-    let mut press = Press::showing(alloc, version, readers)?;
+    let mut press = Press::showing(rt, alloc, version, readers)?;
     match press.eyes(alloc, readers) {
         Ok(eyes) => Ok((press, eyes)),
         Err(refused) => {
@@ -65,28 +68,54 @@ pub fn pair<R: Wait>(
     }
 }
 
-// The writer once it shows the next version.
-fn shown<R: Wait>(writer: Shower, next: (&R, Shared<Version>)) -> (Shower, ())
-    requires rules { IsVersion next.1 }
-    requires follows { Follows writer.shown.value next.1 }
-    ensures value { result.0.shown.value ≡ next.entry.1 }
-    ensures at { StaysAt writer.place result.0.place }
-    ensures knows { view result.0.place ≡ sight_of next.entry.1 }
+// The writer once it shows the next version, and whether it does. It does not where memory is refused.
+fn shown<R: Wait>(writer: Shower, next: (&R, Shown)) -> (Shower, bool)
+    requires is { IsShown next.1 }
+    requires origin { origin next.1 ≡ origin writer.desk.shown.value }
+    ensures value { MatchBool result.1 (result.0.desk.shown.value ≡ next.entry.1) (result.0.desk.shown.value ≡ writer.desk.shown.value) }
+    ensures knows { MatchBool result.1 (view result.0.desk.place ≡ Some next.entry.1) (view result.0.desk.place ≡ view writer.desk.place) }
 {
-    let (rt, version) = next;
-    (writer.publish_as::<Publishing, R>(rt, version), ())
+    let (rt, next) = next;
+    let mut writer = writer;
+    match writer.append(next) {
+        Ok(()) => {
+            let (writer, published) = writer.publish_as::<Publishing, R>(rt);
+            match published {
+                Ok(()) => (writer, true),
+                Err(_refused) => (writer, false),
+            }
+        }
+        Err(_next) => (writer, false),
+    }
 }
 
 impl Press {
-    fn showing(alloc: Global, version: Version, readers: u32) -> Result<Press, AllocError>
+    fn showing<R: Wait>(
+        rt: &R,
+        alloc: Global,
+        version: Version,
+        readers: u32,
+    ) -> Result<Press, AllocError>
         requires { IsVersion version }
         ensures ground { IfOk result (λ press. press.ground ≡ arc_value version.ground) }
         ensures entries { IfOk result (λ press. press.entries ≡ version.entries) }
     {
-        let first = Shared::new(alloc, version)?;
-        let second = first.share()?;
-        let writer = Writer::new(alloc, first, second, readers.max(1) as usize)?;
-        Ok(Press { writer })
+        let mut history = History::new();
+        if !history.add(version.entries.as_slice()) {
+            return Err(AllocError);
+        }
+        let told = history.told();
+        let version = Shared::new(alloc, version)?;
+        let first = Shown { version, told };
+        let writer = Writer::new(alloc, first.share()?, first.share()?, readers.max(1) as usize)?;
+
+        // It is shown once more, since only what it shows by a step of its own does the press know.
+        let (writer, knows) = shown(writer, (rt, first));
+        if !knows {
+            let _last = writer.take(rt);
+            return Err(AllocError);
+        }
+        Ok(Press { writer, history })
     }
 
     fn eyes(&mut self, alloc: Global, readers: u32) -> Result<Vec<Eye>, AllocError>
@@ -104,9 +133,10 @@ impl Press {
         ensures same { self.new ≡ self.old }
         ensures eye { IfOk result (λ eye. eye ≡ first_eye self.old) }
     {
-        let reader = self.writer.reader_as::<Telling>()?;
-        let version = self.version();
-        Ok(Eye::opened(reader, &version.ground, self.length()))
+        let mut reader = self.writer.factory().reader()?;
+        let note = self.writer.tell::<Telling>();
+        reader.learn::<Learning>(note);
+        Ok(Eye::opened(reader, &self.version().ground, self.told()))
     }
 
     /// Publishes the entries so far and those of the patch, with its tiles in place, and tells the new length. It waits for eyes that still
@@ -124,22 +154,34 @@ impl Press {
         ensures refused { OnErr result (self.new ≡ self.old) }
         ensures returned { IfErr result (λ refused. refused.0 ≡ patch) }
     {
-        match next_version(alloc, self.version(), &patch) {
-            Ok(next) => {
-                self.show(rt, next);
-                Ok(self.told())
-            }
-            Err(refused) => Err((patch, refused)),
+        let next = match next_version(alloc, self.version(), &patch) {
+            Ok(next) => next,
+            Err(refused) => return Err((patch, refused)),
+        };
+        if !self.show(rt, next, patch.entries.as_slice()) {
+            return Err((patch, AllocError));
         }
+        Ok(self.told())
     }
 
-    // Shows the next version, at one step.
-    fn show<R: Wait>(&mut self, rt: &R, next: Shared<Version>)
+    // Shows the next version, at one step, and says whether it did.
+    fn show<R: Wait>(&mut self, rt: &R, next: Shared<Version>, more: &[Entry]) -> bool
         requires rules { IsVersion next }
         requires ground { arc_value next.ground ≡ self.old.ground }
-        requires follows { BeginsWith next.entries self.old.entries }
-        ensures { self.new ≡ record self.old { entries = next.entries } }
+        requires entries { next.entries ≡ self.old.entries ++ more.now }
+        ensures { MatchBool result (self.new ≡ record self.old { entries = next.entries }) (self.new ≡ self.old) }
     {
+        if self.history.length() != self.length() as u64 {
+            return false;
+        }
+        if !self.history.add(more) {
+            return false;
+        }
+        let told = self.history.told();
+        let next = Shown {
+            version: next,
+            told,
+        };
         replace_with(&mut self.writer, (rt, next), shown::<R>)
     }
 
@@ -151,13 +193,10 @@ impl Press {
     }
 
     /// The published length, for an eye of this pair to learn.
-    pub fn told(&mut self) -> Told
-        ensures same { self.new ≡ self.old }
-        ensures told { result ≡ record { pair = self.old.pair; entries = self.old.entries } }
+    pub fn told(&self) -> Told
+        ensures { result ≡ record { pair = self.now.pair; entries = self.now.entries } }
     {
-        let length = self.length();
-        let place = self.writer.tell::<Telling>();
-        Told { length, place }
+        self.writer.published().told.again()
     }
 
     /// The published version.
@@ -165,12 +204,12 @@ impl Press {
         ensures value { Shows self.now result.now }
         ensures rules { IsVersion result.now }
     {
-        self.writer.shown().get()
+        self.writer.published().version.get()
     }
 
     /// Ends the press. It waits for eyes that are reading; from then on no eye answers any more.
     pub fn end<R: Wait>(self, rt: &R) {
-        let Press { writer } = self;
+        let Press { writer, history: _ } = self;
         let _last = writer.take(rt);
     }
 }

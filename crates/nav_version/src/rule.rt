@@ -1,49 +1,51 @@
 //! The rule of published versions, and its four kinds of step.
-ghost use Rattle.nav_version.specs.VersionRule.{Stands, Publishes, Enters, learnt, nothing, sight_of};
+ghost use Rattle.nav_version.specs.VersionRule.{Stands, Publishes, Enters};
 
-use crate::sight::Sight;
-use crate::version::Version;
+use crate::shown::Shown;
 use atomic_table::{Join, Split};
-use crossbeam_utils::rule::Outcome;
-use nav_share::Shared;
-use two_copies::Rule;
+use crossbeam_utils::rule::{Outcome, Protocol};
 
+/// What the press or an eye knows is one version that was shown, if any.
 pub struct Versions;
 
-impl Rule<Shared<Version>, Sight> for Versions {
+impl Protocol<Shown, Option<Shown>> for Versions {
+    ghost use Rattle.std.specs.Prelude.{None};
+
     ghost holds = { Stands };
 
-    ghost first = { sight_of };
+    ghost first = { None };
 }
 
 /// The press shows the next version.
 pub struct Publishing;
 
-impl Outcome<Shared<Version>, Sight> for Publishing {
+impl Outcome<Shown, Option<Shown>> for Publishing {
     ghost then = { Publishes };
 }
 
 /// An eye takes the version that is shown.
 pub struct Entering;
 
-impl Outcome<Shared<Version>, Sight> for Entering {
+impl Outcome<Shown, Option<Shown>> for Entering {
     ghost then = { Enters };
 }
 
-/// The press tells what it knows.
+/// The press tells a new eye what it knows.
 pub struct Telling;
 
-impl Split<Sight> for Telling {
-    ghost left = { λ sight. sight };
+impl Split<Option<Shown>> for Telling {
+    ghost left = { λ known. known };
 
-    ghost right = { λ sight. sight };
+    ghost right = { λ known. known };
 }
 
-/// An eye takes in what was told.
+/// A new eye takes that in.
 pub struct Learning;
 
-impl Join<Sight> for Learning {
-    ghost both = { learnt };
+impl Join<Option<Shown>> for Learning {
+    ghost use Rattle.std.specs.Prelude.{None};
 
-    ghost spent = { nothing };
+    ghost both = { λ own told. told };
+
+    ghost spent = { None };
 }

@@ -1,5 +1,12 @@
-use Rattle.nav_version.proofs.VersionSteps.{tells}
+use Rattle.std.proofs.Common.{rules}
+use Rattle.nav_version.proofs.VersionSteps.{admits, tells, learns}
 use Rattle.nav_version.proofs.press.Press.eye.Goals as goal
 
-pub reader_as-requires : goal.reader_as-requires
-reader_as-requires c = tells _ _
+pub reader-requires : goal.reader-requires
+reader-requires c = admits
+
+pub tell-note-requires : goal.tell-note-requires
+tell-note-requires c = tells _ _
+
+pub learn-requires-clause-rule : goal.learn-requires-clause-rule
+learn-requires-clause-rule c = learns _ _ _ _

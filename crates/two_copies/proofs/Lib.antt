@@ -1,4 +1,0 @@
-pub mod PartFields
-pub mod PartSteps
-mod Readers
-pub mod SidesKept
