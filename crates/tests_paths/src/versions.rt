@@ -5,7 +5,7 @@ ghost use Rattle.std.specs.Arc.{arc_value};
 ghost use Rattle.nav_ground.specs.Grounds.{IsGround};
 ghost use Rattle.tile_build.specs.Meshes.{IsOfStrips};
 ghost use Rattle.nav_ground.specs.Tiling.{tile_count};
-ghost use Rattle.atomic_table.specs.Seated.{TableId};
+ghost use Rattle.logbook.specs.Pages.{Book};
 ghost use Rattle.tests_paths.specs.OneTile.{numbered_tiles};
 ghost use Rattle.nav_version.specs.Pairs.{EyeView, IsPatch};
 ghost use Rattle.nav_version.specs.Versions.{IsVersion};
@@ -154,7 +154,7 @@ fn seen_by<R: Wait>(
 
 /// Two eyes, which are those of a pair.
 fn both(mut eyes: Vec<Eye>) -> Option<(Eye, Eye)>
-    ensures { (pair : TableId) → All (λ (eye : EyeView). eye.pair ≡ pair) eyes.items → IfSome result (λ both. (both.0.pair ≡ pair) × (both.1.pair ≡ pair)) }
+    ensures { (pair : Book) → All (λ (eye : EyeView). eye.pair ≡ pair) eyes.items → IfSome result (λ both. (both.0.pair ≡ pair) × (both.1.pair ≡ pair)) }
 {
     let second = eyes.pop()?;
     let first = eyes.pop()?;
