@@ -103,7 +103,8 @@ impl Eye {
 
     /// The length of a published version, and an answer to the question that is right in its mesh. It takes no lock and does not wait.
     ///
-    /// The version goes on from all that the eye saw or learnt of. It is refused for want of memory, and where the press has ended.
+    /// The version goes on from all that the eye saw or learnt of. It is refused for want of memory, and where the press has ended; and where
+    /// the version were a shorter one than the eye has seen, which no press shows.
     pub fn ask(&mut self, alloc: Global, question: &Question) -> Result<(u32, Answer), AllocError>
         requires { IsAnswerable question.now }
         ensures looked { OnOk result (HasLooked self.old self.new) }

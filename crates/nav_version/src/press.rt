@@ -142,6 +142,9 @@ impl Press {
     /// Publishes the entries so far and those of the patch, with its tiles in place, and tells the new length. It waits for eyes that still
     /// read the version from before the last publishing. Where memory is refused, the published version is as before, and the patch comes
     /// back.
+    ///
+    /// All that takes memory comes before the history grows, but for a count of owners that has reached its end. If that is met, this and
+    /// each later publishing is refused.
     pub fn publish<R: Wait>(
         &mut self,
         rt: &R,

@@ -3,7 +3,6 @@
 ghost use Rattle.std.specs.Prelude.{◌≡◌, ◌<◌, [], ◌∷◌, IfOk, IfSome, All, length};
 ghost use Rattle.std.specs.Arc.{arc_value};
 ghost use Rattle.nav_ground.specs.Grounds.{IsGround};
-ghost use Rattle.tile_build.specs.Meshes.{IsOfStrips};
 ghost use Rattle.nav_ground.specs.Tiling.{tile_count};
 ghost use Rattle.logbook.specs.Pages.{Book};
 ghost use Rattle.tests_paths.specs.OneTile.{numbered_tiles};
@@ -23,7 +22,7 @@ use std::alloc::{AllocError, Global};
 use std::marker::Brand;
 use std::sync::ledger::{Blank, Ledger};
 use std::sync::{Arc, Wait};
-use tile_build::{build_tiles, renew_tiles};
+use tile_build::build_tiles;
 use tile_links::joined;
 
 /// 6 by 6 columns in one tile.
@@ -62,7 +61,6 @@ const ADDED: Entry = Entry {
 /// The version of a ground without obstacles.
 fn opening<L: Ledger>(alloc: Global, level: Ground, blank: Blank) -> Result<Version, AllocError>
     requires level { IsGround level }
-    requires strips { IsOfStrips level.setting }
     requires name { blank.name ≡ L.name }
     requires parts { blank.parts ≡ L.parts }
     requires some { 0 < blank.parts }
@@ -98,7 +96,6 @@ fn numbered(
 fn covering<L: Ledger>(alloc: Global, version: &Version, blank: Blank) -> Result<Patch, AllocError>
     requires rules { IsVersion version.now }
     requires none { version.now.entries ≡ [] }
-    requires strips { IsOfStrips (arc_value version.now.ground).setting }
     requires one { tile_count (arc_value version.now.ground).setting ≡ 1 }
     requires name { blank.name ≡ L.name }
     requires parts { blank.parts ≡ L.parts }
@@ -106,8 +103,7 @@ fn covering<L: Ledger>(alloc: Global, version: &Version, blank: Blank) -> Result
     ensures { IfOk result (λ patch. IsPatch (arc_value version.now.ground) version.now.entries patch) }
 {
     let mut steps = Steps::<L>::new(blank);
-    let standing = version.mesh.tiles.as_slice();
-    let tiles = renew_tiles(alloc, &version.ground, &[BLOCK], standing, &mut steps)?;
+    let tiles = build_tiles(alloc, &version.ground, &[BLOCK], &mut steps)?;
     let mut entries = Items::new(alloc);
     entries.push(ADDED)?;
     Ok(Patch {
