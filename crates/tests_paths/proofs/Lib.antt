@@ -1,3 +1,4 @@
 mod CorridorMeshes
 mod PlaceMeshes
 mod FlatFields
+pub mod OneTilePatches

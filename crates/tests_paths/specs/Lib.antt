@@ -1,3 +1,4 @@
 pub mod CorridorMesh
 pub mod PlaceMesh
 pub mod SmallChains
+pub mod OneTile

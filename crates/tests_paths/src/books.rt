@@ -57,7 +57,7 @@ fn request_of(asked: Asked) -> Request
 }
 
 /// A field with one span over each column, all with the top 10.
-fn flat_field(alloc: Global, width: u32, depth: u32) -> Result<Field, AllocError>
+pub(crate) fn flat_field(alloc: Global, width: u32, depth: u32) -> Result<Field, AllocError>
     requires wide { (1 ≤ width) × (width ≤ 1024) }
     requires deep { (1 ≤ depth) × (depth ≤ 1024) }
     ensures rules { IfOk result IsField }

@@ -16,3 +16,5 @@ mod places;
 mod questions;
 #[cfg(test)]
 mod settings;
+#[cfg(test)]
+mod versions;

@@ -1,0 +1,5 @@
+pub mod Adding
+pub mod Beginnings
+pub mod PatchLaws
+pub mod PressLaws
+pub mod VersionSteps

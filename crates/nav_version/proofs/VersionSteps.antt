@@ -1,0 +1,86 @@
+-- Each step keeps the rule of published versions.
+use Rattle.std.proofs.Common.{◌≡◌, ◌≢◌, ℕ, List, [], ◌∷◌, ◌++◌, set, fold, Option, Some, None, sym, refl, ap, ◌∙◌, subst, ⊎_elim}
+use Rattle.std.proofs.lemmas.List.Sums.{fold-append}
+use Rattle.std.specs.Option.{option_map}
+use mathlib.Core.Option.{some, some-ne-none}
+use lib.ListN.{get_elem?}
+use Rattle.atomic_table.proofs.Lists.{at_set, at_snoc}
+use Rattle.crossbeam_utils.specs.Register.{Admits, TurnsAt, Forks, Merges}
+use Rattle.logbook.specs.Pages.{Book}
+use Rattle.nav_ground.specs.declared.history.Ground.{Ground}
+use Rattle.nav_version.specs.declared.shown.Shown.{Shown}
+use Rattle.nav_version.specs.VersionRule.{Enters, IsShown, IsSo, Publishes, Stands, next_of, origin}
+
+-- what was so of a version is so of another of its pair and ground
+still_so : (last next : Shown) (one : Option Shown) → origin next ≡ origin last → IsSo last one → IsSo next one
+still_so last next None same so = tt
+still_so last next (Some once) same so = so ∙ sym same
+
+-- what is known of a pair and a ground is so of what is shown
+pub origin_known : (shown : Shown) (known : Option Shown) (origin' : Book × Ground) → IsSo shown known → option_map origin known ≡ Some origin' → origin' ≡ origin shown
+origin_known shown None origin' so is = absurd cc
+origin_known shown (Some once) origin' so is = Some-injective (sym is) ∙ so
+  where
+    Some-injective : {x y : Book × Ground} → Some x ≡ Some y → x ≡ y
+    Some-injective is = cc
+
+module _ (shown : Shown) (known : List (Option Shown)) where
+  -- the rule after what one knows was changed
+  changed : (seat : ℕ) (one : Option Shown) → ((j : ℕ) (other : Option Shown) → get_elem? known j ≡ some other → IsSo shown other) → IsSo shown one
+      → (j : ℕ) (other : Option Shown) → get_elem? (set known seat one) j ≡ some other → IsSo shown other
+  changed seat one each so j other is =
+      ⊎_elim (λ (t : (j ≡ seat) × (one ≡ other)). subst (IsSo shown) t.1 so) (λ (t : (j ≢ seat) × (get_elem? known j ≡ some other)). each j other t.1)
+      (at_set known seat j one other is)
+
+  -- the rule with one more
+  added : (one : Option Shown) → ((j : ℕ) (other : Option Shown) → get_elem? known j ≡ some other → IsSo shown other) → IsSo shown one
+      → (j : ℕ) (other : Option Shown) → get_elem? (known ++ one ∷ []) j ≡ some other → IsSo shown other
+  added one each so j other is = ⊎_elim (each j other) (λ (same : one ≡ other). subst (IsSo shown) same so) (at_snoc known one other j is)
+
+-- the first version
+pub opens : (shown : Shown) → IsShown shown → Stands shown (None ∷ [])
+opens shown is' = record { is = is'; each = added shown [] None (λ j other is. absurd (some-ne-none other (sym is))) tt }
+
+-- a new reader, which knows nothing
+pub admits : Admits Stands None
+admits shown known stands = record { is = stands.is; each = added shown known None stands.each tt }
+
+-- publish
+pub publishes : (seat : ℕ) (one : Option Shown) (last next : Shown) → origin next ≡ origin last → IsShown next → TurnsAt Stands seat one last next Publishes
+publishes seat one last next same is' known stands at_seat = (
+  Some next,
+  record { is = is'; each = changed next known seat (Some next) (λ j other is. still_so last next other same (stands.each j other is)) refl },
+  refl,
+)
+
+-- what is shown once all that was pending is shown, is what was to be shown last
+pub shows_last : (shown next now : Shown) (pending before : List Shown) → now ≡ fold next_of shown pending → pending ≡ before ++ next ∷ [] → now ≡ next
+shows_last shown next now pending before is all = is ∙ ap (fold next_of shown) all ∙ fold-append next_of shown before (next ∷ [])
+
+pub publishes_last : (seat : ℕ) (one : Option Shown) (last next now : Shown) (pending before : List Shown) → now ≡ fold next_of last pending → pending ≡ before ++ next ∷ []
+    → origin next ≡ origin last → IsShown next → TurnsAt Stands seat one last now Publishes
+publishes_last seat one last next now pending before is all same is' =
+    let now_is : now ≡ next = shows_last last next now pending before is all in
+    publishes seat one last now (ap origin now_is ∙ same) (subst IsShown (sym now_is) is')
+
+-- enter
+pub enters : (seat : ℕ) (one : Option Shown) (shown : Shown) → TurnsAt Stands seat one shown shown Enters
+enters seat one shown known stands at_seat =
+    let so' = stands.each seat one at_seat in (
+      one,
+      record { is = stands.is; each = changed shown known seat one stands.each so' },
+      record { is = stands.is; so = so'; kept = refl },
+    )
+
+-- tell
+pub tells : (seat : ℕ) (one : Option Shown) → Forks Stands seat one one one
+tells seat one shown known stands at_seat =
+    let so = stands.each seat one at_seat in
+    record { is = stands.is; each = added shown (set known seat one) one (changed shown known seat one stands.each so) so }
+
+-- learn
+pub learns : (seat : ℕ) (own : Option Shown) (other : ℕ) (told : Option Shown) → Merges Stands seat own other told told None
+learns seat own other told shown known stands at_seat apart at_other =
+    let told_so : IsSo shown told = ⊎_elim (λ (t : (other ≡ seat) × (told ≡ told)). absurd (apart t.0))
+    (λ (t : (other ≢ seat) × (get_elem? known other ≡ some told)). stands.each other told t.1) (at_set known seat other told told at_other) in
+    record { is = stands.is; each = changed shown (set known seat told) other None (changed shown known seat told stands.each told_so) tt }

@@ -1,0 +1,7 @@
+pub mod Histories
+pub mod Lists
+pub mod ListsKept
+pub mod Pairs
+pub mod Representation
+pub mod VersionRule
+pub mod Versions

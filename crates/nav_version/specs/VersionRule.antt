@@ -1,0 +1,64 @@
+-- The rule of published versions, which holds between any two steps, and its four kinds of step.
+use Rattle.std.specs.Prelude.{◌≡◌, ℕ, List, Option, Some, None, Result, IfOk, IfSome}
+use Rattle.std.specs.Arc.{arc_value}
+use mathlib.Core.Option.{some}
+use mathlib.Core.List.{IsPrefix}
+use lib.ListN.{get_elem?}
+use Rattle.std.specs.declared.alloc.AllocError.{AllocError}
+use Rattle.logbook.specs.Pages.{Book}
+use Rattle.nav_base.specs.declared.answers.Question.{Question}
+use Rattle.nav_ground.specs.declared.history.Ground.{Ground}
+use Rattle.mesh_types.specs.declared.answers.Answer.{Answer}
+use Rattle.mesh_types.specs.Right.{IsRight}
+use Rattle.nav_query.specs.Questions.{HasLowCost}
+use Rattle.nav_version.specs.declared.shown.Shown.{Shown}
+use Rattle.nav_version.specs.Lists.{ToldView}
+use Rattle.nav_version.specs.Versions.{IsVersion}
+
+-- what a shown version is of: its pair, and that pair's ground
+abbrev pub origin : Shown → Book × Ground
+origin shown = (shown.told.pair, arc_value shown.version.ground)
+
+-- what is shown keeps the rules of versions, and its list is the version's entries
+pub record IsShown (shown : Shown) : Type 0 where
+  pub rules : IsVersion shown.version
+  pub list : shown.told.entries ≡ shown.version.entries
+
+-- what is shown after what was shown last
+abbrev pub next_of : Shown → Shown → Shown
+next_of last next = next
+
+-- what is known is a version that was shown once, if any: it is of the same pair and ground
+abbrev pub IsSo : Shown → Option Shown → Type 0
+IsSo shown known = IfSome known (λ once. origin once ≡ origin shown)
+
+-- the rule: what is shown is right, and what the press and each eye know is of the same pair and ground
+pub record Stands (shown : Shown) (known : List (Option Shown)) : Type 0 where
+  pub is : IsShown shown
+  pub each : (seat : ℕ) (one : Option Shown) → get_elem? known seat ≡ some one → IsSo shown one
+
+-- what the press keeps: what is shown is right, of the history's pair, and known; its entries begin the history, which is longer only where
+-- a publishing was refused once the history had grown
+pub record IsKept (shown : Shown) (known : Option Shown) (history : ToldView) : Type 0 where
+  pub is : IsShown shown
+  pub knows : known ≡ Some shown
+  pub pair : shown.told.pair ≡ history.pair
+  pub begins : IsPrefix shown.version.entries history.entries
+
+-- publish: the next version is shown, and the press knows it
+abbrev pub Publishes : Option Shown → Shown → Shown → Option Shown → Type 0
+Publishes before last next after = after ≡ Some next
+
+-- enter: the eye takes what is shown, which is right and of the pair and ground that the eye knows; it knows what it knew
+pub record Enters (before : Option Shown) (shown same : Shown) (after : Option Shown) : Type 0 where
+  pub is : IsShown shown
+  pub so : IsSo shown before
+  pub kept : after ≡ before
+
+-- an eye entered, and got the list of the version that it took, with an answer to a question that is right in that version's mesh
+pub record Looked (known : Option Shown) (question : Question) (seen : ToldView × Result Answer AllocError) : Type 0 where
+  pub shown : Shown
+  pub is : IsShown shown
+  pub so : IsSo shown known
+  pub told : seen.0 ≡ shown.told
+  pub right : IfOk seen.1 (λ answer. IsRight shown.version.mesh question answer × HasLowCost answer)

@@ -1,0 +1,127 @@
+//! An eye, which reads what is published.
+
+ghost use Rattle.std.specs.Prelude.{◌≡◌, ◌⊎◌, IfOk, IfSome, OnOk, OnErr, Some, length};
+ghost use Rattle.std.specs.Option.{option_map};
+ghost use mathlib.Core.List.{IsPrefix};
+ghost use Rattle.left_right.specs.Sides.{view};
+ghost use Rattle.mesh_types.specs.Builds.{build_of};
+ghost use Rattle.mesh_types.specs.Right.{IsRight};
+ghost use Rattle.nav_query.specs.Questions.{HasLowCost, IsAnswerable};
+ghost use Rattle.nav_version.specs.Pairs.{HasLooked, after_learning};
+ghost use Rattle.nav_version.specs.VersionRule.{Looked, origin};
+
+use crate::rule::{Entering, Versions};
+use crate::shown::Shown;
+use crate::told::Told;
+use core::mem::replace_with;
+use left_right::reader::Reader;
+use mesh_types::Answer;
+use nav_base::Question;
+use nav_ground::Ground;
+use std::alloc::{AllocError, Global};
+use std::marker::Model;
+use std::snapshot::Snapshot;
+
+type Looker = Reader<Shown, Option<Shown>, Versions>;
+
+/// One reader of a pair's published versions.
+///
+/// Contracts see the pair, its ground, and the longest list of entries that the eye saw or learnt of.
+#[derive(Drop)]
+pub struct Eye {
+    reader: Looker,
+    ground: Snapshot<Ground>,
+    told: Told,
+}
+
+impl Model for Eye {
+    ghost use Rattle.nav_version.specs.Pairs.{EyeView};
+
+    ghost Value = { EyeView };
+
+    ghost use Rattle.nav_version.specs.Representation.{eye_view, IsEyeKept};
+
+    ghost view = { eye_view };
+
+    ghost invariant = { IsEyeKept };
+}
+
+// Answers a question from the version that is shown, and gives the version's list; nothing where the press has ended.
+fn look(
+    reader: Looker,
+    asked: (Global, &Question),
+) -> (Looker, Option<(Told, Result<Answer, AllocError>)>)
+    requires { IsAnswerable asked.1.now }
+    ensures same { view result.0.place ≡ view reader.place }
+    ensures looked { IfSome result.1 (λ seen. Looked (view reader.place) asked.entry.1.now seen) }
+{
+    let (alloc, question) = asked;
+    match reader.enter_as::<Entering>() {
+        Ok(reading) => {
+            let shown = reading.get();
+            let told = shown.told.again();
+            let answer = nav_query::answer(alloc, &shown.version.get().mesh, question);
+            (reading.leave(), Some((told, answer)))
+        }
+        Err(reader) => (reader, None),
+    }
+}
+
+impl Eye {
+    // An eye whose reader knows the pair and the ground.
+    pub(crate) fn opened(reader: Looker, ground: &Ground, told: Told) -> Eye
+        requires { option_map origin (view reader.place) ≡ Some (told.pair, ground.now) }
+        ensures { result ≡ record { pair = told.pair; ground = ground.now; seen = told.entries } }
+    {
+        let ground = Snapshot::of(ground);
+        Eye {
+            reader,
+            ground,
+            told,
+        }
+    }
+
+    /// Takes in a published length: what the eye answers from then on comes from versions that go on from the one which was published
+    /// with that length.
+    pub fn learn(&mut self, told: Told)
+        requires { told.pair ≡ self.old.pair }
+        ensures learnt { self.new ≡ after_learning self.old told.entries }
+        ensures own { IsPrefix self.old.seen self.new.seen }
+        ensures told { IsPrefix told.entries self.new.seen }
+    {
+        if !self.told.goes_on(&told) {
+            self.told = told;
+        }
+    }
+
+    /// The length of the longest version that the eye saw or learnt of.
+    pub fn seen(&self) -> u32
+        ensures { result ≡ length self.now.seen }
+    {
+        self.told.length()
+    }
+
+    /// The length of a published version, and an answer to the question that is right in its mesh. It takes no lock and does not wait.
+    ///
+    /// The version goes on from all that the eye saw or learnt of. It is refused for want of memory, and where the press has ended; and where
+    /// the version were a shorter one than the eye has seen, which no press shows.
+    pub fn ask(&mut self, alloc: Global, question: &Question) -> Result<(u32, Answer), AllocError>
+        requires { IsAnswerable question.now }
+        ensures looked { OnOk result (HasLooked self.old self.new) }
+        ensures length { IfOk result (λ told. told.0 ≡ length self.new.seen) }
+        ensures right { IfOk result (λ told. IsRight (build_of self.old.ground self.new.seen told.0) question.now told.1) }
+        ensures low_cost { IfOk result (λ told. HasLowCost told.1) }
+
+        // After a refusal the eye has looked all the same, or nothing has changed.
+        ensures refused { OnErr result (HasLooked self.old self.new ⊎ (self.new ≡ self.old)) }
+    {
+        let looked = replace_with(&mut self.reader, (alloc, question), look);
+        let (told, answer) = looked.ok_or(AllocError)?;
+        if !told.goes_on(&self.told) {
+            return Err(AllocError);
+        }
+        let length = told.length();
+        self.told = told;
+        Ok((length, answer?))
+    }
+}

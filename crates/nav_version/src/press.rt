@@ -1,0 +1,218 @@
+//! The press, which publishes versions.
+
+ghost use Rattle.std.specs.Prelude.{◌≡◌, ◌++◌, IfOk, IfErr, OnOk, OnErr, MatchBool, Some, length, replicate};
+ghost use Rattle.std.specs.Arc.{arc_value};
+ghost use Rattle.left_right.specs.Sides.{view};
+ghost use Rattle.nav_version.specs.Pairs.{IsPatch, Shows, first_eye};
+ghost use Rattle.nav_version.specs.VersionRule.{IsShown, origin};
+ghost use Rattle.nav_version.specs.Versions.{IsVersion};
+
+use crate::eye::Eye;
+use crate::history::History;
+use crate::next::next_version;
+use crate::patch::Patch;
+use crate::rule::{Learning, Publishing, Telling, Versions};
+use crate::shown::Shown;
+use crate::told::Told;
+use crate::version::Version;
+use core::mem::replace_with;
+use left_right::writer::Writer;
+use nav_ground::Entry;
+use nav_share::Shared;
+use std::alloc::{AllocError, Global};
+use std::marker::Model;
+use std::sync::Wait;
+
+type Shower = Writer<Shown, Shown, Option<Shown>, Versions>;
+
+/// The one that publishes the versions of a pair. It is not `Drop`: `end` ends it.
+///
+/// Contracts see the pair, its ground, and the entries of the version that is published; the published mesh is that of both.
+pub struct Press {
+    writer: Shower,
+    history: History,
+}
+
+impl Model for Press {
+    ghost use Rattle.nav_version.specs.Pairs.{PressView};
+
+    ghost Value = { PressView };
+
+    ghost use Rattle.nav_version.specs.Representation.{press_view, IsPressKept};
+
+    ghost view = { press_view };
+
+    ghost invariant = { IsPressKept };
+}
+
+/// A press whose published version is the one given, and an eye for each reader, which has the version's ground and has seen its length.
+/// With no readers there is no eye. Only memory can be refused; then the version is gone.
+pub fn pair<R: Wait>(
+    rt: &R,
+    alloc: Global,
+    version: Version,
+    readers: u32,
+) -> Result<(Press, Vec<Eye>), AllocError>
+    requires { IsVersion version }
+    ensures ground { IfOk result (λ made. made.0.ground ≡ arc_value version.ground) }
+    ensures entries { IfOk result (λ made. made.0.entries ≡ version.entries) }
+    ensures eyes { IfOk result (λ made. made.1.items ≡ replicate readers (first_eye made.0)) }
+{
+    let mut press = Press::showing(rt, alloc, version, readers)?;
+    match press.eyes(alloc, readers) {
+        Ok(eyes) => Ok((press, eyes)),
+        Err(refused) => {
+            press.end(rt);
+            Err(refused)
+        }
+    }
+}
+
+// The writer once it shows the next version, and whether it does. It does not where memory is refused.
+fn shown<R: Wait>(writer: Shower, next: (&R, Shown)) -> (Shower, bool)
+    requires is { IsShown next.1 }
+    requires origin { origin next.1 ≡ origin writer.desk.shown.value }
+    ensures value { MatchBool result.1 (result.0.desk.shown.value ≡ next.entry.1) (result.0.desk.shown.value ≡ writer.desk.shown.value) }
+    ensures knows { MatchBool result.1 (view result.0.desk.place ≡ Some next.entry.1) (view result.0.desk.place ≡ view writer.desk.place) }
+{
+    let (rt, next) = next;
+    let mut writer = writer;
+    match writer.append(next) {
+        Ok(()) => {
+            let (writer, published) = writer.publish_as::<Publishing, R>(rt);
+            match published {
+                Ok(()) => (writer, true),
+                Err(_refused) => (writer, false),
+            }
+        }
+        Err(_next) => (writer, false),
+    }
+}
+
+impl Press {
+    fn showing<R: Wait>(
+        rt: &R,
+        alloc: Global,
+        version: Version,
+        readers: u32,
+    ) -> Result<Press, AllocError>
+        requires { IsVersion version }
+        ensures ground { IfOk result (λ press. press.ground ≡ arc_value version.ground) }
+        ensures entries { IfOk result (λ press. press.entries ≡ version.entries) }
+    {
+        let mut history = History::new();
+        if !history.add(version.entries.as_slice()) {
+            return Err(AllocError);
+        }
+        let told = history.told();
+        let version = Shared::new(alloc, version)?;
+        let first = Shown { version, told };
+        let writer = Writer::new(alloc, first.share()?, first.share()?, readers.max(1) as usize)?;
+
+        // It is shown once more, since only what it shows by a step of its own does the press know.
+        let (writer, knows) = shown(writer, (rt, first));
+        if !knows {
+            let _last = writer.take(rt);
+            return Err(AllocError);
+        }
+        Ok(Press { writer, history })
+    }
+
+    fn eyes(&mut self, alloc: Global, readers: u32) -> Result<Vec<Eye>, AllocError>
+        ensures same { self.new ≡ self.old }
+        ensures eyes { IfOk result (λ eyes. eyes.items ≡ replicate readers (first_eye self.old)) }
+    {
+        let mut eyes = Vec::with_capacity(alloc, readers as usize)?;
+        for _ in 0..readers {
+            eyes.push(self.eye()?)?;
+        }
+        Ok(eyes)
+    }
+
+    fn eye(&mut self) -> Result<Eye, AllocError>
+        ensures same { self.new ≡ self.old }
+        ensures eye { IfOk result (λ eye. eye ≡ first_eye self.old) }
+    {
+        let mut reader = self.writer.factory().reader()?;
+        let note = self.writer.tell::<Telling>();
+        reader.learn::<Learning>(note);
+        Ok(Eye::opened(reader, &self.version().ground, self.told()))
+    }
+
+    /// Publishes the entries so far and those of the patch, with its tiles in place, and tells the new length. It waits for eyes that still
+    /// read the version from before the last publishing. Where memory is refused, the published version is as before, and the patch comes
+    /// back.
+    ///
+    /// All that takes memory comes before the history grows, but for a count of owners that has reached its end. If that is met, this and
+    /// each later publishing is refused.
+    pub fn publish<R: Wait>(
+        &mut self,
+        rt: &R,
+        alloc: Global,
+        patch: Patch,
+    ) -> Result<Told, (Patch, AllocError)>
+        requires { IsPatch self.old.ground self.old.entries patch }
+        ensures published { OnOk result (self.new ≡ record self.old { entries = self.old.entries ++ patch.entries }) }
+        ensures told { IfOk result (λ told. told ≡ record { pair = self.old.pair; entries = self.old.entries ++ patch.entries }) }
+        ensures refused { OnErr result (self.new ≡ self.old) }
+        ensures returned { IfErr result (λ refused. refused.0 ≡ patch) }
+    {
+        let next = match next_version(alloc, self.version(), &patch) {
+            Ok(next) => next,
+            Err(refused) => return Err((patch, refused)),
+        };
+        if !self.show(rt, next, patch.entries.as_slice()) {
+            return Err((patch, AllocError));
+        }
+        Ok(self.told())
+    }
+
+    // Shows the next version, at one step, and says whether it did.
+    fn show<R: Wait>(&mut self, rt: &R, next: Shared<Version>, more: &[Entry]) -> bool
+        requires rules { IsVersion next }
+        requires ground { arc_value next.ground ≡ self.old.ground }
+        requires entries { next.entries ≡ self.old.entries ++ more.now }
+        ensures { MatchBool result (self.new ≡ record self.old { entries = next.entries }) (self.new ≡ self.old) }
+    {
+        if self.history.length() != self.length() as u64 {
+            return false;
+        }
+        if !self.history.add(more) {
+            return false;
+        }
+        let told = self.history.told();
+        let next = Shown {
+            version: next,
+            told,
+        };
+        replace_with(&mut self.writer, (rt, next), shown::<R>)
+    }
+
+    /// How many entries the published version has.
+    pub fn length(&self) -> u32
+        ensures { result ≡ length self.now.entries }
+    {
+        self.version().entries.len() as u32
+    }
+
+    /// The published length, for an eye of this pair to learn.
+    pub fn told(&self) -> Told
+        ensures { result ≡ record { pair = self.now.pair; entries = self.now.entries } }
+    {
+        self.writer.published().told.again()
+    }
+
+    /// The published version.
+    pub fn version(&self) -> &Version
+        ensures value { Shows self.now result.now }
+        ensures rules { IsVersion result.now }
+    {
+        self.writer.published().version.get()
+    }
+
+    /// Ends the press. It waits for eyes that are reading; from then on no eye answers any more.
+    pub fn end<R: Wait>(self, rt: &R) {
+        let Press { writer, history: _ } = self;
+        let _last = writer.take(rt);
+    }
+}

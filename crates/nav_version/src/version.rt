@@ -1,0 +1,15 @@
+//! A version: the mesh of a ground with the obstacles that a history leaves.
+
+use mesh_types::Mesh;
+use nav_ground::{Entry, Ground};
+use nav_list::Items;
+use std::sync::Arc;
+
+/// A ground, the entries of its history so far, the oldest first, and the mesh of the ground with the obstacles that are alive after them.
+/// The number of the entries is the version's length.
+#[derive(Drop)]
+pub struct Version {
+    pub ground: Arc<Ground>,
+    pub entries: Items<Entry>,
+    pub mesh: Mesh,
+}

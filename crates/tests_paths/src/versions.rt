@@ -1,0 +1,195 @@
+//! A pair over a small flat ground: what its eyes answer before and after a publishing. What is wanted was worked out by hand.
+
+ghost use Rattle.std.specs.Prelude.{◌≡◌, ◌<◌, [], ◌∷◌, IfOk, IfSome, All, length};
+ghost use Rattle.std.specs.Arc.{arc_value};
+ghost use Rattle.nav_ground.specs.Grounds.{IsGround};
+ghost use Rattle.nav_ground.specs.Tiling.{tile_count};
+ghost use Rattle.logbook.specs.Pages.{Book};
+ghost use Rattle.tests_paths.specs.OneTile.{numbered_tiles};
+ghost use Rattle.nav_version.specs.Pairs.{EyeView, IsPatch};
+ghost use Rattle.nav_version.specs.Versions.{IsVersion};
+
+use crate::books::flat_field;
+use layer_cut::ground;
+use mesh_types::{Answer, TileMesh};
+use nav_base::Question;
+use nav_ground::{AREAS, Agent, Entry, Ground, MeshKind, Reply, Request, Setting, Shape, TileNo};
+use nav_list::Items;
+use nav_share::Shared;
+use nav_steps::Steps;
+use nav_version::{Eye, Patch, Press, Version, pair};
+use std::alloc::{AllocError, Global};
+use std::marker::Brand;
+use std::sync::ledger::{Blank, Ledger};
+use std::sync::{Arc, Wait};
+use tile_build::build_tiles;
+use tile_links::joined;
+
+/// 6 by 6 columns in one tile.
+const SETTING: Setting = Setting {
+    width: 6,
+    depth: 6,
+    tile: 6,
+    agent: Agent {
+        height: 10,
+        climb: 4,
+        radius: 0,
+    },
+    error: 169,
+    mesh: MeshKind::Strips,
+    limit: 4,
+    costs: [1; AREAS],
+    clear: false,
+};
+
+/// A block over the column (2, 2), and the entry that adds it.
+const BLOCK: Shape = Shape::Block {
+    x0: 2,
+    x1: 2,
+    y0: 0,
+    y1: 100,
+    z0: 2,
+    z1: 2,
+};
+
+const ADDED: Entry = Entry {
+    lane: 0,
+    request: Request::Add(BLOCK),
+    reply: Reply::Added { number: 1 },
+};
+
+/// The version of a ground without obstacles.
+fn opening<L: Ledger>(alloc: Global, level: Ground, blank: Blank) -> Result<Version, AllocError>
+    requires level { IsGround level }
+    requires name { blank.name ≡ L.name }
+    requires parts { blank.parts ≡ L.parts }
+    requires some { 0 < blank.parts }
+    ensures rules { IfOk result IsVersion }
+    ensures ground { IfOk result (λ version. arc_value version.ground ≡ level) }
+    ensures entries { IfOk result (λ version. version.entries ≡ []) }
+{
+    let mut steps = Steps::<L>::new(blank);
+    let tiles = build_tiles(alloc, &level, &[], &mut steps)?;
+    let mesh = joined(alloc, &level.setting, tiles)?;
+    Ok(Version {
+        ground: Arc::new(alloc, level)?,
+        entries: Items::new(alloc),
+        mesh,
+    })
+}
+
+/// Tile meshes, each with the number of its tile.
+fn numbered(
+    alloc: Global,
+    tiles: Items<Shared<TileMesh>>,
+) -> Result<Vec<(TileNo, Shared<TileMesh>)>, AllocError>
+    ensures { IfOk result (λ news. news.items ≡ numbered_tiles tiles) }
+{
+    let mut news = Vec::with_capacity(alloc, tiles.len())?;
+    for tile in tiles.as_slice() {
+        news.push((tile.get().tile, tile.share()?))?;
+    }
+    Ok(news)
+}
+
+/// The patch that publishes the block over the first version of a ground of one tile.
+fn covering<L: Ledger>(alloc: Global, version: &Version, blank: Blank) -> Result<Patch, AllocError>
+    requires rules { IsVersion version.now }
+    requires none { version.now.entries ≡ [] }
+    requires one { tile_count (arc_value version.now.ground).setting ≡ 1 }
+    requires name { blank.name ≡ L.name }
+    requires parts { blank.parts ≡ L.parts }
+    requires some { 0 < blank.parts }
+    ensures { IfOk result (λ patch. IsPatch (arc_value version.now.ground) version.now.entries patch) }
+{
+    let mut steps = Steps::<L>::new(blank);
+    let tiles = build_tiles(alloc, &version.ground, &[BLOCK], &mut steps)?;
+    let mut entries = Items::new(alloc);
+    entries.push(ADDED)?;
+    Ok(Patch {
+        entries,
+        tiles: numbered(alloc, tiles)?,
+    })
+}
+
+/// The length that an eye names, and how many floors it sees in the column of the block.
+fn floors(eye: &mut Eye, alloc: Global) -> Result<(u32, usize), AllocError>
+    ensures { eye.new.pair ≡ eye.old.pair }
+{
+    let (length, answer) = eye.ask(alloc, &Question::Floor { x: 2, z: 2 })?;
+    match answer {
+        Answer::Floors(floors) => Ok((length, floors.len())),
+        _ => Ok((length, 9)),
+    }
+}
+
+/// What the eyes see: the first one before the publishing, the second one once it learnt of it, and the first one again, which was told
+/// nothing; and what the second one says that it has seen.
+fn seen_by<R: Wait>(
+    rt: &R,
+    alloc: Global,
+    press: &mut Press,
+    eyes: (Eye, Eye),
+    patch: Patch,
+) -> Result<([(u32, usize); 3], [u32; 2]), AllocError>
+    requires of { eyes.1.pair ≡ press.old.pair }
+    requires patch { IsPatch press.old.ground press.old.entries patch }
+{
+    let (mut first, mut second) = eyes;
+    let before = floors(&mut first, alloc)?;
+    let told = match press.publish(rt, alloc, patch) {
+        Ok(told) => told,
+        Err((_patch, refused)) => return Err(refused),
+    };
+    let length = told.length();
+    second.learn(told);
+    let after = floors(&mut second, alloc)?;
+    let again = floors(&mut first, alloc)?;
+    Ok(([before, after, again], [length, second.seen()]))
+}
+
+/// Two eyes, which are those of a pair.
+fn both(mut eyes: Vec<Eye>) -> Option<(Eye, Eye)>
+    ensures { (pair : Book) → All (λ (eye : EyeView). eye.pair ≡ pair) eyes.items → IfSome result (λ both. (both.0.pair ≡ pair) × (both.1.pair ≡ pair)) }
+{
+    let second = eyes.pop()?;
+    let first = eyes.pop()?;
+    Some((first, second))
+}
+
+// Either may go to another thread.
+fn sent<T: Send>(value: T) -> T
+    ensures { result ≡ value }
+{
+    value
+}
+
+#[test]
+fn eyes_read_what_is_published(rt: HostRuntime) -> Result<(), AllocError> {
+    let alloc = rt.alloc();
+    let level = ground(alloc, SETTING, flat_field(alloc, 6, 6)?)?;
+    let version = opening::<Brand>(alloc, level, Blank::new(1))?;
+    let patch = covering::<Brand>(alloc, &version, Blank::new(1))?;
+    let (press, eyes) = pair(&rt, alloc, version, 2)?;
+    let mut press = sent(press);
+    let seen = match both(eyes) {
+        Some(eyes) => seen_by(&rt, alloc, &mut press, sent(eyes), patch),
+        None => Err(AllocError),
+    };
+    press.end(&rt);
+    assert_eq!(rt; seen?, ([(0, 1), (1, 0), (1, 0)], [1, 1]));
+    Ok(())
+}
+
+/// With no readers there is a press alone.
+#[test]
+fn a_press_may_have_no_eyes(rt: HostRuntime) -> Result<(), AllocError> {
+    let alloc = rt.alloc();
+    let level = ground(alloc, SETTING, flat_field(alloc, 6, 6)?)?;
+    let version = opening::<Brand>(alloc, level, Blank::new(1))?;
+    let (press, eyes) = pair(&rt, alloc, version, 0)?;
+    let seen = (press.length(), eyes.len());
+    press.end(&rt);
+    assert_eq!(rt; seen, (0, 0));
+    Ok(())
+}
