@@ -107,7 +107,12 @@ impl Press {
         let told = history.told();
         let version = Shared::new(alloc, version)?;
         let first = Shown { version, told };
-        let writer = Writer::new(alloc, first.share()?, first.share()?, readers.max(1) as usize)?;
+        let writer = Writer::new(
+            alloc,
+            first.share()?,
+            first.share()?,
+            readers.max(1) as usize,
+        )?;
 
         // It is shown once more, since only what it shows by a step of its own does the press know.
         let (writer, knows) = shown(writer, (rt, first));

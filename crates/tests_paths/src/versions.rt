@@ -157,7 +157,7 @@ fn both(mut eyes: Vec<Eye>) -> Option<(Eye, Eye)>
     Some((first, second))
 }
 
-// Either may go to another thread.
+// A press may go to another thread.
 fn sent<T: Send>(value: T) -> T
     ensures { result ≡ value }
 {
@@ -173,7 +173,7 @@ fn eyes_read_what_is_published(rt: HostRuntime) -> Result<(), AllocError> {
     let (press, eyes) = pair(&rt, alloc, version, 2)?;
     let mut press = sent(press);
     let seen = match both(eyes) {
-        Some(eyes) => seen_by(&rt, alloc, &mut press, sent(eyes), patch),
+        Some(eyes) => seen_by(&rt, alloc, &mut press, eyes, patch),
         None => Err(AllocError),
     };
     press.end(&rt);
