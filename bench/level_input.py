@@ -33,13 +33,16 @@ def rough_column(x, z):
 
 
 def smooth_column(x, z):
-    """The same, with ramps in two bands of rows, and an upper floor beyond them."""
+    """The same, with ramps in two bands of rows, an upper floor beyond them, and beams that the agent just fits under."""
     if random.randrange(150) == 0:
         return []
     area = 5 if (x // 6 + z // 5) % 7 == 3 else 63
     if z % 16 in (3, 4, 5, 6) and x % 24 < 10:
         return [(0, 10 + 2 * (x % 24), area)]
-    spans = [(0, 10 + (x + z) // 9 % 3, area)]
+    ground = 10 + (x + z) // 9 % 3 + (random.randrange(8) == 0)
+    spans = [(0, ground, area)]
+    if random.randrange(10) == 0:
+        spans.append((ground + 10, ground + 11, 0))
     if 9 < x % 24 < 20 and z % 16 < 10:
         spans.append((26, 28 + random.randrange(2), 63))
     return spans
