@@ -1,9 +1,11 @@
 #!/usr/bin/env python3
 """Writes an input for `navd play` to standard output: a rough field of SIDE by SIDE columns with two floors, cut into tiles, with holes,
 steps, hanging spans and low ceilings, for an agent with a radius; and LINES script lines that mix floors, paths, blocks, cylinders, removes
-and settles. The same arguments give the same bytes.
+and settles. MESH is strips or contours, with its ERROR. With WORKERS of at least 1 the script also has rays and the workers' single steps:
+aims, claims, submits, backs and publishes. With KIND `smooth` the field has few holes, areas in patches, and ramps between the two floors, so
+that regions are large and most questions are answered by paths. The same arguments give the same bytes.
 
-usage: level_input.py [SIDE [LINES [SEED]]]     (defaults 40 300 1)
+usage: level_input.py [SIDE [LINES [SEED [MESH [ERROR [WORKERS [KIND]]]]]]]     (defaults 40 300 1 strips 169 0 rough)
 """
 import random
 import sys
@@ -11,40 +13,83 @@ import sys
 side = int(sys.argv[1]) if len(sys.argv) > 1 else 40
 count = int(sys.argv[2]) if len(sys.argv) > 2 else 300
 random.seed(int(sys.argv[3]) if len(sys.argv) > 3 else 1)
+mesh = sys.argv[4] if len(sys.argv) > 4 else "strips"
+error, workers = [int(word) for word in sys.argv[5:7]] + [169, 0][len(sys.argv[5:7]):]
+kind = sys.argv[7] if len(sys.argv) > 7 else "rough"
 
-out = ["nav 1", f"size {side} {side - 3}", f"tile {random.choice([4, 7, 16, 48])}", f"agent 10 {random.randrange(6)} {random.randrange(4)}",
-       "error 169", "mesh strips", f"limit {random.choice([3, 64])}"] + [["cost 5 3"], []][random.randrange(2)]
+
+def rough_column(x, z):
+    """The spans of a column, each (bottom, top, area)."""
+    if random.randrange(40) == 0:
+        return []
+    ground = 10 + random.randrange(2) * (random.randrange(12) == 0) * 9 + (x + z) // 9 % 3
+    spans = [(0, ground, 0 if random.randrange(50) == 0 else random.choice([63, 63, 63, 5]))]
+    if ground < 15 and random.randrange(25) == 0:
+        spans.append((ground + random.randrange(1, 3), ground + 3 + random.randrange(4), 0))
+    if (x // 8 + z // 8) % 2 == 0 and random.randrange(30):
+        under = 26 + random.randrange(2) * (random.randrange(20) == 0) * 3
+        spans.append((under, under + 2 + random.randrange(2), 63))
+    return spans
+
+
+def smooth_column(x, z):
+    """The same, with ramps in two bands of rows, an upper floor beyond them, and beams that the agent just fits under."""
+    if random.randrange(150) == 0:
+        return []
+    area = 5 if (x // 6 + z // 5) % 7 == 3 else 63
+    if z % 16 in (3, 4, 5, 6) and x % 24 < 10:
+        return [(0, 10 + 2 * (x % 24), area)]
+    ground = 10 + (x + z) // 9 % 3 + (random.randrange(8) == 0)
+    spans = [(0, ground, area)]
+    if random.randrange(10) == 0:
+        spans.append((ground + 10, ground + 11, 0))
+    if 9 < x % 24 < 20 and z % 16 < 10:
+        spans.append((26, 28 + random.randrange(2), 63))
+    return spans
+
+
+tile = random.choice([4, 7, 16, 48])
+climb, radius = (random.randrange(6), random.randrange(4)) if kind == "rough" else (random.choice([2, 3, 4]), random.choice([0, 0, 1, 2]))
+out = ["nav 1", f"size {side} {side - 3}", f"tile {tile}", f"agent 10 {climb} {radius}",
+       f"error {error}", f"mesh {mesh}", f"limit {random.choice([3, 64])}"] + [["cost 5 3"], []][random.randrange(2)]
 for z in range(side - 3):
     for x in range(side):
-        if random.randrange(40) == 0:
-            continue
-        ground = 10 + random.randrange(2) * (random.randrange(12) == 0) * 9 + (x + z) // 9 % 3
-        out.append(f"span {x} {z} 0 {ground} {0 if random.randrange(50) == 0 else random.choice([63, 63, 63, 5])}")
-        if ground < 15 and random.randrange(25) == 0:
-            out.append(f"span {x} {z} {ground + random.randrange(1, 3)} {ground + 3 + random.randrange(4)} 0")
-        if (x // 8 + z // 8) % 2 == 0 and random.randrange(30):
-            under = 26 + random.randrange(2) * (random.randrange(20) == 0) * 3
-            out.append(f"span {x} {z} {under} {under + 2 + random.randrange(2)} 63")
-out += ["end", "script 2 1"]
+        for bottom, top, area in (rough_column if kind == "rough" else smooth_column)(x, z):
+            out.append(f"span {x} {z} {bottom} {top} {area}")
+out += ["end", f"script 2 {max(workers, 1)}"]
 adds = [0, 0]
 lane = 0
+
+
+def steps():
+    """Single steps of workers: one, or a few claims and submits in a row."""
+    worker = random.randrange(workers)
+    few = [line for _ in range(random.randrange(1, 12)) for line in (f"claim {worker}", f"submit {worker}")]
+    return random.choice([["aim"], ["publish"], [f"claim {worker}"], [f"claim {worker}"], [f"submit {worker}"], [f"back {worker}"], few, few + ["publish"]])
+
+
 for _ in range(count):
-    kind = random.randrange(11)
-    if kind == 0:
+    line = random.randrange(16 if workers else 11)
+    if line == 0:
         x, z, y = random.randrange(side), random.randrange(side), random.choice([0, 20])
         out.append(f"add block {x} {x + random.randrange(8)} {y} {y + random.randrange(40)} {z} {z + random.randrange(8)}")
         adds[lane] += 1
-    elif kind == 1 and adds[lane]:
+    elif line == 1 and adds[lane]:
         out.append(f"drop {random.randrange(1, adds[lane] + 1)}")
-    elif kind == 2:
+    elif line == 2:
         out.append(f"add cylinder {random.randrange(2 * side)} {random.randrange(2 * side)} {random.randrange(6)} 0 {random.choice([15, 100])}")
         adds[lane] += 1
-    elif kind == 3:
+    elif line == 3:
         out.append("settle")
-    elif kind == 4:
+    elif line == 4:
         lane = random.randrange(2)
         out.append(f"lane {lane}")
-    elif kind < 8:
+    elif line > 11:
+        out += steps()
+    elif line == 11:
+        out.append("ray {} {} {} {} {}".format(*[random.randrange(16 * side) for _ in range(2)], random.choice([10, 11, 27, 28]),
+                                               *[random.randrange(16 * side) for _ in range(2)]))
+    elif line < 8:
         out.append(f"floor {random.randrange(side + 2)} {random.randrange(side)}")
     else:
         points = [random.choice([1, 1, 4, 16]) * (random.randrange(1000)) % (16 * side) for _ in range(4)]

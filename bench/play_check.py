@@ -1,16 +1,20 @@
 #!/usr/bin/env python3
-"""A plain second program for the plays that `navd` answers so far: works an input out and compares what `navd` wrote for it, line by line.
-It finds the ground and the strips from the rules, over dictionaries of columns and cells with a queue for the clearance, and tests every
-shape against every cell. Of a path it finds the least cost by a search of its own, and tests that the links are a walk of that cost and that
-the turns are taut, part by part of the rule. It follows a ray from strip to strip with reduced fractions and sorted lists. It shares nothing
-with `navd`, and is slow.
+"""A plain second program for `navd play`: works an input out and compares what `navd` wrote for it, line by line.
+It finds the ground from the rules, over dictionaries of columns and cells with a queue for the clearance, tests every shape against every
+cell, and builds tiles by strips or by outlines with `contours.py`. Of a path it finds the least cost by a search of its own, and tests that
+the links are a walk of that cost and that the turns are taut, part by part of the rule. It follows a ray from polygon to polygon with reduced
+fractions and sorted lists. The published mesh is made from scratch from the shapes that were alive, and the book of tiles that await a build
+has nothing but lists of shapes. It shares nothing with `navd`, and is slow.
 
-usage: play_check.py INPUT OUTPUT      ends with 1 and says where, at the first line that is wrong
+usage: play_check.py INPUT OUTPUT [SUMMARY]      ends with 1 and says where, at the first line that is wrong
+With SUMMARY it also compares what `navd gen` wrote, of which INPUT is the made input, with what it counted.
 """
 import heapq
 import math
 import sys
 from fractions import Fraction
+
+import contours
 
 DIRECTIONS = [(-1, 0), (0, 1), (1, 0), (0, -1)]
 BELOW_ALL = -10 ** 9
@@ -20,6 +24,7 @@ told = open(sys.argv[2]).read().split("\n")[:-1]
 width, depth = map(int, lines[1].split()[1:])
 tile_side = int(lines[2].split()[1])
 height, climb, radius = map(int, lines[3].split()[1:])
+error = int(lines[4].split()[1]) if lines[5] == "mesh contours" else None
 limit = int(lines[6].split()[1])
 at, costs = 7, {}
 while lines[at].startswith("cost "):
@@ -31,7 +36,7 @@ while lines[at] != "end":
     x, z, bottom, top, area = map(int, lines[at].split()[1:])
     columns[x, z].append((bottom, top, area))
     at += 1
-lanes = int(lines[at + 1].split()[1])
+lanes, workers = map(int, lines[at + 1].split()[1:])
 
 
 def ceiling(spans, i):
@@ -102,13 +107,21 @@ while queue:
             if to is not None and cost + further < clearance.get(id(to), 10 ** 9):
                 clearance[id(to)] = cost + further
                 heapq.heappush(queue, (cost + further, id(to), to))
-kept = {place: [cell for cell in column if clearance.get(id(cell), 10 ** 9) >= 2 * radius] for place, column in cells.items()}
+kept = {(x, z): [cell for cell in column if clearance.get(id(cell), 10 ** 9) >= 2 * radius] for (x, z), column in cells.items()}
+place_of = {id(cell): (x, z, level) for (x, z), column in cells.items() for level, cell in enumerate(column)}
+kept_at = {place_of[id(cell)]: cell for column in kept.values() for cell in column}
 
-history, alive, published, lane = [], {}, {}, 0
-published_length = 0
+# The history, what is alive after it, and what is alive after the entries up to the target and after the published ones.
+history, alive, lane = [], {}, 0
+target_length, target = 0, {}
+published_length, published = 0, {}
+# The list of shapes that each tile was built with, the tiles that are claimed, and the tile and its list that each worker holds.
+tile_count = -(-width // tile_side) * -(-depth // tile_side)
+stored, claimed, held = [[] for _ in range(tile_count)], set(), [None] * workers
 adds = [[] for _ in range(lanes)]
-mesh_kept = None
+mesh_kept, built_kept = None, {}
 said = 0
+counts = {"path": 0, "nopath": 0, "nostart": 0, "nogoal": 0, "cost": 0}
 
 
 def fail(place, why):
@@ -128,6 +141,13 @@ def tile_of(x, z):
     return z // tile_side * -(-width // tile_side) + x // tile_side
 
 
+def window(tile):
+    """The columns of a tile: x0, x1, z0, z1, ends included."""
+    row, column = divmod(tile, -(-width // tile_side))
+    x0, z0 = column * tile_side, row * tile_side
+    return x0, min(x0 + tile_side, width) - 1, z0, min(z0 + tile_side, depth) - 1
+
+
 def covers(shape, x, z, floor):
     kind, n = shape
     if kind == "block":
@@ -135,6 +155,66 @@ def covers(shape, x, z, floor):
         return x0 <= x <= x1 and z0 <= z <= z1 and y0 <= floor <= y1
     cx, cz, r, y0, y1 = n
     return (2 * x + 1 - cx) ** 2 + (2 * z + 1 - cz) ** 2 <= (2 * r + 1) ** 2 and y0 <= floor <= y1
+
+
+def touches(shape, tile):
+    """Whether the bounds of a shape have a column of the field in common with a tile."""
+    x0, x1, z0, z1 = window(tile)
+    kind, n = shape
+    if kind == "block":
+        return n[0] <= x1 and x0 <= n[1] and n[4] <= z1 and z0 <= n[5]
+    cx, cz, r = n[:3]
+    return (any(abs(2 * x + 1 - cx) <= 2 * r + 1 for x in range(x0, x1 + 1))
+            and any(abs(2 * z + 1 - cz) <= 2 * r + 1 for z in range(z0, z1 + 1)))
+
+
+def touching(tile):
+    """The touching list of a tile at the target."""
+    return [shape for _, shape in sorted(target.items()) if touches(shape, tile)]
+
+
+def awaited():
+    return [tile for tile in range(tile_count) if stored[tile] != touching(tile)]
+
+
+def publish():
+    """Publishes, and says what `publish` answers."""
+    global published, published_length
+    waiting = awaited()
+    if waiting:
+        return f"notyet {waiting[0]}"
+    if target_length == published_length:
+        return f"same {published_length}"
+    published, published_length = dict(target), target_length
+    return f"published {published_length}"
+
+
+def aim():
+    global target, target_length
+    target, target_length = dict(alive), len(history)
+
+
+def step(word, worker):
+    """What a single step of a worker answers."""
+    if word == "claim":
+        if held[worker] is not None:
+            return f"busy {worker}"
+        waiting = [tile for tile in awaited() if tile not in claimed]
+        if not waiting:
+            return f"claim {worker} none"
+        claimed.add(waiting[0])
+        held[worker] = (waiting[0], touching(waiting[0]))
+        return f"claim {worker} tile {waiting[0]}"
+    if held[worker] is None:
+        return f"idle {worker}"
+    (tile, shapes), held[worker] = held[worker], None
+    claimed.discard(tile)
+    if word == "back":
+        return f"back {worker} tile {tile}"
+    if tile not in awaited() or shapes != touching(tile):
+        return f"submit {worker} stale {tile}"
+    stored[tile] = shapes
+    return f"submit {worker} taken {tile}"
 
 
 def request(kind, value):
@@ -158,75 +238,76 @@ def request(kind, value):
     return 0
 
 
+def near(place, dir):
+    """The place of the kept cell that a kept cell is connected to, or None."""
+    by = kept_at[place][3][dir]
+    return None if by is None or place_of[id(by)] not in kept_at else place_of[id(by)]
+
+
+def built(tile, free):
+    """The built tile, which is made once for the same free cells."""
+    key = tile, frozenset(free)
+    if key not in built_kept:
+        built_kept[key] = contours.build(window(tile), free, near, error)
+    return built_kept[key]
+
+
 def published_mesh():
-    """The strips of the free cells under the published shapes, tile by tile, and the links that leave each of them."""
-    free = {}
-    for place, column in kept.items():
-        free[place] = [cell for cell in column if not any(covers(shape, *place, cell[0]) for shape in published.values())]
-    order = {}
-    for (x, z), column in free.items():
-        for level, cell in enumerate(column):
-            order[id(cell)] = (tile_of(x, z), z, x, level)
-    begins = []
-    for (x, z), column in free.items():
-        for cell in column:
-            before = cell[3][0]
-            if before is None or id(before) not in order or order[id(before)][0] != order[id(cell)][0] or before[2] != cell[2]:
-                begins.append((order[id(cell)], x, z, cell))
-    strips, strip_of, count = {}, {}, {}
-    for (tile, _, _, _), x, z, cell in sorted(begins, key=lambda begin: begin[0]):
-        name = (tile, count.get(tile, 0))
-        count[tile] = name[1] + 1
-        cells_of = [cell]
-        while True:
-            after = cells_of[-1][3][2]
-            if after is None or id(after) not in order or order[id(after)][0] != tile or after[2] != cell[2]:
-                break
-            cells_of.append(after)
-        strips[name] = (x, x + len(cells_of) - 1, z, cell[2], min(c[0] for c in cells_of), max(c[0] for c in cells_of), cells_of)
-        for one in cells_of:
-            strip_of[id(one)] = name
-    links = {name: [] for name in strips}
-    for name, (x0, x1, z, _, _, _, cells_of) in strips.items():
-        for dir in (0, 2):
-            by = cells_of[0 if dir == 0 else -1][3][dir]
-            if by is not None and id(by) in strip_of:
-                at = 16 * (x0 if dir == 0 else x1 + 1)
-                left, right = ((at, 16 * z), (at, 16 * z + 16))[::1 if dir == 0 else -1]
-                links[name].append((strip_of[id(by)], left, right))
-        for dir in (1, 3):
-            run = None
-            for i, one in enumerate(cells_of + [None]):
-                by = one[3][dir] if one is not None else None
-                to = strip_of.get(id(by)) if by is not None else None
-                if run is not None and run[0] != to:
-                    low, high, at = 16 * (x0 + run[1]), 16 * (x0 + i), 16 * (z + 1 if dir == 1 else z)
-                    left, right = ((low, at), (high, at))[::1 if dir == 1 else -1]
-                    links[name].append((run[0], left, right))
-                    run = None
-                if run is None and to is not None:
-                    run = (to, i)
-    return strips, strip_of, links, free
+    """The polygons under the published shapes, by tile and place, and the links that leave each of them: edge, polygon entered, left end,
+    right end. Over borders a link goes where two tiles have a connected pair of free cells on their rims."""
+    shapes = list(published.values())
+    free = [{} for _ in range(tile_count)]
+    for (x, z, level), cell in kept_at.items():
+        if not any(covers(shape, x, z, cell[0]) for shape in shapes):
+            free[tile_of(x, z)][x, z, level] = (cell[0], cell[2])
+    polygons, links, rims = {}, {}, {}
+    for tile in range(tile_count):
+        made, inner, rim = built(tile, free[tile])
+        for i, polygon in enumerate(made):
+            polygons[tile, i] = polygon
+            links[tile, i] = []
+        for i, edge, to, left, right in inner:
+            links[tile, i].append((edge, (tile, to), left, right))
+        for (place, side), (i, edge) in rim.items():
+            rims[place, side] = (tile, i), edge
+    over = {}
+    for (place, side), (name, edge) in rims.items():
+        beyond = rims.get((near(place, side), (side + 2) % 4))
+        if beyond is not None:
+            positions = over.setdefault((name, edge, side), {})
+            at = place[1] if side in (0, 2) else place[0]
+            assert at not in positions, "one edge has two cells at one position"
+            positions[at] = beyond
+    for (name, edge, side), positions in over.items():
+        x0, x1, z0, z1 = window(name[0])
+        for first, end, (to, _) in contours.runs_of(positions):
+            links[name].append((edge, to) + contours.portal(side, [x0, z1 + 1, x1 + 1, z0][side], first, end))
+    return polygons, links
+
+
+def holds(corners, point):
+    scaled = [(16 * x, 16 * z) for x, z in corners]
+    return all(orient(u, v, point) >= 0 for u, v in zip(scaled, scaled[1:] + scaled[:1]))
 
 
 def locate(mesh, x, z, y):
-    strips, strip_of, _, free = mesh
     best = None
-    for cx in {x // 16, (x - 1) // 16}:
-        for cz in {z // 16, (z - 1) // 16}:
-            for cell in free.get((cx, cz), []):
-                name = strip_of[id(cell)]
-                gap = max(strips[name][4] - y, y - strips[name][5], 0)
-                if gap <= climb and (best is None or (gap, name) < best):
-                    best = (gap, name)
+    for name, (corners, _, low, high) in mesh[0].items():
+        gap = max(low - y, y - high, 0)
+        if gap <= climb and (best is None or (gap, name) < best) and holds(corners, (x, z)):
+            best = (gap, name)
     return best and best[1]
 
 
+def middle(corners):
+    """The middle of a polygon's box, in sixteenths."""
+    return tuple(8 * (min(values) + max(values)) for values in zip(*corners))
+
+
 def weight(mesh, a, b):
-    (ax0, ax1, az), (bx0, bx1, bz) = mesh[0][a][:3], mesh[0][b][:3]
-    d = (8 * (ax0 + ax1 - bx0 - bx1)) ** 2 + (16 * (az - bz)) ** 2
+    d = contours.square(middle(mesh[0][a][0]), middle(mesh[0][b][0]))
     root = math.isqrt(d)
-    return max(1, root if root * root == d else root + 1) * costs.get(mesh[0][b][3], 1)
+    return max(1, root if root * root == d else root + 1) * costs.get(mesh[0][b][1], 1)
 
 
 def least_cost(mesh, start, goal):
@@ -237,7 +318,7 @@ def least_cost(mesh, start, goal):
             return cost
         if cost > best[at]:
             continue
-        for to, _, _ in mesh[2][at]:
+        for _, to, _, _ in mesh[1][at]:
             further = cost + weight(mesh, at, to)
             if further < best.get(to, 10 ** 15):
                 best[to] = further
@@ -309,7 +390,10 @@ def check_path(words):
     cost = None if start is None or goal is None else least_cost(mesh, start, goal)
     for name, is_so in (("nostart", start is None), ("nogoal", goal is None), ("nopath", cost is None)):
         if is_so:
+            counts[name] += 1
             return expect(f"{name} {published_length}")
+    counts["path"] += 1
+    counts["cost"] += cost
     head = told[said].split(" ") if said < len(told) else []
     if len(head) != 7 or not head[5].isdigit() or not head[6].isdigit():
         fail(said, f"a path of cost {cost} is wanted")
@@ -320,7 +404,7 @@ def check_path(words):
     for i in range(at, at + steps):
         n = list(map(int, told[i].split(" ")[1:]))
         link = ((n[0], n[1]), (n[2], n[3]), (n[4], n[5]))
-        if not told[i].startswith("link ") or link not in mesh[2][here]:
+        if not told[i].startswith("link ") or link not in [known[1:] for known in mesh[1][here]]:
             fail(i, "no link of the polygon")
         spent += weight(mesh, here, link[0])
         here = link[0]
@@ -349,9 +433,7 @@ def check_ray(words):
     visited = []
     while True:
         visited.append(here)
-        x0, x1, z = mesh[0][here][:3]
-        left, right, low, high = 16 * x0, 16 * x1 + 16, 16 * z, 16 * z + 16
-        corners = [(left, low), (right, low), (right, high), (left, high)]
+        corners = [(16 * x, 16 * z) for x, z in mesh[0][here][0]]
         edges = list(zip(corners, corners[1:] + corners[:1]))
         exits = {}
         for edge, (u, v) in enumerate(edges):
@@ -361,8 +443,7 @@ def check_ray(words):
             return expect(f"reached {published_length} {here[0]} {here[1]}")
         least = [edge for edge in exits if exits[edge] == min(exits.values())]
         onward = []
-        for to, a, b in mesh[2][here]:
-            edge = next(i for i, (u, v) in enumerate(edges) if orient(u, v, a) == 0 == orient(u, v, b))
+        for edge, to, a, b in mesh[1][here]:
             if edge in least and to not in visited and orient(start, goal, a) >= 0 >= orient(start, goal, b):
                 onward.append((edge, to, b, a))
         if not onward:
@@ -390,8 +471,19 @@ for line in lines[at + 2:]:
     elif words[0] == "drop":
         request("remove", adds[lane][int(words[1]) - 1])
     elif words[0] == "settle":
-        published, published_length = dict(alive), len(history)
+        held = [None] * workers
+        claimed.clear()
+        aim()
+        stored = [touching(tile) for tile in range(tile_count)]
+        publish()
         expect(f"settled {published_length}")
+    elif words[0] == "aim":
+        aim()
+        expect(f"aim {target_length}")
+    elif words[0] == "publish":
+        expect(publish())
+    elif words[0] in ("claim", "back", "submit"):
+        expect(step(words[0], int(words[1])))
     elif words[0] == "floor":
         x, z = int(words[1]), int(words[2])
         free = [cell for cell in kept.get((x, z), []) if not any(covers(shape, x, z, cell[0]) for shape in published.values())]
@@ -403,3 +495,12 @@ for line in lines[at + 2:]:
 expect(f"done {published_length} {len(history)}")
 if said < len(told):
     fail(said, "nothing is wanted")
+if len(sys.argv) > 3:
+    summary = open(sys.argv[3]).read().split("\n")[1:]
+    polygons, links = mesh_now()
+    wanted = [f"input {sum(len(line) + 1 for line in lines)} {len(lines)}", f"history {len(history)} published {published_length}",
+              "paths {path} nopath {nopath} nostart {nostart} nogoal {nogoal}".format(**counts), f"cost {counts['cost']}",
+              f"mesh {len(polygons)} {sum(map(len, links.values()))}", ""]
+    if summary != wanted:
+        print(f"the summary is wrong: {summary} instead of {wanted}")
+        sys.exit(1)
