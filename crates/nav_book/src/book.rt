@@ -169,9 +169,9 @@ impl Book {
         let answer = self.desk.publication();
         match answer {
             Published::New { .. } => {
-                let more = &self.desk.entries()[self.desk.published() as usize..self
-                    .desk
-                    .target() as usize];
+                let from = self.desk.published() as usize;
+                let to = self.desk.target() as usize;
+                let more = &self.desk.entries()[from..to];
                 let patch = patch_of(alloc, more, self.fresh.as_slice())?;
                 match self.press.publish(rt, alloc, patch) {
                     Ok(_told) => {
