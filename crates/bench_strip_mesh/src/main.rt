@@ -26,7 +26,15 @@ fn main(rt: HostRuntime) -> io::Result<()> {
     let stage = read_number(stage, 4).unwrap_or(1);
     let copies = read_number(copies, 1000000).unwrap_or(0);
     match read_field(rt.alloc(), text) {
-        Ok(read) => match staged::<Brand>(rt.alloc(), read, text, stage, copies, Blank::new(1)) {
+        Ok(read) => match staged::<_, Brand>(
+            &rt,
+            rt.alloc(),
+            read,
+            text,
+            stage,
+            copies,
+            Blank::new(1),
+        ) {
             Ok(made) => println!(rt;
                 "{} spans, {} tiles, {} polygons, {} links",
                 made.spans, made.tiles, made.polygons, made.links

@@ -16,8 +16,8 @@ use nav_share::Shared;
 use nav_steps::Steps;
 use span_text::FieldText;
 use std::alloc::{AllocError, Global};
-use std::sync::Arc;
 use std::sync::ledger::{Blank, Ledger};
+use std::sync::{Arc, Wait};
 use tile_build::build_tiles;
 
 /// What was made.
@@ -30,7 +30,8 @@ pub struct Made {
 }
 
 /// Goes on from a text that was read, up to a stage, and then makes copies of the mesh.
-pub fn staged<L: Ledger>(
+pub fn staged<R: Wait, L: Ledger>(
+    rt: &R,
     alloc: Global,
     read: FieldText,
     bytes: &[u8],
@@ -59,11 +60,12 @@ pub fn staged<L: Ledger>(
     if stage < 3 {
         return Ok(made);
     }
-    built::<L>(alloc, whole, made, stage, copies, blank)
+    built::<R, L>(rt, alloc, whole, made, stage, copies, blank)
 }
 
 /// Goes on from the ground.
-fn built<L: Ledger>(
+fn built<R: Wait, L: Ledger>(
+    rt: &R,
     alloc: Global,
     whole: Ground,
     made: Made,
@@ -83,11 +85,12 @@ fn built<L: Ledger>(
     if stage < 4 {
         return Ok(made);
     }
-    booked(alloc, whole, tiles, made, copies)
+    booked(rt, alloc, whole, tiles, made, copies)
 }
 
 /// Goes on from the tiles.
-fn booked(
+fn booked<R: Wait>(
+    rt: &R,
     alloc: Global,
     whole: Ground,
     tiles: Items<Shared<TileMesh>>,
@@ -99,9 +102,11 @@ fn booked(
 {
     let mut made = made;
     let level = Arc::new(alloc, whole)?;
-    let book = Book::begin(alloc, level, tiles)?;
+    let (book, _eyes) = Book::begin(rt, alloc, level, tiles, 0)?;
     count_cross(&mut made, book.mesh());
-    make_copies(alloc, book.mesh(), copies)?;
+    let copied = make_copies(alloc, book.mesh(), copies);
+    book.end(rt);
+    copied?;
     Ok(made)
 }
 

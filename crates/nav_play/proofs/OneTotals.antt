@@ -5,8 +5,6 @@ use Rattle.std.specs.List.{sum_by, count_by}
 use Rattle.std.proofs.lemmas.List.Sums.{sum_by-append, sum_by-cons}
 use Rattle.nav_base.specs.declared.answers.Question.{Question}
 use Rattle.nav_base.specs.declared.answers.Question.TheVariants as questions
-use Rattle.nav_ground.specs.declared.field.Field.{Field}
-use Rattle.nav_ground.specs.declared.setting.Setting.{Setting}
 use Rattle.mesh_types.specs.declared.answers.Answer.{Answer}
 use Rattle.mesh_types.specs.declared.answers.Answer.TheVariants.{Floors, Path, NoStart, NoGoal, NoPath, Reached, Wall}
 use Rattle.mesh_types.specs.declared.mesh.Mesh.{Mesh}
@@ -16,9 +14,8 @@ use Rattle.nav_book.specs.Results.{published_mesh}
 use Rattle.nav_record.specs.declared.totals.Totals.{Totals}
 use Rattle.nav_script.specs.declared.line.Line.{Line}
 use Rattle.nav_script.specs.declared.line.Line.TheVariants.{Lane, Ask, Add, Remove, Undo, Settle, Aim, Claim, Back, Submit, Publish}
-use Rattle.nav_script.specs.declared.script.Script.{Script}
-use Rattle.nav_play.specs.PlayRecord.{PlayState, AreSaid, first_state_of, state_after}
-use Rattle.nav_play.specs.PlayTotals.{AreTotals, IsCounted, IsPathAnswer, cost_of, is_no_goal, is_no_path, is_no_start, is_path}
+use Rattle.nav_play.specs.PlayRecord.{PlayState, AreSaid, state_after}
+use Rattle.nav_play.specs.PlayTotals.{AreTotalsFrom, IsCounted, IsPathAnswer, cost_of, is_no_goal, is_no_path, is_no_start, is_path}
 
 -- what two answers add to the counts is the same
 record CountAlike (x y : Answer) : Type 0 where
@@ -135,11 +132,11 @@ same_totals x y entries published paths nopath nostart nogoal cost polys links =
   links = links i;
 }
 
--- all totals of one play are the same
-pub one_totals : (setting : Setting) (field : Field) (script : Script) (x y : Totals) → AreTotals setting field script x → AreTotals setting field script y → x ≡ y
-one_totals setting field script x y one other =
+-- all totals of the same lines from the same state are the same
+pub one_totals : (state : PlayState) (lines : List Line) (x y : Totals) → AreTotalsFrom state lines x → AreTotalsFrom state lines y → x ≡ y
+one_totals state lines x y one other =
     let same : (part : Answer → ℕ) → Agrees part → sum_by part one.given ≡ sum_by part other.given =
-    λ part agrees. answers_same part agrees (first_state_of setting field script) script.lines one.given other.given one.right other.right in
+    λ part agrees. answers_same part agrees state lines one.given other.given one.right other.right in
     same_totals x y
     (one.ends.entries ∙ sym other.ends.entries)
     (one.ends.published ∙ sym other.ends.published)

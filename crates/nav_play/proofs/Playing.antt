@@ -3,7 +3,6 @@ use Rattle.std.proofs.Common.{◌≡◌, ℕ, ◌+◌, ◌<◌, ◌≤◌, Optio
 use Rattle.nav_ground.specs.declared.field.Field.{Field}
 use Rattle.nav_ground.specs.declared.history.Ground.{Ground}
 use Rattle.nav_ground.specs.declared.setting.Setting.{Setting}
-use Rattle.nav_ground.specs.Tiling.{tile_count}
 use Rattle.nav_desk.specs.BookState.{BookState}
 use Rattle.nav_desk.specs.BookState as books
 use Rattle.mesh_types.specs.Soundness.{link_count, polygon_count}
@@ -15,7 +14,7 @@ use Rattle.nav_script.specs.declared.line.Line.{Line}
 use Rattle.nav_script.specs.declared.script.Script.{Script}
 use Rattle.nav_steps.specs.Counts.{HasRisenAtMost}
 use Rattle.nav_play.specs.PlayRecord.{PlayState, AddsSome, IsSaid, IsTextFrom, first_state_of, ground_of, state_after, state_after_all}
-use Rattle.nav_play.specs.PlayTotals.{AreTotals, IsCounted}
+use Rattle.nav_play.specs.PlayTotals.{AreTotalsFrom, IsCounted}
 use Rattle.nav_play.specs.Tallies.{HasCounted, no_answers, totals_at}
 use Rattle.nav_play.specs.Work.{jobs_from, jobs_of}
 use Rattle.nav_play.specs.Players.{jobs_of_held}
@@ -33,12 +32,12 @@ pub record IsPlaying (first : PlayState) (lines : List Line) (done : ℕ) (state
   pub whole : state.book.whole ≡ first.book.whole
   pub lanes : length state.adds ≡ length first.adds
   pub workers : length state.held ≡ length first.held
-  pub steps : after + jobs_from state (drop done lines) ≡ before + (tile_count first.book.whole.setting + jobs_from first lines)
+  pub steps : after + jobs_from state (drop done lines) ≡ before + jobs_from first lines
   pub least : before ≤ after
 
--- no line was played: the steps are those of the beginning
+-- no line was played
 pub no_line_played : (first : PlayState) (lines : List Line) (state : PlayState) (text : List ℕ) (totals : Totals) (before after : ℕ) → state ≡ first → text ≡ []
-    → totals ≡ no_answers → after ≡ before + tile_count first.book.whole.setting → IsPlaying first lines 0 state text totals before after
+    → totals ≡ no_answers → after ≡ before → IsPlaying first lines 0 state text totals before after
 no_line_played first lines state text totals before after same empty none steps = record {
   way = begun IsSaid first lines state text same empty;
   tallied = tally_begun first lines state totals same none;
@@ -80,7 +79,7 @@ pub line_broken : (first : PlayState) (lines items : List Line) (done : ℕ) (st
     → items ≡ lines
     → done < length items
     → HasRisenAtMost (jobs_of state (get_or items done d)) after later
-    → HasRisenAtMost (tile_count first.book.whole.setting + jobs_from first lines) before later
+    → HasRisenAtMost (jobs_from first lines) before later
 line_broken first lines items done state text totals before after later d playing same there risen =
     let this = get_or items done d in
     let jobs = same_jobs lines done state (state_after state this) this (next_line lines items done d same there) refl in
@@ -94,7 +93,7 @@ pub all_steps : (first : PlayState) (lines items : List Line) (done : ℕ) (stat
     → IsPlaying first lines done state text totals before after
     → items ≡ lines
     → length items ≤ done
-    → after ≡ before + (tile_count first.book.whole.setting + jobs_from first lines)
+    → after ≡ before + jobs_from first lines
 all_steps first lines items done state text totals before after playing same end =
     let none = no_jobs lines done state (no_line lines items done same end) in
     omega (arith, playing.steps, none)
@@ -124,19 +123,18 @@ whole_text first lines items done state text more totals before after k n playin
     }
 
 -- the totals at the end
-pub are_totals : (setting : Setting) (field : Field) (script : Script) (items : List Line) (done : ℕ) (state : PlayState) (text : List ℕ) (totals told : Totals) (before after : ℕ)
-    → IsPlaying (first_state_of setting field script) script.lines done state text totals before after
-    → items ≡ script.lines
+pub are_totals : (first : PlayState) (lines items : List Line) (done : ℕ) (state : PlayState) (text : List ℕ) (totals told : Totals) (before after : ℕ)
+    → IsPlaying first lines done state text totals before after
+    → items ≡ lines
     → length items ≤ done
     → told ≡ totals_at state.book totals
-    → AreTotals setting field script told
-are_totals setting field script items done state text totals told before after playing same end told_is =
-    let first = first_state_of setting field script in
-    let last = last_state first script.lines items done state text totals before after playing same end in
+    → AreTotalsFrom first lines told
+are_totals first lines items done state text totals told before after playing same end told_is =
+    let last = last_state first lines items done state text totals before after playing same end in
     let counted = counts playing.tallied.given totals playing.tallied.is in
-    subst (AreTotals setting field script) (sym told_is) (record {
+    subst (AreTotalsFrom first lines) (sym told_is) (record {
       given = playing.tallied.given;
-      right = ended IsCounted first script.lines done state playing.tallied.given playing.tallied.way (no_line script.lines items done same end);
+      right = ended IsCounted first lines done state playing.tallied.given playing.tallied.way (no_line lines items done same end);
       counted = record { paths = counted.paths; no_path = counted.no_path; no_start = counted.no_start; no_goal = counted.no_goal; cost = counted.cost };
       ends = record {
         entries = ap (λ (s : PlayState). length s.book.history) (sym last);

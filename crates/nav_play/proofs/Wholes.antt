@@ -1,20 +1,16 @@
--- What lines write at a full history; and that no line changes the ground, the number of lanes or the number of workers.
+-- That no line changes the ground, the number of lanes or the number of workers.
 use Rattle.std.proofs.Common.{◌≡◌, ℕ, List, [], ◌∷◌, Bool, true, false, Option, Some, None, ap, ◌∙◌, sym, refl}
-use Rattle.std.specs.Prelude.{◌+◌, ◌==◌, if◌then◌else◌, length}
+use Rattle.std.specs.Prelude.{if◌then◌else◌, length}
 use Rattle.std.specs.List.{fold}
-use Rattle.std.proofs.lemmas.Bool.{eq-eqb}
 use Rattle.std.proofs.lemmas.List.{length-replicate, length-set}
-use Rattle.nav_ground.specs.declared.history.TheConstants.{HISTORY_LIMIT}
 use Rattle.nav_ground.specs.declared.history.Request.{Request}
 use Rattle.nav_desk.specs.declared.answers.Job.{Job}
 use Rattle.nav_desk.specs.BookState.{BookState}
-use Rattle.nav_desk.specs.Steps.{after_request, next_reply}
-use Rattle.nav_record.specs.declared.step.StepAnswer.TheVariants.{HistoryFull}
-use Rattle.nav_record.specs.Texts.{reply_text, step_text}
+use Rattle.nav_desk.specs.Steps.{after_request, is_full, requested}
 use Rattle.nav_script.specs.declared.line.Line.{Line}
 use Rattle.nav_script.specs.declared.line.Line.TheVariants.{Lane, Ask, Add, Remove, Undo, Settle, Aim, Claim, Back, Submit, Publish}
 use Rattle.nav_play.specs.Jobs.{book_after_back, book_after_claim, book_after_submit}
-use Rattle.nav_play.specs.PlayRecord.{PlayState, held_by, request_text, requested, state_after}
+use Rattle.nav_play.specs.PlayRecord.{PlayState, held_by, state_after}
 use Rattle.nav_play.specs.Settling.{after_job, after_settle, all_built, awaited_tiles, settling}
 
 jobs_whole : (book : BookState) (tiles : List ℕ) → (fold after_job book tiles).whole ≡ book.whole
@@ -25,15 +21,8 @@ pub settled_whole : (book : BookState) → (after_settle book).whole ≡ book.wh
 unfolding all_built
 settled_whole book = jobs_whole (settling book) (awaited_tiles (settling book))
 
--- at a full history
-pub request_full : (book : BookState) (request : Request) → length book.history ≡ HISTORY_LIMIT
-    → request_text book request ≡ step_text (HistoryFull (length book.history))
-request_full book request full =
-    ap (λ (b : Bool). if b then step_text (HistoryFull (length book.history)) else reply_text (length book.history + 1) (next_reply book request))
-    (eq-eqb (length book.history) HISTORY_LIMIT full)
-
 requested_whole : (book : BookState) (lane : ℕ) (request : Request) → (requested book lane request).whole ≡ book.whole
-requested_whole book lane request = by_case (length book.history == HISTORY_LIMIT)
+requested_whole book lane request = by_case (is_full book)
   where
     by_case : (full : Bool) → (if full then book else after_request book lane request).whole ≡ book.whole
     by_case true = refl

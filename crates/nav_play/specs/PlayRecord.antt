@@ -1,9 +1,8 @@
 -- What a play of a script may write: line by line the answers of the book, and then how far the play came.
-use Rattle.std.specs.Prelude.{◌≡◌, ℕ, ◌+◌, ◌-◌, ◌==◌, if◌then◌else◌, List, [], ◌∷◌, ◌++◌, length, replicate, fold, slice_get, slice_set, get_or, unwrap_or, Option, None}
+use Rattle.std.specs.Prelude.{◌≡◌, ℕ, ◌-◌, List, [], ◌∷◌, ◌++◌, length, replicate, fold, slice_get, slice_set, get_or, unwrap_or, Option, None, Result, Ok, Err}
 use Rattle.nav_base.specs.declared.answers.Question.{Question}
 use Rattle.nav_ground.specs.declared.setting.Setting.{Setting}
 use Rattle.nav_ground.specs.declared.field.Field.{Field}
-use Rattle.nav_ground.specs.declared.history.TheConstants.{HISTORY_LIMIT}
 use Rattle.nav_ground.specs.declared.history.Ground.{Ground}
 use Rattle.nav_ground.specs.declared.history.Reply.{Reply}
 use Rattle.nav_ground.specs.declared.history.Reply.TheVariants.{Added, Removed, Full, Dead}
@@ -12,10 +11,11 @@ use Rattle.nav_ground.specs.declared.history.Request.TheVariants as requests
 use Rattle.nav_ground.specs.Layers.{layers_of}
 use Rattle.mesh_types.specs.declared.answers.Answer.{Answer}
 use Rattle.mesh_types.specs.Right.{IsRight}
+use Rattle.nav_desk.specs.declared.answers.HistoryFull.{HistoryFull}
 use Rattle.nav_desk.specs.declared.answers.Job.{Job}
 use Rattle.nav_desk.specs.BookState.{BookState}
 use Rattle.nav_desk.specs.BookState as books
-use Rattle.nav_desk.specs.Steps.{next_reply, after_aim, after_publish, after_request, publication}
+use Rattle.nav_desk.specs.Steps.{after_aim, after_publish, publication, request_answer, requested}
 use Rattle.nav_book.specs.Results.{published_mesh}
 use Rattle.nav_record.specs.declared.step.StepAnswer.TheVariants as answers
 use Rattle.nav_record.specs.Texts.{reply_text, step_text, answer_text, done_text}
@@ -46,15 +46,13 @@ opening_state whole lanes workers = record {
   held = replicate workers None;
 }
 
--- the book after a request: with one entry more, or as it was where its history is full
-abbrev pub requested : BookState → ℕ → Request → BookState
-requested book lane request = if length book.history == HISTORY_LIMIT then book else after_request book lane request
+-- what is written after a request that is answered so: the number of its entry and its reply, or that the history is full
+abbrev pub answered_text : Result (ℕ × Reply) HistoryFull → List ℕ
+answered_text (Ok answer) = reply_text answer.0 answer.1
+answered_text (Err refused) = step_text (answers.HistoryFull refused.len)
 
--- what is written after a request: the number of its entry and its reply, or that the history is full
 abbrev pub request_text : BookState → Request → List ℕ
-request_text book request =
-    if length book.history == HISTORY_LIMIT then step_text (answers.HistoryFull (length book.history))
-    else reply_text (length book.history + 1) (next_reply book request)
+request_text book request = answered_text (request_answer book request)
 
 -- the number of an obstacle that was added; 0 where none was
 abbrev pub number_added : Reply → ℕ
@@ -63,9 +61,13 @@ number_added Removed = 0
 number_added (Full live) = 0
 number_added (Dead number) = 0
 
--- the number that an add line gets for its lane
+-- the number that an add line gets for its lane, whose request is answered so
+abbrev pub number_answered : Result (ℕ × Reply) HistoryFull → ℕ
+number_answered (Ok answer) = number_added answer.1
+number_answered (Err refused) = 0
+
 abbrev pub number_got : BookState → Request → ℕ
-number_got book request = if length book.history == HISTORY_LIMIT then 0 else number_added (next_reply book request)
+number_got book request = number_answered (request_answer book request)
 
 -- the numbers of a lane; those of all lanes, with one more for one lane; and the one of the lane's j-th add line, where j is at least 1
 abbrev pub adds_of : List (List ℕ) → ℕ → List ℕ

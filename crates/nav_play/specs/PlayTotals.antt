@@ -80,10 +80,14 @@ pub record TellEnd (state : PlayState) (totals : Totals) : Type 0 where
   pub polys : totals.polys ≡ polygon_count (published_mesh state.book).tiles
   pub links : totals.links ≡ link_count (published_mesh state.book)
 
--- these are totals of the play of a script over a field: they count right answers to its `path` lines, and tell how far it came. Whether the
+-- these are totals of lines from a state on: they count right answers to the `path` lines, and tell how far the play came. Whether the
 -- answers are those that are written does not matter: all right answers give the same totals
-pub record AreTotals (setting : Setting) (field : Field) (script : Script) (totals : Totals) : Type 0 where
+pub record AreTotalsFrom (state : PlayState) (lines : List Line) (totals : Totals) : Type 0 where
   pub given : List Answer
-  pub right : AreSaid IsCounted (first_state_of setting field script) script.lines given
+  pub right : AreSaid IsCounted state lines given
   pub counted : CountAnswers given totals
-  pub ends : TellEnd (state_after_all (first_state_of setting field script) script.lines) totals
+  pub ends : TellEnd (state_after_all state lines) totals
+
+-- and these of the play of a script over a field
+abbrev pub AreTotals : Setting → Field → Script → Totals → Type 0
+AreTotals setting field script totals = AreTotalsFrom (first_state_of setting field script) script.lines totals

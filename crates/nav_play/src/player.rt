@@ -2,11 +2,15 @@
 
 ghost use Rattle.std.specs.Prelude.{◌≡◌, ◌+◌, ◌<◌, ◌++◌, IfOk, OnOk, OnErr, length};
 ghost use Rattle.nav_ground.specs.History.{IsRequest};
-ghost use Rattle.nav_play.specs.PlayRecord.{PlayState, AddsSome, IsSaid, IsAnswered, state_after, request_text, requested, number_got, number_added};
-ghost use Rattle.nav_play.specs.Players.{player_state, IsPlayable, IsSteady};
-ghost use Rattle.nav_play.specs.Tallies.{HasRoom, HasCounted, HasCountedAnswer};
-ghost use Rattle.nav_play.specs.Work.{jobs_of};
+ghost use Rattle.nav_desk.specs.Steps.{requested};
+ghost use Rattle.nav_play.specs.PlayRecord.{AddsSome, IsAnswered, IsSaid, IsTextFrom, number_added, number_got, request_text, state_after};
+ghost use Rattle.nav_play.specs.PlayTotals.{AreTotalsFrom};
+ghost use Rattle.nav_play.specs.Players.{HasBegun, IsPlayable, IsSteady, player_state};
+ghost use Rattle.nav_play.specs.Tallies.{HasCounted, HasCountedAnswer, HasRoom, totals_at};
+ghost use Rattle.nav_play.specs.Work.{jobs_from, jobs_of};
 ghost use Rattle.nav_query.specs.Questions.{IsAnswerable};
+ghost use Rattle.nav_script.specs.Limits.{IsScript};
+ghost use Rattle.nav_script.specs.declared.script.Way.TheVariants.{Play};
 ghost use Rattle.nav_steps.specs.Counts.{HasRisenAtMost};
 
 use crate::lanes::Lanes;
@@ -16,15 +20,15 @@ use crate::workers::Workers;
 use nav_base::Question;
 use nav_book::{Book, HistoryFull};
 use nav_ground::{Reply, Request};
-use nav_record::{StepAnswer, Totals, write_answer, write_reply, write_step};
-use nav_script::Line;
+use nav_record::{StepAnswer, Totals, write_answer, write_done, write_reply, write_step};
+use nav_script::{Line, Script};
 use nav_steps::Steps;
 use std::alloc::{AllocError, Global};
+use std::sync::Wait;
 use std::sync::ledger::Ledger;
 
 /// The book, the lane of the next request, what the add lines of each lane got, what the workers hold, the totals of what `path` lines were
-/// answered so far, and the text so far.
-#[derive(Drop)]
+/// answered so far, and the text so far. It is not `Drop`, since its book is not: `end` ends it.
 pub(crate) struct Player {
     pub(crate) book: Book,
     pub(crate) lane: u32,
@@ -35,9 +39,49 @@ pub(crate) struct Player {
 }
 
 impl Player {
-    /// Plays one line and writes what it is answered. It takes one step for each tile that a claim of the line gives.
-    pub(crate) fn step<L: Ledger>(
+    /// Plays the lines of a script from its beginning, writes what they are answered and how far the play came, and gives its totals. It takes
+    /// one step for each tile that a claim of a line gives.
+    pub(crate) fn play<R: Wait, L: Ledger>(
         &mut self,
+        rt: &R,
+        alloc: Global,
+        script: &Script,
+        steps: &mut Steps<L>,
+    ) -> Result<Totals, AllocError>
+        requires script { IsScript Play script.now }
+        requires begun { HasBegun script.now self.old }
+        ensures text { OnOk result (IsTextFrom (player_state self.old) script.now.lines self.new.text.items) }
+        ensures totals { IfOk result (λ totals. AreTotalsFrom (player_state self.old) script.now.lines totals) }
+        ensures steps { OnOk result (steps.new ≡ steps.old + jobs_from (player_state self.old) script.now.lines) }
+        ensures most { HasRisenAtMost (jobs_from (player_state self.old) script.now.lines) steps.old steps.new }
+    {
+        for line in script.lines.as_slice() {
+            self.step(rt, alloc, line, steps)?;
+        }
+        write_done(&mut self.text, self.book.published(), self.book.length())?;
+        Ok(told(&self.book, self.totals))
+    }
+
+    /// The text so far. It ends the book.
+    pub(crate) fn end<R: Wait>(self, rt: &R) -> Vec<u8>
+        ensures { result.items ≡ self.text.items }
+    {
+        let Player {
+            book,
+            lane: _,
+            adds: _,
+            workers: _,
+            totals: _,
+            text,
+        } = self;
+        book.end(rt);
+        text
+    }
+
+    /// Plays one line and writes what it is answered. It takes one step for each tile that a claim of the line gives.
+    fn step<R: Wait, L: Ledger>(
+        &mut self,
+        rt: &R,
         alloc: Global,
         line: &Line,
         steps: &mut Steps<L>,
@@ -68,7 +112,7 @@ impl Player {
                 self.remove(dropped)
             }
             Line::Settle => {
-                let answer = settle(alloc, &mut self.book, &mut self.workers, steps)?;
+                let answer = settle(rt, alloc, &mut self.book, &mut self.workers, steps)?;
                 write_step(&mut self.text, &answer)
             }
             Line::Aim => {
@@ -88,7 +132,7 @@ impl Player {
                 write_step(&mut self.text, &answer)
             }
             Line::Publish => {
-                let answer = publish(alloc, &mut self.book)?;
+                let answer = publish(rt, alloc, &mut self.book)?;
                 write_step(&mut self.text, &answer)
             }
         }
@@ -98,8 +142,8 @@ impl Player {
     fn ask(&mut self, alloc: Global, question: &Question) -> Result<(), AllocError>
         requires answerable { IsAnswerable question.now }
         requires room { HasRoom self.old.totals }
-        ensures text { OnOk result (AddsSome (IsAnswered self.old.book question.now) self.old.text.items self.new.text.items) }
-        ensures totals { OnOk result (HasCountedAnswer self.old.book question.now self.old.totals self.new.totals) }
+        ensures text { OnOk result (AddsSome (IsAnswered self.old.book.state question.now) self.old.text.items self.new.text.items) }
+        ensures totals { OnOk result (HasCountedAnswer self.old.book.state question.now self.old.totals self.new.totals) }
         ensures state { player_state self.new ≡ player_state self.old }
         ensures workers { self.new.workers ≡ self.old.workers }
     {
@@ -111,8 +155,8 @@ impl Player {
     /// Makes a request of the current lane that the obstacle with a number goes.
     fn remove(&mut self, number: u32) -> Result<(), AllocError>
         requires { IsSteady self.old }
-        ensures text { OnOk result (self.new.text.items ≡ self.old.text.items ++ request_text self.old.book (Request.Remove number)) }
-        ensures book { self.new.book ≡ requested self.old.book self.old.lane (Request.Remove number) }
+        ensures text { OnOk result (self.new.text.items ≡ self.old.text.items ++ request_text self.old.book.state (Request.Remove number)) }
+        ensures book { self.new.book.state ≡ requested self.old.book.state self.old.lane (Request.Remove number) }
         ensures lane { self.new.lane ≡ self.old.lane }
         ensures adds { self.new.adds ≡ self.old.adds }
         ensures workers { self.new.workers ≡ self.old.workers }
@@ -127,9 +171,9 @@ impl Player {
     fn request(&mut self, request: Request) -> Result<u32, AllocError>
         requires request { IsRequest request }
         requires steady { IsSteady self.old }
-        ensures number { IfOk result (λ number. number ≡ number_got self.old.book request) }
-        ensures text { OnOk result (self.new.text.items ≡ self.old.text.items ++ request_text self.old.book request) }
-        ensures book { self.new.book ≡ requested self.old.book self.old.lane request }
+        ensures number { IfOk result (λ number. number ≡ number_got self.old.book.state request) }
+        ensures text { OnOk result (self.new.text.items ≡ self.old.text.items ++ request_text self.old.book.state request) }
+        ensures book { self.new.book.state ≡ requested self.old.book.state self.old.lane request }
         ensures lane { self.new.lane ≡ self.old.lane }
         ensures adds { self.new.adds ≡ self.old.adds }
         ensures workers { self.new.workers ≡ self.old.workers }
@@ -146,6 +190,20 @@ impl Player {
                 Ok(0)
             }
         }
+    }
+}
+
+/// The totals of a play at its end, from those of its answers.
+fn told(book: &Book, totals: Totals) -> Totals
+    ensures { result ≡ totals_at book.now.state totals }
+{
+    let (polys, links) = book.mesh_counts();
+    Totals {
+        entries: book.length(),
+        published: book.published(),
+        polys,
+        links,
+        ..totals
     }
 }
 

@@ -1,16 +1,14 @@
 //! The play of a whole script.
 
-ghost use Rattle.std.specs.Prelude.{◌≡◌, ◌+◌, ◌++◌, [], length, IfOk, OnOk};
+ghost use Rattle.std.specs.Prelude.{◌≡◌, ◌+◌, IfOk, OnOk};
 ghost use Rattle.nav_ground.specs.Limits.{IsSetting};
 ghost use Rattle.nav_ground.specs.Fields.{IsField};
 ghost use Rattle.nav_ground.specs.Grounds.{IsBuiltFor, IsSized};
 ghost use Rattle.nav_ground.specs.Tiling.{tile_count};
 ghost use Rattle.nav_play.specs.PlayRecord.{IsPlayText, first_state_of};
 ghost use Rattle.nav_play.specs.PlayTotals.{AreTotals};
-ghost use Rattle.nav_play.specs.Players.{IsSteady, player_state};
-ghost use Rattle.nav_play.specs.Tallies.{no_answers, totals_at};
+ghost use Rattle.nav_play.specs.Players.{HasBegun, player_state};
 ghost use Rattle.nav_play.specs.Work.{builds_of};
-ghost use Rattle.nav_record.specs.Texts.{done_text};
 ghost use Rattle.nav_record.specs.declared.totals.Totals.{Totals};
 ghost use Rattle.nav_script.specs.Limits.{IsScript};
 ghost use Rattle.nav_script.specs.declared.script.Way.TheVariants.{Play};
@@ -23,7 +21,7 @@ use crate::workers::Workers;
 use layer_cut::ground;
 use nav_book::Book;
 use nav_ground::{Field, Setting};
-use nav_record::{Totals, write_done};
+use nav_record::Totals;
 use nav_script::Script;
 use nav_steps::Steps;
 use std::alloc::{AllocError, Global};
@@ -62,15 +60,18 @@ pub fn play<R: Wait, L: Ledger>(
     ensures steps { OnOk result (steps.new ≡ steps.old + builds_of setting field script.now) }
     ensures most { HasRisenAtMost (builds_of setting field script.now) steps.old steps.new }
 {
-    let mut player = begin(alloc, setting, field, script, steps)?;
-    for line in script.lines.as_slice() {
-        player.step(alloc, line, steps)?;
-    }
-    Ok(ended(player)?)
+    let mut player = begin(rt, alloc, setting, field, script, steps)?;
+    let totals = player.play(rt, alloc, script, steps);
+    let bytes = player.end(rt);
+    Ok(PlayText {
+        bytes,
+        totals: totals?,
+    })
 }
 
 /// The player of a script over a field, before its first line. It takes one step for each tile.
-fn begin<L: Ledger>(
+fn begin<R: Wait, L: Ledger>(
+    rt: &R,
     alloc: Global,
     setting: Setting,
     field: Field,
@@ -83,52 +84,21 @@ fn begin<L: Ledger>(
     requires script { IsScript Play script.now }
     requires built { IsBuiltFor setting }
     ensures state { IfOk result (λ player. player_state player ≡ first_state_of setting field script.now) }
-    ensures text { IfOk result (λ player. player.text.items ≡ []) }
-    ensures totals { IfOk result (λ player. player.totals ≡ no_answers) }
-    ensures steady { IfOk result IsSteady }
+    ensures begun { IfOk result (HasBegun script.now) }
     ensures steps { OnOk result (steps.new ≡ steps.old + tile_count setting) }
     ensures most { HasRisenAtMost (tile_count setting) steps.old steps.new }
 {
     let level = ground(alloc, setting, field)?;
     let tiles = build_tiles(alloc, &level, &[], steps)?;
+    let adds = Lanes::new(alloc, script.lanes)?;
+    let workers = Workers::new(alloc, script.workers)?;
+    let (book, _eyes) = Book::begin(rt, alloc, Arc::new(alloc, level)?, tiles, 0)?;
     Ok(Player {
-        book: Book::begin(alloc, Arc::new(alloc, level)?, tiles)?,
+        book,
         lane: 0,
-        adds: Lanes::new(alloc, script.lanes)?,
-        workers: Workers::new(alloc, script.workers)?,
+        adds,
+        workers,
         totals: nothing(),
         text: Vec::new(alloc),
     })
-}
-
-/// The last line of a play, and its totals.
-fn ended(player: Player) -> Result<PlayText, AllocError>
-    ensures text { IfOk result (λ text. text.bytes.items ≡ player.text.items ++ done_text player.book.published (length player.book.history)) }
-    ensures totals { IfOk result (λ text. text.totals ≡ totals_at player.book player.totals) }
-{
-    let Player {
-        book,
-        totals,
-        mut text,
-        ..
-    } = player;
-    write_done(&mut text, book.published(), book.length())?;
-    Ok(PlayText {
-        bytes: text,
-        totals: told(&book, totals),
-    })
-}
-
-/// The totals of a play at its end, from those of its answers.
-fn told(book: &Book, totals: Totals) -> Totals
-    ensures { result ≡ totals_at book.now totals }
-{
-    let (polys, links) = book.mesh_counts();
-    Totals {
-        entries: book.length(),
-        published: book.published(),
-        polys,
-        links,
-        ..totals
-    }
 }

@@ -14,6 +14,7 @@ use nav_book::{Book, Job, Published, Submitted, TileResult, build_job};
 use nav_record::StepAnswer;
 use nav_steps::Steps;
 use std::alloc::{AllocError, Global};
+use std::sync::Wait;
 use std::sync::ledger::Ledger;
 
 /// A worker claims a tile. One that is not busy and is given a tile builds it at once, with one step, and holds it from then on.
@@ -25,13 +26,13 @@ pub(crate) fn claim<L: Ledger>(
     steps: &mut Steps<L>,
 ) -> Result<StepAnswer, AllocError>
     requires there { worker < length workers.old }
-    requires held { AreHeld book.old.whole workers.old }
-    ensures answer { IfOk result (λ answer. answer ≡ claim_said book.old worker (held_job workers.old worker)) }
-    ensures book { OnOk result (book.new ≡ book_after_claim book.old (held_job workers.old worker)) }
-    ensures jobs { OnOk result (jobs_of_held workers.new ≡ slice_set (jobs_of_held workers.old) worker (held_after_claim book.old (held_job workers.old worker))) }
-    ensures held { OnOk result (AreHeld book.new.whole workers.new) }
-    ensures steps { OnOk result (steps.new ≡ steps.old + jobs_of_claim book.old (held_job workers.old worker)) }
-    ensures most { HasRisenAtMost (jobs_of_claim book.old (held_job workers.old worker)) steps.old steps.new }
+    requires held { AreHeld book.old.state.whole workers.old }
+    ensures answer { IfOk result (λ answer. answer ≡ claim_said book.old.state worker (held_job workers.old worker)) }
+    ensures book { OnOk result (book.new.state ≡ book_after_claim book.old.state (held_job workers.old worker)) }
+    ensures jobs { OnOk result (jobs_of_held workers.new ≡ slice_set (jobs_of_held workers.old) worker (held_after_claim book.old.state (held_job workers.old worker))) }
+    ensures held { OnOk result (AreHeld book.new.state.whole workers.new) }
+    ensures steps { OnOk result (steps.new ≡ steps.old + jobs_of_claim book.old.state (held_job workers.old worker)) }
+    ensures most { HasRisenAtMost (jobs_of_claim book.old.state (held_job workers.old worker)) steps.old steps.new }
 {
     if workers.is_busy(worker) {
         return Ok(StepAnswer::Busy { worker });
@@ -54,10 +55,10 @@ fn built<L: Ledger>(
     job: Job,
     steps: &mut Steps<L>,
 ) -> Result<TileResult, AllocError>
-    requires job { IsJob book.now.whole.setting job }
-    ensures rules { IsBook book.now }
+    requires job { IsJob book.now.state.whole.setting job }
+    ensures rules { IsBook book.now.state }
     ensures job { IfOk result (λ made. job_built made ≡ job) }
-    ensures made { IfOk result (IsBuild book.now.whole) }
+    ensures made { IfOk result (IsBuild book.now.state.whole) }
     ensures step { steps.new ≡ steps.old + 1 }
 {
     let mesh = build_job(alloc, book.level(), &job, steps)?;
@@ -68,11 +69,11 @@ fn built<L: Ledger>(
 /// A worker puts back the job of the tile that it holds.
 pub(crate) fn put_back(book: &mut Book, workers: &mut Workers, worker: u32) -> StepAnswer
     requires there { worker < length workers.old }
-    requires held { AreHeld book.old.whole workers.old }
+    requires held { AreHeld book.old.state.whole workers.old }
     ensures answer { result ≡ back_said worker (held_job workers.old worker) }
-    ensures book { book.new ≡ book_after_back book.old (held_job workers.old worker) }
+    ensures book { book.new.state ≡ book_after_back book.old.state (held_job workers.old worker) }
     ensures jobs { jobs_of_held workers.new ≡ slice_set (jobs_of_held workers.old) worker None }
-    ensures held { AreHeld book.new.whole workers.new }
+    ensures held { AreHeld book.new.state.whole workers.new }
 {
     match workers.take(worker) {
         None => StepAnswer::Idle { worker },
@@ -86,11 +87,11 @@ pub(crate) fn put_back(book: &mut Book, workers: &mut Workers, worker: u32) -> S
 /// A worker submits the tile that it holds.
 pub(crate) fn submit(book: &mut Book, workers: &mut Workers, worker: u32) -> StepAnswer
     requires there { worker < length workers.old }
-    requires held { AreHeld book.old.whole workers.old }
-    ensures answer { result ≡ submit_said book.old worker (held_job workers.old worker) }
-    ensures book { book.new ≡ book_after_submit book.old (held_job workers.old worker) }
+    requires held { AreHeld book.old.state.whole workers.old }
+    ensures answer { result ≡ submit_said book.old.state worker (held_job workers.old worker) }
+    ensures book { book.new.state ≡ book_after_submit book.old.state (held_job workers.old worker) }
     ensures jobs { jobs_of_held workers.new ≡ slice_set (jobs_of_held workers.old) worker None }
-    ensures held { AreHeld book.new.whole workers.new }
+    ensures held { AreHeld book.new.state.whole workers.new }
 {
     match workers.take(worker) {
         None => StepAnswer::Idle { worker },
@@ -105,11 +106,15 @@ pub(crate) fn submit(book: &mut Book, workers: &mut Workers, worker: u32) -> Ste
 }
 
 /// Publishes what was aimed at, where no tile is awaited.
-pub(crate) fn publish(alloc: Global, book: &mut Book) -> Result<StepAnswer, AllocError>
-    ensures answer { IfOk result (λ answer. answer ≡ publication_said (publication book.old)) }
-    ensures book { OnOk result (book.new ≡ after_publish book.old) }
+pub(crate) fn publish<R: Wait>(
+    rt: &R,
+    alloc: Global,
+    book: &mut Book,
+) -> Result<StepAnswer, AllocError>
+    ensures answer { IfOk result (λ answer. answer ≡ publication_said (publication book.old.state)) }
+    ensures book { OnOk result (book.new.state ≡ after_publish book.old.state) }
 {
-    let published = book.publish(alloc)?;
+    let published = book.publish(rt, alloc)?;
     Ok(match published {
         Published::New { k } => StepAnswer::Published { k },
         Published::Same { k } => StepAnswer::Same { k },
@@ -119,26 +124,27 @@ pub(crate) fn publish(alloc: Global, book: &mut Book) -> Result<StepAnswer, Allo
 
 /// Puts back every job, so that no worker holds a tile, builds every tile that is awaited for the whole history, with one step each, and
 /// publishes it.
-pub(crate) fn settle<L: Ledger>(
+pub(crate) fn settle<R: Wait, L: Ledger>(
+    rt: &R,
     alloc: Global,
     book: &mut Book,
     workers: &mut Workers,
     steps: &mut Steps<L>,
 ) -> Result<StepAnswer, AllocError>
-    ensures answer { IfOk result (λ answer. answer ≡ StepAnswer.Settled (length book.old.history)) }
-    ensures book { OnOk result (book.new ≡ after_settle book.old) }
+    ensures answer { IfOk result (λ answer. answer ≡ StepAnswer.Settled (length book.old.state.history)) }
+    ensures book { OnOk result (book.new.state ≡ after_settle book.old.state) }
     // So the publish at its end never has to wait for a tile.
-    ensures shown { OnOk result (book.new.published ≡ length book.old.history) }
+    ensures shown { OnOk result (book.new.state.published ≡ length book.old.state.history) }
     ensures jobs { jobs_of_held workers.new ≡ replicate (length (jobs_of_held workers.old)) None }
-    ensures held { AreHeld book.new.whole workers.new }
-    ensures steps { OnOk result (steps.new ≡ steps.old + length (awaited_tiles (settling book.old))) }
-    ensures most { HasRisenAtMost (length (awaited_tiles (settling book.old))) steps.old steps.new }
+    ensures held { AreHeld book.new.state.whole workers.new }
+    ensures steps { OnOk result (steps.new ≡ steps.old + length (awaited_tiles (settling book.old.state))) }
+    ensures most { HasRisenAtMost (length (awaited_tiles (settling book.old.state))) steps.old steps.new }
 {
     workers.drop_all();
     book.put_back_all();
     let k = book.aim();
     build_all(alloc, book, steps)?;
-    let _ = book.publish(alloc)?;
+    let _ = book.publish(rt, alloc)?;
     Ok(StepAnswer::Settled { k })
 }
 
@@ -148,11 +154,11 @@ fn build_all<L: Ledger>(
     book: &mut Book,
     steps: &mut Steps<L>,
 ) -> Result<(), AllocError>
-    requires free { IsUnclaimed book.old }
-    ensures book { OnOk result (book.new ≡ all_built book.old) }
-    ensures none { OnOk result (awaited_tiles book.new ≡ []) }
-    ensures steps { OnOk result (steps.new ≡ steps.old + length (awaited_tiles book.old)) }
-    ensures most { HasRisenAtMost (length (awaited_tiles book.old)) steps.old steps.new }
+    requires free { IsUnclaimed book.old.state }
+    ensures book { OnOk result (book.new.state ≡ all_built book.old.state) }
+    ensures none { OnOk result (awaited_tiles book.new.state ≡ []) }
+    ensures steps { OnOk result (steps.new ≡ steps.old + length (awaited_tiles book.old.state)) }
+    ensures most { HasRisenAtMost (length (awaited_tiles book.old.state)) steps.old steps.new }
 {
     while let Some(job) = book.claim(alloc)? {
         let made = built(alloc, book, job, steps)?;

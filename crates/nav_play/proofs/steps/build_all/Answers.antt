@@ -10,7 +10,7 @@ returns-in_err-job-clause-most g c = record { least = c.loop-job.invariant.least
 
 pub returns-in_err-made-clause-most : goal.returns-in_err-made-clause-most
 returns-in_err-made-clause-most g c =
-    let left = one_left c.loop-job.book c.in_ok-job.field-0 c.in-Some.job c.loop-job.invariant.free c.in_ok-job.ensures.job c.in-Some.is in
+    let left = one_left c.loop-job.book.state c.in_ok-job.field-0 c.in-Some.job c.loop-job.invariant.free c.in_ok-job.ensures.job c.in-Some.is in
     record {
       least = omega (arith, c.loop-job.invariant.least, c.built.ensures.step);
       most_risen = omega (arith, c.loop-job.invariant.count, c.built.ensures.step, left);
@@ -18,16 +18,16 @@ returns-in_err-made-clause-most g c =
 
 pub loop-job-smaller : goal.loop-job-smaller
 loop-job-smaller g c =
-    let turned = turn c.loop-job.book c.claim.new.self c.submit.new.self c.in_ok-job.field-0 c.in-Some.job c.loop-job.invariant.free c.built.ensures.rules
+    let turned = turn c.loop-job.book.state c.claim.new.self.state c.submit.new.self.state c.in_ok-job.field-0 c.in-Some.job c.loop-job.invariant.free c.built.ensures.rules
     c.in_ok-job.ensures.job c.in-Some.is c.in_ok-job.ensures.claimed
-    (c.submit.ensures.stored ∙ ap (λ (j : Job). after_submit c.claim.new.self j.tile j.shapes) c.in_ok-made.ensures.job) in
+    (c.submit.ensures.stored ∙ ap (λ (j : Job). after_submit c.claim.new.self.state j.tile j.shapes) c.in_ok-made.ensures.job) in
     omega (arith, turned.fewer)
 
 pub loop-job-preserved : goal.loop-job-preserved
 loop-job-preserved g c =
-    let turned = turn c.loop-job.book c.claim.new.self c.submit.new.self c.in_ok-job.field-0 c.in-Some.job c.loop-job.invariant.free c.built.ensures.rules
+    let turned = turn c.loop-job.book.state c.claim.new.self.state c.submit.new.self.state c.in_ok-job.field-0 c.in-Some.job c.loop-job.invariant.free c.built.ensures.rules
     c.in_ok-job.ensures.job c.in-Some.is c.in_ok-job.ensures.claimed
-    (c.submit.ensures.stored ∙ ap (λ (j : Job). after_submit c.claim.new.self j.tile j.shapes) c.in_ok-made.ensures.job) in
+    (c.submit.ensures.stored ∙ ap (λ (j : Job). after_submit c.claim.new.self.state j.tile j.shapes) c.in_ok-made.ensures.job) in
     record {
       free = turned.free;
       left = turned.left ∙ c.loop-job.invariant.left;
@@ -38,12 +38,12 @@ loop-job-preserved g c =
 
 pub returns-clause-book : goal.returns-clause-book
 returns-clause-book g c =
-    let end = turns_end c.loop-job.book c.in_ok-job.field-0 c.loop-job.invariant.free c.in_ok-job.ensures.job c.in_default.is in
+    let end = turns_end c.loop-job.book.state c.in_ok-job.field-0 c.loop-job.invariant.free c.in_ok-job.ensures.job c.in_default.is in
     c.in_ok-job.ensures.claimed ∙ end.same ∙ sym end.built ∙ c.loop-job.invariant.left
 
 pub returns-clause-steps : goal.returns-clause-steps
 returns-clause-steps g c =
-    let end = turns_end c.loop-job.book c.in_ok-job.field-0 c.loop-job.invariant.free c.in_ok-job.ensures.job c.in_default.is in
+    let end = turns_end c.loop-job.book.state c.in_ok-job.field-0 c.loop-job.invariant.free c.in_ok-job.ensures.job c.in_default.is in
     let none = ap length end.left in
     omega (arith, c.loop-job.invariant.count, none)
 
@@ -52,5 +52,5 @@ returns-clause-most g c = record { least = c.loop-job.invariant.least; most_rise
 
 pub returns-clause-none : goal.returns-clause-none
 returns-clause-none g c =
-    let end = turns_end c.loop-job.book c.in_ok-job.field-0 c.loop-job.invariant.free c.in_ok-job.ensures.job c.in_default.is in
+    let end = turns_end c.loop-job.book.state c.in_ok-job.field-0 c.loop-job.invariant.free c.in_ok-job.ensures.job c.in_default.is in
     ap awaited_tiles (c.in_ok-job.ensures.claimed ∙ end.same) ∙ end.left

@@ -18,7 +18,7 @@ returns-clause-jobs g c = jobs_none c.args.workers.now c.drop_all.new.self c.dro
 pub returns-clause-shown : goal.returns-clause-shown
 returns-clause-shown g c =
     let aimed = c.aim-k.ensures.aimed in
-    let back = c.put_back_all.ensures in
-    let built : c.build_all.new.book ≡ all_built (settling c.args.book.now) =
+    let back = c.put_back_all.ensures.back in
+    let built : c.build_all.new.book.state ≡ all_built (settling c.args.book.now.state) =
     c.in_ok-build_all.ensures.book ∙ ap all_built (aimed ∙ ap after_aim back) in
-    ap (λ (b : BookState). b.published) c.in_ok-publish.ensures.published ∙ ap (λ (b : BookState). (after_publish b).published) built ∙ settled_shows c.args.book.now (ap awaited_tiles (sym built) ∙ c.in_ok-build_all.ensures.none)
+    ap (λ (b : BookState). b.published) c.in_ok-publish.ensures.published ∙ ap (λ (b : BookState). (after_publish b).published) built ∙ settled_shows c.args.book.now.state (ap awaited_tiles (sym built) ∙ c.in_ok-build_all.ensures.none)
