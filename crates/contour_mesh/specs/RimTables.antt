@@ -1,5 +1,5 @@
 -- RimTables: the rim of a tile by tables of what stands at the positions of its sides.
-use Rattle.std.specs.Prelude.{ℕ, ◌+◌, ◌-◌, Bool, false, ◌&&◌, List, [], map, Option, is_some, unwrap_or}
+use Rattle.std.specs.Prelude.{ℕ, ◌+◌, ◌-◌, ◌^◌, ◌<◌, ◌≤◌, Bool, false, ◌&&◌, List, [], map, Option, is_some, unwrap_or}
 use Rattle.std.specs.Option.{option_map_or}
 use Rattle.std.specs.List.{flat_map, range_with_len}
 use Rattle.std.specs.List.Sorted.{IsSortedBy}
@@ -41,6 +41,11 @@ is_listed_in tables door side position =
 -- the levels of the first cell that stands there
 abbrev pub pair_in : SideTables → Door → ℕ → ℕ → LevelPair
 pair_in tables door side position = level_pair side (unwrap_or (first_at tables.cells (door_place door side position)) some_cell)
+
+-- a run of positions of a door on a side, counted from its first, whose positions are 32-bit numbers
+pub record IsRunAlong (side : ℕ) (door : Door) (run : Run) : Type 0 where
+  pub order : run.first ≤ run.last
+  pub inside : first_position side door + run.last + 1 < 2 ^ 32
 
 -- what the rim lists for a door on a side, by the tables
 abbrev pub entry_in : SideTables → Door → ℕ → Run → RimEdge

@@ -4,7 +4,7 @@ ghost use Rattle.std.specs.Prelude.{◌≡◌, ◌<◌, ◌≤◌, IfOk, All, le
 ghost use Rattle.nav_ground.specs.Limits.{IsSetting};
 ghost use Rattle.nav_ground.specs.Cells.{IsCells, IsCut, IsInTile};
 ghost use Rattle.nav_ground.specs.Tiling.{tile_count, tile_window};
-ghost use Rattle.mesh_types.specs.Regions.{AreRegionsOf};
+ghost use Rattle.mesh_types.specs.Regions.{AreRegionsOf, regions_of};
 ghost use Rattle.mesh_types.specs.Soundness.{IsFit};
 ghost use Rattle.mesh_types.specs.ContourMeshes.{doors_of, door_links, door_rim, facet_polygon, facets_of, parts_mesh};
 ghost use Rattle.contour_walk.specs.Tables.{IsTableOf};
@@ -45,17 +45,32 @@ pub fn contour_mesh_over(
 {
     let regions = regions(alloc, &free)?;
     let table = region_table(alloc, &free, setting, &regions)?;
-    let parts = parts(
-        alloc,
-        free.cells.as_slice(),
-        &regions,
-        &table,
-        setting.error,
-    )?;
-    match parts {
+    mesh_over_regions(alloc, free, setting, &regions, &table)
+}
+
+/// The same by the regions of the tile and their table.
+fn mesh_over_regions(
+    alloc: Global,
+    free: FreeLayer,
+    setting: &Setting,
+    regions: &Regions,
+    table: &RegionTable,
+) -> Result<ContourMesh, AllocError>
+    requires setting { IsSetting setting.now }
+    requires cells { IsCut free.cells }
+    requires tile { IsInTile setting.now free.tile free.cells }
+    requires regions { AreRegionsOf free.cells regions.now }
+    requires all { regions.now ≡ regions_of free.cells }
+    requires table { IsTableOf free.cells regions.now.regions table.now }
+    requires window { table.now.window ≡ tile_window setting.now free.tile }
+    ensures value { IfOk result (IsMeshOrCells setting.now free) }
+    ensures fit { IfOk result (IfMade (IsFit setting.now)) }
+{
+    let cells = free.cells.as_slice();
+    match parts(alloc, cells, regions, table, setting.error)? {
         None => Ok(ContourMesh::NotCut(free)),
         Some(parts) => {
-            let mesh = mesh(alloc, free, &regions, &table, parts.as_slice())?;
+            let mesh = mesh(alloc, free, regions, table, parts.as_slice())?;
             Ok(ContourMesh::Made(mesh))
         }
     }
@@ -80,16 +95,8 @@ fn mesh(
 {
     let cells = free.cells.as_slice();
     let polys = part_polygons(alloc, cells, regions, table, parts)?;
-    let doors = doors(alloc, parts)?;
-    let WaysOut { links, rim } = ways(
-        alloc,
-        cells,
-        regions,
-        table,
-        doors.as_slice(),
-        free.tile,
-        polys.len() as u32,
-    )?;
+    let count = polys.len() as u32;
+    let WaysOut { links, rim } = part_ways(alloc, cells, regions, table, parts, free.tile, count)?;
     Ok(TileMesh {
         tile: free.tile,
         free,
@@ -123,27 +130,47 @@ struct WaysOut {
     rim: Items<RimEdge>,
 }
 
-/// The ways through doors.
-fn ways(
+/// The ways out of the polygons of parts, of which there are so many.
+fn part_ways(
+    alloc: Global,
+    cells: &[Cell],
+    regions: &Regions,
+    table: &RegionTable,
+    parts: &[Part],
+    tile: TileNo,
+    polygons: u32,
+) -> Result<WaysOut, AllocError>
+    requires cells { IsCells cells.now }
+    requires regions { AreRegionsOf cells.now regions.now }
+    requires table { IsTableOf cells.now regions.now.regions table.now }
+    requires window { IsFieldWindow table.now.window }
+    requires parts { All IsCutPart parts.now }
+    requires each { length parts.now ≤ length regions.now.regions }
+    requires few { polygons ≤ 8000000 }
+    requires polygons { polygons ≡ length (facets_of parts.now) }
+    ensures links { IfOk result (λ ways. ways.links ≡ door_links tile (doors_of (facets_of parts.now))) }
+    ensures rim { IfOk result (λ ways. ways.rim ≡ door_rim table.now.window cells.now regions.now (doors_of (facets_of parts.now))) }
+{
+    let doors = doors(alloc, parts)?;
+    let doors = doors.as_slice();
+    let links = door_links(alloc, doors, tile, polygons)?;
+    let rim = rim(alloc, cells, regions, table, doors)?;
+    Ok(WaysOut { links, rim })
+}
+
+/// What the rim lists for doors.
+fn rim(
     alloc: Global,
     cells: &[Cell],
     regions: &Regions,
     table: &RegionTable,
     doors: &[Door],
-    tile: TileNo,
-    polygons: u32,
-) -> Result<WaysOut, AllocError>
+) -> Result<Items<RimEdge>, AllocError>
     requires cells { IsCells cells.now }
     requires table { IsTableOf cells.now regions.now.regions table.now }
     requires window { IsFieldWindow table.now.window }
-    requires meet { All (MeetsFacing doors.now) doors.now }
-    requires corners { All JoinsCorners doors.now }
-    requires polygons { All (λ (door : Door). door.polygon < polygons) doors.now }
-    ensures links { IfOk result (λ ways. ways.links ≡ door_links tile doors.now) }
-    ensures rim { IfOk result (λ ways. ways.rim ≡ door_rim table.now.window cells.now regions.now doors.now) }
+    ensures { IfOk result (λ rim. rim ≡ door_rim table.now.window cells.now regions.now doors.now) }
 {
-    let links = door_links(alloc, doors, tile, polygons)?;
     let tables = side_tables(alloc, cells, regions, table, doors)?;
-    let rim = door_rim(alloc, &table.window, &tables, doors)?;
-    Ok(WaysOut { links, rim })
+    door_rim(alloc, &table.window, &tables, doors)
 }

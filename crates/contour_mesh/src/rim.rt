@@ -1,13 +1,13 @@
 //! What the rim of a tile lists for its doors.
 
-ghost use Rattle.std.specs.Prelude.{◌≡◌, ◌<◌, ◌≤◌, ◌+◌, ◌-◌, ◌^◌, ◌++◌, [], IfOk, IfSome, OnOk, false, length, map};
+ghost use Rattle.std.specs.Prelude.{◌≡◌, ◌<◌, ◌≤◌, ◌+◌, ◌-◌, ◌^◌, ◌++◌, [], IfOk, IfSome, OnOk, All, false, length, map};
 ghost use Rattle.std.specs.Option.{option_map_or};
 ghost use Rattle.std.specs.List.{range_with_len};
 ghost use Rattle.mesh_types.specs.Runs.{label_if};
 ghost use Rattle.mesh_types.specs.StripMeshes.{level_pair};
 ghost use Rattle.mesh_types.specs.ContourMeshes.{first_position, is_same_door};
 ghost use Rattle.contour_mesh.specs.Sides.{IsFieldWindow};
-ghost use Rattle.contour_mesh.specs.RimTables.{AreInOrder, is_listed_in, pair_in, entry_in, labels_in, entries_on, rim_in};
+ghost use Rattle.contour_mesh.specs.RimTables.{AreInOrder, IsRunAlong, is_listed_in, pair_in, entry_in, labels_in, entries_on, rim_in};
 
 use crate::placed::first_at;
 use crate::side_place::SidePlace;
@@ -72,7 +72,23 @@ fn push_entries_on(
 {
     label_positions(tables, door, side, labels)?;
     let parts = runs(alloc, labels.as_slice())?;
-    let parts = parts.as_slice();
+    push_runs(alloc, tables, door, side, parts.as_slice(), rim)
+}
+
+/// Appends what the rim lists for a door on a side along runs of its positions.
+fn push_runs(
+    alloc: Global,
+    tables: &SideTables,
+    door: &Door,
+    side: u32,
+    parts: &[Run],
+    rim: &mut Vec<RimEdge>,
+) -> Result<(), AllocError>
+    requires order { AreInOrder tables.now }
+    requires side { side < 4 }
+    requires runs { All (IsRunAlong side door.now) parts.now }
+    ensures { OnOk result (rim.new.items ≡ rim.old.items ++ map (entry_in tables.now door.now side) parts.now) }
+{
     for part in parts {
         rim.push(entry(alloc, tables, door, side, *part)?)?;
     }
@@ -143,8 +159,7 @@ fn entry(
 ) -> Result<RimEdge, AllocError>
     requires tables { AreInOrder tables.now }
     requires side { side < 4 }
-    requires order { part.first ≤ part.last }
-    requires inside { first_position side door.now + part.last + 1 < 2 ^ 32 }
+    requires run { IsRunAlong side door.now part }
     ensures { IfOk result (λ entry. entry ≡ entry_in tables.now door.now side part) }
 {
     let first = first_position(side, door) + part.first;

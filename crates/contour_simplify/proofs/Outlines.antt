@@ -1,13 +1,13 @@
 -- Outlines: what the runs leave, one after the other.
-use Rattle.std.proofs.Common.{◌≡◌, ℕ, ◌+◌, ◌-◌, ◌<◌, ◌≤◌, Bool, true, false, List, [], ◌∷◌, ◌++◌, length, get_or, take, drop, arith, refl, sym, subst, ap, ◌∙◌}
+use Rattle.std.proofs.Common.{◌≡◌, ℕ, ◌+◌, ◌-◌, ◌<◌, ◌≤◌, Bool, true, false, List, [], ◌∷◌, ◌++◌, length, get_or, map, take, drop, arith, refl, sym, subst, ap, ◌∙◌}
 use Rattle.std.specs.Prelude.{All, nat_lt, if◌then◌else◌, ◌↔◌, filter}
 use Rattle.std.specs.List.Sorted.{IsPermutation}
 use Rattle.std.specs.Ordering.{is_eq}
 use Rattle.std.specs.List.{flat_map}
 use Rattle.std.proofs.lemmas.Bool.{ltb-true, ltb-false}
-use Rattle.std.proofs.lemmas.List.{get_or-map, take_more, take_all, length-drop, length-map, get_or-drop, append-nil}
+use Rattle.std.proofs.lemmas.List.{get_or-map, map-append, take_more, take_all, length-drop, length-map, get_or-drop, append-nil}
 use Rattle.std.proofs.lemmas.List.Concat.{flat_map-append}
-use Rattle.std.proofs.lemmas.List.Elements.{All-append, All-map, All-filter, filter_agree}
+use Rattle.std.proofs.lemmas.List.Elements.{All-append, All-map, All-filter, filter-append, filter_agree}
 use Rattle.std.proofs.lemmas.List.Sorted.{list_any-IsPermutation}
 use Rattle.std.proofs.lemmas.List.Sums.{length-filter, count_by-le-length}
 use Rattle.std.proofs.lemmas.Slice.Zip.{length-zip, get_or-zip}
@@ -23,6 +23,28 @@ use Rattle.mesh_types.specs.Rings.{IsRing, beginnings}
 use Rattle.mesh_types.specs.LinkOrder.{point_cmp}
 use Rattle.mesh_types.specs.Simplified.{runs_between, twice_round, kept_corners, kept_edges, begins_among, codes_of, simplified_of, IsOutline, IfOutline}
 use Rattle.mesh_types.proofs.RingLaws.{few_edges}
+
+-- what the kept edges of a list give, where one edge more is kept, and where it is left
+module _ {B : Type 0} (f : UnitEdge → B) (p : UnitEdge → Bool) (edges : List UnitEdge) (k : ℕ) (d : UnitEdge) (made : List B) (there : k < length edges)
+    (before : made ≡ map f (filter p (take k edges))) where
+  one_more : map f (filter p (take k edges)) ++ map f (filter p (get_or edges k d ∷ [])) ≡ map f (filter p (take (k + 1) edges))
+  one_more =
+      sym (map-append f (filter p (take k edges)) (filter p (get_or edges k d ∷ [])))
+      ∙ ap (map f) (sym (filter-append p (take k edges) (get_or edges k d ∷ [])))
+      ∙ ap (λ (es : List UnitEdge). map f (filter p es)) (sym (take_more edges k d there))
+
+  alone : (b : Bool) → p (get_or edges k d) ≡ b → map f (filter p (get_or edges k d ∷ [])) ≡ map f (if b then get_or edges k d ∷ [] else [])
+  alone b is = ap (λ (b : Bool). map f (if b then get_or edges k d ∷ [] else [])) is
+
+  pub kept_more : p (get_or edges k d) ≡ true → made ++ f (get_or edges k d) ∷ [] ≡ map f (filter p (take (k + 1) edges))
+  kept_more passes =
+      ap (λ (ys : List B). ys ++ f (get_or edges k d) ∷ []) before
+      ∙ ap (λ (ys : List B). map f (filter p (take k edges)) ++ ys) (sym (alone true passes)) ∙ one_more
+
+  pub left_more : p (get_or edges k d) ≡ false → made ≡ map f (filter p (take (k + 1) edges))
+  left_more fails =
+      before ∙ sym (append-nil (map f (filter p (take k edges))))
+      ∙ ap (λ (ys : List B). map f (filter p (take k edges)) ++ ys) (sym (alone false fails)) ∙ one_more
 
 runs_count : (stops : List ℕ) → length (runs_between stops) ≡ length stops - 1
 runs_count stops = omega (arith, length-zip stops (drop 1 stops), length-drop 1 stops)

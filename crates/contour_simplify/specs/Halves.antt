@@ -1,5 +1,5 @@
 -- Halves: parts of runs.
-use Rattle.std.specs.Prelude.{ℕ, ◌≡◌, ◌<◌, true, false, List, length, All}
+use Rattle.std.specs.Prelude.{ℕ, ◌≡◌, ◌+◌, ◌<◌, true, false, List, [], ◌∷◌, ◌++◌, length, slice_index_or, take, drop, All}
 use Rattle.std.specs.List.{list_any}
 use Rattle.nav_base.specs.declared.point.Point.{Point}
 use Rattle.nav_base.specs.Point.{IsCellCorner}
@@ -28,3 +28,11 @@ pub record IsSplit (error : ℕ) (half : Half) (place : ℕ) : Type 0 where
   pub some : list_any (deviates_over error half.first half.last) half.inner.now ≡ true
   pub there : place < length half.inner.now
   pub best : first_best_place (deviates_more half.first half.last) half.inner.now ≡ place
+
+-- the two parts of a half at an inner corner were put onto a stack, the one before that corner on top
+pub record ArePartsOn (half : Half) (place : ℕ) (d : Point) (old new : List Half) : Type 0 where
+  pub before : Half
+  pub after : Half
+  pub pushed : new ≡ (old ++ after ∷ []) ++ before ∷ []
+  pub first : IsPart before half.first (take place half.inner.now) (slice_index_or half.inner.now place d)
+  pub second : IsPart after (slice_index_or half.inner.now place d) (drop (place + 1) half.inner.now) half.last

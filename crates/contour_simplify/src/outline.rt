@@ -1,6 +1,6 @@
 //! Outlines: contours with the corners that are kept.
 
-ghost use Rattle.std.specs.Prelude.{◌≡◌, ◌↔◌, ◌<◌, IfOk, length, filter, nat_lt, if◌then◌else◌};
+ghost use Rattle.std.specs.Prelude.{◌≡◌, ◌↔◌, ◌<◌, ◌++◌, [], ◌∷◌, IfOk, OnOk, length, filter, nat_lt, if◌then◌else◌};
 ghost use Rattle.std.specs.List.Sorted.{IsSortedBy};
 ghost use Rattle.mesh_types.specs.Rings.{IsRing, beginnings};
 ghost use Rattle.mesh_types.specs.LinkOrder.{is_point_before};
@@ -9,7 +9,7 @@ ghost use Rattle.mesh_types.specs.Simplified.{simplified_of, IsOutline, IfOutlin
 use crate::kept::{kept_corners, twice_round};
 use crate::run::corner_order;
 use crate::stops::stops;
-use mesh_types::{Outline, Simplified, UnitEdge};
+use mesh_types::{Code, Outline, Simplified, UnitEdge};
 use nav_base::Point;
 use nav_list::Items;
 use std::alloc::{AllocError, Global};
@@ -46,14 +46,27 @@ fn outline(alloc: Global, edges: &[UnitEdge], kept: &[Point]) -> Result<Outline,
     let mut codes = Vec::new(alloc);
     for edge in edges {
         if is_among(kept, edge.from) {
-            corners.push(edge.from)?;
-            codes.push(edge.code)?;
+            push_edge(&mut corners, &mut codes, edge)?;
         }
     }
     Ok(Outline {
         corners: Items::from_vec(corners),
         codes: Items::from_vec(codes),
     })
+}
+
+/// Appends the corner at which an edge begins, and its code.
+fn push_edge(
+    corners: &mut Vec<Point>,
+    codes: &mut Vec<Code>,
+    edge: &UnitEdge,
+) -> Result<(), AllocError>
+    ensures corners { OnOk result (corners.new.items ≡ corners.old.items ++ edge.now.from ∷ []) }
+    ensures codes { OnOk result (codes.new.items ≡ codes.old.items ++ edge.now.code ∷ []) }
+{
+    corners.push(edge.from)?;
+    codes.push(edge.code)?;
+    Ok(())
 }
 
 /// Whether a corner is one of a sorted list.

@@ -1,13 +1,13 @@
 //! Runs: what is kept of the corners between two corners that are kept.
 
-ghost use Rattle.std.specs.Prelude.{◌≡◌, ◌+◌, ◌<◌, IfOk, All, length, reverse, take, drop, slice_index_or, MatchOption};
+ghost use Rattle.std.specs.Prelude.{◌≡◌, ◌+◌, ◌<◌, IfOk, OnOk, All, length, reverse, take, drop, slice_index_or, MatchOption};
 ghost use Rattle.std.specs.List.{IsFirstBest};
 ghost use Rattle.nav_base.specs.declared.point.Point.{Point};
 ghost use Rattle.nav_base.specs.Point.{IsCellCorner};
 ghost use Rattle.mesh_types.specs.LinkOrder.{point_cmp, is_point_before};
 ghost use Rattle.mesh_types.specs.Rings.{AreApart};
 ghost use Rattle.mesh_types.specs.Simplified.{deviates_more, kept_walking, kept_inside};
-ghost use Rattle.contour_simplify.specs.Halves.{IsHalf, IsPart, IsStraight, IsSplit};
+ghost use Rattle.contour_simplify.specs.Halves.{IsHalf, IsPart, ArePartsOn, IsStraight, IsSplit};
 
 use nav_base::{Point, dev, exceeds, less};
 use std::alloc::{AllocError, Global};
@@ -68,15 +68,26 @@ fn walk(
     halves.push(Half { first, inner, last })?;
     while let Some(half) = halves.pop() {
         match split(half, error) {
-            Some(place) => {
-                halves.push(after(half, place))?;
-                halves.push(before(half, place))?;
-            }
+            Some(place) => push_parts(&mut halves, half, place)?,
             None => kept.push(half.last)?,
         }
     }
     kept.pop();
     Ok(kept)
+}
+
+/// Puts the two parts of a half at an inner corner onto a stack, the one before that corner on top.
+fn push_parts<'a>(
+    halves: &mut Vec<Half<'a>>,
+    half: Half<'a>,
+    place: usize,
+) -> Result<(), AllocError>
+    requires { place < length half.inner.now }
+    ensures { (d : Point) → OnOk result (ArePartsOn half.entry place d halves.old.items halves.new.items) }
+{
+    halves.push(after(half, place))?;
+    halves.push(before(half, place))?;
+    Ok(())
 }
 
 /// The half before the inner corner at a place.

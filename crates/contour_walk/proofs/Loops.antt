@@ -1,12 +1,13 @@
 -- One step more of the loops along the sides of a region.
-use Rattle.std.proofs.Common.{◌≡◌, ℕ, ◌+◌, ◌-◌, ◌<◌, ◌≤◌, List, [], ◌∷◌, ◌++◌, length, get_or, map, ap, ◌∙◌, sym, arith, zero, suc}
+use Rattle.std.proofs.Common.{◌≡◌, ℕ, ◌+◌, ◌-◌, ◌<◌, ◌≤◌, List, [], ◌∷◌, ◌++◌, length, get_or, map, ap, ◌∙◌, sym, subst, arith, zero, suc}
 use Rattle.std.specs.Prelude.{reverse, take, drop}
 use Rattle.std.specs.List.{range_with_len}
 use Rattle.std.proofs.Math.Seq.{take-append_seam}
-use Rattle.std.proofs.lemmas.List.{append_assoc, append-nil, map-append, reverse-append, drop_more, drop_all}
+use Rattle.std.proofs.lemmas.List.{append_assoc, append-nil, get_or_default, map-append, reverse-append, drop_more, drop_all}
 use Rattle.std.proofs.lemmas.List.FromFn.{map-range_with_len_more}
 use Rattle.mesh_types.specs.declared.strip.Strip.{Strip}
-use Rattle.contour_walk.specs.Walk.{tops, bottoms, to_right_end, to_left_end, right_side, top_side, left_side, round}
+use Rattle.mesh_types.specs.Regions.{IsUpon}
+use Rattle.contour_walk.specs.Walk.{AreUpon, tops, bottoms, to_right_end, to_left_end, right_side, top_side, left_side, round}
 
 -- a vector all of whose elements were written through a slice
 pub written_back : {X : Type 0} (n : ℕ) (old new : List X) → n ≡ length new → take n (new ++ drop (length new) old) ≡ new
@@ -81,37 +82,37 @@ module _ {X : Type 0} (edge : ℕ → Strip → ℕ → X) (strips : List Strip)
         ap (left_side edge) two_left ∙ ap (λ rest. left_side edge rest ++ (to_left_end edge s t ++ edge 0 s s.x0 ∷ [])) (sym next_left)
 
     -- a strip's right end and the way to that of the next, put into the list
-    pub right_pushed : (before ended topped bottomed whole : List X) → before ++ right_side edge (drop k strips) ≡ whole
-        → ended ≡ before ++ edge 2 s s.x1 ∷ [] → topped ≡ ended ++ tops edge s (t.x1 + 1) (s.x1 + 1)
-        → bottomed ≡ topped ++ bottoms edge t (s.x1 + 1) (t.x1 + 1)
-        → bottomed ++ right_side edge (drop (k + 1) strips) ≡ whole
-    right_pushed before ended topped bottomed whole invariant end top bottom =
+    pub right_pushed : (before ended next whole : List X) → before ++ right_side edge (drop k strips) ≡ whole
+        → ended ≡ before ++ edge 2 s s.x1 ∷ [] → next ≡ ended ++ to_right_end edge s t
+        → next ++ right_side edge (drop (k + 1) strips) ≡ whole
+    right_pushed before ended next whole invariant end way =
         let e = edge 2 s s.x1 in
-        let over_top = tops edge s (t.x1 + 1) (s.x1 + 1) in
-        let over_bottom = bottoms edge t (s.x1 + 1) (t.x1 + 1) in
         let rest = right_side edge (drop (k + 1) strips) in
-        ap (λ es. es ++ rest) (bottom ∙ ap (λ es. es ++ over_bottom) (top ∙ ap (λ es. es ++ over_top) end) ∙ append_assoc (before ++ e ∷ []) over_top over_bottom)
+        ap (λ es. es ++ rest) (way ∙ ap (λ es. es ++ to_right_end edge s t) end)
         ∙ append_assoc (before ++ e ∷ []) (to_right_end edge s t) rest
         ∙ append_assoc before (e ∷ []) (to_right_end edge s t ++ rest)
         ∙ ap (λ es. before ++ es) (sym right_more)
         ∙ invariant
 
     -- the way to a strip's left end, and that end
-    pub left_pushed : (n : ℕ) (old before topped bottomed ended : List X) → n ≡ k + 1 → before ≡ old ++ left_side edge (drop n strips)
-        → topped ≡ before ++ tops edge s s.x0 t.x0 → bottomed ≡ topped ++ bottoms edge t t.x0 s.x0
-        → ended ≡ bottomed ++ edge 0 s s.x0 ∷ []
+    pub left_pushed : (n : ℕ) (old before next ended : List X) → n ≡ k + 1 → before ≡ old ++ left_side edge (drop n strips)
+        → next ≡ before ++ to_left_end edge s t → ended ≡ next ++ edge 0 s s.x0 ∷ []
         → ended ≡ old ++ left_side edge (drop k strips)
-    left_pushed n old before topped bottomed ended next invariant top bottom end =
+    left_pushed n old before next ended upper invariant way end =
         let e = edge 0 s s.x0 in
-        let over_top = tops edge s s.x0 t.x0 in
-        let over_bottom = bottoms edge t t.x0 s.x0 in
         let side = left_side edge (drop (k + 1) strips) in
         end
-        ∙ ap (λ es. es ++ e ∷ []) (bottom ∙ ap (λ es. es ++ over_bottom) top ∙ append_assoc before over_top over_bottom)
+        ∙ ap (λ es. es ++ e ∷ []) way
         ∙ append_assoc before (to_left_end edge s t) (e ∷ [])
-        ∙ ap (λ es. es ++ (to_left_end edge s t ++ e ∷ [])) (invariant ∙ ap (λ m. old ++ left_side edge (drop m strips)) next)
+        ∙ ap (λ es. es ++ (to_left_end edge s t ++ e ∷ [])) (invariant ∙ ap (λ m. old ++ left_side edge (drop m strips)) upper)
         ∙ append_assoc old side (to_left_end edge s t ++ e ∷ [])
         ∙ ap (λ es. old ++ es) (sym left_more)
+
+-- a strip lies on the one before, as they were looked up
+pub upon_at : (strips : List Strip) (k : ℕ) (s t : Strip) → AreUpon strips → k + 1 < length strips → s ≡ get_or strips k s → t ≡ get_or strips (k + 1) t → IsUpon s t
+upon_at strips k s t upon there is is' =
+    subst (λ (y : Strip). IsUpon s y) (sym (is' ∙ get_or_default strips (k + 1) t s there))
+    (subst (λ (x : Strip). IsUpon x (get_or strips (k + 1) s)) (sym is) (upon k s there))
 
 -- the top side is the top of the last strip
 top_of_last : {X : Type 0} (edge : ℕ → Strip → ℕ → X) (strip last : Strip) (rest : List Strip) → last ≡ get_or (strip ∷ rest) (length rest) last
@@ -121,17 +122,18 @@ top_of_last edge strip last (next ∷ rest) is = top_of_last edge next last rest
 
 -- the four sides, one after the other
 pub walked : {X : Type 0} (edge : ℕ → Strip → ℕ → X) (strips : List Strip) (first last : Strip) (a b c d e : List X) → 0 < length strips
-    → first ≡ get_or strips 0 first → last ≡ get_or strips (length strips - 1) last → a ≡ []
+    → first ≡ get_or strips 0 first → last ≡ get_or strips (length strips - 1) last
     → b ≡ a ++ bottoms edge first first.x0 (first.x1 + 1) → c ≡ b ++ right_side edge strips → d ≡ c ++ tops edge last last.x0 (last.x1 + 1)
-    → e ≡ d ++ left_side edge strips → e ≡ round edge strips
-walked edge [] first last a b c d e some is is' none bottom right top left = absurd (omega (arith, some))
-walked {X = X} edge (strip ∷ rest) first last a b c d e some is is' none bottom right top left =
+    → e ≡ d ++ left_side edge strips → e ≡ a ++ round edge strips
+walked edge [] first last a b c d e some is is' bottom right top left = absurd (omega (arith, some))
+walked {X = X} edge (strip ∷ rest) first last a b c d e some is is' bottom right top left =
     let strips : List Strip = strip ∷ rest in
     let under : List X = bottoms edge strip strip.x0 (strip.x1 + 1) in
-    let bottom' : b ≡ under = bottom ∙ ap (λ es. es ++ bottoms edge first first.x0 (first.x1 + 1)) none ∙ ap (λ (s : Strip). bottoms edge s s.x0 (s.x1 + 1)) is in
+    let bottom' : b ≡ a ++ under = bottom ∙ ap (λ (s : Strip). a ++ bottoms edge s s.x0 (s.x1 + 1)) is in
     let one : length strips - 1 ≡ length rest = omega arith in
     let top' : tops edge last last.x0 (last.x1 + 1) ≡ top_side edge strips = sym (top_of_last edge strip last rest (is' ∙ ap (λ k. get_or strips k last) one)) in
     left
     ∙ ap (λ es. es ++ left_side edge strips) (top ∙ ap (λ es. c ++ es) top' ∙ ap (λ es. es ++ top_side edge strips) (right ∙ ap (λ es. es ++ right_side edge strips) bottom'))
-    ∙ append_assoc (under ++ right_side edge strips) (top_side edge strips) (left_side edge strips)
-    ∙ append_assoc under (right_side edge strips) (top_side edge strips ++ left_side edge strips)
+    ∙ append_assoc ((a ++ under) ++ right_side edge strips) (top_side edge strips) (left_side edge strips)
+    ∙ append_assoc (a ++ under) (right_side edge strips) (top_side edge strips ++ left_side edge strips)
+    ∙ append_assoc a under (right_side edge strips ++ (top_side edge strips ++ left_side edge strips))

@@ -1,6 +1,6 @@
 //! The contour of a region.
 
-ghost use Rattle.std.specs.Prelude.{◌≡◌, ◌*◌, ◌<◌, ◌≤◌, IfOk, All, length, slice_index_or, ℕ, false, take, drop, ◌++◌};
+ghost use Rattle.std.specs.Prelude.{◌≡◌, ◌*◌, ◌<◌, ◌≤◌, IfOk, OnOk, All, length, slice_index_or, ℕ, false, take, drop, ◌++◌};
 ghost use Rattle.nav_ground.specs.Limits.{IsSetting};
 ghost use Rattle.nav_ground.specs.Cells.{IsCells};
 ghost use Rattle.nav_ground.specs.Tiling.{tile_count, tile_window};
@@ -36,30 +36,34 @@ fn walk(
     requires upon { AreUpon strips.now }
     ensures { IfOk result (λ edges. edges.items ≡ round (edge_at table.now.window cells.now regions.now) strips.now) }
 {
+    let mut edges = Vec::new(alloc);
+    push_round(&mut edges, cells, regions, table, strips)?;
+    Ok(edges)
+}
+
+/// Appends that walk.
+fn push_round(
+    edges: &mut Vec<UnitEdge>,
+    cells: &[Cell],
+    regions: &Regions,
+    table: &RegionTable,
+    strips: &[Strip],
+) -> Result<(), AllocError>
+    requires cells { IsCells cells.now }
+    requires table { IsTableOf cells.now regions.now.regions table.now }
+    requires some { 0 < length strips.now }
+    requires fit { All IsFit strips.now }
+    requires upon { AreUpon strips.now }
+    ensures { OnOk result (edges.new.items ≡ edges.old.items ++ round (edge_at table.now.window cells.now regions.now) strips.now) }
+{
     let first = &strips[0];
     let last = &strips[strips.len() - 1];
-    let mut edges = Vec::new(alloc);
-    push_bottoms(
-        &mut edges,
-        cells,
-        regions,
-        table,
-        first,
-        first.x0,
-        first.x1 + 1,
-    )?;
-    push_right_side(&mut edges, cells, regions, table, strips)?;
-    push_tops(
-        &mut edges,
-        cells,
-        regions,
-        table,
-        last,
-        last.x0,
-        last.x1 + 1,
-    )?;
-    push_left_side(&mut edges, cells, regions, table, strips)?;
-    Ok(edges)
+    let first_end = first.x1 + 1;
+    let last_end = last.x1 + 1;
+    push_bottoms(edges, cells, regions, table, first, first.x0, first_end)?;
+    push_right_side(edges, cells, regions, table, strips)?;
+    push_tops(edges, cells, regions, table, last, last.x0, last_end)?;
+    push_left_side(edges, cells, regions, table, strips)
 }
 
 /// The first place at which an edge begins at the least corner.

@@ -2,6 +2,7 @@
 
 ghost use Rattle.std.specs.Prelude.{◌≡◌, ◌<◌, ◌≤◌, ◌+◌, ◌++◌, ◌∷◌, [], OnOk, All, length};
 ghost use Rattle.nav_ground.specs.Cells.{IsCells};
+ghost use Rattle.mesh_types.specs.Regions.{IsUpon};
 ghost use Rattle.contour_walk.specs.Tables.{IsFit, IsTableOf};
 ghost use Rattle.contour_walk.specs.Walk.{edge_at, bottoms, tops, to_right_end, to_left_end, right_side, left_side, AreUpon};
 
@@ -87,6 +88,48 @@ fn push_end(
     Ok(())
 }
 
+/// Appends the edges from the right end of a strip to that of the one above: back along its top, or out along the bottom of that one.
+fn push_to_right_end(
+    edges: &mut Vec<UnitEdge>,
+    cells: &[Cell],
+    regions: &Regions,
+    table: &RegionTable,
+    lower: &Strip,
+    upper: &Strip,
+) -> Result<(), AllocError>
+    requires cells { IsCells cells.now }
+    requires table { IsTableOf cells.now regions.now.regions table.now }
+    requires lower { IsFit lower.now }
+    requires upper { IsFit upper.now }
+    requires upon { IsUpon lower.now upper.now }
+    ensures { OnOk result (edges.new.items ≡ edges.old.items ++ to_right_end (edge_at table.now.window cells.now regions.now) lower.now upper.now) }
+{
+    let lower_end = lower.x1 + 1;
+    let upper_end = upper.x1 + 1;
+    push_tops(edges, cells, regions, table, lower, upper_end, lower_end)?;
+    push_bottoms(edges, cells, regions, table, upper, lower_end, upper_end)
+}
+
+/// Appends the edges from the left end of a strip to that of the one below: out along the top of that one, or back along its bottom.
+fn push_to_left_end(
+    edges: &mut Vec<UnitEdge>,
+    cells: &[Cell],
+    regions: &Regions,
+    table: &RegionTable,
+    lower: &Strip,
+    upper: &Strip,
+) -> Result<(), AllocError>
+    requires cells { IsCells cells.now }
+    requires table { IsTableOf cells.now regions.now.regions table.now }
+    requires lower { IsFit lower.now }
+    requires upper { IsFit upper.now }
+    requires upon { IsUpon lower.now upper.now }
+    ensures { OnOk result (edges.new.items ≡ edges.old.items ++ to_left_end (edge_at table.now.window cells.now regions.now) lower.now upper.now) }
+{
+    push_tops(edges, cells, regions, table, lower, lower.x0, upper.x0)?;
+    push_bottoms(edges, cells, regions, table, upper, upper.x0, lower.x0)
+}
+
 /// Appends the right side of a stack of strips, upward: the right end of each strip, and then back along its top or out along the bottom
 /// of the next.
 pub fn push_right_side(
@@ -106,25 +149,7 @@ pub fn push_right_side(
         let strip = &strips[k];
         push_end(edges, cells, regions, table, strip, strip.x1, 2)?;
         if k + 1 < strips.len() {
-            let next = &strips[k + 1];
-            push_tops(
-                edges,
-                cells,
-                regions,
-                table,
-                strip,
-                next.x1 + 1,
-                strip.x1 + 1,
-            )?;
-            push_bottoms(
-                edges,
-                cells,
-                regions,
-                table,
-                next,
-                strip.x1 + 1,
-                next.x1 + 1,
-            )?;
+            push_to_right_end(edges, cells, regions, table, strip, &strips[k + 1])?;
         }
     }
     Ok(())
@@ -148,9 +173,7 @@ pub fn push_left_side(
     for k in (0..strips.len()).rev() {
         let strip = &strips[k];
         if k + 1 < strips.len() {
-            let next = &strips[k + 1];
-            push_tops(edges, cells, regions, table, strip, strip.x0, next.x0)?;
-            push_bottoms(edges, cells, regions, table, next, next.x0, strip.x0)?;
+            push_to_left_end(edges, cells, regions, table, strip, &strips[k + 1])?;
         }
         push_end(edges, cells, regions, table, strip, strip.x0, 0)?;
     }

@@ -5,7 +5,7 @@ ghost use Rattle.std.specs.BinaryHeap.{heap_items};
 ghost use Rattle.std.specs.List.Sorted.{IsPermutation};
 ghost use Rattle.graph_search.specs.declared.arcs.Vertex.{Vertex};
 ghost use Rattle.graph_search.specs.declared.arcs.Arc.{Arc};
-ghost use Rattle.graph_search.specs.Walks.{arc_of, ends_of, IsCheapest, IsApart, IsSearchable};
+ghost use Rattle.graph_search.specs.Walks.{arc_of, IsCheapest, IsApart, IsSearchable};
 ghost use Rattle.graph_search.specs.Visited.{visit_at, IsClosed, IsWritten};
 ghost use Rattle.graph_search.specs.Entries.{entry};
 ghost use Rattle.graph_search.specs.Searching.{IsTree, IsRanked, IsKnown, IsClosing, AllRelaxed, AreBeingRelaxed, IsFollowing, KeepsRanks, IsBegun, IsWalkTo, closed_as};
@@ -43,9 +43,7 @@ pub fn cheapest_walk<G: Graph>(
         if vertex == to {
             return Ok(Some(walk_to(alloc, &search.visits, from, to)?));
         }
-        ends.clear();
-        graph.push_ends(vertex, &mut ends)?;
-        search.relax(alloc, graph, vertex, ends.as_slice())?;
+        search.relax(alloc, graph, vertex, &mut ends)?;
     }
     Ok(None)
 }
@@ -98,18 +96,17 @@ impl Search {
         Ok(())
     }
 
-    /// Follows the arcs of a vertex that was just closed.
+    /// Follows the arcs of a vertex that was just closed. The ends are room to work in.
     fn relax<G: Graph>(
         &mut self,
         alloc: Global,
         graph: &G,
         from: Vertex,
-        ends: &[Vertex],
+        ends: &mut Vec<Vertex>,
     ) -> Result<(), AllocError>
         requires sound { G.is_sound graph.now }
         requires searchable { IsSearchable (G.vertices graph.now) (G.arcs graph.now) (G.estimates graph.now) (G.heaviest graph.now) }
         requires there { Contains (G.vertices graph.now) from }
-        requires ends { ends.now ≡ ends_of (G.arcs graph.now from) }
         requires few { self.old.closed ≤ length (G.vertices graph.now) }
         requires known { IsKnown (G.vertices graph.now) (G.estimates graph.now) (visit_at self.old.visits)
             (heap_items self.old.waiting.heap) (self.old.closed * G.heaviest graph.now) self.old.closed }
@@ -126,6 +123,9 @@ impl Search {
             ≤ length (heap_items self.old.waiting.heap) + length (G.arcs graph.now from)) }
         ensures closed { self.new.closed ≡ self.old.closed }
     {
+        ends.clear();
+        graph.push_ends(from, ends)?;
+        let ends = ends.as_slice();
         for (place, to) in ends.iter().enumerate() {
             self.follow(alloc, graph, Step { from, place }, *to)?;
         }

@@ -1,15 +1,16 @@
 -- What the fields of a desk tell of the state that it is seen as.
-use Rattle.std.proofs.Common.{◌≡◌, ◌≢◌, ℕ, ◌+◌, ◌<◌, Bool, true, false, not, ◌&&◌, List, [], length, get_or, Option, None, Some, Ok, Err, ap, sym, ◌∙◌, refl, subst, ⊎_elim, arith}
-use Rattle.std.specs.Prelude.{All, if◌then◌else◌, slice_set, option_map}
+use Rattle.std.proofs.Common.{◌≡◌, ◌≢◌, ℕ, ◌+◌, ◌<◌, Bool, true, false, not, ◌&&◌, List, [], length, get_or, replicate, Option, None, Some, Ok, Err, ap, sym, ◌∙◌, refl, subst, ⊎_elim, arith}
+use Rattle.std.specs.Prelude.{◌≤◌, vec_capacity, All, if◌then◌else◌, slice_set, option_map}
 use Rattle.std.specs.Option.{option_map_or}
 use Rattle.std.proofs.lemmas.Bool.{cases_eq, eq-eqb, ne_eqb}
-use Rattle.std.proofs.lemmas.List.{get_or-set_same, get_or-set_other}
+use Rattle.std.proofs.lemmas.List.{get_or-replicate, get_or-set_same, get_or-set_other, length-replicate}
 use Rattle.std.proofs.lemmas.List.Elements.{All-filter}
 use Rattle.std.specs.Arc.{arc_value}
 use Rattle.nav_ground.specs.declared.history.Request.{Request}
 use Rattle.nav_ground.specs.declared.history.TheConstants.{HISTORY_LIMIT}
 use Rattle.nav_ground.specs.declared.setting.Setting.{Setting}
 use Rattle.nav_ground.specs.declared.shape.Shape.{Shape}
+use Rattle.nav_ground.specs.Grounds.{IsGround}
 use Rattle.nav_ground.specs.Limits.{IsShape}
 use Rattle.nav_ground.specs.Tiling.{tile_count}
 use Rattle.nav_ground.specs.Touching.{is_touching, touching_shapes}
@@ -18,6 +19,7 @@ use Rattle.nav_desk.specs.declared.answers.Published.TheVariants.{New, Same}
 use Rattle.nav_desk.specs.Awaiting.{awaits}
 use Rattle.nav_desk.specs.BookState.{BookState, IsBook, is_awaited, is_claimable, least_awaited, least_claimable, wanted_at}
 use Rattle.nav_desk.specs.Flags.{flag_of, least_below}
+use Rattle.nav_desk.specs.LiveTable.{shapes_in}
 use Rattle.nav_desk.specs.Representation.{state_of, IsKept}
 use Rattle.nav_desk.specs.SameShapes.{are_same}
 use Rattle.nav_desk.specs.Steps.{IsJob, after_claim, after_request, job_of, is_taken, next_job, next_reply, publication, publication_by, request_answer, requested}
@@ -160,3 +162,43 @@ room_step state lane request room =
       sym (ap (λ (b : Bool). if b then state else after_request state lane request) is),
       sym (ap (λ (b : Bool). if b then Err (record { len = length state.history }) else Ok (length state.history + 1, next_reply state request)) is),
     )
+
+-- what is kept at the opening: no entries, nothing alive, and each tile stored without shapes, none marked, awaited or claimed
+pub first_kept : (inside : Inside) → IsGround (arc_value inside.level)
+    → (inside.entries.items ≡ []) × (HISTORY_LIMIT ≤ vec_capacity inside.entries)
+    → (inside.live.items ≡ []) × ((arc_value inside.level).setting.limit ≤ vec_capacity inside.live)
+    → (inside.aimed.items ≡ []) × ((arc_value inside.level).setting.limit ≤ vec_capacity inside.aimed)
+    → inside.target ≡ 0 → inside.published ≡ 0
+    → inside.stored.items ≡ replicate (tile_count (arc_value inside.level).setting) []
+    → inside.dirty ≡ replicate (tile_count (arc_value inside.level).setting) false
+    → inside.waiting ≡ record {
+      awaited = replicate (tile_count (arc_value inside.level).setting) false;
+      claimed = replicate (tile_count (arc_value inside.level).setting) false;
+    } → IsKept inside
+first_kept inside ground entries live aimed target published stored dirty waiting =
+    let setting : Setting = (arc_value inside.level).setting in
+    let count : ℕ = tile_count setting in
+    let flags : inside.waiting.awaited ≡ replicate count false = ap (λ (w : Waiting). w.awaited) waiting in
+    let claims : inside.waiting.claimed ≡ replicate count false = ap (λ (w : Waiting). w.claimed) waiting in
+    record {
+      level = ground;
+      history = rw entries.0 (record { few = omega arith; requests = λ k d there. absurd (omega (arith, there)); replies = λ k entry found. absurd cc });
+      room = entries.1;
+      table = rw (entries.0, live.0) (record { numbers = refl; shapes = λ k d there. absurd (omega (arith, there)) });
+      few = rw live.0 (omega arith);
+      live_room = live.1;
+      aims = omega (arith, target);
+      shows = omega (arith, published);
+      shapes = rw (aimed.0, entries.0, target) refl;
+      aimed_room = aimed.1;
+      lists = ap length stored ∙ length-replicate count [];
+      marks = ap length dirty ∙ length-replicate count false;
+      flags = ap length flags ∙ length-replicate count false;
+      claims = ap length claims ∙ length-replicate count false;
+      clean = λ tile there unmarked. ap (touching_shapes setting tile) (ap shapes_in live.0 ∙ sym aimed.0);
+      awaited = λ tile there.
+          ap (λ (list : List Bool). flag_of list tile) flags ∙ get_or-replicate count tile false false there
+          ∙ sym (ap (λ (shapes : List Shape). awaits setting shapes tile (get_or inside.stored.items tile [])) aimed.0
+          ∙ ap (λ (lists : List (List Shape)). awaits setting [] tile (get_or lists tile [])) stored
+          ∙ ap (awaits setting [] tile) (get_or-replicate count tile [] [] there));
+    }

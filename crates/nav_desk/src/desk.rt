@@ -1,6 +1,6 @@
 //! The desk: the history, which tiles await a build, and who claimed them.
 
-ghost use Rattle.std.specs.Prelude.{◌≡◌, ◌↔◌, ◌+◌, ◌<◌, ◌≤◌, None, [], length, replicate, IsErr, IfOk, IfErr, IfSome, OnOk, OnErr};
+ghost use Rattle.std.specs.Prelude.{◌≡◌, ◌↔◌, ◌+◌, ◌<◌, ◌≤◌, None, [], false, length, replicate, IsErr, IfOk, IfErr, IfSome, OnOk, OnErr, vec_capacity};
 ghost use Rattle.std.specs.Arc.{arc_value};
 ghost use Rattle.nav_ground.specs.Grounds.{IsGround};
 ghost use Rattle.nav_ground.specs.History.{IsHistory, IsRequest};
@@ -58,18 +58,26 @@ impl Desk {
         ensures state { IfOk result (λ desk. desk ≡ first_state (arc_value level)) }
         ensures rules { IfOk result IsBook }
     {
-        let limit = level.setting.limit as usize;
-        let count = tiles(&level.setting);
+        let Room {
+            entries,
+            live,
+            aimed,
+        } = empty_room(alloc, level.setting.limit)?;
+        let TileTables {
+            stored,
+            dirty,
+            waiting,
+        } = tile_tables(alloc, tiles(&level.setting))?;
         Ok(Desk {
-            entries: Vec::with_capacity(alloc, HISTORY_LIMIT as usize)?,
-            live: Vec::with_capacity(alloc, limit)?,
+            level,
+            entries,
+            live,
             target: 0,
             published: 0,
-            aimed: Vec::with_capacity(alloc, limit)?,
-            stored: empty_lists(alloc, count)?,
-            dirty: LeastSet::new(alloc, count)?,
-            waiting: WaitingTiles::new(alloc, count)?,
-            level,
+            aimed,
+            stored,
+            dirty,
+            waiting,
         })
     }
 
@@ -252,6 +260,48 @@ impl Desk {
     {
         self.entries.as_slice()
     }
+}
+
+/// The room of a desk for its history and for live obstacles.
+#[derive(Drop)]
+struct Room {
+    entries: Vec<Entry>,
+    live: Vec<Live>,
+    aimed: Vec<Shape>,
+}
+
+/// The room for a whole history and for so many live obstacles, with nothing in it.
+fn empty_room(alloc: Global, limit: u32) -> Result<Room, AllocError>
+    ensures history { IfOk result (λ room. (room.entries.items ≡ []) × (HISTORY_LIMIT ≤ vec_capacity room.entries)) }
+    ensures live { IfOk result (λ room. (room.live.items ≡ []) × (limit ≤ vec_capacity room.live)) }
+    ensures aimed { IfOk result (λ room. (room.aimed.items ≡ []) × (limit ≤ vec_capacity room.aimed)) }
+{
+    Ok(Room {
+        entries: Vec::with_capacity(alloc, HISTORY_LIMIT as usize)?,
+        live: Vec::with_capacity(alloc, limit as usize)?,
+        aimed: Vec::with_capacity(alloc, limit as usize)?,
+    })
+}
+
+/// What a desk keeps of each tile.
+#[derive(Drop)]
+struct TileTables {
+    stored: Vec<Items<Shape>>,
+    dirty: LeastSet,
+    waiting: WaitingTiles,
+}
+
+/// So many tiles, each stored without shapes, none marked, awaited or claimed.
+fn tile_tables(alloc: Global, count: u32) -> Result<TileTables, AllocError>
+    ensures stored { IfOk result (λ tables. tables.stored.items ≡ replicate count []) }
+    ensures dirty { IfOk result (λ tables. tables.dirty ≡ replicate count false) }
+    ensures waiting { IfOk result (λ tables. tables.waiting ≡ record { awaited = replicate count false; claimed = replicate count false }) }
+{
+    Ok(TileTables {
+        stored: empty_lists(alloc, count)?,
+        dirty: LeastSet::new(alloc, count)?,
+        waiting: WaitingTiles::new(alloc, count)?,
+    })
 }
 
 /// So many empty lists.

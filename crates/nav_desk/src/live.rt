@@ -9,14 +9,14 @@ ghost use Rattle.nav_desk.specs.LiveTable.{is_row_of, rows_without, rows_after, 
 use nav_ground::{Reply, Request, Shape};
 
 /// An obstacle that is alive: the number of the entry that added it, and its shape.
-#[derive(Clone, Copy, PartialEq, Eq, Debug)]
+#[derive(Clone, Copy)]
 pub struct Live {
     pub number: u32,
     pub shape: Shape,
 }
 
 /// What a request is answered, and the shape that came or went by it, if one did.
-#[derive(Clone, Copy, PartialEq, Eq, Debug)]
+#[derive(Clone, Copy)]
 pub(crate) struct Answered {
     pub(crate) reply: Reply,
     pub(crate) changed: Option<Shape>,

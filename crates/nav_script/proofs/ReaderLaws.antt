@@ -1,12 +1,11 @@
 -- The laws of reading a script text line by line.
-use Rattle.std.proofs.Common.{◌≡◌, ℕ, ◌+◌, ◌≤◌, Bool, true, false, leb, List, [], ◌∷◌, ◌++◌, length, Some, Result, Ok, Err, sym, subst, ap, ◌∙◌, arith, length-append}
+use Rattle.std.proofs.Common.{◌≡◌, ℕ, ◌+◌, ◌<◌, ◌≤◌, Bool, true, false, leb, List, [], ◌∷◌, ◌++◌, length, Some, Result, Ok, Err, sym, subst, ap, ◌∙◌, arith, length-append}
 use Rattle.std.proofs.lemmas.Bool.{cond-true, cond-false}
-use Rattle.std.proofs.lemmas.Bool.Decides.{nat_tests}
 use Rattle.nav_text.specs.declared.fault.FaultKind.{FaultKind}
 use Rattle.nav_text.specs.declared.fault.FaultKind.TheVariants as kinds
 use Rattle.nav_text.specs.Faults.{fault_at}
 use Rattle.nav_text.specs.Lines.{lines, is_ended}
-use Rattle.nav_text.specs.Reading.{Verdict, Refuses, read_on, read_end, read}
+use Rattle.nav_text.specs.Reading.{Verdict, Goes, Refuses, read_on, read_end, read}
 use Rattle.nav_script.specs.declared.header.Header.{Header}
 use Rattle.nav_script.specs.declared.line.Line.{Line}
 use Rattle.nav_script.specs.declared.script.Way.{Way}
@@ -37,62 +36,40 @@ at_end : (way : Way) (ended : Bool) (place : Place) (count : ℕ) (those : List 
 unfolding read
 at_end way ended place count those none = ap (read (script_format way ended) place count) none
 
-verdict_full : (way : Way) (lanes workers : ℕ) (before : List Line) (line : List ℕ) → leb 300000 (length before) ≡ true
+pub verdict_full : (way : Way) (lanes workers : ℕ) (before : List Line) (line : List ℕ) → leb 300000 (length before) ≡ true
     → line_verdict way (AtLines lanes workers before) line ≡ Refuses kinds.TooManyLines
 verdict_full way lanes workers before line full = cond-true _ _ _ full
 
-verdict_room : (way : Way) (lanes workers : ℕ) (before : List Line) (line : List ℕ) → leb 300000 (length before) ≡ false → lacks_room way before line ≡ true
+pub verdict_room : (way : Way) (lanes workers : ℕ) (before : List Line) (line : List ℕ) → leb 300000 (length before) ≡ false → lacks_room way before line ≡ true
     → line_verdict way (AtLines lanes workers before) line ≡ Refuses kinds.TooManyLines
 verdict_room way lanes workers before line full room = cond-false _ _ _ full ∙ cond-true _ _ _ room
 
-verdict_read : (way : Way) (lanes workers : ℕ) (before : List Line) (line : List ℕ) (told : LineRead) → leb 300000 (length before) ≡ false → lacks_room way before line ≡ false
+pub verdict_read : (way : Way) (lanes workers : ℕ) (before : List Line) (line : List ℕ) (told : LineRead) → leb 300000 (length before) ≡ false → lacks_room way before line ≡ false
     → told ≡ line_read way lanes workers (adds_before before) line
     → line_verdict way (AtLines lanes workers before) line ≡ verdict_of lanes workers before told
 verdict_read way lanes workers before line told full room e =
     cond-false _ _ _ full ∙ (cond-false _ _ _ room ∙ ap (verdict_of lanes workers before) (sym e))
 
 -- a line that fails gives its fault
-fails : (way : Way) (lanes workers first : ℕ) (text rest : List ℕ) (before : List Line) (line : List ℕ) (more : List (List ℕ)) (kind : FaultKind) (count : ℕ) (refusal : ScriptRefusal)
-    → Keeps way lanes workers first text rest before → lines rest ≡ line ∷ more → line_verdict way (AtLines lanes workers before) line ≡ Refuses kind
+pub fails_next : (way : Way) (lanes workers first : ℕ) (text rest : List ℕ) (before : List Line) (line : List ℕ) (more : List (List ℕ)) (kind : FaultKind) (count : ℕ) (refusal : ScriptRefusal)
+    → Keeps way lanes workers first text rest before → lines rest ≡ line ∷ more → Refuses kind ≡ line_verdict way (AtLines lanes workers before) line
     → count ≡ length before → refusal ≡ refusals.Fault (fault_at (first + count) kind)
     → IsReading (read (script_format way (is_ended text)) (AtLines lanes workers []) first (lines text)) (Err refusal)
-fails way lanes workers first text rest before line more kind count refusal keeps parts is counted refused =
-    rw (refused, counted) (keeps.reads ∙ at_line way (is_ended text) _ _ _ line more (Refuses kind) parts is)
-
-pub fails_full : (way : Way) (lanes workers first : ℕ) (text rest : List ℕ) (before : List Line) (line : List ℕ) (more : List (List ℕ)) (count : ℕ) (refusal : ScriptRefusal)
-    → Keeps way lanes workers first text rest before → lines rest ≡ line ∷ more → true ≡ leb 300000 (length before)
-    → count ≡ length before → refusal ≡ refusals.Fault (fault_at (first + count) kinds.TooManyLines)
-    → IsReading (read (script_format way (is_ended text)) (AtLines lanes workers []) first (lines text)) (Err refusal)
-fails_full way lanes workers first text rest before line more count refusal keeps parts full =
-    fails way lanes workers first text rest before line more kinds.TooManyLines count refusal keeps parts (verdict_full way lanes workers before line (sym full))
-
-pub fails_room : (way : Way) (lanes workers first : ℕ) (text rest : List ℕ) (before : List Line) (line : List ℕ) (more : List (List ℕ)) (count : ℕ) (refusal : ScriptRefusal)
-    → Keeps way lanes workers first text rest before → lines rest ≡ line ∷ more → false ≡ leb 300000 (length before) → true ≡ lacks_room way before line
-    → count ≡ length before → refusal ≡ refusals.Fault (fault_at (first + count) kinds.TooManyLines)
-    → IsReading (read (script_format way (is_ended text)) (AtLines lanes workers []) first (lines text)) (Err refusal)
-fails_room way lanes workers first text rest before line more count refusal keeps parts full room =
-    fails way lanes workers first text rest before line more kinds.TooManyLines count refusal keeps parts (verdict_room way lanes workers before line (sym full) (sym room))
-
-pub fails_read : (way : Way) (lanes workers first : ℕ) (text rest : List ℕ) (before : List Line) (line : List ℕ) (more : List (List ℕ)) (kind : FaultKind) (count : ℕ) (refusal : ScriptRefusal)
-    → Keeps way lanes workers first text rest before → lines rest ≡ line ∷ more → false ≡ leb 300000 (length before) → false ≡ lacks_room way before line
-    → Err kind ≡ line_read way lanes workers (adds_before before) line → count ≡ length before → refusal ≡ refusals.Fault (fault_at (first + count) kind)
-    → IsReading (read (script_format way (is_ended text)) (AtLines lanes workers []) first (lines text)) (Err refusal)
-fails_read way lanes workers first text rest before line more kind count refusal keeps parts full room e =
-    fails way lanes workers first text rest before line more kind count refusal keeps parts (verdict_read way lanes workers before line (Err kind) (sym full) (sym room) e)
+fails_next way lanes workers first text rest before line more kind count refusal keeps parts is counted refused =
+    rw (refused, counted) (keeps.reads ∙ at_line way (is_ended text) _ _ _ line more (Refuses kind) parts (sym is))
 
 -- a line that is right is one more
 pub keeps_next : (way : Way) (lanes workers first : ℕ) (text rest : List ℕ) (before : List Line) (line after : List ℕ) (told : Line) (longer : List Line)
     → Keeps way lanes workers first text rest before → lines rest ≡ line ∷ lines after → is_ended rest ≡ is_ended after
-    → false ≡ leb 300000 (length before) → false ≡ lacks_room way before line → Ok told ≡ line_read way lanes workers (adds_before before) line
+    → Goes (AtLines lanes workers (before ++ told ∷ [])) ≡ line_verdict way (AtLines lanes workers before) line → length before < 300000
     → longer ≡ before ++ told ∷ [] → Keeps way lanes workers first text after longer
-keeps_next way lanes workers first text rest before line after told longer keeps parts ended full room e more =
+keeps_next way lanes workers first text rest before line after told longer keeps parts ended is room more =
     let one : length (before ++ told ∷ []) ≡ length before + 1 = length-append before (told ∷ []) in
-    let below : length before + 1 ≤ 300000 = let f = sym full in grind (arith, nat_tests) in
     rw more (record {
-      few = omega (arith, one);
+      few = omega (arith, one, room);
       ended = keeps.ended ∙ ended;
       reads = keeps.reads
-          ∙ (at_line way (is_ended text) _ _ _ line (lines after) _ parts (verdict_read way lanes workers before line (Ok told) (sym full) (sym room) e)
+          ∙ (at_line way (is_ended text) _ _ _ line (lines after) _ parts (sym is)
           ∙ ap (λ n. read (script_format way (is_ended text)) (AtLines lanes workers (before ++ told ∷ [])) n (lines after)) (let n : first + length before + 1 ≡ first + length (before ++ told ∷ []) = omega (arith, one) in n));
     })
 

@@ -1,15 +1,17 @@
 //! Reading a script text.
-ghost use Rattle.std.specs.Prelude.{◌≡◌, ℕ, ◌≤◌, ◌+◌, [], IfOk};
+ghost use Rattle.std.specs.Prelude.{◌≡◌, ℕ, ◌<◌, ◌≤◌, ◌+◌, [], IfOk, length};
 ghost use Rattle.nav_text.specs.Lines.{lines, is_ended};
 ghost use Rattle.nav_text.specs.Reading.{read};
 ghost use Rattle.nav_text.specs.Faults.{fault_at};
 ghost use Rattle.nav_text.specs.declared.fault.TextFault.{TextFault};
 ghost use Rattle.nav_script.specs.declared.script.Script.{Script};
+ghost use Rattle.nav_script.specs.Lanes.{NamesLaneBelow};
 ghost use Rattle.nav_script.specs.Limits.{IsScriptText};
-ghost use Rattle.nav_script.specs.Reading.{AtScript, AtLines, script_format, IsReading, Gives, IsFirstFaultFrom};
+ghost use Rattle.nav_script.specs.Reading.{AtScript, AtLines, line_verdict, verdict_of, script_format, IsReading, Gives, IsFirstFaultFrom};
 
 use crate::forms::read_line;
 use crate::header::{Header, read_header};
+use crate::line::Line;
 use crate::progress::Progress;
 use crate::script::{Script, ScriptRefusal, Way};
 use nav_text::{FaultKind, TextFault};
@@ -38,13 +40,7 @@ fn read_lines(
     let mut rest = text;
     while let Some((line, after)) = nav_text::first_line(rest) {
         let number = first_line + progress.len() as u32;
-        if progress.is_full() {
-            return Err(refused(number, FaultKind::TooManyLines));
-        }
-        if progress.lacks_room(way, line) {
-            return Err(refused(number, FaultKind::TooManyLines));
-        }
-        match read_line(way, header, progress.adds_here(), line) {
+        match next_line(way, header, &progress, line) {
             Ok(line) => progress.push(line)?,
             Err(kind) => return Err(refused(number, kind)),
         }
@@ -58,6 +54,22 @@ fn read_lines(
         workers: header.workers,
         lines: progress.into_lines(),
     })
+}
+
+/// What a line says after those so far, or what is wrong with it.
+fn next_line(way: Way, header: Header, progress: &Progress, line: &[u8]) -> Result<Line, FaultKind>
+    ensures value { verdict_of header.lanes header.workers progress.now result
+        ≡ line_verdict way (AtLines header.lanes header.workers progress.now) line.now }
+    ensures room { IfOk result (λ _. length progress.now < 300000) }
+    ensures lane { IfOk result (NamesLaneBelow header.lanes) }
+{
+    if progress.is_full() {
+        return Err(FaultKind::TooManyLines);
+    }
+    if progress.lacks_room(way, line) {
+        return Err(FaultKind::TooManyLines);
+    }
+    read_line(way, header, progress.adds_here(), line)
 }
 
 /// The whole text, as its format says.

@@ -16,15 +16,19 @@ pub(crate) fn triangular(alloc: Global, triangles: &[Triangle]) -> Result<Vec<Pi
 {
     let mut pieces = Vec::with_capacity(alloc, triangles.len())?;
     for triangle in triangles {
-        let mut corners = Vec::with_capacity(alloc, 3)?;
-        corners.push(triangle.a)?;
-        corners.push(triangle.b)?;
-        corners.push(triangle.c)?;
-        pieces.push(Piece {
-            corners: Items::from_vec(corners),
-        })?;
+        pieces.push(piece_of(alloc, triangle)?)?;
     }
     Ok(pieces)
+}
+
+/// A triangle as a piece.
+fn piece_of(alloc: Global, triangle: &Triangle) -> Result<Piece, AllocError>
+    ensures { IfOk result (λ piece. piece ≡ piece_of triangle.now) }
+{
+    let corners = vec![in alloc; triangle.a, triangle.b, triangle.c]?;
+    Ok(Piece {
+        corners: Items::from_vec(corners),
+    })
 }
 
 /// Puts two pieces together in the place of the first, and takes the second out of the list.

@@ -1,7 +1,10 @@
-use Rattle.std.proofs.Common.{ℕ, ◌∙◌, ◌++◌, [], Option, ap, get_or, sym, cond, None, Some}
+use Rattle.std.proofs.Common.{ℕ, ◌∙◌, ◌++◌, [], Option, ap, arith, get_or, length, sym, cond, None, Some}
 use Rattle.std.specs.Prelude.{nat_lt}
+use Rattle.std.specs.List.{flat_map}
 use Rattle.std.specs.Option.{option_map_or}
+use Rattle.std.proofs.lemmas.List.{length-map, take_all}
 use Rattle.mesh_types.specs.StripMeshes.{some_cell}
+use Rattle.contour_walk.specs.Tables.{owner_of}
 use Rattle.contour_mesh.specs.SidePlaces.{cell_places, crossings_in}
 use Rattle.contour_mesh.proofs.FootingLaws.{owner_at, region_here}
 use Rattle.contour_mesh.proofs.Steps.{one_more_gathered}
@@ -20,3 +23,20 @@ loop-index-preserved c =
     ∙ sym (region_here c.args.regions.now cell owner
     (owner_at c.args.cells.now c.args.regions.now c.as_slice-owners.result.now c.args.table.now.owners c.loop-index.index c.requires.table.owners
     c.as_slice-owners.ensures c.loop-index-test.true))))
+
+pub bounds-owners-index : goal.bounds-owners-index
+bounds-owners-index c =
+    omega (
+      arith,
+      c.loop-index-test.true,
+      ap length (c.as_slice-owners.ensures ∙ c.requires.table.owners),
+      length-map c.args.cells.now (owner_of c.args.regions.now.regions),
+    )
+
+pub push_cell-requires : goal.push_cell-requires
+push_cell-requires c = c.requires.cells.each c.loop-index.index some_cell c.loop-index-test.true
+
+pub returns : goal.returns
+returns c =
+    c.loop-index.invariant
+    ∙ ap (flat_map (cell_places c.args.table.now.window c.args.regions.now)) (take_all c.loop-index.index c.args.cells.now c.loop-index-test.false)

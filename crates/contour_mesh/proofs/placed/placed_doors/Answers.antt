@@ -1,5 +1,7 @@
 use Rattle.std.proofs.Common.{ℕ, ◌∙◌, ◌++◌, [], Option, ap, get_or, map}
+use Rattle.std.specs.List.{flat_map}
 use Rattle.std.specs.Option.{option_map_or}
+use Rattle.std.proofs.lemmas.List.{take_all}
 use Rattle.mesh_types.specs.ContourMeshes.{positions_of}
 use Rattle.contour_mesh.specs.SidePlaces.{door_at, door_places}
 use Rattle.contour_mesh.proofs.FacingLaws.{no_door}
@@ -13,3 +15,7 @@ loop-door-preserved c =
     c.loop-door-test.true c.loop-door.invariant
     (c.in_ok-push_door.ensures
     ∙ ap (λ (side : Option ℕ). c.loop-door.placed.items ++ option_map_or (λ s. map (door_at door s) (positions_of s door)) side []) c.side_of.ensures.value)
+
+pub returns : goal.returns
+returns c =
+    c.loop-door.invariant ∙ ap (flat_map (door_places c.args.window.now)) (take_all c.loop-door.door-index c.args.doors.now c.loop-door-test.false)

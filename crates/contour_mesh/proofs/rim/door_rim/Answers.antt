@@ -1,5 +1,7 @@
 use Rattle.std.proofs.Common.{ℕ, ◌∙◌, ◌++◌, [], Option, ap, get_or}
+use Rattle.std.specs.List.{flat_map}
 use Rattle.std.specs.Option.{option_map_or}
+use Rattle.std.proofs.lemmas.List.{take_all}
 use Rattle.contour_mesh.specs.RimTables.{entries_in, entries_on}
 use Rattle.contour_mesh.proofs.FacingLaws.{no_door}
 use Rattle.contour_mesh.proofs.Steps.{one_more_gathered}
@@ -12,3 +14,8 @@ loop-door-preserved c =
     c.push_entries.new.rim.items c.loop-door-test.true c.loop-door.invariant
     (c.in_ok-push_entries.ensures
     ∙ ap (λ (side : Option ℕ). c.loop-door.rim.items ++ option_map_or (entries_on c.args.tables.now door) side []) c.side_of-side.ensures.value)
+
+pub returns : goal.returns
+returns c =
+    c.from_vec.ensures ∙ c.loop-door.invariant
+    ∙ ap (flat_map (entries_in c.args.window.now c.args.tables.now)) (take_all c.loop-door.door-index c.args.doors.now c.loop-door-test.false)

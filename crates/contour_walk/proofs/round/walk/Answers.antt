@@ -1,9 +1,9 @@
-use Rattle.contour_walk.specs.Walk.{edge_at}
-use Rattle.contour_walk.proofs.Loops.{walked}
+use Rattle.std.proofs.Common.{◌++◌, ◌∙◌, List, ap}
+use Rattle.mesh_types.specs.declared.region.UnitEdge.{UnitEdge}
+use Rattle.contour_walk.specs.Walk.{edge_at, round}
 use Rattle.contour_walk.proofs.round.walk.Goals as goal
 
 pub returns : goal.returns
 returns c =
-    walked (edge_at c.args.table.now.window c.args.cells.now c.args.regions.now) c.args.strips.now c.index-strips-0.result c.index-strips-strips.result
-    _ _ _ _ _ c.requires.some c.index-strips-0.is c.index-strips-strips.is c.new-edges.ensures.items c.in_ok-push_bottoms.ensures
-    c.in_ok-push_right_side.ensures c.in_ok-push_tops.ensures c.in_ok-push_left_side.ensures
+    c.in_ok-push_round.ensures
+    ∙ ap (λ (es : List UnitEdge). es ++ round (edge_at c.args.table.now.window c.args.cells.now c.args.regions.now) c.args.strips.now) c.new-edges.ensures.items

@@ -54,11 +54,6 @@ returns-then-eq-clause-few g c =
     (turn-tree _ _ _ _ c.requires.searchable c.args.from c.args.to _ _ _ c.loop-vertex.invariant c.in-Some.field-0-0 c.in-Some.vertex _ c.in-Some.ensures.taken c.in-Some.ensures.least
     unclosed _ _ c.in_ok-close.ensures.written c.in_ok-close.ensures.closed))).1
 
-pub push_ends-requires-clause-there : goal.push_ends-requires-clause-there
-push_ends-requires-clause-there g c =
-    vertex-member _ _ _ _ c.requires.searchable c.args.from c.args.to _ _ _ c.loop-vertex.invariant c.in-Some.field-0-0 c.in-Some.vertex _ c.in-Some.ensures.taken c.in-Some.ensures.least
-    (sym (ap (λ (u : Visit). u.rank) c.get-rank.ensures) ∙ c.if-rank-ne0.false)
-
 pub relax-requires-clause-there : goal.relax-requires-clause-there
 relax-requires-clause-there g c =
     vertex-member _ _ _ _ c.requires.searchable c.args.from c.args.to _ _ _ c.loop-vertex.invariant c.in-Some.field-0-0 c.in-Some.vertex _ c.in-Some.ensures.taken c.in-Some.ensures.least
@@ -135,15 +130,6 @@ returns-in_err-walk_to-clause-few g c = IfOk-from_err c.from_residual-in_err-wal
 
 pub returns-in_err-walk_to-clause-none : goal.returns-in_err-walk_to-clause-none
 returns-in_err-walk_to-clause-none g c = IfOk-from_err c.from_residual-in_err-walk_to.result _ c.from_residual-in_err-walk_to.ensures.0
-
-pub returns-in_err-push_ends-clause-found : goal.returns-in_err-push_ends-clause-found
-returns-in_err-push_ends-clause-found g c = IfOk-from_err c.from_residual-in_err-push_ends.result _ c.from_residual-in_err-push_ends.ensures.0
-
-pub returns-in_err-push_ends-clause-few : goal.returns-in_err-push_ends-clause-few
-returns-in_err-push_ends-clause-few g c = IfOk-from_err c.from_residual-in_err-push_ends.result _ c.from_residual-in_err-push_ends.ensures.0
-
-pub returns-in_err-push_ends-clause-none : goal.returns-in_err-push_ends-clause-none
-returns-in_err-push_ends-clause-none g c = IfOk-from_err c.from_residual-in_err-push_ends.result _ c.from_residual-in_err-push_ends.ensures.0
 
 pub returns-in_err-relax-clause-found : goal.returns-in_err-relax-clause-found
 returns-in_err-relax-clause-found g c = IfOk-from_err c.from_residual-in_err-relax.result _ c.from_residual-in_err-relax.ensures.0

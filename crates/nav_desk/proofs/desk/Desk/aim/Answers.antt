@@ -4,7 +4,7 @@ use Rattle.nav_ground.specs.Touching.{touching_shapes}
 use Rattle.nav_desk.specs.Flags.{flag_of}
 use Rattle.nav_desk.specs.LiveTable.{shapes_in}
 use Rattle.nav_desk.proofs.Histories.{table_limits}
-use Rattle.nav_desk.proofs.Keeping.{looked_at}
+use Rattle.nav_desk.proofs.Keeping.{is_book, looked_at}
 use Rattle.nav_desk.proofs.Tables.{table_shapes}
 use Rattle.nav_desk.proofs.desk.Desk.aim.Goals as goal
 
@@ -41,3 +41,6 @@ invariant_of-self c =
           (flag_of c.self.inside.dirty tile) (flag_of c.self.inside.waiting.awaited tile) (flag_of c.look_again.new.waiting.awaited tile)
           (looked.awaited tile there) (kept.clean tile there) (kept.awaited tile there));
     }
+
+pub returns-clause-rules : goal.returns-clause-rules
+returns-clause-rules c = is_book _ (invariant_of-self c)

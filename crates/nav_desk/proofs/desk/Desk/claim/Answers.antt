@@ -54,15 +54,19 @@ invariant_of-self c =
 pub returns-in-None-clause-rules : goal.returns-in-None-clause-rules
 returns-in-None-clause-rules c = is_book _ (invariant_of-self c)
 
+pub invariant_of-self-in_err-shapes-in-Some : goal.invariant_of-self-in_err-shapes-in-Some
+invariant_of-self-in_err-shapes-in-Some c =
+    kept_claims c.self.inside c.least_ready.new.self c.self.invariant (ap (λ (w : Waiting). w.awaited) c.least_ready.ensures.kept)
+    (ap (λ (w : Waiting). length w.claimed) c.least_ready.ensures.kept)
+
 pub returns-in_err-shapes-in-Some-clause-rules : goal.returns-in_err-shapes-in-Some-clause-rules
-returns-in_err-shapes-in-Some-clause-rules c =
-    is_book _
-    (kept_claims c.self.inside c.least_ready.new.self c.self.invariant (ap (λ (w : Waiting). w.awaited) c.least_ready.ensures.kept)
-    (ap (λ (w : Waiting). length w.claimed) c.least_ready.ensures.kept))
+returns-in_err-shapes-in-Some-clause-rules c = is_book _ (invariant_of-self-in_err-shapes-in-Some c)
+
+pub invariant_of-self-in-Some : goal.invariant_of-self-in-Some
+invariant_of-self-in-Some c =
+    kept_claims c.self.inside c.set_claimed.new.self c.self.invariant
+    (ap (λ (w : Waiting). w.awaited) c.set_claimed.ensures ∙ ap (λ (w : Waiting). w.awaited) c.least_ready.ensures.kept)
+    (ap (λ (w : Waiting). length w.claimed) c.set_claimed.ensures ∙ length-set _ _ _ ∙ ap (λ (w : Waiting). length w.claimed) c.least_ready.ensures.kept)
 
 pub returns-in_ok-shapes-in-Some-clause-rules : goal.returns-in_ok-shapes-in-Some-clause-rules
-returns-in_ok-shapes-in-Some-clause-rules c =
-    is_book _
-    (kept_claims c.self.inside c.set_claimed.new.self c.self.invariant
-    (ap (λ (w : Waiting). w.awaited) c.set_claimed.ensures ∙ ap (λ (w : Waiting). w.awaited) c.least_ready.ensures.kept)
-    (ap (λ (w : Waiting). length w.claimed) c.set_claimed.ensures ∙ length-set _ _ _ ∙ ap (λ (w : Waiting). length w.claimed) c.least_ready.ensures.kept))
+returns-in_ok-shapes-in-Some-clause-rules c = is_book _ (invariant_of-self-in-Some c)

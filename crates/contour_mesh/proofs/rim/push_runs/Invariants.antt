@@ -1,6 +1,6 @@
 use Rattle.std.proofs.Common.{◌≡◌, ◌++◌, map, take}
 use Rattle.contour_mesh.specs.RimTables.{entry_in}
-use Rattle.contour_mesh.proofs.rim.push_entries_on.Given as goal
+use Rattle.contour_mesh.proofs.rim.push_runs.Given as goal
 
 -- the entries along the runs so far
 abbrev pub invariant-loop-part : goal.invariant-loop-part
