@@ -1,5 +1,5 @@
 -- What walks reach, cost by cost: cells are taken out of those that are kept, and stand in the order in which they were reached.
-use Rattle.std.specs.Prelude.{ℕ, ◌+◌, ◌%◌, ◌==◌, Bool, false, not, ◌&&◌, nat_lt, if◌then◌else◌, List, [], ◌∷◌, ◌++◌, filter, fold, slice_index_or, slice_set}
+use Rattle.std.specs.Prelude.{ℕ, ◌+◌, ◌%◌, ◌==◌, Bool, true, false, not, ◌&&◌, nat_lt, if◌then◌else◌, List, [], ◌∷◌, ◌++◌, filter, fold, replicate, slice_index_or, slice_set}
 use Rattle.std.specs.List.{list_any, flat_map, slice_range, range_with_len}
 use Rattle.cell_table.specs.Table.{neighbour}
 
@@ -7,6 +7,10 @@ use Rattle.cell_table.specs.Table.{neighbour}
 pub record Progress : Type 0 where
   pub kept : List Bool
   pub order : List ℕ
+
+-- nothing is reached yet of so many cells
+abbrev pub nothing_reached : ℕ → Progress
+nothing_reached count = record { kept = replicate count true; order = [] }
 
 -- an index is reached: a cell that is still kept is kept no more; any other index changes nothing
 abbrev pub reached : Progress → ℕ → Progress

@@ -1,6 +1,7 @@
 //! The kept cells of a field.
 
-ghost use Rattle.std.specs.Prelude.{◌≡◌, IfOk, map, length};
+ghost use Rattle.std.specs.Prelude.{◌≡◌, Bool, IfOk, map, filter, length};
+ghost use Rattle.nav_ground.specs.declared.cell.Cell.{Cell};
 ghost use Rattle.nav_ground.specs.Cells.{IsCompact};
 ghost use Rattle.nav_ground.specs.Clearance.{is_kept, kept_cells, places_of, cells_in};
 
@@ -26,7 +27,14 @@ pub fn erode(alloc: Global, compact: &CompactField, radius: u32) -> Result<Vec<C
 {
     let cells = compact.cells.as_slice();
     let marks = marks(alloc, cells, radius)?;
-    let marks = marks.as_slice();
+    places_marked(alloc, cells, marks.as_slice())
+}
+
+/// The places of the cells that are marked, in order.
+fn places_marked(alloc: Global, cells: &[Cell], marks: &[bool]) -> Result<Vec<CellRef>, AllocError>
+    requires { length marks.now ≡ length cells.now }
+    ensures { IfOk result (λ places. (p : Cell → Bool) → marks.now ≡ map p cells.now → places.items ≡ places_of (filter p cells.now)) }
+{
     let mut places = Vec::new(alloc);
     for (i, cell) in cells.iter().enumerate() {
         if marks[i] {
@@ -50,7 +58,19 @@ pub fn erode_window(
     let near = cells_near(alloc, compact.cells.as_slice(), window, radius)?;
     let cells = near.as_slice();
     let marks = marks(alloc, cells, radius)?;
-    let marks = marks.as_slice();
+    places_within(alloc, cells, marks.as_slice(), window)
+}
+
+/// The places of the cells that are marked and lie in a window, in order.
+fn places_within(
+    alloc: Global,
+    cells: &[Cell],
+    marks: &[bool],
+    window: Window,
+) -> Result<Vec<CellRef>, AllocError>
+    requires { length marks.now ≡ length cells.now }
+    ensures { IfOk result (λ places. (p : Cell → Bool) → marks.now ≡ map p cells.now → places.items ≡ places_of (cells_in window (filter p cells.now))) }
+{
     let mut places = Vec::new(alloc);
     for (i, cell) in cells.iter().enumerate() {
         if marks[i] && is_near(window, 0, cell.at) {

@@ -1,8 +1,8 @@
 //! What walks reach, cost by cost.
 
-ghost use Rattle.std.specs.Prelude.{◌≡◌, ◌<◌, ◌≤◌, IfOk, OnOk, [], true, length, replicate, fold, slice_index};
+ghost use Rattle.std.specs.Prelude.{◌≡◌, ◌<◌, ◌≤◌, IfOk, OnOk, true, length, replicate, fold, slice_index};
 ghost use Rattle.cell_table.specs.Table.{neighbour};
-ghost use Rattle.agent_erode.specs.Reaching.{Progress, reached, axis_ends, turn_ends, diagonal_ends, after_axis_steps, after_diagonal_steps, after_round, has_gap, boundary};
+ghost use Rattle.agent_erode.specs.Reaching.{Progress, nothing_reached, reached, axis_ends, turn_ends, diagonal_ends, after_axis_steps, after_diagonal_steps, after_round, has_gap, boundary};
 
 use std::alloc::{AllocError, Global};
 use std::marker::Model;
@@ -23,7 +23,7 @@ impl Model for Reached {
 impl Reached {
     /// Nothing reached yet of so many cells.
     pub fn new(alloc: Global, count: usize) -> Result<Self, AllocError>
-        ensures { IfOk result (λ reached. reached ≡ record { kept = replicate count true; order = [] }) }
+        ensures { IfOk result (λ reached. reached ≡ nothing_reached count) }
     {
         Ok(Reached {
             kept: all_kept(alloc, count)?,

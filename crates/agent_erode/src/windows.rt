@@ -31,7 +31,7 @@ pub fn cells_near(
 }
 
 /// Rows of columns of a field, those with z from `first` on and before `end`.
-#[derive(Clone, Copy, PartialEq, Eq, Debug)]
+#[derive(Clone, Copy)]
 pub struct Rows {
     pub first: u32,
     pub end: u32,

@@ -12,7 +12,7 @@ use std::alloc::{AllocError, Global};
 
 /// How many cells lie in columns before the neighbouring ones of a cell, direction by direction. As cells are gone through in order
 /// these numbers only rise, so all of them together pass each cell once a direction.
-#[derive(Clone, Copy, PartialEq, Eq, Debug)]
+#[derive(Clone, Copy)]
 struct Passed {
     left: usize,
     above: usize,

@@ -14,7 +14,7 @@ use Rattle.nav_ground.specs.Fields.{IsField, IsSpan, AreAreas}
 use Rattle.nav_ground.specs.Column.{stands_above, ceiling_of}
 use Rattle.nav_ground.specs.Connection.{walkable_spans, unconnected_cell, unconnected_cells}
 use Rattle.nav_ground.proofs.Walkable.{walkable, walkable_order, few_walkable}
-use Rattle.compact_layer.specs.Making.{level_over, ceiling_over}
+use Rattle.compact_layer.specs.Making.{cell_with, level_over, ceiling_over}
 use Rattle.compact_layer.proofs.Ceilings.{AreSpans, ceiling_is}
 use Rattle.compact_layer.proofs.Levels.{level_is}
 
@@ -109,16 +109,6 @@ level_so_far field areas i d cells rules' limits same there open' before =
     ap (λ (cells : List Cell). level_over cells (get_or spans i d)) (before ∙ sym (ap (map on) kept.before))
     ∙ subst P (kept.at ∙ span_with spans areas i d same there)
     (level_is spans walkable n d (walkable_of_field field areas rules' limits same) kept.there)
-
--- a cell with the level and the ceiling of the cell on a span
-abbrev pub cell_with : Span → ℕ → ℕ → Cell
-cell_with span level ceiling = record {
-  at = record { x = span.x; z = span.z; level = level };
-  floor = span.top;
-  ceiling = ceiling;
-  area = span.area;
-  next = None ∷ None ∷ None ∷ None ∷ [];
-}
 
 cell_on : (spans others : List Span) (span : Span) (level ceiling : ℕ) → level ≡ (unconnected_cell spans others span).at.level → ceiling ≡ ceiling_of spans span
     → cell_with span level ceiling ≡ unconnected_cell spans others span

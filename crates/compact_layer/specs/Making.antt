@@ -1,5 +1,5 @@
 -- The level and the ceiling of a cell, from what stands directly before and after its span.
-use Rattle.std.specs.Prelude.{ℕ, ◌+◌, ◌-◌, ◌==◌, ◌&&◌, if◌then◌else◌, List, length, Option, slice_get}
+use Rattle.std.specs.Prelude.{ℕ, ◌+◌, ◌-◌, ◌==◌, ◌&&◌, if◌then◌else◌, List, [], ◌∷◌, length, Option, None, slice_get}
 use Rattle.std.specs.Option.{option_map_or}
 use Rattle.nav_ground.specs.declared.field.Span.{Span}
 use Rattle.nav_ground.specs.declared.cell.Cell.{Cell}
@@ -13,3 +13,13 @@ level_over cells span =
 abbrev pub ceiling_over : Option Span → Span → ℕ
 ceiling_over next span =
     option_map_or (λ (above : Span). if above.x == span.x && above.z == span.z then above.bottom else 65535) next 65535
+
+-- the cell on a span, with a level and a ceiling, not yet connected
+abbrev pub cell_with : Span → ℕ → ℕ → Cell
+cell_with span level ceiling = record {
+  at = record { x = span.x; z = span.z; level = level };
+  floor = span.top;
+  ceiling = ceiling;
+  area = span.area;
+  next = None ∷ None ∷ None ∷ None ∷ [];
+}

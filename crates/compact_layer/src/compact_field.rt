@@ -6,7 +6,7 @@ use std::alloc::{AllocError, Global};
 
 /// The cells of a whole field, by z, then x, then level, each with the levels of the cells that it is connected to: at most one in
 /// each direction, and that one leads back.
-#[derive(PartialEq, Eq, Debug, Drop)]
+#[derive(PartialEq, Eq, Drop)]
 pub struct CompactField {
     pub cells: Items<Cell>,
 }

@@ -6,7 +6,7 @@ ghost use Rattle.nav_ground.specs.Limits.{IsAgent};
 ghost use Rattle.nav_ground.specs.Fields.{IsField, AreAreas};
 ghost use Rattle.nav_ground.specs.Cells.{IsCompact};
 ghost use Rattle.nav_ground.specs.Connection.{unconnected_cells, compact_cells};
-ghost use Rattle.compact_layer.specs.Making.{level_over, ceiling_over};
+ghost use Rattle.compact_layer.specs.Making.{cell_with, level_over, ceiling_over};
 
 use crate::compact_field::CompactField;
 use crate::sweep::connect;
@@ -51,21 +51,28 @@ fn unconnected(alloc: Global, field: &Field, areas: &[u32]) -> Result<Vec<Cell>,
     for (i, span) in spans.iter().enumerate() {
         let area = areas[i];
         if area != 0 {
-            let level = level_over(cells.as_slice(), span);
-            cells.push(Cell {
-                at: CellRef {
-                    x: span.x,
-                    z: span.z,
-                    level,
-                },
-                floor: span.top,
-                ceiling: ceiling_over(spans, i + 1, span),
-                area,
-                next: [None; 4],
-            })?;
+            cells.push(cell_on(cells.as_slice(), spans, i + 1, span, area))?;
         }
     }
     Ok(cells)
+}
+
+/// The cell on a span with an area, not yet connected, from the cells before it in order and the index of the next span of the field.
+fn cell_on(before: &[Cell], spans: &[Span], next: usize, span: &Span, area: u32) -> Cell
+    requires { All (λ (cell : Cell). cell.at.level ≤ 2000000) before.now }
+    ensures { result ≡ cell_with (record span.now { area = area }) (level_over before.now span.now) (ceiling_over (slice_get spans.now next) span.now) }
+{
+    Cell {
+        at: CellRef {
+            x: span.x,
+            z: span.z,
+            level: level_over(before, span),
+        },
+        floor: span.top,
+        ceiling: ceiling_over(spans, next, span),
+        area,
+        next: [None; 4],
+    }
 }
 
 /// The level of a cell on a span, from the cells before it in order: one above the last of them if that lies in the same column, else 0.

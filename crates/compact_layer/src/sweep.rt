@@ -13,7 +13,7 @@ use nav_ground::{Agent, Cell};
 
 /// How many cells are passed in each direction: those that come before the one that the cell at hand may be connected to. As cells are
 /// gone through in order these numbers only rise, so all of them together pass each cell once a direction.
-#[derive(Clone, Copy, PartialEq, Eq, Debug)]
+#[derive(Clone, Copy)]
 pub struct Passed {
     pub left: usize,
     pub above: usize,

@@ -23,3 +23,4 @@ pub mod BendsRight
 pub mod BendsEither
 pub mod PullStates
 pub mod PullLaws
+pub mod SignTests

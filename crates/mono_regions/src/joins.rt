@@ -104,10 +104,18 @@ fn are_connected(cells: &[Cell], strips: &StripTable, run: &[u32], over: &[u32],
     requires over { AreIndices cells.now over.now }
     ensures { result ≡ list_all (is_fitting cells.now upper over.now) run.now }
 {
-    run.iter().all(|at| {
-        is_named(beyond(cells, strips, *at, 1), upper)
-            || !is_over(cells, cells[*at as usize].at.x, over)
-    })
+    run.iter()
+        .all(|at| is_fitting(cells, strips, *at, over, upper))
+}
+
+/// Whether a cell is connected toward z + 1 to the upper strip, or that has no cell in its column.
+fn is_fitting(cells: &[Cell], strips: &StripTable, at: u32, over: &[u32], upper: u32) -> bool
+    requires strips { IsTableOf cells.now strips.now }
+    requires there { at < length cells.now }
+    requires over { AreIndices cells.now over.now }
+    ensures { result ≡ is_fitting cells.now upper over.now at }
+{
+    is_named(beyond(cells, strips, at, 1), upper) || !is_over(cells, cells[at as usize].at.x, over)
 }
 
 /// Whether a column lies in the strip of the cells with some indices.

@@ -3,10 +3,10 @@
 ghost use Rattle.std.specs.Prelude.{◌≡◌, ◌<◌, IfOk, map, length};
 ghost use Rattle.nav_ground.specs.Cells.{IsCut};
 ghost use Rattle.mesh_types.specs.Strips.{strips_of};
-ghost use Rattle.mono_regions.specs.Indices.{level_at, strip_at, AreIndices};
+ghost use Rattle.mono_regions.specs.Indices.{level_at, strip_at, index_runs, AreIndices};
 
-use crate::index::strip_index;
-use cell_table::neighbour_table;
+use crate::index_lists::IndexLists;
+use crate::touching::strip_table;
 use mesh_types::Strip;
 use nav_ground::{Cell, FreeLayer};
 use nav_list::Items;
@@ -19,11 +19,19 @@ pub fn strips(alloc: Global, free: &FreeLayer) -> Result<Vec<Strip>, AllocError>
     ensures { IfOk result (λ strips. strips.items ≡ strips_of free.now.cells) }
 {
     let cells = free.cells.as_slice();
-    let table = neighbour_table(alloc, cells)?;
-    let index = strip_index(alloc, cells, table.as_slice())?;
-    let mut strips = Vec::with_capacity(alloc, index.runs.len())?;
-    for number in 0..index.runs.len() {
-        strips.push(strip(alloc, cells, index.runs.list(number))?)?;
+    let strips = strip_table(alloc, cells)?;
+    strips_along(alloc, cells, &strips.index.runs)
+}
+
+/// The strips of cells, by the indices of the cells of each.
+fn strips_along(alloc: Global, cells: &[Cell], runs: &IndexLists) -> Result<Vec<Strip>, AllocError>
+    requires cells { IsCut cells.now }
+    requires runs { runs.now ≡ index_runs cells.now }
+    ensures { IfOk result (λ strips. strips.items ≡ strips_of cells.now) }
+{
+    let mut strips = Vec::with_capacity(alloc, runs.len())?;
+    for number in 0..runs.len() {
+        strips.push(strip(alloc, cells, runs.list(number))?)?;
     }
     Ok(strips)
 }

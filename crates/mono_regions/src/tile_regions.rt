@@ -4,10 +4,11 @@ ghost use Rattle.std.specs.Prelude.{◌≡◌, ◌<◌, IfOk, length, map};
 ghost use Rattle.nav_ground.specs.Cells.{IsCut};
 ghost use Rattle.mesh_types.specs.StripMeshes.{strip_runs};
 ghost use Rattle.mesh_types.specs.Regions.{numbers, chain_from, region_of, regions_of, AreRegionsOf};
-ghost use Rattle.mono_regions.specs.Joining.{IsTableOf, joined_from};
+ghost use Rattle.mono_regions.specs.Joining.{IsTableOf, joined_from, touched_from};
 
 use crate::joins::{is_unjoined, joined_strips};
 use crate::layer::strip;
+use crate::seen::Seen;
 use crate::strip_table::StripTable;
 use crate::touching::{strip_table, touched_strips};
 use mesh_types::{Region, Regions};
@@ -28,12 +29,36 @@ pub fn regions(alloc: Global, free: &FreeLayer) -> Result<Regions, AllocError>
 {
     let cells = free.cells.as_slice();
     let strips = strip_table(alloc, cells)?;
-    let below = touched_strips(alloc, cells, &strips, 3)?;
-    let joined = joined_strips(alloc, cells, &strips, below.as_slice())?;
+    regions_over(alloc, cells, &strips)
+}
+
+/// The regions of the strips of cells.
+fn regions_over(alloc: Global, cells: &[Cell], strips: &StripTable) -> Result<Regions, AllocError>
+    requires { IsTableOf cells.now strips.now }
+    ensures { IfOk result (λ regions. regions ≡ regions_of cells.now) }
+{
+    let below = touched_strips(alloc, cells, strips, 3)?;
+    let joined = joined_strips(alloc, cells, strips, below.as_slice())?;
+    regions_joined(alloc, cells, strips, below.as_slice(), joined.as_slice())
+}
+
+/// The regions of strips, from what each touches toward z - 1, and what each joins.
+fn regions_joined(
+    alloc: Global,
+    cells: &[Cell],
+    strips: &StripTable,
+    below: &[Seen],
+    joined: &[Option<u32>],
+) -> Result<Regions, AllocError>
+    requires strips { IsTableOf cells.now strips.now }
+    requires below { below.now ≡ map (touched_from cells.now 3) (numbers (strip_runs cells.now)) }
+    requires joined { joined.now ≡ map (joined_from (strip_runs cells.now)) (numbers (strip_runs cells.now)) }
+    ensures { IfOk result (λ regions. regions ≡ regions_of cells.now) }
+{
     let mut regions = Vec::new(alloc);
     for first in 0..joined.len() {
-        if is_unjoined(joined.as_slice(), below[first], first as u32) {
-            regions.push(region(alloc, cells, &strips, joined.as_slice(), first as u32)?)?;
+        if is_unjoined(joined, below[first], first as u32) {
+            regions.push(region(alloc, cells, strips, joined, first as u32)?)?;
         }
     }
     Ok(Regions {

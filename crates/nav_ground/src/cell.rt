@@ -37,7 +37,7 @@ pub struct Window {
 }
 
 /// The cells of one tile, by z, then x, then level, as the ground was built, before obstacles.
-#[derive(PartialEq, Eq, Debug, Drop)]
+#[derive(PartialEq, Eq, Drop)]
 pub struct Layer {
     pub tile: TileNo,
     pub cells: Items<Cell>,
@@ -50,7 +50,7 @@ pub struct Layer {
 }
 
 /// The cells of one tile that the obstacles leave free, in the order of its layer.
-#[derive(PartialEq, Eq, Debug, Drop)]
+#[derive(PartialEq, Eq, Drop)]
 pub struct FreeLayer {
     pub tile: TileNo,
     pub cells: Items<Cell>,

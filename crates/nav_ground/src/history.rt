@@ -39,7 +39,7 @@ pub struct Entry {
 }
 
 /// A ground as it was built, before any obstacle: its setting, its spans, and its layers, one a tile.
-#[derive(PartialEq, Eq, Debug, Drop)]
+#[derive(PartialEq, Eq, Drop)]
 pub struct Ground {
     pub setting: Setting,
     pub field: Field,

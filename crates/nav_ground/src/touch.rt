@@ -11,7 +11,6 @@ use crate::shape::{Shape, bounds};
 use crate::tiling::{TileNo, tile_bounds};
 
 /// Whether the bounds of an obstacle and a tile have a column in common. An obstacle covers no cell of a tile that it does not touch.
-#[tactic(auto, using(crate::proofs::TouchLaws::is_touching_Touches))]
 pub fn touches(setting: &Setting, tile: TileNo, shape: &Shape) -> bool
     requires setting { IsSetting setting.now }
     requires there { tile < tile_count setting.now }

@@ -12,6 +12,10 @@ use Rattle.nav_ground.specs.FreeCells.{is_blocked, area_under}
 use Rattle.obstacle_mark.specs.AreasLeft.{area_left}
 use Rattle.obstacle_mark.specs.Places.{places_blocked}
 
+-- the cell that stands where there is none
+abbrev pub no_cell : Cell
+no_cell = record { at = record { x = 0; z = 0; level = 0 }; floor = 0; ceiling = 0; area = 0; next = [] }
+
 -- the area that stands beside a cell
 pub area_beside : (shapes : List Shape) (cells : List Cell) (areas : List (Option ℕ)) (i : ℕ) (d : Cell)
     → areas ≡ map (area_left shapes) cells → i < length cells → get_or areas i None ≡ area_left shapes (get_or cells i d)

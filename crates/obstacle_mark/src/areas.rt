@@ -88,7 +88,7 @@ fn area_after(shape: &Shape, cell: &Cell, before: Option<u32>) -> Option<u32>
 }
 
 /// A rectangle of columns: x from `first_x` on, before `end_x`, and z from `first_z` on, before `end_z`.
-#[derive(Clone, Copy, PartialEq, Eq, Debug)]
+#[derive(Clone, Copy)]
 struct Reach {
     first_x: u32,
     end_x: u32,

@@ -12,7 +12,7 @@ use std::alloc::{AllocError, Global};
 
 /// How many of the blocked places lie in columns before the neighbouring ones of a cell, direction by direction. As cells are gone
 /// through in order these numbers only rise, so all of them together pass each blocked place once a direction.
-#[derive(Clone, Copy, PartialEq, Eq, Debug)]
+#[derive(Clone, Copy)]
 pub struct Passed {
     pub left: usize,
     pub above: usize,

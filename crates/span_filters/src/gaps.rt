@@ -4,7 +4,7 @@ ghost use Rattle.std.specs.Prelude.{◌≡◌, ◌<◌, ◌≤◌, IfSome};
 ghost use Rattle.span_filters.specs.Gaps.{IsStand};
 
 /// Where an agent would stand, and the agent: heights in height units.
-#[derive(Clone, Copy, PartialEq, Eq, Debug)]
+#[derive(Clone, Copy)]
 pub struct Stand {
     /// The top of the span.
     pub floor: u32,
@@ -17,7 +17,7 @@ pub struct Stand {
 }
 
 /// What the open gaps looked at so far show.
-#[derive(Clone, Copy, PartialEq, Eq, Debug)]
+#[derive(Clone, Copy)]
 pub struct Seen {
     /// One of them has no floor, or a floor more than the climb below.
     pub beside_drop: bool,

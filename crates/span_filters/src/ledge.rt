@@ -18,7 +18,7 @@ use std::alloc::{AllocError, Global};
 /// How many spans of the list lie before what a span can see of the neighbouring columns: in columns before them, or with their bottoms
 /// too low for a gap under them to be open. As spans are gone through in order these numbers only rise, so all of them together pass
 /// each span once a direction.
-#[derive(Clone, Copy, PartialEq, Eq, Debug)]
+#[derive(Clone, Copy)]
 pub struct Passed {
     pub left: usize,
     pub above: usize,
@@ -27,7 +27,7 @@ pub struct Passed {
 }
 
 /// The areas of the spans, with 0 for each span that is a ledge: at the field's edge, or beside a drop of more than the climb, or where
-/// the floors within reach around differ by more than the climb. Recast's ledge filter.
+/// the floors within reach around differ by more than the climb. It stands in place of Recast's ledge filter, with a rule of our own.
 pub fn ledges(
     alloc: Global,
     field: &Field,

@@ -1,8 +1,9 @@
 //! Filters: which spans of a field an agent can walk on.
 //!
 //! Three filters, each of which reads the areas as they were before it: a low hanging span takes the area of the span that it lies on, a
-//! ledge is nobody's ground, and neither is a span under a low ceiling. Rules and order are those of Recast (Mikko Mononen's library for
-//! navigation meshes). All of them take time in proportion to the number of spans.
+//! ledge is nobody's ground, and neither is a span under a low ceiling. Their order and the rules of the first and the last are those of
+//! Recast (Mikko Mononen's library for navigation meshes); the rule of ledges is our own. All of them take time in proportion to the number
+//! of spans.
 //!
 //! The crates above use the exact contracts of the four calls; `filtered` also says that it gives one area a span.
 #![tactic(auto)]

@@ -10,3 +10,4 @@ pub mod ReplacedTiles
 pub mod PlaceOrder
 pub mod FoundLinks
 pub mod RimTables
+pub mod TilesFit

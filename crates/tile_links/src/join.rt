@@ -1,6 +1,6 @@
 //! Tiles joined into one mesh.
 
-ghost use Rattle.std.specs.Prelude.{◌≡◌, ◌≤◌, ◌<◌, ◌++◌, IfOk, OnOk, length};
+ghost use Rattle.std.specs.Prelude.{◌≡◌, ◌≤◌, ◌<◌, ◌++◌, IfOk, OnOk, length, map};
 ghost use Rattle.nav_ground.specs.Limits.{IsSetting};
 ghost use Rattle.nav_ground.specs.Tiling.{tile_count};
 ghost use Rattle.mesh_types.specs.Soundness.{AreTiles, IsFit, IsSound};
@@ -36,16 +36,46 @@ pub fn joined(
     ensures mesh { IfOk result (λ mesh. mesh ≡ mesh_of setting.now tiles) }
     ensures sound { IfOk result IsSound }
 {
-    let mut cross = Vec::with_capacity(alloc, tiles.len())?;
-    for tile in tiles.as_slice() {
-        let links = cross_links(alloc, setting, tiles.as_slice(), tile.get())?;
-        cross.push(Shared::new(alloc, links)?)?;
-    }
+    let cross = all_cross_links(alloc, setting, tiles.as_slice())?;
     Ok(Mesh {
         setting: *setting,
         tiles,
         cross: Items::from_vec(cross),
     })
+}
+
+/// For each tile the links that leave it for other tiles.
+fn all_cross_links(
+    alloc: Global,
+    setting: &Setting,
+    tiles: &[Shared<TileMesh>],
+) -> Result<Vec<Shared<Links>>, AllocError>
+    requires setting { IsSetting setting.now }
+    requires tiles { AreTiles setting.now tiles.now }
+    ensures { IfOk result (λ cross. cross.items ≡ map (Rattle.mesh_types.specs.WholeMesh.cross_links setting.now tiles.now) tiles.now) }
+{
+    let mut cross = Vec::with_capacity(alloc, tiles.len())?;
+    for tile in tiles {
+        cross.push(shared_cross_links(alloc, setting, tiles, tile.get())?)?;
+    }
+    Ok(cross)
+}
+
+/// The links that leave a tile for other tiles, as a value that several meshes can share.
+pub fn shared_cross_links(
+    alloc: Global,
+    setting: &Setting,
+    tiles: &[Shared<TileMesh>],
+    tile: &TileMesh,
+) -> Result<Shared<Links>, AllocError>
+    requires setting { IsSetting setting.now }
+    requires tiles { AreTiles setting.now tiles.now }
+    requires tile { IsFit setting.now tile.now }
+    requires few { length tile.now.polys ≤ 8000000 }
+    ensures { IfOk result (λ links. links ≡ Rattle.mesh_types.specs.WholeMesh.cross_links setting.now tiles.now tile.now) }
+{
+    let links = cross_links(alloc, setting, tiles, tile)?;
+    Ok(Shared::new(alloc, links)?)
 }
 
 /// Tiles as values that several meshes can share.

@@ -1,6 +1,6 @@
 //! Tiles replaced in a mesh.
 
-ghost use Rattle.std.specs.Prelude.{◌≡◌, ◌≤◌, ◌<◌, ℕ, IfOk, IfErr, OnOk, OnErr, length, map, get_or, false, List};
+ghost use Rattle.std.specs.Prelude.{◌≡◌, ◌≤◌, ◌<◌, ◌++◌, ◌∷◌, [], ℕ, IfOk, IfErr, OnOk, OnErr, length, map, get_or, false, List};
 ghost use Rattle.std.specs.Option.{option_copied};
 ghost use Rattle.nav_ground.specs.Limits.{IsSetting};
 ghost use Rattle.nav_ground.specs.Tiling.{tile_count};
@@ -10,7 +10,7 @@ ghost use Rattle.mesh_types.specs.Soundness.{AreTiles, IsSound, polygon_count};
 ghost use Rattle.mesh_types.specs.WholeMesh.{mesh_of};
 ghost use Rattle.tile_links.specs.NewTiles.{AreNew, AreRising, IsWhole, tiles_after};
 
-use crate::join::{across, cross_links};
+use crate::join::{across, shared_cross_links};
 use mesh_types::{Links, Mesh, TileMesh};
 use nav_ground::{Setting, TileNo};
 use nav_list::Items;
@@ -82,22 +82,35 @@ fn tiles_after(
 {
     let mut after = Vec::with_capacity(alloc, tiles.len())?;
     for tile in tiles {
-        after.push(tile_after(tile, news)?)?;
+        push_tile_after(&mut after, tile, news)?;
     }
     Ok(after)
 }
 
-/// What stands in the place of a tile once the new ones have come.
-fn tile_after(
+/// Appends what stands in the place of a tile once the new ones have come.
+fn push_tile_after(
+    after: &mut Vec<Shared<TileMesh>>,
     tile: &Shared<TileMesh>,
     news: &[(TileNo, Shared<TileMesh>)],
-) -> Result<Shared<TileMesh>, AllocError>
+) -> Result<(), AllocError>
     requires { AreRising news.now }
-    ensures { IfOk result (λ after. after ≡ Rattle.tile_links.specs.NewTiles.tile_after news.now tile.now) }
+    ensures { OnOk result (after.new.items ≡ after.old.items ++ Rattle.tile_links.specs.NewTiles.tile_after news.now tile.now ∷ []) }
+{
+    after.push(tile_after(tile, news).share()?)?;
+    Ok(())
+}
+
+/// What stands in the place of a tile once the new ones have come.
+fn tile_after<'a>(
+    tile: &'a Shared<TileMesh>,
+    news: &'a [(TileNo, Shared<TileMesh>)],
+) -> &'a Shared<TileMesh>
+    requires { AreRising news.now }
+    ensures { result.now ≡ Rattle.tile_links.specs.NewTiles.tile_after news.now tile.now }
 {
     match new_tile(news, tile.get().tile) {
-        Some(new) => Ok(new.share()?),
-        None => Ok(tile.share()?),
+        Some(new) => new,
+        None => tile,
     }
 }
 
@@ -119,15 +132,37 @@ fn cross_after(
     ensures { IfOk result (λ after. after.items ≡ map (Rattle.mesh_types.specs.WholeMesh.cross_links setting.now tiles.now) tiles.now) }
 {
     let mut after = Vec::with_capacity(alloc, tiles.len())?;
-    for (i, tile) in tiles.iter().enumerate() {
-        if is_near_new(setting, news, i as u32) {
-            let links = cross_links(alloc, setting, tiles, tile.get())?;
-            after.push(Shared::new(alloc, links)?)?;
-        } else {
-            after.push(cross[i].share()?)?;
-        }
+    for place in 0..tiles.len() {
+        after.push(links_after(alloc, setting, cross, tiles, news, place)?)?;
     }
     Ok(after)
+}
+
+/// The links that leave the tile at a place, given those that left the tiles before the new ones came.
+fn links_after(
+    alloc: Global,
+    setting: &Setting,
+    cross: &[Shared<Links>],
+    tiles: &[Shared<TileMesh>],
+    news: &[(TileNo, Shared<TileMesh>)],
+    place: usize,
+) -> Result<Shared<Links>, AllocError>
+    requires setting { IsSetting setting.now }
+    requires tiles { AreTiles setting.now tiles.now }
+    requires rising { AreRising news.now }
+    requires beside { length cross.now ≡ length tiles.now }
+    requires kept { (t : ℕ) (d : List Link) (e : TileMesh) → t < length tiles.now
+        → Rattle.tile_links.specs.NewTiles.is_near_new setting.now news.now t ≡ false
+        → get_or cross.now t d ≡ Rattle.mesh_types.specs.WholeMesh.cross_links setting.now tiles.now (get_or tiles.now t e) }
+    requires there { place < length tiles.now }
+    ensures { (e : TileMesh) → IfOk result (λ links. links
+        ≡ Rattle.mesh_types.specs.WholeMesh.cross_links setting.now tiles.now (get_or tiles.now place e)) }
+{
+    if is_near_new(setting, news, place as u32) {
+        Ok(shared_cross_links(alloc, setting, tiles, tiles[place].get())?)
+    } else {
+        Ok(cross[place].share()?)
+    }
 }
 
 /// Whether a tile or one across a side of it is replaced.

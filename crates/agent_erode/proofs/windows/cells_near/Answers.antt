@@ -15,6 +15,9 @@ loop-i-init c =
     let before = c.cells_before-i.ensures.before k d small in
     omega (arith, rows.0, before))))
 
+pub bounds-cells-i : goal.bounds-cells-i
+bounds-cells-i c = omega (arith, c.cells_before-i-end.ensures.most, c.loop-i-test.true)
+
 pub returns : goal.returns
 returns c =
     let inside = λ (cell : Cell). is_in_window (widened c.args.window c.args.margin) cell.at.x cell.at.z in

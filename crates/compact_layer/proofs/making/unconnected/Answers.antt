@@ -1,12 +1,12 @@
-use Rattle.std.proofs.Common.{◌≡◌, ◌≤◌, List, length, get_or, ◌∙◌, sym, ap, subst, arith}
-use Rattle.std.specs.Prelude.{All}
+use Rattle.std.proofs.Common.{◌≡◌, ◌+◌, ◌≤◌, List, [], ◌∷◌, ◌++◌, length, get_or, ◌∙◌, refl, sym, ap, subst, arith}
+use Rattle.std.specs.Prelude.{All, slice_get}
 use Rattle.std.specs.Global.{Vec}
 use Rattle.nav_ground.specs.declared.cell.Cell.{Cell}
 use Rattle.nav_ground.specs.declared.field.Field.{Field}
 use Rattle.nav_ground.specs.declared.field.Span.{Span}
 use Rattle.nav_ground.specs.Fields.{IsField}
 use Rattle.nav_ground.specs.Connection.{unconnected_cells}
-use Rattle.compact_layer.specs.Making.{level_over}
+use Rattle.compact_layer.specs.Making.{cell_with, level_over, ceiling_over}
 use Rattle.compact_layer.proofs.SpansSoFar.{one_more_cell, one_more_blocked, all_cells, levels_small}
 use Rattle.compact_layer.proofs.making.unconnected.Goals as goal
 use Rattle.compact_layer.proofs.making.unconnected.Goals.{then-area-ne0+in_ok-push, else-area-ne0}
@@ -20,8 +20,8 @@ field_with field spans same rules' =
     let P : List Span → Type 0 = λ (s : List Span). IsField (record field { spans = s }) in
     subst P (sym same) rules'
 
-pub level_over-level-requires : goal.level_over-level-requires
-level_over-level-requires c =
+pub cell_on-requires : goal.cell_on-requires
+cell_on-requires c =
     let few = c.requires.field.few in
     let spans = ap length c.as_slice-spans.ensures in
     let P : List Cell → Type 0 = λ (cells : List Cell). All (λ (cell : Cell). cell.at.level ≤ 2000000) cells in
@@ -35,11 +35,13 @@ loop-i-preserved c =
     let same : length c.args.areas.now ≡ length field.spans = c.requires.each ∙ sym (ap length c.as_slice-spans.ensures) in
     elim c.if-area-ne0.branch [
       | then-area-ne0+in_ok-push w ↦
+          let span = get_or c.as_slice-spans.result.now c.loop-i.i no_span in
           ap (λ (v : Vec Cell). v.items) w.cells-is ∙ w.in_ok-push.ensures.items
-          ∙ one_more_cell field c.args.areas.now c.loop-i.i no_span c.loop-i.cells.items w.level_over-level.result w.ceiling_over.result rules' c.requires.areas
-          same c.loop-i-test.true w.if-area-ne0.true
-          (w.level_over-level.ensures ∙ ap (λ (cells : List Cell). level_over cells (get_or c.as_slice-spans.result.now c.loop-i.i no_span)) w.as_slice.ensures.value)
-          w.ceiling_over.ensures c.loop-i.invariant
+          ∙ (λ i. c.loop-i.cells.items ++ (w.cell_on.ensures
+          ∙ ap (λ (before : List Cell). cell_with (record span { area = get_or c.args.areas.now c.loop-i.i 0 }) (level_over before span)
+          (ceiling_over (slice_get c.as_slice-spans.result.now (c.loop-i.i + 1)) span)) w.as_slice.ensures.value) i ∷ [])
+          ∙ one_more_cell field c.args.areas.now c.loop-i.i no_span c.loop-i.cells.items _ _ rules' c.requires.areas
+          same c.loop-i-test.true w.if-area-ne0.true refl refl c.loop-i.invariant
       | else-area-ne0 w ↦
           ap (λ (v : Vec Cell). v.items) w.cells-is
           ∙ one_more_blocked field.spans c.args.areas.now c.loop-i.i no_span c.loop-i.cells.items same c.loop-i-test.true w.if-area-ne0.false c.loop-i.invariant

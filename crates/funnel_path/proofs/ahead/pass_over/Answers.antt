@@ -1,11 +1,30 @@
 -- Each way out of the loop comes to what it says, and each portal that stays is passed over.
-use Rattle.std.proofs.Common.{◌≡◌, length, subst, inl, inr, arith}
+use Rattle.std.proofs.Common.{◌≡◌, ◌-◌, length, subst, inl, inr, arith}
 use Rattle.std.proofs.lemmas.Int.{ints}
+use Rattle.mesh_types.specs.Chains.{some_portal}
 use Rattle.funnel_path.specs.Cone.{ArePassed}
 use Rattle.funnel_path.proofs.PassedLaws.{passed_more}
 use Rattle.funnel_path.proofs.ConeLaws.{ahead_of, near_of, not_opposite, turned_back_at}
 use Rattle.funnel_path.proofs.ahead.pass_over.Goals as goal
 use Rattle.funnel_path.proofs.ahead.pass_over.Goals.{else-first-place-via-then-first-place+else-look_opposite, else-first-place-via-else-first-place}
+
+pub orient-requires-clause-first : goal.orient-requires-clause-first
+orient-requires-clause-first c = (c.requires.coordinates c.loop-place.place some_portal c.loop-place-test.true).right
+
+pub orient-requires-clause-second : goal.orient-requires-clause-second
+orient-requires-clause-second c = (c.requires.coordinates c.loop-place.place some_portal c.loop-place-test.true).left
+
+pub is_inside-requires-clause-portal : goal.is_inside-requires-clause-portal
+is_inside-requires-clause-portal c = c.requires.coordinates c.loop-place.place some_portal c.loop-place-test.true
+
+pub nearer_end-requires-clause-portal : goal.nearer_end-requires-clause-portal
+nearer_end-requires-clause-portal c = c.requires.coordinates c.loop-place.place some_portal c.loop-place-test.true
+
+pub look_opposite-requires-clause-first : goal.look_opposite-requires-clause-first
+look_opposite-requires-clause-first c = c.requires.coordinates (c.loop-place.place - 1) some_portal (omega arith)
+
+pub look_opposite-requires-clause-second : goal.look_opposite-requires-clause-second
+look_opposite-requires-clause-second c = c.requires.coordinates c.loop-place.place some_portal c.loop-place-test.true
 
 pub returns-then-orient-ne0 : goal.returns-then-orient-ne0
 returns-then-orient-ne0 c =

@@ -5,10 +5,8 @@ use Rattle.nav_ground.specs.declared.cell.Cell.{Cell}
 use Rattle.obstacle_mark.specs.AreasLeft.{area_after}
 use Rattle.obstacle_mark.specs.Columns.{is_before, IsInRow}
 use Rattle.obstacle_mark.proofs.Rows.{before_first, not_passed, is_passed, in_row}
+use Rattle.obstacle_mark.proofs.Blocked.{no_cell}
 use Rattle.obstacle_mark.proofs.areas.cover_row.Goals as goal
-
-abbrev no_cell : Cell
-no_cell = record { at = record { x = 0; z = 0; level = 0 }; floor = 0; ceiling = 0; area = 0; next = [] }
 
 pub loop-i-init : goal.loop-i-init
 loop-i-init c = record {

@@ -4,12 +4,9 @@ use Rattle.std.specs.Global.{Vec}
 use Rattle.std.proofs.lemmas.List.{length-append}
 use Rattle.nav_ground.specs.declared.cell.Cell.{Cell}
 use Rattle.nav_ground.specs.declared.cell.CellRef.{CellRef}
-use Rattle.obstacle_mark.proofs.Blocked.{one_more_blocked, one_more_open}
+use Rattle.obstacle_mark.proofs.Blocked.{one_more_blocked, one_more_open, no_cell}
 use Rattle.obstacle_mark.proofs.places.blocked_places.Goals as goal
 use Rattle.obstacle_mark.proofs.places.blocked_places.Goals.{then-is_none+in_ok-push, else-is_none}
-
-abbrev no_cell : Cell
-no_cell = record { at = record { x = 0; z = 0; level = 0 }; floor = 0; ceiling = 0; area = 0; next = [] }
 
 pub loop-i-preserved : goal.loop-i-preserved
 loop-i-preserved c = elim c.if-is_none.branch [

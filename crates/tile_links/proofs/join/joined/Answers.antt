@@ -1,11 +1,14 @@
-use Rattle.std.proofs.Common.{◌≡◌, ◌∙◌, ap, sym, subst, arith, length, List, map}
-use Rattle.std.proofs.lemmas.List.{take_all}
+use Rattle.std.proofs.Common.{◌≡◌, ◌∙◌, ap, sym, subst, List, map}
 use Rattle.mesh_types.specs.declared.links.Link.{Link}
 use Rattle.mesh_types.specs.declared.mesh.Mesh.{Mesh}
+use Rattle.mesh_types.specs.declared.tile.TileMesh.{TileMesh}
 use Rattle.mesh_types.specs.WholeMesh.{cross_links, mesh_of}
-use Rattle.mesh_types.specs.Soundness.{IsSound}
+use Rattle.mesh_types.specs.Soundness.{AreTiles, IsSound}
 use Rattle.tile_links.proofs.SoundMeshes.{IsSound-mesh_of}
 use Rattle.tile_links.proofs.join.joined.Goals as goal
+
+pub all_cross_links-requires-clause-tiles : goal.all_cross_links-requires-clause-tiles
+all_cross_links-requires-clause-tiles c = subst (AreTiles c.args.setting.now) (sym c.as_slice.ensures) c.requires.tiles
 
 -- the mesh that is handed out
 made : (c : goal.After-from_vec) → ◌≡◌ {A = Mesh} (record { setting = c.args.setting.now; tiles = c.args.tiles; cross = c.from_vec.result })
@@ -13,9 +16,8 @@ made : (c : goal.After-from_vec) → ◌≡◌ {A = Mesh} (record { setting = c.
 unfolding mesh_of
 made c =
     ap (λ (cross : List (List Link)). record { setting = c.args.setting.now; tiles = c.args.tiles; cross = cross })
-    (c.from_vec.ensures ∙ c.loop-tile.invariant
-    ∙ ap (map (cross_links c.args.setting.now c.args.tiles))
-    (take_all c.loop-tile.tile-index c.args.tiles (omega (arith, c.loop-tile-test.false, ap length c.as_slice-tile-items.ensures))))
+    (c.from_vec.ensures ∙ c.in_ok-cross.ensures
+    ∙ ap (λ (tiles : List TileMesh). map (cross_links c.args.setting.now tiles) tiles) c.as_slice.ensures)
 
 pub returns-clause-mesh : goal.returns-clause-mesh
 returns-clause-mesh c = made c

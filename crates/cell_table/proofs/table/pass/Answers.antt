@@ -1,0 +1,28 @@
+use Rattle.std.proofs.Common.{◌≡◌, ◌<◌, get_or, ap, sym, subst, arith, ⊎_elim}
+use Rattle.std.proofs.lemmas.Bool.{cases_lt}
+use Rattle.std.proofs.lemmas.List.{get_or_default}
+use Rattle.nav_ground.specs.declared.cell.Cell.{Cell}
+use Rattle.cell_table.specs.Columns.{column_of}
+use Rattle.cell_table.proofs.Places.{no_cell}
+use Rattle.cell_table.proofs.table.pass.Goals as goal
+
+pub loop-passed-preserved : goal.loop-passed-preserved
+loop-passed-preserved c = record {
+  least = omega arith;
+  before = λ k d low small.
+      let cells = c.args.cells.now in
+      let passed = c.loop-passed.passed in
+      let same = ap (λ (cell : Cell). column_of cell.at) (get_or_default cells passed d no_cell c.loop-passed-test.true) in
+      let here : column_of (get_or cells passed d).at < c.args.column = omega (arith, same, c.column_of.ensures.value, c.if-column_of-column.true) in
+      ⊎_elim (λ below. c.loop-passed.invariant.before k d low below)
+      (λ past. subst (λ n. column_of (get_or cells n d).at < c.args.column) (omega (arith, past, small)) here)
+      (cases_lt k passed);
+}
+
+pub returns-after-loop-passed-clause-next : goal.returns-after-loop-passed-clause-next
+returns-after-loop-passed-clause-next c = λ d there. absurd (omega (arith, there, c.loop-passed-test.false))
+
+pub returns-else-column_of-column-clause-next : goal.returns-else-column_of-column-clause-next
+returns-else-column_of-column-clause-next c = λ d there.
+    let same = ap (λ (cell : Cell). column_of cell.at) (get_or_default c.args.cells.now c.loop-passed.passed d no_cell there) in
+    omega (arith, same, c.column_of.ensures.value, c.if-column_of-column.false)

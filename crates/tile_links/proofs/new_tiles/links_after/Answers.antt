@@ -1,0 +1,14 @@
+use Rattle.std.proofs.Common.{◌∙◌, arith}
+use Rattle.tile_links.proofs.TilesFit.{tile_fit, tile_few}
+use Rattle.tile_links.proofs.new_tiles.links_after.Goals as goal
+
+pub is_near_new-requires-clause-there : goal.is_near_new-requires-clause-there
+is_near_new-requires-clause-there c = omega (arith, c.requires.there, c.requires.tiles.each)
+
+pub shared_cross_links-requires-clause-tile : goal.shared_cross_links-requires-clause-tile
+shared_cross_links-requires-clause-tile c =
+    tile_fit c.args.setting.now c.args.tiles.now c.args.place c.index-tiles-place.result c.get.result.now c.requires.tiles c.requires.there c.index-tiles-place.is c.get.ensures
+
+pub shared_cross_links-requires-clause-few : goal.shared_cross_links-requires-clause-few
+shared_cross_links-requires-clause-few c =
+    tile_few c.args.setting.now c.args.tiles.now c.args.place c.index-tiles-place.result c.get.result.now c.requires.tiles c.requires.there c.index-tiles-place.is c.get.ensures
