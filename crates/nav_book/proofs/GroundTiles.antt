@@ -1,7 +1,7 @@
 -- The tile meshes of a ground under obstacles are tiles of its setting, and make its mesh.
-use Rattle.std.proofs.Common.{◌≡◌, ℕ, ◌<◌, ◌≤◌, List, ◌++◌, length, get_or, ap, ◌∙◌, refl, sym, subst, arith}
+use Rattle.std.proofs.Common.{◌≡◌, ℕ, ◌<◌, ◌≤◌, List, ◌++◌, length, get_or, take, drop, ap, ◌∙◌, refl, sym, subst, arith}
 use Rattle.std.specs.List.{All}
-use Rattle.std.proofs.lemmas.List.{length-map, get_or-map}
+use Rattle.std.proofs.lemmas.List.{length-map, length-take-le, take-append-drop, get_or-map}
 use Rattle.std.proofs.lemmas.List.Elements.{All-map, All-weaker}
 use Rattle.nav_ground.specs.declared.cell.Layer.{Layer}
 use Rattle.nav_ground.specs.declared.history.Entry.{Entry}
@@ -20,11 +20,10 @@ use Rattle.nav_ground.proofs.LayerLaws.{IsLayerOf-from_ground, length-layers_of_
 use Rattle.mesh_types.specs.declared.mesh.Mesh.{Mesh}
 use Rattle.mesh_types.specs.declared.tile.TileMesh.{TileMesh}
 use Rattle.mesh_types.specs.Builds.{build_of, mesh_under, tile_mesh_of}
-use Rattle.mesh_types.specs.Soundness.{AreTiles, IsFit, polygon_count}
+use Rattle.mesh_types.specs.Soundness.{AreTiles, IsFit}
 use Rattle.mesh_types.specs.WholeMesh.{mesh_of}
 use Rattle.mesh_types.proofs.TileMeshes.{mesh_of_tile}
 use Rattle.tile_build.specs.Meshes.{tiles_under}
-use Rattle.tile_links.specs.NewTiles.{IsWhole}
 use Rattle.tile_build.proofs.BuildTotals.{few_polygons_of_tiles}
 use Rattle.tile_build.proofs.FreeInTile.{free_in_tile}
 use Rattle.tile_build.proofs.TileFits.{mesh_fits}
@@ -68,12 +67,6 @@ are_tiles whole shapes rules' limits = record {
   few = few_polygons_of_tiles whole shapes rules' limits;
 }
 
--- they make the mesh of the ground
-pub build_from : (whole : Ground) (history : List Entry) (k : ℕ) (tiles : List TileMesh) (mesh : Mesh)
-    → tiles ≡ tiles_under whole (shapes_alive history k) → mesh ≡ mesh_of whole.setting tiles → mesh ≡ build_of whole history k
-unfolding build_of
-build_from whole history k tiles mesh same is = is ∙ ap (mesh_of whole.setting) same
-
 pub tiles_of_build : (whole : Ground) (history : List Entry) (k : ℕ) → (build_of whole history k).tiles ≡ tiles_under whole (shapes_alive history k)
 unfolding build_of mesh_of
 tiles_of_build whole history k = refl
@@ -82,6 +75,16 @@ tiles_of_build whole history k = refl
 pub build_of-append : (whole : Ground) (history more : List Entry) (k : ℕ) → k ≤ length history → build_of whole (history ++ more) k ≡ build_of whole history k
 unfolding build_of
 build_of-append whole history more k within = ap (mesh_under whole) (shapes_alive-append history more k within)
+
+-- and the beginning that a mesh shows makes it alone
+pub build_of_beginning : (whole : Ground) (history some : List Entry) (k : ℕ) → k ≤ length history → some ≡ take k history
+    → build_of whole some (length some) ≡ build_of whole history k
+build_of_beginning whole history some k within is =
+    let count : length (take k history) ≡ k = length-take-le k history within in
+    (λ i. build_of whole (is i) (length (is i)))
+    ∙ ap (build_of whole (take k history)) count
+    ∙ sym (build_of-append whole (take k history) (drop k history) k (omega (arith, count)))
+    ∙ ap (λ (list : List Entry). build_of whole list k) (take-append-drop k history)
 
 -- it has the ground's setting
 pub setting_of_build : (whole : Ground) (history : List Entry) (k : ℕ) → (build_of whole history k).setting ≡ whole.setting
@@ -97,13 +100,3 @@ IsSetting-of_build whole history k mesh rules' same =
 pub whole_build : (whole : Ground) (history : List Entry) (k : ℕ) → build_of whole history k ≡ mesh_of whole.setting (tiles_under whole (shapes_alive history k))
 unfolding build_of
 whole_build whole history k = refl
-
-pub IsWhole-build : (whole : Ground) (history : List Entry) (k : ℕ) (mesh : Mesh) → IsGround whole → All IsShape (shapes_alive history k)
-    → mesh ≡ build_of whole history k → IsWhole mesh
-IsWhole-build whole history k mesh rules' limits same =
-    let setting : mesh.setting ≡ whole.setting = ap (λ (m : Mesh). m.setting) same ∙ setting_of_build whole history k in
-    let tiles : mesh.tiles ≡ tiles_under whole (shapes_alive history k) = ap (λ (m : Mesh). m.tiles) same ∙ tiles_of_build whole history k in
-    record {
-      tiles = rw (setting, tiles) (are_tiles whole (shapes_alive history k) rules' limits);
-      is = same ∙ whole_build whole history k ∙ (λ i. mesh_of (sym setting i) (sym tiles i));
-    }

@@ -1,18 +1,16 @@
 -- What is stored of the tiles of a ground, and what it makes of the published mesh.
-use Rattle.std.proofs.Common.{◌≡◌, ◌≢◌, ℕ, ◌<◌, ◌≤◌, ◌^◌, List, [], length, get_or, ap, ◌∙◌, sym, subst, arith, Option, Some, None, ⊎_elim, replicate}
+use Rattle.std.proofs.Common.{◌≡◌, ◌≢◌, ℕ, ◌<◌, List, [], length, get_or, ap, ◌∙◌, sym, subst, arith, Option, Some, None, ⊎_elim, replicate}
 use Rattle.std.specs.Prelude.{All, unwrap_or, slice_set}
-use Rattle.std.proofs.Math.Nat.{div-le_self, mul-le-mul_left, mul-le-mul_right}
 use Rattle.std.proofs.lemmas.Bool.{cases_order}
 use Rattle.std.proofs.lemmas.List.{get_or-replicate, get_or-set_same, get_or-set_other}
 use Rattle.nav_ground.specs.declared.cell.Layer.{Layer}
 use Rattle.nav_ground.specs.declared.history.Ground.{Ground}
-use Rattle.nav_ground.specs.declared.setting.Setting.{Setting}
 use Rattle.nav_ground.specs.declared.shape.Shape.{Shape}
 use Rattle.nav_ground.specs.Cells.{IsInTile}
 use Rattle.nav_ground.specs.Grounds.{IsGround, IsLayerOf}
 use Rattle.nav_ground.specs.Layers.{layer_of}
-use Rattle.nav_ground.specs.Limits.{IsSetting, IsShape}
-use Rattle.nav_ground.specs.Tiling.{tile_count, tiles_in_row, tile_rows}
+use Rattle.nav_ground.specs.Limits.{IsShape}
+use Rattle.nav_ground.specs.Tiling.{tile_count}
 use Rattle.nav_ground.specs.Touching.{touching_shapes}
 use Rattle.nav_ground.proofs.LayerLaws.{IsLayerOf-from_ground, length-layers_of_ground, layer_of_ground, no_radius_of_ground}
 use Rattle.mesh_types.specs.declared.tile.TileMesh.{TileMesh}
@@ -24,13 +22,6 @@ use Rattle.nav_book.specs.Results.{tile_under}
 use Rattle.nav_book.specs.Fresh.{AreStored, mesh_at_hand, news_of}
 use Rattle.nav_book.proofs.FreshTiles.{are_new, tiles_with_news}
 use Rattle.nav_book.proofs.GroundTiles.{are_tiles, length-tiles_under, get_or-tiles_under}
-
--- a ground has fewer than 2^32 tiles
-pub few_tiles : (setting : Setting) → IsSetting setting → tile_count setting < 2 ^ 32
-few_tiles setting limits =
-    let columns : tiles_in_row setting ≤ 1025 = omega (arith, div-le_self setting.width setting.tile, limits.width) in
-    let rows : tile_rows setting ≤ 1025 = omega (arith, div-le_self setting.depth setting.tile, limits.depth) in
-    omega (arith, mul-le-mul_right (tile_rows setting) columns, mul-le-mul_left 1025 rows)
 
 -- the cells of a tile's layer lie in the tile
 inside_tile : (whole : Ground) (t : ℕ) → IsGround whole → t < tile_count whole.setting

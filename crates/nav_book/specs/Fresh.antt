@@ -1,13 +1,10 @@
 -- Fresh tile meshes, which are stored and not published yet: one place a tile, empty where the stored mesh is the published one.
-use Rattle.std.specs.Prelude.{◌≡◌, ℕ, ◌+◌, ◌<◌, ◌≤◌, ◌^◌, List, [], ◌∷◌, ◌++◌, length, get_or, Option, Some, None, unwrap_or}
+use Rattle.std.specs.Prelude.{◌≡◌, ℕ, ◌+◌, ◌<◌, List, [], ◌∷◌, ◌++◌, get_or, Option, Some, None, unwrap_or}
 use Rattle.nav_ground.specs.declared.history.Ground.{Ground}
 use Rattle.nav_ground.specs.declared.shape.Shape.{Shape}
-use Rattle.nav_ground.specs.Limits.{IsSetting}
 use Rattle.nav_ground.specs.Tiling.{tile_count}
-use Rattle.mesh_types.specs.declared.mesh.Mesh.{Mesh}
 use Rattle.mesh_types.specs.declared.tile.TileMesh.{TileMesh}
-use Rattle.mesh_types.specs.Soundness.{polygon_count}
-use Rattle.tile_links.specs.NewTiles.{New, AreNew, IsWhole, tiles_after}
+use Rattle.tile_links.specs.NewTiles.{New}
 use Rattle.nav_book.specs.Results.{tile_under}
 
 -- the number of a tile with its fresh mesh, if it has one
@@ -32,11 +29,3 @@ mesh_at_hand places published tile otherwise = unwrap_or (get_or places tile Non
 abbrev pub AreStored : Ground → List (List Shape) → List (Option TileMesh) → List TileMesh → Type 0
 AreStored whole stored places published = (tile : ℕ) (otherwise : TileMesh) → tile < tile_count whole.setting
     → mesh_at_hand places published tile otherwise ≡ tile_under whole tile (get_or stored tile [])
-
--- the fresh tile meshes can be put into a mesh: it is the whole of its tiles, they are new tile meshes for it, and there are not too many
-pub record CanBePutInto (mesh : Mesh) (places : List (Option TileMesh)) : Type 0 where
-  pub numbers : length places < 2 ^ 32
-  pub setting : IsSetting mesh.setting
-  pub tiles : IsWhole mesh
-  pub news : AreNew mesh.setting (news_of places)
-  pub few : polygon_count (tiles_after (news_of places) mesh.tiles) ≤ 8000000

@@ -1,3 +1,4 @@
+pub mod Views
 pub mod Results
 pub mod Fresh
 pub mod Representation

@@ -1,5 +1,6 @@
 -- The meshes that a book shows and takes in.
-use Rattle.std.specs.Prelude.{◌≡◌, ◌<◌, ℕ, List}
+use Rattle.std.specs.Prelude.{◌≡◌, ◌<◌, ℕ, List, take}
+use Rattle.nav_ground.specs.declared.history.Entry.{Entry}
 use Rattle.nav_ground.specs.declared.history.Ground.{Ground}
 use Rattle.nav_ground.specs.declared.shape.Shape.{Shape}
 use Rattle.nav_ground.specs.Layers.{layer_of}
@@ -13,6 +14,10 @@ use Rattle.nav_book.specs.declared.result.TileResult.{TileResult}
 -- the mesh that a book shows: that of its ground with the obstacles that are alive after the published entries
 abbrev pub published_mesh : BookState → Mesh
 published_mesh state = build_of state.whole state.history state.published
+
+-- the entries whose obstacles it shows: as many as are published, the oldest first
+abbrev pub published_entries : BookState → List Entry
+published_entries state = take state.published state.history
 
 -- the mesh of a tile of a ground under a list of shapes
 abbrev pub tile_under : Ground → ℕ → List Shape → TileMesh

@@ -1,6 +1,6 @@
-//! The book: its history, the tiles that wait for a build, and the mesh that was last published.
+//! The book: its history, the tiles that wait for a build, and the press that publishes its mesh.
 
-ghost use Rattle.std.specs.Prelude.{◌≡◌, ◌↔◌, ◌+◌, ◌<◌, ◌≤◌, ◌++◌, [], List, length, IsErr, IfOk, IfErr, IfSome, OnOk, OnErr};
+ghost use Rattle.std.specs.Prelude.{◌≡◌, ◌↔◌, ◌+◌, ◌<◌, ◌≤◌, ◌++◌, [], List, length, replicate, IsErr, IfOk, IfErr, IfSome, OnOk, OnErr};
 ghost use Rattle.std.specs.Arc.{arc_value};
 ghost use Rattle.nav_ground.specs.declared.history.Entry.{Entry};
 ghost use Rattle.nav_ground.specs.Grounds.{IsGround};
@@ -11,12 +11,13 @@ ghost use Rattle.mesh_types.specs.Right.{IsRight};
 ghost use Rattle.mesh_types.specs.Soundness.{IsSound, link_count, polygon_count};
 ghost use Rattle.tile_build.specs.Meshes.{tiles_under};
 ghost use Rattle.nav_query.specs.Questions.{HasLowCost, IsAnswerable};
+ghost use Rattle.nav_version.specs.Pairs.{eye_of};
 ghost use Rattle.nav_desk.specs.BookState.{IsBook, first_state};
-ghost use Rattle.nav_desk.specs.Steps.{IsJob, next_reply, after_request, after_aim, next_job, after_claim, after_put_back, after_put_back_all, submission, after_submit, publication, after_publish};
-ghost use Rattle.nav_book.specs.Results.{IsBuild, published_mesh};
+ghost use Rattle.nav_desk.specs.Steps.{IsJob, next_reply, request_answer, requested, after_request, after_aim, next_job, after_claim, after_put_back, after_put_back_all, submission, after_submit, publication, after_publish};
+ghost use Rattle.nav_book.specs.Results.{IsBuild, published_entries, published_mesh};
 
 use crate::counts::{links, polygons};
-use crate::fresh::{empty, empty_places, put_in};
+use crate::fresh::{empty, empty_places, patch_of};
 use crate::result::TileResult;
 use mesh_types::{Answer, Mesh, TileMesh};
 use nav_base::Question;
@@ -24,61 +25,76 @@ use nav_desk::{Desk, HistoryFull, Job, Published, Submitted};
 use nav_ground::{Entry, Ground, HISTORY_LIMIT, Reply, Request};
 use nav_list::Items;
 use nav_share::Shared;
+use nav_version::{Eye, Press, Told, Version, pair};
 use std::alloc::{AllocError, Global};
 use std::marker::Model;
-use std::sync::Arc;
+use std::sync::{Arc, Wait};
 use tile_links::joined;
 
-/// The history of the requests to a ground, the tiles that wait for a build, and the mesh as it was last published.
-#[derive(Drop)]
+/// The history of the requests to a ground, the tiles that wait for a build, and the press that publishes its mesh. It is not `Drop`, since
+/// its press is not: `end` ends it.
+///
+/// Contracts see its state, of which each call is a step, and the pair of its press and its eyes, which no call changes.
 pub struct Book {
     desk: Desk,
     fresh: Vec<Option<Shared<TileMesh>>>,
-    mesh: Mesh,
+    press: Press,
 }
 
 impl Model for Book {
-    ghost use Rattle.nav_desk.specs.BookState.{BookState};
+    ghost use Rattle.nav_book.specs.Views.{BookView};
 
-    ghost Value = { BookState };
+    ghost Value = { BookView };
 
-    ghost use Rattle.nav_book.specs.Representation.{state_of, IsKept};
+    ghost use Rattle.nav_book.specs.Representation.{view_of, IsKept};
 
-    ghost view = { state_of };
+    ghost view = { view_of };
 
     ghost invariant = { IsKept };
 }
 
 impl Book {
-    /// The book of a ground, with no entries, which shows the ground without obstacles: the tiles are those. It takes the room for a
-    /// whole history, for as many live obstacles as the setting allows, and for what is kept of each tile, so that requests and results
-    /// take no memory.
-    pub fn begin(
+    /// The book of a ground, with no entries, which shows the ground without obstacles: the tiles are those. Each reader gets an eye, which
+    /// has seen that. It takes the room for a whole history, for as many live obstacles as the setting allows, and for what is kept of each
+    /// tile, so that requests and results take no memory.
+    pub fn begin<R: Wait>(
+        rt: &R,
         alloc: Global,
         level: Arc<Ground>,
         tiles: Items<Shared<TileMesh>>,
-    ) -> Result<Book, AllocError>
+        readers: u32,
+    ) -> Result<(Book, Vec<Eye>), AllocError>
         requires level { IsGround (arc_value level) }
         requires tiles { tiles ≡ tiles_under (arc_value level) [] }
-        ensures { IfOk result (λ book. book ≡ first_state (arc_value level)) }
+        ensures state { IfOk result (λ made. made.0.state ≡ first_state (arc_value level)) }
+        ensures eyes { IfOk result (λ made. made.1.items ≡ replicate readers (eye_of made.0.pair (arc_value level) [])) }
     {
         let fresh = empty_places(alloc, tiles.len())?;
         let mesh = joined(alloc, &level.setting, tiles)?;
-        let desk = Desk::begin(alloc, level)?;
-        Ok(Book { desk, fresh, mesh })
+        let desk = Desk::begin(alloc, Arc::try_clone(&level)?)?;
+        let opening = Version {
+            ground: level,
+            entries: Items::new(alloc),
+            mesh,
+        };
+        let (press, eyes) = pair(rt, alloc, opening, readers)?;
+        Ok((Book { desk, fresh, press }, eyes))
     }
 
     /// Appends a request of a lane to the history, and gives the number of its entry, from 1, and its answer. What was published stays.
     /// It takes no memory.
     pub fn request(&mut self, lane: u32, request: Request) -> Result<(u32, Reply), HistoryFull>
         requires { IsRequest request }
-        ensures appended { OnOk result (self.new ≡ after_request self.old lane request) }
-        ensures number { IfOk result (λ answer. answer.0 ≡ length self.old.history + 1) }
-        ensures reply { IfOk result (λ answer. answer.1 ≡ next_reply self.old request) }
+        ensures state { self.new.state ≡ requested self.old.state lane request }
+        ensures answer { result ≡ request_answer self.old.state request }
+        ensures appended { OnOk result (self.new.state ≡ after_request self.old.state lane request) }
+        ensures number { IfOk result (λ answer. answer.0 ≡ length self.old.state.history + 1) }
+        ensures reply { IfOk result (λ answer. answer.1 ≡ next_reply self.old.state request) }
+        ensures pair { self.new.pair ≡ self.old.pair }
 
         // It is refused exactly where the history is full, and then nothing changes.
-        ensures full { IsErr result ↔ (length self.old.history ≡ HISTORY_LIMIT) }
-        ensures len { IfErr result (λ refused. refused.len ≡ length self.old.history) }
+        ensures full { IsErr result ↔ (length self.old.state.history ≡ HISTORY_LIMIT) }
+        ensures len { IfErr result (λ refused. refused.len ≡ length self.old.state.history) }
         ensures refused { OnErr result (self.new ≡ self.old) }
     {
         self.desk.request(lane, request)
@@ -87,8 +103,9 @@ impl Book {
     /// Makes the whole history the target, and gives its length. A tile is awaited from then on where the shapes that it was last built
     /// under are not those that touch it at the target.
     pub fn aim(&mut self) -> u32
-        ensures aimed { self.new ≡ after_aim self.old }
-        ensures length { result ≡ length self.old.history }
+        ensures aimed { self.new.state ≡ after_aim self.old.state }
+        ensures length { result ≡ length self.old.state.history }
+        ensures pair { self.new.pair ≡ self.old.pair }
     {
         self.desk.aim()
     }
@@ -96,9 +113,10 @@ impl Book {
     /// Claims the least tile that is awaited and not claimed, and gives it with the shapes to build it under: those that are alive at the
     /// target and touch it. None exactly where there is no such tile. Where memory is refused, nothing has changed.
     pub fn claim(&mut self, alloc: Global) -> Result<Option<Job>, AllocError>
-        ensures job { IfOk result (λ job. job ≡ next_job self.old) }
-        ensures fit { IfOk result (λ job. IfSome job (IsJob self.old.whole.setting)) }
-        ensures claimed { OnOk result (self.new ≡ after_claim self.old) }
+        ensures job { IfOk result (λ job. job ≡ next_job self.old.state) }
+        ensures fit { IfOk result (λ job. IfSome job (IsJob self.old.state.whole.setting)) }
+        ensures claimed { OnOk result (self.new.state ≡ after_claim self.old.state) }
+        ensures pair { self.new.pair ≡ self.old.pair }
         ensures refused { OnErr result (self.new ≡ self.old) }
     {
         self.desk.claim(alloc)
@@ -106,15 +124,17 @@ impl Book {
 
     /// Gives a job back: its tile is claimed no more.
     pub fn put_back(&mut self, job: Job)
-        requires { job.tile < tile_count self.old.whole.setting }
-        ensures { self.new ≡ after_put_back self.old job.tile }
+        requires { job.tile < tile_count self.old.state.whole.setting }
+        ensures back { self.new.state ≡ after_put_back self.old.state job.tile }
+        ensures pair { self.new.pair ≡ self.old.pair }
     {
         self.desk.put_back(job.tile)
     }
 
     /// Gives all jobs back: no tile is claimed any more.
     pub fn put_back_all(&mut self)
-        ensures { self.new ≡ after_put_back_all self.old }
+        ensures back { self.new.state ≡ after_put_back_all self.old.state }
+        ensures pair { self.new.pair ≡ self.old.pair }
     {
         self.desk.put_back_all()
     }
@@ -122,9 +142,10 @@ impl Book {
     /// Takes a build in: its tile is claimed no more. It is stale exactly where the tile is not awaited, or was not built under the
     /// shapes that touch it at the target, and then it is dropped, and nothing else changes. It takes no memory.
     pub fn submit(&mut self, made: TileResult) -> Submitted
-        requires { IsBuild self.old.whole made }
-        ensures answer { result ≡ submission self.old made.tile made.shapes }
-        ensures stored { self.new ≡ after_submit self.old made.tile made.shapes }
+        requires { IsBuild self.old.state.whole made }
+        ensures answer { result ≡ submission self.old.state made.tile made.shapes }
+        ensures stored { self.new.state ≡ after_submit self.old.state made.tile made.shapes }
+        ensures pair { self.new.pair ≡ self.old.pair }
     {
         let answer = self.desk.submit(made.tile, made.shapes);
         match answer {
@@ -136,93 +157,123 @@ impl Book {
         }
     }
 
-    /// Publishes the target. It is not yet to be where a tile is awaited, of which the least is named, and it is published already where
-    /// the target is the published length; then nothing changes, and no memory is taken. Where memory is refused, nothing has changed.
-    pub fn publish(&mut self, alloc: Global) -> Result<Published, AllocError>
-        ensures answer { IfOk result (λ answer. answer ≡ publication self.old) }
-        ensures published { OnOk result (self.new ≡ after_publish self.old) }
+    /// Publishes the target, and waits for eyes that still read the version from before the last publishing. It is not yet to be where a
+    /// tile is awaited, of which the least is named, and it is published already where the target is the published length; then nothing
+    /// changes, and no memory is taken. Where memory is refused, neither the book nor what eyes see has changed.
+    pub fn publish<R: Wait>(&mut self, rt: &R, alloc: Global) -> Result<Published, AllocError>
+        ensures answer { IfOk result (λ answer. answer ≡ publication self.old.state) }
+        ensures published { OnOk result (self.new.state ≡ after_publish self.old.state) }
+        ensures pair { self.new.pair ≡ self.old.pair }
         ensures refused { OnErr result (self.new ≡ self.old) }
     {
         let answer = self.desk.publication();
         match answer {
             Published::New { .. } => {
-                put_in(alloc, &mut self.mesh, self.fresh.as_slice())?;
-                empty(self.fresh.as_mut_slice());
-                self.desk.publish();
-                Ok(answer)
+                let from = self.desk.published() as usize;
+                let to = self.desk.target() as usize;
+                let more = &self.desk.entries()[from..to];
+                let patch = patch_of(alloc, more, self.fresh.as_slice())?;
+                match self.press.publish(rt, alloc, patch) {
+                    Ok(_told) => {
+                        empty(self.fresh.as_mut_slice());
+                        self.desk.publish();
+                        Ok(answer)
+                    }
+                    Err((_patch, refused)) => Err(refused),
+                }
             }
             _ => Ok(answer),
         }
+    }
+
+    /// The published length, for an eye of this book to learn.
+    pub fn told(&self) -> Told
+        ensures told { result ≡ record { pair = self.now.pair; entries = published_entries self.now.state } }
+        ensures length { length result.entries ≡ self.now.state.published }
+    {
+        self.press.told()
     }
 
     /// The published length, and an answer to the question that is right in the mesh as it was last published. A path that is found costs
     /// less than 2^45.
     pub fn ask(&self, alloc: Global, question: &Question) -> Result<(u32, Answer), AllocError>
         requires { IsAnswerable question.now }
-        ensures published { IfOk result (λ told. told.0 ≡ self.now.published) }
-        ensures right { IfOk result (λ told. IsRight (published_mesh self.now) question.now told.1) }
+        ensures published { IfOk result (λ told. told.0 ≡ self.now.state.published) }
+        ensures right { IfOk result (λ told. IsRight (published_mesh self.now.state) question.now told.1) }
         ensures low_cost { IfOk result (λ told. HasLowCost told.1) }
     {
-        let answer = nav_query::answer(alloc, &self.mesh, question)?;
+        let answer = nav_query::answer(alloc, self.mesh(), question)?;
         Ok((self.desk.published(), answer))
     }
 
     /// The ground, as it is without obstacles.
     pub fn level(&self) -> &Ground
-        ensures value { result.now ≡ self.now.whole }
-        ensures rules { IsBook self.now }
+        ensures value { result.now ≡ self.now.state.whole }
+        ensures rules { IsBook self.now.state }
     {
         self.desk.level()
     }
 
     /// The mesh as it was last published. It is also that of every longer history at that length.
     pub fn mesh(&self) -> &Mesh
-        ensures value { result.now ≡ published_mesh self.now }
-        ensures lasting { (more : List Entry) → result.now ≡ build_of self.now.whole (self.now.history ++ more) self.now.published }
-        ensures sound { IsSound (published_mesh self.now) }
+        ensures value { result.now ≡ published_mesh self.now.state }
+        ensures lasting { (more : List Entry) → result.now ≡ build_of self.now.state.whole (self.now.state.history ++ more) self.now.state.published }
+        ensures sound { IsSound (published_mesh self.now.state) }
+        ensures rules { IsBook self.now.state }
     {
-        &self.mesh
+        &self.press.version().mesh
     }
 
     /// How many polygons and how many links the mesh has as it was last published; a link leads one way. The obstacles may be any: there are
     /// never more than 8000000 polygons and 64000000 links.
     pub fn mesh_counts(&self) -> (u32, u32)
-        ensures polygons { result.0 ≡ polygon_count (published_mesh self.now).tiles }
-        ensures links { result.1 ≡ link_count (published_mesh self.now) }
+        ensures polygons { result.0 ≡ polygon_count (published_mesh self.now.state).tiles }
+        ensures links { result.1 ≡ link_count (published_mesh self.now.state) }
         ensures few_polygons { result.0 ≤ 8000000 }
         ensures few_links { result.1 ≤ 64000000 }
     {
-        (polygons(self.mesh.tiles.as_slice()), links(&self.mesh))
+        let mesh = self.mesh();
+        (polygons(mesh.tiles.as_slice()), links(mesh))
     }
 
     /// How many entries the history has.
     pub fn length(&self) -> u32
-        ensures { result ≡ length self.now.history }
+        ensures { result ≡ length self.now.state.history }
     {
         self.desk.length()
     }
 
     /// How many entries the last `aim` saw: the tiles are built for the history up to there.
     pub fn target(&self) -> u32
-        ensures value { result ≡ self.now.target }
-        ensures within { result ≤ length self.now.history }
+        ensures value { result ≡ self.now.state.target }
+        ensures within { result ≤ length self.now.state.history }
     {
         self.desk.target()
     }
 
     /// How many entries the published mesh shows.
     pub fn published(&self) -> u32
-        ensures value { result ≡ self.now.published }
-        ensures within { result ≤ self.now.target }
+        ensures value { result ≡ self.now.state.published }
+        ensures within { result ≤ self.now.state.target }
     {
         self.desk.published()
     }
 
     /// The history, the oldest entry first.
     pub fn entries(&self) -> &[Entry]
-        ensures entries { result.now ≡ self.now.history }
-        ensures rules { IsHistory self.now.whole.setting.limit self.now.history }
+        ensures entries { result.now ≡ self.now.state.history }
+        ensures rules { IsHistory self.now.state.whole.setting.limit self.now.state.history }
     {
         self.desk.entries()
+    }
+
+    /// Ends the book and its press. It waits for eyes that are reading; from then on no eye answers any more.
+    pub fn end<R: Wait>(self, rt: &R) {
+        let Book {
+            desk: _,
+            fresh: _,
+            press,
+        } = self;
+        press.end(rt);
     }
 }

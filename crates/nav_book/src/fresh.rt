@@ -1,16 +1,14 @@
 //! Fresh tile meshes, which are not published yet: one place a tile.
 
 ghost use Rattle.std.specs.Prelude.{◌≡◌, ◌++◌, ◌<◌, ◌^◌, length, replicate, None, IfOk, OnOk, OnErr};
-ghost use Rattle.mesh_types.specs.Soundness.{IsSound};
-ghost use Rattle.mesh_types.specs.WholeMesh.{mesh_of};
-ghost use Rattle.tile_links.specs.NewTiles.{tiles_after};
-ghost use Rattle.nav_book.specs.Fresh.{CanBePutInto, new_at};
+ghost use Rattle.nav_book.specs.Fresh.{new_at};
 
-use mesh_types::{Mesh, TileMesh};
-use nav_ground::TileNo;
+use mesh_types::TileMesh;
+use nav_ground::{Entry, TileNo};
+use nav_list::Items;
 use nav_share::Shared;
+use nav_version::Patch;
 use std::alloc::{AllocError, Global};
-use tile_links::replace;
 
 /// Empty places, as many as that.
 pub(crate) fn empty_places(
@@ -26,22 +24,22 @@ pub(crate) fn empty_places(
     Ok(places)
 }
 
-/// Puts the fresh tile meshes into a mesh, which shares them with their places. Where memory is refused, the mesh is unchanged.
-pub(crate) fn put_in(
+/// What is published next: entries, and the fresh tile meshes, which the patch shares with their places.
+pub(crate) fn patch_of(
     alloc: Global,
-    mesh: &mut Mesh,
+    entries: &[Entry],
     places: &[Option<Shared<TileMesh>>],
-) -> Result<(), AllocError>
-    requires { CanBePutInto mesh.old places.now }
-    ensures mesh { OnOk result (mesh.new ≡ mesh_of mesh.old.setting (tiles_after (Rattle.nav_book.specs.Fresh.news_of places.now) mesh.old.tiles)) }
-    ensures sound { OnOk result (IsSound mesh.new) }
-    ensures unchanged { OnErr result (mesh.new ≡ mesh.old) }
+) -> Result<Patch, AllocError>
+    requires { length places.now < 2 ^ 32 }
+    ensures entries { IfOk result (λ patch. patch.entries ≡ entries.now) }
+    ensures tiles { IfOk result (λ patch. patch.tiles.items ≡ Rattle.nav_book.specs.Fresh.news_of places.now) }
 {
-    let news = news_of(alloc, places)?;
-    match replace(mesh, alloc, news) {
-        Ok(()) => Ok(()),
-        Err((_news, refused)) => Err(refused),
-    }
+    let mut more = Vec::with_capacity(alloc, entries.len())?;
+    more.extend_from_slice(entries)?;
+    Ok(Patch {
+        entries: Items::from_vec(more),
+        tiles: news_of(alloc, places)?,
+    })
 }
 
 /// The fresh tile meshes with the numbers of their tiles, which rise. The places keep theirs.

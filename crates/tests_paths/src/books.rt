@@ -1,11 +1,13 @@
 //! Runs of books over small flat grounds. What is wanted was worked out by hand.
 
-ghost use Rattle.std.specs.Prelude.{◌≡◌, ◌<◌, ◌≤◌, IfOk, IfSome};
+ghost use Rattle.std.specs.Prelude.{◌≡◌, ◌<◌, ◌≤◌, All, IfOk, IfSome};
 ghost use Rattle.nav_ground.specs.Fields.{IsField};
 ghost use Rattle.nav_ground.specs.Grounds.{IsGround};
 ghost use Rattle.nav_ground.specs.History.{IsRequest};
+ghost use Rattle.nav_version.specs.Pairs.{EyeView};
 ghost use Rattle.nav_book.specs.Results.{IsBuild};
 
+use crate::versions::both;
 use layer_cut::ground;
 use mesh_types::{Answer, PathFound, PolyRef};
 use nav_base::{FloorAt, Point, Question};
@@ -16,11 +18,12 @@ use nav_ground::{
 };
 use nav_list::Items;
 use nav_steps::Steps;
+use nav_version::Eye;
 use std::alloc::{AllocError, Global};
 use std::marker::Brand;
 use std::process::Abort;
-use std::sync::Arc;
 use std::sync::ledger::{Blank, Ledger};
+use std::sync::{Arc, Wait};
 use tile_build::build_tiles;
 
 /// What a table asks for: a block over the column (x, 1), a block there that sets the area 5, or that a number goes.
@@ -81,21 +84,23 @@ pub(crate) fn flat_field(alloc: Global, width: u32, depth: u32) -> Result<Field,
     })
 }
 
-/// The book of the ground of a flat field in tiles of a size, where two obstacles may be alive.
-fn opened<L: Ledger>(
+/// The book of the ground of a flat field in tiles of a size, where two obstacles may be alive, and an eye for each reader.
+fn opened<R: Wait, L: Ledger>(
+    rt: &R,
     alloc: Global,
-    width: u32,
-    depth: u32,
-    tile: u32,
+    sizes: (u32, u32, u32),
+    readers: u32,
     blank: Blank,
-) -> Result<Book, AllocError>
-    requires wide { (1 ≤ width) × (width ≤ 1024) }
-    requires deep { (1 ≤ depth) × (depth ≤ 1024) }
-    requires tile { (4 ≤ tile) × (tile ≤ 128) }
+) -> Result<(Book, Vec<Eye>), AllocError>
+    requires wide { (1 ≤ sizes.0) × (sizes.0 ≤ 1024) }
+    requires deep { (1 ≤ sizes.1) × (sizes.1 ≤ 1024) }
+    requires tile { (4 ≤ sizes.2) × (sizes.2 ≤ 128) }
     requires name { blank.name ≡ L.name }
     requires parts { blank.parts ≡ L.parts }
     requires some { 0 < blank.parts }
+    ensures { IfOk result (λ made. All (λ (eye : EyeView). eye.pair ≡ made.0.pair) made.1.items) }
 {
+    let (width, depth, tile) = sizes;
     let mut steps = Steps::<L>::new(blank);
     let setting = Setting {
         width,
@@ -114,8 +119,23 @@ fn opened<L: Ledger>(
     };
     let level = ground(alloc, setting, flat_field(alloc, width, depth)?)?;
     let tiles = build_tiles(alloc, &level, &[], &mut steps)?;
-    Book::begin(alloc, Arc::new(alloc, level)?, tiles)
+    Ok(Book::begin(rt, alloc, Arc::new(alloc, level)?, tiles, readers)?)
 }
+
+/// The same without readers, over a blank ledger.
+fn unread<R: Wait>(rt: &R, alloc: Global, sizes: (u32, u32, u32)) -> Result<Book, AllocError>
+    requires wide { (1 ≤ sizes.0) × (sizes.0 ≤ 1024) }
+    requires deep { (1 ≤ sizes.1) × (sizes.1 ≤ 1024) }
+    requires tile { (4 ≤ sizes.2) × (sizes.2 ≤ 128) }
+{
+    let (book, _eyes) = opened::<R, Brand>(rt, alloc, sizes, 0, Blank::new(1))?;
+    Ok(book)
+}
+
+/// A field of 7 by 4 columns in two tiles, and one of 8 by 8 columns in four.
+const TWO_TILES: (u32, u32, u32) = (7, 4, 4);
+
+const FOUR_TILES: (u32, u32, u32) = (8, 8, 4);
 
 /// Claims the least tile that can be claimed, if there is one, and builds it.
 fn next_build<L: Ledger>(
@@ -123,8 +143,9 @@ fn next_build<L: Ledger>(
     alloc: Global,
     steps: &mut Steps<L>,
 ) -> Result<Option<TileResult>, AllocError>
-    ensures same { book.new.whole ≡ book.old.whole }
-    ensures build { IfOk result (λ made. IfSome made (IsBuild book.old.whole)) }
+    ensures same { book.new.state.whole ≡ book.old.state.whole }
+    ensures pair { book.new.pair ≡ book.old.pair }
+    ensures build { IfOk result (λ made. IfSome made (IsBuild book.old.state.whole)) }
 {
     match book.level().setting.mesh {
         MeshKind::Strips => (),
@@ -145,7 +166,9 @@ fn build_next<L: Ledger>(
     book: &mut Book,
     alloc: Global,
     steps: &mut Steps<L>,
-) -> Result<Option<Submitted>, AllocError> {
+) -> Result<Option<Submitted>, AllocError>
+    ensures { book.new.pair ≡ book.old.pair }
+{
     match next_build(book, alloc, steps)? {
         None => Ok(None),
         Some(made) => Ok(Some(book.submit(made))),
@@ -153,10 +176,16 @@ fn build_next<L: Ledger>(
 }
 
 /// Builds all tiles that are awaited for the whole history of a book, of which there are four at most, and publishes it.
-fn settled<L: Ledger>(book: &mut Book, alloc: Global, blank: Blank) -> Result<Published, AllocError>
+fn settled<R: Wait, L: Ledger>(
+    rt: &R,
+    book: &mut Book,
+    alloc: Global,
+    blank: Blank,
+) -> Result<Published, AllocError>
     requires name { blank.name ≡ L.name }
     requires parts { blank.parts ≡ L.parts }
     requires some { 0 < blank.parts }
+    ensures { book.new.pair ≡ book.old.pair }
 {
     let mut steps = Steps::<L>::new(blank);
     book.put_back_all();
@@ -164,12 +193,14 @@ fn settled<L: Ledger>(book: &mut Book, alloc: Global, blank: Blank) -> Result<Pu
     for _ in 0..4 {
         build_next(book, alloc, &mut steps)?;
     }
-    book.publish(alloc)
+    book.publish(rt, alloc)
 }
 
 /// Publishes the whole history of a book, over a blank ledger.
-fn published(book: &mut Book, alloc: Global) -> Result<Published, AllocError> {
-    settled::<Brand>(book, alloc, Blank::new(1))
+fn published<R: Wait>(rt: &R, book: &mut Book, alloc: Global) -> Result<Published, AllocError>
+    ensures { book.new.pair ≡ book.old.pair }
+{
+    settled::<R, Brand>(rt, book, alloc, Blank::new(1))
 }
 
 /// The floors of a column, as the book answers.
@@ -218,14 +249,15 @@ fn check_replies(rt: &impl Abort, book: &mut Book, rows: &[Asking]) {
 
 #[test]
 fn answers_requests(rt: HostRuntime) -> Result<(), AllocError> {
-    let mut book = opened::<Brand>(rt.alloc(), 7, 4, 4, Blank::new(1))?;
+    let mut book = unread(&rt, rt.alloc(), TWO_TILES)?;
     check_replies(&rt, &mut book, &ASKINGS);
     let last = Entry {
         lane: 3,
         request: request_of(Asked::Block(1)),
         reply: Reply::Added { number: 11 },
     };
-    assert_eq!(rt; book.entries().last(), Some(&last));
+    assert!(rt; book.entries().last() == Some(&last));
+    book.end(&rt);
     Ok(())
 }
 
@@ -245,8 +277,8 @@ const SETTLINGS: [Settling; 6] = [
     (Asked::Remove(3), true, BARE, BARE),
 ];
 
-fn check_settlings(
-    rt: &impl Abort,
+fn check_settlings<R: Abort + Wait>(
+    rt: &R,
     alloc: Global,
     book: &mut Book,
     rows: &[Settling],
@@ -255,7 +287,7 @@ fn check_settlings(
         let _answer = book.request(0, request_of(*asked));
         if *settles {
             let k = book.length();
-            assert_eq!(rt; published(book, alloc)?, Published::New { k });
+            assert_eq!(rt; published(rt, book, alloc)?, Published::New { k });
             assert_eq!(rt; book.published(), book.length());
         }
         assert_eq!(rt; lowest(book, alloc, 1, 1)?, *first, "after {asked:?}");
@@ -294,9 +326,11 @@ fn check_columns(
 #[test]
 fn publishes_floors(rt: HostRuntime) -> Result<(), AllocError> {
     let alloc = rt.alloc();
-    let mut book = opened::<Brand>(alloc, 7, 4, 4, Blank::new(1))?;
-    check_settlings(&rt, alloc, &mut book, &SETTLINGS)?;
-    check_columns(&rt, alloc, &book, &COLUMNS)
+    let mut book = unread(&rt, alloc, TWO_TILES)?;
+    let settled = check_settlings(&rt, alloc, &mut book, &SETTLINGS);
+    let columns = check_columns(&rt, alloc, &book, &COLUMNS);
+    book.end(&rt);
+    settled.and(columns)
 }
 
 /// The tile of the columns 1 to 3 has the strips of the rows 1 and 2, each from 16 to 64 of x.
@@ -324,8 +358,8 @@ fn answers(book: &Book, alloc: Global, number: u32, wanted: &Answer) -> Result<b
 }
 
 /// The goal is covered once the request is published, and not before.
-fn check_covering(
-    rt: &impl Abort,
+fn check_covering<R: Abort + Wait>(
+    rt: &R,
     alloc: Global,
     book: &mut Book,
     stays: &Answer,
@@ -333,7 +367,7 @@ fn check_covering(
     assert!(rt; answers(book, alloc, 0, stays)?);
     let _answer = book.request(0, request_of(Asked::Block(2)));
     assert!(rt; answers(book, alloc, 0, stays)?);
-    published(book, alloc)?;
+    published(rt, book, alloc)?;
     assert!(rt; answers(book, alloc, 1, &Answer::NoGoal)?);
     Ok(())
 }
@@ -341,18 +375,30 @@ fn check_covering(
 #[test]
 fn answers_from_the_published_mesh(rt: HostRuntime) -> Result<(), AllocError> {
     let alloc = rt.alloc();
-    let mut book = opened::<Brand>(alloc, 7, 4, 4, Blank::new(1))?;
-    check_covering(&rt, alloc, &mut book, &staying(alloc))
+    let mut book = unread(&rt, alloc, TWO_TILES)?;
+    let covered = check_covering(&rt, alloc, &mut book, &staying(alloc));
+    book.end(&rt);
+    covered
+}
+
+/// How many polygons and links a field has in tiles of a size.
+fn counts<R: Wait>(rt: &R, alloc: Global, sizes: (u32, u32, u32)) -> Result<(u32, u32), AllocError>
+    requires wide { (1 ≤ sizes.0) × (sizes.0 ≤ 1024) }
+    requires deep { (1 ≤ sizes.1) × (sizes.1 ≤ 1024) }
+    requires tile { (4 ≤ sizes.2) × (sizes.2 ≤ 128) }
+{
+    let book = unread(rt, alloc, sizes)?;
+    let counts = book.mesh_counts();
+    book.end(rt);
+    Ok(counts)
 }
 
 /// One tile of four strips, and then four tiles of three strips each, with as many links inside tiles as over borders.
 #[test]
 fn counts_polygons_and_links(rt: HostRuntime) -> Result<(), AllocError> {
     let alloc = rt.alloc();
-    let one = opened::<Brand>(alloc, 6, 6, 6, Blank::new(1))?;
-    assert_eq!(rt; one.mesh_counts(), (4, 6));
-    let four = opened::<Brand>(alloc, 8, 8, 4, Blank::new(1))?;
-    assert_eq!(rt; four.mesh_counts(), (12, 32));
+    assert!(rt; counts(&rt, alloc, (6, 6, 6))? == (4, 6));
+    assert!(rt; counts(&rt, alloc, FOUR_TILES)? == (12, 32));
     Ok(())
 }
 
@@ -366,16 +412,23 @@ fn fill(book: &mut Book) -> bool {
     true
 }
 
+/// Fills a history, asks once more, and publishes it.
+fn check_full<R: Abort + Wait>(rt: &R, alloc: Global, book: &mut Book) -> Result<(), AllocError> {
+    let full = HistoryFull { len: HISTORY_LIMIT };
+    assert!(rt; fill(book));
+    assert!(rt; book.request(0, Request::Remove(1)) == Err(full));
+    let k = HISTORY_LIMIT;
+    assert!(rt; published(rt, book, alloc)? == Published::New { k });
+    Ok(())
+}
+
 #[test]
 fn fills_its_history(rt: HostRuntime) -> Result<(), AllocError> {
     let alloc = rt.alloc();
-    let mut book = sent(opened::<Brand>(alloc, 7, 4, 4, Blank::new(1))?);
-    assert!(rt; fill(&mut book));
-    let full = HistoryFull { len: HISTORY_LIMIT };
-    assert_eq!(rt; book.request(0, Request::Remove(1)), Err(full));
-    let k = HISTORY_LIMIT;
-    assert_eq!(rt; published(&mut book, alloc)?, Published::New { k });
-    Ok(())
+    let mut book = sent(unread(&rt, alloc, TWO_TILES)?);
+    let filled = check_full(&rt, alloc, &mut book);
+    book.end(&rt);
+    filled
 }
 
 /// What is done with a book.
@@ -398,7 +451,7 @@ enum Told {
     Published(Published),
 }
 
-fn act(book: &mut Book, alloc: Global, step: Step) -> Result<Told, AllocError> {
+fn act<R: Wait>(rt: &R, book: &mut Book, alloc: Global, step: Step) -> Result<Told, AllocError> {
     match step {
         Step::Ask(asked) => match book.request(0, request_of(asked)) {
             Ok((number, _reply)) => Ok(Told::Length(number)),
@@ -420,7 +473,7 @@ fn act(book: &mut Book, alloc: Global, step: Step) -> Result<Told, AllocError> {
             book.put_back_all();
             Ok(Told::Nothing)
         }
-        Step::Publish => Ok(Told::Published(book.publish(alloc)?)),
+        Step::Publish => Ok(Told::Published(book.publish(rt, alloc)?)),
     }
 }
 
@@ -451,14 +504,14 @@ const STEPS: [(Step, Told); 17] = [
     (Step::Claim, Told::Tile(0)),
 ];
 
-fn check_steps(
-    rt: &impl Abort,
+fn check_steps<R: Abort + Wait>(
+    rt: &R,
     alloc: Global,
     book: &mut Book,
     rows: &[(Step, Told)],
 ) -> Result<(), AllocError> {
     for (step, wanted) in rows {
-        assert_eq!(rt; act(book, alloc, *step)?, *wanted, "at {step:?}");
+        assert_eq!(rt; act(rt, book, alloc, *step)?, *wanted, "at {step:?}");
     }
     Ok(())
 }
@@ -466,8 +519,10 @@ fn check_steps(
 #[test]
 fn hands_out_the_tiles_that_are_awaited(rt: HostRuntime) -> Result<(), AllocError> {
     let alloc = rt.alloc();
-    let mut book = opened::<Brand>(alloc, 8, 8, 4, Blank::new(1))?;
-    check_steps(&rt, alloc, &mut book, &STEPS)
+    let mut book = unread(&rt, alloc, FOUR_TILES)?;
+    let stepped = check_steps(&rt, alloc, &mut book, &STEPS);
+    book.end(&rt);
+    stepped
 }
 
 /// Builds the awaited tile, does something else with the book and aims again, and submits the build.
@@ -492,7 +547,7 @@ fn submitted_late<L: Ledger>(
 }
 
 fn ask_all(book: &mut Book, requests: &[Asked])
-    ensures { book.new.whole ≡ book.old.whole }
+    ensures { book.new.state.whole ≡ book.old.state.whole }
 {
     for asked in requests {
         let _answer = book.request(0, request_of(*asked));
@@ -530,14 +585,25 @@ const LATE: [Late; 4] = [
     ),
 ];
 
-fn check_late(rt: &impl Abort, alloc: Global, row: &Late) -> Result<(), AllocError> {
-    let mut book = opened::<Brand>(alloc, 8, 8, 4, Blank::new(1))?;
+/// How a build is taken that was begun before more was asked, what a publish is answered then, and what is seen afterwards.
+fn late<R: Wait>(
+    rt: &R,
+    alloc: Global,
+    book: &mut Book,
+    between: &[Asked],
+) -> Result<(Option<Submitted>, Published, Option<FloorAt>), AllocError> {
     let _answer = book.request(0, request_of(Asked::Block(1)));
     book.aim();
-    let taken = submitted_late::<Brand>(&mut book, alloc, row.0, Blank::new(1))?;
-    assert!(rt; taken == Some(row.1));
-    assert!(rt; book.publish(alloc)? == row.2);
-    assert!(rt; lowest(&book, alloc, 1, 1)? == row.3);
+    let taken = submitted_late::<Brand>(book, alloc, between, Blank::new(1))?;
+    let published = book.publish(rt, alloc)?;
+    Ok((taken, published, lowest(book, alloc, 1, 1)?))
+}
+
+fn check_late<R: Abort + Wait>(rt: &R, alloc: Global, row: &Late) -> Result<(), AllocError> {
+    let mut book = unread(rt, alloc, FOUR_TILES)?;
+    let seen = late(rt, alloc, &mut book, row.0);
+    book.end(rt);
+    assert!(rt; seen? == (Some(row.1), row.2, row.3));
     Ok(())
 }
 
@@ -547,5 +613,70 @@ fn takes_builds_that_still_serve(rt: HostRuntime) -> Result<(), AllocError> {
     for row in &LATE {
         check_late(&rt, alloc, row)?;
     }
+    Ok(())
+}
+
+/// The length that an eye names, and how many floors it sees in the column (2, 1).
+fn looked(eye: &mut Eye, alloc: Global) -> Result<(u32, usize), AllocError>
+    ensures { eye.new.pair ≡ eye.old.pair }
+{
+    let (length, answer) = eye.ask(alloc, &Question::Floor { x: 2, z: 1 })?;
+    match answer {
+        Answer::Floors(floors) => Ok((length, floors.len())),
+        _ => Ok((length, 9)),
+    }
+}
+
+/// What eyes of a book see: the first one before a block is published there; the second one once it learnt the length that the book tells,
+/// and the first one again, which was told nothing; and that length.
+fn seen_by<R: Wait>(
+    rt: &R,
+    alloc: Global,
+    book: &mut Book,
+    first: &mut Eye,
+    second: &mut Eye,
+) -> Result<([(u32, usize); 3], u32), AllocError>
+    requires { second.old.pair ≡ book.old.pair }
+{
+    let before = looked(first, alloc)?;
+    let _answer = book.request(0, request_of(Asked::Block(2)));
+    published(rt, book, alloc)?;
+    let told = book.told();
+    let length = told.length();
+    second.learn(told);
+    let after = looked(second, alloc)?;
+    let again = looked(first, alloc)?;
+    Ok(([before, after, again], length))
+}
+
+/// The same, and whether an eye is refused once the book has ended.
+fn watched<R: Wait>(
+    rt: &R,
+    alloc: Global,
+    book: Book,
+    eyes: (Eye, Eye),
+) -> Result<([(u32, usize); 3], u32, bool), AllocError>
+    requires { eyes.1.pair ≡ book.pair }
+{
+    let mut book = book;
+    let (mut first, mut second) = eyes;
+    let seen = seen_by(rt, alloc, &mut book, &mut first, &mut second);
+    book.end(rt);
+    let (answers, length) = seen?;
+    Ok((answers, length, looked(&mut first, alloc).is_err()))
+}
+
+#[test]
+fn hands_out_eyes(rt: HostRuntime) -> Result<(), AllocError> {
+    let alloc = rt.alloc();
+    let (book, eyes) = opened::<HostRuntime, Brand>(&rt, alloc, TWO_TILES, 2, Blank::new(1))?;
+    let seen = match both(eyes) {
+        Some(eyes) => watched(&rt, alloc, book, eyes),
+        None => {
+            book.end(&rt);
+            Err(AllocError)
+        }
+    };
+    assert!(rt; seen? == ([(0, 1), (1, 0), (1, 0)], 1, true));
     Ok(())
 }

@@ -149,7 +149,7 @@ fn seen_by<R: Wait>(
 }
 
 /// Two eyes, which are those of a pair.
-fn both(mut eyes: Vec<Eye>) -> Option<(Eye, Eye)>
+pub(crate) fn both(mut eyes: Vec<Eye>) -> Option<(Eye, Eye)>
     ensures { (pair : Book) → All (λ (eye : EyeView). eye.pair ≡ pair) eyes.items → IfSome result (λ both. (both.0.pair ≡ pair) × (both.1.pair ≡ pair)) }
 {
     let second = eyes.pop()?;

@@ -3,5 +3,5 @@ use Rattle.nav_book.proofs.book.Book.ask.Goals as goal
 
 pub answer-requires-clause-setting : goal.answer-requires-clause-setting
 answer-requires-clause-setting c =
-    let state = c.self.inside.desk in
-    IsSetting-of_build state.whole state.history state.published c.self.inside.mesh c.self.invariant.rules.level c.self.invariant.mesh
+    let state = c.args.self.now.state in
+    IsSetting-of_build state.whole state.history state.published c.mesh.result.now c.mesh.ensures.rules.level c.mesh.ensures.value

@@ -1,29 +1,31 @@
-use Rattle.std.proofs.Common.{◌∙◌, ap, sym, subst, List, Option, None}
-use Rattle.mesh_types.specs.declared.tile.TileMesh.{TileMesh}
-use Rattle.mesh_types.specs.WholeMesh.{mesh_of}
-use Rattle.tile_links.specs.NewTiles.{tiles_after}
+use Rattle.std.proofs.Common.{◌≡◌, ◌∙◌, ap, sym, rules, None}
+use Rattle.std.specs.Prelude.{slice_range}
 use Rattle.nav_desk.specs.BookState.{BookState}
 use Rattle.nav_desk.specs.Steps.{after_publish}
-use Rattle.nav_book.specs.Fresh.{CanBePutInto, news_of}
+use Rattle.nav_book.specs.Fresh.{news_of}
 use Rattle.nav_book.proofs.FreshTiles.{all_empty}
-use Rattle.nav_book.proofs.KeptTiles.{can_be_put_in, kept_publish}
+use Rattle.nav_book.proofs.KeptTiles.{can_be_published, kept_publish}
 use Rattle.nav_book.proofs.book.Book.publish.Goals as goal
 
-pub put_in-requires : goal.put_in-requires
-put_in-requires c =
-    subst (CanBePutInto c.self.inside.mesh) (sym c.as_slice.ensures.value)
-    (can_be_put_in c.self.inside.desk c.self.inside.fresh.items c.self.inside.mesh c.self.invariant c.in-New.k (sym c.in-New.ensures.answer))
+pub publish-requires : goal.publish-requires
+publish-requires g c =
+    let state = c.self.inside.desk in
+    let patch = c.in_ok-patch-in-New.patch in
+    let between : patch.entries ≡ slice_range state.history state.published state.target = search rules in
+    let news : patch.tiles.items ≡ news_of c.self.inside.fresh.items = search rules in
+    can_be_published state c.self.inside.fresh.items c.self.inside.press c.self.invariant c.in-New.k (sym c.in-New.ensures.answer) patch between news
 
-pub invariant_of-self-in-New : goal.invariant_of-self-in-New
-invariant_of-self-in-New c =
-    let mesh = c.self.inside.mesh in
-    kept_publish c.self.inside.desk c.self.inside.fresh.items mesh c.self.invariant c.in-New.k (sym c.in-New.ensures.answer)
-    c.publish.new.self _ c.put_in.new.mesh
-    (c.publish.ensures.state ∙ ap after_publish c.publication-answer.ensures.same)
-    (c.publish.ensures.shown ∙ ap (λ (s : BookState). s.target) c.publication-answer.ensures.same)
-    c.publish.ensures.rules
+pub invariant_of-self-in-Ok : goal.invariant_of-self-in-Ok
+invariant_of-self-in-Ok g c =
+    let state = c.self.inside.desk in
+    let patch = c.in_ok-patch-in-New.patch in
+    let between : patch.entries ≡ slice_range state.history state.published state.target = search rules in
+    kept_publish state c.self.inside.fresh.items c.self.inside.press c.self.invariant c.in-New.k (sym c.in-New.ensures.answer)
+    c.publish-in-Ok.new.self _ c.publish.new.self patch.entries
+    (c.publish-in-Ok.ensures.state ∙ ap after_publish c.publication-answer.ensures.same)
+    (c.publish-in-Ok.ensures.shown ∙ ap (λ (s : BookState). s.target) c.publication-answer.ensures.same)
+    c.publish-in-Ok.ensures.rules
     (all_empty None c.self.inside.fresh.len c.self.inside.fresh.items c.as_mut_slice.result.now c.empty.new.places c.self.inside.fresh.ok.0
     c.as_mut_slice.ensures.value c.empty.ensures)
-    (c.in_ok-put_in-in-New.ensures.mesh
-    ∙ ap (λ (places : List (Option TileMesh)). mesh_of mesh.setting (tiles_after (news_of places) mesh.tiles)) c.as_slice.ensures.value)
-    c.in_ok-put_in-in-New.ensures.sound
+    between
+    c.in-Ok.ensures.published

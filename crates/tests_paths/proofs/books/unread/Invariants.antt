@@ -1,5 +1,5 @@
-use Rattle.tests_paths.proofs.books.publishes_floors.Given as goal
+use Rattle.tests_paths.proofs.books.unread.Given as goal
 
--- each call's ledger is the blank one that it is handed
+-- the call's ledger is the blank one that it is handed
 abbrev pub ghosts-opened : goal.ghosts-opened
 ghosts-opened a a' = record { name = a'.blank.name; parts = a'.blank.parts }
