@@ -1,11 +1,14 @@
 -- The texts of the output: the exact lines of each answer, each with its line feed.
-use Rattle.std.specs.Prelude.{ℕ, ◌+◌, List, ◌++◌, length, codes, decimal}
+use Rattle.std.specs.Prelude.{ℕ, ◌+◌, List, [], ◌∷◌, ◌++◌, length, codes, decimal}
 use Rattle.std.specs.Fmt.{signed_decimal}
 use Rattle.std.specs.List.{flat_map}
 use Rattle.nav_base.specs.declared.answers.FloorAt.{FloorAt}
 use Rattle.nav_base.specs.declared.point.Point.{Point}
+use Rattle.nav_ground.specs.declared.history.Entry.{Entry}
 use Rattle.nav_ground.specs.declared.history.Reply.{Reply}
 use Rattle.nav_ground.specs.declared.history.Reply.TheVariants.{Added, Removed, Full, Dead}
+use Rattle.nav_ground.specs.declared.history.Request.{Request}
+use Rattle.nav_ground.specs.declared.history.Request.TheVariants as requests
 use Rattle.mesh_types.specs.declared.answers.Answer.{Answer}
 use Rattle.mesh_types.specs.declared.answers.Answer.TheVariants.{Floors, Path, NoStart, NoGoal, NoPath, Reached, Wall}
 use Rattle.mesh_types.specs.declared.answers.PathFound.{PathFound}
@@ -15,15 +18,31 @@ use Rattle.mesh_types.specs.declared.corner.Side.TheVariants.{L, R}
 use Rattle.mesh_types.specs.declared.links.Link.{Link}
 use Rattle.mesh_types.specs.declared.links.PolyRef.{PolyRef}
 use Rattle.nav_text.specs.declared.fault.TextFault.{TextFault}
+use Rattle.nav_text.specs.Forms.{line_text}
+use Rattle.nav_script.specs.Spelling.{shape_spelling}
 use Rattle.nav_record.specs.declared.step.StepAnswer.{StepAnswer}
 use Rattle.nav_record.specs.declared.step.StepAnswer.TheVariants.{Aim, Claimed, NoTile, Busy, Idle, Back, Taken, Stale, Published, Same, NotYet, Settled, HistoryFull}
 
--- the number of an entry, and what became of its request; a refusal says how many obstacles are alive, or which number is not
+-- what became of a request, and the end of its line; a refusal says how many obstacles are alive, or which number is not
+abbrev pub outcome_text : Reply → List ℕ
+outcome_text (Added _) = codes " added\n"
+outcome_text Removed = codes " removed\n"
+outcome_text (Full live) = codes " full " ++ decimal live ++ codes "\n"
+outcome_text (Dead number) = codes " dead " ++ decimal number ++ codes "\n"
+
+-- the number of an entry, and what became of its request
 abbrev pub reply_text : ℕ → Reply → List ℕ
-reply_text entry (Added _) = codes "entry " ++ decimal entry ++ codes " added\n"
-reply_text entry Removed = codes "entry " ++ decimal entry ++ codes " removed\n"
-reply_text entry (Full live) = codes "entry " ++ decimal entry ++ codes " full " ++ decimal live ++ codes "\n"
-reply_text entry (Dead number) = codes "entry " ++ decimal entry ++ codes " dead " ++ decimal number ++ codes "\n"
+reply_text entry reply = codes "entry " ++ decimal entry ++ outcome_text reply
+
+-- a request as the history tells it: as a script spells it
+abbrev pub request_spelling : Request → List ℕ
+request_spelling (requests.Add shape) = shape_spelling shape
+request_spelling (requests.Remove number) = line_text (codes "remove") (number ∷ [])
+
+-- an entry of the history: its number, the lane that made the request, the request, and what became of it
+abbrev pub entry_text : ℕ → Entry → List ℕ
+entry_text number entry =
+    codes "entry " ++ decimal number ++ codes " " ++ decimal entry.lane ++ codes " " ++ request_spelling entry.request ++ outcome_text entry.reply
 
 -- what a step came to, with the worker, the tile or the length that it names
 abbrev pub step_text : StepAnswer → List ℕ
@@ -97,6 +116,17 @@ line_count _ = 1
 -- the end of a play: the published length and the history's length
 abbrev pub done_text : ℕ → ℕ → List ℕ
 done_text k n = codes "done " ++ decimal k ++ codes " " ++ decimal n ++ codes "\n"
+
+-- the live text begins with the history's length; before what its lines were answered each lane is named; and it ends with the final
+-- length and the numbers of polygons and directed links of the final mesh
+abbrev pub history_text : ℕ → List ℕ
+history_text n = codes "history " ++ decimal n ++ codes "\n"
+
+abbrev pub lane_text : ℕ → List ℕ
+lane_text lane = codes "lane " ++ decimal lane ++ codes "\n"
+
+abbrev pub final_text : ℕ → ℕ → ℕ → List ℕ
+final_text n polygons links = codes "final " ++ decimal n ++ codes " " ++ decimal polygons ++ codes " " ++ decimal links ++ codes "\n"
 
 -- what is wrong with the input: the line that fails, and the number of the fault's kind
 abbrev pub fault_text : TextFault → List ℕ

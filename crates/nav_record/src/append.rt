@@ -1,5 +1,6 @@
 //! Words with numbers between them, appended whole or not at all.
-ghost use Rattle.std.specs.Prelude.{◌≡◌, ◌+◌, ◌≤◌, ◌++◌, length, decimal, IsOk, OnOk, OnErr, vec_len, vec_capacity};
+ghost use Rattle.std.specs.Prelude.{◌≡◌, ◌+◌, ◌≤◌, ◌++◌, length, take, decimal, IsOk, OnOk, OnErr, vec_len, vec_capacity};
+ghost use Rattle.nav_text.specs.Forms.{line_text};
 
 use itoa::{Buffer, Integer};
 use std::alloc::AllocError;
@@ -82,4 +83,18 @@ pub fn append_pair<I: Integer>(
     out.extend_from_slice(between)?;
     out.extend_from_slice(second)?;
     out.extend_from_slice(after)
+}
+
+/// Appends a word and numbers, each behind one space. Where memory is refused a part of them may stand at the end.
+pub fn append_line(out: &mut Vec<u8>, word: &[u8], numbers: &[u32]) -> Result<(), AllocError>
+    ensures ok { OnOk result (out.new.items ≡ out.old.items ++ line_text word.now numbers.now) }
+    ensures err { OnErr result (take (vec_len out.old) out.new.items ≡ out.old.items) }
+    ensures room { vec_len out.old + length (line_text word.now numbers.now) ≤ vec_capacity out.old → IsOk result }
+    ensures capacity { vec_capacity out.old ≤ vec_capacity out.new }
+{
+    out.extend_from_slice(word)?;
+    for number in numbers {
+        append_number(out, b" ", *number, b"")?;
+    }
+    Ok(())
 }

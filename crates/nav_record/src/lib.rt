@@ -1,4 +1,4 @@
-//! The lines of the output: what became of requests, questions and steps, faults and ends.
+//! The lines of the output: what became of requests, questions and steps, the entries of a history, faults, beginnings and ends.
 //!
 //! Each function appends the whole lines of one answer to the bytes that are written so far, exactly as its definition in `specs/`
 //! spells them, or appends nothing where memory is refused. Where the vector has the room for all of them, it succeeds. All is one line but a
@@ -8,8 +8,10 @@
 mod answer;
 mod append;
 mod done;
+mod entry;
 mod fault;
 mod floors;
+mod live;
 mod paths;
 mod reply;
 mod step;
@@ -17,7 +19,9 @@ mod totals;
 
 pub use answer::write_answer;
 pub use done::write_done;
+pub use entry::write_entry;
 pub use fault::write_fault;
+pub use live::{write_final, write_history, write_lane};
 pub use reply::write_reply;
 pub use step::{StepAnswer, write_step};
 pub use totals::Totals;

@@ -2,9 +2,12 @@
 
 use mesh_types::{Answer, Corner, Link, PathFound, PolyRef, Portal, Side};
 use nav_base::{FloorAt, Point};
-use nav_ground::Reply;
+use nav_ground::{Entry, Reply, Request, Shape};
 use nav_list::Items;
-use nav_record::{StepAnswer, write_answer, write_done, write_fault, write_reply, write_step};
+use nav_record::{
+    StepAnswer, write_answer, write_done, write_entry, write_fault, write_final, write_history,
+    write_lane, write_reply, write_step,
+};
 use nav_text::{FaultKind, TextFault};
 use std::alloc::{AllocError, Global};
 use std::process::Abort;
@@ -83,6 +86,115 @@ fn writes_the_other_lines(rt: HostRuntime) -> Result<(), AllocError> {
     write_fault(&mut out, &TextFault { line: 0, kind: 0 })?;
     let wanted = "entry 1 added\nentry 2 full 1024\nentry 65536 removed\nentry 4 dead 4294967295\n\
         done 0 4294967295\nfault 4294967295 11\nfault 0 0\n";
+    assert_eq!(rt; out.as_slice(), wanted.as_bytes());
+    Ok(())
+}
+
+/// An entry with the number 65536, and its line.
+const ENTRIES: [(Entry, &str); 6] = [
+    (
+        Entry {
+            lane: 0,
+            request: Request::Add(Shape::Block {
+                x0: 40,
+                x1: 55,
+                y0: 0,
+                y1: 100,
+                z0: 41,
+                z1: 56,
+            }),
+            reply: Reply::Added { number: 65536 },
+        },
+        "entry 65536 0 add block 40 55 0 100 41 56 added\n",
+    ),
+    (
+        Entry {
+            lane: 15,
+            request: Request::Add(Shape::Cylinder {
+                cx: 2048,
+                cz: 0,
+                r: 1023,
+                y0: 1,
+                y1: 8191,
+            }),
+            reply: Reply::Full { live: 1024 },
+        },
+        "entry 65536 15 add cylinder 2048 0 1023 1 8191 full 1024\n",
+    ),
+    (
+        Entry {
+            lane: 4294967295,
+            request: Request::Remove(7),
+            reply: Reply::Removed,
+        },
+        "entry 65536 4294967295 remove 7 removed\n",
+    ),
+    (
+        Entry {
+            lane: 2,
+            request: Request::Remove(4294967295),
+            reply: Reply::Dead { number: 4294967295 },
+        },
+        "entry 65536 2 remove 4294967295 dead 4294967295\n",
+    ),
+    (
+        Entry {
+            lane: 1,
+            request: Request::Add(Shape::AreaBlock {
+                area: 5,
+                x0: 1,
+                x1: 2,
+                y0: 3,
+                y1: 4,
+                z0: 6,
+                z1: 7,
+            }),
+            reply: Reply::Added { number: 8 },
+        },
+        "entry 65536 1 add area 5 block 1 2 3 4 6 7 added\n",
+    ),
+    (
+        Entry {
+            lane: 1,
+            request: Request::Add(Shape::AreaCylinder {
+                area: 63,
+                cx: 1,
+                cz: 2,
+                r: 3,
+                y0: 4,
+                y1: 5,
+            }),
+            reply: Reply::Added { number: 8 },
+        },
+        "entry 65536 1 add area 63 cylinder 1 2 3 4 5 added\n",
+    ),
+];
+
+fn check_entries(
+    rt: &impl Abort,
+    alloc: Global,
+    entries: &[(Entry, &str)],
+) -> Result<(), AllocError> {
+    for (entry, wanted) in entries {
+        let mut out = Vec::new(alloc);
+        write_entry(&mut out, 65536, entry)?;
+        assert_eq!(rt; out.as_slice(), wanted.as_bytes(), "at {wanted}");
+    }
+    Ok(())
+}
+
+#[test]
+fn writes_entries(rt: HostRuntime) -> Result<(), AllocError> {
+    check_entries(&rt, rt.alloc(), &ENTRIES)
+}
+
+#[test]
+fn writes_the_frame_of_a_live_text(rt: HostRuntime) -> Result<(), AllocError> {
+    let mut out = Vec::new(rt.alloc());
+    write_history(&mut out, 65536)?;
+    write_lane(&mut out, 15)?;
+    write_final(&mut out, 1, 13, 4294967295)?;
+    let wanted = "history 65536\nlane 15\nfinal 1 13 4294967295\n";
     assert_eq!(rt; out.as_slice(), wanted.as_bytes());
     Ok(())
 }
