@@ -1,6 +1,6 @@
 //! Takes measures of single stages, which scripts time: each line of the input, as `turns 1000`, names a measure and how often to take it.
 //! For each it prints the name and a sum that comes from all of the work. Of `text ROUNDS`, behind which a field text stands up to the end of
-//! the input, it prints how many spans and lines the text has. A line that names no measure is an error, which ends it with a status.
+//! the input, it prints how many spans and lines the text has. A line that names no measure ends it with an error line and status 2.
 #![tactic(auto)]
 
 mod chain;
@@ -14,6 +14,7 @@ use nav_text::first_line;
 use std::alloc::{AllocError, Global};
 use std::io;
 use std::io::Read;
+use std::process::ExitCode;
 use std::sync::Wait;
 use texts::Reading;
 
@@ -36,23 +37,25 @@ fn take<R: Wait>(rt: &R, alloc: Global, line: &[u8]) -> Result<Option<u64>, Allo
     locks::take(rt, alloc, line)
 }
 
-fn main(rt: HostRuntime) -> io::Result<()> {
+fn main(rt: HostRuntime) -> io::Result<ExitCode> {
     let mut input = Vec::new(rt.alloc());
     rt.reader().read_to_end(&mut input)?;
     let mut rest = input.as_slice();
     while let Some((line, after)) = first_line(rest) {
         if let Some(reading) = texts::take(rt.alloc(), line, after) {
-            return match reading {
-                Reading::Read { spans, lines } => println!(rt; "{spans} spans, {lines} lines"),
-                Reading::Fault { line, kind } => println!(rt; "fault {line} {kind}"),
-                Reading::OutOfMemory => println!(rt; "out of memory"),
-            };
+            match reading {
+                Reading::Read { spans, lines } => println!(rt; "{spans} spans, {lines} lines")?,
+                Reading::Fault { line, kind } => println!(rt; "fault {line} {kind}")?,
+                Reading::OutOfMemory => println!(rt; "out of memory")?,
+            }
+            break;
         }
         let Some(sum) = take(&rt, rt.alloc(), line)? else {
-            return Err(io::ErrorKind::InvalidInput.into());
+            eprintln!(rt; "no measure of this form: {}", name_of(line))?;
+            return Ok(ExitCode::from(2));
         };
         println!(rt; "{} {sum}", name_of(line))?;
         rest = after;
     }
-    Ok(())
+    Ok(ExitCode::SUCCESS)
 }
