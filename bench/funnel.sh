@@ -8,8 +8,8 @@ cd "$(dirname "$0")/.."
 work=$(mktemp -d)
 trap 'rm -rf "$work"' EXIT
 
-(cd crates/bench_funnel_path && rt run < stdin > "$work/build.log" 2>&1) || { cat "$work/build.log"; exit 1; }
-cp crates/bench_funnel_path/out/bench_funnel_path "$work/product"
+(cd crates/bench_stages && rt run < stdin > "$work/build.log" 2>&1) || { cat "$work/build.log"; exit 1; }
+cp crates/bench_stages/out/bench_stages "$work/product"
 
 # seconds NAME PULLS: the least processor time of five runs
 seconds() {

@@ -1,4 +1,4 @@
-//! The same reader as the program bench_span_text, in Rust with the C library's memchr.
+//! The same reader as the program bench_stages, in Rust with the C library's memchr.
 
 use std::io::Read;
 
@@ -107,7 +107,7 @@ fn main() {
     let mut input = Vec::new();
     std::io::stdin().read_to_end(&mut input).unwrap();
     let (line, text) = first_line(&input).unwrap();
-    let rounds = number_at(line).unwrap().0;
+    let rounds = number_at(line.strip_prefix(b"text ").unwrap()).unwrap().0;
     let mut summary = (0, 0);
     for _ in 0..rounds {
         match read_field(std::hint::black_box(text)) {

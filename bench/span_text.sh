@@ -8,14 +8,14 @@ work=$(mktemp -d)
 trap 'rm -rf "$work"' EXIT
 
 rustc -O -o "$work/rust" bench/span_text.rs
-(cd crates/bench_span_text && rt run < stdin > "$work/build.log" 2>&1) || { cat "$work/build.log"; exit 1; }
-cp crates/bench_span_text/out/bench_span_text "$work/product"
+(cd crates/bench_stages && rt run < stdin > "$work/build.log" 2>&1) || { cat "$work/build.log"; exit 1; }
+cp crates/bench_stages/out/bench_stages "$work/product"
 
 {
     printf 'nav 1\nsize 1000 1000\ntile 32\nagent 10 4 2\nerror 169\nmesh contours\nlimit 64\ncost 63 2\n'
     awk 'BEGIN { for (z = 0; z < 1000; z++) for (x = 0; x < 1000; x++) printf "span %d %d 0 %d 63\nspan %d %d 4000 %d 63\n", x, z, 100 + (x * 7 + z) % 900, x, z, 4100 + (x + z * 5) % 4000; print "end" }'
 } > "$work/text"
-for rounds in 1 6; do { echo $rounds; cat "$work/text"; } > "$work/input$rounds"; done
+for rounds in 1 6; do { echo "text $rounds"; cat "$work/text"; } > "$work/input$rounds"; done
 
 # seconds PROGRAM ROUNDS: the least processor time of three runs
 seconds() {

@@ -1,4 +1,4 @@
-// The same work as crates/bench_turn_lock under a `std::sync::Mutex`: so many rounds of 10000 pairs in one thread.
+// The same work as the program bench_stages under a `std::sync::Mutex`: so many rounds of 10000 pairs in one thread.
 use std::hint::black_box;
 use std::sync::Mutex;
 
@@ -32,7 +32,8 @@ fn round() -> u64 {
 }
 
 fn main() {
-    let rounds: u32 = std::env::args().nth(1).and_then(|word| word.parse().ok()).unwrap_or(0);
+    let line = std::io::read_to_string(std::io::stdin()).unwrap();
+    let rounds: u32 = line.trim_end().strip_prefix("lock ").unwrap().parse().unwrap();
     let added: u64 = (0..rounds).map(|_| round()).sum();
-    println!("{added}");
+    println!("lock {added}");
 }

@@ -1,10 +1,9 @@
-//! Takes many roots and many turns, to be timed: each line of the input, as `roots 1000`, names what to take and how often.
-#![tactic(auto)]
+//! Roots and turns: `large_roots ROUNDS`, `small_roots ROUNDS` and `turns ROUNDS` give the sum of so many.
 
 ghost use Rattle.nav_base.specs.Point.{HasCoordinates};
 
 use nav_base::{Point, ceil_sqrt, orient};
-use std::io;
+use nav_text::numbers_of;
 
 // The next number of a sequence that looks random.
 fn scattered(state: u64) -> u64 {
@@ -14,7 +13,7 @@ fn scattered(state: u64) -> u64 {
 }
 
 // The sum of the roots of numbers of up to 63 bits.
-fn large_roots(rounds: u64) -> u64 {
+fn large_roots(rounds: u32) -> u64 {
     let mut state = 1;
     let mut sum: u64 = 0;
     for _ in 0..rounds {
@@ -25,7 +24,7 @@ fn large_roots(rounds: u64) -> u64 {
 }
 
 // The sum of the roots of numbers of up to 30 bits, as the squares of lengths in a mesh.
-fn small_roots(rounds: u64) -> u64 {
+fn small_roots(rounds: u32) -> u64 {
     let mut state = 1;
     let mut sum: u64 = 0;
     for _ in 0..rounds {
@@ -46,7 +45,7 @@ fn point(state: u64) -> Point
 }
 
 // The sum of the turns of triangles.
-fn turns(rounds: u64) -> i64 {
+fn turns(rounds: u32) -> i64 {
     let mut a = 1;
     let mut b = 2;
     let mut sum: i64 = 0;
@@ -59,22 +58,14 @@ fn turns(rounds: u64) -> i64 {
     sum
 }
 
-fn measured(name: &str, rounds: u64) -> u64 {
-    match name {
-        "large_roots" => large_roots(rounds),
-        "small_roots" => small_roots(rounds),
-        "turns" => turns(rounds).unsigned_abs(),
-        _ => 0,
+/// The sum of what a line names here, if it does.
+pub fn take(line: &[u8]) -> Option<u64> {
+    if let Some(n) = numbers_of::<1>(b"large_roots", line) {
+        Some(large_roots(n[0]))
+    } else if let Some(n) = numbers_of::<1>(b"small_roots", line) {
+        Some(small_roots(n[0]))
+    } else {
+        let n = numbers_of::<1>(b"turns", line)?;
+        Some(turns(n[0]).unsigned_abs())
     }
-}
-
-fn main(rt: HostRuntime) -> io::Result<()> {
-    for line in rt.lines(rt.alloc()) {
-        let text = line?;
-        if let Some((name, count)) = text.as_str().split_once(' ') {
-            let sum = measured(name, count.parse::<u64>().unwrap_or(0));
-            println!(rt; "{name} {sum}")?;
-        }
-    }
-    Ok(())
 }

@@ -1,13 +1,11 @@
-//! Adds pairs under a turn lock in one thread, 10000 a round, for `bench/turn_lock.sh` to time. The argument is the
-//! number of rounds. It prints how many pairs all rounds added.
-#![tactic(auto)]
+//! Acts under a turn lock by one thread: `lock ROUNDS` adds 10000 pairs a round; the sum is how many all rounds added.
 
 ghost use Rattle.std.specs.Prelude.{◌≡◌};
 ghost use Rattle.turn_lock.specs.Locks.{IsOf};
 
+use nav_text::numbers_of;
 use std::alloc::{AllocError, Global};
 use std::sync::Wait;
-use std::{env, io};
 use turn_lock::pairs::{Pair, Pairs};
 use turn_lock::{Pass, TurnLock};
 
@@ -36,14 +34,19 @@ fn round<R: Wait>(rt: &R, alloc: Global) -> Result<u32, AllocError> {
     Ok(lock.length(&mut pass))
 }
 
-fn main(rt: HostRuntime) -> io::Result<()> {
-    let rounds = match env::args(&rt)?.nth(1) {
-        Some(word) => word.parse::<u32>().unwrap_or(0),
-        None => 0,
-    };
+// How many pairs so many rounds added.
+fn added<R: Wait>(rt: &R, alloc: Global, rounds: u32) -> Result<u64, AllocError> {
     let mut added: u64 = 0;
     for _ in 0..rounds {
-        added = added.saturating_add(u64::from(round(&rt, rt.alloc())?));
+        added = added.saturating_add(u64::from(round(rt, alloc)?));
     }
-    println!(rt; "{added}")
+    Ok(added)
+}
+
+/// The sum of what a line names here, if it does.
+pub fn take<R: Wait>(rt: &R, alloc: Global, line: &[u8]) -> Result<Option<u64>, AllocError> {
+    let Some(n) = numbers_of::<1>(b"lock", line) else {
+        return Ok(None);
+    };
+    Ok(Some(added(rt, alloc, n[0])?))
 }
