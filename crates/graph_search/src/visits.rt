@@ -8,7 +8,7 @@ use crate::arcs::{Step, Vertex};
 use std::alloc::{AllocError, Global};
 
 /// What is known of a vertex: the least cost found so far of a walk to it, when it was closed, and the last step of that walk.
-#[derive(Clone, Copy, PartialEq, Eq, Debug)]
+#[derive(Clone, Copy)]
 pub(crate) struct Visit {
     /// `u64::MAX` where no walk was found.
     pub(crate) cost: u64,

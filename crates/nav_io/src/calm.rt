@@ -9,7 +9,7 @@ use crate::memory::copy_front;
 use crate::{Failed, Sink, Source};
 
 /// A source that gives the bytes of a vector in pieces, and never fails.
-#[derive(Debug, Drop)]
+#[derive(Drop)]
 pub struct CalmSource {
     /// All bytes, those that were given already included.
     pub bytes: Vec<u8>,
@@ -64,7 +64,7 @@ impl Source for CalmSource {
 }
 
 /// A sink that takes every piece whole, never fails, and keeps and tells no byte.
-#[derive(Clone, Copy, PartialEq, Eq, Debug)]
+#[derive(Clone, Copy)]
 pub struct CalmSink;
 
 impl Sink for CalmSink {

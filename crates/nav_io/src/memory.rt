@@ -11,7 +11,7 @@ use std::alloc::{AllocError, Global};
 /// A source that gives the bytes of a vector in pieces, and fails at chosen calls.
 ///
 /// `calls` and `faults` stay at the greatest value of their type once they have reached it.
-#[derive(Debug, Drop)]
+#[derive(Drop)]
 pub struct MemorySource {
     /// All bytes, those that were given already included.
     pub bytes: Vec<u8>,
@@ -106,7 +106,7 @@ pub(crate) fn copy_front(bytes: &[u8], piece: usize, buf: &mut [u8]) -> usize
 /// A sink that keeps what it takes, in pieces, and fails at chosen calls and where its room ends.
 ///
 /// `calls` and `faults` stay at the greatest value of their type once they have reached it.
-#[derive(Debug, Drop)]
+#[derive(Drop)]
 pub struct MemorySink {
     /// The bytes that the sink took, in order.
     pub bytes: Vec<u8>,

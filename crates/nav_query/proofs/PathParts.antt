@@ -1,5 +1,5 @@
 -- What the parts of a path are asked and give.
-use Rattle.std.proofs.Common.{◌≡◌, ℕ, ◌<◌, List, length, ap, sym, subst, ◌∙◌, arith}
+use Rattle.std.proofs.Common.{◌≡◌, ℕ, ◌<◌, List, length, sym, subst, arith}
 use Rattle.std.proofs.lemmas.List.{length-map}
 use Rattle.std.proofs.lemmas.List.Elements.{All-weaker}
 use Rattle.nav_base.specs.declared.point.Point.{Point}
@@ -31,11 +31,11 @@ pub record ArePulled (start : Point) (portals : List Portal) (goal : Point) : Ty
   pub few : length portals < 4294967295
   pub coordinates : HasChainCoordinates start portals goal
 
-pub pulled : (mesh : Mesh) (from : Point) (from_y : ℕ) (to : Point) (to_y : ℕ) (first last : PolyRef) (corridor : Corridor) (links : List Link) (portals : List Portal)
+pub pulled : (mesh : Mesh) (from : Point) (from_y : ℕ) (to : Point) (to_y : ℕ) (first last : PolyRef) (corridor : Corridor) (links : List Link)
     → IsSound mesh → IsSetting mesh.setting → HasCoordinates from → HasCoordinates to → IsLocated mesh from from_y first → IsLocated mesh to to_y last
-    → IsCheapest mesh first last corridor → links ≡ corridor.links → portals ≡ portals_of links → ArePulled from portals to
-pulled mesh from from_y to to_y first last corridor links portals sound setting at_from at_to start goal cheapest same are =
-    subst (λ (ps : List Portal). ArePulled from ps to) (sym (are ∙ ap portals_of same)) (record {
+    → IsCheapest mesh first last corridor → links ≡ corridor.links → ArePulled from (portals_of links) to
+pulled mesh from from_y to to_y first last corridor links sound setting at_from at_to start goal cheapest same =
+    subst (λ (ls : List Link). ArePulled from (portals_of ls) to) (sym same) (record {
       chain = walk_is_chain mesh first corridor.links last from to sound cheapest.walks (held_in mesh from from_y first start.holding) (held_in mesh to to_y last goal.holding);
       few = omega (arith, few_links mesh first last corridor sound setting cheapest, length-map corridor.links (λ (link : Link). link.portal));
       coordinates = record {

@@ -1,16 +1,19 @@
 //! Paths between two places.
 
-ghost use Rattle.std.specs.Prelude.{◌≡◌, IfOk};
+ghost use Rattle.std.specs.Prelude.{◌≡◌, ◌<◌, IfOk, length};
 ghost use Rattle.nav_base.specs.Point.{HasCoordinates};
 ghost use Rattle.nav_ground.specs.Limits.{IsSetting};
+ghost use Rattle.funnel_path.specs.Coordinates.{HasChainCoordinates};
+ghost use Rattle.mesh_types.specs.Chains.{IsChain};
 ghost use Rattle.mesh_types.specs.Right.{IsRightPath, portals_of};
 ghost use Rattle.mesh_types.specs.Soundness.{IsSound};
+ghost use Rattle.mesh_types.specs.Taut.{IsTaut};
 ghost use Rattle.nav_query.specs.Questions.{HasLowCost};
 
 use corridor_search::cheapest;
 use funnel_path::pull;
 use mesh_locate::locate;
-use mesh_types::{Answer, Link, Mesh, PathFound, Portal};
+use mesh_types::{Answer, Corner, Link, Mesh, PathFound, Portal};
 use nav_base::Point;
 use nav_list::Items;
 use std::alloc::{AllocError, Global};
@@ -40,14 +43,25 @@ pub fn path(
     let Some(corridor) = cheapest(alloc, mesh, first, last)? else {
         return Ok(Answer::NoPath);
     };
-    let portals = portals(alloc, corridor.links.as_slice())?;
-    let turns = pull(alloc, from, portals.as_slice(), to)?;
+    let turns = turns(alloc, from, corridor.links.as_slice(), to)?;
     Ok(Answer::Path(PathFound {
         first,
         cost: corridor.cost,
         links: corridor.links,
-        turns: Items::from_vec(turns),
+        turns,
     }))
+}
+
+/// The corners of a taut line from one place to another through the portals of links.
+fn turns(alloc: Global, from: Point, links: &[Link], to: Point) -> Result<Items<Corner>, AllocError>
+    requires chain { IsChain from (portals_of links.now) to }
+    requires few { length (portals_of links.now) < 4294967295 }
+    requires coordinates { HasChainCoordinates from (portals_of links.now) to }
+    ensures { IfOk result (λ turns. IsTaut from (portals_of links.now) to turns) }
+{
+    let portals = portals(alloc, links)?;
+    let turns = pull(alloc, from, portals.as_slice(), to)?;
+    Ok(Items::from_vec(turns))
 }
 
 /// The portals of links, in order.

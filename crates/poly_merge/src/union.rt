@@ -68,17 +68,16 @@ pub(crate) fn union(
     ensures { IfOk result (λ places. places.items ≡ past_edge first.now edge ++ past_edge second.now facing) }
 {
     let mut places = Vec::with_capacity(alloc, 6)?;
-    places.extend_from_slice(&first[edge + 1..])?;
-    places.extend_from_slice(&first[..edge])?;
-    push_second(&mut places, second, facing)?;
+    push_past_edge(&mut places, first, edge)?;
+    push_past_edge(&mut places, second, facing)?;
     Ok(places)
 }
 
 /// Appends the places of a piece from the end of an edge on, all but the edge's beginning.
-fn push_second(places: &mut Vec<u32>, second: &[u32], facing: usize) -> Result<(), AllocError>
-    requires { facing < length second.now }
-    ensures { OnOk result (places.new.items ≡ places.old.items ++ past_edge second.now facing) }
+fn push_past_edge(places: &mut Vec<u32>, piece: &[u32], edge: usize) -> Result<(), AllocError>
+    requires { edge < length piece.now }
+    ensures { OnOk result (places.new.items ≡ places.old.items ++ past_edge piece.now edge) }
 {
-    places.extend_from_slice(&second[facing + 1..])?;
-    places.extend_from_slice(&second[..facing])
+    places.extend_from_slice(&piece[edge + 1..])?;
+    places.extend_from_slice(&piece[..edge])
 }
