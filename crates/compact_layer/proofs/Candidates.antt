@@ -1,5 +1,5 @@
 -- The one cell of a neighbouring column that a cell may be connected to, and the cells that are passed before it.
-use Rattle.std.proofs.Common.{◌≡◌, ℕ, ◌+◌, ◌<◌, ◌≤◌, Bool, true, false, length, List, get_or, Some, None, sym, ap, ◌∙◌, subst, arith, inl, inr}
+use Rattle.std.proofs.Common.{◌≡◌, ℕ, ◌+◌, ◌<◌, ◌≤◌, Bool, true, false, length, List, [], get_or, Some, None, sym, ap, ◌∙◌, subst, arith, inl, inr}
 use Rattle.std.specs.Prelude.{nat_lt, ◌==◌, ◌&&◌}
 use Rattle.std.specs.Option.{option_map}
 use Rattle.std.proofs.lemmas.Bool.{and_parts, and_from, or_cases, or_parts, or_left, or_right, eqb-true, eq-eqb, ltb-true, ltb-false, lt-ltb, cases_lt, cases_order, eqb-false, and_cases, false_from_ne_true}
@@ -15,6 +15,10 @@ use Rattle.compact_layer.specs.Columns.{column_of, column_toward}
 use Rattle.compact_layer.specs.Stacks.{IsStanding, IsUnder, AreStacked, is_passed, IsPassed, ArePassed}
 use Rattle.compact_layer.specs.declared.sweep.Passed.{Passed}
 use Rattle.compact_layer.proofs.ColumnNumbers.{number_toward, toward_of_number}
+
+-- the cell that stands where there is none
+abbrev pub no_cell : Cell
+no_cell = record { at = record { x = 0; z = 0; level = 0 }; floor = 0; ceiling = 0; area = 0; next = [] }
 
 -- a cell that is passed lies before the column, or in it with its ceiling below the height
 pub record IsBefore (column height : ℕ) (cell : Cell) : Type 0 where

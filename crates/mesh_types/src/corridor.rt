@@ -5,7 +5,7 @@ use nav_list::{Duplicate, Items};
 use std::alloc::{AllocError, Global};
 
 /// A walk from one polygon to another that no other walk undercuts: its cost, and its links in order.
-#[derive(PartialEq, Eq, Debug, Drop)]
+#[derive(Drop)]
 pub struct Corridor {
     pub cost: u64,
     pub links: Items<Link>,

@@ -6,14 +6,14 @@ use nav_base::Point;
 use nav_list::Items;
 
 /// What a region adds to the mesh of its tile: its outline, and the pieces into which that is cut, each a polygon of the tile.
-#[derive(PartialEq, Eq, Debug, Drop)]
+#[derive(Drop)]
 pub struct Part {
     pub outline: Outline,
     pub pieces: Items<Piece>,
 }
 
 /// An edge of a polygon of a tile, as what may lead out of the polygon.
-#[derive(Clone, Copy, PartialEq, Eq, Debug)]
+#[derive(Clone, Copy)]
 pub struct Door {
     /// The polygon's place in the tile, and the edge's place in the polygon.
     pub polygon: u32,

@@ -29,7 +29,7 @@ pub struct Triangle {
 }
 
 /// A strictly convex part of an outline: the places of its 3 to 6 corners, counterclockwise.
-#[derive(PartialEq, Eq, Debug, Drop)]
+#[derive(Drop)]
 pub struct Piece {
     pub corners: Items<u32>,
 }

@@ -5,13 +5,13 @@ use nav_base::Point;
 use nav_list::Items;
 
 /// A maximal chain of strips of one area, row by row, each joined to the next. Its strips stand in rising order of their rows.
-#[derive(PartialEq, Eq, Debug, Drop)]
+#[derive(Drop)]
 pub struct Region {
     pub strips: Items<Strip>,
 }
 
 /// The regions of a tile, numbered from 0 in the order of their first strips.
-#[derive(PartialEq, Eq, Debug, Drop)]
+#[derive(Drop)]
 pub struct Regions {
     pub regions: Items<Region>,
 }

@@ -4,7 +4,7 @@ use nav_list::{Duplicate, Items};
 use std::alloc::{AllocError, Global};
 
 /// A maximal run of free cells of one area in one row, with successive x, each connected to the next.
-#[derive(PartialEq, Eq, Debug, Drop)]
+#[derive(Drop)]
 pub struct Strip {
     pub z: u32,
     /// The first and the last column.

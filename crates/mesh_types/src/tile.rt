@@ -15,7 +15,7 @@ pub struct LevelPair {
 
 /// A part of a polygon's edge that runs along a side of the tile, at successive positions, each with a cell across that is no obstacle's
 /// matter: kept by the ground, whether blocked or not. A position is z on the sides 0 and 2, and x on the sides 1 and 3.
-#[derive(PartialEq, Eq, Debug, Drop)]
+#[derive(Drop)]
 pub struct RimEdge {
     /// The polygon's place in the tile, and the edge's place in the polygon.
     pub poly: u32,

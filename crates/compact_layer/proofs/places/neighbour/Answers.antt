@@ -3,10 +3,8 @@ use Rattle.nav_ground.specs.declared.cell.Cell.{Cell}
 use Rattle.nav_ground.specs.Cells.{IsCompact}
 use Rattle.compact_layer.specs.Places.{neighbour_of}
 use Rattle.compact_layer.proofs.Neighbours.{no_neighbour, neighbour_is, has_column}
+use Rattle.compact_layer.proofs.Candidates.{no_cell}
 use Rattle.compact_layer.proofs.places.neighbour.Goals as goal
-
-abbrev no_cell : Cell
-no_cell = record { at = record { x = 0; z = 0; level = 0 }; floor = 0; ceiling = 0; area = 0; next = [] }
 
 pub returns-in_err-level : goal.returns-in_err-level
 returns-in_err-level c =

@@ -2,12 +2,9 @@ use Rattle.std.proofs.Common.{◌<◌, ◌∙◌, [], sym, subst, length, get_or
 use Rattle.std.proofs.lemmas.List.{get_or_default}
 use Rattle.nav_ground.specs.declared.cell.Cell.{Cell}
 use Rattle.compact_layer.specs.Stacks.{ArePassed}
-use Rattle.compact_layer.proofs.Candidates.{passed_on}
+use Rattle.compact_layer.proofs.Candidates.{passed_on, no_cell}
 use Rattle.compact_layer.proofs.Alike.{alike_connected, alike_back, stacked_alike, all_passed_alike, one_more_connected, all_connected}
 use Rattle.compact_layer.proofs.sweep.connect.Goals as goal
-
-abbrev no_cell : Cell
-no_cell = record { at = record { x = 0; z = 0; level = 0 }; floor = 0; ceiling = 0; area = 0; next = [] }
 
 pub next_levels-next-requires-clause-cells : goal.next_levels-next-requires-clause-cells
 next_levels-next-requires-clause-cells c =

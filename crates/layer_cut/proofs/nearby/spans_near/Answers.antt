@@ -15,6 +15,9 @@ loop-i-init c =
     let before = c.spans_before-i.ensures.before k d small in
     omega (arith, rows.0, before))))
 
+pub bounds-spans-i : goal.bounds-spans-i
+bounds-spans-i c = omega (arith, c.spans_before-i-end.ensures.most, c.loop-i-test.true)
+
 pub returns : goal.returns
 returns c =
     let inside = λ (span : Span). is_in_window (widened c.args.window c.args.margin) span.x span.z in
