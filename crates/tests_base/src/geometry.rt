@@ -3,6 +3,7 @@
 ghost use Rattle.std.specs.Prelude.{◌↔◌, All, IsTrue};
 ghost use Rattle.nav_base.specs.Point.{HasCoordinates, IsCellCorner};
 
+use crate::checks::same;
 use nav_base::{Deviation, Point, ceil_sqrt, cross, dev, exceeds, less, orient, strictly_convex};
 use std::process::Abort;
 
@@ -56,8 +57,8 @@ const CROSSES: [(Point, Point, i64); 3] = [
 
 fn check_crosses(rt: &impl Abort, rows: &[(Point, Point, i64)]) {
     for (a, b, want) in rows {
-        assert_eq!(rt; crossed(*a, *b), Some(*want));
-        assert_eq!(rt; crossed(*b, *a), want.checked_neg());
+        same(rt, crossed(*a, *b), Some(*want));
+        same(rt, crossed(*b, *a), want.checked_neg());
     }
 }
 
@@ -110,8 +111,8 @@ const TURNS: [(Point, Point, Point, i64); 4] = [
 
 fn check_turns(rt: &impl Abort, rows: &[(Point, Point, Point, i64)]) {
     for (a, b, c, want) in rows {
-        assert_eq!(rt; turned(*a, *b, *c), Some(*want));
-        assert_eq!(rt; turned(*a, *c, *b), want.checked_neg());
+        same(rt, turned(*a, *b, *c), Some(*want));
+        same(rt, turned(*a, *c, *b), want.checked_neg());
     }
 }
 
@@ -180,7 +181,7 @@ fn check_deviations(rt: &impl Abort, rows: &[(Point, Point, Point, u64, u64)]) {
             num: *num,
             den: *den,
         };
-        assert_eq!(rt; deviation(*a, *b, *p), Some(wanted));
+        same(rt, deviation(*a, *b, *p), Some(wanted));
     }
 }
 
@@ -216,7 +217,7 @@ fn check_errors(rt: &impl Abort, rows: &[(u64, u64, u32, bool)]) {
             num: *num,
             den: *den,
         };
-        assert_eq!(rt; exceeds(deviation, *error), *want);
+        same(rt, exceeds(deviation, *error), *want);
     }
 }
 
@@ -230,7 +231,7 @@ fn check_pairs(rt: &impl Abort, rows: &[(u64, u64, u64, u64, bool)]) {
             num: *other_num,
             den: *other_den,
         };
-        assert_eq!(rt; less(one, other), *want);
+        same(rt, less(one, other), *want);
     }
 }
 
@@ -271,7 +272,7 @@ const ROOTS: [(u64, u32); 17] = [
 
 fn check_roots(rt: &impl Abort, rows: &[(u64, u32)]) {
     for (n, wanted) in rows {
-        assert_eq!(rt; root(*n), Some(*wanted), "of {n}");
+        same(rt, (*n, root(*n)), (*n, Some(*wanted)));
     }
 }
 
@@ -326,7 +327,11 @@ const POLYGONS: [(&[Point], bool); 9] = [
 
 fn check_polygons(rt: &impl Abort, rows: &[(&[Point], bool)]) {
     for (corners, wanted) in rows {
-        assert_eq!(rt; is_convex(corners), Some(*wanted), "of {corners:?}");
+        same(
+            rt,
+            (*corners, is_convex(corners)),
+            (*corners, Some(*wanted)),
+        );
     }
 }
 

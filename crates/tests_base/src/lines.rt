@@ -1,5 +1,6 @@
 //! Lines, their words and their numbers.
 
+use crate::checks::same;
 use nav_text::{FaultKind, TextFault, first_line, has_word, numbers_of};
 use std::process::Abort;
 
@@ -13,7 +14,7 @@ const FIRST_LINES: [(&str, Option<(&str, &str)>); 3] = [
 fn check_first_lines(rt: &impl Abort, rows: &[(&str, Option<(&str, &str)>)]) {
     for (text, wanted) in rows {
         let wanted = wanted.map(|(line, rest)| (line.as_bytes(), rest.as_bytes()));
-        assert_eq!(rt; first_line(text.as_bytes()), wanted, "of {text}");
+        same(rt, (*text, first_line(text.as_bytes())), (*text, wanted));
     }
 }
 
@@ -34,7 +35,8 @@ const SPAN_LINES: [(&str, bool); 6] = [
 
 fn check_words(rt: &impl Abort, rows: &[(&str, bool)]) {
     for (line, wanted) in rows {
-        assert_eq!(rt; has_word(b"span", line.as_bytes()), *wanted, "at {line}");
+        let is_span = has_word(b"span", line.as_bytes());
+        same(rt, (*line, is_span), (*line, *wanted));
     }
 }
 
@@ -64,13 +66,14 @@ const SIZE_LINES: [(&str, Option<[u32; 2]>); 15] = [
 
 fn check_numbers(rt: &impl Abort, rows: &[(&str, Option<[u32; 2]>)]) {
     for (line, wanted) in rows {
-        assert_eq!(rt; numbers_of(b"size", line.as_bytes()), *wanted, "at {line}");
+        let numbers = numbers_of(b"size", line.as_bytes());
+        same(rt, (*line, numbers), (*line, *wanted));
     }
 }
 
 #[test]
 fn reads_numbers_of_lines(rt: HostRuntime) {
     check_numbers(&rt, &SIZE_LINES);
-    assert_eq!(rt; numbers_of(b"end", b"end"), Some([]));
-    assert_eq!(rt; TextFault::new(7, FaultKind::TooManyLines).kind, 11);
+    same(&rt, numbers_of(b"end", b"end"), Some([]));
+    same(&rt, TextFault::new(7, FaultKind::TooManyLines).kind, 11);
 }

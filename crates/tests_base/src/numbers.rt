@@ -1,7 +1,8 @@
 //! Numbers as texts spell them.
 
+use crate::checks::same;
 use nav_base::{number_at, push_number, read_number};
-use std::alloc::AllocError;
+use std::alloc::{AllocError, Global};
 use std::process::Abort;
 
 /// A text, the greatest number allowed, and the number that it spells.
@@ -26,24 +27,31 @@ const TEXTS: [(&str, u32, Option<u32>); 16] = [
 
 fn check_texts(rt: &impl Abort, rows: &[(&str, u32, Option<u32>)]) {
     for (text, max, wanted) in rows {
-        assert_eq!(rt; read_number(text.as_bytes(), *max), *wanted, "at {text}");
+        let number = read_number(text.as_bytes(), *max);
+        same(rt, (*text, number), (*text, *wanted));
     }
 }
 
 #[test]
 fn reads_numbers(rt: HostRuntime) {
     check_texts(&rt, &TEXTS);
-    assert_eq!(rt; number_at(b"120 7"), Some((120, b" 7".as_slice())));
+    same(&rt, number_at(b"120 7"), Some((120, b" 7".as_slice())));
+}
+
+/// The numbers as a text, with a space after each.
+fn written(alloc: Global, numbers: &[i64]) -> Result<Vec<u8>, AllocError> {
+    let mut out = Vec::new(alloc);
+    for n in numbers {
+        push_number(&mut out, *n)?;
+        out.push(b' ')?;
+    }
+    Ok(out)
 }
 
 #[test]
 fn writes_numbers(rt: HostRuntime) -> Result<(), AllocError> {
-    let mut out = Vec::new(rt.alloc());
-    for n in [0, 7, -1, 4294967295, i64::MAX, i64::MIN] {
-        push_number(&mut out, n)?;
-        out.push(b' ')?;
-    }
-    let wanted = "0 7 -1 4294967295 9223372036854775807 -9223372036854775808 ";
-    assert_eq!(rt; out.as_slice(), wanted.as_bytes());
+    let out = written(rt.alloc(), &[0, 7, -1, 4294967295, i64::MAX, i64::MIN])?;
+    let wanted = b"0 7 -1 4294967295 9223372036854775807 -9223372036854775808 ";
+    same(&rt, out.as_slice(), wanted.as_slice());
     Ok(())
 }

@@ -2,6 +2,7 @@
 
 ghost use Rattle.std.specs.Prelude.{◌<◌};
 
+use crate::checks::same;
 use nav_io::{
     Actor, CalmSink, CalmSource, FreeGate, Gate, MemorySink, MemorySource, ReadRefusal, Source,
     Stage, StdSink, StdSource, WriteFault, read_all, write_all,
@@ -75,11 +76,8 @@ fn check_readings(rt: &impl Abort, alloc: Global, rows: &[Reading]) -> Result<()
     for (piece, most, failing, answer, gone, faults) in rows {
         assert!(rt; 0 < *piece && *most < usize::MAX);
         let read = read_in_pieces(alloc, *piece, *most, *failing)?;
-        assert_eq!(rt;
-            read,
-            (*answer, *gone, *faults),
-            "pieces of {piece}, at most {most}, read {failing} fails"
-        );
+        let given = (*piece, *most, *failing);
+        same(rt, (given, read), (given, (*answer, *gone, *faults)));
     }
     Ok(())
 }
@@ -126,11 +124,8 @@ fn check_writings(rt: &impl Abort, alloc: Global, rows: &[Writing]) -> Result<()
     for (piece, room, failing, answer, held, faults) in rows {
         assert!(rt; 0 < *piece);
         let written = write_in_pieces(alloc, *piece, *room, *failing, held.as_bytes())?;
-        assert_eq!(rt;
-            written,
-            (*answer, true, *faults),
-            "pieces of {piece}, room {room}, write {failing} fails"
-        );
+        let given = (*piece, *room, *failing);
+        same(rt, (given, written), (given, (*answer, true, *faults)));
     }
     Ok(())
 }
@@ -153,7 +148,7 @@ fn calm_ones_pass_bytes_on(rt: HostRuntime) -> Result<(), AllocError> {
     let alloc = rt.alloc();
     let mut calm = CalmSource::new(text(alloc)?, 3);
     assert!(rt; is_text_of(alloc, &mut calm));
-    assert_eq!(rt; write_all(&mut CalmSink, TEXT), Ok(()));
+    same(&rt, write_all(&mut CalmSink, TEXT), Ok(()));
     pass_twice(&FreeGate);
     Ok(())
 }
@@ -162,17 +157,21 @@ fn calm_ones_pass_bytes_on(rt: HostRuntime) -> Result<(), AllocError> {
 fn readers_are_sources(rt: HostRuntime) {
     let mut source = StdSource::new(TEXT);
     assert!(rt; is_text_of(rt.alloc(), &mut source));
-    assert_eq!(rt; source.faults, 0);
+    same(&rt, source.faults, 0);
+}
+
+#[test]
+fn a_broken_reader_counts_its_faults(rt: HostRuntime) {
     let mut broken = StdSource::new(Broken);
     assert!(rt; broken.read(&mut [0; 4]).is_err());
-    assert_eq!(rt; broken.faults, 1);
+    same(&rt, broken.faults, 1);
 }
 
 #[test]
 fn writers_are_sinks(rt: HostRuntime) {
     let mut sink = StdSink::new(Vec::new(rt.alloc()));
-    assert_eq!(rt; write_all(&mut sink, TEXT), Ok(()));
-    assert_eq!(rt; sink.inner.as_slice(), TEXT);
+    same(&rt, write_all(&mut sink, TEXT), Ok(()));
+    same(&rt, sink.inner.as_slice(), TEXT);
 }
 
 /// A writer with room for four bytes takes none of the rest, which counts as an error.
@@ -180,7 +179,7 @@ fn writers_are_sinks(rt: HostRuntime) {
 fn a_full_writer_counts_as_an_error(rt: HostRuntime) {
     let mut four = [0; 4];
     let mut sink = StdSink::new(&mut four[..]);
-    assert_eq!(rt; write_all(&mut sink, TEXT), Err(WriteFault));
-    assert_eq!(rt; sink.faults, 1);
-    assert_eq!(rt; four, *b"abcd");
+    same(&rt, write_all(&mut sink, TEXT), Err(WriteFault));
+    same(&rt, sink.faults, 1);
+    same(&rt, four, *b"abcd");
 }

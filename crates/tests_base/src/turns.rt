@@ -3,7 +3,9 @@
 ghost use Rattle.std.specs.Prelude.{◌≡◌, ◌≤◌, ◌<◌, IfOk, length};
 ghost use Rattle.turn_lock.specs.Locks.{IsOf, AreFresh, AreAll};
 
+use crate::checks::same;
 use std::alloc::{AllocError, Global};
+use std::process::Abort;
 use std::sync::Wait;
 use std::test::Fail;
 use std::thread;
@@ -60,18 +62,33 @@ fn closed(
     Ok(lock.close(passes))
 }
 
+// Adds a pair by a pass whose number is the pair's maker, and looks how many there were before.
+fn check_adding<R: Wait + Abort>(
+    rt: &R,
+    alloc: Global,
+    lock: &TurnLock<Pairs>,
+    pass: &mut Pass<Pairs>,
+    pair: Pair,
+    before: u32,
+)
+    requires of { IsOf lock.now pass.old }
+    requires maker { pair.maker ≡ pass.old.number }
+    ensures of { IsOf lock.now pass.new }
+    ensures number { pass.new.number ≡ pass.old.number }
+{
+    same(rt, lock.length(pass), before);
+    same(rt, lock.with(rt, alloc, pass, pair), Added::Yes);
+}
+
 #[test]
 fn two_passes(rt: HostRuntime) -> Result<(), Fail> {
     let alloc = rt.alloc();
     let (lock, mut zero, mut one) = two(alloc)?;
-    assert_eq!(rt; lock.length(&mut zero), 0);
-    assert_eq!(rt; lock.with(&rt, alloc, &mut zero, pair(0, 5)), Added::Yes);
-    assert_eq!(rt; lock.length(&mut one), 1);
-    assert_eq!(rt; lock.with(&rt, alloc, &mut one, pair(1, 7)), Added::Yes);
-    assert_eq!(rt; lock.length(&mut zero), 2);
-    assert_eq!(rt; lock.length(&mut one), 2);
+    check_adding(&rt, alloc, &lock, &mut zero, pair(0, 5), 0);
+    check_adding(&rt, alloc, &lock, &mut one, pair(1, 7), 1);
+    same(&rt, (lock.length(&mut zero), lock.length(&mut one)), (2, 2));
     let pairs = closed(alloc, lock, zero, one)?;
-    assert_eq!(rt; pairs.as_slice(), [pair(0, 5), pair(1, 7)].as_slice());
+    same(&rt, pairs.as_slice(), [pair(0, 5), pair(1, 7)].as_slice());
     Ok(())
 }
 
@@ -138,9 +155,10 @@ fn is_in_order(pairs: &[Pair], maker: u32) -> bool {
 #[test]
 fn many_threads(rt: HostRuntime) -> Result<(), Fail> {
     let pairs = added(&rt, rt.alloc(), 8)?;
-    assert_eq!(rt; pairs.as_slice().len(), 8000);
+    same(&rt, pairs.as_slice().len(), 8000);
     for maker in 0..8 {
-        assert!(rt; is_in_order(pairs.as_slice(), maker), "maker {maker}");
+        let is_in_order = is_in_order(pairs.as_slice(), maker);
+        same(&rt, (maker, is_in_order), (maker, true));
     }
     Ok(())
 }

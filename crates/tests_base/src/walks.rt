@@ -4,8 +4,10 @@ ghost use Rattle.std.specs.Prelude.{◌≡◌, ◌<◌, ◌++◌, length, map, s
 ghost use Rattle.graph_search.specs.Walks.{ends_of};
 ghost use Rattle.tests_base.specs.Rows.{vertex_at, pair_arc};
 
-use graph_search::{Graph, Step, Vertex, cheapest_walk};
+use crate::checks::same;
+use graph_search::{Graph, Step, Vertex, Walk, cheapest_walk};
 use std::alloc::{AllocError, Global};
+use std::process::Abort;
 
 /// A graph of ten vertices in one block: for each of them, where its two arcs end and what they weigh.
 #[derive(Clone, Copy)]
@@ -86,51 +88,57 @@ const ROWS: [[(u32, u32); 2]; 10] = [
     [(9, 0), (9, 0)],
 ];
 
-/// What a cheapest walk from one place to another costs.
-fn least_cost(alloc: Global, from: u32, to: u32) -> Result<Option<u64>, AllocError>
+/// A cheapest walk from one place to another.
+fn cheapest(alloc: Global, from: u32, to: u32) -> Result<Option<Walk>, AllocError>
     requires { from < 10 }
 {
-    let graph = Rows { rows: &ROWS };
-    let walk = cheapest_walk(alloc, &graph, at(from), at(to))?;
-    Ok(walk.map(|walk| walk.cost))
+    cheapest_walk(alloc, &Rows { rows: &ROWS }, at(from), at(to))
 }
 
-#[test]
-fn searches_a_small_graph(rt: HostRuntime) -> Result<(), AllocError> {
-    let alloc = rt.alloc();
-    let table = [
-        (0, 0, Some(0)),
-        (0, 1, Some(4)),
-        (0, 3, Some(8)),
-        (0, 4, Some(9)),
-        (0, 6, Some(9)),
-        (6, 5, Some(0)),
-        (7, 3, Some(14)),
-        (8, 6, Some(10)),
-        (3, 0, None),
-        (0, 7, None),
-        (2, 4, None),
-    ];
-    for (from, to, cost) in table {
-        assert!(rt; from < 10);
-        assert_eq!(rt; least_cost(alloc, from, to)?, cost, "from {from} to {to}");
+/// Two places, and what a cheapest walk from the first to the second costs.
+const COSTS: [(u32, u32, Option<u64>); 11] = [
+    (0, 0, Some(0)),
+    (0, 1, Some(4)),
+    (0, 3, Some(8)),
+    (0, 4, Some(9)),
+    (0, 6, Some(9)),
+    (6, 5, Some(0)),
+    (7, 3, Some(14)),
+    (8, 6, Some(10)),
+    (3, 0, None),
+    (0, 7, None),
+    (2, 4, None),
+];
+
+fn check_costs(
+    rt: &impl Abort,
+    alloc: Global,
+    rows: &[(u32, u32, Option<u64>)],
+) -> Result<(), AllocError> {
+    for (from, to, wanted) in rows {
+        assert!(rt; *from < 10);
+        let cost = cheapest(alloc, *from, *to)?.map(|walk| walk.cost);
+        same(rt, (*from, *to, cost), (*from, *to, *wanted));
     }
     Ok(())
 }
 
 #[test]
+fn searches_a_small_graph(rt: HostRuntime) -> Result<(), AllocError> {
+    check_costs(&rt, rt.alloc(), &COSTS)
+}
+
+#[test]
 fn gives_the_steps(rt: HostRuntime) -> Result<(), AllocError> {
-    let alloc = rt.alloc();
-    let graph = Rows { rows: &ROWS };
-    let Some(walk) = cheapest_walk(alloc, &graph, at(0), at(4))? else {
-        assert!(rt; false, "there is a walk");
-        return Ok(());
-    };
-    let wanted = [(0, 1), (1, 0), (3, 1)];
-    assert_eq!(rt; walk.steps.len(), 3);
-    for (step, (from, place)) in walk.steps.iter().zip(wanted) {
-        let from = at(from);
-        assert_eq!(rt; *step, Step { from, place });
-    }
+    let walk = cheapest(rt.alloc(), 0, 4)?;
+    let wanted = [(0, 1), (1, 0), (3, 1)].map(|(from, place)| Step {
+        from: at(from),
+        place,
+    });
+    same(
+        &rt,
+        walk.as_ref().map(|walk| walk.steps.as_slice()),
+        Some(wanted.as_slice()),
+    );
     Ok(())
 }
