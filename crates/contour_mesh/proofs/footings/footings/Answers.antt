@@ -1,3 +1,8 @@
+use Rattle.std.proofs.Common.{◌∙◌, List, length, ap, arith, subst}
+use Rattle.std.proofs.lemmas.List.{length-map, take_all}
+use Rattle.nav_ground.specs.declared.cell.Cell.{Cell}
+use Rattle.contour_walk.specs.Tables.{owner_of}
+use Rattle.contour_mesh.specs.Footings.{AreFootings}
 use Rattle.contour_mesh.proofs.FootingLaws.{footings_written}
 use Rattle.contour_mesh.proofs.footings.footings.Goals as goal
 
@@ -6,3 +11,17 @@ loop-index-preserved c =
     footings_written c.args.cells.now c.args.regions.now c.loop-index.index c.as_slice-owners.result.now c.args.table.now.owners c.loop-index.footings.len
     c.loop-index.footings.items c.as_mut_slice.result.now c.note.new.footings c.loop-index-test.true c.requires.owners c.as_slice-owners.ensures
     c.loop-index.footings.ok.0 c.as_mut_slice.ensures.value c.loop-index.invariant c.note.ensures.same c.note.ensures.here c.note.ensures.others
+
+pub bounds-owners-index : goal.bounds-owners-index
+bounds-owners-index c =
+    omega (
+      arith,
+      c.loop-index-test.true,
+      ap length (c.as_slice-owners.ensures ∙ c.requires.owners),
+      length-map c.args.cells.now (owner_of c.args.regions.now.regions),
+    )
+
+pub returns : goal.returns
+returns c =
+    subst (λ (cells : List Cell). AreFootings cells c.args.regions.now c.loop-index.footings.items)
+    (take_all c.loop-index.index c.args.cells.now c.loop-index-test.false) c.loop-index.invariant

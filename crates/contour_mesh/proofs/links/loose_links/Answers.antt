@@ -1,6 +1,7 @@
 use Rattle.std.proofs.Common.{◌∙◌, ◌++◌, [], Option, ap, get_or}
 use Rattle.std.specs.Option.{option_map}
-use Rattle.std.specs.List.{cons_option}
+use Rattle.std.specs.List.{cons_option, filter_map}
+use Rattle.std.proofs.lemmas.List.{take_all}
 use Rattle.mesh_types.specs.declared.door.Door.{Door}
 use Rattle.mesh_types.specs.ContourMeshes.{door_link, link_through}
 use Rattle.contour_mesh.proofs.FacingLaws.{facing_is, meets_sorted, no_door}
@@ -18,3 +19,14 @@ loop-door-preserved c =
     (c.in_ok-push_link.ensures
     ∙ ap (λ (o : Option Door). c.loop-door.links.items ++ cons_option (option_map (door_link c.args.tile (get_or c.args.doors.now c.loop-door.door-index no_door)) o) [])
     (c.facing.ensures ∙ facing_is c.args.doors.now c.args.by_begin.now (get_or c.args.doors.now c.loop-door.door-index no_door) c.requires.order (c.requires.meet c.loop-door.door-index no_door c.loop-door-test.true)))
+
+pub facing-requires-clause-order : goal.facing-requires-clause-order
+facing-requires-clause-order c = c.requires.order.rising
+
+pub push_link-requires : goal.push_link-requires
+push_link-requires c = c.requires.corners c.loop-door.door-index no_door c.loop-door-test.true
+
+pub returns : goal.returns
+returns c =
+    c.loop-door.invariant
+    ∙ ap (filter_map (link_through c.args.tile c.args.doors.now)) (take_all c.loop-door.door-index c.args.doors.now c.loop-door-test.false)

@@ -1,4 +1,5 @@
-use Rattle.std.proofs.Common.{◌≡◌, ℕ, ◌<◌, ◌∙◌, List, length, get_or, ap, arith, subst, sym}
+use Rattle.std.proofs.Common.{◌≡◌, ℕ, ◌<◌, ◌∙◌, ◌++◌, List, length, get_or, map, ap, arith, subst, sym}
+use Rattle.std.proofs.lemmas.List.{take_all}
 use Rattle.mesh_types.specs.declared.door.Part.{Part}
 use Rattle.mesh_types.specs.declared.outline.Piece.{Piece}
 use Rattle.mesh_types.specs.Merging.{IsPieceOf}
@@ -35,3 +36,10 @@ loop-number-preserved c =
     (made
     ∙ ap (λ (pieces : List Piece). polygon_over c.args.part.now.outline.corners c.args.footing (get_or pieces c.loop-number.number piece).corners)
     c.as_slice-pieces.ensures)
+
+pub returns : goal.returns
+returns c =
+    c.loop-number.invariant
+    ∙ ap (λ (pieces : List Piece). c.args.polys.now.items
+    ++ map (λ (piece : Piece). polygon_over c.args.part.now.outline.corners c.args.footing piece.corners) pieces)
+    (take_all c.loop-number.number c.args.part.now.pieces (omega (arith, c.loop-number-test.false, ap length c.as_slice-pieces.ensures)))

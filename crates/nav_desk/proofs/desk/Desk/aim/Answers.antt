@@ -44,3 +44,21 @@ invariant_of-self c =
 
 pub returns-clause-rules : goal.returns-clause-rules
 returns-clause-rules c = is_book _ (invariant_of-self c)
+
+pub take_over-requires : goal.take_over-requires
+take_over-requires c = rw c.as_slice.ensures.value (omega (arith, c.self.invariant.few, c.self.invariant.aimed_room))
+
+pub look_again-requires-clause-setting : goal.look_again-requires-clause-setting
+look_again-requires-clause-setting c = rw c.deref.ensures c.self.invariant.level.setting
+
+pub look_again-requires-clause-lists : goal.look_again-requires-clause-lists
+look_again-requires-clause-lists c = rw (c.deref.ensures, c.as_slice-3.ensures.value) c.self.invariant.lists
+
+pub look_again-requires-clause-marks : goal.look_again-requires-clause-marks
+look_again-requires-clause-marks c = rw c.deref.ensures c.self.invariant.marks
+
+pub look_again-requires-clause-flags : goal.look_again-requires-clause-flags
+look_again-requires-clause-flags c = rw c.deref.ensures c.self.invariant.flags
+
+pub look_again-requires-clause-claims : goal.look_again-requires-clause-claims
+look_again-requires-clause-claims c = rw c.deref.ensures c.self.invariant.claims

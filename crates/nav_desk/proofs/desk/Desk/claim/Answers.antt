@@ -70,3 +70,6 @@ invariant_of-self-in-Some c =
 
 pub returns-in_ok-shapes-in-Some-clause-rules : goal.returns-in_ok-shapes-in-Some-clause-rules
 returns-in_ok-shapes-in-Some-clause-rules c = is_book _ (invariant_of-self-in-Some c)
+
+pub touching_list-requires-clause-setting : goal.touching_list-requires-clause-setting
+touching_list-requires-clause-setting c = rw c.deref.ensures c.self.invariant.level.setting

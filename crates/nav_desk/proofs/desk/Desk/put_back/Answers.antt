@@ -1,4 +1,4 @@
-use Rattle.std.proofs.Common.{false, length, ap, refl, ◌∙◌}
+use Rattle.std.proofs.Common.{false, length, ap, arith, refl, ◌∙◌}
 use Rattle.std.proofs.lemmas.List.{length-set}
 use Rattle.nav_desk.specs.Waiting.{Waiting}
 use Rattle.nav_desk.proofs.Keeping.{is_book, kept_claims}
@@ -14,3 +14,8 @@ returns-clause-state c = rw (← c.self.view_is, c.set_claimed.ensures) refl
 
 pub returns-clause-rules : goal.returns-clause-rules
 returns-clause-rules c = is_book _ (invariant_of-self c)
+
+pub set_claimed-requires : goal.set_claimed-requires
+set_claimed-requires c =
+    let there = rw (← c.self.view_is) at c.requires in
+    omega (arith, there, c.self.invariant.flags)

@@ -81,3 +81,18 @@ returns-clause-answer c =
     ap (λ (n : ℕ). Ok (n + 1, c.answer-answered.result.reply)) c.length-len.ensures
     ∙ ap (λ (reply : Reply). Ok (length c.args.self.now.history + 1, reply)) (returns-clause-reply c)
     ∙ (room_step c.args.self.now c.args.lane c.args.request room).1
+
+pub answer-answered-requires-clause-few : goal.answer-answered-requires-clause-few
+answer-answered-requires-clause-few c = rw c.deref.ensures c.self.invariant.few
+
+pub answer-answered-requires-clause-room : goal.answer-answered-requires-clause-room
+answer-answered-requires-clause-room c = rw c.deref.ensures c.self.invariant.live_room
+
+pub mark_changed-requires-clause-setting : goal.mark_changed-requires-clause-setting
+mark_changed-requires-clause-setting c = rw c.deref-2.ensures c.self.invariant.level.setting
+
+pub mark_changed-requires-clause-shape : goal.mark_changed-requires-clause-shape
+mark_changed-requires-clause-shape c = c.answer-answered.ensures.shape
+
+pub mark_changed-requires-clause-tiles : goal.mark_changed-requires-clause-tiles
+mark_changed-requires-clause-tiles c = rw c.deref-2.ensures c.self.invariant.marks

@@ -1,4 +1,4 @@
-use Rattle.std.proofs.Common.{◌≡◌, ◌<◌, ◌∙◌, Bool, true, false, length, ap, refl, sym}
+use Rattle.std.proofs.Common.{◌≡◌, ◌<◌, ◌∙◌, Bool, true, false, length, ap, arith, refl, sym}
 use Rattle.std.specs.Prelude.{if◌then◌else◌, slice_set}
 use Rattle.std.specs.Arc.{arc_value}
 use Rattle.std.proofs.lemmas.List.{length-set}
@@ -125,3 +125,26 @@ pub invariant_of-self-then-not-is_touching_list : goal.invariant_of-self-then-no
 invariant_of-self-then-not-is_touching_list c =
     kept_claims c.self.inside c.set_claimed.new.self c.self.invariant (ap (λ (w : Waiting). w.awaited) c.set_claimed.ensures)
     (ap (λ (w : Waiting). length w.claimed) c.set_claimed.ensures ∙ length-set c.self.inside.waiting.claimed c.args.tile false)
+
+pub set_claimed-requires : goal.set_claimed-requires
+set_claimed-requires c =
+    let there = rw (← c.self.view_is) at c.requires in
+    omega (arith, there, c.self.invariant.flags)
+
+pub is_awaited-requires : goal.is_awaited-requires
+is_awaited-requires c =
+    let there = rw (← c.self.view_is) at c.requires in
+    omega (arith, there, c.self.invariant.flags, ap (λ (w : Waiting). length w.awaited) c.set_claimed.ensures)
+
+pub is_touching_list-requires-clause-setting : goal.is_touching_list-requires-clause-setting
+is_touching_list-requires-clause-setting c = rw c.deref.ensures c.self.invariant.level.setting
+
+pub is_touching_list-requires-clause-there : goal.is_touching_list-requires-clause-there
+is_touching_list-requires-clause-there c =
+    let there = rw (← c.self.view_is) at c.requires in
+    rw c.deref.ensures there
+
+pub set_awaited-requires : goal.set_awaited-requires
+set_awaited-requires c =
+    let there = rw (← c.self.view_is) at c.requires in
+    omega (arith, there, c.self.invariant.flags, ap (λ (w : Waiting). length w.awaited) c.set_claimed.ensures)
