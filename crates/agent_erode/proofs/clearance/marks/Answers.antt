@@ -1,4 +1,4 @@
-use Rattle.std.proofs.Common.{◌≡◌, ℕ, ◌*◌, map, ◌∙◌, ap, arith}
+use Rattle.std.proofs.Common.{◌≡◌, ◌*◌, map, ◌∙◌, ap, arith}
 use Rattle.agent_erode.specs.Clearances.{is_beyond}
 use Rattle.agent_erode.proofs.Rounds.{kept_first}
 use Rattle.agent_erode.proofs.clearance.marks.Goals as goal

@@ -1,4 +1,4 @@
-use Rattle.std.proofs.Common.{◌≡◌, ap, ◌∙◌, sym, true, false, ◌&&◌, List, get_or}
+use Rattle.std.proofs.Common.{ap, ◌∙◌, sym, true, false, ◌&&◌, List, get_or}
 use Rattle.std.specs.Global.{Vec}
 use Rattle.std.specs.List.{filter}
 use Rattle.std.proofs.lemmas.Bool.{and_from, and_left, and_right}

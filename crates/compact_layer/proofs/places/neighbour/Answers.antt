@@ -1,4 +1,4 @@
-use Rattle.std.proofs.Common.{List, ◌∙◌, [], sym, ap, subst}
+use Rattle.std.proofs.Common.{List, ◌∙◌, sym, ap, subst}
 use Rattle.nav_ground.specs.declared.cell.Cell.{Cell}
 use Rattle.nav_ground.specs.Cells.{IsCompact}
 use Rattle.compact_layer.specs.Places.{neighbour_of}

@@ -1,4 +1,4 @@
-use Rattle.std.proofs.Common.{◌≡◌, ℕ, [], ◌<◌, length, get_or, set, sym, ◌∙◌, None, arith, inl, inr, refl, subst, ap}
+use Rattle.std.proofs.Common.{◌≡◌, ℕ, ◌<◌, length, get_or, set, sym, ◌∙◌, None, arith, inl, inr, refl, subst, ap}
 use Rattle.std.proofs.lemmas.Bool.{cases_lt, both_ways}
 use Rattle.std.proofs.lemmas.List.{get_or-set_same, get_or-set_other, get_or_default}
 use Rattle.nav_ground.specs.declared.cell.Cell.{Cell}

@@ -1,6 +1,5 @@
 use Rattle.std.proofs.Common.{[], ◌∷◌, ◌++◌, get_or, map, ap, ◌∙◌, sym}
 use Rattle.std.proofs.lemmas.List.{map_more, take_all}
-use Rattle.nav_ground.specs.declared.cell.Cell.{Cell}
 use Rattle.obstacle_mark.specs.AreasLeft.{area_left}
 use Rattle.obstacle_mark.proofs.Blocked.{no_cell}
 use Rattle.obstacle_mark.proofs.areas.own_areas.Goals as goal

@@ -1,4 +1,4 @@
-use Rattle.std.proofs.Common.{◌≡◌, List, map, length, ◌∙◌, sym, ap, subst, arith}
+use Rattle.std.proofs.Common.{List, map, length, ◌∙◌, sym, ap, subst, arith}
 use Rattle.std.specs.List.{filter}
 use Rattle.std.proofs.lemmas.List.{length-map}
 use Rattle.nav_ground.specs.declared.cell.Cell.{Cell}

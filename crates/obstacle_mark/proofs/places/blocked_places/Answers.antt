@@ -2,7 +2,6 @@ use Rattle.std.proofs.Common.{◌∷◌, [], length, get_or, ◌∙◌, ap, arit
 use Rattle.std.specs.Prelude.{not}
 use Rattle.std.specs.Global.{Vec}
 use Rattle.std.proofs.lemmas.List.{length-append}
-use Rattle.nav_ground.specs.declared.cell.Cell.{Cell}
 use Rattle.nav_ground.specs.declared.cell.CellRef.{CellRef}
 use Rattle.obstacle_mark.proofs.Blocked.{one_more_blocked, one_more_open, no_cell}
 use Rattle.obstacle_mark.proofs.places.blocked_places.Goals as goal

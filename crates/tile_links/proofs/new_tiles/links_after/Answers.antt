@@ -1,4 +1,4 @@
-use Rattle.std.proofs.Common.{◌∙◌, arith}
+use Rattle.std.proofs.Common.{arith}
 use Rattle.tile_links.proofs.TilesFit.{tile_fit, tile_few}
 use Rattle.tile_links.proofs.new_tiles.links_after.Goals as goal
 

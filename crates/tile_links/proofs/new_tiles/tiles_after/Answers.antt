@@ -1,4 +1,4 @@
-use Rattle.std.proofs.Common.{◌≡◌, [], ◌∷◌, ◌++◌, List, map, ap, ◌∙◌, sym}
+use Rattle.std.proofs.Common.{[], ◌∷◌, ◌++◌, ap, ◌∙◌, sym}
 use Rattle.std.proofs.lemmas.List.{map_more, take_all}
 use Rattle.tile_links.specs.NewTiles.{tile_after, tiles_after}
 use Rattle.tile_links.proofs.new_tiles.tiles_after.Goals as goal
