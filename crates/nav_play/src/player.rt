@@ -1,6 +1,6 @@
 //! A play under way.
 
-ghost use Rattle.std.specs.Prelude.{◌≡◌, ◌+◌, ◌<◌, ◌++◌, IfOk, OnOk, OnErr, length};
+ghost use Rattle.std.specs.Prelude.{◌≡◌, ◌+◌, ◌<◌, ◌++◌, IfOk, OnOk, length};
 ghost use Rattle.nav_ground.specs.History.{IsRequest};
 ghost use Rattle.nav_desk.specs.Steps.{requested};
 ghost use Rattle.nav_play.specs.PlayRecord.{AddsSome, IsAnswered, IsSaid, IsTextFrom, number_added, number_got, request_text, state_after};
