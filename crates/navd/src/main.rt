@@ -49,4 +49,8 @@ fn main(rt: HostRuntime) -> ExitCode {
 }
 
 #[cfg(test)]
+mod test_plays;
+#[cfg(test)]
+mod test_runs;
+#[cfg(test)]
 mod tests;

@@ -1,4 +1,4 @@
-use Rattle.navd.proofs.tests.run_words.Given as goal
+use Rattle.navd.proofs.test_runs.run_in_memory.Given as goal
 
 -- the counter's ledger is the blank one
 abbrev pub ghosts-run : goal.ghosts-run
