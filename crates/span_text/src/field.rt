@@ -10,12 +10,12 @@ ghost use Rattle.nav_text.specs.Faults.{fault_at};
 ghost use Rattle.nav_text.specs.Lines.{lines, IsPast};
 ghost use Rattle.nav_text.specs.Reading.{read, IsFirstFault};
 ghost use Rattle.span_text.specs.FieldText.{IsFieldText};
-ghost use Rattle.span_text.specs.FieldFormat.{field_of, field_format, AtNav, AtBody};
+ghost use Rattle.span_text.specs.FieldFormat.{field_of, field_format, AtNav, AtError, AtBody};
 ghost use Rattle.span_text.specs.Outcome.{IsRead, Gives, text_with};
 
 use crate::body::{BodyLine, body_line};
 use crate::header::{agent_line, limited, mesh_line, nav_line, size_line};
-use nav_ground::{AREAS, Field, Setting, Span};
+use nav_ground::{AREAS, Agent, Field, Setting, Span};
 use nav_list::Items;
 use nav_text::{FaultKind, TextFault, first_line};
 use std::alloc::Global;
@@ -52,12 +52,32 @@ fn line_at(number: u32, text: &[u8]) -> Result<(&[u8], &[u8]), TextFault>
 }
 
 /// The header of a field text: its setting, in which every area costs 1, and the bytes behind it.
-#[tactic(auto, unfolding(nav_text::specs::Reading::read))]
 fn read_header(bytes: &[u8]) -> Result<(Setting, &[u8]), TextFault>
     ensures said { MatchResult result
         (λ x. field_of bytes.now ≡ read field_format (AtBody x.0 0 []) 7 (lines x.1.now))
         (λ fault. field_of bytes.now ≡ Err fault) }
     ensures past { IfOk result (λ x. IsPast bytes.now x.1.now 7) }
+{
+    let (sizes, rest) = read_sizes(bytes)?;
+    read_making(sizes, rest)
+}
+
+/// What the first four lines say: the field's size, the tiles' side and the agent.
+#[derive(Clone, Copy)]
+struct Sizes {
+    width: u32,
+    depth: u32,
+    tile: u32,
+    agent: Agent,
+}
+
+/// The first four lines of a field text, and the bytes behind them.
+#[tactic(auto, unfolding(nav_text::specs::Reading::read))]
+fn read_sizes(bytes: &[u8]) -> Result<(Sizes, &[u8]), TextFault>
+    ensures said { MatchResult result
+        (λ x. field_of bytes.now ≡ read field_format (AtError x.0.width x.0.depth x.0.tile x.0.agent) 4 (lines x.1.now))
+        (λ fault. field_of bytes.now ≡ Err fault) }
+    ensures past { IfOk result (λ x. IsPast bytes.now x.1.now 4) }
 {
     let (line, rest) = line_at(1, bytes)?;
     nav_line(line).map_err(|kind| TextFault::new(1, kind))?;
@@ -67,17 +87,35 @@ fn read_header(bytes: &[u8]) -> Result<(Setting, &[u8]), TextFault>
     let tile = limited(b"tile", 4, 128, line).map_err(|kind| TextFault::new(3, kind))?;
     let (line, rest) = line_at(4, rest)?;
     let agent = agent_line(line).map_err(|kind| TextFault::new(4, kind))?;
-    let (line, rest) = line_at(5, rest)?;
+    let sizes = Sizes {
+        width,
+        depth,
+        tile,
+        agent,
+    };
+    Ok((sizes, rest))
+}
+
+/// The other three lines of the header, which say how meshes are made: the whole setting, and the bytes behind them.
+#[tactic(auto, unfolding(nav_text::specs::Reading::read))]
+fn read_making(sizes: Sizes, text: &[u8]) -> Result<(Setting, &[u8]), TextFault>
+    ensures said { MatchResult result
+        (λ x. read field_format (AtError sizes.width sizes.depth sizes.tile sizes.agent) 4 (lines text.now)
+        ≡ read field_format (AtBody x.0 0 []) 7 (lines x.1.now))
+        (λ fault. read field_format (AtError sizes.width sizes.depth sizes.tile sizes.agent) 4 (lines text.now) ≡ Err fault) }
+    ensures past { IfOk result (λ x. (whole : List ℕ) → IsPast whole text.now 4 → IsPast whole x.1.now 7) }
+{
+    let (line, rest) = line_at(5, text)?;
     let error = limited(b"error", 0, 10000, line).map_err(|kind| TextFault::new(5, kind))?;
     let (line, rest) = line_at(6, rest)?;
     let mesh = mesh_line(line).map_err(|kind| TextFault::new(6, kind))?;
     let (line, rest) = line_at(7, rest)?;
     let limit = limited(b"limit", 1, 1024, line).map_err(|kind| TextFault::new(7, kind))?;
     let setting = Setting {
-        width,
-        depth,
-        tile,
-        agent,
+        width: sizes.width,
+        depth: sizes.depth,
+        tile: sizes.tile,
+        agent: sizes.agent,
         error,
         mesh,
         limit,

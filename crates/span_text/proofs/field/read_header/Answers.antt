@@ -1,14 +1,18 @@
-use Rattle.nav_text.proofs.LineLaws.{IsPast_start, IsPast_next}
+use Rattle.std.proofs.Common.{◌≡◌, ℕ, [], Err, Result, subst, sym}
+use Rattle.std.specs.Prelude.{MatchResult}
+use Rattle.std.proofs.lemmas.Result.{IfOk-weaker}
+use Rattle.nav_text.specs.declared.fault.TextFault.{TextFault}
+use Rattle.nav_text.specs.Lines.{lines}
+use Rattle.nav_text.specs.Reading.{read}
+use Rattle.span_text.specs.FieldFormat.{AtBody, Value, field_format}
 use Rattle.span_text.proofs.field.read_header.Goals as goal
+
+pub returns-clause-said : goal.returns-clause-said
+returns-clause-said c =
+    let P : Result (Value × ℕ) TextFault → Type 0 =
+    λ told. MatchResult c.read_making.result (λ x. told ≡ read field_format (AtBody x.0 0 []) 7 (lines x.1.now)) (λ fault. told ≡ Err fault) in
+    subst P (sym c.in_ok-sizes.ensures.said) c.read_making.ensures.said
 
 pub returns-clause-past : goal.returns-clause-past
 returns-clause-past c =
-    let past0 = IsPast_start c.args.bytes.now in
-    let past1 = IsPast_next _ _ 0 _ c.in_ok-line.rest.now past0 c.in_ok-line.ensures.lines c.in_ok-line.ensures.text in
-    let past2 = IsPast_next _ _ 1 _ c.in_ok-line-2.rest.now past1 c.in_ok-line-2.ensures.lines c.in_ok-line-2.ensures.text in
-    let past3 = IsPast_next _ _ 2 _ c.in_ok-line-3.rest.now past2 c.in_ok-line-3.ensures.lines c.in_ok-line-3.ensures.text in
-    let past4 = IsPast_next _ _ 3 _ c.in_ok-line-4.rest.now past3 c.in_ok-line-4.ensures.lines c.in_ok-line-4.ensures.text in
-    let past5 = IsPast_next _ _ 4 _ c.in_ok-line-5.rest.now past4 c.in_ok-line-5.ensures.lines c.in_ok-line-5.ensures.text in
-    let past6 = IsPast_next _ _ 5 _ c.in_ok-line-6.rest.now past5 c.in_ok-line-6.ensures.lines c.in_ok-line-6.ensures.text in
-    let past7 = IsPast_next _ _ 6 _ c.in_ok-line-7.rest.now past6 c.in_ok-line-7.ensures.lines c.in_ok-line-7.ensures.text in
-    past7
+    IfOk-weaker c.read_making.result _ _ (λ x past. past c.args.bytes.now c.in_ok-sizes.ensures.past) c.read_making.ensures.past
