@@ -3,8 +3,9 @@
 ghost use Rattle.std.specs.Prelude.{◌≤◌, length};
 
 use crate::cell_rows::{RING, STEP, free_of};
+use crate::checks::same;
 use contour_mesh::{ContourMesh, contour_mesh_over};
-use mesh_types::{Corners, LevelPair, Link, Polygon, RimEdge, TileMesh};
+use mesh_types::{Corners, LevelPair, Link, Polygon, Portal, RimEdge, TileMesh};
 use nav_base::Point;
 use nav_ground::{AREAS, Agent, MeshKind, Setting};
 use std::alloc::{AllocError, Global};
@@ -88,9 +89,8 @@ fn polygon(corners: &[Point], area: u32) -> Polygon
     }
 }
 
-/// A thin row, whose outline is cut into three pieces.
-fn check_thin(rt: &impl Abort, polys: &[Polygon]) {
-    assert_eq!(rt; polys.len(), 8);
+/// The first row of the ring is thin: its outline is cut into three pieces.
+fn thin_row() -> [Polygon; 3] {
     let right = [
         Point { x: 5, z: 1 },
         Point { x: 5, z: 2 },
@@ -107,14 +107,15 @@ fn check_thin(rt: &impl Abort, polys: &[Polygon]) {
         Point { x: 5, z: 1 },
         Point { x: 4, z: 2 },
     ];
-    assert_eq!(rt; polys[0], polygon(&right, 63));
-    assert_eq!(rt; polys[1], polygon(&left, 63));
-    assert_eq!(rt; polys[2], polygon(&middle, 63));
+    [
+        polygon(&right, 63),
+        polygon(&left, 63),
+        polygon(&middle, 63),
+    ]
 }
 
 /// Two regions, of which the upper has another area.
-fn check_pair(rt: &impl Abort, polys: &[Polygon]) {
-    assert_eq!(rt; polys.len(), 2);
+fn two_regions() -> [Polygon; 2] {
     let lower = [
         Point { x: 2, z: 1 },
         Point { x: 5, z: 0 },
@@ -127,8 +128,14 @@ fn check_pair(rt: &impl Abort, polys: &[Polygon]) {
         Point { x: 4, z: 2 },
         Point { x: 3, z: 3 },
     ];
-    assert_eq!(rt; polys[0], polygon(&lower, 63));
-    assert_eq!(rt; polys[1], polygon(&upper, 7));
+    [polygon(&lower, 63), polygon(&upper, 7)]
+}
+
+/// So many polygons begin with the wanted.
+fn check_polygons(rt: &impl Abort, polygons: &[Polygon], count: usize, wanted: &[Polygon]) {
+    same(rt, polygons.len(), count);
+    assert!(rt; wanted.len() <= polygons.len());
+    same(rt, &polygons[..wanted.len()], wanted);
 }
 
 /// The polygon that a link leaves, the edge, the polygon entered, and the right and the left end of the portal.
@@ -137,27 +144,34 @@ type LinkRow = (u32, u32, u32, (i32, i32), (i32, i32));
 const LINKS: [LinkRow; 2] = [(0, 3, 1, (64, 32), (48, 32)), (1, 0, 0, (48, 32), (64, 32))];
 
 fn check_links(rt: &impl Abort, links: &[Link], rows: &[LinkRow]) {
-    assert_eq!(rt; links.len(), rows.len());
+    same(rt, links.len(), rows.len());
     for (link, wanted) in links.iter().zip(rows.iter()) {
-        assert_eq!(rt;
-            (link.from.index, link.edge, link.to.index),
-            (wanted.0, wanted.1, wanted.2)
-        );
-        assert_eq!(rt; (link.portal.right.x, link.portal.right.z), wanted.3);
-        assert_eq!(rt; (link.portal.left.x, link.portal.left.z), wanted.4);
+        same(rt, row_of(link), *wanted);
     }
+}
+
+fn row_of(link: &Link) -> LinkRow {
+    let Portal { left, right } = link.portal;
+    (
+        link.from.index,
+        link.edge,
+        link.to.index,
+        (right.x, right.z),
+        (left.x, left.z),
+    )
 }
 
 /// The edge of the lower region that lies on the border to the right.
 fn check_rim(rt: &impl Abort, rim: &[RimEdge]) {
-    assert_eq!(rt; rim.len(), 1);
+    same(rt, rim.len(), 1);
     for entry in rim {
-        assert_eq!(rt;
-            (entry.poly, entry.edge, entry.side, entry.first),
-            (0, 1, 2, 0)
-        );
+        let place = (entry.poly, entry.edge, entry.side, entry.first);
         let pair = LevelPair { own: 0, other: 2 };
-        assert_eq!(rt; entry.pairs.as_slice(), [pair].as_slice());
+        same(
+            rt,
+            (place, entry.pairs.as_slice()),
+            ((0, 1, 2, 0), [pair].as_slice()),
+        );
     }
 }
 
@@ -173,9 +187,8 @@ fn made(rt: &impl Abort, mesh: ContourMesh) -> TileMesh {
 fn thin_rows(rt: HostRuntime) -> Result<(), AllocError> {
     let mesh = half(rt.alloc())?;
     let mesh = made(&rt, mesh);
-    check_thin(&rt, mesh.polys.as_slice());
-    assert_eq!(rt; mesh.links.len(), 16);
-    assert_eq!(rt; mesh.rim.len(), 0);
+    check_polygons(&rt, mesh.polys.as_slice(), 8, &thin_row());
+    same(&rt, (mesh.links.len(), mesh.rim.len()), (16, 0));
     Ok(())
 }
 
@@ -183,7 +196,7 @@ fn thin_rows(rt: HostRuntime) -> Result<(), AllocError> {
 fn outlines_that_cannot_be_cut(rt: HostRuntime) -> Result<(), AllocError> {
     let mesh = wide(rt.alloc())?;
     match mesh {
-        ContourMesh::NotCut(free) => assert_eq!(rt; free.cells.len(), RING.len()),
+        ContourMesh::NotCut(free) => same(&rt, free.cells.len(), RING.len()),
         ContourMesh::Made(_) => panic!(rt; "an outline crosses itself"),
     }
     Ok(())
@@ -193,7 +206,7 @@ fn outlines_that_cannot_be_cut(rt: HostRuntime) -> Result<(), AllocError> {
 fn regions_side_by_side(rt: HostRuntime) -> Result<(), AllocError> {
     let mesh = pair(rt.alloc())?;
     let mesh = made(&rt, mesh);
-    check_pair(&rt, mesh.polys.as_slice());
+    check_polygons(&rt, mesh.polys.as_slice(), 2, &two_regions());
     check_links(&rt, mesh.links.as_slice(), &LINKS);
     check_rim(&rt, mesh.rim.as_slice());
     Ok(())

@@ -7,6 +7,8 @@
 #[cfg(test)]
 mod cell_rows;
 #[cfg(test)]
+mod checks;
+#[cfg(test)]
 mod contour_meshes;
 #[cfg(test)]
 mod contours;

@@ -3,10 +3,12 @@
 ghost use Rattle.std.specs.Prelude.{◌≡◌, IfOk};
 ghost use Rattle.mesh_types.specs.Rings.{IsRing};
 
+use crate::checks::same;
 use contour_simplify::simplify;
 use mesh_types::{Code, Simplified, UnitEdge};
 use nav_base::Point;
 use std::alloc::{AllocError, Global};
+use std::process::Abort;
 
 /// Four cells in a row: the region 2 lies above the last, the region 1 above the first, and a wall round the rest.
 const ROW: [UnitEdge; 10] = [
@@ -129,32 +131,45 @@ const SQUARE: [Point; 4] = [
     Point { x: 1, z: 2 },
 ];
 
+/// The codes of the sides of the long outline.
+const CODES: [Code; 6] = [
+    Code::Wall,
+    Code::Wall,
+    Code::Region(2),
+    Code::Wall,
+    Code::Region(1),
+    Code::Wall,
+];
+
+/// Tests the corners that are left at an error, and returns the outline.
+fn checked(
+    rt: &impl Abort,
+    alloc: Global,
+    edges: &[UnitEdge],
+    error: u32,
+    wanted: &[Point],
+) -> Result<Simplified, AllocError>
+    requires { IsRing edges.now }
+{
+    let simplified = simplify(alloc, edges, error)?;
+    same(rt, (error, written(&simplified).0), (error, wanted));
+    Ok(simplified)
+}
+
 #[test]
 fn outlines_by_hand(rt: HostRuntime) -> Result<(), AllocError> {
-    let alloc = rt.alloc();
-    let row = row(alloc)?;
-    let long = simplify(alloc, row.as_slice(), 50)?;
-    let codes = [
-        Code::Wall,
-        Code::Wall,
-        Code::Region(2),
-        Code::Wall,
-        Code::Region(1),
-        Code::Wall,
-    ];
-    assert_eq!(rt; written(&long), (LONG.as_slice(), codes.as_slice()));
-    let short = simplify(alloc, row.as_slice(), 169)?;
-    assert_eq!(rt; written(&short).0, SHORT.as_slice());
+    let row = row(rt.alloc())?;
+    let long = checked(&rt, rt.alloc(), row.as_slice(), 50, &LONG)?;
+    same(&rt, written(&long).1, CODES.as_slice());
+    checked(&rt, rt.alloc(), row.as_slice(), 169, &SHORT)?;
     Ok(())
 }
 
 #[test]
 fn cell_by_hand(rt: HostRuntime) -> Result<(), AllocError> {
-    let alloc = rt.alloc();
-    let cell = cell(alloc)?;
-    let square = simplify(alloc, cell.as_slice(), 49)?;
-    assert_eq!(rt; written(&square).0, SQUARE.as_slice());
-    let flat = simplify(alloc, cell.as_slice(), 50)?;
-    assert_eq!(rt; flat, Simplified::Flat);
+    let cell = cell(rt.alloc())?;
+    checked(&rt, rt.alloc(), cell.as_slice(), 49, &SQUARE)?;
+    let flat = checked(&rt, rt.alloc(), cell.as_slice(), 50, &[])?;
+    same(&rt, flat, Simplified::Flat);
     Ok(())
 }

@@ -4,10 +4,12 @@ ghost use Rattle.std.specs.Prelude.{◌≡◌, IfOk};
 ghost use Rattle.nav_ground.specs.Cells.{IsCut};
 
 use crate::cell_rows::{Row, free_of, ring};
+use crate::checks::same;
 use mesh_types::Regions;
 use mono_regions::regions;
 use nav_ground::FreeLayer;
 use std::alloc::{AllocError, Global};
+use std::process::Abort;
 
 /// The first row has the columns 1 to 3, the last of which has another area and a neighbour in another tile; the second row has the columns
 /// 1 and 2 on two levels, which are connected to the first row alone.
@@ -58,13 +60,30 @@ fn places(alloc: Global, regions: &Regions) -> Result<Vec<(usize, u32, u32, u32)
     Ok(places)
 }
 
+fn check(
+    rt: &impl Abort,
+    alloc: Global,
+    free: &FreeLayer,
+    wanted: &[(usize, u32, u32, u32)],
+) -> Result<(), AllocError>
+    requires { IsCut free.now.cells }
+{
+    let found = regions(alloc, free)?;
+    let places = places(alloc, &found)?;
+    same(rt, places.as_slice(), wanted);
+    Ok(())
+}
+
 #[test]
-fn regions_by_hand(rt: HostRuntime) -> Result<(), AllocError> {
-    let alloc = rt.alloc();
-    let found = regions(alloc, &levels(alloc)?)?;
+fn regions_on_levels(rt: HostRuntime) -> Result<(), AllocError> {
+    let free = levels(rt.alloc())?;
     let wanted = [(0, 0, 1, 2), (1, 0, 3, 3), (2, 1, 1, 1), (3, 1, 2, 2)];
-    assert_eq!(rt; places(alloc, &found)?.as_slice(), wanted.as_slice());
-    let found = regions(alloc, &ring(alloc)?)?;
+    check(&rt, rt.alloc(), &free, &wanted)
+}
+
+#[test]
+fn regions_of_a_ring(rt: HostRuntime) -> Result<(), AllocError> {
+    let free = ring(rt.alloc())?;
     let wanted = [
         (0, 1, 1, 4),
         (1, 2, 1, 1),
@@ -73,8 +92,12 @@ fn regions_by_hand(rt: HostRuntime) -> Result<(), AllocError> {
         (2, 3, 4, 4),
         (3, 4, 1, 4),
     ];
-    assert_eq!(rt; places(alloc, &found)?.as_slice(), wanted.as_slice());
-    let found = regions(alloc, &stairs(alloc)?)?;
+    check(&rt, rt.alloc(), &free, &wanted)
+}
+
+#[test]
+fn regions_of_stairs(rt: HostRuntime) -> Result<(), AllocError> {
+    let free = stairs(rt.alloc())?;
     let wanted = [
         (0, 0, 0, 1),
         (0, 1, 0, 2),
@@ -82,6 +105,5 @@ fn regions_by_hand(rt: HostRuntime) -> Result<(), AllocError> {
         (2, 3, 2, 2),
         (2, 4, 2, 2),
     ];
-    assert_eq!(rt; places(alloc, &found)?.as_slice(), wanted.as_slice());
-    Ok(())
+    check(&rt, rt.alloc(), &free, &wanted)
 }
