@@ -25,7 +25,7 @@ use nav_desk::{Desk, HistoryFull, Job, Published, Submitted};
 use nav_ground::{Entry, Ground, HISTORY_LIMIT, Reply, Request};
 use nav_list::Items;
 use nav_share::Shared;
-use nav_version::{Eye, Press, Told, Version, pair};
+use nav_version::{Entries, Eye, Press, Told, Version, pair};
 use std::alloc::{AllocError, Global};
 use std::marker::Model;
 use std::sync::{Arc, Wait};
@@ -74,7 +74,7 @@ impl Book {
         let desk = Desk::begin(alloc, Arc::try_clone(&level)?)?;
         let opening = Version {
             ground: level,
-            entries: Items::new(alloc),
+            entries: Entries::new(alloc)?,
             mesh,
         };
         let (press, eyes) = pair(rt, alloc, opening, readers)?;

@@ -3,6 +3,7 @@
 ghost use Rattle.std.specs.Prelude.{◌≡◌, ◌<◌, ◌^◌, ◌++◌, ◌∷◌, [], length, MatchBool};
 ghost use mathlib.Core.List.{IsPrefix};
 
+use crate::entries::Entries;
 use crate::law::{Adding, Law, Nothing};
 use crate::told::Told;
 use logbook::{Offer, Seen, Start, Word};
@@ -87,6 +88,17 @@ impl History {
             }
         }
         true
+    }
+
+    /// Adds the entries of a version, and says whether it did.
+    pub(crate) fn add_all(&mut self, entries: &Entries) -> bool
+        requires room { length (self.old.entries ++ entries.now) < 2 ^ 62 }
+        ensures pair { self.new.pair ≡ self.old.pair }
+        ensures begins { IsPrefix self.old.entries self.new.entries }
+        ensures grown { MatchBool result (self.new.entries ≡ self.old.entries ++ entries.now) (Unit {0}) }
+    {
+        let (older, latest) = entries.as_slices();
+        self.add(older) && self.add(latest)
     }
 
     /// The list so far.

@@ -11,6 +11,7 @@
 //! holds, which ties the version that is shown to that history, and the press and the eyes to one pair.
 #![tactic(auto)]
 
+mod entries;
 mod eye;
 mod history;
 mod law;
@@ -22,6 +23,7 @@ mod shown;
 mod told;
 mod version;
 
+pub use entries::Entries;
 pub use eye::Eye;
 pub use patch::Patch;
 pub use press::{Press, pair};

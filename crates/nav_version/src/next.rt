@@ -1,6 +1,6 @@
 //! The next version, made whole before it is published.
 
-ghost use Rattle.std.specs.Prelude.{◌≡◌, ◌++◌, ◌<◌, ◌≤◌, ◌^◌, IfOk, length};
+ghost use Rattle.std.specs.Prelude.{◌≡◌, ◌++◌, ◌≤◌, IfOk};
 ghost use Rattle.std.specs.Arc.{arc_value};
 ghost use Rattle.nav_ground.specs.Limits.{IsSetting};
 ghost use Rattle.mesh_types.specs.Soundness.{IsSound, polygon_count};
@@ -12,8 +12,7 @@ ghost use Rattle.nav_version.specs.Versions.{IsVersion};
 use crate::patch::Patch;
 use crate::version::Version;
 use mesh_types::{Mesh, TileMesh, copy_mesh};
-use nav_ground::{Entry, TileNo};
-use nav_list::Items;
+use nav_ground::TileNo;
 use nav_share::Shared;
 use std::alloc::{AllocError, Global};
 use std::sync::Arc;
@@ -32,27 +31,16 @@ pub(crate) fn next_version(
     ensures entries { IfOk result (λ next. next.entries ≡ version.now.entries ++ patch.now.entries) }
 {
     let ground = Arc::try_clone(&version.ground)?;
-    let entries = joined(alloc, version.entries.as_slice(), patch.entries.as_slice())?;
+    let entries = version.entries.with(alloc, patch.entries.as_slice())?;
     let mesh = replaced(alloc, &version.mesh, patch.tiles.as_slice())?;
     Ok(Shared::new(
         alloc,
         Version {
             ground,
-            entries: Items::from_vec(entries),
+            entries,
             mesh,
         },
     )?)
-}
-
-/// One list after the other.
-fn joined(alloc: Global, before: &[Entry], more: &[Entry]) -> Result<Vec<Entry>, AllocError>
-    requires { length (before.now ++ more.now) < 2 ^ 32 }
-    ensures { IfOk result (λ all. all.items ≡ before.now ++ more.now) }
-{
-    let mut all = Vec::with_capacity(alloc, before.len() + more.len())?;
-    all.extend_from_slice(before)?;
-    all.extend_from_slice(more)?;
-    Ok(all)
 }
 
 /// A mesh with new tile meshes in place. What does not change is shared with the mesh that is lent.

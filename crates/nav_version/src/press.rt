@@ -101,7 +101,7 @@ impl Press {
         ensures entries { IfOk result (λ press. press.entries ≡ version.entries) }
     {
         let mut history = History::new();
-        if !history.add(version.entries.as_slice()) {
+        if !history.add_all(&version.entries) {
             return Err(AllocError);
         }
         let told = history.told();
@@ -197,7 +197,7 @@ impl Press {
     pub fn length(&self) -> u32
         ensures { result ≡ length self.now.entries }
     {
-        self.version().entries.len() as u32
+        self.writer.published().told.length()
     }
 
     /// The published length, for an eye of this pair to learn.

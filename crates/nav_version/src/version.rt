@@ -1,8 +1,8 @@
 //! A version: the mesh of a ground with the obstacles that a history leaves.
 
+use crate::entries::Entries;
 use mesh_types::Mesh;
-use nav_ground::{Entry, Ground};
-use nav_list::Items;
+use nav_ground::Ground;
 use std::sync::Arc;
 
 /// A ground, the entries of its history so far, the oldest first, and the mesh of the ground with the obstacles that are alive after them.
@@ -10,6 +10,6 @@ use std::sync::Arc;
 #[derive(Drop)]
 pub struct Version {
     pub ground: Arc<Ground>,
-    pub entries: Items<Entry>,
+    pub entries: Entries,
     pub mesh: Mesh,
 }

@@ -17,7 +17,7 @@ use nav_ground::{AREAS, Agent, Entry, Ground, MeshKind, Reply, Request, Setting,
 use nav_list::Items;
 use nav_share::Shared;
 use nav_steps::Steps;
-use nav_version::{Eye, Patch, Press, Version, pair};
+use nav_version::{Entries, Eye, Patch, Press, Version, pair};
 use std::alloc::{AllocError, Global};
 use std::marker::Brand;
 use std::sync::ledger::{Blank, Ledger};
@@ -73,7 +73,7 @@ fn opening<L: Ledger>(alloc: Global, level: Ground, blank: Blank) -> Result<Vers
     let mesh = joined(alloc, &level.setting, tiles)?;
     Ok(Version {
         ground: Arc::new(alloc, level)?,
-        entries: Items::new(alloc),
+        entries: Entries::new(alloc)?,
         mesh,
     })
 }

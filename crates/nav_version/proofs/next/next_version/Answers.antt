@@ -15,10 +15,10 @@ replaced-requires-clause-mesh c = IsWhole-of_version c.args.version.now c.requir
 pub replaced-requires-clause-news : goal.replaced-requires-clause-news
 replaced-requires-clause-news c =
     subst (λ (z : Setting × List New). AreNew z.0 z.1)
-    (λ i. (sym (setting_of_version c.args.version.now c.requires.version) i, sym c.as_slice-3.ensures.value i)) c.requires.patch.tiles
+    (λ i. (sym (setting_of_version c.args.version.now c.requires.version) i, sym c.as_slice-2.ensures.value i)) c.requires.patch.tiles
 
 pub returns-clause-rules : goal.returns-clause-rules
 returns-clause-rules c =
     let is = c.in_ok-new.ensures.ok in
-    IsVersion-after_patch c.args.version.now c.in_ok-new.field-0 c.args.patch.now c.as_slice-3.result.now c.requires.version c.requires.patch
-    (search rules) (search rules) (ap (λ (version : Version). version.mesh) is ∙ c.in_ok-mesh.ensures.mesh) c.as_slice-3.ensures.value (search rules)
+    IsVersion-after_patch c.args.version.now c.in_ok-new.field-0 c.args.patch.now c.as_slice-2.result.now c.requires.version c.requires.patch
+    (search rules) (search rules) (ap (λ (version : Version). version.mesh) is ∙ c.in_ok-mesh.ensures.mesh) c.as_slice-2.ensures.value (search rules)

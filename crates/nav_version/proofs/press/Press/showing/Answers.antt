@@ -10,4 +10,4 @@ invariant_of-result g c =
     let first : Shown = record { version = c.in_ok-version.version; told = c.told-told.result } in
     let after = c.shown-writer.result.0.desk in
     let is : IsShown first = search rules in
-    IsKept-whole after.shown.value (view after.place) c.add.new.self first is (search rules) (search rules) (search rules)
+    IsKept-whole after.shown.value (view after.place) c.add_all.new.self first is (search rules) (search rules) (search rules)
