@@ -17,7 +17,7 @@ use std::process::Abort;
 use std::sync::Arc;
 
 /// What is asked of a desk. Blocks are those over the columns from x to x + 1 of row 1; a list has one block at most, given by its x.
-#[derive(Clone, Copy, PartialEq, Eq, Debug)]
+#[derive(Clone, Copy)]
 enum Asked {
     Add(u32),
     Remove(u32),
@@ -31,7 +31,7 @@ enum Asked {
 }
 
 /// What it is answered; of a job the tile, the x of its first block, and how many blocks there are.
-#[derive(Clone, Copy, PartialEq, Eq, Debug)]
+#[derive(Clone, Copy, PartialEq, Eq)]
 enum Told {
     Replied(u32, Reply),
     HistoryFull,
