@@ -4,6 +4,7 @@ ghost use Rattle.std.specs.Prelude.{◌≡◌, IfOk, length, OnOk};
 ghost use Rattle.nav_ground.specs.Fields.{IsField, AreAreas};
 ghost use Rattle.nav_ground.specs.Cells.{IsCompact};
 
+use crate::checks::same;
 use compact_layer::{CompactField, compact, neighbour};
 use nav_ground::{Agent, Cell, CellRef, Field, Span};
 use nav_list::{Duplicate, Items};
@@ -134,36 +135,40 @@ fn place(at: (u32, u32, u32)) -> CellRef {
     }
 }
 
-fn check_cells(rt: &impl Abort, cells: &[Cell]) {
-    assert_eq!(rt; cells.len(), ROWS.len());
-    for (cell, row) in cells.iter().zip(ROWS.iter()) {
-        assert_eq!(rt; cell.at, place(row.0));
-        assert_eq!(rt; (cell.floor, cell.ceiling, cell.area), row.1);
-        assert_eq!(rt; cell.next, row.2);
+fn check_cells(rt: &impl Abort, cells: &[Cell], rows: &[Row]) {
+    same(rt, cells.len(), rows.len());
+    for (cell, row) in cells.iter().zip(rows.iter()) {
+        let heights = (cell.floor, cell.ceiling, cell.area);
+        same(
+            rt,
+            (cell.at, heights, cell.next),
+            (place(row.0), row.1, row.2),
+        );
     }
 }
 
-fn check_neighbours(rt: &impl Abort, compact: &CompactField)
+/// The number of a cell, a direction, and the place of its neighbour there.
+type Beside = (usize, u32, Option<(u32, u32, u32)>);
+
+const NEIGHBOURS: [Beside; 8] = [
+    (0, 0, None),
+    (0, 1, Some((0, 1, 0))),
+    (0, 2, Some((1, 0, 0))),
+    (1, 0, Some((0, 0, 0))),
+    (3, 3, Some((0, 0, 0))),
+    (4, 2, Some((1, 1, 1))),
+    (6, 0, Some((0, 1, 1))),
+    (6, 2, None),
+];
+
+fn check_neighbours(rt: &impl Abort, compact: &CompactField, rows: &[Beside])
     requires { IsCompact compact.now.cells }
 {
     let cells = compact.cells.as_slice();
-    for (i, dir, wanted) in [
-        (0, 0, None),
-        (0, 1, Some((0, 1, 0))),
-        (0, 2, Some((1, 0, 0))),
-        (1, 0, Some((0, 0, 0))),
-        (3, 3, Some((0, 0, 0))),
-        (4, 2, Some((1, 1, 1))),
-        (6, 0, Some((0, 1, 1))),
-        (6, 2, None),
-    ] {
-        if i < cells.len() && dir < 4 {
-            assert_eq!(rt;
-                neighbour(compact, cells[i].at, dir),
-                wanted.map(place),
-                "cell {i}, {dir}"
-            );
-        }
+    for (i, dir, wanted) in rows {
+        assert!(rt; *i < cells.len() && *dir < 4);
+        let found = neighbour(compact, cells[*i].at, *dir);
+        same(rt, (*i, *dir, found), (*i, *dir, wanted.map(place)));
     }
 }
 
@@ -172,8 +177,8 @@ fn bridge(rt: HostRuntime) -> Result<(), AllocError> {
     let alloc = rt.alloc();
     let field = field(alloc)?;
     let cells = compact(alloc, &field, &BESIDE, &AGENT)?;
-    check_cells(&rt, cells.cells.as_slice());
-    check_neighbours(&rt, &cells);
-    assert!(rt; cells.duplicate(alloc)? == cells);
+    check_cells(&rt, cells.cells.as_slice(), &ROWS);
+    check_neighbours(&rt, &cells, &NEIGHBOURS);
+    same(&rt, cells.duplicate(alloc)?, cells);
     Ok(())
 }

@@ -1,12 +1,15 @@
 //! Square fields cut by hand: flat but for a few spans over the column (2, 2), so that every layer can be said by its floors.
 
 ghost use Rattle.std.specs.Prelude.{◌≡◌, ◌≤◌, IfOk};
-ghost use Rattle.nav_ground.specs.Grounds.{IsBuiltFor};
+ghost use Rattle.nav_ground.specs.Grounds.{IsBuiltFor, IsGround};
 ghost use Rattle.nav_ground.specs.Limits.{IsSetting};
 
+use crate::checks::same;
 use crate::rules::keeps_rules;
 use layer_cut::{ground, layer, tile_of};
-use nav_ground::{AREAS, Agent, Cell, Field, MeshKind, Setting, Span, tiles};
+use nav_ground::{
+    AREAS, Agent, Cell, CellRef, Field, Ground, Layer, MeshKind, Setting, Span, TileNo, tiles,
+};
 use nav_list::Items;
 use std::alloc::{AllocError, Global};
 use std::process::Abort;
@@ -23,16 +26,32 @@ struct Case {
     height: u32,
 }
 
-/// A span over the column (2, 2), which nobody walks on by itself.
-const fn over(bottom: u32, top: u32) -> Option<Span> {
-    Some(Span {
-        x: 2,
-        z: 2,
-        bottom,
-        top,
-        area: 0,
-    })
-}
+/// Spans over the column (2, 2), which nobody walks on by themselves.
+const STEP: Span = Span {
+    x: 2,
+    z: 2,
+    bottom: 10,
+    top: 12,
+    area: 0,
+};
+
+const NEXT_STEP: Span = Span {
+    bottom: 12,
+    top: 14,
+    ..STEP
+};
+
+const BEAM: Span = Span {
+    bottom: 20,
+    top: 22,
+    ..STEP
+};
+
+const LOW_BEAM: Span = Span {
+    bottom: 19,
+    top: 22,
+    ..STEP
+};
 
 fn setting_of(case: &Case) -> Setting
     requires side { (1 ≤ case.now.side) × (case.now.side ≤ 16) }
@@ -113,6 +132,10 @@ fn level_wanted(case: &Case, x: u32, z: u32) -> Option<u32> {
     }
 }
 
+fn at_ground(x: u32, z: u32) -> CellRef {
+    CellRef { x, z, level: 0 }
+}
+
 fn check_cell(rt: &impl Abort, case: &Case, cell: &Cell) {
     let (x, z) = (cell.at.x, cell.at.z);
     assert!(rt; 0 < x && x < 1024 && 0 < z && z < 1024);
@@ -122,9 +145,12 @@ fn check_cell(rt: &impl Abort, case: &Case, cell: &Cell) {
         level_wanted(case, x + 1, z),
         level_wanted(case, x, z - 1),
     ];
-    assert_eq!(rt; (cell.at.level, cell.area), (0, 63));
-    assert_eq!(rt; cell.floor, floor_wanted(case, x, z), "at {x} {z}");
-    assert_eq!(rt; cell.next, next, "at {x} {z}");
+    let said = (cell.floor, cell.area, cell.next);
+    same(
+        rt,
+        (cell.at, said),
+        (at_ground(x, z), (floor_wanted(case, x, z), 63, next)),
+    );
 }
 
 /// How many columns have a cell.
@@ -136,6 +162,46 @@ fn cells_wanted(case: &Case) -> usize
         .count()
 }
 
+fn cells_in(layers: &[Layer]) -> usize {
+    let mut cells = 0usize;
+    for layer in layers {
+        cells = cells.saturating_add(layer.cells.len());
+    }
+    cells
+}
+
+/// The cells of a tile are as wanted, and lie in it.
+fn check_cells(rt: &impl Abort, case: &Case, setting: &Setting, tile: TileNo, cells: &[Cell])
+    requires { IsSetting setting.now }
+{
+    for cell in cells {
+        check_cell(rt, case, cell);
+        assert!(rt; cell.at.x < setting.width && cell.at.z < setting.depth);
+        same(rt, tile_of(setting, cell.at.x, cell.at.z), tile);
+    }
+}
+
+/// There is a layer for each tile, as wanted, and the layer of that tile alone is the same.
+fn check_layers(
+    rt: &impl Abort,
+    alloc: Global,
+    case: &Case,
+    whole: &Ground,
+) -> Result<(), AllocError>
+    requires { IsGround whole.now }
+{
+    let setting = &whole.setting;
+    let layers = whole.layers.as_slice();
+    assert!(rt; layers.len() == tiles(setting) as usize);
+    for tile in 0..tiles(setting) {
+        let there = &layers[tile as usize];
+        same(rt, there.tile, tile);
+        check_cells(rt, case, setting, tile, there.cells.as_slice());
+        assert!(rt; layer(alloc, &whole.field, setting, tile)? == *there);
+    }
+    Ok(())
+}
+
 fn check(rt: &impl Abort, alloc: Global, case: &Case) -> Result<(), AllocError>
     requires side { (1 ≤ case.now.side) × (case.now.side ≤ 16) }
     requires tile { (4 ≤ case.now.tile) × (case.now.tile ≤ 16) }
@@ -145,82 +211,75 @@ fn check(rt: &impl Abort, alloc: Global, case: &Case) -> Result<(), AllocError>
     let field = field_of(alloc, case)?;
     assert!(rt; keeps_rules(&field));
     let whole = ground(alloc, setting, field)?;
-    assert_eq!(rt; whole.layers.len(), tiles(&setting) as usize);
-    let mut cells = 0usize;
-    for (tile, there) in whole.layers.iter().enumerate() {
-        assert!(rt; tile < tiles(&setting) as usize);
-        assert_eq!(rt; there.tile as usize, tile);
-        for cell in there.cells.as_slice() {
-            check_cell(rt, case, cell);
-            assert!(rt; cell.at.x < case.side && cell.at.z < case.side);
-            assert_eq!(rt; tile_of(&setting, cell.at.x, cell.at.z) as usize, tile);
-        }
-        cells = cells.saturating_add(there.cells.len());
-        assert!(rt; layer(alloc, &whole.field, &setting, tile as u32)? == *there);
+    same(rt, cells_in(whole.layers.as_slice()), cells_wanted(case));
+    check_layers(rt, alloc, case, &whole)
+}
+
+const FLAT: Case = Case {
+    side: 6,
+    tile: 6,
+    radius: 0,
+    over: [None, None],
+    edge: 1,
+    height: 10,
+};
+
+const CASES: [Case; 7] = [
+    // Four tiles; cells beside a border name those across it.
+    Case {
+        side: 8,
+        tile: 4,
+        ..FLAT
+    },
+    // A low step takes the area of the floor under it, and one on top of it does not.
+    Case {
+        over: [Some(STEP), None],
+        height: 12,
+        ..FLAT
+    },
+    Case {
+        over: [Some(STEP), Some(NEXT_STEP)],
+        height: 0,
+        ..FLAT
+    },
+    // The agent fits under a beam of its own height, and not under one that is lower.
+    Case {
+        over: [Some(BEAM), None],
+        ..FLAT
+    },
+    Case {
+        over: [Some(LOW_BEAM), None],
+        height: 0,
+        ..FLAT
+    },
+    // The ring of the edge has no cells; the cells beside it are boundary cells, and their neighbours are nearer than two cells.
+    Case {
+        side: 10,
+        tile: 10,
+        radius: 2,
+        edge: 3,
+        ..FLAT
+    },
+    // Sixteen tiles, each from a part of the field.
+    Case {
+        side: 16,
+        tile: 4,
+        radius: 1,
+        edge: 2,
+        ..FLAT
+    },
+];
+
+fn check_all(rt: &impl Abort, alloc: Global, cases: &[Case]) -> Result<(), AllocError> {
+    for case in cases {
+        assert!(rt; 1 <= case.side && case.side <= 16);
+        assert!(rt; 4 <= case.tile && case.tile <= 16 && case.radius <= 15);
+        check(rt, alloc, case)?;
     }
-    assert_eq!(rt; cells, cells_wanted(case));
     Ok(())
 }
 
 #[test]
 fn cuts_by_hand(rt: HostRuntime) -> Result<(), AllocError> {
-    let flat = Case {
-        side: 6,
-        tile: 6,
-        radius: 0,
-        over: [None, None],
-        edge: 1,
-        height: 10,
-    };
-    let cases = [
-        // Four tiles; cells beside a border name those across it.
-        Case {
-            side: 8,
-            tile: 4,
-            ..flat
-        },
-        // A low step takes the area of the floor under it, and one on top of it does not.
-        Case {
-            over: [over(10, 12), None],
-            height: 12,
-            ..flat
-        },
-        Case {
-            over: [over(10, 12), over(12, 14)],
-            height: 0,
-            ..flat
-        },
-        // The agent fits under a beam of its own height, and not under one that is lower.
-        Case {
-            over: [over(20, 22), None],
-            ..flat
-        },
-        Case {
-            over: [over(19, 22), None],
-            height: 0,
-            ..flat
-        },
-        // The ring of the edge has no cells; the cells beside it are boundary cells, and their neighbours are nearer than two cells.
-        Case {
-            side: 10,
-            tile: 10,
-            radius: 2,
-            edge: 3,
-            ..flat
-        },
-        // Sixteen tiles, each from a part of the field.
-        Case {
-            side: 16,
-            tile: 4,
-            radius: 1,
-            edge: 2,
-            ..flat
-        },
-    ];
-    for case in &cases {
-        assert!(rt; 1 <= case.side && case.side <= 16);
-        assert!(rt; 4 <= case.tile && case.tile <= 16 && case.radius <= 15);
-        check(&rt, rt.alloc(), case)?;
-    }
-    Ok(())
+    check_all(&rt, rt.alloc(), &CASES)
 }

@@ -17,7 +17,7 @@ use std::process::Abort;
 use std::sync::Arc;
 
 /// What is asked of a desk. Blocks are those over the columns from x to x + 1 of row 1; a list has one block at most, given by its x.
-#[derive(Clone, Copy, PartialEq, Eq, Debug)]
+#[derive(Clone, Copy)]
 enum Asked {
     Add(u32),
     Remove(u32),
@@ -31,7 +31,7 @@ enum Asked {
 }
 
 /// What it is answered; of a job the tile, the x of its first block, and how many blocks there are.
-#[derive(Clone, Copy, PartialEq, Eq, Debug)]
+#[derive(Clone, Copy, PartialEq, Eq)]
 enum Told {
     Replied(u32, Reply),
     HistoryFull,
@@ -233,13 +233,17 @@ const TWO_TILES: [(Asked, Told); 15] = [
     (Asked::Publish, Told::Published(Published::New { k: 7 })),
 ];
 
+/// Asks a desk the rows of all three tables.
+fn check_all(rt: &impl Abort, desk: &mut Desk, alloc: Global) -> Result<(), AllocError> {
+    check(rt, desk, alloc, &ONE_BLOCK)?;
+    check(rt, desk, alloc, &SAME_AGAIN)?;
+    check(rt, desk, alloc, &TWO_TILES)
+}
+
 #[test]
 fn takes_steps(rt: HostRuntime) -> Result<(), AllocError> {
-    let alloc = rt.alloc();
-    let mut desk = opened(alloc)?;
-    check(&rt, &mut desk, alloc, &ONE_BLOCK)?;
-    check(&rt, &mut desk, alloc, &SAME_AGAIN)?;
-    check(&rt, &mut desk, alloc, &TWO_TILES)
+    let mut desk = opened(rt.alloc())?;
+    check_all(&rt, &mut desk, rt.alloc())
 }
 
 /// Fills a history with requests that remove nothing.
@@ -252,13 +256,15 @@ fn fill(desk: &mut Desk) -> bool {
     true
 }
 
+/// Whether a desk takes no more requests.
+fn is_full(desk: &mut Desk) -> bool {
+    let full = HistoryFull { len: HISTORY_LIMIT };
+    desk.request(0, Request::Remove(1)) == Err(full) && desk.aim() == HISTORY_LIMIT
+}
+
 #[test]
 fn fills_its_history(rt: HostRuntime) -> Result<(), AllocError> {
-    let alloc = rt.alloc();
-    let mut desk = opened(alloc)?;
-    assert!(rt; fill(&mut desk));
-    let full = HistoryFull { len: HISTORY_LIMIT };
-    assert!(rt; desk.request(0, Request::Remove(1)) == Err(full));
-    assert!(rt; desk.aim() == HISTORY_LIMIT);
+    let mut desk = opened(rt.alloc())?;
+    assert!(rt; fill(&mut desk) && is_full(&mut desk));
     Ok(())
 }

@@ -3,6 +3,7 @@
 ghost use Rattle.std.specs.Prelude.{IfOk};
 ghost use Rattle.nav_ground.specs.Cells.{IsCompact};
 
+use crate::checks::same;
 use crate::rows::{Row, cells_of};
 use agent_erode::{erode, erode_window, kept_marks};
 use compact_layer::CompactField;
@@ -88,7 +89,7 @@ fn check_counts(
 {
     for (radius, wanted) in rows {
         let kept = erode(alloc, field, *radius)?;
-        assert_eq!(rt; kept.len(), *wanted, "at {radius}");
+        same(rt, (*radius, kept.len()), (*radius, *wanted));
     }
     Ok(())
 }
@@ -111,8 +112,12 @@ fn check_marks(
     for (radius, wanted) in rows {
         let marks = kept_marks(alloc, field.cells.as_slice(), *radius)?;
         let count = marks.iter().filter(|mark| **mark).count();
-        assert_eq!(rt; count, *wanted, "at {radius}");
-        assert_eq!(rt; marks.get(13).copied(), Some(*radius < 3), "at {radius}");
+        let middle = marks.get(13).copied();
+        same(
+            rt,
+            (*radius, count, middle),
+            (*radius, *wanted, Some(*radius < 3)),
+        );
     }
     Ok(())
 }
@@ -135,7 +140,7 @@ fn check_kept(
 {
     let kept = erode(alloc, field, radius)?;
     let kept = as_tuples(alloc, &kept)?;
-    assert_eq!(rt; kept.as_slice(), wanted, "at {radius}");
+    same(rt, (radius, kept.as_slice()), (radius, wanted));
     Ok(())
 }
 
@@ -223,7 +228,11 @@ fn check_windows(
     for (window, radius, wanted) in rows {
         let kept = erode_window(alloc, field, *window, *radius)?;
         let kept = as_tuples(alloc, &kept)?;
-        assert_eq!(rt; kept.as_slice(), *wanted, "at {window:?} and {radius}");
+        same(
+            rt,
+            (*window, *radius, kept.as_slice()),
+            (*window, *radius, *wanted),
+        );
     }
     Ok(())
 }

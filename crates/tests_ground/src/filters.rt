@@ -2,6 +2,7 @@
 
 ghost use Rattle.std.specs.Prelude.{◌≡◌, IfOk};
 
+use crate::checks::same;
 use crate::rules::{are_areas, keeps_rules};
 use nav_ground::{Agent, Field, Span};
 use nav_list::Items;
@@ -117,7 +118,7 @@ fn check_low_hanging(rt: &impl Abort, alloc: Global, cases: &[Case]) -> Result<(
         let field = field_of(alloc, spans)?;
         assert!(rt; keeps_rules(&field));
         let areas = low_hanging(alloc, &field, &AGENT)?;
-        assert_eq!(rt; areas.as_slice(), *wanted, "of {spans:?}");
+        same(rt, (*spans, areas.as_slice()), (*spans, *wanted));
     }
     Ok(())
 }
@@ -167,10 +168,9 @@ const LEDGES: [CaseWithAreas; 5] = [
 fn check_ledges(rt: &impl Abort, alloc: Global, cases: &[CaseWithAreas]) -> Result<(), AllocError> {
     for (spans, areas, wanted) in cases {
         let field = field_of(alloc, spans)?;
-        assert!(rt; keeps_rules(&field) && are_areas(areas));
-        assert_eq!(rt; areas.len(), spans.len());
+        assert!(rt; keeps_rules(&field) && are_areas(areas) && areas.len() == spans.len());
         let left = ledges(alloc, &field, areas, &AGENT)?;
-        assert_eq!(rt; left.as_slice(), *wanted, "of {spans:?}");
+        same(rt, (*spans, left.as_slice()), (*spans, *wanted));
     }
     Ok(())
 }
@@ -201,10 +201,9 @@ fn check_ceilings(
 ) -> Result<(), AllocError> {
     for (spans, areas, wanted) in cases {
         let field = field_of(alloc, spans)?;
-        assert!(rt; keeps_rules(&field) && are_areas(areas));
-        assert_eq!(rt; areas.len(), spans.len());
+        assert!(rt; keeps_rules(&field) && are_areas(areas) && areas.len() == spans.len());
         let left = low_ceilings(alloc, &field, areas, &AGENT)?;
-        assert_eq!(rt; left.as_slice(), *wanted, "of {spans:?}");
+        same(rt, (*spans, left.as_slice()), (*spans, *wanted));
     }
     Ok(())
 }
@@ -239,7 +238,7 @@ fn check_filtered(rt: &impl Abort, alloc: Global, cases: &[Case]) -> Result<(), 
         let field = field_of(alloc, spans)?;
         assert!(rt; keeps_rules(&field));
         let areas = filtered(alloc, &field, &AGENT)?;
-        assert_eq!(rt; areas.as_slice(), *wanted, "of {spans:?}");
+        same(rt, (*spans, areas.as_slice()), (*spans, *wanted));
     }
     Ok(())
 }

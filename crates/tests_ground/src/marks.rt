@@ -4,6 +4,7 @@ ghost use Rattle.std.specs.Prelude.{◌≡◌, IfOk, All};
 ghost use Rattle.nav_ground.specs.Limits.{IsShape};
 ghost use Rattle.nav_ground.specs.Cells.{IsCut};
 
+use crate::checks::same;
 use nav_ground::{Cell, CellRef, Layer, Shape};
 use nav_list::Items;
 use obstacle_mark::mark;
@@ -83,8 +84,11 @@ fn check(
 {
     let layer = layer(alloc)?;
     let free = mark(alloc, &layer, shapes)?;
-    assert_eq!(rt; free.tile, 5);
-    assert_eq!(rt; free.cells.as_slice(), wanted, "under {shapes:?}");
+    same(
+        rt,
+        (free.tile, shapes, free.cells.as_slice()),
+        (5, shapes, wanted),
+    );
     Ok(())
 }
 

@@ -3,6 +3,7 @@
 ghost use Rattle.std.specs.Prelude.{IfOk};
 ghost use Rattle.nav_ground.specs.Cells.{IsCells};
 
+use crate::checks::same;
 use crate::rows::{Row, cells_of};
 use cell_table::neighbour_table;
 use nav_ground::Cell;
@@ -37,6 +38,6 @@ fn finds_named_cells(rt: HostRuntime) -> Result<(), Fail> {
         [5, 5, 5, 1],
         [5, 5, 5, 5],
     ];
-    assert_eq!(rt; table.as_slice(), wanted.as_slice());
+    same(&rt, table.as_slice(), wanted.as_slice());
     Ok(())
 }

@@ -2,6 +2,7 @@
 
 ghost use Rattle.nav_ground.specs.Limits.{IsShape};
 
+use crate::checks::same;
 use nav_ground::{
     AREAS, Agent, MeshKind, Setting, Shape, Window, bounds, covers, sets, tile_bounds, tiles,
     touches,
@@ -78,9 +79,16 @@ fn window(x0: i32, x1: i32, z0: i32, z1: i32) -> Window {
     Window { x0, x1, z0, z1 }
 }
 
+fn check_bounds(rt: &impl Abort, wanted: &[Window]) {
+    assert!(rt; wanted.len() == tiles(&SETTING) as usize);
+    for tile in 0..tiles(&SETTING) {
+        let columns = tile_bounds(&SETTING, tile);
+        same(rt, (tile, columns), (tile, wanted[tile as usize]));
+    }
+}
+
 #[test]
 fn tiles_by_hand(rt: HostRuntime) -> Result<(), AllocError> {
-    assert_eq!(rt; tiles(&SETTING), 6);
     let wanted = [
         window(0, 3, 0, 3),
         window(4, 7, 0, 3),
@@ -89,14 +97,8 @@ fn tiles_by_hand(rt: HostRuntime) -> Result<(), AllocError> {
         window(4, 7, 4, 6),
         window(8, 9, 4, 6),
     ];
-    for tile in 0..6 {
-        assert_eq!(rt;
-            tile_bounds(&SETTING, tile),
-            wanted[tile as usize],
-            "of tile {tile}"
-        );
-    }
-    assert_eq!(rt; SETTING.duplicate(rt.alloc())?, SETTING);
+    check_bounds(&rt, &wanted);
+    same(&rt, SETTING.duplicate(rt.alloc())?, SETTING);
     Ok(())
 }
 
@@ -129,11 +131,8 @@ fn check_covers(rt: &impl Abort, shape: &Shape, rows: &[Covered])
     requires { IsShape shape.now }
 {
     for (x, z, floor, wanted) in rows {
-        assert_eq!(rt;
-            covers(shape, *x, *z, *floor),
-            *wanted,
-            "at ({x}, {z}) {floor}"
-        );
+        let covered = covers(shape, *x, *z, *floor);
+        same(rt, (*x, *z, *floor, covered), (*x, *z, *floor, *wanted));
     }
 }
 
@@ -146,39 +145,54 @@ fn shapes_cover_columns(rt: HostRuntime) {
 
 #[test]
 fn shapes_have_bounds(rt: HostRuntime) {
-    assert_eq!(rt; bounds(&BLOCK), window(2, 4, 1, 6));
-    assert_eq!(rt; bounds(&DISC), window(0, 5, 0, 4));
-    assert_eq!(rt; bounds(&MUD), window(0, 0, 1023, 1023));
-    assert_eq!(rt; bounds(&POND), window(-1, 1, 1022, 1025));
-    let given = [sets(&BLOCK), sets(&DISC), sets(&MUD), sets(&POND)];
-    assert_eq!(rt; given, [None, None, Some(7), Some(63)]);
+    same(
+        &rt,
+        (bounds(&BLOCK), sets(&BLOCK)),
+        (window(2, 4, 1, 6), None),
+    );
+    same(
+        &rt,
+        (bounds(&DISC), sets(&DISC)),
+        (window(0, 5, 0, 4), None),
+    );
+    same(
+        &rt,
+        (bounds(&MUD), sets(&MUD)),
+        (window(0, 0, 1023, 1023), Some(7)),
+    );
+    same(
+        &rt,
+        (bounds(&POND), sets(&POND)),
+        (window(-1, 1, 1022, 1025), Some(63)),
+    );
+}
+
+/// A block in the columns that tile 2 would have, were it not cut at the field's edge.
+const BEYOND: Shape = Shape::Block {
+    x0: 10,
+    x1: 11,
+    y0: 0,
+    y1: 0,
+    z0: 0,
+    z1: 3,
+};
+
+fn check_touches(rt: &impl Abort, shape: &Shape, wanted: &[bool; 6])
+    requires { IsShape shape.now }
+{
+    for tile in 0..6 {
+        let is_touched = touches(&SETTING, tile, shape);
+        same(rt, (tile, is_touched), (tile, wanted[tile as usize]));
+    }
 }
 
 #[test]
 fn touched_tiles_by_hand(rt: HostRuntime) {
-    // A block in the columns that tile 2 would have, were it not cut at the field's edge.
-    let beyond = Shape::Block {
-        x0: 10,
-        x1: 11,
-        y0: 0,
-        y1: 0,
-        z0: 0,
-        z1: 3,
-    };
-    for (shape, wanted) in [
-        (BLOCK, [true, true, false, true, true, false]),
-        (DISC, [true, true, false, true, true, false]),
-        (DISC_LEFT, [true, true, false, true, true, false]),
-        (MUD, [false; 6]),
-        (POND, [false; 6]),
-        (beyond, [false; 6]),
-    ] {
-        for tile in 0..6 {
-            assert_eq!(rt;
-                touches(&SETTING, tile, &shape),
-                wanted[tile as usize],
-                "{shape:?} and tile {tile}"
-            );
-        }
-    }
+    let around = [true, true, false, true, true, false];
+    check_touches(&rt, &BLOCK, &around);
+    check_touches(&rt, &DISC, &around);
+    check_touches(&rt, &DISC_LEFT, &around);
+    check_touches(&rt, &MUD, &[false; 6]);
+    check_touches(&rt, &POND, &[false; 6]);
+    check_touches(&rt, &BEYOND, &[false; 6]);
 }
