@@ -13,13 +13,34 @@ use std::alloc::{AllocError, Global};
 use std::process::Abort;
 
 /// A portal by x and z of its left end and of its right end.
-type Ends = (i32, i32, i32, i32);
+macro_rules! portal {
+    ($left_x:expr, $left_z:expr, $right_x:expr, $right_z:expr) => {
+        Portal {
+            left: Point {
+                x: $left_x,
+                z: $left_z,
+            },
+            right: Point {
+                x: $right_x,
+                z: $right_z,
+            },
+        }
+    };
+}
 
 /// A corner by its side, x, z and portal.
-type Turn = (Side, i32, i32, u32);
+macro_rules! turn {
+    ($side:ident, $x:expr, $z:expr, $portal:expr) => {
+        Corner {
+            at: Point { x: $x, z: $z },
+            side: Side::$side,
+            portal: $portal,
+        }
+    };
+}
 
 /// A start, portals, a goal, and the corners of the path through them.
-type Chain = ((i32, i32), &'static [Ends], (i32, i32), &'static [Turn]);
+type Chain = ((i32, i32), &'static [Portal], (i32, i32), &'static [Corner]);
 
 /// Whether a point has coordinates.
 fn has_coordinates(p: Point) -> bool
@@ -127,17 +148,19 @@ fn is_small_chain(start: Point, portals: &[Portal], goal: Point) -> bool
     true
 }
 
-/// The corners of the path through a small chain; none of the path through any other.
-fn pulled(
+/// Whether points and portals are a small chain, and the path through it has these corners.
+fn turns_at(
     alloc: Global,
     start: Point,
     portals: &[Portal],
     goal: Point,
-) -> Result<Option<Vec<Corner>>, AllocError> {
+    turns: &[Corner],
+) -> Result<bool, AllocError> {
     if !is_small_chain(start, portals, goal) {
-        return Ok(None);
+        return Ok(false);
     }
-    Ok(Some(pull(alloc, start, portals, goal)?))
+    let corners = pull(alloc, start, portals, goal)?;
+    Ok(corners.as_slice() == turns)
 }
 
 fn at(place: (i32, i32)) -> Point {
@@ -147,35 +170,14 @@ fn at(place: (i32, i32)) -> Point {
     }
 }
 
-fn portals_of(alloc: Global, ends: &[Ends]) -> Result<Vec<Portal>, AllocError> {
-    let mut portals = Vec::new(alloc);
-    for (left_x, left_z, right_x, right_z) in ends {
-        portals.push(Portal {
-            left: at((*left_x, *left_z)),
-            right: at((*right_x, *right_z)),
-        })?;
-    }
-    Ok(portals)
-}
-
-fn corners_of(alloc: Global, turns: &[Turn]) -> Result<Vec<Corner>, AllocError> {
-    let mut corners = Vec::new(alloc);
-    for (side, x, z, portal) in turns {
-        corners.push(Corner {
-            at: at((*x, *z)),
-            side: *side,
-            portal: *portal,
-        })?;
-    }
-    Ok(corners)
-}
-
 fn check(rt: &impl Abort, alloc: Global, chains: &[Chain]) -> Result<(), AllocError> {
-    for (start, ends, goal, turns) in chains {
-        let portals = portals_of(alloc, ends)?;
-        let found = pulled(alloc, at(*start), portals.as_slice(), at(*goal))?;
-        let wanted = corners_of(alloc, turns)?;
-        assert!(rt; found == Some(wanted), "through {ends:?}");
+    for (start, portals, goal, turns) in chains {
+        let is_so = turns_at(alloc, at(*start), *portals, at(*goal), *turns)?;
+        assert!(rt;
+            is_so,
+            "from {start:?} to {goal:?} through {} portals",
+            portals.len()
+        );
     }
     Ok(())
 }
@@ -184,18 +186,31 @@ const STRAIGHT: [Chain; 4] = [
     // no portals
     ((0, 0), &[], (5, 5), &[]),
     // two portals in a row
-    ((0, -8), &[(-8, 0, 8, 0), (-8, 8, 8, 8)], (0, 16), &[]),
+    (
+        (0, -8),
+        &[portal!(-8, 0, 8, 0), portal!(-8, 8, 8, 8)],
+        (0, 16),
+        &[],
+    ),
     // three portals, crosswise
     (
         (24, 24),
-        &[(16, 32, 80, 32), (16, 48, 80, 48), (16, 64, 80, 64)],
+        &[
+            portal!(16, 32, 80, 32),
+            portal!(16, 48, 80, 48),
+            portal!(16, 64, 80, 64),
+        ],
         (72, 72),
         &[],
     ),
     // the start lies inside the first of three
     (
         (48, 32),
-        &[(16, 32, 80, 32), (16, 48, 80, 48), (16, 64, 80, 64)],
+        &[
+            portal!(16, 32, 80, 32),
+            portal!(16, 48, 80, 48),
+            portal!(16, 64, 80, 64),
+        ],
         (48, 72),
         &[],
     ),
@@ -208,13 +223,23 @@ fn goes_straight_through(rt: HostRuntime) -> Result<(), AllocError> {
 
 const ON_LINES: [Chain; 4] = [
     // start and goal at one point of the portal
-    ((48, 48), &[(16, 48, 80, 48)], (48, 48), &[]),
+    ((48, 48), &[portal!(16, 48, 80, 48)], (48, 48), &[]),
     // start and goal inside it
-    ((8, 8), &[(0, 8, 16, 8)], (8, 8), &[]),
+    ((8, 8), &[portal!(0, 8, 16, 8)], (8, 8), &[]),
     // two portals on one line, from a point of both
-    ((8, 8), &[(0, 8, 16, 8), (4, 8, 24, 8)], (8, 16), &[]),
+    (
+        (8, 8),
+        &[portal!(0, 8, 16, 8), portal!(4, 8, 24, 8)],
+        (8, 16),
+        &[],
+    ),
     // one portal twice
-    ((4, 0), &[(0, 8, 8, 8), (0, 8, 8, 8)], (4, 16), &[]),
+    (
+        (4, 0),
+        &[portal!(0, 8, 8, 8), portal!(0, 8, 8, 8)],
+        (4, 16),
+        &[],
+    ),
 ];
 
 #[test]
@@ -226,41 +251,45 @@ const AT_ENDS: [Chain; 5] = [
     // to the left
     (
         (8, 0),
-        &[(0, 8, 16, 8), (-16, 16, 0, 16)],
+        &[portal!(0, 8, 16, 8), portal!(-16, 16, 0, 16)],
         (-12, 20),
-        &[(Side::L, 0, 8, 0)],
+        &[turn!(L, 0, 8, 0)],
     ),
     // to the right
     (
         (-8, 0),
-        &[(-16, 8, 0, 8), (0, 16, 16, 16)],
+        &[portal!(-16, 8, 0, 8), portal!(0, 16, 16, 16)],
         (12, 20),
-        &[(Side::R, 0, 8, 0)],
+        &[turn!(R, 0, 8, 0)],
     ),
     // left, right and left
     (
         (8, 0),
-        &[(0, 8, 16, 8), (-32, 24, -16, 24), (16, 48, 32, 48)],
-        (24, 64),
         &[
-            (Side::L, 0, 8, 0),
-            (Side::R, -16, 24, 1),
-            (Side::L, 16, 48, 2),
+            portal!(0, 8, 16, 8),
+            portal!(-32, 24, -16, 24),
+            portal!(16, 48, 32, 48),
         ],
+        (24, 64),
+        &[turn!(L, 0, 8, 0), turn!(R, -16, 24, 1), turn!(L, 16, 48, 2)],
     ),
     // twice to the left
     (
         (30, 0),
-        &[(20, 10, 40, 10), (10, 30, 40, 30), (-20, 50, 5, 50)],
+        &[
+            portal!(20, 10, 40, 10),
+            portal!(10, 30, 40, 30),
+            portal!(-20, 50, 5, 50),
+        ],
         (-30, 55),
-        &[(Side::L, 10, 30, 1), (Side::L, -20, 50, 2)],
+        &[turn!(L, 10, 30, 1), turn!(L, -20, 50, 2)],
     ),
     // the goal beyond two left ends in line
     (
         (0, 0),
-        &[(0, 8, 8, 8), (0, 16, 8, 16)],
+        &[portal!(0, 8, 8, 8), portal!(0, 16, 8, 16)],
         (0, 24),
-        &[(Side::L, 0, 16, 1)],
+        &[turn!(L, 0, 16, 1)],
     ),
 ];
 
@@ -274,34 +303,34 @@ const ROUND_SEVERAL: [Chain; 2] = [
     (
         (40, 24),
         &[
-            (16, 32, 48, 32),
-            (16, 48, 48, 48),
-            (16, 64, 48, 64),
-            (16, 80, 48, 80),
-            (16, 96, 48, 96),
-            (112, 96, 64, 96),
-            (112, 80, 64, 80),
-            (112, 64, 64, 64),
-            (112, 48, 64, 48),
-            (112, 32, 64, 32),
+            portal!(16, 32, 48, 32),
+            portal!(16, 48, 48, 48),
+            portal!(16, 64, 48, 64),
+            portal!(16, 80, 48, 80),
+            portal!(16, 96, 48, 96),
+            portal!(112, 96, 64, 96),
+            portal!(112, 80, 64, 80),
+            portal!(112, 64, 64, 64),
+            portal!(112, 48, 64, 48),
+            portal!(112, 32, 64, 32),
         ],
         (72, 24),
-        &[(Side::R, 48, 96, 4), (Side::R, 64, 96, 5)],
+        &[turn!(R, 48, 96, 4), turn!(R, 64, 96, 5)],
     ),
     // down, to the right, and up again
     (
         (40, 56),
         &[
-            (48, 48, 16, 48),
-            (64, 48, 64, 32),
-            (80, 48, 112, 48),
-            (80, 64, 112, 64),
+            portal!(48, 48, 16, 48),
+            portal!(64, 48, 64, 32),
+            portal!(80, 48, 112, 48),
+            portal!(80, 64, 112, 64),
         ],
         (88, 72),
         &[
-            (Side::L, 48, 48, 0),
-            (Side::L, 64, 48, 1),
-            (Side::L, 80, 48, 2),
+            turn!(L, 48, 48, 0),
+            turn!(L, 64, 48, 1),
+            turn!(L, 80, 48, 2),
         ],
     ),
 ];
@@ -313,25 +342,60 @@ fn turns_round_several_ends(rt: HostRuntime) -> Result<(), AllocError> {
 
 const AT_START_OR_GOAL: [Chain; 8] = [
     // the start is the left end
-    ((0, 8), &[(0, 8, 16, 8)], (8, 16), &[(Side::L, 0, 8, 0)]),
+    (
+        (0, 8),
+        &[portal!(0, 8, 16, 8)],
+        (8, 16),
+        &[turn!(L, 0, 8, 0)],
+    ),
     // the right end
-    ((16, 8), &[(0, 8, 16, 8)], (8, 16), &[(Side::R, 16, 8, 0)]),
+    (
+        (16, 8),
+        &[portal!(0, 8, 16, 8)],
+        (8, 16),
+        &[turn!(R, 16, 8, 0)],
+    ),
     // the goal is the left end
-    ((8, 0), &[(0, 8, 16, 8)], (0, 8), &[(Side::L, 0, 8, 0)]),
+    (
+        (8, 0),
+        &[portal!(0, 8, 16, 8)],
+        (0, 8),
+        &[turn!(L, 0, 8, 0)],
+    ),
     // the right end
-    ((8, 0), &[(0, 8, 16, 8)], (16, 8), &[(Side::R, 16, 8, 0)]),
+    (
+        (8, 0),
+        &[portal!(0, 8, 16, 8)],
+        (16, 8),
+        &[turn!(R, 16, 8, 0)],
+    ),
     // the start lies beside the portal, on its line
-    ((24, 8), &[(0, 8, 16, 8)], (8, 16), &[(Side::R, 16, 8, 0)]),
+    (
+        (24, 8),
+        &[portal!(0, 8, 16, 8)],
+        (8, 16),
+        &[turn!(R, 16, 8, 0)],
+    ),
     // on the other side
-    ((-8, 8), &[(0, 8, 16, 8)], (8, 16), &[(Side::L, 0, 8, 0)]),
+    (
+        (-8, 8),
+        &[portal!(0, 8, 16, 8)],
+        (8, 16),
+        &[turn!(L, 0, 8, 0)],
+    ),
     // the goal lies beside the portal, on its line
-    ((8, 0), &[(0, 8, 16, 8)], (24, 8), &[(Side::R, 16, 8, 0)]),
+    (
+        (8, 0),
+        &[portal!(0, 8, 16, 8)],
+        (24, 8),
+        &[turn!(R, 16, 8, 0)],
+    ),
     // and there is another portal
     (
         (24, 0),
-        &[(0, 0, 16, 0), (0, 8, 16, 8)],
+        &[portal!(0, 0, 16, 0), portal!(0, 8, 16, 8)],
         (8, 16),
-        &[(Side::R, 16, 0, 0)],
+        &[turn!(R, 16, 0, 0)],
     ),
 ];
 
@@ -344,23 +408,35 @@ const ROUND_SHARED: [Chain; 3] = [
     // a full turn is not named again at the portals that are seen
     (
         (16, -16),
-        &[(0, 0, 32, 0), (0, 0, -32, 0), (0, 0, 32, 0)],
+        &[
+            portal!(0, 0, 32, 0),
+            portal!(0, 0, -32, 0),
+            portal!(0, 0, 32, 0),
+        ],
         (16, 16),
-        &[(Side::L, 0, 0, 0), (Side::L, 0, 0, 1), (Side::L, 0, 0, 2)],
+        &[turn!(L, 0, 0, 0), turn!(L, 0, 0, 1), turn!(L, 0, 0, 2)],
     ),
     // a quarter turn
     (
         (8, -8),
-        &[(0, 0, 16, 0), (0, 0, 16, 16), (0, 0, 0, 16)],
+        &[
+            portal!(0, 0, 16, 0),
+            portal!(0, 0, 16, 16),
+            portal!(0, 0, 0, 16),
+        ],
         (-16, 12),
-        &[(Side::L, 0, 0, 2)],
+        &[turn!(L, 0, 0, 2)],
     ),
     // to the right
     (
         (-8, -8),
-        &[(-16, 0, 0, 0), (-16, 16, 0, 0), (0, 16, 0, 0)],
+        &[
+            portal!(-16, 0, 0, 0),
+            portal!(-16, 16, 0, 0),
+            portal!(0, 16, 0, 0),
+        ],
         (16, 12),
-        &[(Side::R, 0, 0, 2)],
+        &[turn!(R, 0, 0, 2)],
     ),
 ];
 
@@ -374,38 +450,38 @@ const SPIRALS: [Chain; 2] = [
     (
         (8, -8),
         &[
-            (0, 0, 16, 0),
-            (0, 0, 0, 16),
-            (0, 0, -16, 0),
-            (0, 0, 0, -16),
-            (0, 0, 16, 0),
-            (0, 0, 0, 16),
+            portal!(0, 0, 16, 0),
+            portal!(0, 0, 0, 16),
+            portal!(0, 0, -16, 0),
+            portal!(0, 0, 0, -16),
+            portal!(0, 0, 16, 0),
+            portal!(0, 0, 0, 16),
         ],
         (-8, 8),
         &[
-            (Side::L, 0, 0, 1),
-            (Side::L, 0, 0, 2),
-            (Side::L, 0, 0, 3),
-            (Side::L, 0, 0, 4),
-            (Side::L, 0, 0, 5),
+            turn!(L, 0, 0, 1),
+            turn!(L, 0, 0, 2),
+            turn!(L, 0, 0, 3),
+            turn!(L, 0, 0, 4),
+            turn!(L, 0, 0, 5),
         ],
     ),
     // and to the right
     (
         (-8, -8),
         &[
-            (-16, 0, 0, 0),
-            (0, 16, 0, 0),
-            (16, 0, 0, 0),
-            (0, -16, 0, 0),
-            (-16, 0, 0, 0),
+            portal!(-16, 0, 0, 0),
+            portal!(0, 16, 0, 0),
+            portal!(16, 0, 0, 0),
+            portal!(0, -16, 0, 0),
+            portal!(-16, 0, 0, 0),
         ],
         (-8, 8),
         &[
-            (Side::R, 0, 0, 1),
-            (Side::R, 0, 0, 2),
-            (Side::R, 0, 0, 3),
-            (Side::R, 0, 0, 4),
+            turn!(R, 0, 0, 1),
+            turn!(R, 0, 0, 2),
+            turn!(R, 0, 0, 3),
+            turn!(R, 0, 0, 4),
         ],
     ),
 ];
@@ -419,23 +495,23 @@ const FOLDS: [Chain; 3] = [
     // a chain in which no bend can be held by its ends
     (
         (0, 0),
-        &[(1, 1, 2, 1), (3, 1, 0, 1)],
+        &[portal!(1, 1, 2, 1), portal!(3, 1, 0, 1)],
         (0, 0),
-        &[(Side::L, 1, 1, 0)],
+        &[turn!(L, 1, 1, 0)],
     ),
     // the second portal folds back inside the first
     (
         (2, 1),
-        &[(0, 1, 4, 1), (3, 1, 1, 1)],
+        &[portal!(0, 1, 4, 1), portal!(3, 1, 1, 1)],
         (2, 0),
-        &[(Side::L, 0, 1, 0), (Side::R, 1, 1, 1)],
+        &[turn!(L, 0, 1, 0), turn!(R, 1, 1, 1)],
     ),
     // and with its right end there
     (
         (4, -8),
-        &[(0, 0, 8, 0), (16, 0, 2, 0)],
+        &[portal!(0, 0, 8, 0), portal!(16, 0, 2, 0)],
         (4, -4),
-        &[(Side::R, 2, 0, 1)],
+        &[turn!(R, 2, 0, 1)],
     ),
 ];
 

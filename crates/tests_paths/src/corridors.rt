@@ -2,7 +2,7 @@
 
 ghost use Rattle.std.specs.Prelude.{◌≡◌, ◌<◌, [], ◌∷◌, pos, IfOk};
 ghost use Rattle.tests_mesh.specs.HandSettings.{costly_setting, point};
-ghost use Rattle.tests_paths.specs.CorridorMesh.{reference, hand_tile, down_link, border_link, up_link, hand_mesh};
+ghost use Rattle.tests_paths.specs.CorridorMesh.{reference, hand_tile, left_tile, right_tile, down_link, border_link, up_link, hand_mesh};
 
 use crate::settings::PLAIN;
 use corridor_search::cheapest;
@@ -12,7 +12,7 @@ use nav_ground::{AREAS, FreeLayer, Setting};
 use nav_list::Items;
 use nav_share::Shared;
 use std::alloc::{AllocError, Global};
-use std::test::Fail;
+use std::process::Abort;
 
 /// The area 2 costs 3, and all others 1.
 fn setting() -> Setting
@@ -52,6 +52,7 @@ fn tile(
     requires { link.from.index < 2 }
     ensures { IfOk result (λ made. made ≡ hand_tile tile lower upper link) }
 {
+    let links = one_link(alloc, link)?;
     let polys = Vec::from_array(alloc, [lower, upper])?;
     let made = TileMesh {
         tile,
@@ -60,7 +61,7 @@ fn tile(
             cells: Items::new(alloc),
         },
         polys: Items::from_vec(polys),
-        links: one_link(alloc, link)?,
+        links,
         rim: Items::new(alloc),
     };
     Ok(Shared::new(alloc, made)?)
@@ -119,20 +120,44 @@ fn up() -> Link
     link((1, 0), 1, (1, 1), corner(128, 0))
 }
 
+fn left(alloc: Global) -> Result<Shared<TileMesh>, AllocError>
+    ensures { IfOk result (λ made. made ≡ left_tile) }
+{
+    let lower = triangle(1, [corner(0, 0), corner(4, 0), corner(4, 4)]);
+    let upper = triangle(1, [corner(0, 0), corner(4, 4), corner(0, 4)]);
+    tile(alloc, 0, lower, upper, down())
+}
+
+fn right(alloc: Global) -> Result<Shared<TileMesh>, AllocError>
+    ensures { IfOk result (λ made. made ≡ right_tile) }
+{
+    let lower = triangle(2, [corner(4, 0), corner(8, 0), corner(4, 4)]);
+    let upper = triangle(1, [corner(8, 0), corner(8, 4), corner(4, 4)]);
+    tile(alloc, 1, lower, upper, up())
+}
+
+fn tiles(alloc: Global) -> Result<Items<Shared<TileMesh>>, AllocError>
+    ensures { IfOk result (λ tiles. tiles ≡ left_tile ∷ right_tile ∷ []) }
+{
+    let left = left(alloc)?;
+    let right = right(alloc)?;
+    Ok(Items::from_vec(Vec::from_array(alloc, [left, right])?))
+}
+
+/// The links over the border: one from the left tile, and none from the right one.
+fn cross(alloc: Global) -> Result<Items<Shared<Links>>, AllocError>
+    ensures { IfOk result (λ cross. cross ≡ (border_link ∷ []) ∷ [] ∷ []) }
+{
+    let rightward = Shared::new(alloc, one_link(alloc, border())?)?;
+    let leftward = Shared::new(alloc, Links::new(alloc, Vec::new(alloc), 2)?)?;
+    Ok(Items::from_vec(Vec::from_array(alloc, [rightward, leftward])?))
+}
+
 fn mesh(alloc: Global) -> Result<Mesh, AllocError>
     ensures { IfOk result (λ mesh. mesh ≡ hand_mesh) }
 {
-    let left_lower = triangle(1, [corner(0, 0), corner(4, 0), corner(4, 4)]);
-    let left_upper = triangle(1, [corner(0, 0), corner(4, 4), corner(0, 4)]);
-    let right_lower = triangle(2, [corner(4, 0), corner(8, 0), corner(4, 4)]);
-    let right_upper = triangle(1, [corner(8, 0), corner(8, 4), corner(4, 4)]);
-    let mut tiles = Items::new(alloc);
-    tiles.push(tile(alloc, 0, left_lower, left_upper, down())?)?;
-    tiles.push(tile(alloc, 1, right_lower, right_upper, up())?)?;
-    let none = Links::new(alloc, Vec::new(alloc), 2)?;
-    let mut cross = Items::new(alloc);
-    cross.push(Shared::new(alloc, one_link(alloc, border())?)?)?;
-    cross.push(Shared::new(alloc, none)?)?;
+    let tiles = tiles(alloc)?;
+    let cross = cross(alloc)?;
     Ok(Mesh {
         setting: setting(),
         tiles,
@@ -156,36 +181,70 @@ fn corridor(
     }
 }
 
+/// What the corridor between two polygons costs, and how many links it has.
+fn cost_and_length(
+    alloc: Global,
+    mesh: &Mesh,
+    from: (u32, u32),
+    to: (u32, u32),
+) -> Result<Option<(u64, usize)>, AllocError>
+    requires mesh { mesh.now ≡ hand_mesh }
+{
+    match corridor(alloc, mesh, from, to)? {
+        Some(found) => Ok(Some((found.cost, found.links.len()))),
+        None => Ok(None),
+    }
+}
+
+/// Two polygons, and the cost and the length of the corridor between them.
+type Row = ((u32, u32), (u32, u32), Option<(u64, usize)>);
+
 /// Two triangles of one tile have the same middle, so that the link between them weighs 1; the middles of the two tiles are 64 sixteenths
 /// from each other, and the area entered over the border costs 3.
+const ROWS: [Row; 9] = [
+    ((0, 1), (1, 1), Some((194, 3))),
+    ((0, 1), (1, 0), Some((193, 2))),
+    ((0, 0), (1, 0), Some((192, 1))),
+    ((0, 1), (0, 0), Some((1, 1))),
+    ((1, 0), (1, 1), Some((1, 1))),
+    ((0, 1), (0, 1), Some((0, 0))),
+    ((1, 0), (0, 0), None),
+    ((1, 1), (0, 1), None),
+    ((0, 0), (0, 1), None),
+];
+
+fn check_rows(rt: &impl Abort, alloc: Global, mesh: &Mesh, rows: &[Row]) -> Result<(), AllocError>
+    requires mesh { mesh.now ≡ hand_mesh }
+{
+    for (from, to, wanted) in rows {
+        let found = cost_and_length(alloc, mesh, *from, *to)?;
+        assert!(rt; found == *wanted, "from {from:?} to {to:?}");
+    }
+    Ok(())
+}
+
 #[test]
-fn finds_corridors(rt: HostRuntime) -> Result<(), Fail> {
+fn finds_corridors(rt: HostRuntime) -> Result<(), AllocError> {
     let alloc = rt.alloc();
     let mesh = mesh(alloc)?;
-    let table = [
-        ((0, 1), (1, 1), Some((194, 3))),
-        ((0, 1), (1, 0), Some((193, 2))),
-        ((0, 0), (1, 0), Some((192, 1))),
-        ((0, 1), (0, 0), Some((1, 1))),
-        ((1, 0), (1, 1), Some((1, 1))),
-        ((0, 1), (0, 1), Some((0, 0))),
-        ((1, 0), (0, 0), None),
-        ((1, 1), (0, 1), None),
-        ((0, 0), (0, 1), None),
-    ];
-    for (from, to, wanted) in table {
-        let found = corridor(alloc, &mesh, from, to)?;
-        assert_eq!(rt;
-            found.map(|found| (found.cost, found.links.len())),
-            wanted,
-            "from {from:?} to {to:?}"
-        );
+    check_rows(&rt, alloc, &mesh, &ROWS)
+}
+
+/// Whether the corridor from the first polygon to the last runs over these links.
+fn runs_over(alloc: Global, mesh: &Mesh, links: &[Link]) -> Result<bool, AllocError>
+    requires mesh { mesh.now ≡ hand_mesh }
+{
+    match corridor(alloc, mesh, (0, 1), (1, 1))? {
+        Some(found) => Ok(found.links.as_slice() == links),
+        None => Ok(false),
     }
-    let whole = corridor(alloc, &mesh, (0, 1), (1, 1))?;
-    let wanted = [down(), border(), up()];
-    assert_eq!(rt;
-        whole.map(|whole| whole.links.as_slice() == wanted.as_slice()),
-        Some(true)
-    );
+}
+
+#[test]
+fn names_the_links(rt: HostRuntime) -> Result<(), AllocError> {
+    let alloc = rt.alloc();
+    let mesh = mesh(alloc)?;
+    let is_so = runs_over(alloc, &mesh, &[down(), border(), up()])?;
+    assert!(rt; is_so);
     Ok(())
 }

@@ -1,7 +1,7 @@
 //! Where places lie in a small mesh by hand.
 
-ghost use Rattle.std.specs.Prelude.{◌≡◌, ◌≤◌, [], IfOk};
-ghost use Rattle.tests_paths.specs.PlaceMesh.{hand_mesh, hand_polygon, hand_tile};
+ghost use Rattle.std.specs.Prelude.{◌≡◌, ◌≤◌, [], ◌∷◌, IfOk};
+ghost use Rattle.tests_paths.specs.PlaceMesh.{hand_mesh, hand_polygon, hand_tile, left_tile, right_tile};
 
 use crate::settings::PLAIN;
 use mesh_locate::locate;
@@ -11,7 +11,7 @@ use nav_ground::FreeLayer;
 use nav_list::Items;
 use nav_share::Shared;
 use std::alloc::{AllocError, Global};
-use std::test::Fail;
+use std::process::Abort;
 
 /// The triangle on four cells of the lowest row from a column on, that reaches four cells up at another column, with floors from `low` to two more.
 fn polygon(x: u32, top: u32, low: u32) -> Polygon
@@ -64,20 +64,29 @@ fn no_links(alloc: Global) -> Result<Shared<Links>, AllocError>
     Ok(Shared::new(alloc, links)?)
 }
 
+fn tiles(alloc: Global) -> Result<Items<Shared<TileMesh>>, AllocError>
+    ensures { IfOk result (λ tiles. tiles ≡ left_tile ∷ right_tile ∷ []) }
+{
+    let polys = Vec::from_array(alloc, [polygon(0, 4, 0), polygon(0, 4, 4)])?;
+    let left = tile(alloc, 0, polys)?;
+    let polys = Vec::from_array(alloc, [polygon(4, 4, 0)])?;
+    let right = tile(alloc, 1, polys)?;
+    Ok(Items::from_vec(Vec::from_array(alloc, [left, right])?))
+}
+
+fn cross(alloc: Global) -> Result<Items<Shared<Links>>, AllocError>
+    ensures { IfOk result (λ cross. cross ≡ [] ∷ [] ∷ []) }
+{
+    let rightward = no_links(alloc)?;
+    let leftward = no_links(alloc)?;
+    Ok(Items::from_vec(Vec::from_array(alloc, [rightward, leftward])?))
+}
+
 fn mesh(alloc: Global) -> Result<Mesh, AllocError>
     ensures { IfOk result (λ mesh. mesh ≡ hand_mesh) }
 {
-    let mut left = Vec::new(alloc);
-    left.push(polygon(0, 4, 0))?;
-    left.push(polygon(0, 4, 4))?;
-    let mut right = Vec::new(alloc);
-    right.push(polygon(4, 4, 0))?;
-    let mut tiles = Items::new(alloc);
-    tiles.push(tile(alloc, 0, left)?)?;
-    tiles.push(tile(alloc, 1, right)?)?;
-    let mut cross = Items::new(alloc);
-    cross.push(no_links(alloc)?)?;
-    cross.push(no_links(alloc)?)?;
+    let tiles = tiles(alloc)?;
+    let cross = cross(alloc)?;
     Ok(Mesh {
         setting: PLAIN,
         tiles,
@@ -96,32 +105,45 @@ fn found(mesh: &Mesh, x: i32, z: i32, y: u32) -> Option<(u32, u32)>
     Some((at.tile, at.index))
 }
 
+/// A place by x, z and height, and the tile and the place of the polygon that locates it.
+type Row = (i32, i32, u32, Option<(u32, u32)>);
+
+/// Heights over both polygons of the left tile.
+const HEIGHTS: [Row; 5] = [
+    (32, 16, 0, Some((0, 0))),
+    (32, 16, 3, Some((0, 0))),
+    (32, 16, 4, Some((0, 1))),
+    (32, 16, 9, Some((0, 1))),
+    (32, 16, 10, None),
+];
+
+/// Places at the height 1.
+const POINTS: [Row; 8] = [
+    (64, 16, 1, Some((0, 0))),
+    (65, 16, 1, Some((1, 0))),
+    (32, 32, 1, Some((0, 0))),
+    (32, 33, 1, None),
+    (128, 0, 1, Some((1, 0))),
+    (129, 0, 1, None),
+    (0, -1, 1, None),
+    (-65536, 65536, 1, None),
+];
+
+fn check_rows(rt: &impl Abort, mesh: &Mesh, rows: &[Row])
+    requires { mesh.now ≡ hand_mesh }
+{
+    for (x, z, y, wanted) in rows {
+        assert!(rt;
+            found(mesh, *x, *z, *y) == *wanted,
+            "at {x} {z} and height {y}"
+        );
+    }
+}
+
 #[test]
-fn locates_places(rt: HostRuntime) -> Result<(), Fail> {
-    let alloc = rt.alloc();
-    let mesh = mesh(alloc)?;
-    let heights = [
-        (0, Some((0, 0))),
-        (3, Some((0, 0))),
-        (4, Some((0, 1))),
-        (9, Some((0, 1))),
-        (10, None),
-    ];
-    for (y, wanted) in heights {
-        assert_eq!(rt; found(&mesh, 32, 16, y), wanted, "at height {y}");
-    }
-    let points = [
-        (64, 16, Some((0, 0))),
-        (65, 16, Some((1, 0))),
-        (32, 32, Some((0, 0))),
-        (32, 33, None),
-        (128, 0, Some((1, 0))),
-        (129, 0, None),
-        (0, -1, None),
-        (-65536, 65536, None),
-    ];
-    for (x, z, wanted) in points {
-        assert_eq!(rt; found(&mesh, x, z, 1), wanted, "at {x} {z}");
-    }
+fn locates_places(rt: HostRuntime) -> Result<(), AllocError> {
+    let mesh = mesh(rt.alloc())?;
+    check_rows(&rt, &mesh, &HEIGHTS);
+    check_rows(&rt, &mesh, &POINTS);
     Ok(())
 }

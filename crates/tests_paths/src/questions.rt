@@ -107,34 +107,53 @@ fn mesh(alloc: Global) -> Result<Mesh, AllocError>
     whole(alloc, &SETTING, tiles)
 }
 
-/// The floors of a column; none where the answer says something else.
-fn floors(alloc: Global, mesh: &Mesh, x: u32, z: u32) -> Result<Option<Items<FloorAt>>, AllocError>
+/// Whether a column is answered to have these floors.
+fn has_floors(
+    alloc: Global,
+    mesh: &Mesh,
+    x: u32,
+    z: u32,
+    wanted: &[FloorAt],
+) -> Result<bool, AllocError>
     requires sound { IsSound mesh.now }
     requires setting { mesh.now.setting ≡ SETTING }
 {
     match answer(alloc, mesh, &Question::Floor { x, z })? {
-        Answer::Floors(floors) => Ok(Some(floors)),
-        _ => Ok(None),
+        Answer::Floors(floors) => Ok(floors.as_slice() == wanted),
+        _ => Ok(false),
     }
+}
+
+/// A column, and its floors.
+type Column = (u32, u32, &'static [FloorAt]);
+
+const COLUMNS: [Column; 3] = [
+    (1, 1, &[FloorAt { y: 10, area: 1 }]),
+    (0, 1, &[]),
+    (9, 9, &[]),
+];
+
+fn check_columns(
+    rt: &impl Abort,
+    alloc: Global,
+    mesh: &Mesh,
+    columns: &[Column],
+) -> Result<(), AllocError>
+    requires sound { IsSound mesh.now }
+    requires setting { mesh.now.setting ≡ SETTING }
+{
+    for (x, z, floors) in columns {
+        let is_so = has_floors(alloc, mesh, *x, *z, *floors)?;
+        assert!(rt; is_so, "at {x} {z}");
+    }
+    Ok(())
 }
 
 #[test]
 fn finds_floors(rt: HostRuntime) -> Result<(), AllocError> {
     let alloc = rt.alloc();
     let mesh = mesh(alloc)?;
-    for (x, z, wanted) in [
-        (1, 1, Some(FloorAt { y: 10, area: 1 })),
-        (0, 1, None),
-        (9, 9, None),
-    ] {
-        let Some(floors) = floors(alloc, &mesh, x, z)? else {
-            assert!(rt; false, "at {x} {z}");
-            return Ok(());
-        };
-        assert_eq!(rt; floors.get(0).copied(), wanted, "at {x} {z}");
-        assert!(rt; floors.len() <= 1);
-    }
-    Ok(())
+    check_columns(&rt, alloc, &mesh, &COLUMNS)
 }
 
 fn point(x: u8, z: u8) -> Point
@@ -161,7 +180,7 @@ fn path(alloc: Global, mesh: &Mesh, from: (u8, u8), to: (u8, u8)) -> Result<Answ
 }
 
 /// What a question for a path misses.
-#[derive(Clone, Copy, PartialEq, Eq, Debug)]
+#[derive(Clone, Copy, PartialEq)]
 enum Missing {
     Start,
     Goal,
@@ -175,6 +194,19 @@ fn what_misses(answer: &Answer) -> Option<Missing> {
         Answer::NoPath => Some(Missing::Path),
         _ => None,
     }
+}
+
+/// What a path between two points misses; none where there is a path.
+fn missed(
+    alloc: Global,
+    mesh: &Mesh,
+    from: (u8, u8),
+    to: (u8, u8),
+) -> Result<Option<Missing>, AllocError>
+    requires sound { IsSound mesh.now }
+    requires setting { mesh.now.setting ≡ SETTING }
+{
+    Ok(what_misses(&path(alloc, mesh, from, to)?))
 }
 
 /// Two points, and what misses between them.
@@ -192,12 +224,8 @@ fn check_gaps(rt: &impl Abort, alloc: Global, mesh: &Mesh, gaps: &[Gap]) -> Resu
     requires setting { mesh.now.setting ≡ SETTING }
 {
     for (from, to, wanted) in gaps {
-        let given = path(alloc, mesh, *from, *to)?;
-        assert_eq!(rt;
-            what_misses(&given),
-            Some(*wanted),
-            "from {from:?} to {to:?}"
-        );
+        let found = missed(alloc, mesh, *from, *to)?;
+        assert!(rt; found == Some(*wanted), "from {from:?} to {to:?}");
     }
     Ok(())
 }
@@ -210,14 +238,15 @@ fn says_what_is_missing(rt: HostRuntime) -> Result<(), AllocError> {
 }
 
 fn check_path(rt: &impl Abort, found: &PathFound) {
-    assert_eq!(rt; (found.first.tile, found.first.index), (0, 0));
-    assert_eq!(rt; (found.cost, found.links.len()), (46, 1));
+    assert!(rt; found.first == PolyRef { tile: 0, index: 0 });
+    assert!(rt; found.cost == 46);
+    assert!(rt; found.links.len() == 1);
     let turn = Corner {
         at: Point { x: 32, z: 16 },
         side: Side::R,
         portal: 0,
     };
-    assert_eq!(rt; found.turns.as_slice(), [turn].as_slice());
+    assert!(rt; found.turns.as_slice() == [turn].as_slice());
 }
 
 #[test]
@@ -256,6 +285,19 @@ fn end_of(answer: &Answer) -> Option<RayAnswer> {
         }),
         _ => None,
     }
+}
+
+/// How the walk from one point toward another ends; none where it does not begin.
+fn ended(
+    alloc: Global,
+    mesh: &Mesh,
+    from: (u8, u8),
+    to: (u8, u8),
+) -> Result<Option<RayAnswer>, AllocError>
+    requires sound { IsSound mesh.now }
+    requires setting { mesh.now.setting ≡ SETTING }
+{
+    Ok(end_of(&ray(alloc, mesh, from, to)?))
 }
 
 /// Two points, and how the walk from the one toward the other ends.
@@ -312,8 +354,8 @@ fn check_shots(
     requires setting { mesh.now.setting ≡ SETTING }
 {
     for (from, to, wanted) in shots {
-        let given = ray(alloc, mesh, *from, *to)?;
-        assert_eq!(rt; end_of(&given), *wanted, "from {from:?} to {to:?}");
+        let found = ended(alloc, mesh, *from, *to)?;
+        assert!(rt; found == *wanted, "from {from:?} to {to:?}");
     }
     Ok(())
 }

@@ -1,6 +1,6 @@
 //! A pair over a small flat ground: what its eyes answer before and after a publishing. What is wanted was worked out by hand.
 
-ghost use Rattle.std.specs.Prelude.{◌≡◌, ◌<◌, [], ◌∷◌, IfOk, IfSome, All, length};
+ghost use Rattle.std.specs.Prelude.{◌≡◌, ◌<◌, ◌++◌, [], ◌∷◌, IfOk, OnOk, IfSome, All, length};
 ghost use Rattle.std.specs.Arc.{arc_value};
 ghost use Rattle.nav_ground.specs.Grounds.{IsGround};
 ghost use Rattle.nav_ground.specs.Tiling.{tile_count};
@@ -81,15 +81,26 @@ fn opening<L: Ledger>(alloc: Global, level: Ground, blank: Blank) -> Result<Vers
 /// Tile meshes, each with the number of its tile.
 fn numbered(
     alloc: Global,
-    tiles: Items<Shared<TileMesh>>,
+    tiles: &[Shared<TileMesh>],
 ) -> Result<Vec<(TileNo, Shared<TileMesh>)>, AllocError>
-    ensures { IfOk result (λ news. news.items ≡ numbered_tiles tiles) }
+    ensures { IfOk result (λ news. news.items ≡ numbered_tiles tiles.now) }
 {
     let mut news = Vec::with_capacity(alloc, tiles.len())?;
-    for tile in tiles.as_slice() {
-        news.push((tile.get().tile, tile.share()?))?;
+    for tile in tiles {
+        push_numbered(&mut news, tile)?;
     }
     Ok(news)
+}
+
+fn push_numbered(
+    news: &mut Vec<(TileNo, Shared<TileMesh>)>,
+    tile: &Shared<TileMesh>,
+) -> Result<(), AllocError>
+    ensures { OnOk result (news.new.items ≡ news.old.items ++ (tile.now.tile, tile.now) ∷ []) }
+{
+    let own = tile.share()?;
+    news.push((tile.get().tile, own))?;
+    Ok(())
 }
 
 /// The patch that publishes the block over the first version of a ground of one tile.
@@ -108,7 +119,7 @@ fn covering<L: Ledger>(alloc: Global, version: &Version, blank: Blank) -> Result
     entries.push(ADDED)?;
     Ok(Patch {
         entries,
-        tiles: numbered(alloc, tiles)?,
+        tiles: numbered(alloc, tiles.as_slice())?,
     })
 }
 
@@ -117,9 +128,14 @@ fn floors(eye: &mut Eye, alloc: Global) -> Result<(u32, usize), AllocError>
     ensures { eye.new.pair ≡ eye.old.pair }
 {
     let (length, answer) = eye.ask(alloc, &Question::Floor { x: 2, z: 2 })?;
+    Ok((length, count(&answer)))
+}
+
+/// How many floors an answer has; 9 where it is no answer of floors.
+fn count(answer: &Answer) -> usize {
     match answer {
-        Answer::Floors(floors) => Ok((length, floors.len())),
-        _ => Ok((length, 9)),
+        Answer::Floors(floors) => floors.len(),
+        _ => 9,
     }
 }
 
@@ -129,22 +145,22 @@ fn seen_by<R: Wait>(
     rt: &R,
     alloc: Global,
     press: &mut Press,
-    eyes: (Eye, Eye),
+    first: &mut Eye,
+    second: &mut Eye,
     patch: Patch,
 ) -> Result<([(u32, usize); 3], [u32; 2]), AllocError>
-    requires of { eyes.1.pair ≡ press.old.pair }
+    requires of { second.old.pair ≡ press.old.pair }
     requires patch { IsPatch press.old.ground press.old.entries patch }
 {
-    let (mut first, mut second) = eyes;
-    let before = floors(&mut first, alloc)?;
+    let before = floors(first, alloc)?;
     let told = match press.publish(rt, alloc, patch) {
         Ok(told) => told,
         Err((_patch, refused)) => return Err(refused),
     };
     let length = told.length();
     second.learn(told);
-    let after = floors(&mut second, alloc)?;
-    let again = floors(&mut first, alloc)?;
+    let after = floors(second, alloc)?;
+    let again = floors(first, alloc)?;
     Ok(([before, after, again], [length, second.seen()]))
 }
 
@@ -173,7 +189,9 @@ fn eyes_read_what_is_published(rt: HostRuntime) -> Result<(), AllocError> {
     let (press, eyes) = pair(&rt, alloc, version, 2)?;
     let mut press = sent(press);
     let seen = match both(eyes) {
-        Some(eyes) => seen_by(&rt, alloc, &mut press, eyes, patch),
+        Some((mut first, mut second)) => {
+            seen_by(&rt, alloc, &mut press, &mut first, &mut second, patch)
+        }
         None => Err(AllocError),
     };
     press.end(&rt);

@@ -147,3 +147,51 @@ returns-in-Err-TooLong-clause-took g c = took_many _ _ (c.read_all.ensures.long 
 pub returns-in-Ok-clause-ok : goal.returns-in-Ok-clause-ok
 returns-in-Ok-clause-ok g c =
     summed _ _ _ _ _ _ _ _ _ _ _ _ c.in-Some-Gen.ensures c.in-Some-Gen.field-0-is c.in-Ok.ensures.summary c.as_slice.ensures.value c.finish.ensures.ended
+
+pub returns-in-None-clause-ok : goal.returns-in-None-clause-ok
+returns-in-None-clause-ok g c = ends_apart _ _ _ _ _ _ _ _ _ c.finish-in-None.ensures.ended refl refl
+
+pub returns-in-None-clause-bad_text : goal.returns-in-None-clause-bad_text
+returns-in-None-clause-bad_text g c = ends_apart _ _ _ _ _ _ _ _ _ c.finish-in-None.ensures.ended refl refl
+
+pub returns-in-None-clause-read_fault : goal.returns-in-None-clause-read_fault
+returns-in-None-clause-read_fault g c = ends_apart _ _ _ _ _ _ _ _ _ c.finish-in-None.ensures.ended refl refl
+
+pub returns-in-None-clause-too_long : goal.returns-in-None-clause-too_long
+returns-in-None-clause-too_long g c = ends_apart _ _ _ _ _ _ _ _ _ c.finish-in-None.ensures.ended refl refl
+
+pub returns-in-None-clause-no_memory : goal.returns-in-None-clause-no_memory
+returns-in-None-clause-no_memory g c = ends_apart _ _ _ _ _ _ _ _ _ c.finish-in-None.ensures.ended refl refl
+
+pub returns-in-Ok-clause-bad_text : goal.returns-in-Ok-clause-bad_text
+returns-in-Ok-clause-bad_text g c = ends_apart _ _ _ _ _ _ _ _ _ c.finish.ensures.ended refl refl
+
+pub returns-in-Ok-clause-usage : goal.returns-in-Ok-clause-usage
+returns-in-Ok-clause-usage g c = ends_apart _ _ _ _ _ _ _ _ _ c.finish.ensures.ended refl refl
+
+pub returns-in-Ok-clause-read_fault : goal.returns-in-Ok-clause-read_fault
+returns-in-Ok-clause-read_fault g c = ends_apart _ _ _ _ _ _ _ _ _ c.finish.ensures.ended refl refl
+
+pub returns-in-Ok-clause-too_long : goal.returns-in-Ok-clause-too_long
+returns-in-Ok-clause-too_long g c = ends_apart _ _ _ _ _ _ _ _ _ c.finish.ensures.ended refl refl
+
+pub returns-in-Ok-clause-no_memory : goal.returns-in-Ok-clause-no_memory
+returns-in-Ok-clause-no_memory g c = ends_apart _ _ _ _ _ _ _ _ _ c.finish.ensures.ended refl refl
+
+pub returns-in-Err-clause-ok : goal.returns-in-Err-clause-ok
+returns-in-Err-clause-ok g c = differ _ _ _ refl
+
+pub returns-in-Err-clause-bad_text : goal.returns-in-Err-clause-bad_text
+returns-in-Err-clause-bad_text g c = differ _ _ _ refl
+
+pub returns-in-Err-clause-usage : goal.returns-in-Err-clause-usage
+returns-in-Err-clause-usage g c = differ _ _ _ refl
+
+pub returns-in-Err-clause-read_fault : goal.returns-in-Err-clause-read_fault
+returns-in-Err-clause-read_fault g c = differ _ _ _ refl
+
+pub returns-in-Err-clause-write_fault : goal.returns-in-Err-clause-write_fault
+returns-in-Err-clause-write_fault g c = differ _ _ _ refl
+
+pub returns-in-Err-clause-too_long : goal.returns-in-Err-clause-too_long
+returns-in-Err-clause-too_long g c = differ _ _ _ refl
