@@ -1,10 +1,31 @@
-use Rattle.std.proofs.Common.{◌-◌, ap, ◌∙◌, arith}
+use Rattle.std.proofs.Common.{◌+◌, ◌-◌, ap, ◌∙◌, arith, subst, sym}
 use Rattle.std.specs.Global.{Vec}
 use Rattle.mesh_types.specs.declared.region.UnitEdge.{UnitEdge}
+use Rattle.contour_walk.specs.Tables.{IsFit}
 use Rattle.contour_walk.specs.Walk.{edge_at}
 use Rattle.contour_walk.proofs.Loops.{left_pushed, left_begun, upon_at}
 use Rattle.contour_walk.proofs.sides.push_left_side.Goals as goal
 use Rattle.contour_walk.proofs.sides.push_left_side.Goals.{then-k-strips+in_ok-push_to_left_end, else-k-strips}
+
+pub push_end-requires-clause-fit : goal.push_end-requires-clause-fit
+push_end-requires-clause-fit c =
+    subst IsFit (sym c.index-strips-k.is)
+    (c.requires.fit (c.loop-k.k - 1) c.index-strips-k.result (omega (arith, c.loop-k-test.true, c.loop-k.auto.k)))
+
+pub push_end-requires-clause-column : goal.push_end-requires-clause-column
+push_end-requires-clause-column c =
+    let fit = subst IsFit (sym c.index-strips-k.is)
+    (c.requires.fit (c.loop-k.k - 1) c.index-strips-k.result (omega (arith, c.loop-k-test.true, c.loop-k.auto.k))) in (omega arith, fit.columns.some)
+
+pub push_to_left_end-requires-clause-lower : goal.push_to_left_end-requires-clause-lower
+push_to_left_end-requires-clause-lower c =
+    subst IsFit (sym c.index-strips-k.is)
+    (c.requires.fit (c.loop-k.k - 1) c.index-strips-k.result (omega (arith, c.loop-k-test.true, c.loop-k.auto.k)))
+
+pub push_to_left_end-requires-clause-upper : goal.push_to_left_end-requires-clause-upper
+push_to_left_end-requires-clause-upper c =
+    subst IsFit (sym c.index-strips-k-then-k-strips.is)
+    (c.requires.fit (c.loop-k.k - 1 + 1) c.index-strips-k-then-k-strips.result c.if-k-strips.true)
 
 pub push_to_left_end-requires-clause-upon : goal.push_to_left_end-requires-clause-upon
 push_to_left_end-requires-clause-upon c =

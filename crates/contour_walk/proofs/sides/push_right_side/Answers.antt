@@ -1,4 +1,4 @@
-use Rattle.std.proofs.Common.{◌+◌, ◌++◌, ◌∙◌, ap, subst, sym}
+use Rattle.std.proofs.Common.{◌+◌, ◌++◌, ◌∙◌, ap, arith, subst, sym}
 use Rattle.std.specs.Global.{Vec}
 use Rattle.mesh_types.specs.declared.region.UnitEdge.{UnitEdge}
 use Rattle.contour_walk.specs.Tables.{IsFit}
@@ -9,6 +9,10 @@ use Rattle.contour_walk.proofs.sides.push_right_side.Goals.{then-k-strips+in_ok-
 
 pub push_end-requires-clause-fit : goal.push_end-requires-clause-fit
 push_end-requires-clause-fit c = subst IsFit (sym c.index-strips-k.is) (c.requires.fit c.loop-k.k c.index-strips-k.result c.loop-k-test.true)
+
+pub push_end-requires-clause-column : goal.push_end-requires-clause-column
+push_end-requires-clause-column c =
+    let fit = subst IsFit (sym c.index-strips-k.is) (c.requires.fit c.loop-k.k c.index-strips-k.result c.loop-k-test.true) in (fit.columns.some, omega arith)
 
 pub push_to_right_end-requires-clause-lower : goal.push_to_right_end-requires-clause-lower
 push_to_right_end-requires-clause-lower c =
