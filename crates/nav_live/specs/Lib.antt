@@ -1,0 +1,5 @@
+pub mod Dealing
+pub mod LaneRecords
+pub mod LiveRecord
+pub mod Roots
+pub mod LiveBooks
