@@ -17,7 +17,7 @@ joined-requires-clause-tiles g c =
 pub pair-requires : goal.pair-requires
 pair-requires g c =
     let whole : Ground = arc_value c.args.level in
-    opening_is whole _ c.requires.level refl c.new.ensures
+    opening_is whole _ c.requires.level refl c.in_ok-new.ensures
     (c.in_ok-mesh.ensures.mesh ∙ ap (λ (w : Ground). mesh_of w.setting c.args.tiles) c.deref.ensures ∙ ap (mesh_of whole.setting) c.requires.tiles)
     c.in_ok-mesh.ensures.sound
 
@@ -27,4 +27,4 @@ invariant_of-result g c =
     kept_first whole c.in_ok-desk.desk c.in_ok-fresh.fresh.items c.in_ok-press.press
     (c.in_ok-desk.ensures.state ∙ ap first_state (search rules)) c.in_ok-desk.ensures.rules c.requires.level
     (c.in_ok-fresh.ensures ∙ ap (λ n. replicate n None) (c.len.ensures ∙ ap length c.requires.tiles ∙ length-tiles_under whole [] c.requires.level))
-    c.in_ok-press.ensures.ground (c.in_ok-press.ensures.entries ∙ c.new.ensures)
+    c.in_ok-press.ensures.ground (c.in_ok-press.ensures.entries ∙ c.in_ok-new.ensures)
