@@ -67,6 +67,12 @@ are_tiles whole shapes rules' limits = record {
   few = few_polygons_of_tiles whole shapes rules' limits;
 }
 
+-- they make the mesh of the ground
+pub build_from : (whole : Ground) (history : List Entry) (k : ℕ) (tiles : List TileMesh) (mesh : Mesh)
+    → tiles ≡ tiles_under whole (shapes_alive history k) → mesh ≡ mesh_of whole.setting tiles → mesh ≡ build_of whole history k
+unfolding build_of
+build_from whole history k tiles mesh same is = is ∙ ap (mesh_of whole.setting) same
+
 pub tiles_of_build : (whole : Ground) (history : List Entry) (k : ℕ) → (build_of whole history k).tiles ≡ tiles_under whole (shapes_alive history k)
 unfolding build_of mesh_of
 tiles_of_build whole history k = refl
