@@ -45,14 +45,24 @@ const ENDINGS: [Ending; 9] = [
     ("play", "aim\n", Status::Ok, "aim 0\ndone 0 0\n"),
 ];
 
+/// Runs the program on a word, over the room and a script.
+fn run_word<R: Threads + Wait + Sync>(
+    rt: &R,
+    alloc: Global,
+    word: &str,
+    script: &str,
+) -> Result<Ran, AllocError> {
+    let level = built_level(alloc, &ROOM, script)?;
+    run_once(rt, alloc, word, level, (100, 0), (8, 0))
+}
+
 fn check_endings<R: Abort + Threads + Wait + Sync>(
     rt: &R,
     alloc: Global,
     endings: &[Ending],
 ) -> Result<(), AllocError> {
     for (word, script, status, held) in endings {
-        let level = built_level(alloc, &ROOM, script)?;
-        let ran = run_once(rt, alloc, word, level, (100, 0), (8, 0))?;
+        let ran = run_word(rt, alloc, word, script)?;
         check(rt, &ran, *status, held.as_bytes());
     }
     Ok(())
@@ -123,14 +133,23 @@ const FEEDS: [Feeds; 2] = [
     (67108865, Status::TooLong, "fault too long\n"),
 ];
 
+/// Runs the program over so many line feeds.
+fn run_feeds<R: Threads + Wait + Sync>(
+    rt: &R,
+    alloc: Global,
+    length: usize,
+) -> Result<Ran, AllocError> {
+    let feeds = vec![in alloc; b'\n'; length]?;
+    run_once(rt, alloc, "play", feeds, (1000000, 0), (8, 0))
+}
+
 fn check_feeds<R: Abort + Threads + Wait + Sync>(
     rt: &R,
     alloc: Global,
     rows: &[Feeds],
 ) -> Result<(), AllocError> {
     for (length, status, held) in rows {
-        let feeds = vec![in alloc; b'\n'; *length]?;
-        let ran = run_once(rt, alloc, "play", feeds, (1000000, 0), (8, 0))?;
+        let ran = run_feeds(rt, alloc, *length)?;
         check(rt, &ran, *status, held.as_bytes());
     }
     Ok(())
@@ -198,14 +217,25 @@ const NO_FORMS: [&[&str]; 17] = [
     &["--help", "1", "32"],
 ];
 
-/// Runs words that are no form, over a source that fails at its first read.
+/// Runs the program on words, over a source that fails at its first read.
+fn run_unread<R: Threads + Wait + Sync>(
+    rt: &R,
+    alloc: Global,
+    words: &[&str],
+    write: (usize, u32),
+) -> Result<Ran, AllocError>
+    requires { 0 < write.0 }
+{
+    run_words(rt, alloc, words, Vec::new(alloc), (1, 1), write)
+}
+
 fn check_no_forms<R: Abort + Threads + Wait + Sync>(
     rt: &R,
     alloc: Global,
     forms: &[&[&str]],
 ) -> Result<(), AllocError> {
     for words in forms {
-        let ran = run_words(rt, alloc, *words, Vec::new(alloc), (1, 1), (100, 0))?;
+        let ran = run_unread(rt, alloc, *words, (100, 0))?;
         check(rt, &ran, Status::Usage, b"fault usage\n");
     }
     Ok(())
@@ -216,7 +246,7 @@ fn refuses_words_in_no_form(rt: HostRuntime) -> Result<(), AllocError> {
     check_no_forms(&rt, rt.alloc(), &NO_FORMS)
 }
 
-/// The summary of a made input, over a source that fails at its first read, through writes as given.
+/// The summary of a made input, through writes as given.
 fn summary_of<R: Threads + Wait + Sync>(
     rt: &R,
     alloc: Global,
@@ -225,8 +255,7 @@ fn summary_of<R: Threads + Wait + Sync>(
 ) -> Result<Ran, AllocError>
     requires { 0 < write.0 }
 {
-    let words = ["gen", number, "32"];
-    run_words(rt, alloc, &words, Vec::new(alloc), (1, 1), write)
+    run_unread(rt, alloc, &["gen", number, "32"], write)
 }
 
 /// The summary of the number 1 and the size 32, by a second program that was written apart from this one.

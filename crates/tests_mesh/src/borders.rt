@@ -3,13 +3,13 @@
 ghost use Rattle.std.specs.Prelude.{◌≡◌, ◌<◌, [], ◌∷◌, IfOk};
 ghost use Rattle.mesh_types.specs.WholeMesh.{mesh_of};
 ghost use Rattle.tests_mesh.specs.HandSettings.{plain_setting};
-ghost use Rattle.tests_mesh.specs.TwoTiles.{hand_polygon, hand_tile, left_tile, right_tile};
+ghost use Rattle.tests_mesh.specs.TwoTiles.{hand_polygon, hand_tile, left_tile, right_tile, lower_entry, upper_entry};
 
 use mesh_types::{
     Corners, LevelPair, Link, Links, Mesh, PolyRef, Polygon, Portal, RimEdge, TileMesh,
 };
 use nav_base::Point;
-use nav_ground::{AREAS, Agent, FreeLayer, MeshKind, Setting};
+use nav_ground::{AREAS, Agent, FreeLayer, MeshKind, Setting, TileNo};
 use nav_list::Items;
 use nav_share::Shared;
 use std::alloc::{AllocError, Global};
@@ -74,6 +74,26 @@ fn tile(
     })
 }
 
+/// The edge of a polygon on the border at x = 4: its number, the side, the first position, and the levels along it.
+fn rim_edge(
+    alloc: Global,
+    poly: u32,
+    edge: u32,
+    side: u32,
+    first: u32,
+    pairs: &[LevelPair],
+) -> Result<RimEdge, AllocError>
+    ensures { IfOk result (λ made. made ≡ record { poly = poly; edge = edge; side = side; first = first; pairs = pairs.now }) }
+{
+    Ok(RimEdge {
+        poly,
+        edge,
+        side,
+        first,
+        pairs: Items::from_vec(Vec::from_slice(alloc, pairs)?),
+    })
+}
+
 /// Along the border it leads to level 0, twice to level 1, and to level 0 again.
 fn left(alloc: Global) -> Result<TileMesh, AllocError>
     ensures { IfOk result (λ made. made ≡ left_tile) }
@@ -84,54 +104,36 @@ fn left(alloc: Global) -> Result<TileMesh, AllocError>
         LevelPair { own: 0, other: 1 },
         LevelPair { own: 0, other: 0 },
     ];
-    let pairs = Items::from_vec(Vec::from_array(alloc, pairs)?);
-    let mut polys = Vec::new(alloc);
-    polys.push(polygon(2))?;
-    let mut rim = Vec::new(alloc);
-    rim.push(RimEdge {
-        poly: 0,
-        edge: 1,
-        side: 2,
-        first: 0,
-        pairs,
-    })?;
+    let polys = Vec::from_array(alloc, [polygon(2)])?;
+    let rim = Vec::from_array(alloc, [rim_edge(alloc, 0, 1, 2, 0, &pairs)?])?;
     tile(alloc, 0, polys, rim)
 }
 
-/// The lower polygon leads to the left tile at the first and the last position, the upper one at the two between.
+/// The edges of the right tile on the border: the lower polygon leads to the left tile at the first and the last position, the upper one at
+/// the two between.
+fn right_rim(alloc: Global) -> Result<Vec<RimEdge>, AllocError>
+    ensures { IfOk result (λ rim. rim.items ≡ lower_entry ∷ upper_entry ∷ []) }
+{
+    let pairs = [
+        LevelPair { own: 0, other: 0 },
+        LevelPair { own: 0, other: 5 },
+        LevelPair { own: 0, other: 5 },
+        LevelPair { own: 0, other: 0 },
+    ];
+    let lower = rim_edge(alloc, 0, 3, 0, 0, &pairs)?;
+    let pairs = [
+        LevelPair { own: 1, other: 0 },
+        LevelPair { own: 1, other: 0 },
+    ];
+    let upper = rim_edge(alloc, 1, 3, 0, 1, &pairs)?;
+    Ok(Vec::from_array(alloc, [lower, upper])?)
+}
+
 fn right(alloc: Global) -> Result<TileMesh, AllocError>
     ensures { IfOk result (λ made. made ≡ right_tile) }
 {
-    let lower = [
-        LevelPair { own: 0, other: 0 },
-        LevelPair { own: 0, other: 5 },
-        LevelPair { own: 0, other: 5 },
-        LevelPair { own: 0, other: 0 },
-    ];
-    let upper = [
-        LevelPair { own: 1, other: 0 },
-        LevelPair { own: 1, other: 0 },
-    ];
-    let lower = Items::from_vec(Vec::from_array(alloc, lower)?);
-    let upper = Items::from_vec(Vec::from_array(alloc, upper)?);
-    let mut polys = Vec::new(alloc);
-    polys.push(polygon(4))?;
-    polys.push(polygon(4))?;
-    let mut rim = Vec::new(alloc);
-    rim.push(RimEdge {
-        poly: 0,
-        edge: 3,
-        side: 0,
-        first: 0,
-        pairs: lower,
-    })?;
-    rim.push(RimEdge {
-        poly: 1,
-        edge: 3,
-        side: 0,
-        first: 1,
-        pairs: upper,
-    })?;
+    let polys = Vec::from_array(alloc, [polygon(4), polygon(4)])?;
+    let rim = right_rim(alloc)?;
     tile(alloc, 1, polys, rim)
 }
 
@@ -177,11 +179,19 @@ fn mesh(alloc: Global) -> Result<Mesh, AllocError>
     whole(alloc, &SETTING, tiles)
 }
 
-/// The mesh once a tile without polygons has come in the right tile's place.
-fn mesh_emptied(alloc: Global) -> Result<Mesh, AllocError> {
-    let mut mesh = mesh(alloc)?;
+/// A tile without polygons, to come in the right tile's place.
+fn emptied(alloc: Global) -> Result<Vec<(TileNo, Shared<TileMesh>)>, AllocError>
+    ensures { IfOk result (λ news. news.items ≡ (1, hand_tile 1 [] []) ∷ []) }
+{
     let empty = tile(alloc, 1, Vec::new(alloc), Vec::new(alloc))?;
-    let news = Vec::from_array(alloc, [(1, Shared::new(alloc, empty)?)])?;
+    let empty = Shared::new(alloc, empty)?;
+    Ok(Vec::from_array(alloc, [(1, empty)])?)
+}
+
+/// The mesh once the right tile was emptied.
+fn mesh_emptied(alloc: Global) -> Result<Mesh, AllocError> {
+    let news = emptied(alloc)?;
+    let mut mesh = mesh(alloc)?;
     match replace(&mut mesh, alloc, news) {
         Ok(()) => Ok(mesh),
         Err((_, refused)) => Err(refused),
@@ -211,43 +221,53 @@ fn wanted() -> ([Link; 3], [Link; 3]) {
     )
 }
 
+fn check_links(rt: &impl Abort, links: &[Link], wanted: &[Link]) {
+    assert!(rt; links == wanted);
+}
+
 #[test]
 fn links_lead_both_ways(rt: HostRuntime) -> Result<(), AllocError> {
     let alloc = rt.alloc();
     let (to_right, to_left) = wanted();
-    assert_eq!(rt; rightward(alloc)?.as_slice(), to_right.as_slice());
-    assert_eq!(rt; leftward(alloc)?.as_slice(), to_left.as_slice());
+    check_links(&rt, rightward(alloc)?.as_slice(), &to_right);
+    check_links(&rt, leftward(alloc)?.as_slice(), &to_left);
     Ok(())
 }
 
 #[test]
 fn tiles_lie_beside_each_other(rt: HostRuntime) {
     let of_left = [beside(0, 0), beside(0, 1), beside(0, 2)];
-    assert_eq!(rt; of_left, [None, None, Some(1)]);
+    assert!(rt; of_left == [None, None, Some(1)]);
     let of_right = [beside(1, 0), beside(1, 2), beside(1, 3)];
-    assert_eq!(rt; of_right, [Some(0), None, None]);
+    assert!(rt; of_right == [Some(0), None, None]);
 }
 
-fn check_cross(rt: &impl Abort, mesh: &Mesh, tile: usize, wanted: &[Link]) {
-    let links = mesh.cross.get(tile).map(|links| links.get().as_slice());
-    assert_eq!(rt; links, Some(wanted), "of tile {tile}");
+/// The links of a tile over the border; none where there is no such tile.
+fn cross_links(mesh: &Mesh, tile: usize) -> &[Link] {
+    match mesh.cross.get(tile) {
+        Some(links) => links.get().as_slice(),
+        None => &[],
+    }
+}
+
+/// The mesh has two tiles, and these links to the right and to the left.
+fn check_cross(rt: &impl Abort, mesh: &Mesh, to_right: &[Link], to_left: &[Link]) {
+    assert!(rt; mesh.tiles.len() == 2 && mesh.cross.len() == 2);
+    check_links(rt, cross_links(mesh, 0), to_right);
+    check_links(rt, cross_links(mesh, 1), to_left);
 }
 
 #[test]
 fn a_mesh_has_the_links_of_each_tile(rt: HostRuntime) -> Result<(), AllocError> {
     let mesh = mesh(rt.alloc())?;
     let (to_right, to_left) = wanted();
-    assert_eq!(rt; mesh.cross.len(), 2);
-    check_cross(&rt, &mesh, 0, &to_right);
-    check_cross(&rt, &mesh, 1, &to_left);
+    check_cross(&rt, &mesh, &to_right, &to_left);
     Ok(())
 }
 
 #[test]
 fn a_tile_replaced_has_its_links_alone(rt: HostRuntime) -> Result<(), AllocError> {
     let mesh = mesh_emptied(rt.alloc())?;
-    assert_eq!(rt; (mesh.tiles.len(), mesh.cross.len()), (2, 2));
-    check_cross(&rt, &mesh, 0, &[]);
-    check_cross(&rt, &mesh, 1, &[]);
+    check_cross(&rt, &mesh, &[], &[]);
     Ok(())
 }

@@ -96,14 +96,15 @@ fn polygons<L: Ledger>(alloc: Global, blank: Blank) -> Result<(usize, usize), Al
     requires some { 0 < blank.parts }
 {
     let mut steps = Steps::<L>::new(blank);
-    let whole = built(alloc, false, &mut steps)?;
-    let parted = built(alloc, true, &mut steps)?;
-    Ok((whole.polys.len(), parted.polys.len()))
+    let whole = built(alloc, false, &mut steps)?.polys.len();
+    let parted = built(alloc, true, &mut steps)?.polys.len();
+    Ok((whole, parted))
 }
 
 #[test]
 fn builds_a_tile(rt: HostRuntime) -> Result<(), AllocError> {
     let alloc = rt.alloc();
-    assert_eq!(rt; polygons::<Brand>(alloc, Blank::new(1))?, (1, 2));
+    let counts = polygons::<Brand>(alloc, Blank::new(1))?;
+    assert!(rt; counts == (1, 2));
     Ok(())
 }

@@ -1,6 +1,6 @@
 //! Small meshes by hand: what their calls find.
 
-ghost use Rattle.std.specs.Prelude.{◌≡◌};
+ghost use Rattle.std.specs.Prelude.{◌≡◌, ◌<◌, ◌^◌, length};
 
 use mesh_types::{
     Corners, Link, Links, Mesh, PolyRef, Polygon, Portal, Run, TileMesh, copy_mesh, copy_tile,
@@ -13,40 +13,54 @@ use nav_share::Shared;
 use std::alloc::{AllocError, Global};
 use std::process::Abort;
 
+const LABELS: [Option<u32>; 8] = [
+    Some(4),
+    Some(4),
+    None,
+    None,
+    Some(4),
+    Some(5),
+    Some(5),
+    Some(5),
+];
+
+const RUNS: [Run; 3] = [
+    Run {
+        first: 0,
+        last: 1,
+        label: 4,
+    },
+    Run {
+        first: 4,
+        last: 4,
+        label: 4,
+    },
+    Run {
+        first: 5,
+        last: 7,
+        label: 5,
+    },
+];
+
+fn check_runs(
+    rt: &impl Abort,
+    alloc: Global,
+    labels: &[Option<u32>],
+    wanted: &[Run],
+) -> Result<(), AllocError>
+    requires { length labels.now < 2 ^ 32 }
+{
+    let found = runs(alloc, labels)?;
+    assert!(rt; found.as_slice() == wanted);
+    Ok(())
+}
+
 #[test]
 fn finds_runs(rt: HostRuntime) -> Result<(), AllocError> {
     let alloc = rt.alloc();
-    let labels = [
-        Some(4),
-        Some(4),
-        None,
-        None,
-        Some(4),
-        Some(5),
-        Some(5),
-        Some(5),
-    ];
-    let wanted = [
-        Run {
-            first: 0,
-            last: 1,
-            label: 4,
-        },
-        Run {
-            first: 4,
-            last: 4,
-            label: 4,
-        },
-        Run {
-            first: 5,
-            last: 7,
-            label: 5,
-        },
-    ];
-    assert_eq!(rt; runs(alloc, &labels)?.as_slice(), wanted.as_slice());
-    assert!(rt; runs(alloc, &[])?.is_empty());
-    assert!(rt; runs(alloc, &[None])?.is_empty());
-    Ok(())
+    check_runs(&rt, alloc, &LABELS, &RUNS)?;
+    check_runs(&rt, alloc, &[], &[])?;
+    check_runs(&rt, alloc, &[None], &[])
 }
 
 /// A link from a polygon over an edge to another, through a portal that begins at x.
@@ -82,7 +96,7 @@ fn puts_links_in_order(rt: HostRuntime) {
     let [a, b, c, d, e] = wanted;
     let mut links = [d, b, e, c, a];
     order_links(&mut links);
-    assert_eq!(rt; links, wanted);
+    assert!(rt; links == wanted);
 }
 
 /// A polygon, and how many links leave it.
@@ -90,8 +104,15 @@ const COUNTS: [(u32, usize); 5] = [(0, 1), (1, 0), (2, 0), (3, 0), (4000000000, 
 
 fn check_counts(rt: &impl Abort, list: &Links, rows: &[(u32, usize)]) {
     for (polygon, count) in rows {
-        assert_eq!(rt; list.leaving(*polygon).len(), *count);
+        assert!(rt; list.leaving(*polygon).len() == *count, "from {polygon}");
     }
+}
+
+/// The list holds one link, which leaves the first polygon.
+fn check_only(rt: &impl Abort, list: &Links, only: &Link) {
+    assert!(rt; list.len() == 1);
+    assert!(rt; list.leaving(0) == [*only].as_slice());
+    check_counts(rt, list, &COUNTS);
 }
 
 #[test]
@@ -101,9 +122,7 @@ fn finds_links(rt: HostRuntime) -> Result<(), AllocError> {
     let mut list = Vec::new(alloc);
     list.push(only)?;
     let list = Links::new(alloc, list, 3)?;
-    assert_eq!(rt; list.len(), 1);
-    check_counts(&rt, &list, &COUNTS);
-    assert_eq!(rt; list.leaving(0).first(), Some(&only));
+    check_only(&rt, &list, &only);
     Ok(())
 }
 
@@ -123,9 +142,8 @@ fn square(area: u32) -> Polygon {
 
 /// A tile with two polygons and no links.
 fn tile(alloc: Global) -> Result<TileMesh, AllocError> {
-    let mut polys = Vec::new(alloc);
-    polys.push(square(63))?;
-    polys.push(square(5))?;
+    let links = Links::new(alloc, Vec::new(alloc), 2)?;
+    let polys = Vec::from_array(alloc, [square(63), square(5)])?;
     Ok(TileMesh {
         tile: 0,
         free: FreeLayer {
@@ -133,53 +151,59 @@ fn tile(alloc: Global) -> Result<TileMesh, AllocError> {
             cells: Items::new(alloc),
         },
         polys: Items::from_vec(polys),
-        links: Links::new(alloc, Vec::new(alloc), 2)?,
+        links,
         rim: Items::new(alloc),
     })
 }
 
+const SETTING: Setting = Setting {
+    width: 4,
+    depth: 4,
+    tile: 4,
+    agent: Agent {
+        height: 10,
+        climb: 4,
+        radius: 0,
+    },
+    error: 169,
+    mesh: MeshKind::Strips,
+    limit: 2,
+    costs: [1; AREAS],
+    clear: false,
+};
+
 fn mesh(alloc: Global) -> Result<Mesh, AllocError> {
-    let mut tiles = Vec::new(alloc);
-    tiles.push(Shared::new(alloc, tile(alloc)?)?)?;
+    let tile = Shared::new(alloc, tile(alloc)?)?;
     Ok(Mesh {
-        setting: Setting {
-            width: 4,
-            depth: 4,
-            tile: 4,
-            agent: Agent {
-                height: 10,
-                climb: 4,
-                radius: 0,
-            },
-            error: 169,
-            mesh: MeshKind::Strips,
-            limit: 2,
-            costs: [1; AREAS],
-            clear: false,
-        },
-        tiles: Items::from_vec(tiles),
+        setting: SETTING,
+        tiles: Items::from_vec(Vec::from_array(alloc, [tile])?),
         cross: Items::new(alloc),
     })
 }
 
 /// A tile, an index, and the area of the polygon there.
-const AREAS_THERE: [(u32, u32, Option<u32>); 4] = [
+type Place = (u32, u32, Option<u32>);
+
+const PLACES: [Place; 4] = [
     (0, 0, Some(63)),
     (0, 1, Some(5)),
     (0, 2, None),
     (1, 0, None),
 ];
 
-fn check_areas(rt: &impl Abort, mesh: &Mesh, rows: &[(u32, u32, Option<u32>)]) {
-    for (tile, index, area) in rows {
-        let at = PolyRef {
-            tile: *tile,
-            index: *index,
-        };
-        assert_eq!(rt; poly(mesh, at).map(|polygon| polygon.area), *area);
-        if let Some(polygon) = poly(mesh, at) {
-            assert_eq!(rt; polygon.corners.as_slice().len(), 4);
-        }
+/// The area of the polygon at a place, which has four corners.
+fn area_at(mesh: &Mesh, tile: u32, index: u32) -> Option<u32> {
+    let polygon = poly(mesh, PolyRef { tile, index })?;
+    if polygon.corners.as_slice().len() == 4 {
+        Some(polygon.area)
+    } else {
+        None
+    }
+}
+
+fn check_places(rt: &impl Abort, mesh: &Mesh, places: &[Place]) {
+    for (tile, index, area) in places {
+        assert!(rt; area_at(mesh, *tile, *index) == *area, "at {tile} {index}");
     }
 }
 
@@ -188,19 +212,29 @@ fn looks_polygons_up(rt: HostRuntime) -> Result<(), AllocError> {
     let alloc = rt.alloc();
     let mesh = mesh(alloc)?;
     let copy = copy_mesh(alloc, &mesh)?;
-    check_areas(&rt, &copy, &AREAS_THERE);
+    check_places(&rt, &copy, &PLACES);
     Ok(())
+}
+
+fn check_copy(rt: &impl Abort, alloc: Global, polygon: &Polygon) -> Result<(), AllocError> {
+    let copy = polygon.duplicate(alloc)?;
+    assert!(rt; copy == *polygon);
+    Ok(())
+}
+
+/// How many polygons and links a copy of the tile has.
+fn counts_of_copy(alloc: Global) -> Result<(usize, usize), AllocError> {
+    let tile = tile(alloc)?;
+    let copy = copy_tile(alloc, &tile)?;
+    Ok((copy.polys.len(), copy.links.len()))
 }
 
 #[test]
 fn copies_polygons_and_tiles(rt: HostRuntime) -> Result<(), AllocError> {
     let alloc = rt.alloc();
-    for area in [63, 5] {
-        let polygon = square(area);
-        assert!(rt; polygon.duplicate(alloc)? == polygon);
-    }
-    let tile = tile(alloc)?;
-    let copy = copy_tile(alloc, &tile)?;
-    assert_eq!(rt; (copy.polys.len(), copy.links.len()), (2, 0));
+    check_copy(&rt, alloc, &square(63))?;
+    check_copy(&rt, alloc, &square(5))?;
+    let counts = counts_of_copy(alloc)?;
+    assert!(rt; counts == (2, 0));
     Ok(())
 }

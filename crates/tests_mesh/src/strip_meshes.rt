@@ -5,7 +5,7 @@ ghost use Rattle.nav_ground.specs.Cells.{IsCut, IsInTile};
 ghost use Rattle.nav_ground.specs.Limits.{IsSetting};
 
 use crate::five_cells::CELLS;
-use mesh_types::{Corners, LevelPair, Link, Polygon, RimEdge, TileMesh};
+use mesh_types::{Corners, LevelPair, Link, Polygon, Portal, RimEdge, TileMesh};
 use nav_base::Point;
 use nav_ground::{AREAS, Agent, FreeLayer, MeshKind, Setting};
 use nav_list::Items;
@@ -78,31 +78,38 @@ fn check_polygons(rt: &impl Abort, mesh: &TileMesh) {
         rectangle(1, 2, 1, 63, 8, 8),
         rectangle(2, 3, 1, 63, 14, 14),
     ];
-    assert_eq!(rt; mesh.polys.as_slice(), polys.as_slice());
+    assert!(rt; mesh.polys.as_slice() == polys.as_slice());
+}
+
+fn row_of(link: &Link) -> LinkRow {
+    let Portal { left, right } = link.portal;
+    (
+        link.from.index,
+        link.edge,
+        link.to.index,
+        (right.x, right.z),
+        (left.x, left.z),
+    )
 }
 
 fn check_links(rt: &impl Abort, links: &[Link], rows: &[LinkRow]) {
-    assert_eq!(rt; links.len(), rows.len());
+    assert!(rt; links.len() == rows.len());
     for (link, wanted) in links.iter().zip(rows.iter()) {
-        assert_eq!(rt;
-            (link.from.index, link.edge, link.to.index),
-            (wanted.0, wanted.1, wanted.2)
-        );
-        assert_eq!(rt; (link.portal.right.x, link.portal.right.z), wanted.3);
-        assert_eq!(rt; (link.portal.left.x, link.portal.left.z), wanted.4);
+        assert!(rt; row_of(link) == *wanted);
     }
 }
 
-/// The edge of the polygon with the other area, which lies on the border to the right.
+/// Whether it is the edge of the polygon with the other area, which lies on the border to the right.
+fn is_border(entry: &RimEdge) -> bool {
+    let pair = LevelPair { own: 0, other: 2 };
+    (entry.poly, entry.edge, entry.side, entry.first) == (1, 1, 2, 0)
+        && entry.pairs.as_slice() == [pair].as_slice()
+}
+
 fn check_rim(rt: &impl Abort, rim: &[RimEdge]) {
-    assert_eq!(rt; rim.len(), 1);
+    assert!(rt; rim.len() == 1);
     for entry in rim {
-        assert_eq!(rt;
-            (entry.poly, entry.edge, entry.side, entry.first),
-            (1, 1, 2, 0)
-        );
-        let pair = LevelPair { own: 0, other: 2 };
-        assert_eq!(rt; entry.pairs.as_slice(), [pair].as_slice());
+        assert!(rt; is_border(entry));
     }
 }
 

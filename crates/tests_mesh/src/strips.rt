@@ -6,8 +6,8 @@ ghost use Rattle.nav_ground.specs.Cells.{IsCut};
 use crate::five_cells::CELLS;
 use cell_table::neighbour_table;
 use mesh_types::Strip;
-use mono_regions::{strip_index, strips};
-use nav_ground::FreeLayer;
+use mono_regions::{StripIndex, strip_index, strips};
+use nav_ground::{Cell, FreeLayer};
 use nav_list::Items;
 use std::alloc::{AllocError, Global};
 use std::process::Abort;
@@ -31,14 +31,15 @@ const WANTED: [Row; 4] = [
     (1, 2, 2, 63, &[1]),
 ];
 
+fn is_strip(strip: &Strip, row: &Row) -> bool {
+    (strip.z, strip.x0, strip.x1, strip.area) == (row.0, row.1, row.2, row.3)
+        && strip.levels.as_slice() == row.4
+}
+
 fn check_strips(rt: &impl Abort, strips: &[Strip], rows: &[Row]) {
-    assert_eq!(rt; strips.len(), rows.len());
-    for (strip, wanted) in strips.iter().zip(rows.iter()) {
-        assert_eq!(rt;
-            (strip.z, strip.x0, strip.x1, strip.area),
-            (wanted.0, wanted.1, wanted.2, wanted.3)
-        );
-        assert_eq!(rt; strip.levels.as_slice(), wanted.4);
+    assert!(rt; strips.len() == rows.len());
+    for (strip, row) in strips.iter().zip(rows.iter()) {
+        assert!(rt; is_strip(strip, row));
     }
 }
 
@@ -51,13 +52,23 @@ fn strips_by_hand(rt: HostRuntime) -> Result<(), AllocError> {
     Ok(())
 }
 
+fn index(alloc: Global, cells: &[Cell]) -> Result<StripIndex, AllocError>
+    requires { IsCut cells.now }
+{
+    let table = neighbour_table(alloc, cells)?;
+    strip_index(alloc, cells, table.as_slice())
+}
+
+fn check_index(rt: &impl Abort, index: &StripIndex) {
+    assert!(rt; index.runs.len() == 4);
+    assert!(rt; index.owners.as_slice() == [0, 0, 1, 2, 3].as_slice());
+}
+
 #[test]
 fn indices_by_hand(rt: HostRuntime) -> Result<(), AllocError> {
     let alloc = rt.alloc();
     let free = free(alloc)?;
-    let table = neighbour_table(alloc, free.cells.as_slice())?;
-    let index = strip_index(alloc, free.cells.as_slice(), table.as_slice())?;
-    assert_eq!(rt; index.runs.len(), 4);
-    assert_eq!(rt; index.owners.as_slice(), [0, 0, 1, 2, 3].as_slice());
+    let index = index(alloc, free.cells.as_slice())?;
+    check_index(&rt, &index);
     Ok(())
 }

@@ -90,10 +90,10 @@ fn every_setting() -> Setting {
 }
 
 fn check_every_form(rt: &impl Abort, read: &FieldText) {
-    assert_eq!(rt; (read.used, read.lines), (SCRIPT_AT, 14));
-    assert_eq!(rt; read.setting, every_setting());
-    assert_eq!(rt; (read.field.width, read.field.depth), (1024, 1));
-    assert_eq!(rt; read.field.spans.as_slice(), SPANS.as_slice());
+    assert!(rt; read.used == SCRIPT_AT && read.lines == 14);
+    assert!(rt; read.setting == every_setting());
+    assert!(rt; read.field.width == 1024 && read.field.depth == 1);
+    assert!(rt; read.field.spans.as_slice() == SPANS.as_slice());
 }
 
 #[test]
@@ -213,11 +213,16 @@ const BODY_FAULTS: [FirstFault; 31] = [
     ),
 ];
 
+/// The line and kind of the fault of the first lines of a header and what follows them.
+fn fault_behind(alloc: Global, lines: usize, tail: &str) -> Result<(u32, u32), AllocError> {
+    let text = text_with(alloc, lines, tail)?;
+    Ok(fault_of(alloc, text.as_slice()))
+}
+
 fn check_faults(rt: &impl Abort, alloc: Global, faults: &[FirstFault]) -> Result<(), AllocError> {
     for (lines, tail, line, kind) in faults {
-        let text = text_with(alloc, *lines, tail)?;
-        let wanted = (*line, kind.number());
-        assert_eq!(rt; fault_of(alloc, text.as_slice()), wanted, "at {tail}");
+        let found = fault_behind(alloc, *lines, tail)?;
+        assert!(rt; found == (*line, kind.number()), "at {tail}");
     }
     Ok(())
 }

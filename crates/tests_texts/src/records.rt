@@ -53,15 +53,21 @@ const STEPS: [(StepAnswer, &str); 13] = [
     ),
 ];
 
+/// Whether a step's answer is written as this line.
+fn writes_step(alloc: Global, step: &StepAnswer, wanted: &str) -> Result<bool, AllocError> {
+    let mut out = Vec::new(alloc);
+    write_step(&mut out, step)?;
+    Ok(out.as_slice() == wanted.as_bytes())
+}
+
 fn check_steps(
     rt: &impl Abort,
     alloc: Global,
     steps: &[(StepAnswer, &str)],
 ) -> Result<(), AllocError> {
     for (step, wanted) in steps {
-        let mut out = Vec::new(alloc);
-        write_step(&mut out, step)?;
-        assert_eq!(rt; out.as_slice(), wanted.as_bytes(), "at {wanted}");
+        let is_so = writes_step(alloc, step, wanted)?;
+        assert!(rt; is_so, "at {wanted}");
     }
     Ok(())
 }
@@ -71,22 +77,24 @@ fn writes_steps(rt: HostRuntime) -> Result<(), AllocError> {
     check_steps(&rt, rt.alloc(), &STEPS)
 }
 
+/// Appends the lines of replies, the last line of a play and lines of faults.
+fn write_others(out: &mut Vec<u8>) -> Result<(), AllocError> {
+    write_reply(out, 1, &Reply::Added { number: 1 })?;
+    write_reply(out, 2, &Reply::Full { live: 1024 })?;
+    write_reply(out, 65536, &Reply::Removed)?;
+    write_reply(out, 4, &Reply::Dead { number: 4294967295 })?;
+    write_done(out, 0, 4294967295)?;
+    write_fault(out, &TextFault::new(4294967295, FaultKind::TooManyLines))?;
+    write_fault(out, &TextFault { line: 0, kind: 0 })
+}
+
 #[test]
 fn writes_the_other_lines(rt: HostRuntime) -> Result<(), AllocError> {
     let mut out = Vec::new(rt.alloc());
-    write_reply(&mut out, 1, &Reply::Added { number: 1 })?;
-    write_reply(&mut out, 2, &Reply::Full { live: 1024 })?;
-    write_reply(&mut out, 65536, &Reply::Removed)?;
-    write_reply(&mut out, 4, &Reply::Dead { number: 4294967295 })?;
-    write_done(&mut out, 0, 4294967295)?;
-    write_fault(
-        &mut out,
-        &TextFault::new(4294967295, FaultKind::TooManyLines),
-    )?;
-    write_fault(&mut out, &TextFault { line: 0, kind: 0 })?;
+    write_others(&mut out)?;
     let wanted = "entry 1 added\nentry 2 full 1024\nentry 65536 removed\nentry 4 dead 4294967295\n\
         done 0 4294967295\nfault 4294967295 11\nfault 0 0\n";
-    assert_eq!(rt; out.as_slice(), wanted.as_bytes());
+    assert!(rt; out.as_slice() == wanted.as_bytes());
     Ok(())
 }
 

@@ -7,7 +7,7 @@ use std::alloc::{AllocError, Global};
 use std::process::Abort;
 
 /// What is read of a text whose first line has the number 45: the number of its lines and the last of them, or the fault.
-#[derive(Clone, Copy, PartialEq, Eq, Debug)]
+#[derive(Clone, Copy, PartialEq)]
 enum Told {
     Script { lanes: u32, workers: u32 },
     Last(usize, Line),
@@ -84,15 +84,20 @@ const RIGHT_LINES: [(&str, Line); 14] = [
     ("publish", Line::Publish),
 ];
 
+/// What is read of a script of two lanes and three workers whose third line is given.
+fn read_third(alloc: Global, line: &str, behind: &str, way: Way) -> Result<Told, AllocError> {
+    let text = format!(in alloc; "script 2 3\nadd block 0 0 0 0 0 0\n{line}\n{behind}")?;
+    read_text(alloc, text.as_bytes(), way)
+}
+
 fn check_right_lines(
     rt: &impl Abort,
     alloc: Global,
     rows: &[(&str, Line)],
 ) -> Result<(), AllocError> {
     for (line, wanted) in rows {
-        let text = format!(in alloc; "script 2 3\nadd block 0 0 0 0 0 0\n{line}\n")?;
-        let told = read_text(alloc, text.as_bytes(), Way::Play)?;
-        assert_eq!(rt; told, Told::Last(2, *wanted), "at {line}");
+        let told = read_third(alloc, line, "", Way::Play)?;
+        assert!(rt; told == Told::Last(2, *wanted), "at {line}");
     }
     Ok(())
 }
@@ -173,9 +178,8 @@ fn check_wrong_lines(
     rows: &[(&str, Way, u32)],
 ) -> Result<(), AllocError> {
     for (line, way, kind) in rows {
-        let text = format!(in alloc; "script 2 3\nadd block 0 0 0 0 0 0\n{line}\nsettle\n")?;
-        let told = read_text(alloc, text.as_bytes(), *way)?;
-        assert_eq!(rt; told, Told::Fault(47, *kind), "at {line}");
+        let told = read_third(alloc, line, "settle\n", *way)?;
+        assert!(rt; told == Told::Fault(47, *kind), "at {line}");
     }
     Ok(())
 }
@@ -229,7 +233,7 @@ const TEXTS: [(&str, Told); 19] = [
 fn check_texts(rt: &impl Abort, alloc: Global, rows: &[(&str, Told)]) -> Result<(), AllocError> {
     for (text, wanted) in rows {
         let told = read_text(alloc, text.as_bytes(), Way::Play)?;
-        assert_eq!(rt; told, *wanted, "at {text}");
+        assert!(rt; told == *wanted, "at {text}");
     }
     Ok(())
 }
@@ -254,6 +258,18 @@ fn repeated(
     }
     text.extend_from_slice(last.as_bytes())?;
     Ok(text)
+}
+
+/// What is read of a script of a line so many times, then a last line.
+fn read_repeated(
+    alloc: Global,
+    line: &str,
+    count: u32,
+    way: Way,
+    last: &str,
+) -> Result<Told, AllocError> {
+    let text = repeated(alloc, "script 1 1\n", line, count, last)?;
+    read_text(alloc, text.as_slice(), way)
 }
 
 /// A line, how often it stands, the way it runs, the line behind it, and what is read.
@@ -336,9 +352,8 @@ fn check_long_texts(
     rows: &[(&str, u32, Way, &str, Told)],
 ) -> Result<(), AllocError> {
     for (line, count, way, last, wanted) in rows {
-        let text = repeated(alloc, "script 1 1\n", line, *count, last)?;
-        let told = read_text(alloc, text.as_slice(), *way)?;
-        assert_eq!(rt; told, *wanted, "at {last}");
+        let told = read_repeated(alloc, line, *count, *way, last)?;
+        assert!(rt; told == *wanted, "at {last}");
     }
     Ok(())
 }

@@ -1,9 +1,7 @@
-use Rattle.std.proofs.Common.{◌≡◌, ◌≤◌, ◌∙◌, List, [], ◌∷◌, ap, sym, subst, arith}
+use Rattle.std.proofs.Common.{◌≡◌, ◌≤◌, List, [], ◌∷◌, ap, sym, subst, arith}
 use Rattle.nav_ground.specs.declared.setting.Setting.{Setting}
 use Rattle.nav_ground.specs.Limits.{IsSetting}
 use Rattle.mesh_types.specs.declared.mesh.Mesh.{Mesh}
-use Rattle.mesh_types.specs.declared.polygon.Polygon.{Polygon}
-use Rattle.mesh_types.specs.declared.tile.RimEdge.{RimEdge}
 use Rattle.mesh_types.specs.declared.tile.TileMesh.{TileMesh}
 use Rattle.mesh_types.specs.Soundness.{polygon_count}
 use Rattle.mesh_types.specs.WholeMesh.{mesh_of}
@@ -21,12 +19,6 @@ setting_is mesh is = ap (λ (m : Mesh). m.setting) is
 tiles_are : (mesh : Mesh) → mesh ≡ mesh_of plain_setting (left_tile ∷ right_tile ∷ []) → mesh.tiles ≡ left_tile ∷ right_tile ∷ []
 unfolding mesh_of
 tiles_are mesh is = ap (λ (m : Mesh). m.tiles) is
-
-news_are : (news : List New) (made given : TileMesh) (polys : List Polygon) (rim : List RimEdge) → news ≡ (1, made) ∷ [] → made ≡ given
-    → given ≡ hand_tile 1 polys rim → polys ≡ [] → rim ≡ [] → news ≡ (1, hand_tile 1 [] []) ∷ []
-news_are news made given polys rim one same is no_polys no_rim =
-    let with : TileMesh → List New = λ tile. (1, tile) ∷ [] in
-    one ∙ ap with (same ∙ is ∙ ap (λ (ps : List Polygon). hand_tile 1 ps rim) no_polys ∙ ap (hand_tile 1 []) no_rim)
 
 pub replace-requires-clause-setting : goal.replace-requires-clause-setting
 replace-requires-clause-setting c = subst IsSetting (sym (setting_is c.in_ok-mesh.mesh c.in_ok-mesh.ensures)) IsSetting-plain
@@ -49,9 +41,9 @@ few tiles news is are =
 pub replace-requires-clause-news : goal.replace-requires-clause-news
 replace-requires-clause-news c =
     new c.in_ok-mesh.mesh.setting c.in_ok-news.news.items (setting_is c.in_ok-mesh.mesh c.in_ok-mesh.ensures)
-    (news_are _ _ _ _ _ c.in_ok-news.ensures.items c.in_ok-new.ensures.ok c.in_ok-empty.ensures c.new.ensures.items c.new-2.ensures.items)
+    c.in_ok-news.ensures
 
 pub replace-requires-clause-few : goal.replace-requires-clause-few
 replace-requires-clause-few c =
     few c.in_ok-mesh.mesh.tiles c.in_ok-news.news.items (tiles_are c.in_ok-mesh.mesh c.in_ok-mesh.ensures)
-    (news_are _ _ _ _ _ c.in_ok-news.ensures.items c.in_ok-new.ensures.ok c.in_ok-empty.ensures c.new.ensures.items c.new-2.ensures.items)
+    c.in_ok-news.ensures
