@@ -2,7 +2,6 @@
 use Rattle.std.proofs.Common.{◌≡◌, ℕ, ◌<◌, ◌==◌, Bool, true, false, cond, List, [], ◌∷◌, length, get_or, refl, sym, ap, ◌∙◌, subst, Some, None, eq-eqb, arith}
 use Rattle.std.specs.Prelude.{unwrap_or}
 use Rattle.std.specs.Option.{option_map}
-use Rattle.std.specs.Arc.{arc_value}
 use Rattle.std.specs.List.{All}
 use Rattle.std.proofs.lemmas.List.Elements.{All-nil, All-cons, All-head}
 use Rattle.nav_ground.specs.declared.setting.Setting.{Setting}
@@ -15,15 +14,13 @@ use Rattle.nav_ground.specs.Limits.{IsShape}
 use Rattle.nav_ground.specs.Tiling.{tile_count}
 use Rattle.mesh_types.specs.declared.tile.TileMesh.{TileMesh}
 use Rattle.mesh_types.specs.Builds.{build_of}
-use Rattle.mesh_types.specs.Soundness.{AreTiles, IsFit, IsSound, polygon_count}
+use Rattle.mesh_types.specs.Soundness.{AreTiles, IsFit, polygon_count}
 use Rattle.mesh_types.specs.WholeMesh.{mesh_of}
 use Rattle.tile_build.specs.Meshes.{tiles_under}
 use Rattle.tile_links.specs.NewTiles.{AreNew, New, tile_after, tiles_after}
 use Rattle.nav_book.proofs.GroundTiles.{are_tiles, build_from, tiles_of_build}
 use Rattle.nav_version.specs.declared.patch.Patch.{Patch}
-use Rattle.nav_version.specs.declared.version.Version.{Version}
 use Rattle.nav_version.specs.Pairs.{IsPatch}
-use Rattle.nav_version.specs.Versions.{IsVersion}
 use Rattle.tests_paths.specs.OneTile.{numbered_tiles}
 
 -- a new tile mesh with a tile's number takes its place
@@ -68,13 +65,3 @@ is_patch whole shapes entry patch tiles rules' one limits alive are entries news
           ∙ build_from whole (entry ∷ []) 1 made (mesh_of whole.setting made) (ap (tiles_under whole) (sym alive)) refl
           ∙ ap (λ (list : List Entry). build_of whole list (length list)) (sym entries);
     }
-
--- the version of a ground with its tiles, before any entry
-pub is_opening : (level : Ground) (version : Version) (tiles : List TileMesh) → IsGround level → arc_value version.ground ≡ level → version.entries ≡ []
-    → tiles ≡ tiles_under level [] → version.mesh ≡ mesh_of level.setting tiles → IsSound version.mesh → IsVersion version
-is_opening level version tiles rules' ground entries are mesh sound' = record {
-  ground = subst IsGround (sym ground) rules';
-  few = omega (arith, ap (λ (list : List Entry). length list) entries);
-  mesh = build_from level [] 0 tiles version.mesh are mesh ∙ (λ i. build_of (sym ground i) (sym entries i) (length (sym entries i)));
-  sound = sound';
-}
