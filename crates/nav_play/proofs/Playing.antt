@@ -1,8 +1,6 @@
 -- A play under way on its ground, with the steps that it took.
 use Rattle.std.proofs.Common.{◌≡◌, ℕ, ◌+◌, ◌<◌, ◌≤◌, Option, None, List, [], ◌++◌, length, replicate, get_or, drop, ap, ◌∙◌, sym, subst, refl, arith}
-use Rattle.nav_ground.specs.declared.field.Field.{Field}
 use Rattle.nav_ground.specs.declared.history.Ground.{Ground}
-use Rattle.nav_ground.specs.declared.setting.Setting.{Setting}
 use Rattle.nav_desk.specs.BookState.{BookState}
 use Rattle.nav_desk.specs.BookState as books
 use Rattle.mesh_types.specs.Soundness.{link_count, polygon_count}
@@ -13,7 +11,7 @@ use Rattle.nav_record.specs.Texts.{done_text}
 use Rattle.nav_script.specs.declared.line.Line.{Line}
 use Rattle.nav_script.specs.declared.script.Script.{Script}
 use Rattle.nav_steps.specs.Counts.{HasRisenAtMost}
-use Rattle.nav_play.specs.PlayRecord.{PlayState, AddsSome, IsSaid, IsTextFrom, first_state_of, ground_of, state_after, state_after_all}
+use Rattle.nav_play.specs.PlayRecord.{PlayState, AddsSome, IsSaid, IsTextFrom, opening_state, state_after, state_after_all}
 use Rattle.nav_play.specs.PlayTotals.{AreTotalsFrom, IsCounted}
 use Rattle.nav_play.specs.Tallies.{HasCounted, no_answers, totals_at}
 use Rattle.nav_play.specs.Work.{jobs_from, jobs_of}
@@ -145,11 +143,11 @@ are_totals first lines items done state text totals told before after playing sa
     })
 
 -- the state at the beginning
-pub begun_state : (setting : Setting) (field : Field) (script : Script) (book : BookState) (whole : Ground) (adds : List (List ℕ)) (workers : List (Option TileResult))
-    → book ≡ books.first_state whole → whole ≡ ground_of setting field → adds ≡ replicate script.lanes [] → workers ≡ replicate script.workers None
-    → ◌≡◌ {A = PlayState} (record { book = book; lane = 0; adds = adds; held = jobs_of_held workers }) (first_state_of setting field script)
-begun_state setting field script book whole adds workers begins same lanes none = λ i. record {
-  book = (begins ∙ ap books.first_state same) i;
+pub begun_state : (script : Script) (book : BookState) (whole : Ground) (adds : List (List ℕ)) (workers : List (Option TileResult))
+    → book ≡ books.first_state whole → adds ≡ replicate script.lanes [] → workers ≡ replicate script.workers None
+    → ◌≡◌ {A = PlayState} (record { book = book; lane = 0; adds = adds; held = jobs_of_held workers }) (opening_state whole script.lanes script.workers)
+begun_state script book whole adds workers begins lanes none = λ i. record {
+  book = begins i;
   lane = 0;
   adds = lanes i;
   held = jobs_begun workers script.workers none i;

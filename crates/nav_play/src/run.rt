@@ -1,11 +1,11 @@
 //! The play of a whole script.
 
-ghost use Rattle.std.specs.Prelude.{◌≡◌, ◌+◌, IfOk, OnOk};
+ghost use Rattle.std.specs.Prelude.{◌≡◌, ◌+◌, [], IfOk, OnOk};
 ghost use Rattle.nav_ground.specs.Limits.{IsSetting};
 ghost use Rattle.nav_ground.specs.Fields.{IsField};
-ghost use Rattle.nav_ground.specs.Grounds.{IsBuiltFor, IsSized};
+ghost use Rattle.nav_ground.specs.Grounds.{IsBuiltFor, IsGround, IsSized};
 ghost use Rattle.nav_ground.specs.Tiling.{tile_count};
-ghost use Rattle.nav_play.specs.PlayRecord.{IsPlayText, first_state_of};
+ghost use Rattle.nav_play.specs.PlayRecord.{IsPlayText, first_state_of, opening_state};
 ghost use Rattle.nav_play.specs.PlayTotals.{AreTotals};
 ghost use Rattle.nav_play.specs.Players.{HasBegun, player_state};
 ghost use Rattle.nav_play.specs.Work.{builds_of};
@@ -13,16 +13,20 @@ ghost use Rattle.nav_record.specs.declared.totals.Totals.{Totals};
 ghost use Rattle.nav_script.specs.Limits.{IsScript};
 ghost use Rattle.nav_script.specs.declared.script.Way.TheVariants.{Play};
 ghost use Rattle.nav_steps.specs.Counts.{HasRisenAtMost};
+ghost use Rattle.tile_build.specs.Meshes.{tiles_under};
 
 use crate::lanes::Lanes;
 use crate::player::Player;
 use crate::tally::nothing;
 use crate::workers::Workers;
 use layer_cut::ground;
+use mesh_types::TileMesh;
 use nav_book::Book;
-use nav_ground::{Field, Setting};
+use nav_ground::{Field, Ground, Setting};
+use nav_list::Items;
 use nav_record::Totals;
 use nav_script::Script;
+use nav_share::Shared;
 use nav_steps::Steps;
 use std::alloc::{AllocError, Global};
 use std::sync::ledger::Ledger;
@@ -90,6 +94,23 @@ fn begin<R: Wait, L: Ledger>(
 {
     let level = ground(alloc, setting, field)?;
     let tiles = build_tiles(alloc, &level, &[], steps)?;
+    Ok(opened(rt, alloc, level, tiles, script)?)
+}
+
+/// The player of a script over a ground whose tiles were built.
+fn opened<R: Wait>(
+    rt: &R,
+    alloc: Global,
+    level: Ground,
+    tiles: Items<Shared<TileMesh>>,
+    script: &Script,
+) -> Result<Player, AllocError>
+    requires level { IsGround level }
+    requires tiles { tiles ≡ tiles_under level [] }
+    requires script { IsScript Play script.now }
+    ensures state { IfOk result (λ player. player_state player ≡ opening_state level script.now.lanes script.now.workers) }
+    ensures begun { IfOk result (HasBegun script.now) }
+{
     let adds = Lanes::new(alloc, script.lanes)?;
     let workers = Workers::new(alloc, script.workers)?;
     let (book, _eyes) = Book::begin(rt, alloc, Arc::new(alloc, level)?, tiles, 0)?;
