@@ -61,12 +61,25 @@ fn index_named(cells: &[Cell], passed: &mut usize, cell: &Cell, dir: usize) -> u
     requires cell { IsCell cell.now }
     ensures { result ≡ Rattle.cell_table.specs.Table.index_named cells.now cell.now dir }
 {
-    let column = column_toward(dir, cell.at);
-    *passed = pass(cells, *passed, column);
     match cell.next[dir] {
-        Some(level) => index_of(cells, passed.saturating_add(level as usize), column, level),
+        Some(level) => index_after(cells, passed, column_toward(dir, cell.at), level),
         None => cells.len() as u32,
     }
+}
+
+/// The index of the cell with a column and a level, or the number of cells where none has them. Mostly it stands one place after the cell
+/// that was found before it, which is looked at first.
+fn index_after(cells: &[Cell], passed: &mut usize, column: u64, level: u32) -> u32
+    requires { IsCells cells.now }
+    ensures { result ≡ index_of cells.now column level }
+{
+    let next = passed.saturating_add(1);
+    if level == 0 && next < cells.len() && is_at(column, level, cells[next].at) {
+        *passed = next;
+        return next as u32;
+    }
+    *passed = pass(cells, *passed, column);
+    index_of(cells, passed.saturating_add(level as usize), column, level)
 }
 
 /// How many cells lie in columns before one, where so many are known to do.
