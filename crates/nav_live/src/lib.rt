@@ -5,8 +5,18 @@
 //! live script may write.
 #![tactic(auto)]
 
+mod acts;
 mod book;
+mod builds;
+mod lane;
+mod lane_lines;
+mod lane_notes;
+mod lane_run;
+mod lane_start;
 mod said;
+mod worker;
 
 pub use book::{LiveAct, LiveBook, LiveDone, LiveRoot};
+pub use lane::{Lane, Stop};
 pub use said::Said;
+pub use worker::Worker;

@@ -1,0 +1,4 @@
+pub mod EntryLaws
+pub mod AnswerLaws
+pub mod PassLaws
+pub mod LaneLaws
