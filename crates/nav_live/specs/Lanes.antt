@@ -24,7 +24,7 @@ pub record NotesLines (lane : Lane) : Type 0 where
   pub last : lane.last ≡ last_number lane.spoken
 
 -- a lane: its pass is of the lock, and its eye of the pair and the ground of the lock's book. The entries that its pass has seen of it are those
--- that its lines say they left; its lines are answered right in the longest version that its eye has seen; and it has noted them
+-- that its lines say they left; each line is answered as it may be, given the longest list of entries that its eye has seen; and it has noted them
 pub record KeepsLane (lock : LockId RootView) (lane : Lane) : Type 0 where
   pub of : IsOf lock lane.pass
   pub number : lane.number ≡ lane.pass.number

@@ -1,4 +1,4 @@
-//! Runs a script's lanes over one book, each lane in a thread, beside workers that build tiles.
+//! What a live run is made of: a script's lanes over one book, each lane in a thread, beside workers that build tiles. No call joins them yet.
 //!
 //! The threads share a book under a turn lock: `LiveBook` is the lock's value. Each act on it is one step of the book's definition, with that
 //! step's answer; requests alone add entries to the history, each under the lane that makes it. `specs/LiveRecord.antt` says what a run of a
