@@ -3,6 +3,3 @@ pub mod LaneRecords
 pub mod LiveRecord
 pub mod Roots
 pub mod LiveBooks
-pub mod Lanes
-pub mod LaneSteps
-pub mod Waiting

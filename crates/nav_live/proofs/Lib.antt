@@ -1,4 +1,0 @@
-pub mod EntryLaws
-pub mod AnswerLaws
-pub mod PassLaws
-pub mod LaneLaws

@@ -1,6 +1,0 @@
-use Rattle.std.proofs.Common.{refl}
-use Rattle.nav_live.proofs.PassLaws.{saw_others}
-use Rattle.nav_live.proofs.acts.put_back.Goals as goal
-
-pub returns : goal.returns
-returns g c = saw_others c.args.lock.now c.args.pass.now c.with-done.new.pass _ _ refl c.with-done.ensures.of c.with-done.ensures.number c.with-done.ensures.acts
