@@ -9,7 +9,7 @@ pub struct Vertex {
 }
 
 /// An arc that leaves a vertex: the vertex that it enters, and its weight.
-#[derive(Clone, Copy, PartialEq, Eq, Debug)]
+#[derive(Clone, Copy)]
 pub struct Arc {
     pub to: Vertex,
     pub weight: u64,
@@ -23,7 +23,7 @@ pub struct Step {
 }
 
 /// A walk: its steps in order, and the sum of the weights of their arcs.
-#[derive(PartialEq, Eq, Debug, Drop)]
+#[derive(Drop)]
 pub struct Walk {
     pub cost: u64,
     pub steps: Vec<Step>,

@@ -7,7 +7,7 @@ use nav_list::{Duplicate, Items};
 use std::alloc::{AllocError, Global};
 
 /// How a straight walk from a place toward a point ends.
-#[derive(Clone, Copy, PartialEq, Eq, Debug)]
+#[derive(Clone, Copy, PartialEq, Eq)]
 pub enum RayAnswer {
     /// In the polygon that holds the point.
     Reached(PolyRef),
@@ -22,7 +22,7 @@ pub enum RayAnswer {
 }
 
 /// A path: the polygon in which it begins, what its corridor costs, the links of the corridor in order, and where it turns.
-#[derive(PartialEq, Eq, Debug, Drop)]
+#[derive(PartialEq, Eq, Drop)]
 pub struct PathFound {
     pub first: PolyRef,
     pub cost: u64,
@@ -32,7 +32,7 @@ pub struct PathFound {
 }
 
 /// What a question of a mesh is answered.
-#[derive(PartialEq, Eq, Debug, Drop)]
+#[derive(PartialEq, Eq, Drop)]
 pub enum Answer {
     /// The floors of the free cells of a column, from the bottom up.
     Floors(Items<FloorAt>),

@@ -7,7 +7,7 @@ ghost use Rattle.mesh_types.specs.Runs.{has_label, run_with, runs_of};
 use std::alloc::{AllocError, Global};
 
 /// A maximal run of successive places that have one label, from the first to the last.
-#[derive(Clone, Copy, PartialEq, Eq, Debug)]
+#[derive(Clone, Copy, PartialEq, Eq)]
 pub struct Run {
     pub first: u32,
     pub last: u32,

@@ -6,14 +6,14 @@ use nav_list::Items;
 
 /// A simplified contour: the corners that were kept, in whole cells and in the contour's order, and for each corner the code of the
 /// edge that begins there.
-#[derive(PartialEq, Eq, Debug, Drop)]
+#[derive(Drop)]
 pub struct Outline {
     pub corners: Items<Point>,
     pub codes: Items<Code>,
 }
 
 /// What simplifying a contour comes to.
-#[derive(PartialEq, Eq, Debug, Drop)]
+#[derive(Drop)]
 pub enum Simplified {
     /// Fewer than three corners are left.
     Flat,
@@ -21,7 +21,7 @@ pub enum Simplified {
 }
 
 /// Three places of an outline, counterclockwise.
-#[derive(Clone, Copy, PartialEq, Eq, Debug)]
+#[derive(Clone, Copy, PartialEq, Eq)]
 pub struct Triangle {
     pub a: u32,
     pub b: u32,

@@ -1,8 +1,6 @@
 //! Polygons.
 
 use crate::corners::Corners;
-use nav_list::Duplicate;
-use std::alloc::{AllocError, Global};
 
 /// A strictly convex polygon of 3 to 6 corners, in whole cells, counterclockwise.
 #[derive(Clone, Copy, PartialEq, Eq, Debug)]
@@ -13,11 +11,4 @@ pub struct Polygon {
     /// The least and the greatest floor of its cells, in height units.
     pub low: u32,
     pub high: u32,
-}
-
-impl Duplicate for Polygon {
-    fn duplicate(&self, alloc: Global) -> Result<Self, AllocError> {
-        let _ = alloc;
-        Ok(*self)
-    }
 }

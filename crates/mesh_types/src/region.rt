@@ -28,7 +28,7 @@ pub enum Code {
 }
 
 /// One edge of one cell at a region's rim, in whole cells, directed so that the cell lies on its left.
-#[derive(Clone, Copy, PartialEq, Eq, Debug)]
+#[derive(Clone, Copy)]
 pub struct UnitEdge {
     pub from: Point,
     pub to: Point,

@@ -38,13 +38,6 @@ pub struct TileMesh {
     pub rim: Items<RimEdge>,
 }
 
-impl Duplicate for LevelPair {
-    fn duplicate(&self, alloc: Global) -> Result<Self, AllocError> {
-        let _ = alloc;
-        Ok(*self)
-    }
-}
-
 impl Duplicate for RimEdge {
     fn duplicate(&self, alloc: Global) -> Result<Self, AllocError> {
         Ok(RimEdge {

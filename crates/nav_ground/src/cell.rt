@@ -50,17 +50,10 @@ pub struct Layer {
 }
 
 /// The cells of one tile that the obstacles leave free, in the order of its layer.
-#[derive(PartialEq, Eq, Drop)]
+#[derive(Drop)]
 pub struct FreeLayer {
     pub tile: TileNo,
     pub cells: Items<Cell>,
-}
-
-impl Duplicate for Cell {
-    fn duplicate(&self, alloc: Global) -> Result<Self, AllocError> {
-        let _ = alloc;
-        Ok(*self)
-    }
 }
 
 impl Duplicate for Layer {

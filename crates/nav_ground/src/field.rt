@@ -1,7 +1,6 @@
 //! A field of spans: what is solid in each column.
 
-use nav_list::{Duplicate, Items};
-use std::alloc::{AllocError, Global};
+use nav_list::Items;
 
 /// A solid piece of one column, from its bottom up to its top, in height units, 0 to 8191. An agent stands on the top.
 #[derive(Clone, Copy, PartialEq, Eq, Debug)]
@@ -15,16 +14,9 @@ pub struct Span {
 }
 
 /// The spans of a field, by z, then x, then from the bottom up.
-#[derive(PartialEq, Eq, Debug, Drop)]
+#[derive(Drop)]
 pub struct Field {
     pub width: u32,
     pub depth: u32,
     pub spans: Items<Span>,
-}
-
-impl Duplicate for Span {
-    fn duplicate(&self, alloc: Global) -> Result<Self, AllocError> {
-        let _ = alloc;
-        Ok(*self)
-    }
 }

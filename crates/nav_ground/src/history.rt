@@ -4,14 +4,13 @@ use crate::cell::Layer;
 use crate::field::Field;
 use crate::setting::Setting;
 use crate::shape::Shape;
-use nav_list::{Duplicate, Items};
-use std::alloc::{AllocError, Global};
+use nav_list::Items;
 
 /// How many entries a history can have.
 pub const HISTORY_LIMIT: u32 = 65536;
 
 /// What can be asked of a ground: a new obstacle, or that the obstacle with a number goes.
-#[derive(Clone, Copy, PartialEq, Eq, Debug)]
+#[derive(Clone, Copy, PartialEq, Eq)]
 pub enum Request {
     Add(Shape),
     Remove(u32),
@@ -31,7 +30,7 @@ pub enum Reply {
 }
 
 /// One request in the history, with who made it and what became of it. Entries are numbered from 1.
-#[derive(Clone, Copy, PartialEq, Eq, Debug)]
+#[derive(Clone, Copy, PartialEq, Eq)]
 pub struct Entry {
     pub lane: u32,
     pub request: Request,
@@ -39,16 +38,9 @@ pub struct Entry {
 }
 
 /// A ground as it was built, before any obstacle: its setting, its spans, and its layers, one a tile.
-#[derive(PartialEq, Eq, Drop)]
+#[derive(Drop)]
 pub struct Ground {
     pub setting: Setting,
     pub field: Field,
     pub layers: Items<Layer>,
-}
-
-impl Duplicate for Entry {
-    fn duplicate(&self, alloc: Global) -> Result<Self, AllocError> {
-        let _ = alloc;
-        Ok(*self)
-    }
 }

@@ -1,7 +1,5 @@
 //! What a ground says once: its size, its tiles, the agent that walks it, and what its areas cost.
 
-use nav_list::Duplicate;
-use std::alloc::{AllocError, Global};
 
 /// How many areas there are: 0, which nobody walks on, and 1 to 63.
 pub const AREAS: usize = 64;
@@ -43,11 +41,4 @@ pub struct Setting {
     pub costs: [u32; AREAS],
     /// Whether agents keep their radius from obstacles too.
     pub clear: bool,
-}
-
-impl Duplicate for Setting {
-    fn duplicate(&self, alloc: Global) -> Result<Self, AllocError> {
-        let _ = alloc;
-        Ok(*self)
-    }
 }

@@ -6,8 +6,6 @@ ghost use Rattle.nav_ground.specs.Shapes.{Covers, IsWithinReach, is_covering, bo
 ghost use Rattle.nav_ground.specs.Tiling.{IsInWindow};
 
 use crate::cell::Window;
-use nav_list::Duplicate;
-use std::alloc::{AllocError, Global};
 
 /// An obstacle. Ranges are closed, x and z in columns and y in height units; a cylinder's centre is in half cells, and it reaches the
 /// columns whose middle is at most r cells and a half from it. A shape covers a cell in reach whose floor lies in y0 to y1.
@@ -169,12 +167,5 @@ fn disc_bounds(cx: u32, cz: u32, r: u32) -> Window
         x1: (cx / 2 + r) as i32,
         z0: cz.div_ceil(2) as i32 - (r + 1) as i32,
         z1: (cz / 2 + r) as i32,
-    }
-}
-
-impl Duplicate for Shape {
-    fn duplicate(&self, alloc: Global) -> Result<Self, AllocError> {
-        let _ = alloc;
-        Ok(*self)
     }
 }

@@ -1,7 +1,7 @@
 // What the actors of a running program pass between their steps.
 
 /// Who passes a gate.
-#[derive(Clone, Copy, PartialEq, Eq, Debug)]
+#[derive(Clone, Copy)]
 pub enum Actor {
     /// The lane with this number, which sends requests and asks questions.
     Lane(u32),
@@ -10,7 +10,7 @@ pub enum Actor {
 }
 
 /// What an actor does next, or has just done.
-#[derive(Clone, Copy, PartialEq, Eq, Debug)]
+#[derive(Clone, Copy)]
 pub enum Stage {
     BeforeRequest,
     AfterRequest,

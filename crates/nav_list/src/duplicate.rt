@@ -22,7 +22,8 @@ impl<T: Duplicate> Duplicate for Items<T> {
     }
 }
 
-impl Duplicate for u32 {
+/// What may be copied as it stands needs no memory.
+impl<T: Copy> Duplicate for T {
     fn duplicate(&self, alloc: Global) -> Result<Self, AllocError> {
         let _ = alloc;
         Ok(*self)

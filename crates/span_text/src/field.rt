@@ -21,7 +21,7 @@ use nav_text::{FaultKind, TextFault, first_line};
 use std::alloc::Global;
 
 /// A field text that was read.
-#[derive(PartialEq, Eq, Debug, Drop)]
+#[derive(Drop)]
 pub struct FieldText {
     pub setting: Setting,
     pub field: Field,
@@ -32,7 +32,7 @@ pub struct FieldText {
 }
 
 /// Why no field text was read.
-#[derive(Clone, Copy, PartialEq, Eq, Debug)]
+#[derive(Clone, Copy)]
 pub enum FieldRefusal {
     /// The bytes do not begin with a field text.
     Fault(TextFault),
