@@ -1,6 +1,6 @@
-use Rattle.std.proofs.Common.{sym, ℕ, List, drop, ◌+◌, ◌∷◌, ◌++◌, take, get_or, decimal, Err}
+use Rattle.std.proofs.Common.{ap, sym, ℕ, List, drop, ◌+◌, ◌∷◌, ◌++◌, take, get_or, decimal, Err}
 use Rattle.std.specs.List.{flat_map}
-use Rattle.std.proofs.lemmas.List.{append-nil}
+use Rattle.std.proofs.lemmas.List.{append-nil, take_all}
 use Rattle.nav_record.proofs.AppendLaws.{extended, spelled, and_then, longer, handed, one_more, and_rest}
 use Rattle.nav_record.proofs.append.append_line.Goals as goal
 
@@ -34,3 +34,6 @@ returns-in_err-append_number c =
     handed _ _ c.from_residual-in_err-append_number.ensures.0
     (spelled _ _ (and_rest spaced c.args.word.now numbers i 0 c.loop-number-test.true)
     (longer _ (flat_map spaced (drop (i + 1) numbers)) (and_then so_far (spaced (get_or numbers i 0)) c.loop-number.invariant c.in_err-append_number.ensures)))
+
+pub returns : goal.returns
+returns c = spelled _ _ (ap (λ ys. c.args.word.now ++ flat_map spaced ys) (take_all c.loop-number.number-index c.args.numbers.now c.loop-number-test.false)) c.loop-number.invariant
