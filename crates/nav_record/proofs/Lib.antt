@@ -1,4 +1,3 @@
 pub mod OneLineLaws
-pub mod Kept
-pub mod RoomLaws
+pub mod AppendLaws
 pub mod AnswerLines

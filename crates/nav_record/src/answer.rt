@@ -1,11 +1,12 @@
 //! Answers to questions.
-ghost use Rattle.std.specs.Prelude.{◌≡◌, ◌+◌, ◌≤◌, ◌++◌, length, take, IsOk, OnOk, OnErr, vec_len, vec_capacity};
+ghost use Rattle.std.specs.Prelude.{◌≡◌, ◌+◌, ◌≤◌, ◌++◌, length, IsOk, OnOk, OnErr, vec_len, vec_capacity};
+ghost use Rattle.nav_record.specs.Appending.{Appends};
 ghost use Rattle.nav_record.specs.OneLine.{HasLines};
 ghost use Rattle.nav_record.specs.Texts.{answer_text, line_count};
 
-use crate::append::append_number;
+use crate::append::{Field, append_parts};
 use crate::floors::append_floors;
-use crate::paths::{append_path, append_reached, append_wall};
+use crate::paths::append_path;
 use mesh_types::Answer;
 use std::alloc::AllocError;
 
@@ -29,17 +30,31 @@ pub fn write_answer(out: &mut Vec<u8>, k: u32, answer: &Answer) -> Result<(), Al
 
 /// The same, but where memory is refused a part of the lines may stand at the end.
 fn append_answer(out: &mut Vec<u8>, k: u32, answer: &Answer) -> Result<(), AllocError>
-    ensures ok { OnOk result (out.new.items ≡ out.old.items ++ answer_text k answer.now) }
-    ensures err { OnErr result (take (vec_len out.old) out.new.items ≡ out.old.items) }
-    ensures room { vec_len out.old + length (answer_text k answer.now) ≤ vec_capacity out.old → IsOk result }
+    ensures { Appends out.old out.new result (answer_text k answer.now) }
 {
     match answer {
         Answer::Floors(floors) => append_floors(out, k, floors.as_slice()),
         Answer::Path(found) => append_path(out, k, found),
-        Answer::NoStart => append_number(out, b"nostart ", k, b"\n"),
-        Answer::NoGoal => append_number(out, b"nogoal ", k, b"\n"),
-        Answer::NoPath => append_number(out, b"nopath ", k, b"\n"),
-        Answer::Reached(at) => append_reached(out, k, *at),
-        Answer::Wall { a, b, num, den } => append_wall(out, k, *a, *b, *num, *den),
+        Answer::NoStart => append_parts(out, b"nostart", &[Field::Number(k)], b"\n"),
+        Answer::NoGoal => append_parts(out, b"nogoal", &[Field::Number(k)], b"\n"),
+        Answer::NoPath => append_parts(out, b"nopath", &[Field::Number(k)], b"\n"),
+        Answer::Reached(at) => append_parts(
+            out,
+            b"reached",
+            &[Field::Number(k), Field::Polygon(*at)],
+            b"\n",
+        ),
+        Answer::Wall { a, b, num, den } => append_parts(
+            out,
+            b"wall",
+            &[
+                Field::Number(k),
+                Field::Place(*a),
+                Field::Place(*b),
+                Field::Signed(*num),
+                Field::Signed(*den),
+            ],
+            b"\n",
+        ),
     }
 }

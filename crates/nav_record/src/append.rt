@@ -1,100 +1,106 @@
-//! Words with numbers between them, appended whole or not at all.
-ghost use Rattle.std.specs.Prelude.{◌≡◌, ◌+◌, ◌≤◌, ◌++◌, length, take, decimal, IsOk, OnOk, OnErr, vec_len, vec_capacity};
+//! Words with numbers behind them, appended whole or not at all.
+ghost use Rattle.std.specs.Prelude.{◌≡◌, ◌+◌, ◌≤◌, ◌∷◌, ◌++◌, codes, length, IsOk, OnOk, OnErr, vec_len, vec_capacity};
+ghost use Rattle.nav_record.specs.Appending.{Appends, field_text, fields_text};
 ghost use Rattle.nav_text.specs.Forms.{line_text};
 
 use itoa::{Buffer, Integer};
+use mesh_types::{PolyRef, Side};
+use nav_base::Point;
 use std::alloc::AllocError;
 
-/// Appends a word, a number and a word. Words have at most 16 bytes.
-pub fn append_number(
-    out: &mut Vec<u8>,
-    before: &[u8],
-    number: u32,
-    after: &[u8],
-) -> Result<(), AllocError>
-    requires before { length before.now ≤ 16 }
-    requires after { length after.now ≤ 16 }
-    ensures ok { OnOk result (out.new.items ≡ out.old.items ++ (before.now ++ decimal number ++ after.now)) }
-    ensures err { OnErr result (out.new.items ≡ out.old.items) }
-    ensures room { vec_len out.old + length (before.now ++ decimal number ++ after.now) ≤ vec_capacity out.old → IsOk result }
-    ensures capacity { vec_capacity out.old ≤ vec_capacity out.new }
-{
-    let mut buffer = Buffer::new();
-    let number = buffer.format(number).as_bytes();
-    out.reserve(before.len() + number.len() + after.len())?;
-    out.extend_from_slice(before)?;
-    out.extend_from_slice(number)?;
-    out.extend_from_slice(after)
+/// What a line tells behind its word.
+#[derive(Clone, Copy)]
+pub enum Field {
+    Number(u32),
+    Cost(u64),
+    Count(usize),
+    Signed(i64),
+    Polygon(PolyRef),
+    Place(Point),
+    Side(Side),
 }
 
-/// Appends two numbers with a word before them, between them and after them. Words have at most 16 bytes.
-pub fn append_numbers(
+/// Appends a word, fields, each behind a space, and what ends them; or nothing where memory is refused.
+pub fn append(
     out: &mut Vec<u8>,
-    before: &[u8],
-    first: u32,
-    between: &[u8],
-    second: u32,
-    after: &[u8],
+    word: &[u8],
+    fields: &[Field],
+    end: &[u8],
 ) -> Result<(), AllocError>
-    requires before { length before.now ≤ 16 }
-    requires between { length between.now ≤ 16 }
-    requires after { length after.now ≤ 16 }
-    ensures ok { OnOk result (out.new.items ≡ out.old.items ++ (before.now ++ decimal first ++ between.now ++ decimal second ++ after.now)) }
+    ensures ok { OnOk result (out.new.items ≡ out.old.items ++ (fields_text word.now fields.now ++ end.now)) }
     ensures err { OnErr result (out.new.items ≡ out.old.items) }
-    ensures room { vec_len out.old + length (before.now ++ decimal first ++ between.now ++ decimal second ++ after.now) ≤ vec_capacity out.old → IsOk result }
+    ensures room { vec_len out.old + length (fields_text word.now fields.now ++ end.now) ≤ vec_capacity out.old → IsOk result }
     ensures capacity { vec_capacity out.old ≤ vec_capacity out.new }
 {
-    let mut first_buffer = Buffer::new();
-    let first = first_buffer.format(first).as_bytes();
-    let mut second_buffer = Buffer::new();
-    let second = second_buffer.format(second).as_bytes();
-    out.reserve(before.len() + first.len() + between.len() + second.len() + after.len())?;
-    out.extend_from_slice(before)?;
-    out.extend_from_slice(first)?;
-    out.extend_from_slice(between)?;
-    out.extend_from_slice(second)?;
-    out.extend_from_slice(after)
+    let len = out.len();
+    let written = append_parts(out, word, fields, end);
+    if written.is_err() {
+        out.truncate(len);
+    }
+    written
 }
 
-/// Appends two numbers of one type with a word before them, between them and after them. Words have at most 16 bytes.
-pub fn append_pair<I: Integer>(
+/// The same, but where memory is refused a part may stand at the end.
+pub fn append_parts(
     out: &mut Vec<u8>,
-    before: &[u8],
-    first: I,
-    between: &[u8],
-    second: I,
-    after: &[u8],
+    word: &[u8],
+    fields: &[Field],
+    end: &[u8],
 ) -> Result<(), AllocError>
-    requires before { length before.now ≤ 16 }
-    requires between { length between.now ≤ 16 }
-    requires after { length after.now ≤ 16 }
-    ensures ok { OnOk result (out.new.items ≡ out.old.items ++ (before.now ++ I.text first ++ between.now ++ I.text second ++ after.now)) }
-    ensures err { OnErr result (out.new.items ≡ out.old.items) }
-    ensures room { vec_len out.old + length (before.now ++ I.text first ++ between.now ++ I.text second ++ after.now) ≤ vec_capacity out.old → IsOk result }
-    ensures capacity { vec_capacity out.old ≤ vec_capacity out.new }
+    ensures { Appends out.old out.new result (fields_text word.now fields.now ++ end.now) }
 {
-    let mut first_buffer = Buffer::new();
-    let first = first_buffer.format(first).as_bytes();
-    let mut second_buffer = Buffer::new();
-    let second = second_buffer.format(second).as_bytes();
-    out.reserve(before.len() + first.len() + between.len() + second.len() + after.len())?;
-    out.extend_from_slice(before)?;
-    out.extend_from_slice(first)?;
-    out.extend_from_slice(between)?;
-    out.extend_from_slice(second)?;
-    out.extend_from_slice(after)
+    append_fields(out, word, fields)?;
+    out.extend_from_slice(end)
 }
 
-/// Appends a word and numbers, each behind one space. Where memory is refused a part of them may stand at the end.
+/// Appends a word and fields, each behind a space. Where memory is refused a part may stand at the end.
+pub fn append_fields(out: &mut Vec<u8>, word: &[u8], fields: &[Field]) -> Result<(), AllocError>
+    ensures { Appends out.old out.new result (fields_text word.now fields.now) }
+{
+    out.extend_from_slice(word)?;
+    for field in fields {
+        append_field(out, *field)?;
+    }
+    Ok(())
+}
+
+fn append_field(out: &mut Vec<u8>, field: Field) -> Result<(), AllocError>
+    ensures { Appends out.old out.new result (field_text field) }
+{
+    match field {
+        Field::Number(number) => append_number(out, number),
+        Field::Cost(number) => append_number(out, number),
+        Field::Count(number) => append_number(out, number),
+        Field::Signed(number) => append_number(out, number),
+        Field::Polygon(at) => append_pair(out, at.tile, at.index),
+        Field::Place(at) => append_pair(out, at.x, at.z),
+        Field::Side(Side::L) => out.extend_from_slice(b" L"),
+        Field::Side(Side::R) => out.extend_from_slice(b" R"),
+    }
+}
+
+fn append_pair<I: Integer>(out: &mut Vec<u8>, first: I, second: I) -> Result<(), AllocError>
+    ensures { Appends out.old out.new result (32 ∷ (I.text first ++ codes " " ++ I.text second)) }
+{
+    append_number(out, first)?;
+    append_number(out, second)
+}
+
+/// Appends a space and a number.
+fn append_number<I: Integer>(out: &mut Vec<u8>, number: I) -> Result<(), AllocError>
+    ensures { Appends out.old out.new result (32 ∷ I.text number) }
+{
+    out.push(b' ')?;
+    out.extend_from_slice(Buffer::new().format(number).as_bytes())
+}
+
+/// Appends a word and numbers, each behind a space. Where memory is refused a part may stand at the end.
 pub fn append_line(out: &mut Vec<u8>, word: &[u8], numbers: &[u32]) -> Result<(), AllocError>
-    ensures ok { OnOk result (out.new.items ≡ out.old.items ++ line_text word.now numbers.now) }
-    ensures err { OnErr result (take (vec_len out.old) out.new.items ≡ out.old.items) }
-    ensures room { vec_len out.old + length (line_text word.now numbers.now) ≤ vec_capacity out.old → IsOk result }
-    ensures capacity { vec_capacity out.old ≤ vec_capacity out.new }
+    ensures { Appends out.old out.new result (line_text word.now numbers.now) }
 {
     out.extend_from_slice(word)?;
     for number in numbers {
-        append_number(out, b" ", *number, b"")?;
+        append_number(out, *number)?;
     }
     Ok(())
 }

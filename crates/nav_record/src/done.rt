@@ -3,7 +3,7 @@ ghost use Rattle.std.specs.Prelude.{◌≡◌, ◌+◌, ◌≤◌, ◌++◌, len
 ghost use Rattle.nav_record.specs.OneLine.{IsOneLine};
 ghost use Rattle.nav_record.specs.Texts.{done_text};
 
-use crate::append::append_numbers;
+use crate::append::{Field, append};
 use std::alloc::AllocError;
 
 /// Appends the line that ends a play: the published length `k` and the history's length `n`.
@@ -15,5 +15,5 @@ pub fn write_done(out: &mut Vec<u8>, k: u32, n: u32) -> Result<(), AllocError>
     // The text is one line.
     ensures line { IsOneLine (done_text k n) }
 {
-    append_numbers(out, b"done ", k, b" ", n, b"\n")
+    append(out, b"done", &[Field::Number(k), Field::Number(n)], b"\n")
 }

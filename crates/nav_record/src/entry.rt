@@ -1,11 +1,12 @@
 //! Entries of the history.
-ghost use Rattle.std.specs.Prelude.{◌≡◌, ◌+◌, ◌≤◌, [], ◌∷◌, ◌++◌, length, take, codes, IsOk, OnOk, OnErr, vec_len, vec_capacity};
+ghost use Rattle.std.specs.Prelude.{◌≡◌, ◌+◌, ◌≤◌, [], ◌∷◌, ◌++◌, length, codes, IsOk, OnOk, OnErr, vec_len, vec_capacity};
+ghost use Rattle.nav_record.specs.Appending.{Appends};
 ghost use Rattle.nav_record.specs.OneLine.{IsOneLine};
 ghost use Rattle.nav_record.specs.Texts.{entry_text, outcome_text, request_spelling};
 ghost use Rattle.nav_text.specs.Forms.{line_text};
 ghost use Rattle.nav_script.specs.Spelling.{shape_spelling};
 
-use crate::append::{append_line, append_number, append_numbers};
+use crate::append::{Field, append_line, append_parts};
 use nav_ground::{Entry, Reply, Request, Shape};
 use std::alloc::AllocError;
 
@@ -28,20 +29,20 @@ pub fn write_entry(out: &mut Vec<u8>, number: u32, entry: &Entry) -> Result<(), 
 
 /// The same, but where memory is refused a part of the line may stand at the end.
 fn append_entry(out: &mut Vec<u8>, number: u32, entry: &Entry) -> Result<(), AllocError>
-    ensures ok { OnOk result (out.new.items ≡ out.old.items ++ entry_text number entry.now) }
-    ensures err { OnErr result (take (vec_len out.old) out.new.items ≡ out.old.items) }
-    ensures room { vec_len out.old + length (entry_text number entry.now) ≤ vec_capacity out.old → IsOk result }
+    ensures { Appends out.old out.new result (entry_text number entry.now) }
 {
-    append_numbers(out, b"entry ", number, b" ", entry.lane, b" ")?;
+    append_parts(
+        out,
+        b"entry",
+        &[Field::Number(number), Field::Number(entry.lane)],
+        b" ",
+    )?;
     append_request(out, &entry.request)?;
     append_outcome(out, &entry.reply)
 }
 
 fn append_request(out: &mut Vec<u8>, request: &Request) -> Result<(), AllocError>
-    ensures ok { OnOk result (out.new.items ≡ out.old.items ++ request_spelling request.now) }
-    ensures err { OnErr result (take (vec_len out.old) out.new.items ≡ out.old.items) }
-    ensures room { vec_len out.old + length (request_spelling request.now) ≤ vec_capacity out.old → IsOk result }
-    ensures capacity { vec_capacity out.old ≤ vec_capacity out.new }
+    ensures { Appends out.old out.new result (request_spelling request.now) }
 {
     match *request {
         Request::Add(shape) => append_shape(out, &shape),
@@ -50,10 +51,7 @@ fn append_request(out: &mut Vec<u8>, request: &Request) -> Result<(), AllocError
 }
 
 fn append_shape(out: &mut Vec<u8>, shape: &Shape) -> Result<(), AllocError>
-    ensures ok { OnOk result (out.new.items ≡ out.old.items ++ shape_spelling shape.now) }
-    ensures err { OnErr result (take (vec_len out.old) out.new.items ≡ out.old.items) }
-    ensures room { vec_len out.old + length (shape_spelling shape.now) ≤ vec_capacity out.old → IsOk result }
-    ensures capacity { vec_capacity out.old ≤ vec_capacity out.new }
+    ensures { Appends out.old out.new result (shape_spelling shape.now) }
 {
     match *shape {
         Shape::Block {
@@ -91,26 +89,20 @@ fn append_shape(out: &mut Vec<u8>, shape: &Shape) -> Result<(), AllocError>
 
 /// Appends an area shape: its area, its kind and its numbers.
 fn append_area(out: &mut Vec<u8>, area: u32, kind: &[u8], numbers: &[u32]) -> Result<(), AllocError>
-    ensures ok { OnOk result (out.new.items ≡ out.old.items ++ (line_text (codes "add area") (area ∷ []) ++ line_text kind.now numbers.now)) }
-    ensures err { OnErr result (take (vec_len out.old) out.new.items ≡ out.old.items) }
-    ensures room { vec_len out.old + length (line_text (codes "add area") (area ∷ []) ++ line_text kind.now numbers.now) ≤ vec_capacity out.old → IsOk result }
-    ensures capacity { vec_capacity out.old ≤ vec_capacity out.new }
+    ensures { Appends out.old out.new result (line_text (codes "add area") (area ∷ []) ++ line_text kind.now numbers.now) }
 {
     append_line(out, b"add area", &[area])?;
     append_line(out, kind, numbers)
 }
 
-/// Appends what became of a request, and the end of its line.
-fn append_outcome(out: &mut Vec<u8>, reply: &Reply) -> Result<(), AllocError>
-    ensures ok { OnOk result (out.new.items ≡ out.old.items ++ outcome_text reply.now) }
-    ensures err { OnErr result (take (vec_len out.old) out.new.items ≡ out.old.items) }
-    ensures room { vec_len out.old + length (outcome_text reply.now) ≤ vec_capacity out.old → IsOk result }
-    ensures capacity { vec_capacity out.old ≤ vec_capacity out.new }
+/// Appends what became of a request, and the end of its line. Where memory is refused a part may stand at the end.
+pub fn append_outcome(out: &mut Vec<u8>, reply: &Reply) -> Result<(), AllocError>
+    ensures { Appends out.old out.new result (outcome_text reply.now) }
 {
     match *reply {
         Reply::Added { .. } => out.extend_from_slice(b" added\n"),
         Reply::Removed => out.extend_from_slice(b" removed\n"),
-        Reply::Full { live } => append_number(out, b" full ", live, b"\n"),
-        Reply::Dead { number } => append_number(out, b" dead ", number, b"\n"),
+        Reply::Full { live } => append_parts(out, b" full", &[Field::Number(live)], b"\n"),
+        Reply::Dead { number } => append_parts(out, b" dead", &[Field::Number(number)], b"\n"),
     }
 }

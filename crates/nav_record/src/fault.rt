@@ -3,7 +3,7 @@ ghost use Rattle.std.specs.Prelude.{◌≡◌, ◌+◌, ◌≤◌, ◌++◌, len
 ghost use Rattle.nav_record.specs.OneLine.{IsOneLine};
 ghost use Rattle.nav_record.specs.Texts.{fault_text};
 
-use crate::append::append_numbers;
+use crate::append::{Field, append};
 use nav_text::TextFault;
 use std::alloc::AllocError;
 
@@ -16,5 +16,10 @@ pub fn write_fault(out: &mut Vec<u8>, fault: &TextFault) -> Result<(), AllocErro
     // The text is one line.
     ensures line { IsOneLine (fault_text fault.now) }
 {
-    append_numbers(out, b"fault ", fault.line, b" ", fault.kind, b"\n")
+    append(
+        out,
+        b"fault",
+        &[Field::Number(fault.line), Field::Number(fault.kind)],
+        b"\n",
+    )
 }

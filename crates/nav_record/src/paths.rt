@@ -1,66 +1,42 @@
-//! Paths and walks. Where memory is refused a part of the lines may stand at the end.
-ghost use Rattle.std.specs.Prelude.{◌≡◌, ◌+◌, ◌≤◌, ◌++◌, length, take, codes, decimal, IsOk, OnOk, OnErr, vec_len, vec_capacity};
-ghost use Rattle.std.specs.Fmt.{signed_decimal};
+//! Paths. Where memory is refused a part of the lines may stand at the end.
 ghost use Rattle.std.specs.List.{flat_map};
-ghost use Rattle.nav_record.specs.Texts.{poly_text, point_text, link_text, turn_text, first_line_text, path_text};
+ghost use Rattle.nav_record.specs.Appending.{Appends};
+ghost use Rattle.nav_record.specs.Texts.{link_text, turn_text, first_line_text, path_text};
 
-use crate::append::{append_number, append_numbers, append_pair};
-use itoa::Buffer;
-use mesh_types::{Corner, Link, PathFound, PolyRef, Side};
-use nav_base::Point;
+use crate::append::{Field, append_parts};
+use mesh_types::{Corner, Link, PathFound};
 use std::alloc::AllocError;
 
 /// Appends the lines of a path: its own, then one for each link, then one for each turn.
 pub fn append_path(out: &mut Vec<u8>, k: u32, found: &PathFound) -> Result<(), AllocError>
-    ensures ok { OnOk result (out.new.items ≡ out.old.items ++ path_text k found.now) }
-    ensures err { OnErr result (take (vec_len out.old) out.new.items ≡ out.old.items) }
-    ensures room { vec_len out.old + length (path_text k found.now) ≤ vec_capacity out.old → IsOk result }
-    ensures capacity { vec_capacity out.old ≤ vec_capacity out.new }
+    ensures { Appends out.old out.new result (path_text k found.now) }
 {
     append_first_line(out, k, found)?;
-    append_steps(out, found)
-}
-
-/// Appends the line of a path: its cost, the polygon in which it begins, and how many links and turns it has.
-fn append_first_line(out: &mut Vec<u8>, k: u32, found: &PathFound) -> Result<(), AllocError>
-    ensures ok { OnOk result (out.new.items ≡ out.old.items ++ first_line_text k found.now) }
-    ensures err { OnErr result (take (vec_len out.old) out.new.items ≡ out.old.items) }
-    ensures room { vec_len out.old + length (first_line_text k found.now) ≤ vec_capacity out.old → IsOk result }
-    ensures capacity { vec_capacity out.old ≤ vec_capacity out.new }
-{
-    append_start(out, k, found.cost, found.first)?;
-    append_pair(out, b" ", found.links.len(), b" ", found.turns.len(), b"\n")
-}
-
-fn append_start(out: &mut Vec<u8>, k: u32, cost: u64, first: PolyRef) -> Result<(), AllocError>
-    ensures ok { OnOk result (out.new.items ≡ out.old.items
-        ++ (codes "path " ++ decimal k ++ codes " " ++ decimal cost ++ codes " " ++ poly_text first)) }
-    ensures err { OnErr result (take (vec_len out.old) out.new.items ≡ out.old.items) }
-    ensures room { vec_len out.old + length (codes "path " ++ decimal k ++ codes " " ++ decimal cost ++ codes " " ++ poly_text first) ≤ vec_capacity out.old → IsOk result }
-    ensures capacity { vec_capacity out.old ≤ vec_capacity out.new }
-{
-    append_number(out, b"path ", k, b" ")?;
-    out.extend_from_slice(Buffer::new().format(cost).as_bytes())?;
-    append_numbers(out, b" ", first.tile, b" ", first.index, b"")
-}
-
-/// Appends the lines of the links, and then those of the turns.
-fn append_steps(out: &mut Vec<u8>, found: &PathFound) -> Result<(), AllocError>
-    ensures ok { OnOk result (out.new.items ≡ out.old.items ++ (flat_map link_text found.now.links ++ flat_map turn_text found.now.turns)) }
-    ensures err { OnErr result (take (vec_len out.old) out.new.items ≡ out.old.items) }
-    ensures room { vec_len out.old + length (flat_map link_text found.now.links ++ flat_map turn_text found.now.turns) ≤ vec_capacity out.old → IsOk result }
-    ensures capacity { vec_capacity out.old ≤ vec_capacity out.new }
-{
     append_links(out, found.links.as_slice())?;
     append_turns(out, found.turns.as_slice())
 }
 
+/// Appends the line of a path: its cost, the polygon in which it begins, and how many links and turns it has.
+fn append_first_line(out: &mut Vec<u8>, k: u32, found: &PathFound) -> Result<(), AllocError>
+    ensures { Appends out.old out.new result (first_line_text k found.now) }
+{
+    append_parts(
+        out,
+        b"path",
+        &[
+            Field::Number(k),
+            Field::Cost(found.cost),
+            Field::Polygon(found.first),
+            Field::Count(found.links.len()),
+            Field::Count(found.turns.len()),
+        ],
+        b"\n",
+    )
+}
+
 /// Appends a line for each link: the polygon that it enters, and the left and the right end of its portal.
 fn append_links(out: &mut Vec<u8>, links: &[Link]) -> Result<(), AllocError>
-    ensures ok { OnOk result (out.new.items ≡ out.old.items ++ flat_map link_text links.now) }
-    ensures err { OnErr result (take (vec_len out.old) out.new.items ≡ out.old.items) }
-    ensures room { vec_len out.old + length (flat_map link_text links.now) ≤ vec_capacity out.old → IsOk result }
-    ensures capacity { vec_capacity out.old ≤ vec_capacity out.new }
+    ensures { Appends out.old out.new result (flat_map link_text links.now) }
 {
     for link in links {
         append_link(out, link)?;
@@ -69,34 +45,23 @@ fn append_links(out: &mut Vec<u8>, links: &[Link]) -> Result<(), AllocError>
 }
 
 fn append_link(out: &mut Vec<u8>, link: &Link) -> Result<(), AllocError>
-    ensures ok { OnOk result (out.new.items ≡ out.old.items ++ link_text link.now) }
-    ensures err { OnErr result (take (vec_len out.old) out.new.items ≡ out.old.items) }
-    ensures room { vec_len out.old + length (link_text link.now) ≤ vec_capacity out.old → IsOk result }
-    ensures capacity { vec_capacity out.old ≤ vec_capacity out.new }
+    ensures { Appends out.old out.new result (link_text link.now) }
 {
-    append_numbers(out, b"link ", link.to.tile, b" ", link.to.index, b"")?;
-    append_point(out, b" ", link.portal.left, b"")?;
-    append_point(out, b" ", link.portal.right, b"\n")
-}
-
-/// Appends a word, a point and a word, or nothing where memory is refused. Words have at most 16 bytes.
-fn append_point(out: &mut Vec<u8>, before: &[u8], p: Point, after: &[u8]) -> Result<(), AllocError>
-    requires before { length before.now ≤ 16 }
-    requires after { length after.now ≤ 16 }
-    ensures ok { OnOk result (out.new.items ≡ out.old.items ++ (before.now ++ point_text p ++ after.now)) }
-    ensures err { OnErr result (out.new.items ≡ out.old.items) }
-    ensures room { vec_len out.old + length (before.now ++ point_text p ++ after.now) ≤ vec_capacity out.old → IsOk result }
-    ensures capacity { vec_capacity out.old ≤ vec_capacity out.new }
-{
-    append_pair(out, before, p.x, b" ", p.z, after)
+    append_parts(
+        out,
+        b"link",
+        &[
+            Field::Polygon(link.to),
+            Field::Place(link.portal.left),
+            Field::Place(link.portal.right),
+        ],
+        b"\n",
+    )
 }
 
 /// Appends a line for each turn: where it is, at which end of which portal.
 fn append_turns(out: &mut Vec<u8>, turns: &[Corner]) -> Result<(), AllocError>
-    ensures ok { OnOk result (out.new.items ≡ out.old.items ++ flat_map turn_text turns.now) }
-    ensures err { OnErr result (take (vec_len out.old) out.new.items ≡ out.old.items) }
-    ensures room { vec_len out.old + length (flat_map turn_text turns.now) ≤ vec_capacity out.old → IsOk result }
-    ensures capacity { vec_capacity out.old ≤ vec_capacity out.new }
+    ensures { Appends out.old out.new result (flat_map turn_text turns.now) }
 {
     for turn in turns {
         append_turn(out, turn)?;
@@ -105,57 +70,16 @@ fn append_turns(out: &mut Vec<u8>, turns: &[Corner]) -> Result<(), AllocError>
 }
 
 fn append_turn(out: &mut Vec<u8>, turn: &Corner) -> Result<(), AllocError>
-    ensures ok { OnOk result (out.new.items ≡ out.old.items ++ turn_text turn.now) }
-    ensures err { OnErr result (take (vec_len out.old) out.new.items ≡ out.old.items) }
-    ensures room { vec_len out.old + length (turn_text turn.now) ≤ vec_capacity out.old → IsOk result }
-    ensures capacity { vec_capacity out.old ≤ vec_capacity out.new }
+    ensures { Appends out.old out.new result (turn_text turn.now) }
 {
-    append_point(out, b"turn ", turn.at, b"")?;
-    match turn.side {
-        Side::L => append_number(out, b" L ", turn.portal, b"\n"),
-        Side::R => append_number(out, b" R ", turn.portal, b"\n"),
-    }
-}
-
-/// Appends the line of a walk that ends in the polygon that holds its goal.
-pub fn append_reached(out: &mut Vec<u8>, k: u32, at: PolyRef) -> Result<(), AllocError>
-    ensures ok { OnOk result (out.new.items ≡ out.old.items ++ (codes "reached " ++ decimal k ++ codes " " ++ poly_text at ++ codes "\n")) }
-    ensures err { OnErr result (take (vec_len out.old) out.new.items ≡ out.old.items) }
-    ensures room { vec_len out.old + length (codes "reached " ++ decimal k ++ codes " " ++ poly_text at ++ codes "\n") ≤ vec_capacity out.old → IsOk result }
-    ensures capacity { vec_capacity out.old ≤ vec_capacity out.new }
-{
-    append_number(out, b"reached ", k, b"")?;
-    append_numbers(out, b" ", at.tile, b" ", at.index, b"\n")
-}
-
-/// Appends the line of a walk that ends at an edge: the edge's beginning and end, and the part of the way that leads up to it, as a
-/// fraction.
-pub fn append_wall(
-    out: &mut Vec<u8>,
-    k: u32,
-    a: Point,
-    b: Point,
-    num: i64,
-    den: i64,
-) -> Result<(), AllocError>
-    ensures ok { OnOk result (out.new.items ≡ out.old.items ++ (codes "wall " ++ decimal k ++ codes " " ++ point_text a ++ codes " "
-        ++ point_text b ++ codes " " ++ signed_decimal num ++ codes " " ++ signed_decimal den ++ codes "\n")) }
-    ensures err { OnErr result (take (vec_len out.old) out.new.items ≡ out.old.items) }
-    ensures room { vec_len out.old + length (codes "wall " ++ decimal k ++ codes " " ++ point_text a ++ codes " " ++ point_text b ++ codes " " ++ signed_decimal num ++ codes " " ++ signed_decimal den ++ codes "\n") ≤ vec_capacity out.old → IsOk result }
-    ensures capacity { vec_capacity out.old ≤ vec_capacity out.new }
-{
-    append_edge(out, k, a, b)?;
-    append_pair(out, b" ", num, b" ", den, b"\n")
-}
-
-fn append_edge(out: &mut Vec<u8>, k: u32, a: Point, b: Point) -> Result<(), AllocError>
-    ensures ok { OnOk result (out.new.items ≡ out.old.items
-        ++ (codes "wall " ++ decimal k ++ codes " " ++ point_text a ++ codes " " ++ point_text b)) }
-    ensures err { OnErr result (take (vec_len out.old) out.new.items ≡ out.old.items) }
-    ensures room { vec_len out.old + length (codes "wall " ++ decimal k ++ codes " " ++ point_text a ++ codes " " ++ point_text b) ≤ vec_capacity out.old → IsOk result }
-    ensures capacity { vec_capacity out.old ≤ vec_capacity out.new }
-{
-    append_number(out, b"wall ", k, b"")?;
-    append_point(out, b" ", a, b"")?;
-    append_point(out, b" ", b, b"")
+    append_parts(
+        out,
+        b"turn",
+        &[
+            Field::Place(turn.at),
+            Field::Side(turn.side),
+            Field::Number(turn.portal),
+        ],
+        b"\n",
+    )
 }

@@ -1,9 +1,11 @@
 //! What became of a request.
 ghost use Rattle.std.specs.Prelude.{◌≡◌, ◌+◌, ◌≤◌, ◌++◌, length, IsOk, OnOk, OnErr, vec_len, vec_capacity};
+ghost use Rattle.nav_record.specs.Appending.{Appends};
 ghost use Rattle.nav_record.specs.OneLine.{IsOneLine};
 ghost use Rattle.nav_record.specs.Texts.{reply_text};
 
-use crate::append::{append_number, append_numbers};
+use crate::append::{Field, append_fields};
+use crate::entry::append_outcome;
 use nav_ground::Reply;
 use std::alloc::AllocError;
 
@@ -16,12 +18,18 @@ pub fn write_reply(out: &mut Vec<u8>, number: u32, reply: &Reply) -> Result<(), 
     // The text is one line.
     ensures line { IsOneLine (reply_text number reply.now) }
 {
-    match *reply {
-        Reply::Added { .. } => append_number(out, b"entry ", number, b" added\n"),
-        Reply::Removed => append_number(out, b"entry ", number, b" removed\n"),
-        Reply::Full { live } => append_numbers(out, b"entry ", number, b" full ", live, b"\n"),
-        Reply::Dead { number: dead } => append_numbers(
-            out, b"entry ", number, b" dead ", dead, b"\n",
-        ),
+    let len = out.len();
+    let written = append_reply(out, number, reply);
+    if written.is_err() {
+        out.truncate(len);
     }
+    written
+}
+
+/// The same, but where memory is refused a part of the line may stand at the end.
+fn append_reply(out: &mut Vec<u8>, number: u32, reply: &Reply) -> Result<(), AllocError>
+    ensures { Appends out.old out.new result (reply_text number reply.now) }
+{
+    append_fields(out, b"entry", &[Field::Number(number)])?;
+    append_outcome(out, reply)
 }

@@ -1,13 +1,14 @@
 //! Steps of builders and of the book, and their lines.
 ghost use Rattle.std.specs.Prelude.{◌≡◌, ◌+◌, ◌≤◌, ◌++◌, length, IsOk, OnOk, OnErr, vec_len, vec_capacity};
+ghost use Rattle.nav_record.specs.Appending.{Appends, phrase_text};
 ghost use Rattle.nav_record.specs.OneLine.{IsOneLine};
 ghost use Rattle.nav_record.specs.Texts.{step_text};
 
-use crate::append::{append_number, append_numbers};
+use crate::append::{Field, append_parts};
 use std::alloc::AllocError;
 
 /// What a step of a builder or of the book came to. Lengths count entries of the history, workers and tiles count from 0.
-#[derive(Clone, Copy, PartialEq, Eq, Debug)]
+#[derive(Clone, Copy)]
 pub enum StepAnswer {
     /// The target is now the history's length, `k`.
     Aim { k: u32 },
@@ -46,27 +47,46 @@ pub fn write_step(out: &mut Vec<u8>, step: &StepAnswer) -> Result<(), AllocError
     // The text is one line.
     ensures line { IsOneLine (step_text step.now) }
 {
+    let len = out.len();
+    let written = append_step(out, step);
+    if written.is_err() {
+        out.truncate(len);
+    }
+    written
+}
+
+/// The same, but where memory is refused a part of the line may stand at the end.
+fn append_step(out: &mut Vec<u8>, step: &StepAnswer) -> Result<(), AllocError>
+    ensures { Appends out.old out.new result (step_text step.now) }
+{
+    let Phrase(word, number, end, second) = words(step);
+    append_parts(out, word, &[Field::Number(number)], end)?;
+    match second {
+        Some(number) => append_parts(out, b"", &[Field::Number(number)], b"\n"),
+        None => Ok(()),
+    }
+}
+
+/// A word and a number, then what ends the line; or words between the two and a second number.
+struct Phrase(&'static [u8], u32, &'static [u8], Option<u32>);
+
+/// The words and the numbers of a step's line.
+fn words(step: &StepAnswer) -> Phrase
+    ensures { phrase_text result.0.now result.1 result.2.now result.3 ≡ step_text step.now }
+{
     match *step {
-        StepAnswer::Aim { k } => append_number(out, b"aim ", k, b"\n"),
-        StepAnswer::Claimed { worker, tile } => append_numbers(
-            out, b"claim ", worker, b" tile ", tile, b"\n",
-        ),
-        StepAnswer::NoTile { worker } => append_number(out, b"claim ", worker, b" none\n"),
-        StepAnswer::Busy { worker } => append_number(out, b"busy ", worker, b"\n"),
-        StepAnswer::Idle { worker } => append_number(out, b"idle ", worker, b"\n"),
-        StepAnswer::Back { worker, tile } => append_numbers(
-            out, b"back ", worker, b" tile ", tile, b"\n",
-        ),
-        StepAnswer::Taken { worker, tile } => append_numbers(
-            out, b"submit ", worker, b" taken ", tile, b"\n",
-        ),
-        StepAnswer::Stale { worker, tile } => append_numbers(
-            out, b"submit ", worker, b" stale ", tile, b"\n",
-        ),
-        StepAnswer::Published { k } => append_number(out, b"published ", k, b"\n"),
-        StepAnswer::Same { k } => append_number(out, b"same ", k, b"\n"),
-        StepAnswer::NotYet { tile } => append_number(out, b"notyet ", tile, b"\n"),
-        StepAnswer::Settled { k } => append_number(out, b"settled ", k, b"\n"),
-        StepAnswer::HistoryFull { len } => append_number(out, b"history full ", len, b"\n"),
+        StepAnswer::Aim { k } => Phrase(b"aim", k, b"\n", None),
+        StepAnswer::Claimed { worker, tile } => Phrase(b"claim", worker, b" tile", Some(tile)),
+        StepAnswer::NoTile { worker } => Phrase(b"claim", worker, b" none\n", None),
+        StepAnswer::Busy { worker } => Phrase(b"busy", worker, b"\n", None),
+        StepAnswer::Idle { worker } => Phrase(b"idle", worker, b"\n", None),
+        StepAnswer::Back { worker, tile } => Phrase(b"back", worker, b" tile", Some(tile)),
+        StepAnswer::Taken { worker, tile } => Phrase(b"submit", worker, b" taken", Some(tile)),
+        StepAnswer::Stale { worker, tile } => Phrase(b"submit", worker, b" stale", Some(tile)),
+        StepAnswer::Published { k } => Phrase(b"published", k, b"\n", None),
+        StepAnswer::Same { k } => Phrase(b"same", k, b"\n", None),
+        StepAnswer::NotYet { tile } => Phrase(b"notyet", tile, b"\n", None),
+        StepAnswer::Settled { k } => Phrase(b"settled", k, b"\n", None),
+        StepAnswer::HistoryFull { len } => Phrase(b"history full", len, b"\n", None),
     }
 }

@@ -1,7 +1,7 @@
 //! The counts of a whole play.
 
 /// What a play came to in numbers.
-#[derive(Clone, Copy, PartialEq, Eq, Debug)]
+#[derive(Clone, Copy)]
 pub struct Totals {
     /// Entries of the history.
     pub entries: u32,

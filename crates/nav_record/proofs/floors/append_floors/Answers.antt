@@ -1,19 +1,42 @@
-use Rattle.std.proofs.Common.{◌++◌, length, codes, decimal, get_or, arith, ap}
+use Rattle.std.proofs.Common.{ap, sym, ℕ, ◌+◌, List, ◌++◌, codes, decimal, length, take, drop}
 use Rattle.std.specs.List.{flat_map}
-use Rattle.std.proofs.lemmas.List.{append-nil, length-append}
+use Rattle.std.proofs.lemmas.List.{append-nil, take_all}
 use Rattle.nav_base.specs.declared.answers.FloorAt.{FloorAt}
 use Rattle.nav_record.specs.Texts.{floor_text}
-use Rattle.nav_record.proofs.RoomLaws.{next_fits}
+use Rattle.nav_record.proofs.AppendLaws.{extended, spelled, and_then, longer, handed, one_more, and_rest}
 use Rattle.nav_record.proofs.floors.append_floors.Goals as goal
 
-pub returns-in_err-append_numbers-clause-room : goal.returns-in_err-append_numbers-clause-room
-returns-in_err-append_numbers-clause-room c room =
-    let out = c.loop-floor.out in
+-- what stands before the floors
+abbrev head : ℕ → List FloorAt → List ℕ
+head k floors = codes "floors " ++ decimal k ++ codes " " ++ decimal (length floors)
+
+pub returns-in_err-append_fields : goal.returns-in_err-append_fields
+returns-in_err-append_fields c =
     let floors = c.args.floors.now in
-    let head = codes "floors " ++ decimal c.args.k ++ codes " " ++ decimal (length floors) in
-    let none : FloorAt = record { y = 0; area = 0 } in
-    let end = ap length (append-nil (floor_text (get_or floors c.loop-floor.floor-index none))) in
-    let next = next_fits floor_text c.args.out.now.items head out.items floors c.loop-floor.floor-index none c.loop-floor-test.true c.loop-floor.invariant.0 in
-    let kept = c.loop-floor.invariant.1 in
-    let all = length-append (head ++ flat_map floor_text floors) (codes "\n") in
-    cc (c.in_err-append_numbers.ensures.room (omega (arith, next, end, kept, all, room, out.ok.0, c.args.out.now.ok.0)))
+    handed _ _ c.from_residual.ensures.0 (longer _ (codes "\n") (longer (head c.args.k floors) (flat_map floor_text floors) c.in_err-append_fields.ensures))
+
+pub loop-floor-init : goal.loop-floor-init
+loop-floor-init c = spelled _ _ (sym (append-nil (head c.args.k c.args.floors.now))) c.in_ok-append_fields.ensures
+
+pub loop-floor-preserved : goal.loop-floor-preserved
+loop-floor-preserved c =
+    let i = c.loop-floor.floor-index in
+    let floors = c.args.floors.now in
+    let so_far = head c.args.k floors ++ flat_map floor_text (take i floors) in
+    spelled _ _ (one_more floor_text (head c.args.k floors) floors i _ c.loop-floor-test.true) (and_then so_far _ c.loop-floor.invariant c.in_ok-append_fields-2.ensures)
+
+pub returns-in_err-append_fields-2 : goal.returns-in_err-append_fields-2
+returns-in_err-append_fields-2 c =
+    let i = c.loop-floor.floor-index in
+    let floors = c.args.floors.now in
+    let so_far = head c.args.k floors ++ flat_map floor_text (take i floors) in
+    handed _ _ c.from_residual-in_err-append_fields-2.ensures.0
+    (longer _ (codes "\n") (spelled _ _ (and_rest floor_text (head c.args.k floors) floors i _ c.loop-floor-test.true)
+    (longer _ (flat_map floor_text (drop (i + 1) floors)) (and_then so_far _ c.loop-floor.invariant c.in_err-append_fields-2.ensures))))
+
+pub returns : goal.returns
+returns c =
+    let floors = c.args.floors.now in
+    let all = ap (λ ys. head c.args.k floors ++ flat_map floor_text ys) (take_all c.loop-floor.floor-index floors c.loop-floor-test.false) in
+    let taken = c.extend_from_slice.ensures in
+    and_then _ (codes "\n") (spelled _ _ all c.loop-floor.invariant) (extended _ _ _ (codes "\n") taken.items taken.capacity taken.succeeds)

@@ -1,28 +1,26 @@
-use Rattle.std.proofs.Common.{◌∙◌, ap, take, sym, [], pos, arith}
+use Rattle.std.proofs.Common.{ap, ◌+◌, [], take, drop}
 use Rattle.std.specs.List.{flat_map}
+use Rattle.std.proofs.lemmas.List.{take_all}
 use Rattle.nav_record.specs.Texts.{link_text}
-use Rattle.mesh_types.specs.declared.links.Link.{Link}
-use Rattle.nav_record.proofs.Kept.{still_kept, on_err}
-use Rattle.nav_record.proofs.RoomLaws.{next_fits}
+use Rattle.nav_record.proofs.AppendLaws.{nothing, spelled, and_then, longer, handed, one_more, and_rest}
 use Rattle.nav_record.proofs.paths.append_links.Goals as goal
 
-pub returns-in_err-append_link-clause-err : goal.returns-in_err-append_link-clause-err
-returns-in_err-append_link-clause-err c =
-    on_err c.from_residual.result
-    (ap (λ n. take n c.append_link.new.out.items) c.args.out.now.ok.0
-    ∙ still_kept c.args.out.now.items (flat_map link_text (take c.loop-link.link-index c.args.links.now)) c.loop-link.out.items c.append_link.new.out.items
-    c.loop-link.invariant.0
-    (ap (λ n. take n c.append_link.new.out.items) (sym c.loop-link.out.ok.0) ∙ c.in_err-append_link.ensures.err))
+pub loop-link-init : goal.loop-link-init
+loop-link-init c = nothing _ tt
 
-pub returns-in_err-append_link-clause-room : goal.returns-in_err-append_link-clause-room
-returns-in_err-append_link-clause-room c room =
-    let out = c.loop-link.out in
-    let none : Link = record {
-      from = record { tile = 0; index = 0 };
-      edge = 0;
-      to = record { tile = 0; index = 0 };
-      portal = record { left = record { x = pos 0; z = pos 0 }; right = record { x = pos 0; z = pos 0 } };
-    } in
-    let next = next_fits link_text c.args.out.now.items [] out.items c.args.links.now c.loop-link.link-index none c.loop-link-test.true c.loop-link.invariant.0 in
-    let kept = c.loop-link.invariant.1 in
-    cc (c.in_err-append_link.ensures.room (omega (arith, next, kept, room, out.ok.0, c.args.out.now.ok.0)))
+pub loop-link-preserved : goal.loop-link-preserved
+loop-link-preserved c =
+    let i = c.loop-link.link-index in
+    spelled _ _ (one_more link_text [] c.args.links.now i _ c.loop-link-test.true)
+    (and_then (flat_map link_text (take i c.args.links.now)) _ c.loop-link.invariant c.in_ok-append_link.ensures)
+
+pub returns-in_err-append_link : goal.returns-in_err-append_link
+returns-in_err-append_link c =
+    let i = c.loop-link.link-index in
+    let so_far = flat_map link_text (take i c.args.links.now) in
+    handed _ _ c.from_residual.ensures.0
+    (spelled _ _ (and_rest link_text [] c.args.links.now i _ c.loop-link-test.true)
+    (longer _ (flat_map link_text (drop (i + 1) c.args.links.now)) (and_then so_far _ c.loop-link.invariant c.in_err-append_link.ensures)))
+
+pub returns : goal.returns
+returns c = spelled _ _ (ap (flat_map link_text) (take_all c.loop-link.link-index c.args.links.now c.loop-link-test.false)) c.loop-link.invariant

@@ -1,22 +1,26 @@
-use Rattle.std.proofs.Common.{◌∙◌, ap, take, sym, [], arith}
+use Rattle.std.proofs.Common.{ap, ◌+◌, [], take, drop}
 use Rattle.std.specs.List.{flat_map}
-use Rattle.mesh_types.specs.Taut.{some_corner}
+use Rattle.std.proofs.lemmas.List.{take_all}
 use Rattle.nav_record.specs.Texts.{turn_text}
-use Rattle.nav_record.proofs.Kept.{still_kept, on_err}
-use Rattle.nav_record.proofs.RoomLaws.{next_fits}
+use Rattle.nav_record.proofs.AppendLaws.{nothing, spelled, and_then, longer, handed, one_more, and_rest}
 use Rattle.nav_record.proofs.paths.append_turns.Goals as goal
 
-pub returns-in_err-append_turn-clause-err : goal.returns-in_err-append_turn-clause-err
-returns-in_err-append_turn-clause-err c =
-    on_err c.from_residual.result
-    (ap (λ n. take n c.append_turn.new.out.items) c.args.out.now.ok.0
-    ∙ still_kept c.args.out.now.items (flat_map turn_text (take c.loop-turn.turn-index c.args.turns.now)) c.loop-turn.out.items c.append_turn.new.out.items
-    c.loop-turn.invariant.0
-    (ap (λ n. take n c.append_turn.new.out.items) (sym c.loop-turn.out.ok.0) ∙ c.in_err-append_turn.ensures.err))
+pub loop-turn-init : goal.loop-turn-init
+loop-turn-init c = nothing _ tt
 
-pub returns-in_err-append_turn-clause-room : goal.returns-in_err-append_turn-clause-room
-returns-in_err-append_turn-clause-room c room =
-    let out = c.loop-turn.out in
-    let next = next_fits turn_text c.args.out.now.items [] out.items c.args.turns.now c.loop-turn.turn-index some_corner c.loop-turn-test.true c.loop-turn.invariant.0 in
-    let kept = c.loop-turn.invariant.1 in
-    cc (c.in_err-append_turn.ensures.room (omega (arith, next, kept, room, out.ok.0, c.args.out.now.ok.0)))
+pub loop-turn-preserved : goal.loop-turn-preserved
+loop-turn-preserved c =
+    let i = c.loop-turn.turn-index in
+    spelled _ _ (one_more turn_text [] c.args.turns.now i _ c.loop-turn-test.true)
+    (and_then (flat_map turn_text (take i c.args.turns.now)) _ c.loop-turn.invariant c.in_ok-append_turn.ensures)
+
+pub returns-in_err-append_turn : goal.returns-in_err-append_turn
+returns-in_err-append_turn c =
+    let i = c.loop-turn.turn-index in
+    let so_far = flat_map turn_text (take i c.args.turns.now) in
+    handed _ _ c.from_residual.ensures.0
+    (spelled _ _ (and_rest turn_text [] c.args.turns.now i _ c.loop-turn-test.true)
+    (longer _ (flat_map turn_text (drop (i + 1) c.args.turns.now)) (and_then so_far _ c.loop-turn.invariant c.in_err-append_turn.ensures)))
+
+pub returns : goal.returns
+returns c = spelled _ _ (ap (flat_map turn_text) (take_all c.loop-turn.turn-index c.args.turns.now c.loop-turn-test.false)) c.loop-turn.invariant
