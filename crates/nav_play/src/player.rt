@@ -102,11 +102,11 @@ impl Player {
                 let number = self.request(Request::Add(shape))?;
                 self.adds.push(self.lane, number)
             }
-            Line::Remove(number) => self.remove(number),
             Line::Undo(j) => {
                 let dropped = self.adds.number(self.lane, j);
                 self.remove(dropped)
             }
+            Line::Remove(number) => self.remove(number),
             Line::Settle => {
                 let answer = settle(rt, alloc, &mut self.book, &mut self.workers, steps);
                 write_answered(&mut self.text, answer)

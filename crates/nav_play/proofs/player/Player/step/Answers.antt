@@ -21,7 +21,7 @@ returns-in_ok-number-in-Add-clause-played g c =
 pub returns-in-Undo-clause-played : goal.returns-in-Undo-clause-played
 returns-in-Undo-clause-played g c =
     at_line _ _ _ _ _ _ _ c.in-Undo.is
-    (undo_played _ _ _ _ _ _ c.number-dropped.ensures (c.remove-in-Undo.ensures _))
+    (undo_played _ _ _ _ _ _ c.number-dropped.ensures (c.remove.ensures _))
 
 pub returns-in-Settle-clause-played : goal.returns-in-Settle-clause-played
 returns-in-Settle-clause-played g c =
