@@ -9,8 +9,9 @@ use Rattle.std.proofs.lemmas.List.Elements.{All-set}
 use Rattle.nav_ground.specs.declared.history.Ground.{Ground}
 use Rattle.nav_desk.specs.declared.answers.Job.{Job}
 use Rattle.nav_desk.specs.BookState.{BookState}
-use Rattle.nav_desk.specs.Steps.{next_job}
-use Rattle.nav_play.specs.Jobs.{held_after_claim}
+use Rattle.nav_desk.specs.declared.answers.Submitted.{Submitted}
+use Rattle.nav_desk.specs.Steps.{next_job, submission}
+use Rattle.nav_play.specs.Jobs.{held_after_claim, submission_said, submit_said}
 use Rattle.nav_book.specs.declared.result.TileResult.{TileResult}
 use Rattle.nav_play.specs.Players.{AreHeld, IsHeld, held_job, job_built, jobs_of_held}
 
@@ -67,7 +68,13 @@ idle held worker free = by_case (get_or held worker None) refl free
     by_case None is none = job_held held worker None is
     by_case (Some made) is none = absurd (both_ways true none refl)
 
--- and holds the build of the job that it is given
+-- what a worker is answered that submits what it holds
+pub submit_answers : (book : BookState) (held : List (Option TileResult)) (worker : ℕ) (made : TileResult) (answer : Submitted) → Some made ≡ get_or held worker None
+    → answer ≡ submission book made.tile made.shapes → submission_said worker made.tile answer ≡ submit_said book worker (held_job held worker)
+submit_answers book held worker made answer is said =
+    ap (submission_said worker made.tile) said ∙ sym (ap (submit_said book worker) (job_held held worker (Some made) is))
+
+-- an idle worker holds the build of the job that it is given
 pub claim_jobs : (book : BookState) (held after : List (Option TileResult)) (worker : ℕ) (made : TileResult) (given : Option Job) (job : Job)
     → is_some (get_or held worker None) ≡ false → after ≡ set held worker (Some made) → given ≡ next_job book → given ≡ Some job → job_built made ≡ job
     → jobs_of_held after ≡ set (jobs_of_held held) worker (held_after_claim book (held_job held worker))

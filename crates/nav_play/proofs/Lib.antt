@@ -1,11 +1,13 @@
-pub mod Lists
-pub mod Passing
-pub mod JobLaws
-pub mod Held
-pub mod Wholes
-pub mod Playable
-pub mod Runs
-pub mod Tallying
-pub mod OneTotals
-pub mod Playing
+mod Lists
+mod Passing
+mod JobLaws
+mod Held
+mod Claiming
+mod Wholes
+mod Arms
+mod Playable
+mod Runs
+mod Tallying
+mod OneTotals
+mod Playing
 mod CountedPlays

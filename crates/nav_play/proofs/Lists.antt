@@ -4,6 +4,10 @@ use Rattle.std.proofs.lemmas.List.{replicate_more, drop_all, take_all, length-ma
 use Rattle.std.proofs.lemmas.List.Edits.{map_over_more}
 use Rattle.std.proofs.lemmas.Simd.{splat_is_map}
 
+-- nothing more
+pub none_more : (n : ℕ) → n ≡ n + 0
+none_more n = omega arith
+
 -- one more of the same
 pub one_more : {A : Type 0} (n : ℕ) (a : A) → replicate n a ++ a ∷ [] ≡ replicate (n + 1) a
 one_more n a = replicate_more n a

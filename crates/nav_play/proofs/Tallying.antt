@@ -17,6 +17,7 @@ use Rattle.nav_record.specs.declared.totals.Totals.{Totals}
 use Rattle.nav_play.specs.PlayRecord.{PlayState, AddsSome, state_after}
 use Rattle.nav_play.specs.PlayTotals.{CountAnswers, IsCounted, IsPathAnswer, cost_of, is_no_goal, is_no_path, is_no_start, is_path}
 use Rattle.nav_play.specs.Tallies.{HasCounted, HasCountedAnswer, HasRoom, no_answers, totals_with}
+use Rattle.nav_play.proofs.Lists.{none_more}
 use Rattle.nav_play.proofs.Runs.{IsUnderWay, begun, goes_on}
 
 -- what a line was answered, as answers that are counted
@@ -45,28 +46,22 @@ answer_counted state (questions.Floor x z) before after has =
 answer_counted state (questions.Ray from from_y to) before after has =
     record { said = []; fits = refl; counted = has.counted; few = omega arith; low = All-nil HasLowCost }
 
+-- a line that counts no answer
+no_answer : (state : PlayState) (line : Line) (before after : Totals) → IsCounted state line [] → after ≡ before → AddsAnswers state line before after
+no_answer state line before after fits same = record { said = []; fits = fits; counted = same; few = omega arith; low = All-nil HasLowCost }
+
 pub adds_answers : (state : PlayState) (line : Line) (before after : Totals) → HasCounted state line before after → AddsAnswers state line before after
 adds_answers state (Ask question) before after has = answer_counted state question before after has
-adds_answers state (Lane lane) before after same =
-    record { said = []; fits = refl; counted = same; few = omega arith; low = All-nil HasLowCost }
-adds_answers state (Add shape) before after same =
-    record { said = []; fits = refl; counted = same; few = omega arith; low = All-nil HasLowCost }
-adds_answers state (Remove number) before after same =
-    record { said = []; fits = refl; counted = same; few = omega arith; low = All-nil HasLowCost }
-adds_answers state (Undo j) before after same =
-    record { said = []; fits = refl; counted = same; few = omega arith; low = All-nil HasLowCost }
-adds_answers state Settle before after same =
-    record { said = []; fits = refl; counted = same; few = omega arith; low = All-nil HasLowCost }
-adds_answers state Aim before after same =
-    record { said = []; fits = refl; counted = same; few = omega arith; low = All-nil HasLowCost }
-adds_answers state (Claim worker) before after same =
-    record { said = []; fits = refl; counted = same; few = omega arith; low = All-nil HasLowCost }
-adds_answers state (Back worker) before after same =
-    record { said = []; fits = refl; counted = same; few = omega arith; low = All-nil HasLowCost }
-adds_answers state (Submit worker) before after same =
-    record { said = []; fits = refl; counted = same; few = omega arith; low = All-nil HasLowCost }
-adds_answers state Publish before after same =
-    record { said = []; fits = refl; counted = same; few = omega arith; low = All-nil HasLowCost }
+adds_answers state (Lane lane) before after same = no_answer state (Lane lane) before after refl same
+adds_answers state (Add shape) before after same = no_answer state (Add shape) before after refl same
+adds_answers state (Remove number) before after same = no_answer state (Remove number) before after refl same
+adds_answers state (Undo j) before after same = no_answer state (Undo j) before after refl same
+adds_answers state Settle before after same = no_answer state Settle before after refl same
+adds_answers state Aim before after same = no_answer state Aim before after refl same
+adds_answers state (Claim worker) before after same = no_answer state (Claim worker) before after refl same
+adds_answers state (Back worker) before after same = no_answer state (Back worker) before after refl same
+adds_answers state (Submit worker) before after same = no_answer state (Submit worker) before after refl same
+adds_answers state Publish before after same = no_answer state Publish before after refl same
 
 -- the totals are those of answers that are right, one at most for each line so far
 pub record IsTallied (first : PlayState) (lines : List Line) (done : ℕ) (state : PlayState) (totals : Totals) : Type 0 where
@@ -121,48 +116,48 @@ tally_total f g step none totals given is =
 
 paths_step : (t : Totals) (a : Answer) → (totals_with t a).paths ≡ t.paths + (cond (is_path a) 1 0)
 paths_step t (kinds.Path found) = refl
-paths_step t kinds.NoPath = omega arith
-paths_step t kinds.NoStart = omega arith
-paths_step t kinds.NoGoal = omega arith
-paths_step t (kinds.Floors floors) = omega arith
-paths_step t (kinds.Reached at) = omega arith
-paths_step t (kinds.Wall a b num den) = omega arith
+paths_step t kinds.NoPath = none_more _
+paths_step t kinds.NoStart = none_more _
+paths_step t kinds.NoGoal = none_more _
+paths_step t (kinds.Floors floors) = none_more _
+paths_step t (kinds.Reached at) = none_more _
+paths_step t (kinds.Wall a b num den) = none_more _
 
 no_path_step : (t : Totals) (a : Answer) → (totals_with t a).nopath ≡ t.nopath + (cond (is_no_path a) 1 0)
-no_path_step t (kinds.Path found) = omega arith
+no_path_step t (kinds.Path found) = none_more _
 no_path_step t kinds.NoPath = refl
-no_path_step t kinds.NoStart = omega arith
-no_path_step t kinds.NoGoal = omega arith
-no_path_step t (kinds.Floors floors) = omega arith
-no_path_step t (kinds.Reached at) = omega arith
-no_path_step t (kinds.Wall a b num den) = omega arith
+no_path_step t kinds.NoStart = none_more _
+no_path_step t kinds.NoGoal = none_more _
+no_path_step t (kinds.Floors floors) = none_more _
+no_path_step t (kinds.Reached at) = none_more _
+no_path_step t (kinds.Wall a b num den) = none_more _
 
 no_start_step : (t : Totals) (a : Answer) → (totals_with t a).nostart ≡ t.nostart + (cond (is_no_start a) 1 0)
-no_start_step t (kinds.Path found) = omega arith
-no_start_step t kinds.NoPath = omega arith
+no_start_step t (kinds.Path found) = none_more _
+no_start_step t kinds.NoPath = none_more _
 no_start_step t kinds.NoStart = refl
-no_start_step t kinds.NoGoal = omega arith
-no_start_step t (kinds.Floors floors) = omega arith
-no_start_step t (kinds.Reached at) = omega arith
-no_start_step t (kinds.Wall a b num den) = omega arith
+no_start_step t kinds.NoGoal = none_more _
+no_start_step t (kinds.Floors floors) = none_more _
+no_start_step t (kinds.Reached at) = none_more _
+no_start_step t (kinds.Wall a b num den) = none_more _
 
 no_goal_step : (t : Totals) (a : Answer) → (totals_with t a).nogoal ≡ t.nogoal + (cond (is_no_goal a) 1 0)
-no_goal_step t (kinds.Path found) = omega arith
-no_goal_step t kinds.NoPath = omega arith
-no_goal_step t kinds.NoStart = omega arith
+no_goal_step t (kinds.Path found) = none_more _
+no_goal_step t kinds.NoPath = none_more _
+no_goal_step t kinds.NoStart = none_more _
 no_goal_step t kinds.NoGoal = refl
-no_goal_step t (kinds.Floors floors) = omega arith
-no_goal_step t (kinds.Reached at) = omega arith
-no_goal_step t (kinds.Wall a b num den) = omega arith
+no_goal_step t (kinds.Floors floors) = none_more _
+no_goal_step t (kinds.Reached at) = none_more _
+no_goal_step t (kinds.Wall a b num den) = none_more _
 
 cost_step : (t : Totals) (a : Answer) → (totals_with t a).cost ≡ t.cost + cost_of a
 cost_step t (kinds.Path found) = refl
-cost_step t kinds.NoPath = omega arith
-cost_step t kinds.NoStart = omega arith
-cost_step t kinds.NoGoal = omega arith
-cost_step t (kinds.Floors floors) = omega arith
-cost_step t (kinds.Reached at) = omega arith
-cost_step t (kinds.Wall a b num den) = omega arith
+cost_step t kinds.NoPath = none_more _
+cost_step t kinds.NoStart = none_more _
+cost_step t kinds.NoGoal = none_more _
+cost_step t (kinds.Floors floors) = none_more _
+cost_step t (kinds.Reached at) = none_more _
+cost_step t (kinds.Wall a b num den) = none_more _
 
 -- they count the answers
 pub counts : (given : List Answer) (totals : Totals) → totals ≡ fold totals_with no_answers given → CountAnswers given totals

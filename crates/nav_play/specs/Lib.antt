@@ -3,5 +3,6 @@ pub mod Jobs
 pub mod PlayRecord
 pub mod PlayTotals
 pub mod Tallies
-pub mod Players
 pub mod Work
+pub mod Players
+pub mod Claims

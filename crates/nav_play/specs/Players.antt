@@ -1,15 +1,18 @@
 -- What a player is seen as, and which lines it can play.
-use Rattle.std.specs.Prelude.{◌≡◌, ℕ, ◌<◌, List, [], map, Option, Some, None, All, ⊤, length, get_or}
+use Rattle.std.specs.Prelude.{◌≡◌, ℕ, ◌+◌, ◌<◌, List, [], ◌++◌, map, Option, Some, None, All, ⊤, length, get_or}
 use Rattle.std.specs.Option.{option_map}
 use Rattle.nav_ground.specs.declared.history.Ground.{Ground}
+use Rattle.nav_ground.specs.declared.history.Request.{Request}
 use Rattle.nav_ground.specs.Limits.{IsShape}
 use Rattle.nav_desk.specs.declared.answers.Job.{Job}
+use Rattle.nav_desk.specs.Steps.{requested}
 use Rattle.nav_book.specs.declared.result.TileResult.{TileResult}
 use Rattle.nav_book.specs.Results.{IsBuild}
 use Rattle.nav_query.specs.Questions.{IsAnswerable}
 use Rattle.nav_play.specs.declared.player.Player.{Player}
-use Rattle.nav_play.specs.PlayRecord.{PlayState}
-use Rattle.nav_play.specs.Tallies.{no_answers}
+use Rattle.nav_play.specs.PlayRecord.{PlayState, AddsSome, IsSaid, request_text, state_after}
+use Rattle.nav_play.specs.Tallies.{HasCounted, no_answers}
+use Rattle.nav_play.specs.Work.{jobs_of}
 use Rattle.nav_script.specs.declared.line.Line.{Line}
 use Rattle.nav_script.specs.declared.line.Line.TheVariants.{Lane, Ask, Add, Remove, Undo, Settle, Aim, Claim, Back, Submit, Publish}
 use Rattle.nav_script.specs.declared.script.Script.{Script}
@@ -64,3 +67,29 @@ IsPlayable lanes workers (Claim worker) = worker < workers
 IsPlayable lanes workers (Back worker) = worker < workers
 IsPlayable lanes workers (Submit worker) = worker < workers
 IsPlayable lanes workers Publish = ⊤
+
+-- a player has come to a state
+pub record HasState (player : Player) (state : PlayState) : Type 0 where
+  pub book : player.book.state ≡ state.book
+  pub lane : player.lane ≡ state.lane
+  pub adds : player.adds ≡ state.adds
+  pub held : jobs_of_held player.workers ≡ state.held
+
+-- a player has played a line: what the line says is written, the state is the one after it, its answer is counted, the workers hold builds, the
+-- lane is one of the lanes, and the line's steps are taken
+pub record HasPlayed (line : Line) (before after : Player) (steps later : ℕ) : Type 0 where
+  pub text : AddsSome (IsSaid (player_state before) line) before.text.items after.text.items
+  pub state : HasState after (state_after (player_state before) line)
+  pub totals : HasCounted (player_state before) line before.totals after.totals
+  pub held : AreHeld before.book.state.whole after.workers
+  pub lane : after.lane < length after.adds
+  pub count : later ≡ steps + jobs_of (player_state before) line
+
+-- a player has made a request of its lane and written what became of it; the rest is as before
+pub record HasRequested (request : Request) (before after : Player) : Type 0 where
+  pub text : after.text.items ≡ before.text.items ++ request_text before.book.state request
+  pub book : after.book.state ≡ requested before.book.state before.lane request
+  pub lane : after.lane ≡ before.lane
+  pub adds : after.adds ≡ before.adds
+  pub workers : after.workers ≡ before.workers
+  pub totals : after.totals ≡ before.totals

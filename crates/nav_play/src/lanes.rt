@@ -23,7 +23,6 @@ impl Model for Lanes {
 
 impl Lanes {
     /// So many lanes, without numbers.
-    #[tactic(auto, using(crate::proofs::Lists::one_more))]
     pub(crate) fn new(alloc: Global, count: u32) -> Result<Lanes, AllocError>
         ensures { IfOk result (λ lanes. lanes ≡ replicate count []) }
     {

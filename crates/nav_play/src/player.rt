@@ -1,14 +1,14 @@
 //! A play under way.
 
-ghost use Rattle.std.specs.Prelude.{◌≡◌, ◌+◌, ◌<◌, ◌++◌, IfOk, OnOk, length};
+ghost use Rattle.std.specs.Prelude.{◌≡◌, ℕ, ◌+◌, ◌<◌, ◌++◌, IfOk, IsOkAnd, OnOk, length};
 ghost use Rattle.nav_ground.specs.History.{IsRequest};
-ghost use Rattle.nav_desk.specs.Steps.{requested};
-ghost use Rattle.nav_play.specs.PlayRecord.{AddsSome, IsAnswered, IsSaid, IsTextFrom, number_added, number_got, request_text, state_after};
+ghost use Rattle.nav_play.specs.PlayRecord.{IsTextFrom, number_added, number_got};
 ghost use Rattle.nav_play.specs.PlayTotals.{AreTotalsFrom};
-ghost use Rattle.nav_play.specs.Players.{HasBegun, IsPlayable, IsSteady, player_state};
-ghost use Rattle.nav_play.specs.Tallies.{HasCounted, HasCountedAnswer, HasRoom, totals_at};
+ghost use Rattle.nav_play.specs.Players.{HasBegun, HasPlayed, HasRequested, IsPlayable, IsSteady, player_state};
+ghost use Rattle.nav_play.specs.Tallies.{HasRoom, totals_at};
 ghost use Rattle.nav_play.specs.Work.{jobs_from, jobs_of};
 ghost use Rattle.nav_query.specs.Questions.{IsAnswerable};
+ghost use Rattle.nav_record.specs.Texts.{step_text};
 ghost use Rattle.nav_script.specs.Limits.{IsScript};
 ghost use Rattle.nav_script.specs.declared.script.Way.TheVariants.{Play};
 ghost use Rattle.nav_steps.specs.Counts.{HasRisenAtMost};
@@ -89,11 +89,7 @@ impl Player {
         requires playable { IsPlayable (length self.old.adds) (length self.old.workers) line.now }
         requires steady { IsSteady self.old }
         requires room { HasRoom self.old.totals }
-        ensures text { OnOk result (AddsSome (IsSaid (player_state self.old) line.now) self.old.text.items self.new.text.items) }
-        ensures state { OnOk result (player_state self.new ≡ state_after (player_state self.old) line.now) }
-        ensures totals { OnOk result (HasCounted (player_state self.old) line.now self.old.totals self.new.totals) }
-        ensures steady { OnOk result (IsSteady self.new) }
-        ensures steps { OnOk result (steps.new ≡ steps.old + jobs_of (player_state self.old) line.now) }
+        ensures played { OnOk result (HasPlayed line.now self.old self.new steps.old steps.new) }
         ensures most { HasRisenAtMost (jobs_of (player_state self.old) line.now) steps.old steps.new }
     {
         match *line {
@@ -106,22 +102,22 @@ impl Player {
                 let number = self.request(Request::Add(shape))?;
                 self.adds.push(self.lane, number)
             }
-            Line::Remove(number) => self.remove(number),
             Line::Undo(j) => {
                 let dropped = self.adds.number(self.lane, j);
                 self.remove(dropped)
             }
+            Line::Remove(number) => self.remove(number),
             Line::Settle => {
-                let answer = settle(rt, alloc, &mut self.book, &mut self.workers, steps)?;
-                write_step(&mut self.text, &answer)
+                let answer = settle(rt, alloc, &mut self.book, &mut self.workers, steps);
+                write_answered(&mut self.text, answer)
             }
             Line::Aim => {
                 let k = self.book.aim();
                 write_step(&mut self.text, &StepAnswer::Aim { k })
             }
             Line::Claim(worker) => {
-                let answer = claim(alloc, &mut self.book, &mut self.workers, worker, steps)?;
-                write_step(&mut self.text, &answer)
+                let answer = claim(alloc, &mut self.book, &mut self.workers, worker, steps);
+                write_answered(&mut self.text, answer)
             }
             Line::Back(worker) => {
                 let answer = put_back(&mut self.book, &mut self.workers, worker);
@@ -132,8 +128,8 @@ impl Player {
                 write_step(&mut self.text, &answer)
             }
             Line::Publish => {
-                let answer = publish(rt, alloc, &mut self.book)?;
-                write_step(&mut self.text, &answer)
+                let answer = publish(rt, alloc, &mut self.book);
+                write_answered(&mut self.text, answer)
             }
         }
     }
@@ -141,11 +137,9 @@ impl Player {
     /// Answers a question from the published mesh.
     fn ask(&mut self, alloc: Global, question: &Question) -> Result<(), AllocError>
         requires answerable { IsAnswerable question.now }
+        requires steady { IsSteady self.old }
         requires room { HasRoom self.old.totals }
-        ensures text { OnOk result (AddsSome (IsAnswered self.old.book.state question.now) self.old.text.items self.new.text.items) }
-        ensures totals { OnOk result (HasCountedAnswer self.old.book.state question.now self.old.totals self.new.totals) }
-        ensures state { player_state self.new ≡ player_state self.old }
-        ensures workers { self.new.workers ≡ self.old.workers }
+        ensures { (s : ℕ) → OnOk result (HasPlayed (Line.Ask question.now) self.old self.new s s) }
     {
         let (k, answer) = self.book.ask(alloc, question)?;
         count(&mut self.totals, question, &answer);
@@ -155,13 +149,7 @@ impl Player {
     /// Makes a request of the current lane that the obstacle with a number goes.
     fn remove(&mut self, number: u32) -> Result<(), AllocError>
         requires { IsSteady self.old }
-        ensures text { OnOk result (self.new.text.items ≡ self.old.text.items ++ request_text self.old.book.state (Request.Remove number)) }
-        ensures book { self.new.book.state ≡ requested self.old.book.state self.old.lane (Request.Remove number) }
-        ensures lane { self.new.lane ≡ self.old.lane }
-        ensures adds { self.new.adds ≡ self.old.adds }
-        ensures workers { self.new.workers ≡ self.old.workers }
-        ensures totals { self.new.totals ≡ self.old.totals }
-        ensures steady_after { IsSteady self.new }
+        ensures { (s : ℕ) → OnOk result (HasPlayed (Line.Remove number) self.old self.new s s) }
     {
         let _ = self.request(Request::Remove(number))?;
         Ok(())
@@ -169,16 +157,9 @@ impl Player {
 
     /// Makes a request of the current lane and writes what became of it. Gives the number of the obstacle that it added, or 0.
     fn request(&mut self, request: Request) -> Result<u32, AllocError>
-        requires request { IsRequest request }
-        requires steady { IsSteady self.old }
+        requires { IsRequest request }
         ensures number { IfOk result (λ number. number ≡ number_got self.old.book.state request) }
-        ensures text { OnOk result (self.new.text.items ≡ self.old.text.items ++ request_text self.old.book.state request) }
-        ensures book { self.new.book.state ≡ requested self.old.book.state self.old.lane request }
-        ensures lane { self.new.lane ≡ self.old.lane }
-        ensures adds { self.new.adds ≡ self.old.adds }
-        ensures workers { self.new.workers ≡ self.old.workers }
-        ensures totals { self.new.totals ≡ self.old.totals }
-        ensures steady_after { IsSteady self.new }
+        ensures requested { OnOk result (HasRequested request self.old self.new) }
     {
         match self.book.request(self.lane, request) {
             Ok((number, reply)) => {
@@ -191,6 +172,17 @@ impl Player {
             }
         }
     }
+}
+
+/// Writes what a step is answered, where memory sufficed for the step.
+fn write_answered(
+    text: &mut Vec<u8>,
+    answer: Result<StepAnswer, AllocError>,
+) -> Result<(), AllocError>
+    ensures { OnOk result (IsOkAnd answer (λ said. text.new.items ≡ text.old.items ++ step_text said)) }
+{
+    let answer = answer?;
+    write_step(text, &answer)
 }
 
 /// The totals of a play at its end, from those of its answers.

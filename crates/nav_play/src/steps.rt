@@ -4,7 +4,8 @@ ghost use Rattle.std.specs.Prelude.{◌≡◌, ◌+◌, ◌<◌, [], None, IfOk,
 ghost use Rattle.nav_book.specs.Results.{IsBuild};
 ghost use Rattle.nav_desk.specs.BookState.{IsBook};
 ghost use Rattle.nav_desk.specs.Steps.{IsJob, after_publish, publication};
-ghost use Rattle.nav_play.specs.Jobs.{claim_said, held_after_claim, book_after_claim, jobs_of_claim, back_said, book_after_back, submit_said, book_after_submit, publication_said};
+ghost use Rattle.nav_play.specs.Claims.{HasClaimed};
+ghost use Rattle.nav_play.specs.Jobs.{jobs_of_claim, back_said, book_after_back, submit_said, book_after_submit, publication_said};
 ghost use Rattle.nav_play.specs.Players.{AreHeld, held_job, job_built, jobs_of_held};
 ghost use Rattle.nav_play.specs.Settling.{IsUnclaimed, after_settle, all_built, awaited_tiles, settling};
 ghost use Rattle.nav_steps.specs.Counts.{HasRisenAtMost};
@@ -27,11 +28,7 @@ pub(crate) fn claim<L: Ledger>(
 ) -> Result<StepAnswer, AllocError>
     requires there { worker < length workers.old }
     requires held { AreHeld book.old.state.whole workers.old }
-    ensures answer { IfOk result (λ answer. answer ≡ claim_said book.old.state worker (held_job workers.old worker)) }
-    ensures book { OnOk result (book.new.state ≡ book_after_claim book.old.state (held_job workers.old worker)) }
-    ensures jobs { OnOk result (jobs_of_held workers.new ≡ slice_set (jobs_of_held workers.old) worker (held_after_claim book.old.state (held_job workers.old worker))) }
-    ensures held { OnOk result (AreHeld book.new.state.whole workers.new) }
-    ensures steps { OnOk result (steps.new ≡ steps.old + jobs_of_claim book.old.state (held_job workers.old worker)) }
+    ensures claimed { IfOk result (HasClaimed worker book.old.state book.new.state workers.old workers.new steps.old steps.new) }
     ensures most { HasRisenAtMost (jobs_of_claim book.old.state (held_job workers.old worker)) steps.old steps.new }
 {
     if workers.is_busy(worker) {
@@ -73,7 +70,7 @@ pub(crate) fn put_back(book: &mut Book, workers: &mut Workers, worker: u32) -> S
     ensures answer { result ≡ back_said worker (held_job workers.old worker) }
     ensures book { book.new.state ≡ book_after_back book.old.state (held_job workers.old worker) }
     ensures jobs { jobs_of_held workers.new ≡ slice_set (jobs_of_held workers.old) worker None }
-    ensures held { AreHeld book.new.state.whole workers.new }
+    ensures held { AreHeld book.old.state.whole workers.new }
 {
     match workers.take(worker) {
         None => StepAnswer::Idle { worker },
@@ -91,7 +88,7 @@ pub(crate) fn submit(book: &mut Book, workers: &mut Workers, worker: u32) -> Ste
     ensures answer { result ≡ submit_said book.old.state worker (held_job workers.old worker) }
     ensures book { book.new.state ≡ book_after_submit book.old.state (held_job workers.old worker) }
     ensures jobs { jobs_of_held workers.new ≡ slice_set (jobs_of_held workers.old) worker None }
-    ensures held { AreHeld book.new.state.whole workers.new }
+    ensures held { AreHeld book.old.state.whole workers.new }
 {
     match workers.take(worker) {
         None => StepAnswer::Idle { worker },
@@ -135,8 +132,8 @@ pub(crate) fn settle<R: Wait, L: Ledger>(
     ensures book { OnOk result (book.new.state ≡ after_settle book.old.state) }
     // So the publish at its end never has to wait for a tile.
     ensures shown { OnOk result (book.new.state.published ≡ length book.old.state.history) }
-    ensures jobs { jobs_of_held workers.new ≡ replicate (length (jobs_of_held workers.old)) None }
-    ensures held { AreHeld book.new.state.whole workers.new }
+    ensures jobs { OnOk result (jobs_of_held workers.new ≡ replicate (length (jobs_of_held workers.old)) None) }
+    ensures held { OnOk result (AreHeld book.old.state.whole workers.new) }
     ensures steps { OnOk result (steps.new ≡ steps.old + length (awaited_tiles (settling book.old.state))) }
     ensures most { HasRisenAtMost (length (awaited_tiles (settling book.old.state))) steps.old steps.new }
 {

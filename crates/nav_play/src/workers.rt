@@ -23,7 +23,6 @@ impl Model for Workers {
 
 impl Workers {
     /// So many workers, which hold nothing.
-    #[tactic(auto, using(crate::proofs::Lists::one_more))]
     pub(crate) fn new(alloc: Global, count: u32) -> Result<Workers, AllocError>
         ensures { IfOk result (λ workers. workers ≡ replicate count None) }
     {

@@ -2,18 +2,15 @@ use Rattle.std.proofs.Common.{◌≡◌, ◌∙◌, ap, sym}
 use Rattle.nav_desk.specs.BookState.{BookState}
 use Rattle.nav_desk.specs.Steps.{after_aim, after_publish}
 use Rattle.nav_play.specs.Settling.{all_built, awaited_tiles, settling}
-use Rattle.nav_play.proofs.Held.{jobs_none}
+use Rattle.nav_play.proofs.Held.{held_none, jobs_none}
 use Rattle.nav_play.proofs.JobLaws.{settled_shows}
 use Rattle.nav_play.proofs.steps.settle.Goals as goal
 
-pub returns-in_err-build_all-clause-jobs : goal.returns-in_err-build_all-clause-jobs
-returns-in_err-build_all-clause-jobs g c = jobs_none c.args.workers.now c.drop_all.new.self c.drop_all.ensures
-
-pub returns-in_err-publish-clause-jobs : goal.returns-in_err-publish-clause-jobs
-returns-in_err-publish-clause-jobs g c = jobs_none c.args.workers.now c.drop_all.new.self c.drop_all.ensures
-
 pub returns-clause-jobs : goal.returns-clause-jobs
 returns-clause-jobs g c = jobs_none c.args.workers.now c.drop_all.new.self c.drop_all.ensures
+
+pub returns-clause-held : goal.returns-clause-held
+returns-clause-held g c = held_none c.args.book.now.state.whole c.drop_all.new.self _ c.drop_all.ensures
 
 pub returns-clause-shown : goal.returns-clause-shown
 returns-clause-shown g c =

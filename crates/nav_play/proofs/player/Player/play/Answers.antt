@@ -2,6 +2,7 @@ use Rattle.std.proofs.Common.{◌∙◌, ap, length, refl, sym, arith}
 use Rattle.std.specs.Option.{option_map}
 use Rattle.std.proofs.lemmas.List.{length-map}
 use Rattle.nav_play.specs.Players.{job_built}
+use Rattle.nav_play.proofs.Arms.{state_is, still_steady}
 use Rattle.nav_play.proofs.Playable.{line_playable}
 use Rattle.nav_play.proofs.Playing.{all_steps, are_totals, line_broken, no_line_played, one_line_played, whole_text}
 use Rattle.nav_play.proofs.Tallying.{room}
@@ -30,11 +31,13 @@ returns-in_err-step-clause-most g c =
     line_broken _ _ _ _ _ _ _ _ _ _ _ c.loop-line.invariant.playing c.as_slice-line-items.ensures c.loop-line-test.true c.step.ensures.most
 
 pub loop-line-preserved : goal.loop-line-preserved
-loop-line-preserved g c = record {
-  playing = one_line_played _ _ _ _ _ _ _ _ _ _ _ _ _ _ c.loop-line.invariant.playing c.as_slice-line-items.ensures c.loop-line-test.true
-      c.in_ok-step.ensures.text c.in_ok-step.ensures.state c.in_ok-step.ensures.totals c.in_ok-step.ensures.steps;
-  steady = c.in_ok-step.ensures.steady;
-}
+loop-line-preserved g c =
+    let done = c.in_ok-step.ensures.played in
+    record {
+      playing = one_line_played _ _ _ _ _ _ _ _ _ _ _ _ _ _ c.loop-line.invariant.playing c.as_slice-line-items.ensures c.loop-line-test.true
+          done.text (state_is _ _ done.state) done.totals done.count;
+      steady = still_steady _ _ _ _ _ done;
+    }
 
 pub returns-clause-text : goal.returns-clause-text
 returns-clause-text g c =
