@@ -1,5 +1,5 @@
 -- What contracts see of a press and its eyes, and what the calls make of that. What they see of a told list is in `Lists.antt`.
-use Rattle.std.specs.Prelude.{◌≡◌, ℕ, nat_lt, if◌then◌else◌, ◌<◌, ◌≤◌, List, ◌++◌, length}
+use Rattle.std.specs.Prelude.{◌≡◌, nat_lt, if◌then◌else◌, ◌<◌, ◌≤◌, List, ◌++◌, length}
 use Rattle.std.specs.Arc.{arc_value}
 use mathlib.Core.List.{IsPrefix}
 use Rattle.logbook.specs.Pages.{Book}

@@ -9,10 +9,10 @@ use Rattle.nav_version.specs.Pairs.{PressView, EyeView, press_of, eye_of}
 use Rattle.nav_version.specs.VersionRule.{IsKept, origin}
 
 abbrev pub press_view : press.Inside → PressView
-press_view inside = let version = inside.writer.desk.shown.value.version in press_of inside.history.pair (arc_value version.ground) version.entries
+press_view inside = let shown = inside.stage in press_of inside.history.pair (arc_value shown.version.ground) shown.told.entries
 
 abbrev pub IsPressKept : press.Inside → Type 0
-IsPressKept inside = IsKept inside.writer.desk.shown.value (view inside.writer.desk.place) inside.history
+IsPressKept inside = IsKept inside.stage.told inside.history
 
 abbrev pub eye_view : eye.Inside → EyeView
 eye_view inside = eye_of inside.told.pair inside.ground.value inside.told.entries

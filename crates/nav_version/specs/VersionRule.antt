@@ -1,14 +1,14 @@
 -- The rule of published versions, which holds between any two steps, and its four kinds of step.
-use Rattle.std.specs.Prelude.{◌≡◌, ℕ, List, Option, Some, None, Result, IfOk, IfSome}
+use Rattle.std.specs.Prelude.{◌≡◌, ◌<◌, ℕ, List, Option, Some, IfSome, length}
 use Rattle.std.specs.Arc.{arc_value}
 use mathlib.Core.Option.{some}
 use mathlib.Core.List.{IsPrefix}
 use lib.ListN.{get_elem?}
-use Rattle.std.specs.declared.alloc.AllocError.{AllocError}
 use Rattle.logbook.specs.Pages.{Book}
 use Rattle.nav_base.specs.declared.answers.Question.{Question}
 use Rattle.nav_ground.specs.declared.history.Ground.{Ground}
 use Rattle.mesh_types.specs.declared.answers.Answer.{Answer}
+use Rattle.mesh_types.specs.Builds.{build_of}
 use Rattle.mesh_types.specs.Right.{IsRight}
 use Rattle.nav_query.specs.Questions.{HasLowCost}
 use Rattle.nav_version.specs.declared.shown.Shown.{Shown}
@@ -37,13 +37,11 @@ pub record Stands (shown : Shown) (known : List (Option Shown)) : Type 0 where
   pub is : IsShown shown
   pub each : (seat : ℕ) (one : Option Shown) → get_elem? known seat ≡ some one → IsSo shown one
 
--- what the press keeps: what is shown is right, of the history's pair, and known; its entries begin the history, which is longer only where
--- a publishing was refused once the history had grown
-pub record IsKept (shown : Shown) (known : Option Shown) (history : ToldView) : Type 0 where
-  pub is : IsShown shown
-  pub knows : known ≡ Some shown
-  pub pair : shown.told.pair ≡ history.pair
-  pub begins : IsPrefix shown.version.entries history.entries
+-- what the press keeps: the list that is shown is of the history's pair, and begins the history, which is longer only where a publishing was
+-- refused once the history had grown
+pub record IsKept (told history : ToldView) : Type 0 where
+  pub pair : told.pair ≡ history.pair
+  pub begins : IsPrefix told.entries history.entries
 
 -- publish: the next version is shown, and the press knows it
 abbrev pub Publishes : Option Shown → Shown → Shown → Option Shown → Type 0
@@ -55,10 +53,11 @@ pub record Enters (before : Option Shown) (shown same : Shown) (after : Option S
   pub so : IsSo shown before
   pub kept : after ≡ before
 
--- an eye entered, and got the list of the version that it took, with an answer to a question that is right in that version's mesh
-pub record Looked (known : Option Shown) (question : Question) (seen : ToldView × Result Answer AllocError) : Type 0 where
-  pub shown : Shown
-  pub is : IsShown shown
-  pub so : IsSo shown known
-  pub told : seen.0 ≡ shown.told
-  pub right : IfOk seen.1 (λ answer. IsRight shown.version.mesh question answer × HasLowCost answer)
+-- a version that was shown answered a question: its list goes on from the one that was seen, and the answer is right in its mesh, which is
+-- that of the ground and the list
+pub record HasFound (ground : Ground) (question : Question) (seen : ToldView) (found : ToldView × Answer) : Type 0 where
+  pub pair : found.0.pair ≡ seen.pair
+  pub goes_on : IsPrefix seen.entries found.0.entries
+  pub few : length found.0.entries < 4294967295
+  pub right : IsRight (build_of ground found.0.entries (length found.0.entries)) question found.1
+  pub low_cost : HasLowCost found.1

@@ -1,28 +1,28 @@
 //! An eye, which reads what is published.
 
-ghost use Rattle.std.specs.Prelude.{◌≡◌, ◌⊎◌, IfOk, IfSome, OnOk, OnErr, Some, length};
+ghost use Rattle.std.specs.Prelude.{◌≡◌, ◌⊎◌, IfOk, OnOk, OnErr, Some, length};
+ghost use Rattle.std.specs.Arc.{arc_value};
 ghost use Rattle.std.specs.Option.{option_map};
 ghost use mathlib.Core.List.{IsPrefix};
 ghost use Rattle.left_right.specs.Sides.{view};
+ghost use Rattle.nav_ground.specs.declared.history.Ground.{Ground};
 ghost use Rattle.mesh_types.specs.Builds.{build_of};
 ghost use Rattle.mesh_types.specs.Right.{IsRight};
 ghost use Rattle.nav_query.specs.Questions.{HasLowCost, IsAnswerable};
 ghost use Rattle.nav_version.specs.Pairs.{HasLooked, after_learning};
-ghost use Rattle.nav_version.specs.VersionRule.{Looked, origin};
+ghost use Rattle.nav_version.specs.VersionRule.{HasFound, IsShown, origin};
 
-use crate::rule::{Entering, Versions};
+use crate::rule::Entering;
 use crate::shown::Shown;
+use crate::stage::Looker;
 use crate::told::Told;
 use core::mem::replace_with;
-use left_right::reader::Reader;
 use mesh_types::Answer;
 use nav_base::Question;
 use nav_ground::Ground;
 use std::alloc::{AllocError, Global};
 use std::marker::Model;
 use std::snapshot::Snapshot;
-
-type Looker = Reader<Shown, Option<Shown>, Versions>;
 
 /// One reader of a pair's published versions.
 ///
@@ -46,24 +46,44 @@ impl Model for Eye {
     ghost invariant = { IsEyeKept };
 }
 
-// Answers a question from the version that is shown, and gives the version's list; nothing where the press has ended.
+// An answer to a question from a version that is shown, and the version's list. It is refused for want of memory; and where the version
+// were a shorter one than was seen, which no press shows.
+fn answered(
+    alloc: Global,
+    shown: &Shown,
+    question: &Question,
+    seen: &Told,
+) -> Result<(Told, Answer), AllocError>
+    requires question { IsAnswerable question.now }
+    requires shown { IsShown shown.now }
+    requires pair { seen.now.pair ≡ shown.now.told.pair }
+    ensures { IfOk result (HasFound (arc_value shown.now.version.ground) question.now seen.now) }
+{
+    if !shown.told.goes_on(seen) {
+        return Err(AllocError);
+    }
+    let answer = nav_query::answer(alloc, &shown.version.get().mesh, question)?;
+    Ok((shown.told.again(), answer))
+}
+
+// The same from the version that is shown now. It is refused, too, where the press has ended.
 fn look(
     reader: Looker,
-    asked: (Global, &Question),
-) -> (Looker, Option<(Told, Result<Answer, AllocError>)>)
-    requires { IsAnswerable asked.1.now }
+    asked: (Global, &Question, &Told),
+) -> (Looker, Result<(Told, Answer), AllocError>)
+    requires question { IsAnswerable asked.1.now }
+    requires known { (ground : Ground) × (option_map origin (view reader.place) ≡ Some (asked.2.now.pair, ground)) }
     ensures same { view result.0.place ≡ view reader.place }
-    ensures looked { IfSome result.1 (λ seen. Looked (view reader.place) asked.entry.1.now seen) }
+    ensures found { (ground : Ground) → option_map origin (view reader.place) ≡ Some (asked.entry.2.now.pair, ground)
+        → IfOk result.1 (HasFound ground asked.entry.1.now asked.entry.2.now) }
 {
-    let (alloc, question) = asked;
+    let (alloc, question, seen) = asked;
     match reader.enter_as::<Entering>() {
         Ok(reading) => {
-            let shown = reading.get();
-            let told = shown.told.again();
-            let answer = nav_query::answer(alloc, &shown.version.get().mesh, question);
-            (reading.leave(), Some((told, answer)))
+            let found = answered(alloc, reading.get(), question, seen);
+            (reading.leave(), found)
         }
-        Err(reader) => (reader, None),
+        Err(reader) => (reader, Err(AllocError)),
     }
 }
 
@@ -115,13 +135,9 @@ impl Eye {
         // After a refusal the eye has looked all the same, or nothing has changed.
         ensures refused { OnErr result (HasLooked self.old self.new ⊎ (self.new ≡ self.old)) }
     {
-        let looked = replace_with(&mut self.reader, (alloc, question), look);
-        let (told, answer) = looked.ok_or(AllocError)?;
-        if !told.goes_on(&self.told) {
-            return Err(AllocError);
-        }
+        let (told, answer) = replace_with(&mut self.reader, (alloc, question, &self.told), look)?;
         let length = told.length();
         self.told = told;
-        Ok((length, answer?))
+        Ok((length, answer))
     }
 }

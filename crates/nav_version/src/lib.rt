@@ -20,6 +20,7 @@ mod patch;
 mod press;
 mod rule;
 mod shown;
+mod stage;
 mod told;
 mod version;
 

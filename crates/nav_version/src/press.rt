@@ -1,35 +1,29 @@
 //! The press, which publishes versions.
 
-ghost use Rattle.std.specs.Prelude.{◌≡◌, ◌++◌, IfOk, IfErr, OnOk, OnErr, MatchBool, Some, length, replicate};
+ghost use Rattle.std.specs.Prelude.{◌≡◌, ◌++◌, IfOk, IfErr, OnOk, OnErr, MatchBool, length, replicate};
 ghost use Rattle.std.specs.Arc.{arc_value};
-ghost use Rattle.left_right.specs.Sides.{view};
 ghost use Rattle.nav_version.specs.Pairs.{IsPatch, Shows, first_eye};
-ghost use Rattle.nav_version.specs.VersionRule.{IsShown, origin};
 ghost use Rattle.nav_version.specs.Versions.{IsVersion};
 
 use crate::eye::Eye;
 use crate::history::History;
 use crate::next::next_version;
 use crate::patch::Patch;
-use crate::rule::{Learning, Publishing, Telling, Versions};
 use crate::shown::Shown;
+use crate::stage::Stage;
 use crate::told::Told;
 use crate::version::Version;
-use core::mem::replace_with;
-use left_right::writer::Writer;
 use nav_ground::Entry;
 use nav_share::Shared;
 use std::alloc::{AllocError, Global};
 use std::marker::Model;
 use std::sync::Wait;
 
-type Shower = Writer<Shown, Shown, Option<Shown>, Versions>;
-
 /// The one that publishes the versions of a pair. It is not `Drop`: `end` ends it.
 ///
 /// Contracts see the pair, its ground, and the entries of the version that is published; the published mesh is that of both.
 pub struct Press {
-    writer: Shower,
+    stage: Stage,
     history: History,
 }
 
@@ -68,27 +62,6 @@ pub fn pair<R: Wait>(
     }
 }
 
-// The writer once it shows the next version, and whether it does. It does not where memory is refused.
-fn shown<R: Wait>(writer: Shower, next: (&R, Shown)) -> (Shower, bool)
-    requires is { IsShown next.1 }
-    requires origin { origin next.1 ≡ origin writer.desk.shown.value }
-    ensures value { MatchBool result.1 (result.0.desk.shown.value ≡ next.entry.1) (result.0.desk.shown.value ≡ writer.desk.shown.value) }
-    ensures knows { MatchBool result.1 (view result.0.desk.place ≡ Some next.entry.1) (view result.0.desk.place ≡ view writer.desk.place) }
-{
-    let (rt, next) = next;
-    let mut writer = writer;
-    match writer.append(next) {
-        Ok(()) => {
-            let (writer, published) = writer.publish_as::<Publishing, R>(rt);
-            match published {
-                Ok(()) => (writer, true),
-                Err(_refused) => (writer, false),
-            }
-        }
-        Err(_next) => (writer, false),
-    }
-}
-
 impl Press {
     fn showing<R: Wait>(
         rt: &R,
@@ -106,21 +79,8 @@ impl Press {
         }
         let told = history.told();
         let version = Shared::new(alloc, version)?;
-        let first = Shown { version, told };
-        let writer = Writer::new(
-            alloc,
-            first.share()?,
-            first.share()?,
-            readers.max(1) as usize,
-        )?;
-
-        // It is shown once more, since only what it shows by a step of its own does the press know.
-        let (writer, knows) = shown(writer, (rt, first));
-        if !knows {
-            let _last = writer.take(rt);
-            return Err(AllocError);
-        }
-        Ok(Press { writer, history })
+        let stage = Stage::begin(rt, alloc, Shown { version, told }, readers)?;
+        Ok(Press { stage, history })
     }
 
     fn eyes(&mut self, alloc: Global, readers: u32) -> Result<Vec<Eye>, AllocError>
@@ -138,9 +98,7 @@ impl Press {
         ensures same { self.new ≡ self.old }
         ensures eye { IfOk result (λ eye. eye ≡ first_eye self.old) }
     {
-        let mut reader = self.writer.factory().reader()?;
-        let note = self.writer.tell::<Telling>();
-        reader.learn::<Learning>(note);
+        let reader = self.stage.looker()?;
         Ok(Eye::opened(reader, &self.version().ground, self.told()))
     }
 
@@ -190,21 +148,21 @@ impl Press {
             version: next,
             told,
         };
-        replace_with(&mut self.writer, (rt, next), shown::<R>)
+        self.stage.show(rt, next)
     }
 
     /// How many entries the published version has.
     pub fn length(&self) -> u32
         ensures { result ≡ length self.now.entries }
     {
-        self.writer.published().told.length()
+        self.stage.shown().told.length()
     }
 
     /// The published length, for an eye of this pair to learn.
     pub fn told(&self) -> Told
         ensures { result ≡ record { pair = self.now.pair; entries = self.now.entries } }
     {
-        self.writer.published().told.again()
+        self.stage.shown().told.again()
     }
 
     /// The published version.
@@ -212,12 +170,12 @@ impl Press {
         ensures value { Shows self.now result.now }
         ensures rules { IsVersion result.now }
     {
-        self.writer.published().version.get()
+        self.stage.shown().version.get()
     }
 
     /// Ends the press. It waits for eyes that are reading; from then on no eye answers any more.
     pub fn end<R: Wait>(self, rt: &R) {
-        let Press { writer, history: _ } = self;
-        let _last = writer.take(rt);
+        let Press { stage, history: _ } = self;
+        stage.end(rt);
     }
 }

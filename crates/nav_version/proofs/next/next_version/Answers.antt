@@ -1,5 +1,4 @@
 use Rattle.std.proofs.Common.{List, rules, sym, ap, ◌∙◌, subst}
-use Rattle.std.specs.Arc.{arc_value}
 use Rattle.nav_ground.specs.declared.setting.Setting.{Setting}
 use Rattle.tile_links.specs.NewTiles.{AreNew, New}
 use Rattle.nav_version.specs.declared.version.Version.{Version}

@@ -1,24 +1,38 @@
-use Rattle.std.proofs.Common.{◌≡◌, ◌++◌, length, ap, sym, ◌∙◌, rules, Some}
-use Rattle.std.specs.Prelude.{MatchBool}
-use Rattle.left_right.specs.Sides.{view}
+use Rattle.std.proofs.Common.{◌≡◌, ◌++◌, length, ap, sym, ◌∙◌, rules}
+use Rattle.std.specs.Arc.{arc_value}
 use Rattle.nav_version.specs.declared.shown.Shown.{Shown}
 use Rattle.nav_version.specs.Lists.{ToldView}
-use Rattle.nav_version.specs.Pairs.{PressView}
-use Rattle.nav_version.proofs.PressLaws.{IsKept-grown, IsShown-grown}
+use Rattle.nav_version.specs.Pairs.{PressView, press_of}
+use Rattle.nav_version.proofs.PressLaws.{IsKept-grown, IsKept-longer, IsShown-grown, after_showing}
 use Rattle.nav_version.proofs.press.Press.show.Goals as goal
+
+pub show-requires-clause-is : goal.show-requires-clause-is
+show-requires-clause-is g c =
+    let next : Shown = record { version = c.args.next; told = c.told-told.result } in
+    let before = c.self.inside.stage.told in
+    let same : length c.self.inside.history.entries ≡ length before.entries = search rules in
+    let entries : c.args.next.entries ≡ before.entries ++ c.args.more.now = c.requires.entries ∙ ap (λ (press : PressView). press.entries ++ c.args.more.now) (sym c.self.view_is) in
+    IsShown-grown before c.self.inside.history c.add.new.self next c.args.more.now c.self.invariant same c.requires.rules c.told-told.ensures
+    c.if-not-add.ensures.grown entries
+
+pub show-requires-clause-origin : goal.show-requires-clause-origin
+show-requires-clause-origin g c =
+    let pair = ap (λ (t : ToldView). t.pair) c.told-told.ensures ∙ c.add.ensures.pair ∙ sym c.self.invariant.pair in
+    let ground = c.requires.ground ∙ ap (λ (press : PressView). press.ground) (sym c.self.view_is) in
+    λ i. (pair i, ground i)
+
+pub invariant_of-self : goal.invariant_of-self
+invariant_of-self g c = IsKept-longer c.self.inside.stage.told c.self.inside.history c.add.new.self c.self.invariant c.add.ensures.pair c.add.ensures.begins
+
+pub returns-then-not-add : goal.returns-then-not-add
+returns-then-not-add g c = (λ i. press_of (c.add.ensures.pair i) (arc_value c.self.inside.stage.version.ground) c.self.inside.stage.told.entries) ∙ c.self.view_is
 
 pub invariant_of-self-2 : goal.invariant_of-self-2
 invariant_of-self-2 g c =
-    let next : Shown = record { version = c.args.next; told = c.told-told.result } in
-    let before = c.self.inside.writer.desk in
-    let after = c.replace_with.new.dest.desk in
-    let same : length c.self.inside.history.entries ≡ length before.shown.value.version.entries = search rules in
-    let grown : c.add.new.self.entries ≡ c.self.inside.history.entries ++ c.args.more.now = search rules in
-    let told : next.told ≡ c.add.new.self = search rules in
-    let entries : c.args.next.entries ≡ before.shown.value.version.entries ++ c.args.more.now = c.requires.entries ∙ ap (λ (press : PressView). press.entries ++ c.args.more.now) (sym c.self.view_is) in
-    let is = IsShown-grown before.shown.value (view before.place) c.self.inside.history next c.args.more.now c.self.invariant same c.requires.rules
-    (ap (λ (t : ToldView). t.entries) told ∙ grown) entries in
-    let value : MatchBool c.replace_with.result (after.shown.value ≡ next) (after.shown.value ≡ before.shown.value) = search rules in
-    let knows : MatchBool c.replace_with.result (view after.place ≡ Some next) (view after.place ≡ view before.place) = search rules in
-    IsKept-grown before.shown.value after.shown.value next (view before.place) (view after.place) c.self.inside.history c.add.new.self c.replace_with.result
-    c.self.invariant c.add.ensures.pair c.add.ensures.begins is told value knows
+    IsKept-grown c.self.inside.stage c.show.new.self (record { version = c.args.next; told = c.told-told.result }) c.self.inside.history
+    c.add.new.self c.show.result c.self.invariant c.add.ensures.pair c.add.ensures.begins c.told-told.ensures c.show.ensures.shown
+
+pub returns : goal.returns
+returns g c =
+    after_showing c.self.inside.stage c.show.new.self (record { version = c.args.next; told = c.told-told.result }) c.self.inside.history
+    c.add.new.self c.args.self.now c.show.result c.self.view_is c.add.ensures.pair c.requires.ground c.show.ensures.rules c.show.ensures.shown

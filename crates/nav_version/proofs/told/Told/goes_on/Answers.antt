@@ -1,4 +1,4 @@
-use Rattle.std.proofs.Common.{◌≡◌, ◌<◌, ◌≤◌, ap, subst, rules, length, List}
+use Rattle.std.proofs.Common.{◌<◌, ◌≤◌, ap, subst, rules, length, List}
 use Rattle.std.specs.Prelude.{MatchBool}
 use mathlib.Core.List.{IsPrefix}
 use Rattle.nav_ground.specs.declared.history.Entry.{Entry}

@@ -1,6 +1,5 @@
-use Rattle.std.proofs.Common.{rules}
 use Rattle.nav_version.proofs.VersionSteps.{admits, tells, learns}
-use Rattle.nav_version.proofs.press.Press.eye.Goals as goal
+use Rattle.nav_version.proofs.stage.Stage.looker.Goals as goal
 
 pub reader-requires : goal.reader-requires
 reader-requires c = admits

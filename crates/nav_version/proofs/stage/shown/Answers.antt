@@ -1,7 +1,7 @@
-use Rattle.std.proofs.Common.{◌≡◌, ◌∷◌, ◌++◌, [], drop, sym, ap, ◌∙◌, rules}
+use Rattle.std.proofs.Common.{drop, sym, ap, ◌∙◌, rules}
 use Rattle.nav_version.specs.VersionRule.{origin}
-use Rattle.nav_version.proofs.VersionSteps.{publishes_last, shows_last}
-use Rattle.nav_version.proofs.press.shown.Goals as goal
+use Rattle.nav_version.proofs.VersionSteps.{publishes_last}
+use Rattle.nav_version.proofs.stage.shown.Goals as goal
 
 pub publish_as-writer-requires : goal.publish_as-writer-requires
 publish_as-writer-requires g c next is =
