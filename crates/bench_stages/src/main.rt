@@ -13,7 +13,7 @@ mod texts;
 use nav_text::first_line;
 use std::alloc::{AllocError, Global};
 use std::io;
-use std::io::Read;
+use std::io::{Eprint, Print, Read};
 use std::process::ExitCode;
 use std::sync::Wait;
 use texts::Reading;
@@ -37,25 +37,42 @@ fn take<R: Wait>(rt: &R, alloc: Global, line: &[u8]) -> Result<Option<u64>, Allo
     locks::take(rt, alloc, line)
 }
 
-fn main(rt: HostRuntime) -> io::Result<ExitCode> {
-    let mut input = Vec::new(rt.alloc());
-    rt.reader().read_to_end(&mut input)?;
-    let mut rest = input.as_slice();
+fn print_reading(rt: &impl Print, reading: Reading) -> io::Result<()> {
+    match reading {
+        Reading::Read { spans, lines } => println!(rt; "{spans} spans, {lines} lines"),
+        Reading::Fault { line, kind } => println!(rt; "fault {line} {kind}"),
+        Reading::OutOfMemory => println!(rt; "out of memory"),
+    }
+}
+
+fn print_sum(rt: &impl Print, line: &[u8], sum: u64) -> io::Result<()> {
+    println!(rt; "{} {sum}", name_of(line))
+}
+
+fn refuse(rt: &impl Eprint, line: &[u8]) -> io::Result<ExitCode> {
+    eprintln!(rt; "no measure of this form: {}", name_of(line))?;
+    Ok(ExitCode::from(2))
+}
+
+// Takes the measures that lines name, up to a text or a line that names none.
+fn measure(rt: &(impl Print + Eprint + Wait), alloc: Global, input: &[u8]) -> io::Result<ExitCode> {
+    let mut rest = input;
     while let Some((line, after)) = first_line(rest) {
-        if let Some(reading) = texts::take(rt.alloc(), line, after) {
-            match reading {
-                Reading::Read { spans, lines } => println!(rt; "{spans} spans, {lines} lines")?,
-                Reading::Fault { line, kind } => println!(rt; "fault {line} {kind}")?,
-                Reading::OutOfMemory => println!(rt; "out of memory")?,
-            }
+        if let Some(reading) = texts::take(alloc, line, after) {
+            print_reading(rt, reading)?;
             break;
         }
-        let Some(sum) = take(&rt, rt.alloc(), line)? else {
-            eprintln!(rt; "no measure of this form: {}", name_of(line))?;
-            return Ok(ExitCode::from(2));
+        let Some(sum) = take(rt, alloc, line)? else {
+            return refuse(rt, line);
         };
-        println!(rt; "{} {sum}", name_of(line))?;
+        print_sum(rt, line, sum)?;
         rest = after;
     }
     Ok(ExitCode::SUCCESS)
+}
+
+fn main(rt: HostRuntime) -> io::Result<ExitCode> {
+    let mut input = Vec::new(rt.alloc());
+    rt.reader().read_to_end(&mut input)?;
+    measure(&rt, rt.alloc(), input.as_slice())
 }

@@ -3,12 +3,11 @@
 //! and the text follows.
 #![tactic(auto)]
 
+mod outcome;
 mod stages;
 
-use nav_base::read_number;
-use nav_text::first_line;
-use span_text::{FieldRefusal, read_field};
-use stages::staged;
+use outcome::{Outcome, print};
+use stages::measured;
 use std::io;
 use std::io::Read;
 use std::marker::Brand;
@@ -17,32 +16,6 @@ use std::sync::ledger::Blank;
 fn main(rt: HostRuntime) -> io::Result<()> {
     let mut input = Vec::new(rt.alloc());
     rt.reader().read_to_end(&mut input)?;
-    let Some((stage, rest)) = first_line(input.as_slice()) else {
-        return Ok(());
-    };
-    let Some((copies, text)) = first_line(rest) else {
-        return Ok(());
-    };
-    let stage = read_number(stage, 4).unwrap_or(1);
-    let copies = read_number(copies, 1000000).unwrap_or(0);
-    match read_field(rt.alloc(), text) {
-        Ok(read) => match staged::<_, Brand>(
-            &rt,
-            rt.alloc(),
-            read,
-            text,
-            stage,
-            copies,
-            Blank::new(1),
-        ) {
-            Ok(made) => println!(rt;
-                "{} spans, {} tiles, {} polygons, {} links",
-                made.spans, made.tiles, made.polygons, made.links
-            )?,
-            Err(_) => println!(rt; "out of memory")?,
-        },
-        Err(FieldRefusal::Fault(fault)) => println!(rt; "fault {} {}", fault.line, fault.kind)?,
-        Err(FieldRefusal::OutOfMemory) => println!(rt; "out of memory")?,
-    }
-    Ok(())
+    let outcome: Outcome = measured::<_, Brand>(&rt, rt.alloc(), input.as_slice(), Blank::new(1));
+    print(&rt, outcome)
 }

@@ -7,30 +7,51 @@ ghost use Rattle.nav_ground.specs.Grounds.{IsGround};
 ghost use Rattle.span_text.specs.FieldText.{IsFieldText};
 ghost use Rattle.tile_build.specs.Meshes.{tiles_under};
 
+use crate::outcome::{Made, Outcome};
 use layer_cut::ground;
 use mesh_types::{Mesh, TileMesh, copy_mesh};
+use nav_base::read_number;
 use nav_book::Book;
 use nav_ground::Ground;
 use nav_list::Items;
 use nav_share::Shared;
 use nav_steps::Steps;
-use span_text::FieldText;
+use nav_text::first_line;
+use span_text::{FieldRefusal, FieldText, read_field};
 use std::alloc::{AllocError, Global};
 use std::sync::ledger::{Blank, Ledger};
 use std::sync::{Arc, Wait};
 use tile_build::build_tiles;
 
-/// What was made.
-#[derive(Clone, Copy)]
-pub struct Made {
-    pub spans: usize,
-    pub tiles: usize,
-    pub polygons: usize,
-    pub links: usize,
+/// What the input comes to: its first line says up to which stage, and the second how many copies are made.
+pub fn measured<R: Wait, L: Ledger>(rt: &R, alloc: Global, input: &[u8], blank: Blank) -> Outcome
+    requires name { blank.name ≡ L.name }
+    requires parts { blank.parts ≡ L.parts }
+    requires some { 0 < blank.parts }
+{
+    let Some((stage, rest)) = first_line(input) else {
+        return Outcome::Nothing;
+    };
+    let Some((copies, text)) = first_line(rest) else {
+        return Outcome::Nothing;
+    };
+    let stage = read_number(stage, 4).unwrap_or(1);
+    let copies = read_number(copies, 1000000).unwrap_or(0);
+    match read_field(alloc, text) {
+        Ok(read) => match staged::<R, L>(rt, alloc, read, text, stage, copies, blank) {
+            Ok(made) => Outcome::Made(made),
+            Err(AllocError) => Outcome::OutOfMemory,
+        },
+        Err(FieldRefusal::Fault(fault)) => Outcome::Fault {
+            line: fault.line,
+            kind: fault.kind,
+        },
+        Err(FieldRefusal::OutOfMemory) => Outcome::OutOfMemory,
+    }
 }
 
 /// Goes on from a text that was read, up to a stage, and then makes copies of the mesh.
-pub fn staged<R: Wait, L: Ledger>(
+fn staged<R: Wait, L: Ledger>(
     rt: &R,
     alloc: Global,
     read: FieldText,

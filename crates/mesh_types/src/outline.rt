@@ -6,14 +6,14 @@ use nav_list::Items;
 
 /// A simplified contour: the corners that were kept, in whole cells and in the contour's order, and for each corner the code of the
 /// edge that begins there.
-#[derive(Drop)]
+#[derive(PartialEq, Eq, Drop)]
 pub struct Outline {
     pub corners: Items<Point>,
     pub codes: Items<Code>,
 }
 
 /// What simplifying a contour comes to.
-#[derive(Drop)]
+#[derive(PartialEq, Eq, Drop)]
 pub enum Simplified {
     /// Fewer than three corners are left.
     Flat,

@@ -11,7 +11,7 @@ pub struct HistoryFull {
 }
 
 /// A tile to be built, and the shapes that touch it at the target, in order of their numbers.
-#[derive(Drop)]
+#[derive(PartialEq, Eq, Debug, Drop)]
 pub struct Job {
     pub tile: TileNo,
     pub shapes: Items<Shape>,

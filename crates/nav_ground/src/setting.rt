@@ -1,6 +1,5 @@
 //! What a ground says once: its size, its tiles, the agent that walks it, and what its areas cost.
 
-
 /// How many areas there are: 0, which nobody walks on, and 1 to 63.
 pub const AREAS: usize = 64;
 
