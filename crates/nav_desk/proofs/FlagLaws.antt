@@ -1,11 +1,11 @@
 -- Flags after one of them was written.
-use Rattle.std.proofs.Common.{◌≡◌, ◌≢◌, ℕ, zero, suc, ◌+◌, ◌<◌, ◌≤◌, Bool, true, false, Option, Some, None, List, [], ◌∷◌, length, set, replicate, cond, ap, sym, subst, ◌∙◌, refl, ⊎_elim, arith}
+use Rattle.std.proofs.Common.{◌≡◌, ◌≢◌, ℕ, zero, suc, ◌+◌, ◌<◌, ◌≤◌, Bool, true, false, not, ◌&&◌, Option, Some, None, List, [], ◌∷◌, length, set, replicate, cond, ap, sym, subst, ◌∙◌, refl, ⊎_elim, arith}
 use Rattle.std.specs.Prelude.{IfSome, if◌then◌else◌}
 use Rattle.std.proofs.lemmas.Bool.{both_ways, cases_eq, cases_lt}
 use Rattle.std.proofs.lemmas.List.{get_or-set_same, get_or-set_other}
 use Rattle.std.proofs.lemmas.List.Sums.{sum_by-set}
 use Rattle.nav_desk.specs.Flags.{flag_of, set_count, least_below}
-use Rattle.nav_desk.specs.Waiting.{Waiting, IsStart}
+use Rattle.nav_desk.specs.Waiting.{Waiting, AreReady, IsStart}
 use Rattle.nav_desk.proofs.Leasts.{least_passes, none_below}
 
 -- a flag that was written, and the others
@@ -95,3 +95,13 @@ released start now same each none =
     ap (λ (flags : List Bool). record now { awaited = flags }) same
     ∙ ap (λ (claims : List Bool). record start { claimed = claims })
     (all_unset now.claimed (λ tile there. none_below (length now.claimed) (flag_of now.claimed) tile none there) ∙ ap (λ count. replicate count false) each)
+
+-- of tiles of which none is awaited or claimed none is ready
+pub none_ready : (count : ℕ) (awaited claimed ready : List Bool) → awaited ≡ replicate count false → claimed ≡ replicate count false
+    → ready ≡ replicate count false → AreReady (record { awaited = awaited; claimed = claimed }) ready
+none_ready count awaited claimed ready none unclaimed unready = record {
+  claims = ap length unclaimed ∙ sym (ap length none);
+  each = ap length unready ∙ sym (ap length none);
+  same = λ tile there. ap (λ flags. flag_of flags tile) unready ∙ flag_of_none count tile
+      ∙ sym (ap (λ flag. flag && not (flag_of claimed tile)) (ap (λ flags. flag_of flags tile) none ∙ flag_of_none count tile));
+}

@@ -11,14 +11,14 @@ pub struct HistoryFull {
 }
 
 /// A tile to be built, and the shapes that touch it at the target, in order of their numbers.
-#[derive(PartialEq, Eq, Debug, Drop)]
+#[derive(Drop)]
 pub struct Job {
     pub tile: TileNo,
     pub shapes: Items<Shape>,
 }
 
 /// What became of a submitted list.
-#[derive(Clone, Copy, PartialEq, Eq, Debug)]
+#[derive(Clone, Copy, PartialEq, Eq)]
 pub enum Submitted {
     /// It is stored: its tile was awaited, and it is the tile's touching list at the target.
     Taken,

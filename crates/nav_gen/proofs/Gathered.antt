@@ -1,7 +1,8 @@
 -- What is written piece by piece, and the lines that it is made of.
-use Rattle.std.proofs.Common.{◌≡◌, ℕ, ◌+◌, List, [], ◌∷◌, ◌++◌, map, flat_map, refl, sym, ap, ◌∙◌, arith, append_assoc}
+use Rattle.std.proofs.Common.{◌≡◌, ℕ, ◌+◌, Ok, Err, List, [], ◌∷◌, ◌++◌, map, flat_map, refl, sym, ap, ◌∙◌, arith, append_assoc}
+use Rattle.std.specs.Prelude.{Result, OnOk}
 use Rattle.std.specs.List.{range_with_len}
-use Rattle.std.proofs.lemmas.List.{flat_map_more}
+use Rattle.std.proofs.lemmas.List.{flat_map_more, append-nil}
 use Rattle.std.proofs.lemmas.List.Folds.{flat_map-map}
 use Rattle.nav_ground.proofs.Selections.{range-push}
 use Rattle.nav_text.specs.Lines.{ended, text_of}
@@ -40,3 +41,15 @@ text_of-gathered {X = X} spell make (k ∷ numbers) =
     map_two : (xs ys : List X) → map spell (xs ++ ys) ≡ map spell xs ++ map spell ys
     map_two [] ys = refl
     map_two (x ∷ xs) ys = ap (λ ls. spell x ∷ ls) (map_two xs ys)
+
+-- six pieces one after the other are one text
+pub six_pieces : {T E : Type 0} (result : Result T E) (old a b c d e f one two three four five all : List ℕ)
+    → one ≡ old ++ a → two ≡ one ++ b → three ≡ two ++ c → four ≡ three ++ d → five ≡ four ++ e → OnOk result (all ≡ five ++ f)
+    → OnOk result (all ≡ old ++ (a ++ (b ++ (c ++ (d ++ (e ++ (f ++ [])))))))
+six_pieces (Err error) old a b c d e f one two three four five all first second third fourth fifth last = tt
+six_pieces (Ok value) old a b c d e f one two three four five all first second third fourth fifth last =
+    last ∙ ap (λ t. t ++ f) (fifth ∙ ap (λ t. t ++ e) (fourth ∙ ap (λ t. t ++ d) (third ∙ ap (λ t. t ++ c) (second ∙ ap (λ t. t ++ b) first))))
+    ∙ regroup
+  where
+    regroup : old ++ a ++ b ++ c ++ d ++ e ++ f ≡ old ++ (a ++ (b ++ (c ++ (d ++ (e ++ (f ++ []))))))
+    regroup = simp (append_assoc, append-nil)

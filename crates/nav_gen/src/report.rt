@@ -23,13 +23,26 @@ pub fn summary(
     ensures { IfOk result (λ text. text.items ≡ summary_text number size bytes lines totals.now) }
 {
     let mut text = Vec::with_capacity(alloc, SUMMARY_BYTES)?;
-    push_line(&mut text, b"gen", &[number, size])?;
-    push_line(&mut text, b"input", &[bytes, lines])?;
-    push_history(&mut text, totals)?;
-    push_questions(&mut text, totals)?;
-    push_cost(&mut text, totals.cost)?;
-    push_line(&mut text, b"mesh", &[totals.polys, totals.links])?;
+    push_summary(&mut text, number, size, bytes, lines, totals)?;
     Ok(text)
+}
+
+fn push_summary(
+    out: &mut Vec<u8>,
+    number: u32,
+    size: u32,
+    bytes: u32,
+    lines: u32,
+    totals: &Totals,
+) -> Result<(), AllocError>
+    ensures { OnOk result (out.new.items ≡ out.old.items ++ summary_text number size bytes lines totals.now) }
+{
+    push_line(out, b"gen", &[number, size])?;
+    push_line(out, b"input", &[bytes, lines])?;
+    push_history(out, totals)?;
+    push_questions(out, totals)?;
+    push_cost(out, totals.cost)?;
+    push_line(out, b"mesh", &[totals.polys, totals.links])
 }
 
 fn push_history(out: &mut Vec<u8>, totals: &Totals) -> Result<(), AllocError>

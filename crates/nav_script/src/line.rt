@@ -4,7 +4,7 @@ use nav_base::Question;
 use nav_ground::Shape;
 
 /// A line of a script. Its lane is the one that the last `Lane` line before it names, and 0 where there is none.
-#[derive(Clone, Copy, PartialEq, Eq, Debug)]
+#[derive(Clone, Copy, PartialEq)]
 pub enum Line {
     /// The lines that follow belong to the lane with this number, from 0.
     Lane(u32),

@@ -9,7 +9,7 @@ use nav_text::TextFault;
 use std::alloc::AllocError;
 
 /// How a script is run. `aim`, `publish`, `claim`, `back` and `submit` are lines of a script to be played only.
-#[derive(Clone, Copy, PartialEq, Eq, Debug)]
+#[derive(Clone, Copy)]
 pub enum Way {
     /// Its lines are played one after another.
     Play,
@@ -18,7 +18,7 @@ pub enum Way {
 }
 
 /// What a script text says.
-#[derive(PartialEq, Eq, Debug, Drop)]
+#[derive(Drop)]
 pub struct Script {
     /// How many lanes there are, 1 to 16.
     pub lanes: u32,
@@ -29,7 +29,7 @@ pub struct Script {
 }
 
 /// Why no script was read.
-#[derive(Clone, Copy, PartialEq, Eq, Debug)]
+#[derive(Clone, Copy)]
 pub enum ScriptRefusal {
     /// The text is no script: its first fault.
     Fault(TextFault),
