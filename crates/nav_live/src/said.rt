@@ -4,7 +4,7 @@ use mesh_types::Answer;
 use nav_ground::Reply;
 
 /// What a line of a lane is answered. Lengths count entries of the history.
-#[derive(PartialEq, Eq, Debug, Drop)]
+#[derive(Drop)]
 pub enum Said {
     /// A request has the entry with this number, and this reply.
     Replied { number: u32, reply: Reply },
