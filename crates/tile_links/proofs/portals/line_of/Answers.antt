@@ -1,4 +1,5 @@
-use Rattle.std.proofs.Common.{◌≡◌, ℕ, ◌<◌, ◌∙◌, List, length, get_or, ap, refl, sym, pos}
+use Rattle.std.proofs.Common.{◌≡◌, ℕ, ◌<◌, ◌∙◌, List, length, get_or, ap, refl, sym, pos, rules, w32}
+use Rattle.std.proofs.lemmas.Int.{to_z-of_z}
 use Rattle.std.specs.Option.{option_map_or}
 use Rattle.std.proofs.lemmas.Option.{slice_get_read}
 use Rattle.nav_base.specs.Convex.{corner_at}
@@ -18,5 +19,5 @@ line_at side polys entry polygon there is =
 pub returns-in-Some : goal.returns-in-Some
 returns-in-Some c =
     let found = c.in-Some.ensures.lookup in
-    c.along.ensures ∙ ap (fixed_of c.args.side) c.corner_at.ensures
+    to_z-of_z w32 c.along.result (search rules) ∙ c.along.ensures ∙ ap (fixed_of c.args.side) c.corner_at.ensures
     ∙ sym (line_at c.args.side c.args.polys.now c.args.entry.now c.in-Some.polygon.now found.3.0 (found.3.1 c.in-Some.polygon.now))
