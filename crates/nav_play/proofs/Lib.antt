@@ -10,4 +10,5 @@ mod Runs
 mod Tallying
 mod OneTotals
 mod Playing
+mod Parts
 mod CountedPlays

@@ -1,4 +1,7 @@
-use Rattle.std.proofs.Common.{◌∙◌, ℕ, List, ap, length, [], arith, None, Option}
+use Rattle.std.proofs.Common.{◌∙◌, ℕ, List, ap, length, subst, sym, [], arith, None, Option}
+use Rattle.nav_ground.specs.declared.history.Ground.{Ground}
+use Rattle.nav_ground.specs.Grounds.{IsGround}
+use Rattle.tile_build.specs.Meshes.{tiles_under}
 use Rattle.std.proofs.lemmas.List.{length-replicate}
 use Rattle.nav_desk.specs.BookState.{first_state}
 use Rattle.nav_book.specs.declared.result.TileResult.{TileResult}
@@ -23,3 +26,9 @@ returns-clause-begun g c =
         held = held_none _ _ c.args.script.now.workers c.in_ok-workers.ensures;
       };
     }
+
+pub begin-requires-clause-level : goal.begin-requires-clause-level
+begin-requires-clause-level g c = subst IsGround (sym c.in_ok-new.ensures.ok) c.requires.level
+
+pub begin-requires-clause-tiles : goal.begin-requires-clause-tiles
+begin-requires-clause-tiles g c = c.requires.tiles ∙ ap (λ (whole : Ground). tiles_under whole []) (sym c.in_ok-new.ensures.ok)
