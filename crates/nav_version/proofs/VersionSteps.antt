@@ -57,6 +57,13 @@ publishes seat one last next same is' known stands at_seat = (
 pub shows_last : (shown next now : Shown) (pending before : List Shown) → now ≡ fold next_of shown pending → pending ≡ before ++ next ∷ [] → now ≡ next
 shows_last shown next now pending before is all = is ∙ ap (fold next_of shown) all ∙ fold-append next_of shown before (next ∷ [])
 
+-- it is shown then, and known
+pub has_shown : (last next now : Shown) (after : Option Shown) (pending before : List Shown) → now ≡ fold next_of last pending → pending ≡ before ++ next ∷ []
+    → after ≡ Some now → (now ≡ next) × (after ≡ Some next)
+has_shown last next now after pending before is all known =
+    let same : now ≡ next = shows_last last next now pending before is all in
+    (same, known ∙ ap Some same)
+
 pub publishes_last : (seat : ℕ) (one : Option Shown) (last next now : Shown) (pending before : List Shown) → now ≡ fold next_of last pending → pending ≡ before ++ next ∷ []
     → origin next ≡ origin last → IsShown next → TurnsAt Stands seat one last now Publishes
 publishes_last seat one last next now pending before is all same is' =

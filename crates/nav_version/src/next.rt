@@ -1,24 +1,18 @@
 //! The next version, made whole before it is published.
 
-ghost use Rattle.std.specs.Prelude.{◌≡◌, ◌++◌, ◌≤◌, IfOk};
+ghost use Rattle.std.specs.Prelude.{◌≡◌, ◌++◌, IfOk};
 ghost use Rattle.std.specs.Arc.{arc_value};
-ghost use Rattle.nav_ground.specs.Limits.{IsSetting};
-ghost use Rattle.mesh_types.specs.Soundness.{IsSound, polygon_count};
-ghost use Rattle.mesh_types.specs.WholeMesh.{mesh_of};
-ghost use Rattle.tile_links.specs.NewTiles.{AreNew, IsWhole, tiles_after};
 ghost use Rattle.nav_version.specs.Pairs.{IsPatch};
 ghost use Rattle.nav_version.specs.Versions.{IsVersion};
 
 use crate::patch::Patch;
 use crate::version::Version;
-use mesh_types::{Mesh, TileMesh, copy_mesh};
-use nav_ground::TileNo;
 use nav_share::Shared;
 use std::alloc::{AllocError, Global};
 use std::sync::Arc;
-use tile_links::replace;
+use tile_links::replaced;
 
-/// The version that comes after one by a patch.
+/// The version that comes after one by a patch. What does not change is shared with the one that is lent.
 pub(crate) fn next_version(
     alloc: Global,
     version: &Version,
@@ -41,38 +35,4 @@ pub(crate) fn next_version(
             mesh,
         },
     )?)
-}
-
-/// A mesh with new tile meshes in place. What does not change is shared with the mesh that is lent.
-fn replaced(
-    alloc: Global,
-    mesh: &Mesh,
-    news: &[(TileNo, Shared<TileMesh>)],
-) -> Result<Mesh, AllocError>
-    requires setting { IsSetting mesh.now.setting }
-    requires mesh { IsWhole mesh.now }
-    requires news { AreNew mesh.now.setting news.now }
-    requires few { polygon_count (tiles_after news.now mesh.now.tiles) ≤ 8000000 }
-    ensures mesh { IfOk result (λ made. made ≡ mesh_of mesh.now.setting (tiles_after news.now mesh.now.tiles)) }
-    ensures sound { IfOk result IsSound }
-{
-    let mut made = copy_mesh(alloc, mesh)?;
-    match replace(&mut made, alloc, shared(alloc, news)?) {
-        Ok(()) => Ok(made),
-        Err((_news, refused)) => Err(refused),
-    }
-}
-
-/// New tile meshes, shared with those that are lent.
-fn shared(
-    alloc: Global,
-    news: &[(TileNo, Shared<TileMesh>)],
-) -> Result<Vec<(TileNo, Shared<TileMesh>)>, AllocError>
-    ensures { IfOk result (λ copies. copies.items ≡ news.now) }
-{
-    let mut copies = Vec::with_capacity(alloc, news.len())?;
-    for new in news {
-        copies.push((new.0, new.1.share()?))?;
-    }
-    Ok(copies)
 }

@@ -1,8 +1,9 @@
 //! The press, which publishes versions.
 
-ghost use Rattle.std.specs.Prelude.{◌≡◌, ◌++◌, IfOk, IfErr, OnOk, OnErr, MatchBool, length, replicate};
+ghost use Rattle.std.specs.Prelude.{◌≡◌, ◌++◌, [], IfOk, IfErr, OnOk, OnErr, MatchBool, length, replicate};
 ghost use Rattle.std.specs.Arc.{arc_value};
 ghost use Rattle.nav_version.specs.Pairs.{IsPatch, Shows, first_eye};
+ghost use Rattle.nav_version.specs.VersionRule.{IsShown};
 ghost use Rattle.nav_version.specs.Versions.{IsVersion};
 
 use crate::eye::Eye;
@@ -62,6 +63,22 @@ pub fn pair<R: Wait>(
     }
 }
 
+// A version with its list, which is the whole history from then on.
+fn first_of(alloc: Global, version: Version, history: &mut History) -> Result<Shown, AllocError>
+    requires version { IsVersion version }
+    requires history { history.old.entries ≡ [] }
+    ensures version { IfOk result (λ shown. shown.version ≡ version) }
+    ensures told { IfOk result (λ shown. shown.told ≡ history.new) }
+    ensures is { IfOk result IsShown }
+{
+    let version = Shared::new(alloc, version)?;
+    if !history.add_all(&version.get().entries) {
+        return Err(AllocError);
+    }
+    let told = history.told();
+    Ok(Shown { version, told })
+}
+
 impl Press {
     fn showing<R: Wait>(
         rt: &R,
@@ -74,12 +91,8 @@ impl Press {
         ensures entries { IfOk result (λ press. press.entries ≡ version.entries) }
     {
         let mut history = History::new();
-        if !history.add_all(&version.entries) {
-            return Err(AllocError);
-        }
-        let told = history.told();
-        let version = Shared::new(alloc, version)?;
-        let stage = Stage::begin(rt, alloc, Shown { version, told }, readers)?;
+        let first = first_of(alloc, version, &mut history)?;
+        let stage = Stage::begin(rt, alloc, first, readers)?;
         Ok(Press { stage, history })
     }
 

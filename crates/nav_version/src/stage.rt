@@ -49,15 +49,18 @@ fn writer_of(alloc: Global, first: &Shown, readers: u32) -> Result<Shower, Alloc
 fn shown<R: Wait>(writer: Shower, next: (&R, Shown)) -> (Shower, bool)
     requires is { IsShown next.1 }
     requires origin { origin next.1 ≡ origin writer.desk.shown.value }
-    ensures value { MatchBool result.1 (result.0.desk.shown.value ≡ next.entry.1) (result.0.desk.shown.value ≡ writer.desk.shown.value) }
-    ensures knows { MatchBool result.1 (view result.0.desk.place ≡ Some next.entry.1) (view result.0.desk.place ≡ view writer.desk.place) }
+    ensures { MatchBool result.1 ((result.0.desk.shown.value ≡ next.entry.1) × (view result.0.desk.place ≡ Some next.entry.1))
+        ((result.0.desk.shown.value ≡ writer.desk.shown.value) × (view result.0.desk.place ≡ view writer.desk.place)) }
 {
     let (rt, next) = next;
     let mut writer = writer;
     match writer.append(next) {
         Ok(()) => {
             let (writer, published) = writer.publish_as::<Publishing, R>(rt);
-            (writer, published.is_ok())
+            match published {
+                Ok(()) => (writer, true),
+                Err(_refused) => (writer, false),
+            }
         }
         Err(_next) => (writer, false),
     }

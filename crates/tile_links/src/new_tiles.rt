@@ -43,8 +43,8 @@ pub fn replace(
     }
 }
 
-/// The mesh that is had when new tile meshes are put into one.
-fn replaced(
+/// The mesh that is had when new tile meshes are put into one that is lent, as `replace` puts them.
+pub fn replaced(
     alloc: Global,
     mesh: &Mesh,
     news: &[(TileNo, Shared<TileMesh>)],

@@ -1,7 +1,8 @@
+use Rattle.nav_version.proofs.PressLaws.{IsKept-whole}
 use Rattle.std.proofs.Common.{ap, ◌∙◌}
 use Rattle.nav_version.specs.declared.shown.Shown.{Shown}
-use Rattle.nav_version.proofs.PressLaws.{IsKept-whole}
 use Rattle.nav_version.proofs.press.Press.showing.Goals as goal
 
 pub invariant_of-result : goal.invariant_of-result
-invariant_of-result g c = IsKept-whole c.in_ok-stage.stage.told c.add_all.new.self (ap (λ (shown : Shown). shown.told) c.in_ok-stage.ensures ∙ c.told-told.ensures)
+invariant_of-result g c =
+    IsKept-whole c.in_ok-stage.stage.told c.first_of.new.history (ap (λ (shown : Shown). shown.told) c.in_ok-stage.ensures ∙ c.in_ok-first.ensures.told)
