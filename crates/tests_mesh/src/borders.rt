@@ -2,9 +2,11 @@
 
 ghost use Rattle.std.specs.Prelude.{◌≡◌, ◌<◌, [], ◌∷◌, IfOk};
 ghost use Rattle.mesh_types.specs.WholeMesh.{mesh_of};
+ghost use Rattle.tile_links.specs.Across.{AreAcross};
 ghost use Rattle.tests_mesh.specs.HandSettings.{plain_setting};
 ghost use Rattle.tests_mesh.specs.TwoTiles.{hand_polygon, hand_tile, left_tile, right_tile, lower_entry, upper_entry};
 
+use crate::rows::{all_hold, hold};
 use mesh_types::{
     Corners, LevelPair, Link, Links, Mesh, PolyRef, Polygon, Portal, RimEdge, TileMesh,
 };
@@ -13,7 +15,6 @@ use nav_ground::{AREAS, Agent, FreeLayer, MeshKind, Setting, TileNo};
 use nav_list::Items;
 use nav_share::Shared;
 use std::alloc::{AllocError, Global};
-use std::process::Abort;
 use tile_links::{across, replace, rim_links, whole};
 
 const SETTING: Setting = Setting {
@@ -53,7 +54,7 @@ fn polygon(x: u32) -> Polygon
 }
 
 /// A tile without inner links.
-fn tile(
+pub(crate) fn tile(
     alloc: Global,
     tile: u32,
     polys: Vec<Polygon>,
@@ -137,45 +138,79 @@ fn right(alloc: Global) -> Result<TileMesh, AllocError>
     tile(alloc, 1, polys, rim)
 }
 
+/// The two tiles.
+fn pair(alloc: Global) -> Result<(TileMesh, TileMesh), AllocError>
+    ensures left { IfOk result (λ made. made.0 ≡ left_tile) }
+    ensures right { IfOk result (λ made. made.1 ≡ right_tile) }
+    ensures rightward { IfOk result (λ made. AreAcross made.0 made.1 2) }
+    ensures leftward { IfOk result (λ made. AreAcross made.1 made.0 0) }
+{
+    let left = left(alloc)?;
+    let right = right(alloc)?;
+    Ok((left, right))
+}
+
 /// The link between two polygons over the border at x = 4, between two of its points.
-fn link(from: (u32, u32), edge: u32, to: (u32, u32), left: i32, right: i32) -> Link {
-    Link {
-        from: PolyRef {
-            tile: from.0,
-            index: from.1,
-        },
-        edge,
-        to: PolyRef {
-            tile: to.0,
-            index: to.1,
-        },
-        portal: Portal {
-            left: Point { x: 64, z: left },
-            right: Point { x: 64, z: right },
-        },
+macro_rules! link {
+    ($tile:expr, $index:expr, $edge:expr, $to_tile:expr, $to_index:expr, $left:expr, $right:expr) => {
+        Link {
+            from: PolyRef {
+                tile: $tile,
+                index: $index,
+            },
+            edge: $edge,
+            to: PolyRef {
+                tile: $to_tile,
+                index: $to_index,
+            },
+            portal: Portal {
+                left: Point { x: 64, z: $left },
+                right: Point { x: 64, z: $right },
+            },
+        }
+    };
+}
+
+/// The links over the border to the right.
+const RIGHTWARD: [Link; 3] = [
+    link!(0, 0, 1, 1, 0, 16, 0),
+    link!(0, 0, 1, 1, 0, 64, 48),
+    link!(0, 0, 1, 1, 1, 48, 16),
+];
+
+/// The links over the border to the left.
+const LEFTWARD: [Link; 3] = [
+    link!(1, 0, 3, 0, 0, 0, 16),
+    link!(1, 0, 3, 0, 0, 48, 64),
+    link!(1, 1, 3, 0, 0, 16, 48),
+];
+
+/// Whether these are the links from one tile to the other, across a side.
+fn are_links(alloc: Global, one: &TileMesh, other: &TileMesh, side: u32, wanted: &[Link]) -> bool
+    requires { AreAcross one.now other.now side }
+{
+    match rim_links(alloc, one, other, side) {
+        Ok(links) => links.as_slice() == wanted,
+        Err(_) => false,
     }
 }
 
-/// The links from the left tile to the right one.
-fn rightward(alloc: Global) -> Result<Vec<Link>, AllocError> {
-    let one = left(alloc)?;
-    let other = right(alloc)?;
-    rim_links(alloc, &one, &other, 2)
-}
-
-/// The links from the right tile to the left one.
-fn leftward(alloc: Global) -> Result<Vec<Link>, AllocError> {
-    let one = left(alloc)?;
-    let other = right(alloc)?;
-    rim_links(alloc, &other, &one, 0)
+/// Whether the tiles have the links that lead both ways.
+fn link_both_ways(alloc: Global) -> bool {
+    match pair(alloc) {
+        Ok((one, other)) => {
+            are_links(alloc, &one, &other, 2, &RIGHTWARD)
+                && are_links(alloc, &other, &one, 0, &LEFTWARD)
+        }
+        Err(_) => false,
+    }
 }
 
 fn mesh(alloc: Global) -> Result<Mesh, AllocError>
     ensures { IfOk result (λ mesh. mesh ≡ mesh_of plain_setting (left_tile ∷ right_tile ∷ [])) }
 {
-    let mut tiles = Vec::new(alloc);
-    tiles.push(left(alloc)?)?;
-    tiles.push(right(alloc)?)?;
+    let (left, right) = pair(alloc)?;
+    let tiles = Vec::from_array(alloc, [left, right])?;
     whole(alloc, &SETTING, tiles)
 }
 
@@ -188,58 +223,14 @@ fn emptied(alloc: Global) -> Result<Vec<(TileNo, Shared<TileMesh>)>, AllocError>
     Ok(Vec::from_array(alloc, [(1, empty)])?)
 }
 
-/// The mesh once the right tile was emptied.
-fn mesh_emptied(alloc: Global) -> Result<Mesh, AllocError> {
-    let news = emptied(alloc)?;
-    let mut mesh = mesh(alloc)?;
-    match replace(&mut mesh, alloc, news) {
-        Ok(()) => Ok(mesh),
-        Err((_, refused)) => Err(refused),
-    }
-}
-
-/// The tile across a side of one of the two.
-fn beside(tile: u32, side: u32) -> Option<u32>
-    requires { tile < 2 }
+/// Empties the right tile.
+fn empty_right(alloc: Global, mesh: &mut Mesh) -> bool
+    requires { mesh.old ≡ mesh_of plain_setting (left_tile ∷ right_tile ∷ []) }
 {
-    across(&SETTING, tile, side)
-}
-
-/// The links over the border to the right, and to the left.
-fn wanted() -> ([Link; 3], [Link; 3]) {
-    (
-        [
-            link((0, 0), 1, (1, 0), 16, 0),
-            link((0, 0), 1, (1, 0), 64, 48),
-            link((0, 0), 1, (1, 1), 48, 16),
-        ],
-        [
-            link((1, 0), 3, (0, 0), 0, 16),
-            link((1, 0), 3, (0, 0), 48, 64),
-            link((1, 1), 3, (0, 0), 16, 48),
-        ],
-    )
-}
-
-fn check_links(rt: &impl Abort, links: &[Link], wanted: &[Link]) {
-    assert!(rt; links == wanted);
-}
-
-#[test]
-fn links_lead_both_ways(rt: HostRuntime) -> Result<(), AllocError> {
-    let alloc = rt.alloc();
-    let (to_right, to_left) = wanted();
-    check_links(&rt, rightward(alloc)?.as_slice(), &to_right);
-    check_links(&rt, leftward(alloc)?.as_slice(), &to_left);
-    Ok(())
-}
-
-#[test]
-fn tiles_lie_beside_each_other(rt: HostRuntime) {
-    let of_left = [beside(0, 0), beside(0, 1), beside(0, 2)];
-    assert!(rt; of_left == [None, None, Some(1)]);
-    let of_right = [beside(1, 0), beside(1, 2), beside(1, 3)];
-    assert!(rt; of_right == [Some(0), None, None]);
+    match emptied(alloc) {
+        Ok(news) => replace(mesh, alloc, news).is_ok(),
+        Err(_) => false,
+    }
 }
 
 /// The links of a tile over the border; none where there is no such tile.
@@ -250,24 +241,50 @@ fn cross_links(mesh: &Mesh, tile: usize) -> &[Link] {
     }
 }
 
-/// The mesh has two tiles, and these links to the right and to the left.
-fn check_cross(rt: &impl Abort, mesh: &Mesh, to_right: &[Link], to_left: &[Link]) {
-    assert!(rt; mesh.tiles.len() == 2 && mesh.cross.len() == 2);
-    check_links(rt, cross_links(mesh, 0), to_right);
-    check_links(rt, cross_links(mesh, 1), to_left);
+/// Whether the mesh has two tiles, and these links to the right and to the left.
+fn has_links(mesh: &Mesh, to_right: &[Link], to_left: &[Link]) -> bool {
+    mesh.tiles.len() == 2
+        && mesh.cross.len() == 2
+        && cross_links(mesh, 0) == to_right
+        && cross_links(mesh, 1) == to_left
+}
+
+/// Whether the mesh has the links of each tile, and none once the right tile is replaced.
+fn mesh_is_linked(alloc: Global) -> bool {
+    match mesh(alloc) {
+        Ok(mesh) => {
+            let mut mesh = mesh;
+            has_links(&mesh, &RIGHTWARD, &LEFTWARD)
+                && empty_right(alloc, &mut mesh)
+                && has_links(&mesh, &[], &[])
+        }
+        Err(_) => false,
+    }
+}
+
+/// A tile, a side, and the tile across it.
+const SIDES: [(u32, u32, Option<u32>); 6] = [
+    (0, 0, None),
+    (0, 1, None),
+    (0, 2, Some(1)),
+    (1, 0, Some(0)),
+    (1, 2, None),
+    (1, 3, None),
+];
+
+fn wrong_side(rows: &[(u32, u32, Option<u32>)]) -> Option<usize> {
+    for row in 0..rows.len() {
+        let (tile, side, wanted) = rows[row];
+        if tile >= 2 || across(&SETTING, tile, side) != wanted {
+            return Some(row);
+        }
+    }
+    None
 }
 
 #[test]
-fn a_mesh_has_the_links_of_each_tile(rt: HostRuntime) -> Result<(), AllocError> {
-    let mesh = mesh(rt.alloc())?;
-    let (to_right, to_left) = wanted();
-    check_cross(&rt, &mesh, &to_right, &to_left);
-    Ok(())
-}
-
-#[test]
-fn a_tile_replaced_has_its_links_alone(rt: HostRuntime) -> Result<(), AllocError> {
-    let mesh = mesh_emptied(rt.alloc())?;
-    check_cross(&rt, &mesh, &[], &[]);
-    Ok(())
+fn tiles_are_linked(rt: HostRuntime) {
+    hold(&rt, "links", link_both_ways(rt.alloc()));
+    hold(&rt, "the mesh", mesh_is_linked(rt.alloc()));
+    all_hold(&rt, "sides", wrong_side(&SIDES));
 }

@@ -1,7 +1,9 @@
 //! The build of a small tile by hand.
 
-ghost use Rattle.std.specs.Prelude.{◌≡◌, ◌<◌};
+ghost use Rattle.std.specs.Prelude.{◌≡◌, ◌<◌, All};
+ghost use Rattle.nav_ground.specs.Limits.{IsShape};
 
+use crate::rows::hold;
 use mesh_types::TileMesh;
 use nav_ground::{AREAS, Agent, Cell, CellRef, Layer, MeshKind, Setting, Shape};
 use nav_list::Items;
@@ -64,47 +66,57 @@ const SETTING: Setting = Setting {
     clear: false,
 };
 
-/// The tile of the three cells under a block over the middle one, or under none.
+/// A block over the middle one.
+const BLOCK: Shape = Shape::Block {
+    x0: 2,
+    x1: 2,
+    y0: 0,
+    y1: 100,
+    z0: 2,
+    z1: 2,
+};
+
+/// The tile of the three cells under some shapes.
 fn built<L: Ledger>(
     alloc: Global,
-    blocked: bool,
+    shapes: &[Shape],
     steps: &mut Steps<L>,
-) -> Result<TileMesh, AllocError> {
+) -> Result<TileMesh, AllocError>
+    requires { All IsShape shapes.now }
+{
     let layer = Layer {
         tile: 0,
         cells: Items::from_vec(Vec::from_array(alloc, CELLS)?),
         radius: 0,
         wide: Items::new(alloc),
     };
-    let block = Shape::Block {
-        x0: 2,
-        x1: 2,
-        y0: 0,
-        y1: 100,
-        z0: 2,
-        z1: 2,
-    };
-    let shapes = [block];
-    let count = if blocked { 1 } else { 0 };
-    build_tile(alloc, &layer, &SETTING, &shapes[..count], steps)
+    build_tile(alloc, &layer, &SETTING, shapes, steps)
+}
+
+/// How many polygons the tile has.
+fn count<L: Ledger>(alloc: Global, shapes: &[Shape], steps: &mut Steps<L>) -> Option<usize>
+    requires { All IsShape shapes.now }
+{
+    match built(alloc, shapes, steps) {
+        Ok(tile) => Some(tile.polys.len()),
+        Err(_) => None,
+    }
 }
 
 /// How many polygons the tile has as a whole and parted, with a counter over a blank ledger.
-fn polygons<L: Ledger>(alloc: Global, blank: Blank) -> Result<(usize, usize), AllocError>
+fn counts<L: Ledger>(alloc: Global, blank: Blank) -> (Option<usize>, Option<usize>)
     requires name { blank.name ≡ L.name }
     requires parts { blank.parts ≡ L.parts }
     requires some { 0 < blank.parts }
 {
     let mut steps = Steps::<L>::new(blank);
-    let whole = built(alloc, false, &mut steps)?.polys.len();
-    let parted = built(alloc, true, &mut steps)?.polys.len();
-    Ok((whole, parted))
+    let whole = count(alloc, &[], &mut steps);
+    let parted = count(alloc, &[BLOCK], &mut steps);
+    (whole, parted)
 }
 
 #[test]
-fn builds_a_tile(rt: HostRuntime) -> Result<(), AllocError> {
-    let alloc = rt.alloc();
-    let counts = polygons::<Brand>(alloc, Blank::new(1))?;
-    assert!(rt; counts == (1, 2));
-    Ok(())
+fn builds_a_tile(rt: HostRuntime) {
+    let counts = counts::<Brand>(rt.alloc(), Blank::new(1));
+    hold(&rt, "polygons", counts == (Some(1), Some(2)));
 }

@@ -13,6 +13,8 @@ mod five_cells;
 #[cfg(test)]
 mod meshes;
 #[cfg(test)]
+mod rows;
+#[cfg(test)]
 mod strip_meshes;
 #[cfg(test)]
 mod strips;

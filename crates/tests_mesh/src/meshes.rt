@@ -1,17 +1,18 @@
 //! Small meshes by hand: what their calls find.
 
-ghost use Rattle.std.specs.Prelude.{◌≡◌, ◌<◌, ◌^◌, length};
+ghost use Rattle.std.specs.Prelude.{◌<◌};
 
+use crate::borders::tile;
+use crate::rows::{all_hold, hold};
 use mesh_types::{
     Corners, Link, Links, Mesh, PolyRef, Polygon, Portal, Run, TileMesh, copy_mesh, copy_tile,
     order_links, poly, runs,
 };
 use nav_base::Point;
-use nav_ground::{AREAS, Agent, FreeLayer, MeshKind, Setting};
+use nav_ground::{AREAS, Agent, MeshKind, Setting};
 use nav_list::{Duplicate, Items};
 use nav_share::Shared;
 use std::alloc::{AllocError, Global};
-use std::process::Abort;
 
 const LABELS: [Option<u32>; 8] = [
     Some(4),
@@ -42,88 +43,92 @@ const RUNS: [Run; 3] = [
     },
 ];
 
-fn check_runs(
-    rt: &impl Abort,
-    alloc: Global,
-    labels: &[Option<u32>],
-    wanted: &[Run],
-) -> Result<(), AllocError>
-    requires { length labels.now < 2 ^ 32 }
-{
-    let found = runs(alloc, labels)?;
-    assert!(rt; found.as_slice() == wanted);
-    Ok(())
-}
-
-#[test]
-fn finds_runs(rt: HostRuntime) -> Result<(), AllocError> {
-    let alloc = rt.alloc();
-    check_runs(&rt, alloc, &LABELS, &RUNS)?;
-    check_runs(&rt, alloc, &[], &[])?;
-    check_runs(&rt, alloc, &[None], &[])
-}
-
-/// A link from a polygon over an edge to another, through a portal that begins at x.
-fn link(from: (u32, u32), edge: u32, to: (u32, u32), x: i32) -> Link
-    ensures { result.from.index ≡ from.1 }
-{
-    Link {
-        from: PolyRef {
-            tile: from.0,
-            index: from.1,
-        },
-        edge,
-        to: PolyRef {
-            tile: to.0,
-            index: to.1,
-        },
-        portal: Portal {
-            left: Point { x: 64, z: 16 },
-            right: Point { x, z: 16 },
-        },
+/// Whether these are the runs of a few labels.
+fn has_runs(alloc: Global, labels: &[Option<u32>], wanted: &[Run]) -> bool {
+    if labels.len() > 100 {
+        return false;
+    }
+    match runs(alloc, labels) {
+        Ok(found) => found.as_slice() == wanted,
+        Err(_) => false,
     }
 }
 
-#[test]
-fn puts_links_in_order(rt: HostRuntime) {
-    let wanted = [
-        link((0, 0), 0, (0, 2), 16),
-        link((0, 0), 2, (0, 1), 16),
-        link((0, 0), 2, (0, 1), 32),
-        link((0, 0), 2, (1, 0), 16),
-        link((0, 2), 0, (0, 0), 16),
-    ];
-    let [a, b, c, d, e] = wanted;
+fn finds_runs(alloc: Global) -> bool {
+    has_runs(alloc, &LABELS, &RUNS) && has_runs(alloc, &[], &[]) && has_runs(alloc, &[None], &[])
+}
+
+/// A link from a polygon over an edge to another, through a portal that begins at x.
+macro_rules! link {
+    ($index:expr, $edge:expr, $to_tile:expr, $to_index:expr, $x:expr) => {
+        Link {
+            from: PolyRef {
+                tile: 0,
+                index: $index,
+            },
+            edge: $edge,
+            to: PolyRef {
+                tile: $to_tile,
+                index: $to_index,
+            },
+            portal: Portal {
+                left: Point { x: 64, z: 16 },
+                right: Point { x: $x, z: 16 },
+            },
+        }
+    };
+}
+
+const FIRST: Link = link!(0, 0, 0, 2, 16);
+
+/// In order.
+const LINKS: [Link; 5] = [
+    FIRST,
+    link!(0, 2, 0, 1, 16),
+    link!(0, 2, 0, 1, 32),
+    link!(0, 2, 1, 0, 16),
+    link!(2, 0, 0, 0, 16),
+];
+
+fn puts_links_in_order() -> bool {
+    let [a, b, c, d, e] = LINKS;
     let mut links = [d, b, e, c, a];
     order_links(&mut links);
-    assert!(rt; links == wanted);
+    links == LINKS
 }
 
 /// A polygon, and how many links leave it.
 const COUNTS: [(u32, usize); 5] = [(0, 1), (1, 0), (2, 0), (3, 0), (4000000000, 0)];
 
-fn check_counts(rt: &impl Abort, list: &Links, rows: &[(u32, usize)]) {
-    for (polygon, count) in rows {
-        assert!(rt; list.leaving(*polygon).len() == *count, "from {polygon}");
+fn wrong_count(list: &Links, rows: &[(u32, usize)]) -> Option<usize> {
+    for row in 0..rows.len() {
+        let (polygon, count) = rows[row];
+        if list.leaving(polygon).len() != count {
+            return Some(row);
+        }
     }
+    None
 }
 
-/// The list holds one link, which leaves the first polygon.
-fn check_only(rt: &impl Abort, list: &Links, only: &Link) {
-    assert!(rt; list.len() == 1);
-    assert!(rt; list.leaving(0) == [*only].as_slice());
-    check_counts(rt, list, &COUNTS);
+/// Whether the list holds one link, which leaves the first polygon.
+fn has_only(list: &Links, only: Link) -> bool {
+    list.len() == 1 && list.leaving(0) == [only].as_slice()
 }
 
-#[test]
-fn finds_links(rt: HostRuntime) -> Result<(), AllocError> {
-    let alloc = rt.alloc();
-    let only = link((0, 0), 0, (0, 2), 16);
-    let mut list = Vec::new(alloc);
-    list.push(only)?;
-    let list = Links::new(alloc, list, 3)?;
-    check_only(&rt, &list, &only);
-    Ok(())
+/// The list of one link.
+fn one_link(alloc: Global, link: Link) -> Result<Links, AllocError>
+    requires { link.from.index < 3 }
+{
+    let links = Vec::from_array(alloc, [link])?;
+    Links::new(alloc, links, 3)
+}
+
+/// A row of counts that is wrong; 9 where the list is, or where there is no memory.
+fn wrong_links(alloc: Global) -> Option<usize> {
+    match one_link(alloc, FIRST) {
+        Ok(list) if has_only(&list, FIRST) => wrong_count(&list, &COUNTS),
+        _ => Some(9),
+    }
 }
 
 fn square(area: u32) -> Polygon {
@@ -138,22 +143,6 @@ fn square(area: u32) -> Polygon {
         low: 10,
         high: 12,
     }
-}
-
-/// A tile with two polygons and no links.
-fn tile(alloc: Global) -> Result<TileMesh, AllocError> {
-    let links = Links::new(alloc, Vec::new(alloc), 2)?;
-    let polys = Vec::from_array(alloc, [square(63), square(5)])?;
-    Ok(TileMesh {
-        tile: 0,
-        free: FreeLayer {
-            tile: 0,
-            cells: Items::new(alloc),
-        },
-        polys: Items::from_vec(polys),
-        links,
-        rim: Items::new(alloc),
-    })
 }
 
 const SETTING: Setting = Setting {
@@ -172,13 +161,20 @@ const SETTING: Setting = Setting {
     clear: false,
 };
 
-fn mesh(alloc: Global) -> Result<Mesh, AllocError> {
-    let tile = Shared::new(alloc, tile(alloc)?)?;
+/// The mesh of one tile.
+fn mesh_of(alloc: Global, tile: TileMesh) -> Result<Mesh, AllocError> {
+    let tile = Shared::new(alloc, tile)?;
     Ok(Mesh {
         setting: SETTING,
         tiles: Items::from_vec(Vec::from_array(alloc, [tile])?),
         cross: Items::new(alloc),
     })
+}
+
+/// The mesh of one tile with two polygons and no links.
+fn mesh(alloc: Global) -> Result<Mesh, AllocError> {
+    let polys = Vec::from_array(alloc, [square(63), square(5)])?;
+    mesh_of(alloc, tile(alloc, 0, polys, Vec::new(alloc))?)
 }
 
 /// A tile, an index, and the area of the polygon there.
@@ -193,48 +189,68 @@ const PLACES: [Place; 4] = [
 
 /// The area of the polygon at a place, which has four corners.
 fn area_at(mesh: &Mesh, tile: u32, index: u32) -> Option<u32> {
-    let polygon = poly(mesh, PolyRef { tile, index })?;
-    if polygon.corners.as_slice().len() == 4 {
-        Some(polygon.area)
-    } else {
-        None
+    match poly(mesh, PolyRef { tile, index }) {
+        Some(polygon) if polygon.corners.as_slice().len() == 4 => Some(polygon.area),
+        _ => None,
     }
 }
 
-fn check_places(rt: &impl Abort, mesh: &Mesh, places: &[Place]) {
-    for (tile, index, area) in places {
-        assert!(rt; area_at(mesh, *tile, *index) == *area, "at {tile} {index}");
+fn wrong_place(mesh: &Mesh, places: &[Place]) -> Option<usize> {
+    for row in 0..places.len() {
+        let (tile, index, area) = places[row];
+        if area_at(mesh, tile, index) != area {
+            return Some(row);
+        }
+    }
+    None
+}
+
+fn wrong_in_copy(alloc: Global, mesh: &Mesh) -> Option<usize> {
+    match copy_mesh(alloc, mesh) {
+        Ok(copy) => wrong_place(&copy, &PLACES),
+        Err(_) => Some(9),
     }
 }
 
+/// How many polygons and links a copy of a tile has.
+fn counts_of_copy(alloc: Global, tile: &TileMesh) -> Option<(usize, usize)> {
+    match copy_tile(alloc, tile) {
+        Ok(copy) => Some((copy.polys.len(), copy.links.len())),
+        Err(_) => None,
+    }
+}
+
+fn counts_of_first(alloc: Global, mesh: &Mesh) -> Option<(usize, usize)> {
+    match mesh.tiles.get(0) {
+        Some(tile) => counts_of_copy(alloc, tile.get()),
+        None => None,
+    }
+}
+
+/// A place that is wrong in a copy of the mesh; 9 where a copied tile has other counts, or where there is no memory.
+fn wrong_copies(alloc: Global) -> Option<usize> {
+    match mesh(alloc) {
+        Ok(mesh) if counts_of_first(alloc, &mesh) == Some((2, 0)) => wrong_in_copy(alloc, &mesh),
+        _ => Some(9),
+    }
+}
+
+fn is_copied(alloc: Global, polygon: Polygon) -> bool {
+    match polygon.duplicate(alloc) {
+        Ok(copy) => copy == polygon,
+        Err(_) => false,
+    }
+}
+
+fn copies_polygons(alloc: Global) -> bool {
+    is_copied(alloc, square(63)) && is_copied(alloc, square(5))
+}
+
 #[test]
-fn looks_polygons_up(rt: HostRuntime) -> Result<(), AllocError> {
-    let alloc = rt.alloc();
-    let mesh = mesh(alloc)?;
-    let copy = copy_mesh(alloc, &mesh)?;
-    check_places(&rt, &copy, &PLACES);
-    Ok(())
-}
-
-fn check_copy(rt: &impl Abort, alloc: Global, polygon: &Polygon) -> Result<(), AllocError> {
-    let copy = polygon.duplicate(alloc)?;
-    assert!(rt; copy == *polygon);
-    Ok(())
-}
-
-/// How many polygons and links a copy of the tile has.
-fn counts_of_copy(alloc: Global) -> Result<(usize, usize), AllocError> {
-    let tile = tile(alloc)?;
-    let copy = copy_tile(alloc, &tile)?;
-    Ok((copy.polys.len(), copy.links.len()))
-}
-
-#[test]
-fn copies_polygons_and_tiles(rt: HostRuntime) -> Result<(), AllocError> {
-    let alloc = rt.alloc();
-    check_copy(&rt, alloc, &square(63))?;
-    check_copy(&rt, alloc, &square(5))?;
-    let counts = counts_of_copy(alloc)?;
-    assert!(rt; counts == (2, 0));
-    Ok(())
+fn small_meshes(rt: HostRuntime) {
+    hold(&rt, "runs", finds_runs(rt.alloc()));
+    hold(&rt, "links in order", puts_links_in_order());
+    all_hold(&rt, "links of a list", wrong_links(rt.alloc()));
+    all_hold(&rt, "copies", wrong_copies(rt.alloc()));
+    hold(&rt, "polygons", copies_polygons(rt.alloc()));
 }

@@ -5,12 +5,12 @@ ghost use Rattle.nav_ground.specs.Cells.{IsCut, IsInTile};
 ghost use Rattle.nav_ground.specs.Limits.{IsSetting};
 
 use crate::five_cells::CELLS;
-use mesh_types::{Corners, LevelPair, Link, Polygon, Portal, RimEdge, TileMesh};
+use crate::rows::hold;
+use mesh_types::{Corners, LevelPair, Link, PolyRef, Polygon, Portal, RimEdge, TileMesh};
 use nav_base::Point;
 use nav_ground::{AREAS, Agent, FreeLayer, MeshKind, Setting};
 use nav_list::Items;
 use std::alloc::{AllocError, Global};
-use std::process::Abort;
 use strip_mesh::strip_mesh;
 
 /// Two tiles side by side.
@@ -59,45 +59,51 @@ fn rectangle(x0: i32, end: i32, z: i32, area: u32, low: u32, high: u32) -> Polyg
     }
 }
 
-/// The polygon that a link leaves, the edge, the polygon entered, and the right and the left end of the portal.
-type LinkRow = (u32, u32, u32, (i32, i32), (i32, i32));
-
-const LINKS: [LinkRow; 6] = [
-    (0, 1, 1, (48, 0), (48, 16)),
-    (0, 2, 2, (32, 16), (16, 16)),
-    (0, 2, 3, (48, 16), (32, 16)),
-    (1, 3, 0, (48, 16), (48, 0)),
-    (2, 0, 0, (16, 16), (32, 16)),
-    (3, 0, 0, (32, 16), (48, 16)),
-];
-
-fn check_polygons(rt: &impl Abort, mesh: &TileMesh) {
+fn has_polygons(mesh: &TileMesh) -> bool {
     let polys = [
         rectangle(1, 3, 0, 63, 10, 12),
         rectangle(3, 4, 0, 7, 9, 9),
         rectangle(1, 2, 1, 63, 8, 8),
         rectangle(2, 3, 1, 63, 14, 14),
     ];
-    assert!(rt; mesh.polys.as_slice() == polys.as_slice());
+    mesh.polys.as_slice() == polys.as_slice()
 }
 
-fn row_of(link: &Link) -> LinkRow {
-    let Portal { left, right } = link.portal;
-    (
-        link.from.index,
-        link.edge,
-        link.to.index,
-        (right.x, right.z),
-        (left.x, left.z),
-    )
+/// The polygon that a link leaves, the edge, the polygon entered, and x and z of the right and of the left end of the portal.
+macro_rules! link {
+    ($from:expr, $edge:expr, $to:expr, $right_x:expr, $right_z:expr, $left_x:expr, $left_z:expr) => {
+        Link {
+            from: PolyRef {
+                tile: 0,
+                index: $from,
+            },
+            edge: $edge,
+            to: PolyRef {
+                tile: 0,
+                index: $to,
+            },
+            portal: Portal {
+                left: Point {
+                    x: $left_x,
+                    z: $left_z,
+                },
+                right: Point {
+                    x: $right_x,
+                    z: $right_z,
+                },
+            },
+        }
+    };
 }
 
-fn check_links(rt: &impl Abort, links: &[Link], rows: &[LinkRow]) {
-    assert!(rt; links.len() == rows.len());
-    for (link, wanted) in links.iter().zip(rows.iter()) {
-        assert!(rt; row_of(link) == *wanted);
-    }
-}
+const LINKS: [Link; 6] = [
+    link!(0, 1, 1, 48, 0, 48, 16),
+    link!(0, 2, 2, 32, 16, 16, 16),
+    link!(0, 2, 3, 48, 16, 32, 16),
+    link!(1, 3, 0, 48, 16, 48, 0),
+    link!(2, 0, 0, 16, 16, 32, 16),
+    link!(3, 0, 0, 32, 16, 48, 16),
+];
 
 /// Whether it is the edge of the polygon with the other area, which lies on the border to the right.
 fn is_border(entry: &RimEdge) -> bool {
@@ -106,18 +112,23 @@ fn is_border(entry: &RimEdge) -> bool {
         && entry.pairs.as_slice() == [pair].as_slice()
 }
 
-fn check_rim(rt: &impl Abort, rim: &[RimEdge]) {
-    assert!(rt; rim.len() == 1);
-    for entry in rim {
-        assert!(rt; is_border(entry));
+fn has_border(mesh: &TileMesh) -> bool {
+    match mesh.rim.as_slice() {
+        [entry] => is_border(entry),
+        _ => false,
+    }
+}
+
+fn is_as_drawn(alloc: Global) -> bool {
+    match mesh(alloc) {
+        Ok(mesh) => {
+            has_polygons(&mesh) && mesh.links.as_slice() == LINKS.as_slice() && has_border(&mesh)
+        }
+        Err(_) => false,
     }
 }
 
 #[test]
-fn mesh_by_hand(rt: HostRuntime) -> Result<(), AllocError> {
-    let mesh = mesh(rt.alloc())?;
-    check_polygons(&rt, &mesh);
-    check_links(&rt, mesh.links.as_slice(), &LINKS);
-    check_rim(&rt, mesh.rim.as_slice());
-    Ok(())
+fn mesh_by_hand(rt: HostRuntime) {
+    hold(&rt, "the mesh", is_as_drawn(rt.alloc()));
 }

@@ -4,13 +4,13 @@ ghost use Rattle.std.specs.Prelude.{◌≡◌, IfOk};
 ghost use Rattle.nav_ground.specs.Cells.{IsCut};
 
 use crate::five_cells::CELLS;
+use crate::rows::all_hold;
 use cell_table::neighbour_table;
 use mesh_types::Strip;
 use mono_regions::{StripIndex, strip_index, strips};
 use nav_ground::{Cell, FreeLayer};
 use nav_list::Items;
 use std::alloc::{AllocError, Global};
-use std::process::Abort;
 
 fn free(alloc: Global) -> Result<FreeLayer, AllocError>
     ensures { IfOk result (λ free. IsCut free.cells) }
@@ -36,20 +36,25 @@ fn is_strip(strip: &Strip, row: &Row) -> bool {
         && strip.levels.as_slice() == row.4
 }
 
-fn check_strips(rt: &impl Abort, strips: &[Strip], rows: &[Row]) {
-    assert!(rt; strips.len() == rows.len());
-    for (strip, row) in strips.iter().zip(rows.iter()) {
-        assert!(rt; is_strip(strip, row));
+fn wrong_row(strips: &[Strip], rows: &[Row]) -> Option<usize> {
+    if strips.len() != rows.len() {
+        return Some(rows.len());
     }
+    for row in 0..rows.len() {
+        if !is_strip(&strips[row], &rows[row]) {
+            return Some(row);
+        }
+    }
+    None
 }
 
-#[test]
-fn strips_by_hand(rt: HostRuntime) -> Result<(), AllocError> {
-    let alloc = rt.alloc();
-    let free = free(alloc)?;
-    let strips = strips(alloc, &free)?;
-    check_strips(&rt, strips.as_slice(), &WANTED);
-    Ok(())
+fn wrong_strip(alloc: Global, free: &FreeLayer) -> Option<usize>
+    requires { IsCut free.now.cells }
+{
+    match strips(alloc, free) {
+        Ok(strips) => wrong_row(strips.as_slice(), &WANTED),
+        Err(_) => Some(9),
+    }
 }
 
 fn index(alloc: Global, cells: &[Cell]) -> Result<StripIndex, AllocError>
@@ -59,16 +64,26 @@ fn index(alloc: Global, cells: &[Cell]) -> Result<StripIndex, AllocError>
     strip_index(alloc, cells, table.as_slice())
 }
 
-fn check_index(rt: &impl Abort, index: &StripIndex) {
-    assert!(rt; index.runs.len() == 4);
-    assert!(rt; index.owners.as_slice() == [0, 0, 1, 2, 3].as_slice());
+fn has_index(alloc: Global, cells: &[Cell]) -> bool
+    requires { IsCut cells.now }
+{
+    match index(alloc, cells) {
+        Ok(index) => {
+            index.runs.len() == 4 && index.owners.as_slice() == [0, 0, 1, 2, 3].as_slice()
+        }
+        Err(_) => false,
+    }
+}
+
+/// A row that is wrong; 9 where the index is, or where there is no memory.
+fn wrong(alloc: Global) -> Option<usize> {
+    match free(alloc) {
+        Ok(free) if has_index(alloc, free.cells.as_slice()) => wrong_strip(alloc, &free),
+        _ => Some(9),
+    }
 }
 
 #[test]
-fn indices_by_hand(rt: HostRuntime) -> Result<(), AllocError> {
-    let alloc = rt.alloc();
-    let free = free(alloc)?;
-    let index = index(alloc, free.cells.as_slice())?;
-    check_index(&rt, &index);
-    Ok(())
+fn strips_by_hand(rt: HostRuntime) {
+    all_hold(&rt, "strips", wrong(rt.alloc()));
 }

@@ -1,15 +1,18 @@
 //! Runs of books over small flat grounds. What is wanted was worked out by hand.
 
-ghost use Rattle.std.specs.Prelude.{◌≡◌, ◌<◌, ◌≤◌, All, IfOk, IfSome};
+ghost use Rattle.std.specs.Prelude.{◌≡◌, ◌<◌, ◌≤◌, [], All, IfOk, IfSome};
 ghost use Rattle.nav_ground.specs.Fields.{IsField};
 ghost use Rattle.nav_ground.specs.Grounds.{IsGround};
 ghost use Rattle.nav_ground.specs.History.{IsRequest};
+ghost use Rattle.nav_query.specs.Questions.{IsAnswerable};
 ghost use Rattle.nav_version.specs.Pairs.{EyeView};
+ghost use Rattle.tile_build.specs.Meshes.{tiles_under};
 ghost use Rattle.nav_book.specs.Results.{IsBuild};
 
-use crate::versions::both;
+use crate::rows::{all_hold, hold};
+use crate::versions::{both, floors};
 use layer_cut::ground;
-use mesh_types::{Answer, PathFound, PolyRef};
+use mesh_types::{Answer, PathFound, PolyRef, TileMesh};
 use nav_base::{FloorAt, Point, Question};
 use nav_book::{Book, HistoryFull, Job, Published, Submitted, TileResult, build_job};
 use nav_ground::{
@@ -17,6 +20,7 @@ use nav_ground::{
     Span, tiles,
 };
 use nav_list::Items;
+use nav_share::Shared;
 use nav_steps::Steps;
 use nav_version::Eye;
 use std::alloc::{AllocError, Global};
@@ -27,7 +31,7 @@ use std::sync::{Arc, Wait};
 use tile_build::build_tiles;
 
 /// What a table asks for: a block over the column (x, 1), a block there that sets the area 5, or that a number goes.
-#[derive(Clone, Copy, PartialEq, Eq, Debug)]
+#[derive(Clone, Copy)]
 enum Asked {
     Block(u32),
     Area(u32),
@@ -84,24 +88,32 @@ pub(crate) fn flat_field(alloc: Global, width: u32, depth: u32) -> Result<Field,
     })
 }
 
-/// The book of the ground of a flat field in tiles of a size, where two obstacles may be alive, and an eye for each reader.
-fn opened<R: Wait, L: Ledger>(
-    rt: &R,
-    alloc: Global,
-    sizes: (u32, u32, u32),
-    readers: u32,
-    blank: Blank,
-) -> Result<(Book, Vec<Eye>), AllocError>
-    requires wide { (1 ≤ sizes.0) × (sizes.0 ≤ 1024) }
-    requires deep { (1 ≤ sizes.1) × (sizes.1 ≤ 1024) }
-    requires tile { (4 ≤ sizes.2) × (sizes.2 ≤ 128) }
-    requires name { blank.name ≡ L.name }
-    requires parts { blank.parts ≡ L.parts }
-    requires some { 0 < blank.parts }
-    ensures { IfOk result (λ made. All (λ (eye : EyeView). eye.pair ≡ made.0.pair) made.1.items) }
+/// The tiles of a ground: one, two beside each other, or four.
+#[derive(Clone, Copy)]
+enum Layout {
+    One,
+    Two,
+    Four,
+}
+
+/// The columns of such a ground across and along, and those of a tile.
+fn sizes(layout: Layout) -> (u32, u32, u32)
+    ensures wide { (1 ≤ result.0) × (result.0 ≤ 1024) }
+    ensures deep { (1 ≤ result.1) × (result.1 ≤ 1024) }
+    ensures tile { (4 ≤ result.2) × (result.2 ≤ 128) }
 {
-    let (width, depth, tile) = sizes;
-    let mut steps = Steps::<L>::new(blank);
+    match layout {
+        Layout::One => (6, 6, 6),
+        Layout::Two => (7, 4, 4),
+        Layout::Four => (8, 8, 4),
+    }
+}
+
+/// The ground of a flat field, where two obstacles may be alive.
+fn flat_ground(alloc: Global, layout: Layout) -> Result<Ground, AllocError>
+    ensures { IfOk result IsGround }
+{
+    let (width, depth, tile) = sizes(layout);
     let setting = Setting {
         width,
         depth,
@@ -117,25 +129,39 @@ fn opened<R: Wait, L: Ledger>(
         costs: [1; AREAS],
         clear: false,
     };
-    let level = ground(alloc, setting, flat_field(alloc, width, depth)?)?;
-    let tiles = build_tiles(alloc, &level, &[], &mut steps)?;
-    Ok(Book::begin(rt, alloc, Arc::new(alloc, level)?, tiles, readers)?)
+    ground(alloc, setting, flat_field(alloc, width, depth)?)
 }
 
-/// The same without readers, over a blank ledger.
-fn unread<R: Wait>(rt: &R, alloc: Global, sizes: (u32, u32, u32)) -> Result<Book, AllocError>
-    requires wide { (1 ≤ sizes.0) × (sizes.0 ≤ 1024) }
-    requires deep { (1 ≤ sizes.1) × (sizes.1 ≤ 1024) }
-    requires tile { (4 ≤ sizes.2) × (sizes.2 ≤ 128) }
+/// The book of a ground and its tile meshes, and an eye for each reader.
+fn begun<R: Wait>(
+    rt: &R,
+    alloc: Global,
+    level: Ground,
+    tiles: Items<Shared<TileMesh>>,
+    readers: u32,
+) -> Result<(Book, Vec<Eye>), AllocError>
+    requires level { IsGround level }
+    requires tiles { tiles ≡ tiles_under level [] }
+    ensures { IfOk result (λ made. All (λ (eye : EyeView). eye.pair ≡ made.0.pair) made.1.items) }
 {
-    let (book, _eyes) = opened::<R, Brand>(rt, alloc, sizes, 0, Blank::new(1))?;
-    Ok(book)
+    let level = Arc::new(alloc, level)?;
+    Ok(Book::begin(rt, alloc, level, tiles, readers)?)
 }
 
-/// A field of 7 by 4 columns in two tiles, and one of 8 by 8 columns in four.
-const TWO_TILES: (u32, u32, u32) = (7, 4, 4);
-
-const FOUR_TILES: (u32, u32, u32) = (8, 8, 4);
+/// The book of a flat ground, and an eye for each reader.
+fn opened<R: Wait, L: Ledger>(
+    rt: &R,
+    alloc: Global,
+    layout: Layout,
+    readers: u32,
+    steps: &mut Steps<L>,
+) -> Result<(Book, Vec<Eye>), AllocError>
+    ensures { IfOk result (λ made. All (λ (eye : EyeView). eye.pair ≡ made.0.pair) made.1.items) }
+{
+    let level = flat_ground(alloc, layout)?;
+    let tiles = build_tiles(alloc, &level, &[], steps)?;
+    begun(rt, alloc, level, tiles, readers)
+}
 
 /// Claims the least tile that can be claimed, if there is one, and builds it.
 fn next_build<L: Ledger>(
@@ -162,16 +188,14 @@ fn next_build<L: Ledger>(
 }
 
 /// Builds the least tile that can be claimed, if there is one, and submits it.
-fn build_next<L: Ledger>(
-    book: &mut Book,
-    alloc: Global,
-    steps: &mut Steps<L>,
-) -> Result<Option<Submitted>, AllocError>
+fn build_next<L: Ledger>(book: &mut Book, alloc: Global, steps: &mut Steps<L>)
     ensures { book.new.pair ≡ book.old.pair }
 {
-    match next_build(book, alloc, steps)? {
-        None => Ok(None),
-        Some(made) => Ok(Some(book.submit(made))),
+    match next_build(book, alloc, steps) {
+        Ok(Some(made)) => {
+            let _taken = book.submit(made);
+        }
+        _ => (),
     }
 }
 
@@ -180,370 +204,16 @@ fn settled<R: Wait, L: Ledger>(
     rt: &R,
     book: &mut Book,
     alloc: Global,
-    blank: Blank,
+    steps: &mut Steps<L>,
 ) -> Result<Published, AllocError>
-    requires name { blank.name ≡ L.name }
-    requires parts { blank.parts ≡ L.parts }
-    requires some { 0 < blank.parts }
     ensures { book.new.pair ≡ book.old.pair }
 {
-    let mut steps = Steps::<L>::new(blank);
     book.put_back_all();
     book.aim();
     for _ in 0..4 {
-        build_next(book, alloc, &mut steps)?;
+        build_next(book, alloc, steps);
     }
     book.publish(rt, alloc)
-}
-
-/// Publishes the whole history of a book, over a blank ledger.
-fn published<R: Wait>(rt: &R, book: &mut Book, alloc: Global) -> Result<Published, AllocError>
-    ensures { book.new.pair ≡ book.old.pair }
-{
-    settled::<R, Brand>(rt, book, alloc, Blank::new(1))
-}
-
-/// The floors of a column, as the book answers.
-fn floors(book: &Book, alloc: Global, x: u32, z: u32) -> Result<Items<FloorAt>, AllocError> {
-    match book.ask(alloc, &Question::Floor { x, z })?.1 {
-        Answer::Floors(floors) => Ok(floors),
-        _ => Ok(Items::new(alloc)),
-    }
-}
-
-/// The lowest floor of a column.
-fn lowest(book: &Book, alloc: Global, x: u32, z: u32) -> Result<Option<FloorAt>, AllocError> {
-    let floors = floors(book, alloc, x, z)?;
-    Ok(floors.get(0).copied())
-}
-
-// A book may go from one thread to another.
-fn sent<T: Send>(value: T) -> T {
-    value
-}
-
-/// The number of an entry, what is asked, and the reply.
-type Asking = (u32, Asked, Reply);
-
-const ASKINGS: [Asking; 11] = [
-    (1, Asked::Block(1), Reply::Added { number: 1 }),
-    (2, Asked::Area(2), Reply::Added { number: 2 }),
-    (3, Asked::Block(3), Reply::Full { live: 2 }),
-    (4, Asked::Remove(1), Reply::Removed),
-    (5, Asked::Remove(1), Reply::Dead { number: 1 }),
-    (6, Asked::Remove(0), Reply::Dead { number: 0 }),
-    (7, Asked::Block(3), Reply::Added { number: 7 }),
-    (8, Asked::Remove(3), Reply::Dead { number: 3 }),
-    (9, Asked::Remove(7), Reply::Removed),
-    (10, Asked::Remove(2), Reply::Removed),
-    (11, Asked::Block(1), Reply::Added { number: 11 }),
-];
-
-fn check_replies(rt: &impl Abort, book: &mut Book, rows: &[Asking]) {
-    for (number, asked, reply) in rows {
-        let given = book.request(3, request_of(*asked));
-        assert_eq!(rt; given, Ok((*number, *reply)), "at {number}");
-        assert_eq!(rt; (book.length(), book.published()), (*number, 0));
-    }
-}
-
-#[test]
-fn answers_requests(rt: HostRuntime) -> Result<(), AllocError> {
-    let mut book = unread(&rt, rt.alloc(), TWO_TILES)?;
-    check_replies(&rt, &mut book, &ASKINGS);
-    let last = Entry {
-        lane: 3,
-        request: request_of(Asked::Block(1)),
-        reply: Reply::Added { number: 11 },
-    };
-    assert!(rt; book.entries().last() == Some(&last));
-    book.end(&rt);
-    Ok(())
-}
-
-/// What is asked, whether the book settles then, and the floors of the columns (1, 1) and (2, 1).
-type Settling = (Asked, bool, Option<FloorAt>, Option<FloorAt>);
-
-const BARE: Option<FloorAt> = Some(FloorAt { y: 10, area: 63 });
-
-const MUDDY: Option<FloorAt> = Some(FloorAt { y: 10, area: 5 });
-
-const SETTLINGS: [Settling; 6] = [
-    (Asked::Remove(9), false, BARE, BARE),
-    (Asked::Block(2), false, BARE, BARE),
-    (Asked::Area(1), true, MUDDY, None),
-    (Asked::Block(3), true, MUDDY, None),
-    (Asked::Remove(2), false, MUDDY, None),
-    (Asked::Remove(3), true, BARE, BARE),
-];
-
-fn check_settlings<R: Abort + Wait>(
-    rt: &R,
-    alloc: Global,
-    book: &mut Book,
-    rows: &[Settling],
-) -> Result<(), AllocError> {
-    for (asked, settles, first, second) in rows {
-        let _answer = book.request(0, request_of(*asked));
-        if *settles {
-            let k = book.length();
-            assert_eq!(rt; published(rt, book, alloc)?, Published::New { k });
-            assert_eq!(rt; book.published(), book.length());
-        }
-        assert_eq!(rt; lowest(book, alloc, 1, 1)?, *first, "after {asked:?}");
-        assert_eq!(rt; lowest(book, alloc, 2, 1)?, *second, "after {asked:?}");
-    }
-    Ok(())
-}
-
-/// A column, and how many cells it has: those of the edge and those outside have none, each other one.
-const COLUMNS: [(u32, u32, usize); 10] = [
-    (0, 1, 0),
-    (6, 1, 0),
-    (1, 0, 0),
-    (1, 3, 0),
-    (3, 2, 1),
-    (4, 2, 1),
-    (5, 1, 1),
-    (7, 2, 0),
-    (1, 4, 0),
-    (5000, 2, 0),
-];
-
-fn check_columns(
-    rt: &impl Abort,
-    alloc: Global,
-    book: &Book,
-    rows: &[(u32, u32, usize)],
-) -> Result<(), AllocError> {
-    for (x, z, count) in rows {
-        let floors = floors(book, alloc, *x, *z)?;
-        assert_eq!(rt; floors.len(), *count, "at {x} {z}");
-    }
-    Ok(())
-}
-
-#[test]
-fn publishes_floors(rt: HostRuntime) -> Result<(), AllocError> {
-    let alloc = rt.alloc();
-    let mut book = unread(&rt, alloc, TWO_TILES)?;
-    let settled = check_settlings(&rt, alloc, &mut book, &SETTLINGS);
-    let columns = check_columns(&rt, alloc, &book, &COLUMNS);
-    book.end(&rt);
-    settled.and(columns)
-}
-
-/// The tile of the columns 1 to 3 has the strips of the rows 1 and 2, each from 16 to 64 of x.
-const QUESTION: Question = Question::Path {
-    from: Point { x: 24, z: 24 },
-    from_y: 10,
-    to: Point { x: 40, z: 24 },
-    to_y: 10,
-};
-
-/// The path that stays in the first polygon.
-fn staying(alloc: Global) -> Answer {
-    Answer::Path(PathFound {
-        first: PolyRef { tile: 0, index: 0 },
-        cost: 0,
-        links: Items::new(alloc),
-        turns: Items::new(alloc),
-    })
-}
-
-/// Whether the book answers so, with so many requests published.
-fn answers(book: &Book, alloc: Global, number: u32, wanted: &Answer) -> Result<bool, AllocError> {
-    let (published, answer) = book.ask(alloc, &QUESTION)?;
-    Ok(published == number && answer == *wanted)
-}
-
-/// The goal is covered once the request is published, and not before.
-fn check_covering<R: Abort + Wait>(
-    rt: &R,
-    alloc: Global,
-    book: &mut Book,
-    stays: &Answer,
-) -> Result<(), AllocError> {
-    assert!(rt; answers(book, alloc, 0, stays)?);
-    let _answer = book.request(0, request_of(Asked::Block(2)));
-    assert!(rt; answers(book, alloc, 0, stays)?);
-    published(rt, book, alloc)?;
-    assert!(rt; answers(book, alloc, 1, &Answer::NoGoal)?);
-    Ok(())
-}
-
-#[test]
-fn answers_from_the_published_mesh(rt: HostRuntime) -> Result<(), AllocError> {
-    let alloc = rt.alloc();
-    let mut book = unread(&rt, alloc, TWO_TILES)?;
-    let covered = check_covering(&rt, alloc, &mut book, &staying(alloc));
-    book.end(&rt);
-    covered
-}
-
-/// How many polygons and links a field has in tiles of a size.
-fn counts<R: Wait>(rt: &R, alloc: Global, sizes: (u32, u32, u32)) -> Result<(u32, u32), AllocError>
-    requires wide { (1 ≤ sizes.0) × (sizes.0 ≤ 1024) }
-    requires deep { (1 ≤ sizes.1) × (sizes.1 ≤ 1024) }
-    requires tile { (4 ≤ sizes.2) × (sizes.2 ≤ 128) }
-{
-    let book = unread(rt, alloc, sizes)?;
-    let counts = book.mesh_counts();
-    book.end(rt);
-    Ok(counts)
-}
-
-/// One tile of four strips, and then four tiles of three strips each, with as many links inside tiles as over borders.
-#[test]
-fn counts_polygons_and_links(rt: HostRuntime) -> Result<(), AllocError> {
-    let alloc = rt.alloc();
-    assert!(rt; counts(&rt, alloc, (6, 6, 6))? == (4, 6));
-    assert!(rt; counts(&rt, alloc, FOUR_TILES)? == (12, 32));
-    Ok(())
-}
-
-/// Fills a history with requests that remove nothing.
-fn fill(book: &mut Book) -> bool {
-    for _ in 0..HISTORY_LIMIT {
-        if book.request(0, Request::Remove(1)).is_err() {
-            return false;
-        }
-    }
-    true
-}
-
-/// Fills a history, asks once more, and publishes it.
-fn check_full<R: Abort + Wait>(rt: &R, alloc: Global, book: &mut Book) -> Result<(), AllocError> {
-    let full = HistoryFull { len: HISTORY_LIMIT };
-    assert!(rt; fill(book));
-    assert!(rt; book.request(0, Request::Remove(1)) == Err(full));
-    let k = HISTORY_LIMIT;
-    assert!(rt; published(rt, book, alloc)? == Published::New { k });
-    Ok(())
-}
-
-#[test]
-fn fills_its_history(rt: HostRuntime) -> Result<(), AllocError> {
-    let alloc = rt.alloc();
-    let mut book = sent(unread(&rt, alloc, TWO_TILES)?);
-    let filled = check_full(&rt, alloc, &mut book);
-    book.end(&rt);
-    filled
-}
-
-/// What is done with a book.
-#[derive(Clone, Copy, PartialEq, Eq, Debug)]
-enum Step {
-    Ask(Asked),
-    Aim,
-    Claim,
-    Back(u32),
-    AllBack,
-    Publish,
-}
-
-/// What a step was answered; a request is answered by its number, which is 0 where the history is full.
-#[derive(Clone, Copy, PartialEq, Eq, Debug)]
-enum Told {
-    Nothing,
-    Length(u32),
-    Tile(u32),
-    Published(Published),
-}
-
-fn act<R: Wait>(rt: &R, book: &mut Book, alloc: Global, step: Step) -> Result<Told, AllocError> {
-    match step {
-        Step::Ask(asked) => match book.request(0, request_of(asked)) {
-            Ok((number, _reply)) => Ok(Told::Length(number)),
-            Err(_full) => Ok(Told::Length(0)),
-        },
-        Step::Aim => Ok(Told::Length(book.aim())),
-        Step::Claim => match book.claim(alloc)? {
-            Some(job) => Ok(Told::Tile(job.tile)),
-            None => Ok(Told::Nothing),
-        },
-        Step::Back(tile) => {
-            if tile < tiles(&book.level().setting) {
-                let shapes = Items::new(alloc);
-                book.put_back(Job { tile, shapes });
-            }
-            Ok(Told::Nothing)
-        }
-        Step::AllBack => {
-            book.put_back_all();
-            Ok(Told::Nothing)
-        }
-        Step::Publish => Ok(Told::Published(book.publish(rt, alloc)?)),
-    }
-}
-
-/// Four tiles: the column 1 is of the tile 0, the column 5 of the tile 1.
-const STEPS: [(Step, Told); 17] = [
-    (Step::Publish, Told::Published(Published::Same { k: 0 })),
-    (Step::Ask(Asked::Block(1)), Told::Length(1)),
-    (Step::Claim, Told::Nothing),
-    (Step::Publish, Told::Published(Published::Same { k: 0 })),
-    (Step::Aim, Told::Length(1)),
-    (
-        Step::Publish,
-        Told::Published(Published::NotYet { tile: 0 }),
-    ),
-    (Step::Claim, Told::Tile(0)),
-    (Step::Claim, Told::Nothing),
-    (
-        Step::Publish,
-        Told::Published(Published::NotYet { tile: 0 }),
-    ),
-    (Step::Ask(Asked::Area(5)), Told::Length(2)),
-    (Step::Aim, Told::Length(2)),
-    (Step::Back(0), Told::Nothing),
-    (Step::Claim, Told::Tile(0)),
-    (Step::Claim, Told::Tile(1)),
-    (Step::Claim, Told::Nothing),
-    (Step::AllBack, Told::Nothing),
-    (Step::Claim, Told::Tile(0)),
-];
-
-fn check_steps<R: Abort + Wait>(
-    rt: &R,
-    alloc: Global,
-    book: &mut Book,
-    rows: &[(Step, Told)],
-) -> Result<(), AllocError> {
-    for (step, wanted) in rows {
-        assert_eq!(rt; act(rt, book, alloc, *step)?, *wanted, "at {step:?}");
-    }
-    Ok(())
-}
-
-#[test]
-fn hands_out_the_tiles_that_are_awaited(rt: HostRuntime) -> Result<(), AllocError> {
-    let alloc = rt.alloc();
-    let mut book = unread(&rt, alloc, FOUR_TILES)?;
-    let stepped = check_steps(&rt, alloc, &mut book, &STEPS);
-    book.end(&rt);
-    stepped
-}
-
-/// Builds the awaited tile, does something else with the book and aims again, and submits the build.
-fn submitted_late<L: Ledger>(
-    book: &mut Book,
-    alloc: Global,
-    between: &[Asked],
-    blank: Blank,
-) -> Result<Option<Submitted>, AllocError>
-    requires name { blank.name ≡ L.name }
-    requires parts { blank.parts ≡ L.parts }
-    requires some { 0 < blank.parts }
-{
-    let mut steps = Steps::<L>::new(blank);
-    let made = next_build(book, alloc, &mut steps)?;
-    ask_all(book, between);
-    book.aim();
-    match made {
-        None => Ok(None),
-        Some(made) => Ok(Some(book.submit(made))),
-    }
 }
 
 fn ask_all(book: &mut Book, requests: &[Asked])
@@ -554,129 +224,557 @@ fn ask_all(book: &mut Book, requests: &[Asked])
     }
 }
 
-/// What is asked while a tile is built under the block 1, how its build is taken, what a publish is answered then, and the floors of the
-/// column (1, 1) afterwards.
-type Late = (&'static [Asked], Submitted, Published, Option<FloorAt>);
+/// What is done with a book, or asked of it.
+#[derive(Clone, Copy)]
+enum Step {
+    /// A request in a lane.
+    Ask(u32, Asked),
+    /// Requests that remove nothing, until the history is full.
+    Fill,
+    Aim,
+    Claim,
+    Back(u32),
+    AllBack,
+    /// The awaited tile is built, this is asked and aimed at, and then the build is submitted.
+    Late(&'static [Asked]),
+    Publish,
+    /// All that is awaited is built and published.
+    Settle,
+    /// The floors of a column.
+    Floors(u32, u32),
+    /// A path inside the first polygon.
+    Path,
+    /// How long the history is, and how much of it is published.
+    Lengths,
+    /// How many polygons and links there are.
+    Counts,
+    /// The last entry.
+    Last,
+}
 
-const LATE: [Late; 4] = [
-    (
-        &[Asked::Area(5)],
-        Submitted::Taken,
-        Published::NotYet { tile: 1 },
-        BARE,
-    ),
-    (
-        &[Asked::Remove(1)],
-        Submitted::Stale,
-        Published::New { k: 2 },
-        BARE,
-    ),
-    (
-        &[Asked::Remove(1), Asked::Block(1)],
-        Submitted::Taken,
-        Published::New { k: 3 },
-        None,
-    ),
-    (
-        &[Asked::Area(1)],
-        Submitted::Stale,
-        Published::NotYet { tile: 0 },
-        BARE,
-    ),
-];
+/// What a step was answered.
+#[derive(Clone, Copy, PartialEq)]
+enum Told {
+    Nothing,
+    NoMemory,
+    /// The number of a request, and the reply.
+    Reply(Result<(u32, Reply), HistoryFull>),
+    /// The length that is aimed at, or the tile that is claimed.
+    Number(u32),
+    Submitted(Submitted),
+    Published(Result<Published, AllocError>),
+    /// How many floors a column has, and the lowest of them.
+    Floors(usize, Option<FloorAt>),
+    /// The path stays in the first polygon, and so much is published.
+    Stays(u32),
+    /// No polygon holds the goal, and so much is published.
+    NoGoal(u32),
+    Numbers(u32, u32),
+    Last(Option<Entry>),
+}
 
-/// How a build is taken that was begun before more was asked, what a publish is answered then, and what is seen afterwards.
-fn late<R: Wait>(
+fn fill(book: &mut Book) -> Told {
+    for _ in 0..HISTORY_LIMIT {
+        if book.request(0, Request::Remove(1)).is_err() {
+            return Told::Number(book.length());
+        }
+    }
+    Told::Nothing
+}
+
+fn claimed(book: &mut Book, alloc: Global) -> Told {
+    match book.claim(alloc) {
+        Ok(Some(job)) => Told::Number(job.tile),
+        Ok(None) => Told::Nothing,
+        Err(_) => Told::NoMemory,
+    }
+}
+
+fn put_back(book: &mut Book, alloc: Global, tile: u32) -> Told {
+    if tile < tiles(&book.level().setting) {
+        let shapes = Items::new(alloc);
+        book.put_back(Job { tile, shapes });
+    }
+    Told::Nothing
+}
+
+/// Builds the awaited tile, does something else with the book and aims again, and submits the build.
+fn submitted_late<L: Ledger>(
+    book: &mut Book,
+    alloc: Global,
+    between: &[Asked],
+    steps: &mut Steps<L>,
+) -> Told {
+    match next_build(book, alloc, steps) {
+        Ok(Some(made)) => {
+            ask_all(book, between);
+            book.aim();
+            Told::Submitted(book.submit(made))
+        }
+        Ok(None) => Told::Nothing,
+        Err(_) => Told::NoMemory,
+    }
+}
+
+/// The tile of the columns 1 to 3 has the strips of the rows 1 and 2, each from 16 to 64 of x.
+const QUESTION: Question = Question::Path {
+    from: Point { x: 24, z: 24 },
+    from_y: 10,
+    to: Point { x: 40, z: 24 },
+    to_y: 10,
+};
+
+/// Whether it is the path that stays in the first polygon.
+fn stays(path: &PathFound) -> bool {
+    path.first == PolyRef { tile: 0, index: 0 }
+        && path.cost == 0
+        && path.links.len() == 0
+        && path.turns.len() == 0
+}
+
+/// What an answer tells, with so much published.
+fn told_of(number: u32, answer: &Answer) -> Told {
+    match answer {
+        Answer::Floors(floors) => Told::Floors(floors.len(), floors.get(0).copied()),
+        Answer::Path(path) if stays(path) => Told::Stays(number),
+        Answer::NoGoal => Told::NoGoal(number),
+        _ => Told::Nothing,
+    }
+}
+
+fn answered(book: &Book, alloc: Global, question: &Question) -> Told
+    requires { IsAnswerable question.now }
+{
+    match book.ask(alloc, question) {
+        Ok((number, answer)) => told_of(number, &answer),
+        Err(_) => Told::NoMemory,
+    }
+}
+
+/// What is asked of a book that stays as it is.
+fn seen(book: &Book, alloc: Global, step: Step) -> Told {
+    match step {
+        Step::Floors(x, z) => answered(book, alloc, &Question::Floor { x, z }),
+        Step::Path => answered(book, alloc, &QUESTION),
+        Step::Lengths => Told::Numbers(book.length(), book.published()),
+        Step::Counts => {
+            let (polygons, links) = book.mesh_counts();
+            Told::Numbers(polygons, links)
+        }
+        Step::Last => Told::Last(book.entries().last().copied()),
+        _ => Told::Nothing,
+    }
+}
+
+fn act<R: Wait, L: Ledger>(
+    rt: &R,
+    book: &mut Book,
+    alloc: Global,
+    steps: &mut Steps<L>,
+    step: Step,
+) -> Told {
+    match step {
+        Step::Ask(lane, asked) => Told::Reply(book.request(lane, request_of(asked))),
+        Step::Fill => fill(book),
+        Step::Aim => Told::Number(book.aim()),
+        Step::Claim => claimed(book, alloc),
+        Step::Back(tile) => put_back(book, alloc, tile),
+        Step::AllBack => {
+            book.put_back_all();
+            Told::Nothing
+        }
+        Step::Late(between) => submitted_late(book, alloc, between, steps),
+        Step::Publish => Told::Published(book.publish(rt, alloc)),
+        Step::Settle => Told::Published(settled(rt, book, alloc, steps)),
+        _ => seen(book, alloc, step),
+    }
+}
+
+/// A step, and what it is to be told.
+type Row = (Step, Told);
+
+fn wrong_row<R: Wait, L: Ledger>(
     rt: &R,
     alloc: Global,
     book: &mut Book,
-    between: &[Asked],
-) -> Result<(Option<Submitted>, Published, Option<FloorAt>), AllocError> {
-    let _answer = book.request(0, request_of(Asked::Block(1)));
-    book.aim();
-    let taken = submitted_late::<Brand>(book, alloc, between, Blank::new(1))?;
-    let published = book.publish(rt, alloc)?;
-    Ok((taken, published, lowest(book, alloc, 1, 1)?))
+    steps: &mut Steps<L>,
+    rows: &[Row],
+) -> Option<usize> {
+    for row in 0..rows.len() {
+        let (step, wanted) = rows[row];
+        if act(rt, book, alloc, steps, step) != wanted {
+            return Some(row);
+        }
+    }
+    None
 }
 
-fn check_late<R: Abort + Wait>(rt: &R, alloc: Global, row: &Late) -> Result<(), AllocError> {
-    let mut book = unread(rt, alloc, FOUR_TILES)?;
-    let seen = late(rt, alloc, &mut book, row.0);
-    book.end(rt);
-    assert!(rt; seen? == (Some(row.1), row.2, row.3));
-    Ok(())
+// A book may go from one thread to another.
+fn sent<T: Send>(value: T) -> T {
+    value
 }
+
+/// Plays the rows of a table with a book of its own. A row that is wrong; 99 where there is no memory.
+fn wrong_in_play<R: Wait, L: Ledger>(
+    rt: &R,
+    alloc: Global,
+    layout: Layout,
+    rows: &[Row],
+    blank: Blank,
+) -> Option<usize>
+    requires name { blank.name ≡ L.name }
+    requires parts { blank.parts ≡ L.parts }
+    requires some { 0 < blank.parts }
+{
+    let mut steps = Steps::<L>::new(blank);
+    match opened(rt, alloc, layout, 0, &mut steps) {
+        Ok((book, _eyes)) => {
+            let mut book = sent(book);
+            let wrong = wrong_row(rt, alloc, &mut book, &mut steps, rows);
+            book.end(rt);
+            wrong
+        }
+        Err(_) => Some(99),
+    }
+}
+
+/// The tiles of a ground, a table's name, and the table, which is played with a book of that ground.
+type Play = (Layout, &'static str, &'static [Row]);
+
+/// Plays tables, each over a blank ledger.
+fn play_all<R: Abort + Wait>(rt: &R, alloc: Global, plays: &[Play]) {
+    for (layout, name, rows) in plays {
+        let wrong = wrong_in_play::<R, Brand>(rt, alloc, *layout, *rows, Blank::new(1));
+        all_hold(rt, name, wrong);
+    }
+}
+
+const BARE: Option<FloorAt> = Some(FloorAt { y: 10, area: 63 });
+
+const MUDDY: Option<FloorAt> = Some(FloorAt { y: 10, area: 5 });
+
+/// Requests with their numbers and replies.
+const ASKINGS: [Row; 23] = [
+    (
+        Step::Ask(3, Asked::Block(1)),
+        Told::Reply(Ok((1, Reply::Added { number: 1 }))),
+    ),
+    (Step::Lengths, Told::Numbers(1, 0)),
+    (
+        Step::Ask(3, Asked::Area(2)),
+        Told::Reply(Ok((2, Reply::Added { number: 2 }))),
+    ),
+    (Step::Lengths, Told::Numbers(2, 0)),
+    (
+        Step::Ask(3, Asked::Block(3)),
+        Told::Reply(Ok((3, Reply::Full { live: 2 }))),
+    ),
+    (Step::Lengths, Told::Numbers(3, 0)),
+    (
+        Step::Ask(3, Asked::Remove(1)),
+        Told::Reply(Ok((4, Reply::Removed))),
+    ),
+    (Step::Lengths, Told::Numbers(4, 0)),
+    (
+        Step::Ask(3, Asked::Remove(1)),
+        Told::Reply(Ok((5, Reply::Dead { number: 1 }))),
+    ),
+    (Step::Lengths, Told::Numbers(5, 0)),
+    (
+        Step::Ask(3, Asked::Remove(0)),
+        Told::Reply(Ok((6, Reply::Dead { number: 0 }))),
+    ),
+    (Step::Lengths, Told::Numbers(6, 0)),
+    (
+        Step::Ask(3, Asked::Block(3)),
+        Told::Reply(Ok((7, Reply::Added { number: 7 }))),
+    ),
+    (Step::Lengths, Told::Numbers(7, 0)),
+    (
+        Step::Ask(3, Asked::Remove(3)),
+        Told::Reply(Ok((8, Reply::Dead { number: 3 }))),
+    ),
+    (Step::Lengths, Told::Numbers(8, 0)),
+    (
+        Step::Ask(3, Asked::Remove(7)),
+        Told::Reply(Ok((9, Reply::Removed))),
+    ),
+    (Step::Lengths, Told::Numbers(9, 0)),
+    (
+        Step::Ask(3, Asked::Remove(2)),
+        Told::Reply(Ok((10, Reply::Removed))),
+    ),
+    (Step::Lengths, Told::Numbers(10, 0)),
+    (
+        Step::Ask(3, Asked::Block(1)),
+        Told::Reply(Ok((11, Reply::Added { number: 11 }))),
+    ),
+    (Step::Lengths, Told::Numbers(11, 0)),
+    (Step::Last, Told::Last(Some(LAST))),
+];
+
+const LAST: Entry = Entry {
+    lane: 3,
+    request: Request::Add(Shape::Block {
+        x0: 1,
+        x1: 1,
+        y0: 0,
+        y1: 100,
+        z0: 1,
+        z1: 1,
+    }),
+    reply: Reply::Added { number: 11 },
+};
+
+/// What is published, and what is seen of it. Columns of the edge and those outside have no floors, each other one has one.
+const SETTLINGS: [Row; 34] = [
+    (
+        Step::Ask(0, Asked::Remove(9)),
+        Told::Reply(Ok((1, Reply::Dead { number: 9 }))),
+    ),
+    (Step::Floors(1, 1), Told::Floors(1, BARE)),
+    (Step::Floors(2, 1), Told::Floors(1, BARE)),
+    (
+        Step::Ask(0, Asked::Block(2)),
+        Told::Reply(Ok((2, Reply::Added { number: 2 }))),
+    ),
+    (Step::Floors(1, 1), Told::Floors(1, BARE)),
+    (Step::Floors(2, 1), Told::Floors(1, BARE)),
+    (
+        Step::Ask(0, Asked::Area(1)),
+        Told::Reply(Ok((3, Reply::Added { number: 3 }))),
+    ),
+    (Step::Settle, Told::Published(Ok(Published::New { k: 3 }))),
+    (Step::Lengths, Told::Numbers(3, 3)),
+    (Step::Floors(1, 1), Told::Floors(1, MUDDY)),
+    (Step::Floors(2, 1), Told::Floors(0, None)),
+    (
+        Step::Ask(0, Asked::Block(3)),
+        Told::Reply(Ok((4, Reply::Full { live: 2 }))),
+    ),
+    (Step::Settle, Told::Published(Ok(Published::New { k: 4 }))),
+    (Step::Lengths, Told::Numbers(4, 4)),
+    (Step::Floors(1, 1), Told::Floors(1, MUDDY)),
+    (Step::Floors(2, 1), Told::Floors(0, None)),
+    (
+        Step::Ask(0, Asked::Remove(2)),
+        Told::Reply(Ok((5, Reply::Removed))),
+    ),
+    (Step::Floors(1, 1), Told::Floors(1, MUDDY)),
+    (Step::Floors(2, 1), Told::Floors(0, None)),
+    (
+        Step::Ask(0, Asked::Remove(3)),
+        Told::Reply(Ok((6, Reply::Removed))),
+    ),
+    (Step::Settle, Told::Published(Ok(Published::New { k: 6 }))),
+    (Step::Lengths, Told::Numbers(6, 6)),
+    (Step::Floors(1, 1), Told::Floors(1, BARE)),
+    (Step::Floors(2, 1), Told::Floors(1, BARE)),
+    (Step::Floors(0, 1), Told::Floors(0, None)),
+    (Step::Floors(6, 1), Told::Floors(0, None)),
+    (Step::Floors(1, 0), Told::Floors(0, None)),
+    (Step::Floors(1, 3), Told::Floors(0, None)),
+    (Step::Floors(3, 2), Told::Floors(1, BARE)),
+    (Step::Floors(4, 2), Told::Floors(1, BARE)),
+    (Step::Floors(5, 1), Told::Floors(1, BARE)),
+    (Step::Floors(7, 2), Told::Floors(0, None)),
+    (Step::Floors(1, 4), Told::Floors(0, None)),
+    (Step::Floors(5000, 2), Told::Floors(0, None)),
+];
+
+/// The goal is covered once the request is published, and not before.
+const COVERING: [Row; 5] = [
+    (Step::Path, Told::Stays(0)),
+    (
+        Step::Ask(0, Asked::Block(2)),
+        Told::Reply(Ok((1, Reply::Added { number: 1 }))),
+    ),
+    (Step::Path, Told::Stays(0)),
+    (Step::Settle, Told::Published(Ok(Published::New { k: 1 }))),
+    (Step::Path, Told::NoGoal(1)),
+];
+
+/// A history that is full.
+const FILLING: [Row; 3] = [
+    (Step::Fill, Told::Nothing),
+    (
+        Step::Ask(0, Asked::Remove(1)),
+        Told::Reply(Err(HistoryFull { len: HISTORY_LIMIT })),
+    ),
+    (
+        Step::Settle,
+        Told::Published(Ok(Published::New { k: HISTORY_LIMIT })),
+    ),
+];
+
+/// The tiles that are awaited are handed out. The column 1 is of the tile 0, the column 5 of the tile 1.
+const STEPS: [Row; 17] = [
+    (Step::Publish, Told::Published(Ok(Published::Same { k: 0 }))),
+    (
+        Step::Ask(0, Asked::Block(1)),
+        Told::Reply(Ok((1, Reply::Added { number: 1 }))),
+    ),
+    (Step::Claim, Told::Nothing),
+    (Step::Publish, Told::Published(Ok(Published::Same { k: 0 }))),
+    (Step::Aim, Told::Number(1)),
+    (
+        Step::Publish,
+        Told::Published(Ok(Published::NotYet { tile: 0 })),
+    ),
+    (Step::Claim, Told::Number(0)),
+    (Step::Claim, Told::Nothing),
+    (
+        Step::Publish,
+        Told::Published(Ok(Published::NotYet { tile: 0 })),
+    ),
+    (
+        Step::Ask(0, Asked::Area(5)),
+        Told::Reply(Ok((2, Reply::Added { number: 2 }))),
+    ),
+    (Step::Aim, Told::Number(2)),
+    (Step::Back(0), Told::Nothing),
+    (Step::Claim, Told::Number(0)),
+    (Step::Claim, Told::Number(1)),
+    (Step::Claim, Told::Nothing),
+    (Step::AllBack, Told::Nothing),
+    (Step::Claim, Told::Number(0)),
+];
+
+/// The tile 0 is awaited under a block, and its build is submitted once more was asked: a row of what was asked, how the build is taken,
+/// what a publish is answered then, and the floors of the column (1, 1) afterwards.
+macro_rules! late {
+    ($asked:expr, $taken:expr, $published:expr, $count:expr, $floor:expr) => {
+        [
+            (Step::Ask(0, Asked::Block(1)), Told::Reply(Ok((1, Reply::Added { number: 1 })))),
+            (Step::Aim, Told::Number(1)),
+            (Step::Late($asked), Told::Submitted($taken)),
+            (Step::Publish, Told::Published(Ok($published))),
+            (Step::Floors(1, 1), Told::Floors($count, $floor)),
+        ]
+    };
+}
+
+const LATE_ELSEWHERE: [Row; 5] = late!(
+    &[Asked::Area(5)],
+    Submitted::Taken,
+    Published::NotYet { tile: 1 },
+    1,
+    BARE
+);
+
+const LATE_REMOVED: [Row; 5] = late!(
+    &[Asked::Remove(1)],
+    Submitted::Stale,
+    Published::New { k: 2 },
+    1,
+    BARE
+);
+
+const LATE_AGAIN: [Row; 5] = late!(
+    &[Asked::Remove(1), Asked::Block(1)],
+    Submitted::Taken,
+    Published::New { k: 3 },
+    0,
+    None
+);
+
+const LATE_MORE: [Row; 5] = late!(
+    &[Asked::Area(1)],
+    Submitted::Stale,
+    Published::NotYet { tile: 0 },
+    1,
+    BARE
+);
+
+/// Four tiles of three strips each, with as many links inside tiles as over borders.
+const COUNTED: [Row; 1] = [(Step::Counts, Told::Numbers(12, 32))];
+
+/// One tile of four strips.
+const COUNTED_ONE: [Row; 1] = [(Step::Counts, Told::Numbers(4, 6))];
+
+const PLAYS: [Play; 11] = [
+    (Layout::Two, "requests", &ASKINGS),
+    (Layout::Two, "settlings", &SETTLINGS),
+    (Layout::Two, "covering", &COVERING),
+    (Layout::Two, "filling", &FILLING),
+    (Layout::Four, "awaited tiles", &STEPS),
+    (Layout::Four, "late, of another tile", &LATE_ELSEWHERE),
+    (Layout::Four, "late, without the block", &LATE_REMOVED),
+    (Layout::Four, "late, under the block again", &LATE_AGAIN),
+    (Layout::Four, "late, under more", &LATE_MORE),
+    (Layout::Four, "counts of four tiles", &COUNTED),
+    (Layout::One, "counts of one tile", &COUNTED_ONE),
+];
 
 #[test]
-fn takes_builds_that_still_serve(rt: HostRuntime) -> Result<(), AllocError> {
-    let alloc = rt.alloc();
-    for row in &LATE {
-        check_late(&rt, alloc, row)?;
-    }
-    Ok(())
-}
-
-/// The length that an eye names, and how many floors it sees in the column (2, 1).
-fn looked(eye: &mut Eye, alloc: Global) -> Result<(u32, usize), AllocError>
-    ensures { eye.new.pair ≡ eye.old.pair }
-{
-    let (length, answer) = eye.ask(alloc, &Question::Floor { x: 2, z: 1 })?;
-    match answer {
-        Answer::Floors(floors) => Ok((length, floors.len())),
-        _ => Ok((length, 9)),
-    }
+fn plays_books(rt: HostRuntime) {
+    play_all(&rt, rt.alloc(), &PLAYS);
 }
 
 /// What eyes of a book see: the first one before a block is published there; the second one once it learnt the length that the book tells,
 /// and the first one again, which was told nothing; and that length.
-fn seen_by<R: Wait>(
+type Seen = ([Option<(u32, usize)>; 3], u32);
+
+fn seen_by<R: Wait, L: Ledger>(
     rt: &R,
     alloc: Global,
     book: &mut Book,
     first: &mut Eye,
     second: &mut Eye,
-) -> Result<([(u32, usize); 3], u32), AllocError>
+    steps: &mut Steps<L>,
+) -> Seen
     requires { second.old.pair ≡ book.old.pair }
 {
-    let before = looked(first, alloc)?;
+    let before = floors(first, alloc, 2, 1);
     let _answer = book.request(0, request_of(Asked::Block(2)));
-    published(rt, book, alloc)?;
+    let _published = settled(rt, book, alloc, steps);
     let told = book.told();
     let length = told.length();
     second.learn(told);
-    let after = looked(second, alloc)?;
-    let again = looked(first, alloc)?;
-    Ok(([before, after, again], length))
+    let after = floors(second, alloc, 2, 1);
+    let again = floors(first, alloc, 2, 1);
+    ([before, after, again], length)
 }
 
 /// The same, and whether an eye is refused once the book has ended.
-fn watched<R: Wait>(
+fn watched<R: Wait, L: Ledger>(
     rt: &R,
     alloc: Global,
     book: Book,
     eyes: (Eye, Eye),
-) -> Result<([(u32, usize); 3], u32, bool), AllocError>
+    steps: &mut Steps<L>,
+) -> (Seen, bool)
     requires { eyes.1.pair ≡ book.pair }
 {
     let mut book = book;
     let (mut first, mut second) = eyes;
-    let seen = seen_by(rt, alloc, &mut book, &mut first, &mut second);
+    let seen = seen_by(rt, alloc, &mut book, &mut first, &mut second, steps);
     book.end(rt);
-    let (answers, length) = seen?;
-    Ok((answers, length, looked(&mut first, alloc).is_err()))
+    (seen, floors(&mut first, alloc, 2, 1).is_none())
+}
+
+/// The same of a book that is opened with two eyes.
+fn watched_anew<R: Wait, L: Ledger>(rt: &R, alloc: Global, blank: Blank) -> Option<(Seen, bool)>
+    requires name { blank.name ≡ L.name }
+    requires parts { blank.parts ≡ L.parts }
+    requires some { 0 < blank.parts }
+{
+    let mut steps = Steps::<L>::new(blank);
+    match opened(rt, alloc, Layout::Two, 2, &mut steps) {
+        Ok((book, eyes)) => match both(eyes) {
+            Some(eyes) => Some(watched(rt, alloc, book, eyes, &mut steps)),
+            None => {
+                book.end(rt);
+                None
+            }
+        },
+        Err(_) => None,
+    }
 }
 
 #[test]
-fn hands_out_eyes(rt: HostRuntime) -> Result<(), AllocError> {
-    let alloc = rt.alloc();
-    let (book, eyes) = opened::<HostRuntime, Brand>(&rt, alloc, TWO_TILES, 2, Blank::new(1))?;
-    let seen = match both(eyes) {
-        Some(eyes) => watched(&rt, alloc, book, eyes),
-        None => {
-            book.end(&rt);
-            Err(AllocError)
-        }
-    };
-    assert!(rt; seen? == ([(0, 1), (1, 0), (1, 0)], 1, true));
-    Ok(())
+fn hands_out_eyes(rt: HostRuntime) {
+    let seen = watched_anew::<HostRuntime, Brand>(&rt, rt.alloc(), Blank::new(1));
+    let answers = [Some((0, 1)), Some((1, 0)), Some((1, 0))];
+    hold(&rt, "eyes", seen == Some(((answers, 1), true)));
 }

@@ -6,24 +6,25 @@ ghost use Rattle.mesh_types.specs.Chains.{IsAhead, IsBehind, portal_at, points_a
 ghost use Rattle.funnel_path.specs.Coordinates.{HasEndCoordinates};
 ghost use Rattle.tests_paths.specs.SmallChains.{IsPortalOf, IsSmallChain};
 
+use crate::rows::all_hold;
 use funnel_path::pull;
 use mesh_types::{Corner, Portal, Side};
 use nav_base::{Point, orient};
-use std::alloc::{AllocError, Global};
-use std::process::Abort;
+use std::alloc::Global;
+
+/// A point by x and z.
+macro_rules! at {
+    ($x:expr, $z:expr) => {
+        Point { x: $x, z: $z }
+    };
+}
 
 /// A portal by x and z of its left end and of its right end.
 macro_rules! portal {
     ($left_x:expr, $left_z:expr, $right_x:expr, $right_z:expr) => {
         Portal {
-            left: Point {
-                x: $left_x,
-                z: $left_z,
-            },
-            right: Point {
-                x: $right_x,
-                z: $right_z,
-            },
+            left: at!($left_x, $left_z),
+            right: at!($right_x, $right_z),
         }
     };
 }
@@ -32,7 +33,7 @@ macro_rules! portal {
 macro_rules! turn {
     ($side:ident, $x:expr, $z:expr, $portal:expr) => {
         Corner {
-            at: Point { x: $x, z: $z },
+            at: at!($x, $z),
             side: Side::$side,
             portal: $portal,
         }
@@ -40,10 +41,10 @@ macro_rules! turn {
 }
 
 /// A start, portals, a goal, and the corners of the path through them.
-type Chain = ((i32, i32), &'static [Portal], (i32, i32), &'static [Corner]);
+type Chain = (Point, &'static [Portal], Point, &'static [Corner]);
 
 /// Whether a point has coordinates.
-fn has_coordinates(p: Point) -> bool
+pub(crate) fn has_coordinates(p: Point) -> bool
     ensures { IsTrue result ↔ HasCoordinates p }
 {
     -65536 <= p.x && p.x <= 65536 && -65536 <= p.z && p.z <= 65536
@@ -155,153 +156,130 @@ fn turns_at(
     portals: &[Portal],
     goal: Point,
     turns: &[Corner],
-) -> Result<bool, AllocError> {
+) -> bool {
     if !is_small_chain(start, portals, goal) {
-        return Ok(false);
+        return false;
     }
-    let corners = pull(alloc, start, portals, goal)?;
-    Ok(corners.as_slice() == turns)
-}
-
-fn at(place: (i32, i32)) -> Point {
-    Point {
-        x: place.0,
-        z: place.1,
+    match pull(alloc, start, portals, goal) {
+        Ok(corners) => corners.as_slice() == turns,
+        Err(_) => false,
     }
 }
 
-fn check(rt: &impl Abort, alloc: Global, chains: &[Chain]) -> Result<(), AllocError> {
-    for (start, portals, goal, turns) in chains {
-        let is_so = turns_at(alloc, at(*start), *portals, at(*goal), *turns)?;
-        assert!(rt;
-            is_so,
-            "from {start:?} to {goal:?} through {} portals",
-            portals.len()
-        );
+fn wrong_chain(alloc: Global, chains: &[Chain]) -> Option<usize> {
+    for row in 0..chains.len() {
+        let (start, portals, goal, turns) = chains[row];
+        if !turns_at(alloc, start, portals, goal, turns) {
+            return Some(row);
+        }
     }
-    Ok(())
+    None
 }
 
-const STRAIGHT: [Chain; 4] = [
+const CHAINS: [Chain; 31] = [
+    // Paths that go straight through.
+    //
     // no portals
-    ((0, 0), &[], (5, 5), &[]),
+    (at!(0, 0), &[], at!(5, 5), &[]),
     // two portals in a row
     (
-        (0, -8),
+        at!(0, -8),
         &[portal!(-8, 0, 8, 0), portal!(-8, 8, 8, 8)],
-        (0, 16),
+        at!(0, 16),
         &[],
     ),
     // three portals, crosswise
     (
-        (24, 24),
+        at!(24, 24),
         &[
             portal!(16, 32, 80, 32),
             portal!(16, 48, 80, 48),
             portal!(16, 64, 80, 64),
         ],
-        (72, 72),
+        at!(72, 72),
         &[],
     ),
     // the start lies inside the first of three
     (
-        (48, 32),
+        at!(48, 32),
         &[
             portal!(16, 32, 80, 32),
             portal!(16, 48, 80, 48),
             portal!(16, 64, 80, 64),
         ],
-        (48, 72),
+        at!(48, 72),
         &[],
     ),
-];
-
-#[test]
-fn goes_straight_through(rt: HostRuntime) -> Result<(), AllocError> {
-    check(&rt, rt.alloc(), &STRAIGHT)
-}
-
-const ON_LINES: [Chain; 4] = [
+    // Paths that go straight where points lie on lines.
+    //
     // start and goal at one point of the portal
-    ((48, 48), &[portal!(16, 48, 80, 48)], (48, 48), &[]),
+    (at!(48, 48), &[portal!(16, 48, 80, 48)], at!(48, 48), &[]),
     // start and goal inside it
-    ((8, 8), &[portal!(0, 8, 16, 8)], (8, 8), &[]),
+    (at!(8, 8), &[portal!(0, 8, 16, 8)], at!(8, 8), &[]),
     // two portals on one line, from a point of both
     (
-        (8, 8),
+        at!(8, 8),
         &[portal!(0, 8, 16, 8), portal!(4, 8, 24, 8)],
-        (8, 16),
+        at!(8, 16),
         &[],
     ),
     // one portal twice
     (
-        (4, 0),
+        at!(4, 0),
         &[portal!(0, 8, 8, 8), portal!(0, 8, 8, 8)],
-        (4, 16),
+        at!(4, 16),
         &[],
     ),
-];
-
-#[test]
-fn goes_straight_on_lines(rt: HostRuntime) -> Result<(), AllocError> {
-    check(&rt, rt.alloc(), &ON_LINES)
-}
-
-const AT_ENDS: [Chain; 5] = [
+    // Turns at ends.
+    //
     // to the left
     (
-        (8, 0),
+        at!(8, 0),
         &[portal!(0, 8, 16, 8), portal!(-16, 16, 0, 16)],
-        (-12, 20),
+        at!(-12, 20),
         &[turn!(L, 0, 8, 0)],
     ),
     // to the right
     (
-        (-8, 0),
+        at!(-8, 0),
         &[portal!(-16, 8, 0, 8), portal!(0, 16, 16, 16)],
-        (12, 20),
+        at!(12, 20),
         &[turn!(R, 0, 8, 0)],
     ),
     // left, right and left
     (
-        (8, 0),
+        at!(8, 0),
         &[
             portal!(0, 8, 16, 8),
             portal!(-32, 24, -16, 24),
             portal!(16, 48, 32, 48),
         ],
-        (24, 64),
+        at!(24, 64),
         &[turn!(L, 0, 8, 0), turn!(R, -16, 24, 1), turn!(L, 16, 48, 2)],
     ),
     // twice to the left
     (
-        (30, 0),
+        at!(30, 0),
         &[
             portal!(20, 10, 40, 10),
             portal!(10, 30, 40, 30),
             portal!(-20, 50, 5, 50),
         ],
-        (-30, 55),
+        at!(-30, 55),
         &[turn!(L, 10, 30, 1), turn!(L, -20, 50, 2)],
     ),
     // the goal beyond two left ends in line
     (
-        (0, 0),
+        at!(0, 0),
         &[portal!(0, 8, 8, 8), portal!(0, 16, 8, 16)],
-        (0, 24),
+        at!(0, 24),
         &[turn!(L, 0, 16, 1)],
     ),
-];
-
-#[test]
-fn turns_at_ends(rt: HostRuntime) -> Result<(), AllocError> {
-    check(&rt, rt.alloc(), &AT_ENDS)
-}
-
-const ROUND_SEVERAL: [Chain; 2] = [
+    // Turns round several ends.
+    //
     // a half turn round two ends
     (
-        (40, 24),
+        at!(40, 24),
         &[
             portal!(16, 32, 48, 32),
             portal!(16, 48, 48, 48),
@@ -314,141 +292,123 @@ const ROUND_SEVERAL: [Chain; 2] = [
             portal!(112, 48, 64, 48),
             portal!(112, 32, 64, 32),
         ],
-        (72, 24),
+        at!(72, 24),
         &[turn!(R, 48, 96, 4), turn!(R, 64, 96, 5)],
     ),
     // down, to the right, and up again
     (
-        (40, 56),
+        at!(40, 56),
         &[
             portal!(48, 48, 16, 48),
             portal!(64, 48, 64, 32),
             portal!(80, 48, 112, 48),
             portal!(80, 64, 112, 64),
         ],
-        (88, 72),
+        at!(88, 72),
         &[
             turn!(L, 48, 48, 0),
             turn!(L, 64, 48, 1),
             turn!(L, 80, 48, 2),
         ],
     ),
-];
-
-#[test]
-fn turns_round_several_ends(rt: HostRuntime) -> Result<(), AllocError> {
-    check(&rt, rt.alloc(), &ROUND_SEVERAL)
-}
-
-const AT_START_OR_GOAL: [Chain; 8] = [
+    // An end at the start or the goal is named.
+    //
     // the start is the left end
     (
-        (0, 8),
+        at!(0, 8),
         &[portal!(0, 8, 16, 8)],
-        (8, 16),
+        at!(8, 16),
         &[turn!(L, 0, 8, 0)],
     ),
     // the right end
     (
-        (16, 8),
+        at!(16, 8),
         &[portal!(0, 8, 16, 8)],
-        (8, 16),
+        at!(8, 16),
         &[turn!(R, 16, 8, 0)],
     ),
     // the goal is the left end
     (
-        (8, 0),
+        at!(8, 0),
         &[portal!(0, 8, 16, 8)],
-        (0, 8),
+        at!(0, 8),
         &[turn!(L, 0, 8, 0)],
     ),
     // the right end
     (
-        (8, 0),
+        at!(8, 0),
         &[portal!(0, 8, 16, 8)],
-        (16, 8),
+        at!(16, 8),
         &[turn!(R, 16, 8, 0)],
     ),
     // the start lies beside the portal, on its line
     (
-        (24, 8),
+        at!(24, 8),
         &[portal!(0, 8, 16, 8)],
-        (8, 16),
+        at!(8, 16),
         &[turn!(R, 16, 8, 0)],
     ),
     // on the other side
     (
-        (-8, 8),
+        at!(-8, 8),
         &[portal!(0, 8, 16, 8)],
-        (8, 16),
+        at!(8, 16),
         &[turn!(L, 0, 8, 0)],
     ),
     // the goal lies beside the portal, on its line
     (
-        (8, 0),
+        at!(8, 0),
         &[portal!(0, 8, 16, 8)],
-        (24, 8),
+        at!(24, 8),
         &[turn!(R, 16, 8, 0)],
     ),
     // and there is another portal
     (
-        (24, 0),
+        at!(24, 0),
         &[portal!(0, 0, 16, 0), portal!(0, 8, 16, 8)],
-        (8, 16),
+        at!(8, 16),
         &[turn!(R, 16, 0, 0)],
     ),
-];
-
-#[test]
-fn names_an_end_at_the_start_or_the_goal(rt: HostRuntime) -> Result<(), AllocError> {
-    check(&rt, rt.alloc(), &AT_START_OR_GOAL)
-}
-
-const ROUND_SHARED: [Chain; 3] = [
+    // Turns round ends that portals share.
+    //
     // a full turn is not named again at the portals that are seen
     (
-        (16, -16),
+        at!(16, -16),
         &[
             portal!(0, 0, 32, 0),
             portal!(0, 0, -32, 0),
             portal!(0, 0, 32, 0),
         ],
-        (16, 16),
+        at!(16, 16),
         &[turn!(L, 0, 0, 0), turn!(L, 0, 0, 1), turn!(L, 0, 0, 2)],
     ),
     // a quarter turn
     (
-        (8, -8),
+        at!(8, -8),
         &[
             portal!(0, 0, 16, 0),
             portal!(0, 0, 16, 16),
             portal!(0, 0, 0, 16),
         ],
-        (-16, 12),
+        at!(-16, 12),
         &[turn!(L, 0, 0, 2)],
     ),
     // to the right
     (
-        (-8, -8),
+        at!(-8, -8),
         &[
             portal!(-16, 0, 0, 0),
             portal!(-16, 16, 0, 0),
             portal!(0, 16, 0, 0),
         ],
-        (16, 12),
+        at!(16, 12),
         &[turn!(R, 0, 0, 2)],
     ),
-];
-
-#[test]
-fn turns_round_shared_ends(rt: HostRuntime) -> Result<(), AllocError> {
-    check(&rt, rt.alloc(), &ROUND_SHARED)
-}
-
-const SPIRALS: [Chain; 2] = [
+    // Spirals.
+    //
     // two turns of a spiral
     (
-        (8, -8),
+        at!(8, -8),
         &[
             portal!(0, 0, 16, 0),
             portal!(0, 0, 0, 16),
@@ -457,7 +417,7 @@ const SPIRALS: [Chain; 2] = [
             portal!(0, 0, 16, 0),
             portal!(0, 0, 0, 16),
         ],
-        (-8, 8),
+        at!(-8, 8),
         &[
             turn!(L, 0, 0, 1),
             turn!(L, 0, 0, 2),
@@ -468,7 +428,7 @@ const SPIRALS: [Chain; 2] = [
     ),
     // and to the right
     (
-        (-8, -8),
+        at!(-8, -8),
         &[
             portal!(-16, 0, 0, 0),
             portal!(0, 16, 0, 0),
@@ -476,7 +436,7 @@ const SPIRALS: [Chain; 2] = [
             portal!(0, -16, 0, 0),
             portal!(-16, 0, 0, 0),
         ],
-        (-8, 8),
+        at!(-8, 8),
         &[
             turn!(R, 0, 0, 1),
             turn!(R, 0, 0, 2),
@@ -484,38 +444,32 @@ const SPIRALS: [Chain; 2] = [
             turn!(R, 0, 0, 4),
         ],
     ),
-];
-
-#[test]
-fn turns_on_a_spiral(rt: HostRuntime) -> Result<(), AllocError> {
-    check(&rt, rt.alloc(), &SPIRALS)
-}
-
-const FOLDS: [Chain; 3] = [
+    // Portals that fold.
+    //
     // a chain in which no bend can be held by its ends
     (
-        (0, 0),
+        at!(0, 0),
         &[portal!(1, 1, 2, 1), portal!(3, 1, 0, 1)],
-        (0, 0),
+        at!(0, 0),
         &[turn!(L, 1, 1, 0)],
     ),
     // the second portal folds back inside the first
     (
-        (2, 1),
+        at!(2, 1),
         &[portal!(0, 1, 4, 1), portal!(3, 1, 1, 1)],
-        (2, 0),
+        at!(2, 0),
         &[turn!(L, 0, 1, 0), turn!(R, 1, 1, 1)],
     ),
     // and with its right end there
     (
-        (4, -8),
+        at!(4, -8),
         &[portal!(0, 0, 8, 0), portal!(16, 0, 2, 0)],
-        (4, -4),
+        at!(4, -4),
         &[turn!(R, 2, 0, 1)],
     ),
 ];
 
 #[test]
-fn turns_where_portals_fold(rt: HostRuntime) -> Result<(), AllocError> {
-    check(&rt, rt.alloc(), &FOLDS)
+fn pulls_paths(rt: HostRuntime) {
+    all_hold(&rt, "chains", wrong_chain(rt.alloc(), &CHAINS));
 }

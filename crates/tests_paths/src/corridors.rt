@@ -1,9 +1,11 @@
 //! Corridors in a small mesh by hand.
 
 ghost use Rattle.std.specs.Prelude.{◌≡◌, ◌<◌, [], ◌∷◌, pos, IfOk};
-ghost use Rattle.tests_mesh.specs.HandSettings.{costly_setting, point};
-ghost use Rattle.tests_paths.specs.CorridorMesh.{reference, hand_tile, left_tile, right_tile, down_link, border_link, up_link, hand_mesh};
+ghost use Rattle.tests_mesh.specs.HandSettings.{costly_setting};
+ghost use Rattle.tests_paths.specs.CorridorMesh.{reference, hand_tile, left_tile, right_tile, border_link, hand_mesh};
 
+use crate::places::no_links;
+use crate::rows::all_hold;
 use crate::settings::PLAIN;
 use corridor_search::cheapest;
 use mesh_types::{Corners, Corridor, Link, Links, Mesh, PolyRef, Polygon, Portal, TileMesh};
@@ -12,7 +14,6 @@ use nav_ground::{AREAS, FreeLayer, Setting};
 use nav_list::Items;
 use nav_share::Shared;
 use std::alloc::{AllocError, Global};
-use std::process::Abort;
 
 /// The area 2 costs 3, and all others 1.
 fn setting() -> Setting
@@ -23,10 +24,11 @@ fn setting() -> Setting
     Setting { costs, ..PLAIN }
 }
 
-fn corner(x: i32, z: i32) -> Point
-    ensures { result ≡ record { x = x; z = z } }
-{
-    Point { x, z }
+/// A point by x and z.
+macro_rules! corner {
+    ($x:expr, $z:expr) => {
+        Point { x: $x, z: $z }
+    };
 }
 
 /// The triangle of three corners.
@@ -75,23 +77,32 @@ fn one_link(alloc: Global, link: Link) -> Result<Links, AllocError>
     Links::new(alloc, links, 2)
 }
 
-/// The link from one polygon to another, whose portal ends at (64, 64).
-fn link(from: (u32, u32), edge: u32, to: (u32, u32), right: Point) -> Link
-    ensures { result ≡ record {
-      from = reference from.0 from.1;
-      edge = edge;
-      to = reference to.0 to.1;
-      portal = record { left = point 64 64; right = right };
-    } }
-{
-    let left = corner(64, 64);
-    Link {
-        from: at(from),
-        edge,
-        to: at(to),
-        portal: Portal { left, right },
-    }
+/// The link from one polygon over an edge to another, whose portal begins at a point and ends at (64, 64).
+macro_rules! link {
+    ($tile:expr, $index:expr, $edge:expr, $to_tile:expr, $to_index:expr, $x:expr, $z:expr) => {
+        Link {
+            from: PolyRef {
+                tile: $tile,
+                index: $index,
+            },
+            edge: $edge,
+            to: PolyRef {
+                tile: $to_tile,
+                index: $to_index,
+            },
+            portal: Portal {
+                left: Point { x: 64, z: 64 },
+                right: Point { x: $x, z: $z },
+            },
+        }
+    };
 }
+
+const DOWN: Link = link!(0, 1, 0, 0, 0, 0, 0);
+
+const BORDER: Link = link!(0, 0, 1, 1, 0, 64, 0);
+
+const UP: Link = link!(1, 0, 1, 1, 1, 128, 0);
 
 fn at(polygon: (u32, u32)) -> PolyRef
     ensures { result ≡ reference polygon.0 polygon.1 }
@@ -102,38 +113,20 @@ fn at(polygon: (u32, u32)) -> PolyRef
     }
 }
 
-fn down() -> Link
-    ensures { result ≡ down_link }
-{
-    link((0, 1), 0, (0, 0), corner(0, 0))
-}
-
-fn border() -> Link
-    ensures { result ≡ border_link }
-{
-    link((0, 0), 1, (1, 0), corner(64, 0))
-}
-
-fn up() -> Link
-    ensures { result ≡ up_link }
-{
-    link((1, 0), 1, (1, 1), corner(128, 0))
-}
-
 fn left(alloc: Global) -> Result<Shared<TileMesh>, AllocError>
     ensures { IfOk result (λ made. made ≡ left_tile) }
 {
-    let lower = triangle(1, [corner(0, 0), corner(4, 0), corner(4, 4)]);
-    let upper = triangle(1, [corner(0, 0), corner(4, 4), corner(0, 4)]);
-    tile(alloc, 0, lower, upper, down())
+    let lower = triangle(1, [corner!(0, 0), corner!(4, 0), corner!(4, 4)]);
+    let upper = triangle(1, [corner!(0, 0), corner!(4, 4), corner!(0, 4)]);
+    tile(alloc, 0, lower, upper, DOWN)
 }
 
 fn right(alloc: Global) -> Result<Shared<TileMesh>, AllocError>
     ensures { IfOk result (λ made. made ≡ right_tile) }
 {
-    let lower = triangle(2, [corner(4, 0), corner(8, 0), corner(4, 4)]);
-    let upper = triangle(1, [corner(8, 0), corner(8, 4), corner(4, 4)]);
-    tile(alloc, 1, lower, upper, up())
+    let lower = triangle(2, [corner!(4, 0), corner!(8, 0), corner!(4, 4)]);
+    let upper = triangle(1, [corner!(8, 0), corner!(8, 4), corner!(4, 4)]);
+    tile(alloc, 1, lower, upper, UP)
 }
 
 fn tiles(alloc: Global) -> Result<Items<Shared<TileMesh>>, AllocError>
@@ -144,12 +137,19 @@ fn tiles(alloc: Global) -> Result<Items<Shared<TileMesh>>, AllocError>
     Ok(Items::from_vec(Vec::from_array(alloc, [left, right])?))
 }
 
+fn border(alloc: Global) -> Result<Shared<Links>, AllocError>
+    ensures { IfOk result (λ made. made ≡ border_link ∷ []) }
+{
+    let links = one_link(alloc, BORDER)?;
+    Ok(Shared::new(alloc, links)?)
+}
+
 /// The links over the border: one from the left tile, and none from the right one.
 fn cross(alloc: Global) -> Result<Items<Shared<Links>>, AllocError>
     ensures { IfOk result (λ cross. cross ≡ (border_link ∷ []) ∷ [] ∷ []) }
 {
-    let rightward = Shared::new(alloc, one_link(alloc, border())?)?;
-    let leftward = Shared::new(alloc, Links::new(alloc, Vec::new(alloc), 2)?)?;
+    let rightward = border(alloc)?;
+    let leftward = no_links(alloc)?;
     Ok(Items::from_vec(Vec::from_array(alloc, [rightward, leftward])?))
 }
 
@@ -181,70 +181,63 @@ fn corridor(
     }
 }
 
-/// What the corridor between two polygons costs, and how many links it has.
-fn cost_and_length(
-    alloc: Global,
-    mesh: &Mesh,
-    from: (u32, u32),
-    to: (u32, u32),
-) -> Result<Option<(u64, usize)>, AllocError>
-    requires mesh { mesh.now ≡ hand_mesh }
-{
-    match corridor(alloc, mesh, from, to)? {
-        Some(found) => Ok(Some((found.cost, found.links.len()))),
-        None => Ok(None),
-    }
-}
-
-/// Two polygons, and the cost and the length of the corridor between them.
-type Row = ((u32, u32), (u32, u32), Option<(u64, usize)>);
+/// Two polygons, and the cost and the links of the corridor between them.
+type Row = ((u32, u32), (u32, u32), Option<(u64, &'static [Link])>);
 
 /// Two triangles of one tile have the same middle, so that the link between them weighs 1; the middles of the two tiles are 64 sixteenths
 /// from each other, and the area entered over the border costs 3.
 const ROWS: [Row; 9] = [
-    ((0, 1), (1, 1), Some((194, 3))),
-    ((0, 1), (1, 0), Some((193, 2))),
-    ((0, 0), (1, 0), Some((192, 1))),
-    ((0, 1), (0, 0), Some((1, 1))),
-    ((1, 0), (1, 1), Some((1, 1))),
-    ((0, 1), (0, 1), Some((0, 0))),
+    ((0, 1), (1, 1), Some((194, &[DOWN, BORDER, UP]))),
+    ((0, 1), (1, 0), Some((193, &[DOWN, BORDER]))),
+    ((0, 0), (1, 0), Some((192, &[BORDER]))),
+    ((0, 1), (0, 0), Some((1, &[DOWN]))),
+    ((1, 0), (1, 1), Some((1, &[UP]))),
+    ((0, 1), (0, 1), Some((0, &[]))),
     ((1, 0), (0, 0), None),
     ((1, 1), (0, 1), None),
     ((0, 0), (0, 1), None),
 ];
 
-fn check_rows(rt: &impl Abort, alloc: Global, mesh: &Mesh, rows: &[Row]) -> Result<(), AllocError>
-    requires mesh { mesh.now ≡ hand_mesh }
-{
-    for (from, to, wanted) in rows {
-        let found = cost_and_length(alloc, mesh, *from, *to)?;
-        assert!(rt; found == *wanted, "from {from:?} to {to:?}");
-    }
-    Ok(())
-}
-
-#[test]
-fn finds_corridors(rt: HostRuntime) -> Result<(), AllocError> {
-    let alloc = rt.alloc();
-    let mesh = mesh(alloc)?;
-    check_rows(&rt, alloc, &mesh, &ROWS)
-}
-
-/// Whether the corridor from the first polygon to the last runs over these links.
-fn runs_over(alloc: Global, mesh: &Mesh, links: &[Link]) -> Result<bool, AllocError>
-    requires mesh { mesh.now ≡ hand_mesh }
-{
-    match corridor(alloc, mesh, (0, 1), (1, 1))? {
-        Some(found) => Ok(found.links.as_slice() == links),
-        None => Ok(false),
+fn is_wanted(found: &Option<Corridor>, wanted: Option<(u64, &[Link])>) -> bool {
+    match (found, wanted) {
+        (Some(found), Some((cost, links))) => {
+            found.cost == cost && found.links.as_slice() == links
+        }
+        (None, None) => true,
+        _ => false,
     }
 }
 
+/// Whether the corridor between two polygons is as wanted.
+fn is_corridor(alloc: Global, mesh: &Mesh, row: Row) -> bool
+    requires mesh { mesh.now ≡ hand_mesh }
+{
+    match corridor(alloc, mesh, row.0, row.1) {
+        Ok(found) => is_wanted(&found, row.2),
+        Err(_) => false,
+    }
+}
+
+fn wrong_row(alloc: Global, mesh: &Mesh, rows: &[Row]) -> Option<usize>
+    requires mesh { mesh.now ≡ hand_mesh }
+{
+    for row in 0..rows.len() {
+        if !is_corridor(alloc, mesh, rows[row]) {
+            return Some(row);
+        }
+    }
+    None
+}
+
+/// A row that is wrong; 99 where there is no memory.
+fn wrong(alloc: Global) -> Option<usize> {
+    match mesh(alloc) {
+        Ok(mesh) => wrong_row(alloc, &mesh, &ROWS),
+        Err(_) => Some(99),
+    }
+}
+
 #[test]
-fn names_the_links(rt: HostRuntime) -> Result<(), AllocError> {
-    let alloc = rt.alloc();
-    let mesh = mesh(alloc)?;
-    let is_so = runs_over(alloc, &mesh, &[down(), border(), up()])?;
-    assert!(rt; is_so);
-    Ok(())
+fn finds_corridors(rt: HostRuntime) {
+    all_hold(&rt, "corridors", wrong(rt.alloc()));
 }

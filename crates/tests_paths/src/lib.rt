@@ -15,6 +15,8 @@ mod places;
 #[cfg(test)]
 mod questions;
 #[cfg(test)]
+mod rows;
+#[cfg(test)]
 mod settings;
 #[cfg(test)]
 mod versions;

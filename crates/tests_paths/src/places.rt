@@ -3,6 +3,7 @@
 ghost use Rattle.std.specs.Prelude.{◌≡◌, ◌≤◌, [], ◌∷◌, IfOk};
 ghost use Rattle.tests_paths.specs.PlaceMesh.{hand_mesh, hand_polygon, hand_tile, left_tile, right_tile};
 
+use crate::rows::all_hold;
 use crate::settings::PLAIN;
 use mesh_locate::locate;
 use mesh_types::{Corners, Links, Mesh, PolyRef, Polygon, TileMesh};
@@ -11,7 +12,6 @@ use nav_ground::FreeLayer;
 use nav_list::Items;
 use nav_share::Shared;
 use std::alloc::{AllocError, Global};
-use std::process::Abort;
 
 /// The triangle on four cells of the lowest row from a column on, that reaches four cells up at another column, with floors from `low` to two more.
 fn polygon(x: u32, top: u32, low: u32) -> Polygon
@@ -57,7 +57,7 @@ fn tile(alloc: Global, tile: u32, polys: Vec<Polygon>) -> Result<Shared<TileMesh
     Ok(Shared::new(alloc, made)?)
 }
 
-fn no_links(alloc: Global) -> Result<Shared<Links>, AllocError>
+pub(crate) fn no_links(alloc: Global) -> Result<Shared<Links>, AllocError>
     ensures { IfOk result (λ made. made ≡ []) }
 {
     let links = Links::new(alloc, Vec::new(alloc), 0)?;
@@ -108,17 +108,14 @@ fn found(mesh: &Mesh, x: i32, z: i32, y: u32) -> Option<(u32, u32)>
 /// A place by x, z and height, and the tile and the place of the polygon that locates it.
 type Row = (i32, i32, u32, Option<(u32, u32)>);
 
-/// Heights over both polygons of the left tile.
-const HEIGHTS: [Row; 5] = [
+const ROWS: [Row; 13] = [
+    // Heights over both polygons of the left tile.
     (32, 16, 0, Some((0, 0))),
     (32, 16, 3, Some((0, 0))),
     (32, 16, 4, Some((0, 1))),
     (32, 16, 9, Some((0, 1))),
     (32, 16, 10, None),
-];
-
-/// Places at the height 1.
-const POINTS: [Row; 8] = [
+    // Places at the height 1.
     (64, 16, 1, Some((0, 0))),
     (65, 16, 1, Some((1, 0))),
     (32, 32, 1, Some((0, 0))),
@@ -129,21 +126,27 @@ const POINTS: [Row; 8] = [
     (-65536, 65536, 1, None),
 ];
 
-fn check_rows(rt: &impl Abort, mesh: &Mesh, rows: &[Row])
+fn wrong_row(mesh: &Mesh, rows: &[Row]) -> Option<usize>
     requires { mesh.now ≡ hand_mesh }
 {
-    for (x, z, y, wanted) in rows {
-        assert!(rt;
-            found(mesh, *x, *z, *y) == *wanted,
-            "at {x} {z} and height {y}"
-        );
+    for row in 0..rows.len() {
+        let (x, z, y, wanted) = rows[row];
+        if found(mesh, x, z, y) != wanted {
+            return Some(row);
+        }
+    }
+    None
+}
+
+/// A row that is wrong; 99 where there is no memory.
+fn wrong(alloc: Global) -> Option<usize> {
+    match mesh(alloc) {
+        Ok(mesh) => wrong_row(&mesh, &ROWS),
+        Err(_) => Some(99),
     }
 }
 
 #[test]
-fn locates_places(rt: HostRuntime) -> Result<(), AllocError> {
-    let mesh = mesh(rt.alloc())?;
-    check_rows(&rt, &mesh, &HEIGHTS);
-    check_rows(&rt, &mesh, &POINTS);
-    Ok(())
+fn locates_places(rt: HostRuntime) {
+    all_hold(&rt, "places", wrong(rt.alloc()));
 }

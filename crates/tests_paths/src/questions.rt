@@ -1,17 +1,18 @@
 //! Answers in the mesh of a few cells by hand.
 
-ghost use Rattle.std.specs.Prelude.{◌≡◌, IfOk};
-ghost use Rattle.nav_base.specs.Point.{HasCoordinates};
+ghost use Rattle.std.specs.Prelude.{◌≡◌, IfOk, IsTrue};
 ghost use Rattle.nav_ground.specs.Limits.{IsSetting};
-ghost use Rattle.mesh_types.specs.Soundness.{IsSound};
+ghost use Rattle.mesh_types.specs.Soundness.{IsFit, IsSound};
+ghost use Rattle.nav_query.specs.Questions.{IsAnswerable};
 
-use mesh_types::{Answer, Corner, Mesh, PathFound, PolyRef, RayAnswer, Side};
+use crate::chains::has_coordinates;
+use crate::rows::all_hold;
+use mesh_types::{Answer, Corner, Mesh, PathFound, PolyRef, RayAnswer, Side, TileMesh};
 use nav_base::{FloorAt, Point, Question};
 use nav_ground::{AREAS, Agent, Cell, CellRef, FreeLayer, MeshKind, Setting};
 use nav_list::Items;
 use nav_query::answer;
 use std::alloc::{AllocError, Global};
-use std::process::Abort;
 use strip_mesh::strip_mesh;
 use tile_links::whole;
 
@@ -90,187 +91,143 @@ const SETTING: Setting = Setting {
     clear: false,
 };
 
+fn tile(alloc: Global) -> Result<TileMesh, AllocError>
+    ensures { IfOk result (IsFit SETTING) }
+{
+    let cells = Vec::from_array(alloc, CELLS)?;
+    let free = FreeLayer {
+        tile: 0,
+        cells: Items::from_vec(cells),
+    };
+    strip_mesh(alloc, &free, &SETTING)
+}
+
 fn mesh(alloc: Global) -> Result<Mesh, AllocError>
     ensures sound { IfOk result IsSound }
     ensures setting { IfOk result (λ mesh. mesh.setting ≡ SETTING) }
 {
-    let free = FreeLayer {
-        tile: 0,
-        cells: Items::from_vec(Vec::from_array(alloc, CELLS)?),
-    };
-    let tile = strip_mesh(alloc, &free, &SETTING)?;
+    let tile = tile(alloc)?;
     if tile.polys.len() > 8000000 {
         return Err(AllocError);
     }
-    let mut tiles = Vec::new(alloc);
-    tiles.push(tile)?;
+    let tiles = Vec::from_array(alloc, [tile])?;
     whole(alloc, &SETTING, tiles)
 }
 
-/// Whether a column is answered to have these floors.
-fn has_floors(
-    alloc: Global,
-    mesh: &Mesh,
-    x: u32,
-    z: u32,
-    wanted: &[FloorAt],
-) -> Result<bool, AllocError>
-    requires sound { IsSound mesh.now }
-    requires setting { mesh.now.setting ≡ SETTING }
-{
-    match answer(alloc, mesh, &Question::Floor { x, z })? {
-        Answer::Floors(floors) => Ok(floors.as_slice() == wanted),
-        _ => Ok(false),
-    }
+/// A question for the floors of a column.
+macro_rules! floor {
+    ($x:expr, $z:expr) => {
+        Question::Floor { x: $x, z: $z }
+    };
 }
 
-/// A column, and its floors.
-type Column = (u32, u32, &'static [FloorAt]);
+/// A question for a path between two points, each at the height of the floors.
+macro_rules! path {
+    ($x:expr, $z:expr, $to_x:expr, $to_z:expr) => {
+        Question::Path {
+            from: Point { x: $x, z: $z },
+            from_y: 10,
+            to: Point { x: $to_x, z: $to_z },
+            to_y: 10,
+        }
+    };
+}
 
-const COLUMNS: [Column; 3] = [
-    (1, 1, &[FloorAt { y: 10, area: 1 }]),
-    (0, 1, &[]),
-    (9, 9, &[]),
+/// A question for a straight walk from one point, at the height of the floors, toward another.
+macro_rules! ray {
+    ($x:expr, $z:expr, $to_x:expr, $to_z:expr) => {
+        Question::Ray {
+            from: Point { x: $x, z: $z },
+            from_y: 10,
+            to: Point { x: $to_x, z: $to_z },
+        }
+    };
+}
+
+/// What a question is to be answered.
+#[derive(Clone, Copy)]
+enum Wanted {
+    Floors(&'static [FloorAt]),
+    NoStart,
+    NoGoal,
+    NoPath,
+    /// What a path costs, how many links it has, and where it turns; it begins in the first polygon.
+    Path(u64, usize, Corner),
+    Ends(RayAnswer),
+}
+
+/// A walk that ends in a polygon.
+macro_rules! reached {
+    ($index:expr) => {
+        Wanted::Ends(RayAnswer::Reached(PolyRef {
+            tile: 0,
+            index: $index,
+        }))
+    };
+}
+
+const ROWS: [(Question, Wanted); 14] = [
+    (floor!(1, 1), Wanted::Floors(&[FloorAt { y: 10, area: 1 }])),
+    (floor!(0, 1), Wanted::Floors(&[])),
+    (floor!(9, 9), Wanted::Floors(&[])),
+    (path!(40, 8, 8, 8), Wanted::NoStart),
+    (path!(40, 8, 40, 8), Wanted::NoStart),
+    (path!(8, 8, 40, 8), Wanted::NoGoal),
+    (path!(8, 8, 8, 56), Wanted::NoPath),
+    (
+        path!(0, 0, 48, 17),
+        Wanted::Path(
+            46,
+            1,
+            Corner {
+                at: Point { x: 32, z: 16 },
+                side: Side::R,
+                portal: 0,
+            },
+        ),
+    ),
+    (ray!(8, 8, 8, 8), reached!(0)),
+    (ray!(8, 8, 32, 16), reached!(0)),
+    // Through the corner that the two polygons share.
+    (ray!(24, 8, 40, 24), reached!(1)),
+    // Over the part of an edge behind which there is a polygon, and over the part behind which there is none.
+    (
+        ray!(24, 8, 24, 40),
+        Wanted::Ends(RayAnswer::Wall {
+            a: Point { x: 48, z: 32 },
+            b: Point { x: 16, z: 32 },
+            num: 768,
+            den: 1024,
+        }),
+    ),
+    (
+        ray!(8, 8, 8, 40),
+        Wanted::Ends(RayAnswer::Wall {
+            a: Point { x: 32, z: 16 },
+            b: Point { x: 0, z: 16 },
+            num: 256,
+            den: 1024,
+        }),
+    ),
+    (ray!(40, 8, 8, 8), Wanted::NoStart),
 ];
 
-fn check_columns(
-    rt: &impl Abort,
-    alloc: Global,
-    mesh: &Mesh,
-    columns: &[Column],
-) -> Result<(), AllocError>
-    requires sound { IsSound mesh.now }
-    requires setting { mesh.now.setting ≡ SETTING }
+/// Whether the points of a question have coordinates.
+fn is_answerable(question: Question) -> bool
+    ensures { IsTrue result → IsAnswerable question }
 {
-    for (x, z, floors) in columns {
-        let is_so = has_floors(alloc, mesh, *x, *z, *floors)?;
-        assert!(rt; is_so, "at {x} {z}");
-    }
-    Ok(())
-}
-
-#[test]
-fn finds_floors(rt: HostRuntime) -> Result<(), AllocError> {
-    let alloc = rt.alloc();
-    let mesh = mesh(alloc)?;
-    check_columns(&rt, alloc, &mesh, &COLUMNS)
-}
-
-fn point(x: u8, z: u8) -> Point
-    ensures { HasCoordinates result }
-{
-    Point {
-        x: i32::from(x),
-        z: i32::from(z),
+    match question {
+        Question::Floor { .. } => true,
+        Question::Path { from, to, .. } => has_coordinates(from) && has_coordinates(to),
+        Question::Ray { from, to, .. } => has_coordinates(from) && has_coordinates(to),
     }
 }
 
-/// The answer to the question for a path between two points, each at the height of the floors.
-fn path(alloc: Global, mesh: &Mesh, from: (u8, u8), to: (u8, u8)) -> Result<Answer, AllocError>
-    requires sound { IsSound mesh.now }
-    requires setting { mesh.now.setting ≡ SETTING }
-{
-    let question = Question::Path {
-        from: point(from.0, from.1),
-        from_y: 10,
-        to: point(to.0, to.1),
-        to_y: 10,
-    };
-    answer(alloc, mesh, &question)
-}
-
-/// What a question for a path misses.
-#[derive(Clone, Copy, PartialEq)]
-enum Missing {
-    Start,
-    Goal,
-    Path,
-}
-
-fn what_misses(answer: &Answer) -> Option<Missing> {
-    match answer {
-        Answer::NoStart => Some(Missing::Start),
-        Answer::NoGoal => Some(Missing::Goal),
-        Answer::NoPath => Some(Missing::Path),
-        _ => None,
-    }
-}
-
-/// What a path between two points misses; none where there is a path.
-fn missed(
-    alloc: Global,
-    mesh: &Mesh,
-    from: (u8, u8),
-    to: (u8, u8),
-) -> Result<Option<Missing>, AllocError>
-    requires sound { IsSound mesh.now }
-    requires setting { mesh.now.setting ≡ SETTING }
-{
-    Ok(what_misses(&path(alloc, mesh, from, to)?))
-}
-
-/// Two points, and what misses between them.
-type Gap = ((u8, u8), (u8, u8), Missing);
-
-const GAPS: [Gap; 4] = [
-    ((40, 8), (8, 8), Missing::Start),
-    ((40, 8), (40, 8), Missing::Start),
-    ((8, 8), (40, 8), Missing::Goal),
-    ((8, 8), (8, 56), Missing::Path),
-];
-
-fn check_gaps(rt: &impl Abort, alloc: Global, mesh: &Mesh, gaps: &[Gap]) -> Result<(), AllocError>
-    requires sound { IsSound mesh.now }
-    requires setting { mesh.now.setting ≡ SETTING }
-{
-    for (from, to, wanted) in gaps {
-        let found = missed(alloc, mesh, *from, *to)?;
-        assert!(rt; found == Some(*wanted), "from {from:?} to {to:?}");
-    }
-    Ok(())
-}
-
-#[test]
-fn says_what_is_missing(rt: HostRuntime) -> Result<(), AllocError> {
-    let alloc = rt.alloc();
-    let mesh = mesh(alloc)?;
-    check_gaps(&rt, alloc, &mesh, &GAPS)
-}
-
-fn check_path(rt: &impl Abort, found: &PathFound) {
-    assert!(rt; found.first == PolyRef { tile: 0, index: 0 });
-    assert!(rt; found.cost == 46);
-    assert!(rt; found.links.len() == 1);
-    let turn = Corner {
-        at: Point { x: 32, z: 16 },
-        side: Side::R,
-        portal: 0,
-    };
-    assert!(rt; found.turns.as_slice() == [turn].as_slice());
-}
-
-#[test]
-fn finds_a_path(rt: HostRuntime) -> Result<(), AllocError> {
-    let alloc = rt.alloc();
-    let mesh = mesh(alloc)?;
-    match path(alloc, &mesh, (0, 0), (48, 17))? {
-        Answer::Path(found) => check_path(&rt, &found),
-        _ => assert!(rt; false),
-    }
-    Ok(())
-}
-
-/// The answer to the question for a straight walk from one point, at the height of the floors, toward another.
-fn ray(alloc: Global, mesh: &Mesh, from: (u8, u8), to: (u8, u8)) -> Result<Answer, AllocError>
-    requires sound { IsSound mesh.now }
-    requires setting { mesh.now.setting ≡ SETTING }
-{
-    let question = Question::Ray {
-        from: point(from.0, from.1),
-        from_y: 10,
-        to: point(to.0, to.1),
-    };
-    answer(alloc, mesh, &question)
+fn is_path(found: &PathFound, cost: u64, links: usize, turn: Corner) -> bool {
+    found.first == PolyRef { tile: 0, index: 0 }
+        && found.cost == cost
+        && found.links.len() == links
+        && found.turns.as_slice() == [turn].as_slice()
 }
 
 /// How a walk ended; none where it did not begin.
@@ -287,82 +244,59 @@ fn end_of(answer: &Answer) -> Option<RayAnswer> {
     }
 }
 
-/// How the walk from one point toward another ends; none where it does not begin.
-fn ended(
-    alloc: Global,
-    mesh: &Mesh,
-    from: (u8, u8),
-    to: (u8, u8),
-) -> Result<Option<RayAnswer>, AllocError>
-    requires sound { IsSound mesh.now }
-    requires setting { mesh.now.setting ≡ SETTING }
-{
-    Ok(end_of(&ray(alloc, mesh, from, to)?))
+fn is_wanted(answer: &Answer, wanted: Wanted) -> bool {
+    match wanted {
+        Wanted::Floors(wanted) => match answer {
+            Answer::Floors(floors) => floors.as_slice() == wanted,
+            _ => false,
+        },
+        Wanted::NoStart => matches!(answer, Answer::NoStart),
+        Wanted::NoGoal => matches!(answer, Answer::NoGoal),
+        Wanted::NoPath => matches!(answer, Answer::NoPath),
+        Wanted::Path(cost, links, turn) => match answer {
+            Answer::Path(found) => is_path(found, cost, links, turn),
+            _ => false,
+        },
+        Wanted::Ends(end) => end_of(answer) == Some(end),
+    }
 }
 
-/// Two points, and how the walk from the one toward the other ends.
-type Shot = ((u8, u8), (u8, u8), Option<RayAnswer>);
-
-const SHOTS: [Shot; 6] = [
-    (
-        (8, 8),
-        (8, 8),
-        Some(RayAnswer::Reached(PolyRef { tile: 0, index: 0 })),
-    ),
-    (
-        (8, 8),
-        (32, 16),
-        Some(RayAnswer::Reached(PolyRef { tile: 0, index: 0 })),
-    ),
-    // Through the corner that the two polygons share.
-    (
-        (24, 8),
-        (40, 24),
-        Some(RayAnswer::Reached(PolyRef { tile: 0, index: 1 })),
-    ),
-    // Over the part of an edge behind which there is a polygon, and over the part behind which there is none.
-    (
-        (24, 8),
-        (24, 40),
-        Some(RayAnswer::Wall {
-            a: Point { x: 48, z: 32 },
-            b: Point { x: 16, z: 32 },
-            num: 768,
-            den: 1024,
-        }),
-    ),
-    (
-        (8, 8),
-        (8, 40),
-        Some(RayAnswer::Wall {
-            a: Point { x: 32, z: 16 },
-            b: Point { x: 0, z: 16 },
-            num: 256,
-            den: 1024,
-        }),
-    ),
-    ((40, 8), (8, 8), None),
-];
-
-fn check_shots(
-    rt: &impl Abort,
-    alloc: Global,
-    mesh: &Mesh,
-    shots: &[Shot],
-) -> Result<(), AllocError>
+/// Whether a question is answered as wanted.
+fn is_answered(alloc: Global, mesh: &Mesh, question: Question, wanted: Wanted) -> bool
     requires sound { IsSound mesh.now }
     requires setting { mesh.now.setting ≡ SETTING }
 {
-    for (from, to, wanted) in shots {
-        let found = ended(alloc, mesh, *from, *to)?;
-        assert!(rt; found == *wanted, "from {from:?} to {to:?}");
+    if !is_answerable(question) {
+        return false;
     }
-    Ok(())
+    match answer(alloc, mesh, &question) {
+        Ok(answer) => is_wanted(&answer, wanted),
+        Err(_) => false,
+    }
+}
+
+fn wrong_row(alloc: Global, mesh: &Mesh, rows: &[(Question, Wanted)]) -> Option<usize>
+    requires sound { IsSound mesh.now }
+    requires setting { mesh.now.setting ≡ SETTING }
+{
+    for row in 0..rows.len() {
+        let (question, wanted) = rows[row];
+        if !is_answered(alloc, mesh, question, wanted) {
+            return Some(row);
+        }
+    }
+    None
+}
+
+/// A row that is wrong; 99 where there is no memory.
+fn wrong(alloc: Global) -> Option<usize> {
+    match mesh(alloc) {
+        Ok(mesh) => wrong_row(alloc, &mesh, &ROWS),
+        Err(_) => Some(99),
+    }
 }
 
 #[test]
-fn follows_rays(rt: HostRuntime) -> Result<(), AllocError> {
-    let alloc = rt.alloc();
-    let mesh = mesh(alloc)?;
-    check_shots(&rt, alloc, &mesh, &SHOTS)
+fn answers_questions(rt: HostRuntime) {
+    all_hold(&rt, "questions", wrong(rt.alloc()));
 }

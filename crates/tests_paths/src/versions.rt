@@ -5,13 +5,17 @@ ghost use Rattle.std.specs.Arc.{arc_value};
 ghost use Rattle.nav_ground.specs.Grounds.{IsGround};
 ghost use Rattle.nav_ground.specs.Tiling.{tile_count};
 ghost use Rattle.logbook.specs.Pages.{Book};
+ghost use Rattle.mesh_types.specs.Soundness.{IsSound};
+ghost use Rattle.mesh_types.specs.WholeMesh.{mesh_of};
+ghost use Rattle.tile_build.specs.Meshes.{tiles_under};
 ghost use Rattle.tests_paths.specs.OneTile.{numbered_tiles};
 ghost use Rattle.nav_version.specs.Pairs.{EyeView, IsPatch};
 ghost use Rattle.nav_version.specs.Versions.{IsVersion};
 
 use crate::books::flat_field;
+use crate::rows::hold;
 use layer_cut::ground;
-use mesh_types::{Answer, TileMesh};
+use mesh_types::{Answer, Mesh, TileMesh};
 use nav_base::Question;
 use nav_ground::{AREAS, Agent, Entry, Ground, MeshKind, Reply, Request, Setting, Shape, TileNo};
 use nav_list::Items;
@@ -58,6 +62,29 @@ const ADDED: Entry = Entry {
     reply: Reply::Added { number: 1 },
 };
 
+fn level(alloc: Global) -> Result<Ground, AllocError>
+    ensures rules { IfOk result IsGround }
+    ensures setting { IfOk result (λ level. level.setting ≡ SETTING) }
+{
+    let field = flat_field(alloc, 6, 6)?;
+    let level = ground(alloc, SETTING, field)?;
+    Ok(level)
+}
+
+/// The mesh of a ground without obstacles.
+fn opening_mesh<L: Ledger>(
+    alloc: Global,
+    level: &Ground,
+    steps: &mut Steps<L>,
+) -> Result<Mesh, AllocError>
+    requires level { IsGround level.now }
+    ensures mesh { IfOk result (λ mesh. mesh ≡ mesh_of level.now.setting (tiles_under level.now [])) }
+    ensures sound { IfOk result IsSound }
+{
+    let tiles = build_tiles(alloc, level, &[], steps)?;
+    joined(alloc, &level.setting, tiles)
+}
+
 /// The version of a ground without obstacles.
 fn opening<L: Ledger>(alloc: Global, level: Ground, blank: Blank) -> Result<Version, AllocError>
     requires level { IsGround level }
@@ -69,8 +96,7 @@ fn opening<L: Ledger>(alloc: Global, level: Ground, blank: Blank) -> Result<Vers
     ensures entries { IfOk result (λ version. version.entries ≡ []) }
 {
     let mut steps = Steps::<L>::new(blank);
-    let tiles = build_tiles(alloc, &level, &[], &mut steps)?;
-    let mesh = joined(alloc, &level.setting, tiles)?;
+    let mesh = opening_mesh(alloc, &level, &mut steps)?;
     Ok(Version {
         ground: Arc::new(alloc, level)?,
         entries: Entries::new(alloc)?,
@@ -103,6 +129,20 @@ fn push_numbered(
     Ok(())
 }
 
+/// The tile meshes of a ground under the block, each with the number of its tile.
+fn covered<L: Ledger>(
+    alloc: Global,
+    level: &Ground,
+    steps: &mut Steps<L>,
+) -> Result<Vec<(TileNo, Shared<TileMesh>)>, AllocError>
+    requires level { IsGround level.now }
+    ensures { IfOk result (λ news. news.items ≡ numbered_tiles (tiles_under level.now (BLOCK ∷ []))) }
+{
+    let tiles = build_tiles(alloc, level, &[BLOCK], steps)?;
+    let news = numbered(alloc, tiles.as_slice())?;
+    Ok(news)
+}
+
 /// The patch that publishes the block over the first version of a ground of one tile.
 fn covering<L: Ledger>(alloc: Global, version: &Version, blank: Blank) -> Result<Patch, AllocError>
     requires rules { IsVersion version.now }
@@ -114,21 +154,20 @@ fn covering<L: Ledger>(alloc: Global, version: &Version, blank: Blank) -> Result
     ensures { IfOk result (λ patch. IsPatch (arc_value version.now.ground) version.now.entries patch) }
 {
     let mut steps = Steps::<L>::new(blank);
-    let tiles = build_tiles(alloc, &version.ground, &[BLOCK], &mut steps)?;
+    let tiles = covered(alloc, &version.ground, &mut steps)?;
     let mut entries = Items::new(alloc);
     entries.push(ADDED)?;
-    Ok(Patch {
-        entries,
-        tiles: numbered(alloc, tiles.as_slice())?,
-    })
+    Ok(Patch { entries, tiles })
 }
 
-/// The length that an eye names, and how many floors it sees in the column of the block.
-fn floors(eye: &mut Eye, alloc: Global) -> Result<(u32, usize), AllocError>
+/// The length that an eye names, and how many floors it sees in a column; none where it is refused.
+pub(crate) fn floors(eye: &mut Eye, alloc: Global, x: u32, z: u32) -> Option<(u32, usize)>
     ensures { eye.new.pair ≡ eye.old.pair }
 {
-    let (length, answer) = eye.ask(alloc, &Question::Floor { x: 2, z: 2 })?;
-    Ok((length, count(&answer)))
+    match eye.ask(alloc, &Question::Floor { x, z }) {
+        Ok((length, answer)) => Some((length, count(&answer))),
+        Err(_) => None,
+    }
 }
 
 /// How many floors an answer has; 9 where it is no answer of floors.
@@ -139,8 +178,10 @@ fn count(answer: &Answer) -> usize {
     }
 }
 
-/// What the eyes see: the first one before the publishing, the second one once it learnt of it, and the first one again, which was told
-/// nothing; and what the second one says that it has seen.
+/// What the eyes see in the column of the block: the first one before the publishing, the second one once it learnt of it, and the first one
+/// again, which was told nothing; and the length that was told, and what the second one says that it has seen.
+type Seen = ([Option<(u32, usize)>; 3], [u32; 2]);
+
 fn seen_by<R: Wait>(
     rt: &R,
     alloc: Global,
@@ -148,20 +189,21 @@ fn seen_by<R: Wait>(
     first: &mut Eye,
     second: &mut Eye,
     patch: Patch,
-) -> Result<([(u32, usize); 3], [u32; 2]), AllocError>
+) -> Option<Seen>
     requires of { second.old.pair ≡ press.old.pair }
     requires patch { IsPatch press.old.ground press.old.entries patch }
 {
-    let before = floors(first, alloc)?;
-    let told = match press.publish(rt, alloc, patch) {
-        Ok(told) => told,
-        Err((_patch, refused)) => return Err(refused),
-    };
-    let length = told.length();
-    second.learn(told);
-    let after = floors(second, alloc)?;
-    let again = floors(first, alloc)?;
-    Ok(([before, after, again], [length, second.seen()]))
+    let before = floors(first, alloc, 2, 2);
+    match press.publish(rt, alloc, patch) {
+        Ok(told) => {
+            let length = told.length();
+            second.learn(told);
+            let after = floors(second, alloc, 2, 2);
+            let again = floors(first, alloc, 2, 2);
+            Some(([before, after, again], [length, second.seen()]))
+        }
+        Err((_patch, _refused)) => None,
+    }
 }
 
 /// Two eyes, which are those of a pair.
@@ -180,22 +222,37 @@ fn sent<T: Send>(value: T) -> T
     value
 }
 
-#[test]
-fn eyes_read_what_is_published(rt: HostRuntime) -> Result<(), AllocError> {
-    let alloc = rt.alloc();
-    let level = ground(alloc, SETTING, flat_field(alloc, 6, 6)?)?;
-    let version = opening::<Brand>(alloc, level, Blank::new(1))?;
-    let patch = covering::<Brand>(alloc, &version, Blank::new(1))?;
-    let (press, eyes) = pair(&rt, alloc, version, 2)?;
+/// The same, of a press and its two eyes, with the press ended.
+fn watched<R: Wait>(
+    rt: &R,
+    alloc: Global,
+    press: Press,
+    eyes: Vec<Eye>,
+    patch: Patch,
+) -> Option<Seen>
+    requires eyes { All (λ (eye : EyeView). eye.pair ≡ press.pair) eyes.items }
+    requires patch { IsPatch press.ground press.entries patch }
+{
     let mut press = sent(press);
     let seen = match both(eyes) {
         Some((mut first, mut second)) => {
-            seen_by(&rt, alloc, &mut press, &mut first, &mut second, patch)
+            seen_by(rt, alloc, &mut press, &mut first, &mut second, patch)
         }
-        None => Err(AllocError),
+        None => None,
     };
-    press.end(&rt);
-    assert_eq!(rt; seen?, ([(0, 1), (1, 0), (1, 0)], [1, 1]));
+    press.end(rt);
+    seen
+}
+
+#[test]
+fn eyes_read_what_is_published(rt: HostRuntime) -> Result<(), AllocError> {
+    let alloc = rt.alloc();
+    let version = opening::<Brand>(alloc, level(alloc)?, Blank::new(1))?;
+    let patch = covering::<Brand>(alloc, &version, Blank::new(1))?;
+    let (press, eyes) = pair(&rt, alloc, version, 2)?;
+    let seen = watched(&rt, alloc, press, eyes, patch);
+    let answers = [Some((0, 1)), Some((1, 0)), Some((1, 0))];
+    hold(&rt, "a pair", seen == Some((answers, [1, 1])));
     Ok(())
 }
 
@@ -203,11 +260,10 @@ fn eyes_read_what_is_published(rt: HostRuntime) -> Result<(), AllocError> {
 #[test]
 fn a_press_may_have_no_eyes(rt: HostRuntime) -> Result<(), AllocError> {
     let alloc = rt.alloc();
-    let level = ground(alloc, SETTING, flat_field(alloc, 6, 6)?)?;
-    let version = opening::<Brand>(alloc, level, Blank::new(1))?;
+    let version = opening::<Brand>(alloc, level(alloc)?, Blank::new(1))?;
     let (press, eyes) = pair(&rt, alloc, version, 0)?;
     let seen = (press.length(), eyes.len());
     press.end(&rt);
-    assert_eq!(rt; seen, (0, 0));
+    hold(&rt, "no eyes", seen == (0, 0));
     Ok(())
 }

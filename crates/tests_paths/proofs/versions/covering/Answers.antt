@@ -6,6 +6,7 @@ use Rattle.nav_ground.specs.declared.shape.Shape.{Shape}
 use Rattle.tile_build.specs.Meshes.{tiles_under}
 use Rattle.nav_version.specs.declared.patch.Patch.{Patch}
 use Rattle.nav_version.specs.Pairs.{IsPatch}
+use Rattle.tests_paths.specs.OneTile.{numbered_tiles}
 use Rattle.tests_paths.specs.declared.versions.TheConstants.{ADDED, BLOCK}
 use Rattle.tests_paths.proofs.OneTilePatches.{is_patch}
 use Rattle.tests_paths.proofs.versions.covering.Goals as goal
@@ -14,7 +15,7 @@ pub returns : goal.returns
 returns g c =
     let whole : Ground = arc_value c.args.version.now.ground in
     let shapes : List Shape = BLOCK ∷ [] in
-    let patch : Patch = record { entries = c.entries.inside.items.items; tiles = c.in_ok-numbered.field-0 } in
+    let patch : Patch = record { entries = c.push.new.self; tiles = c.in_ok-tiles.tiles } in
     subst (λ (entries : List Entry). IsPatch whole entries patch) (sym c.requires.none)
-    (is_patch whole shapes ADDED patch c.in_ok-tiles.tiles c.requires.rules.ground c.requires.one (search rules) refl
-    (c.in_ok-tiles.ensures.tiles ∙ ap (λ (ground : Ground). tiles_under ground shapes) c.deref.ensures) (search rules) (search rules))
+    (is_patch whole shapes ADDED patch (tiles_under whole shapes) c.requires.rules.ground c.requires.one (search rules) refl refl (search rules)
+    (c.in_ok-tiles.ensures ∙ ap (λ (ground : Ground). numbered_tiles (tiles_under ground shapes)) c.deref.ensures))

@@ -10,7 +10,7 @@ use Rattle.tests_mesh.specs.TwoTiles.{hand_tile, left_tile, right_tile}
 use Rattle.tile_links.specs.NewTiles.{New, AreNew, IsWhole, tiles_after}
 use Rattle.tests_mesh.proofs.HandSettings.{IsSetting-plain}
 use Rattle.tests_mesh.proofs.HandTiles.{IsWhole-hand, AreNew-hand}
-use Rattle.tests_mesh.proofs.borders.mesh_emptied.Goals as goal
+use Rattle.tests_mesh.proofs.borders.empty_right.Goals as goal
 
 setting_is : (mesh : Mesh) → mesh ≡ mesh_of plain_setting (left_tile ∷ right_tile ∷ []) → mesh.setting ≡ plain_setting
 unfolding mesh_of
@@ -21,10 +21,10 @@ unfolding mesh_of
 tiles_are mesh is = ap (λ (m : Mesh). m.tiles) is
 
 pub replace-requires-clause-setting : goal.replace-requires-clause-setting
-replace-requires-clause-setting c = subst IsSetting (sym (setting_is c.in_ok-mesh.mesh c.in_ok-mesh.ensures)) IsSetting-plain
+replace-requires-clause-setting c = subst IsSetting (sym (setting_is c.args.mesh.now c.requires)) IsSetting-plain
 
 pub replace-requires-clause-mesh : goal.replace-requires-clause-mesh
-replace-requires-clause-mesh c = subst IsWhole (sym c.in_ok-mesh.ensures) IsWhole-hand
+replace-requires-clause-mesh c = subst IsWhole (sym c.requires) IsWhole-hand
 
 new : (setting : Setting) (news : List New) → setting ≡ plain_setting → news ≡ (1, hand_tile 1 [] []) ∷ [] → AreNew setting news
 new setting news is are =
@@ -40,10 +40,10 @@ few tiles news is are =
 
 pub replace-requires-clause-news : goal.replace-requires-clause-news
 replace-requires-clause-news c =
-    new c.in_ok-mesh.mesh.setting c.in_ok-news.news.items (setting_is c.in_ok-mesh.mesh c.in_ok-mesh.ensures)
-    c.in_ok-news.ensures
+    new c.args.mesh.now.setting c.in-Ok.news.items (setting_is c.args.mesh.now c.requires)
+    c.in-Ok.ensures
 
 pub replace-requires-clause-few : goal.replace-requires-clause-few
 replace-requires-clause-few c =
-    few c.in_ok-mesh.mesh.tiles c.in_ok-news.news.items (tiles_are c.in_ok-mesh.mesh c.in_ok-mesh.ensures)
-    c.in_ok-news.ensures
+    few c.args.mesh.now.tiles c.in-Ok.news.items (tiles_are c.args.mesh.now c.requires)
+    c.in-Ok.ensures

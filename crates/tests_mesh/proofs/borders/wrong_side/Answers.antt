@@ -1,5 +1,5 @@
 use Rattle.tests_mesh.proofs.HandSettings.{IsSetting-plain}
-use Rattle.tests_mesh.proofs.borders.beside.Goals as goal
+use Rattle.tests_mesh.proofs.borders.wrong_side.Goals as goal
 
 pub across-requires-clause-setting : goal.across-requires-clause-setting
 across-requires-clause-setting c = IsSetting-plain

@@ -1,5 +1,0 @@
-use Rattle.tests_paths.proofs.books.unread.Given as goal
-
--- the call's ledger is the blank one that it is handed
-abbrev pub ghosts-opened : goal.ghosts-opened
-ghosts-opened a a' = record { name = a'.blank.name; parts = a'.blank.parts }
