@@ -1,24 +1,16 @@
 //! The program `navd` plays a script over a level. For `play` it writes the play text of what it reads from standard input, for `gen NUMBER SIZE`
 //! the summary of an input that it makes.
 //!
-//! `navd` is the one top call: everything that the program promises is its contract. `main` makes the real source, sink, gate and counter,
-//! calls it, and ends with the status.
+//! `navd` of the crate `nav_run` is the one top call: everything that the program promises is its contract. `main` makes the real source and
+//! sink, calls it with a counter of its own, and ends with the status.
 #![tactic(auto)]
 
-mod answer;
-mod input;
-mod made;
-mod status;
-mod top;
-mod words;
-
 use nav_io::{StdSink, StdSource};
-pub use status::Status;
+use nav_run::{Status, run};
 use std::marker::Brand;
 use std::process::ExitCode;
 use std::sync::ledger::Blank;
 use std::{env, io};
-pub use top::{navd, run};
 
 fn main(rt: HostRuntime) -> ExitCode {
     let alloc = rt.alloc();

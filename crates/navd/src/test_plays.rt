@@ -1,10 +1,10 @@
 //! Plays of the whole program: what scripts answer over levels. What is wanted was worked out by hand.
 
-use crate::Status;
 use crate::test_runs::{
     FOUR_TILES, Over, ROOM, SquareField, built_level, check, check_ends, played, run_once,
 };
-use std::alloc::{AllocError, Global};
+use nav_run::Status;
+use std::alloc::Global;
 use std::process::Abort;
 use std::sync::Wait;
 use std::thread::Threads;
@@ -12,16 +12,11 @@ use std::thread::Threads;
 /// The level, the script; the play text.
 type Play = (SquareField, &'static str, &'static str);
 
-fn check_plays<R: Abort + Threads + Wait + Sync>(
-    rt: &R,
-    alloc: Global,
-    plays: &[Play],
-) -> Result<(), AllocError> {
+fn check_plays<R: Abort + Threads + Wait + Sync>(rt: &R, alloc: Global, plays: &[Play]) {
     for (level, script, text) in plays {
-        let ran = played(rt, alloc, level, script)?;
+        let ran = played(rt, alloc, level, script);
         check(rt, &ran, Status::Ok, text.as_bytes());
     }
-    Ok(())
 }
 
 const SCRIPTS: [Play; 5] = [
@@ -56,8 +51,8 @@ const SCRIPTS: [Play; 5] = [
 ];
 
 #[test]
-fn plays_scripts(rt: HostRuntime) -> Result<(), AllocError> {
-    check_plays(&rt, rt.alloc(), &SCRIPTS)
+fn plays_scripts(rt: HostRuntime) {
+    check_plays(&rt, rt.alloc(), &SCRIPTS);
 }
 
 const FLOORS: [Play; 9] = [
@@ -138,8 +133,8 @@ const FLOORS: [Play; 9] = [
 ];
 
 #[test]
-fn finds_floors(rt: HostRuntime) -> Result<(), AllocError> {
-    check_plays(&rt, rt.alloc(), &FLOORS)
+fn finds_floors(rt: HostRuntime) {
+    check_plays(&rt, rt.alloc(), &FLOORS);
 }
 
 const ACROSS: &str = "floor 1 1\nfloor 0 0\npath 24 24 10 72 72 10\n";
@@ -218,8 +213,8 @@ const PATHS: [Play; 8] = [
 ];
 
 #[test]
-fn finds_paths(rt: HostRuntime) -> Result<(), AllocError> {
-    check_plays(&rt, rt.alloc(), &PATHS)
+fn finds_paths(rt: HostRuntime) {
+    check_plays(&rt, rt.alloc(), &PATHS);
 }
 
 /// How the play text begins.
@@ -265,36 +260,30 @@ const OUTLINES: [Play; 4] = [
     ),
 ];
 
-fn check_beginnings<R: Abort + Threads + Wait + Sync>(
-    rt: &R,
-    alloc: Global,
-    plays: &[Play],
-) -> Result<(), AllocError> {
+fn check_beginnings<R: Abort + Threads + Wait + Sync>(rt: &R, alloc: Global, plays: &[Play]) {
     for (level, script, text) in plays {
-        let ran = played(rt, alloc, level, script)?;
+        let ran = played(rt, alloc, level, script);
         check_ends(rt, &ran, text, "\ndone 0 0\n");
     }
-    Ok(())
 }
 
 #[test]
-fn finds_paths_over_outlines(rt: HostRuntime) -> Result<(), AllocError> {
-    check_beginnings(&rt, rt.alloc(), &OUTLINES)
+fn finds_paths_over_outlines(rt: HostRuntime) {
+    check_beginnings(&rt, rt.alloc(), &OUTLINES);
 }
 
 #[test]
-fn finds_a_path_over_four_tiles(rt: HostRuntime) -> Result<(), AllocError> {
+fn finds_a_path_over_four_tiles(rt: HostRuntime) {
     let alloc = rt.alloc();
     // The block is the corner cell of a tile. Round it lead two corridors of one cost, each over two borders, and either is right.
     let script = "add block 3 4 0 100 3 4\nsettle\npath 40 56 10 88 72 10\n";
-    let ran = played(&rt, alloc, &FOUR_TILES, script)?;
+    let ran = played(&rt, alloc, &FOUR_TILES, script);
     check_ends(
         &rt,
         &ran,
         "entry 1 added\nsettled 1\npath 1 100 0 2 4 ",
         "\ndone 1 1\n",
     );
-    Ok(())
 }
 
 /// Four tiles for two workers.
@@ -349,24 +338,23 @@ const WORKERS: [Play; 7] = [
 ];
 
 #[test]
-fn leads_workers(rt: HostRuntime) -> Result<(), AllocError> {
-    check_plays(&rt, rt.alloc(), &WORKERS)
+fn leads_workers(rt: HostRuntime) {
+    check_plays(&rt, rt.alloc(), &WORKERS);
 }
 
 #[test]
-fn publishes_once_no_tile_is_awaited(rt: HostRuntime) -> Result<(), AllocError> {
+fn publishes_once_no_tile_is_awaited(rt: HostRuntime) {
     let alloc = rt.alloc();
     // The block touches four tiles. Either of two corridors of one cost is right.
     let script =
         "add block 3 4 0 100 3 4\naim\npublish\nclaim 0\nsubmit 0\npublish\nsettle\npublish\npath 40 56 10 88 72 10\n";
-    let ran = played(&rt, alloc, &FOUR_TILES, script)?;
+    let ran = played(&rt, alloc, &FOUR_TILES, script);
     check_ends(
         &rt,
         &ran,
         "entry 1 added\naim 1\nnotyet 0\nclaim 0 tile 0\nsubmit 0 taken 0\nnotyet 1\nsettled 1\nsame 1\npath 1 100 0 2 4 ",
         "\ndone 1 1\n",
     );
-    Ok(())
 }
 
 const RAYS: [Play; 3] = [
@@ -396,15 +384,14 @@ const RAYS: [Play; 3] = [
 ];
 
 #[test]
-fn follows_rays(rt: HostRuntime) -> Result<(), AllocError> {
-    check_plays(&rt, rt.alloc(), &RAYS)
+fn follows_rays(rt: HostRuntime) {
+    check_plays(&rt, rt.alloc(), &RAYS);
 }
 
 #[test]
-fn leaves_what_was_written_of_an_answer(rt: HostRuntime) -> Result<(), AllocError> {
+fn leaves_what_was_written_of_an_answer(rt: HostRuntime) {
     let alloc = rt.alloc();
-    let text = built_level(alloc, &ROOM, ACROSS)?;
-    let ran = run_once(&rt, alloc, "play", text, (100, 0), (8, 2))?;
+    let text = built_level(&rt, alloc, &ROOM, ACROSS);
+    let ran = run_once(&rt, alloc, &["play"], text, (100, 0), (8, 2));
     check(&rt, &ran, Status::WriteFault, b"floors 0".as_slice());
-    Ok(())
 }

@@ -3,7 +3,7 @@
 use nav_ground::{AREAS, Agent, MeshKind, Setting, Span};
 use nav_text::FaultKind;
 use span_text::{FieldRefusal, FieldText, read_field};
-use std::alloc::{AllocError, Global};
+use std::alloc::Global;
 use std::process::Abort;
 
 const HEADER: [&str; 7] = [
@@ -17,13 +17,13 @@ const HEADER: [&str; 7] = [
 ];
 
 /// The first lines of a header, and what follows them.
-fn text_with(alloc: Global, lines: usize, tail: &str) -> Result<Vec<u8>, AllocError> {
+fn text_with(rt: &impl Abort, alloc: Global, lines: usize, tail: &str) -> Vec<u8> {
     let mut text = Vec::new(alloc);
     for line in HEADER.iter().take(lines) {
-        text.extend_from_slice(line.as_bytes())?;
+        text.extend_from_slice(line.as_bytes()).expect(rt, "memory");
     }
-    text.extend_from_slice(tail.as_bytes())?;
-    Ok(text)
+    text.extend_from_slice(tail.as_bytes()).expect(rt, "memory");
+    text
 }
 
 /// The line and kind of the fault of a text; zeros where it has none.
@@ -105,10 +105,9 @@ fn reads_every_form(rt: HostRuntime) {
 }
 
 #[test]
-fn reads_a_field_without_spans(rt: HostRuntime) -> Result<(), AllocError> {
-    let text = text_with(rt.alloc(), 7, "end\n")?;
+fn reads_a_field_without_spans(rt: HostRuntime) {
+    let text = text_with(&rt, rt.alloc(), 7, "end\n");
     assert!(rt; read_field(rt.alloc(), text.as_slice()).is_ok());
-    Ok(())
 }
 
 /// How many lines of the header stand first, what follows them, and the line and kind of the first fault.
@@ -213,26 +212,20 @@ const BODY_FAULTS: [FirstFault; 31] = [
     ),
 ];
 
-/// The line and kind of the fault of the first lines of a header and what follows them.
-fn fault_behind(alloc: Global, lines: usize, tail: &str) -> Result<(u32, u32), AllocError> {
-    let text = text_with(alloc, lines, tail)?;
-    Ok(fault_of(alloc, text.as_slice()))
-}
-
-fn check_faults(rt: &impl Abort, alloc: Global, faults: &[FirstFault]) -> Result<(), AllocError> {
+fn check_faults(rt: &impl Abort, alloc: Global, faults: &[FirstFault]) {
     for (lines, tail, line, kind) in faults {
-        let found = fault_behind(alloc, *lines, tail)?;
+        let text = text_with(rt, alloc, *lines, tail);
+        let found = fault_of(alloc, text.as_slice());
         assert!(rt; found == (*line, kind.number()), "at {tail}");
     }
-    Ok(())
 }
 
 #[test]
-fn tells_the_first_fault(rt: HostRuntime) -> Result<(), AllocError> {
-    check_faults(&rt, rt.alloc(), &HEADER_FAULTS)
+fn tells_the_first_fault(rt: HostRuntime) {
+    check_faults(&rt, rt.alloc(), &HEADER_FAULTS);
 }
 
 #[test]
-fn tells_the_first_fault_behind_the_header(rt: HostRuntime) -> Result<(), AllocError> {
-    check_faults(&rt, rt.alloc(), &BODY_FAULTS)
+fn tells_the_first_fault_behind_the_header(rt: HostRuntime) {
+    check_faults(&rt, rt.alloc(), &BODY_FAULTS);
 }

@@ -3,7 +3,7 @@
 use nav_base::{Point, Question};
 use nav_ground::Shape;
 use nav_script::{Line, ScriptRefusal, Way, read_script};
-use std::alloc::{AllocError, Global};
+use std::alloc::Global;
 use std::process::Abort;
 
 /// What is read of a text whose first line has the number 45: the number of its lines and the last of them, or the fault.
@@ -14,17 +14,17 @@ enum Told {
     Fault(u32, u32),
 }
 
-fn read_text(alloc: Global, text: &[u8], way: Way) -> Result<Told, AllocError> {
+fn read_text(rt: &impl Abort, alloc: Global, text: &[u8], way: Way) -> Told {
     match read_script(alloc, text, 45, way) {
         Ok(script) => match script.lines.as_slice().last() {
-            Some(line) => Ok(Told::Last(script.lines.len(), *line)),
-            None => Ok(Told::Script {
+            Some(line) => Told::Last(script.lines.len(), *line),
+            None => Told::Script {
                 lanes: script.lanes,
                 workers: script.workers,
-            }),
+            },
         },
-        Err(ScriptRefusal::Fault(fault)) => Ok(Told::Fault(fault.line, fault.kind)),
-        Err(ScriptRefusal::OutOfMemory) => Err(AllocError),
+        Err(ScriptRefusal::Fault(fault)) => Told::Fault(fault.line, fault.kind),
+        Err(ScriptRefusal::OutOfMemory) => panic!(rt; "memory"),
     }
 }
 
@@ -85,26 +85,23 @@ const RIGHT_LINES: [(&str, Line); 14] = [
 ];
 
 /// What is read of a script of two lanes and three workers whose third line is given.
-fn read_third(alloc: Global, line: &str, behind: &str, way: Way) -> Result<Told, AllocError> {
-    let text = format!(in alloc; "script 2 3\nadd block 0 0 0 0 0 0\n{line}\n{behind}")?;
-    read_text(alloc, text.as_bytes(), way)
+fn read_third(rt: &impl Abort, alloc: Global, line: &str, behind: &str, way: Way) -> Told {
+    let text = format!(in alloc; "script 2 3\nadd block 0 0 0 0 0 0\n{line}\n{behind}").expect(
+        rt, "memory",
+    );
+    read_text(rt, alloc, text.as_bytes(), way)
 }
 
-fn check_right_lines(
-    rt: &impl Abort,
-    alloc: Global,
-    rows: &[(&str, Line)],
-) -> Result<(), AllocError> {
+fn check_right_lines(rt: &impl Abort, alloc: Global, rows: &[(&str, Line)]) {
     for (line, wanted) in rows {
-        let told = read_third(alloc, line, "", Way::Play)?;
+        let told = read_third(rt, alloc, line, "", Way::Play);
         assert!(rt; told == Told::Last(2, *wanted), "at {line}");
     }
-    Ok(())
 }
 
 #[test]
-fn reads_right_lines(rt: HostRuntime) -> Result<(), AllocError> {
-    check_right_lines(&rt, rt.alloc(), &RIGHT_LINES)
+fn reads_right_lines(rt: HostRuntime) {
+    check_right_lines(&rt, rt.alloc(), &RIGHT_LINES);
 }
 
 /// A line of a script with two lanes and three workers, the way it runs, and the kind of the fault.
@@ -172,21 +169,16 @@ const WRONG_LINES: [(&str, Way, u32); 61] = [
     ("", Way::Play, 8),
 ];
 
-fn check_wrong_lines(
-    rt: &impl Abort,
-    alloc: Global,
-    rows: &[(&str, Way, u32)],
-) -> Result<(), AllocError> {
+fn check_wrong_lines(rt: &impl Abort, alloc: Global, rows: &[(&str, Way, u32)]) {
     for (line, way, kind) in rows {
-        let told = read_third(alloc, line, "settle\n", *way)?;
+        let told = read_third(rt, alloc, line, "settle\n", *way);
         assert!(rt; told == Told::Fault(47, *kind), "at {line}");
     }
-    Ok(())
 }
 
 #[test]
-fn refuses_wrong_lines(rt: HostRuntime) -> Result<(), AllocError> {
-    check_wrong_lines(&rt, rt.alloc(), &WRONG_LINES)
+fn refuses_wrong_lines(rt: HostRuntime) {
+    check_wrong_lines(&rt, rt.alloc(), &WRONG_LINES);
 }
 
 /// Whole texts, and what is read of them.
@@ -230,46 +222,35 @@ const TEXTS: [(&str, Told); 19] = [
     ),
 ];
 
-fn check_texts(rt: &impl Abort, alloc: Global, rows: &[(&str, Told)]) -> Result<(), AllocError> {
+fn check_texts(rt: &impl Abort, alloc: Global, rows: &[(&str, Told)]) {
     for (text, wanted) in rows {
-        let told = read_text(alloc, text.as_bytes(), Way::Play)?;
+        let told = read_text(rt, alloc, text.as_bytes(), Way::Play);
         assert!(rt; told == *wanted, "at {text}");
     }
-    Ok(())
 }
 
 #[test]
-fn reads_texts(rt: HostRuntime) -> Result<(), AllocError> {
-    check_texts(&rt, rt.alloc(), &TEXTS)
+fn reads_texts(rt: HostRuntime) {
+    check_texts(&rt, rt.alloc(), &TEXTS);
 }
 
 /// A text of a line, then another line so many times, then a last line.
 fn repeated(
+    rt: &impl Abort,
     alloc: Global,
     first: &str,
     line: &str,
     count: u32,
     last: &str,
-) -> Result<Vec<u8>, AllocError> {
+) -> Vec<u8> {
     let mut text = Vec::new(alloc);
-    text.extend_from_slice(first.as_bytes())?;
+    text.extend_from_slice(first.as_bytes())
+        .expect(rt, "memory");
     for _ in 0..count {
-        text.extend_from_slice(line.as_bytes())?;
+        text.extend_from_slice(line.as_bytes()).expect(rt, "memory");
     }
-    text.extend_from_slice(last.as_bytes())?;
-    Ok(text)
-}
-
-/// What is read of a script of a line so many times, then a last line.
-fn read_repeated(
-    alloc: Global,
-    line: &str,
-    count: u32,
-    way: Way,
-    last: &str,
-) -> Result<Told, AllocError> {
-    let text = repeated(alloc, "script 1 1\n", line, count, last)?;
-    read_text(alloc, text.as_slice(), way)
+    text.extend_from_slice(last.as_bytes()).expect(rt, "memory");
+    text
 }
 
 /// A line, how often it stands, the way it runs, the line behind it, and what is read.
@@ -346,19 +327,15 @@ const LONG_TEXTS: [(&str, u32, Way, &str, Told); 10] = [
     ),
 ];
 
-fn check_long_texts(
-    rt: &impl Abort,
-    alloc: Global,
-    rows: &[(&str, u32, Way, &str, Told)],
-) -> Result<(), AllocError> {
+fn check_long_texts(rt: &impl Abort, alloc: Global, rows: &[(&str, u32, Way, &str, Told)]) {
     for (line, count, way, last, wanted) in rows {
-        let told = read_repeated(alloc, line, *count, *way, last)?;
+        let text = repeated(rt, alloc, "script 1 1\n", line, *count, last);
+        let told = read_text(rt, alloc, text.as_slice(), *way);
         assert!(rt; told == *wanted, "at {last}");
     }
-    Ok(())
 }
 
 #[test]
-fn counts_lines(rt: HostRuntime) -> Result<(), AllocError> {
-    check_long_texts(&rt, rt.alloc(), &LONG_TEXTS)
+fn counts_lines(rt: HostRuntime) {
+    check_long_texts(&rt, rt.alloc(), &LONG_TEXTS);
 }
