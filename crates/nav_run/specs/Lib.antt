@@ -7,3 +7,4 @@ pub mod Made
 pub mod Outcomes
 pub mod Endings
 pub mod StepCounts
+pub mod Courses

@@ -30,6 +30,10 @@ pub record IsReadStepped (left_before left_after : Option (List ℕ)) (before af
   pub short : length input ≤ input_limit
   pub steps : IsPlayStepped input before after
 
+-- no step was taken, or those of the play of the input that was read
+abbrev pub HasReadStepped : (left_before left_after : Option (List ℕ)) → (before after : ℕ) → Type 0
+HasReadStepped left_before left_after before after = (after ≡ before) ⊎ IsReadStepped left_before left_after before after
+
 -- the words ask for a made input, and no more steps were taken than its play may take
 pub record IsMadeStepped (words : List (String Global)) (before after : ℕ) : Type 0 where
   pub number : ℕ

@@ -1,6 +1,7 @@
 //! The top call: everything that the program promises.
 
-ghost use Rattle.std.specs.Prelude.{◌≡◌, ◌+◌, ◌<◌, ◌≤◌, ◌⊎◌, length, IfSome};
+ghost use Rattle.std.specs.Prelude.{◌≡◌, ◌+◌, ◌<◌, ◌≤◌, ◌⊎◌, List, String, length, IfSome};
+ghost use Rattle.std.specs.declared.alloc.Global.{Global};
 ghost use Rattle.std.specs.Io.KnownBytes.{Appends, Keeps};
 ghost use Rattle.nav_io.specs.Causes.{Rose, TookMany, TookAtMost, HasMore};
 ghost use Rattle.nav_record.specs.Texts.{usage_text, too_long_text};
@@ -8,7 +9,8 @@ ghost use Rattle.nav_run.specs.Inputs.{IsPlay, input_limit};
 ghost use Rattle.nav_run.specs.Outcomes.{HasDone, HasTold, HasBroken};
 ghost use Rattle.nav_run.specs.Words.{IsForm, IsPlayForm, IsGen};
 ghost use Rattle.nav_run.specs.Endings.{HasEnded};
-ghost use Rattle.nav_run.specs.StepCounts.{HasRunStepped};
+ghost use Rattle.nav_run.specs.Courses.{HasRun};
+ghost use Rattle.nav_run.specs.StepCounts.{HasReadStepped, HasRunStepped};
 
 use crate::answer::{Answer, answer_to};
 use crate::made::summarize;
@@ -86,16 +88,48 @@ pub fn navd<R: Threads + Wait + Sync, S: Source, K: Sink, G: Gate + Sync, L: Led
     // Steps are taken for a play alone: at most one for each tile, and one for each claim of its script that gives a tile.
     ensures steps { HasRunStepped words.now (S.left source.old) (S.left source.new) steps.old steps.new }
 {
+    respond(rt, alloc, words, source, sink, steps)
+}
+
+/// Does what the words ask for: answers the input that is read, sums up the made one, or tells that the words are in no form.
+fn respond<R: Wait, S: Source, K: Sink, L: Ledger>(
+    rt: &R,
+    alloc: Global,
+    words: &[String],
+    source: &mut S,
+    sink: &mut K,
+    steps: &mut Steps<L>,
+) -> Status
+    ensures run { HasRun words.now (S.left source.old) (S.left source.new) (S.faults source.old) (S.faults source.new)
+        (K.held sink.old) (K.held sink.new) (K.faults sink.old) (K.faults sink.new) result }
+    ensures took { TookAtMost (S.left source.old) (S.left source.new) (input_limit + 1) }
+    ensures unread { (¬ IsPlayForm words.now) → source.new ≡ source.old }
+    ensures steps { HasRunStepped words.now (S.left source.old) (S.left source.new) steps.old steps.new }
+{
     match form_of(words) {
-        Some(Form::Play) => (),
-        Some(Form::Gen { number, size }) => {
-            return match summarize(rt, alloc, number, size, steps) {
-                Ok(text) => finish(sink, text.as_slice(), Status::Ok),
-                Err(_) => Status::OutOfMemory,
-            };
-        }
-        None => return finish(sink, b"fault usage\n", Status::Usage),
+        Some(Form::Play) => respond_to_input(rt, alloc, source, sink, steps),
+        Some(Form::Gen { number, size }) => match summarize(rt, alloc, number, size, steps) {
+            Ok(text) => finish(sink, text.as_slice(), Status::Ok),
+            Err(_) => Status::OutOfMemory,
+        },
+        None => finish(sink, b"fault usage\n", Status::Usage),
     }
+}
+
+/// Answers the whole input that it reads from the source.
+fn respond_to_input<R: Wait, S: Source, K: Sink, L: Ledger>(
+    rt: &R,
+    alloc: Global,
+    source: &mut S,
+    sink: &mut K,
+    steps: &mut Steps<L>,
+) -> Status
+    ensures run { (words : List (String Global)) → IsPlayForm words
+        → HasRun words (S.left source.old) (S.left source.new) (S.faults source.old) (S.faults source.new)
+        (K.held sink.old) (K.held sink.new) (K.faults sink.old) (K.faults sink.new) result }
+    ensures took { TookAtMost (S.left source.old) (S.left source.new) (input_limit + 1) }
+    ensures steps { HasReadStepped (S.left source.old) (S.left source.new) steps.old steps.new }
+{
     let input = match read_all(alloc, source, MOST) {
         Ok(input) => input,
         Err(ReadRefusal::ReadFault) => return Status::ReadFault,

@@ -1,8 +1,6 @@
 //! Plays of the whole program: what scripts answer over levels. What is wanted was worked out by hand.
 
-use crate::test_runs::{
-    FOUR_TILES, Over, ROOM, SquareField, built_level, check, check_ends, played, run_once,
-};
+use crate::test_runs::{FOUR_TILES, Over, ROOM, SquareField, check, check_ends, played};
 use nav_run::Status;
 use std::alloc::Global;
 use std::process::Abort;
@@ -14,12 +12,12 @@ type Play = (SquareField, &'static str, &'static str);
 
 fn check_plays<R: Abort + Threads + Wait + Sync>(rt: &R, alloc: Global, plays: &[Play]) {
     for (level, script, text) in plays {
-        let ran = played(rt, alloc, level, script);
+        let ran = played(rt, alloc, level, script, (100, 0), (100, 0));
         check(rt, &ran, Status::Ok, text.as_bytes());
     }
 }
 
-const SCRIPTS: [Play; 5] = [
+static SCRIPTS: [Play; 5] = [
     // The cell (4, 4) is 3 and 4 half cells from the centre: 9 + 16 is 25, the squared reach of the radius 2.
     (
         ROOM,
@@ -55,7 +53,7 @@ fn plays_scripts(rt: HostRuntime) {
     check_plays(&rt, rt.alloc(), &SCRIPTS);
 }
 
-const FLOORS: [Play; 9] = [
+static FLOORS: [Play; 9] = [
     (
         ROOM,
         "floor 1 1\nfloor 0 0\n",
@@ -148,7 +146,7 @@ const WALLS: SquareField = SquareField {
 };
 
 /// Each of these paths is the only right one.
-const PATHS: [Play; 8] = [
+static PATHS: [Play; 8] = [
     // The strips of the rows 1 to 4 are 16 sixteenths apart.
     (
         ROOM,
@@ -217,8 +215,10 @@ fn finds_paths(rt: HostRuntime) {
     check_plays(&rt, rt.alloc(), &PATHS);
 }
 
-/// How the play text begins.
-const OUTLINES: [Play; 4] = [
+/// The level, the script; how the play text begins, and how it ends.
+type Frame = (SquareField, &'static str, &'static str, &'static str);
+
+static OUTLINES: [Frame; 4] = [
     // One region, whose outline is one polygon.
     (
         SquareField {
@@ -227,6 +227,7 @@ const OUTLINES: [Play; 4] = [
         },
         ACROSS,
         "floors 0 1 10 63\nfloors 0 0\npath 0 0 0 0 0 0\ndone 0 0\n",
+        "\ndone 0 0\n",
     ),
     // One cell, whose outline is flat with the error 50, so that the tile is a strip, and has four corners with the error 49.
     (
@@ -236,6 +237,7 @@ const OUTLINES: [Play; 4] = [
         },
         "path 24 24 10 24 24 10\n",
         "path 0 0 0 0 0 0\ndone 0 0\n",
+        "\ndone 0 0\n",
     ),
     (
         SquareField {
@@ -244,6 +246,7 @@ const OUTLINES: [Play; 4] = [
         },
         "path 24 24 10 24 24 10\n",
         "path 0 0 0 0 0 0\ndone 0 0\n",
+        "\ndone 0 0\n",
     ),
     // Four tiles of one polygon each; the straight line meets their common corner, so how many turns are listed is free.
     (
@@ -257,33 +260,42 @@ const OUTLINES: [Play; 4] = [
         },
         "path 160 160 10 1400 1400 10\n",
         "path 0 1440 0 0 2 ",
+        "\ndone 0 0\n",
     ),
 ];
 
-fn check_beginnings<R: Abort + Threads + Wait + Sync>(rt: &R, alloc: Global, plays: &[Play]) {
-    for (level, script, text) in plays {
-        let ran = played(rt, alloc, level, script);
-        check_ends(rt, &ran, text, "\ndone 0 0\n");
+fn check_frames<R: Abort + Threads + Wait + Sync>(rt: &R, alloc: Global, plays: &[Frame]) {
+    for (level, script, first, last) in plays {
+        let ran = played(rt, alloc, level, script, (100, 0), (100, 0));
+        check_ends(rt, &ran, first, last);
     }
 }
 
 #[test]
 fn finds_paths_over_outlines(rt: HostRuntime) {
-    check_beginnings(&rt, rt.alloc(), &OUTLINES);
+    check_frames(&rt, rt.alloc(), &OUTLINES);
 }
 
-#[test]
-fn finds_a_path_over_four_tiles(rt: HostRuntime) {
-    let alloc = rt.alloc();
+static CORRIDORS: [Frame; 2] = [
     // The block is the corner cell of a tile. Round it lead two corridors of one cost, each over two borders, and either is right.
-    let script = "add block 3 4 0 100 3 4\nsettle\npath 40 56 10 88 72 10\n";
-    let ran = played(&rt, alloc, &FOUR_TILES, script);
-    check_ends(
-        &rt,
-        &ran,
+    (
+        FOUR_TILES,
+        "add block 3 4 0 100 3 4\nsettle\npath 40 56 10 88 72 10\n",
         "entry 1 added\nsettled 1\npath 1 100 0 2 4 ",
         "\ndone 1 1\n",
-    );
+    ),
+    // It touches four tiles, and the mesh is published once none of them is awaited.
+    (
+        FOUR_TILES,
+        "add block 3 4 0 100 3 4\naim\npublish\nclaim 0\nsubmit 0\npublish\nsettle\npublish\npath 40 56 10 88 72 10\n",
+        "entry 1 added\naim 1\nnotyet 0\nclaim 0 tile 0\nsubmit 0 taken 0\nnotyet 1\nsettled 1\nsame 1\npath 1 100 0 2 4 ",
+        "\ndone 1 1\n",
+    ),
+];
+
+#[test]
+fn finds_one_of_two_paths_over_four_tiles(rt: HostRuntime) {
+    check_frames(&rt, rt.alloc(), &CORRIDORS);
 }
 
 /// Four tiles for two workers.
@@ -292,7 +304,7 @@ const SHARED: SquareField = SquareField {
     ..FOUR_TILES
 };
 
-const WORKERS: [Play; 7] = [
+static WORKERS: [Play; 7] = [
     // A second obstacle is aimed at before the first build comes in, which is stale.
     (
         ROOM,
@@ -342,22 +354,7 @@ fn leads_workers(rt: HostRuntime) {
     check_plays(&rt, rt.alloc(), &WORKERS);
 }
 
-#[test]
-fn publishes_once_no_tile_is_awaited(rt: HostRuntime) {
-    let alloc = rt.alloc();
-    // The block touches four tiles. Either of two corridors of one cost is right.
-    let script =
-        "add block 3 4 0 100 3 4\naim\npublish\nclaim 0\nsubmit 0\npublish\nsettle\npublish\npath 40 56 10 88 72 10\n";
-    let ran = played(&rt, alloc, &FOUR_TILES, script);
-    check_ends(
-        &rt,
-        &ran,
-        "entry 1 added\naim 1\nnotyet 0\nclaim 0 tile 0\nsubmit 0 taken 0\nnotyet 1\nsettled 1\nsame 1\npath 1 100 0 2 4 ",
-        "\ndone 1 1\n",
-    );
-}
-
-const RAYS: [Play; 3] = [
+static RAYS: [Play; 3] = [
     // Nothing is held where there are no cells.
     (
         SquareField {
@@ -390,8 +387,6 @@ fn follows_rays(rt: HostRuntime) {
 
 #[test]
 fn leaves_what_was_written_of_an_answer(rt: HostRuntime) {
-    let alloc = rt.alloc();
-    let text = built_level(&rt, alloc, &ROOM, ACROSS);
-    let ran = run_once(&rt, alloc, &["play"], text, (100, 0), (8, 2));
+    let ran = played(&rt, rt.alloc(), &ROOM, ACROSS, (100, 0), (8, 2));
     check(&rt, &ran, Status::WriteFault, b"floors 0".as_slice());
 }

@@ -187,13 +187,18 @@ pub(crate) fn built_level(
     text
 }
 
-/// Plays the script over the level, through reads and writes of some bytes each.
+/// Plays the script over the level, through reads and writes as in `run_once`.
 pub(crate) fn played<R: Abort + Threads + Wait + Sync>(
     rt: &R,
     alloc: Global,
     level: &SquareField,
     script: &str,
-) -> Ran {
+    read: (usize, u32),
+    write: (usize, u32),
+) -> Ran
+    requires reads { 0 < read.0 }
+    requires writes { 0 < write.0 }
+{
     let text = built_level(rt, alloc, level, script);
-    run_once(rt, alloc, &["play"], text, (100, 0), (100, 0))
+    run_once(rt, alloc, &["play"], text, read, write)
 }

@@ -2,7 +2,7 @@
 
 ghost use Rattle.std.specs.Prelude.{◌<◌};
 
-use crate::test_runs::{ROOM, Ran, SquareField, built_level, check, check_ends, run_once};
+use crate::test_runs::{ROOM, Ran, SquareField, built_level, check, check_ends, played, run_once};
 use nav_run::Status;
 use std::alloc::Global;
 use std::process::Abort;
@@ -26,7 +26,7 @@ fn lines(rt: &impl Abort, alloc: Global, count: u32, line: &str) -> String {
 /// The word, the script; the status and what the sink holds.
 type Ending = (&'static str, &'static str, Status, &'static str);
 
-const ENDINGS: [Ending; 9] = [
+static ENDINGS: [Ending; 9] = [
     ("play", SCRIPT, Status::Ok, PLAYED),
     ("play", "", Status::Ok, "done 0 0\n"),
     ("plays", "", Status::Usage, "fault usage\n"),
@@ -56,20 +56,6 @@ fn ends_with_the_status_of_its_cause(rt: HostRuntime) {
     check_endings(&rt, rt.alloc(), &ENDINGS);
 }
 
-/// Plays the script over the room, where one read or write fails.
-fn play_failing<R: Abort + Threads + Wait + Sync>(
-    rt: &R,
-    alloc: Global,
-    read: (usize, u32),
-    write: (usize, u32),
-) -> Ran
-    requires reads { 0 < read.0 }
-    requires writes { 0 < write.0 }
-{
-    let level = built_level(rt, alloc, &ROOM, SCRIPT);
-    run_once(rt, alloc, &["play"], level, read, write)
-}
-
 #[test]
 fn tells_each_failing_call(rt: HostRuntime) {
     let alloc = rt.alloc();
@@ -77,7 +63,7 @@ fn tells_each_failing_call(rt: HostRuntime) {
     assert!(rt; length < 5000);
     // The last call is the one that would tell the end.
     for call in 1..length + 2 {
-        let ran = play_failing(&rt, alloc, (1, call as u32), (8, 0));
+        let ran = played(&rt, alloc, &ROOM, SCRIPT, (1, call as u32), (8, 0));
         check(&rt, &ran, Status::ReadFault, b"");
     }
 }
@@ -86,7 +72,7 @@ fn tells_each_failing_call(rt: HostRuntime) {
 fn check_left<R: Abort + Threads + Wait + Sync>(rt: &R, alloc: Global, text: &[u8]) {
     assert!(rt; text.len() < 5000);
     for call in 0..text.len() {
-        let ran = play_failing(rt, alloc, (100, 0), (1, call as u32 + 1));
+        let ran = played(rt, alloc, &ROOM, SCRIPT, (100, 0), (1, call as u32 + 1));
         check(rt, &ran, Status::WriteFault, &text[..call]);
     }
 }
@@ -100,7 +86,7 @@ fn leaves_what_was_written(rt: HostRuntime) {
 type Feeds = (usize, Status, &'static str);
 
 /// As many line feeds as an input may have, and one more.
-const FEEDS: [Feeds; 2] = [
+static FEEDS: [Feeds; 2] = [
     (67108864, Status::BadText, "fault 1 1\n"),
     (67108865, Status::TooLong, "fault too long\n"),
 ];
@@ -130,8 +116,7 @@ fn play_lines<R: Abort + Threads + Wait + Sync>(
     line: &str,
 ) -> Ran {
     let script = lines(rt, alloc, count, line);
-    let text = built_level(rt, alloc, level, script.as_str());
-    run_once(rt, alloc, &["play"], text, (4096, 0), (4096, 0))
+    played(rt, alloc, level, script.as_str(), (4096, 0), (4096, 0))
 }
 
 #[test]
@@ -153,7 +138,7 @@ fn takes_no_more_lines_than_it_may(rt: HostRuntime) {
 }
 
 /// Words that are no form.
-const NO_FORMS: [&[&str]; 17] = [
+static NO_FORMS: [&[&str]; 17] = [
     &[],
     &[""],
     &["Play"],

@@ -6,7 +6,7 @@ use span_text::{FieldRefusal, FieldText, read_field};
 use std::alloc::Global;
 use std::process::Abort;
 
-const HEADER: [&str; 7] = [
+static HEADER: [&str; 7] = [
     "nav 1\n",
     "size 6 6\n",
     "tile 6\n",
@@ -43,7 +43,7 @@ const EVERY_FORM: &str =
 const SCRIPT_AT: usize = 168;
 
 /// Its spans.
-const SPANS: [Span; 3] = [
+static SPANS: [Span; 3] = [
     Span {
         x: 0,
         z: 0,
@@ -113,7 +113,7 @@ fn reads_a_field_without_spans(rt: HostRuntime) {
 /// How many lines of the header stand first, what follows them, and the line and kind of the first fault.
 type FirstFault = (usize, &'static str, u32, FaultKind);
 
-const HEADER_FAULTS: [FirstFault; 31] = [
+static HEADER_FAULTS: [FirstFault; 31] = [
     (0, "", 1, FaultKind::Unfinished),
     (0, "\n", 1, FaultKind::Form),
     (0, "nav 1", 1, FaultKind::Unfinished),
@@ -148,7 +148,7 @@ const HEADER_FAULTS: [FirstFault; 31] = [
 ];
 
 /// The same behind a whole header.
-const BODY_FAULTS: [FirstFault; 31] = [
+static BODY_FAULTS: [FirstFault; 31] = [
     (7, "", 8, FaultKind::Unfinished),
     (7, "end", 8, FaultKind::Unfinished),
     (7, "end \n", 8, FaultKind::Form),

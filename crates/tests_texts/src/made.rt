@@ -15,7 +15,7 @@ struct Made {
     checksum: u64,
 }
 
-const MADE: [Made; 4] = [
+static MADE: [Made; 4] = [
     Made {
         number: 1,
         size: 32,
@@ -47,7 +47,7 @@ const MADE: [Made; 4] = [
 ];
 
 /// Parts of the text of number 1 and size 32, and where they begin: the header, a pillar, the first two rounds, the first `drop` and the last line.
-const PARTS: [(usize, &str); 5] = [
+static PARTS: [(usize, &str); 5] = [
     (
         0,
         "nav 1\nsize 32 32\ntile 32\nagent 10 4 2\nerror 169\nmesh contours\nlimit 64\nspan 0 0 0 11 63\nspan 1 0 0 11 63\nspan 2 0 0 11 63\n",

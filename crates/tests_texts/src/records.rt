@@ -13,7 +13,7 @@ use std::alloc::Global;
 use std::process::Abort;
 
 /// What a step answers, and its line.
-const STEPS: [(StepAnswer, &str); 13] = [
+static STEPS: [(StepAnswer, &str); 13] = [
     (StepAnswer::Aim { k: 0 }, "aim 0\n"),
     (
         StepAnswer::Claimed {
@@ -72,7 +72,7 @@ fn writes_steps(rt: HostRuntime) {
 }
 
 /// Replies and the numbers of their entries.
-const REPLIES: [(u32, Reply); 4] = [
+static REPLIES: [(u32, Reply); 4] = [
     (1, Reply::Added { number: 1 }),
     (2, Reply::Full { live: 1024 }),
     (65536, Reply::Removed),
@@ -99,7 +99,7 @@ fn writes_the_other_lines(rt: HostRuntime) {
 }
 
 /// An entry with the number 65536, and its line.
-const ENTRIES: [(Entry, &str); 6] = [
+static ENTRIES: [(Entry, &str); 6] = [
     (
         Entry {
             lane: 0,

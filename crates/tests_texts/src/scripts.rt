@@ -33,7 +33,7 @@ const FROM: Point = Point { x: 16384, z: 0 };
 const TO: Point = Point { x: 7, z: 16384 };
 
 /// A line of each form, and what it says.
-const RIGHT_LINES: [(&str, Line); 14] = [
+static RIGHT_LINES: [(&str, Line); 14] = [
     ("floor 1023 0", Line::Ask(Question::Floor { x: 1023, z: 0 })),
     (
         "path 16384 0 8191 7 16384 0",
@@ -105,7 +105,7 @@ fn reads_right_lines(rt: HostRuntime) {
 }
 
 /// A line of a script with two lanes and three workers, the way it runs, and the kind of the fault.
-const WRONG_LINES: [(&str, Way, u32); 61] = [
+static WRONG_LINES: [(&str, Way, u32); 61] = [
     ("floor 0 1024", Way::Play, 2),
     ("floor 1024 0", Way::Live, 2),
     ("floor 0", Way::Play, 8),
@@ -182,7 +182,7 @@ fn refuses_wrong_lines(rt: HostRuntime) {
 }
 
 /// Whole texts, and what is read of them.
-const TEXTS: [(&str, Told); 19] = [
+static TEXTS: [(&str, Told); 19] = [
     ("", Told::Fault(45, 7)),
     ("script 1 1", Told::Fault(45, 7)),
     (
@@ -254,7 +254,7 @@ fn repeated(
 }
 
 /// A line, how often it stands, the way it runs, the line behind it, and what is read.
-const LONG_TEXTS: [(&str, u32, Way, &str, Told); 10] = [
+static LONG_TEXTS: [(&str, u32, Way, &str, Told); 10] = [
     (
         "settle\n",
         299999,
