@@ -60,7 +60,7 @@ pub refused_run : (before after : Option (List ℕ)) (reads_before reads_after :
     → HasEnded held_before held_after writes_before writes_after written statuses.BadText status
     → (words : List (String Global)) → IsPlayForm words
     → HasRun words before after reads_before reads_after held_before held_after writes_before writes_after status
-  unfolding fault_due
+unfolding fault_due
 refused_run before after rb ra hb ha wb wa input bytes written text status gave short same as_text tells no_play ended words form =
     let due : IsFaultDue before after written = fault_due before after input bytes written text gave short same as_text tells in
     wrote words before after rb ra hb ha wb wa written statuses.BadText status ended (inr (inr (form, inr (inr due))))
