@@ -4,16 +4,17 @@ use Rattle.std.specs.Prelude.{Option, Some, None, String}
 use Rattle.std.specs.declared.alloc.Global.{Global}
 use Rattle.std.specs.Io.KnownBytes.{Consumes}
 use Rattle.nav_io.specs.Causes.{GivesAll, TookMany, TookAtMost}
+use Rattle.nav_steps.specs.Counts.{HasRisenAtMost}
 use Rattle.nav_record.specs.Texts.{usage_text, too_long_text}
 use Rattle.nav_run.specs.declared.status.Status.{Status}
 use Rattle.nav_run.specs.declared.status.Status.TheVariants as statuses
 use Rattle.nav_run.specs.declared.words.Form.{Form}
-use Rattle.nav_run.specs.declared.words.Form.TheVariants.{Gen}
+use Rattle.nav_run.specs.declared.words.Form.TheVariants.{Play, Gen}
 use Rattle.nav_run.specs.Answers.{TellsFault}
 use Rattle.nav_run.specs.Courses.{HasRun}
 use Rattle.nav_run.specs.Endings.{HasEnded}
 use Rattle.nav_run.specs.Inputs.{IsPlay, IsPlayed, IsFault, input_limit}
-use Rattle.nav_run.specs.Made.{IsMadeSummary}
+use Rattle.nav_run.specs.Made.{IsMadeSummary, made_builds}
 use Rattle.nav_run.specs.Outcomes.{IsPlayDue, IsFaultDue, IsSummaryDue}
 use Rattle.nav_run.specs.StepCounts.{HasStepped, HasReadStepped, HasRunStepped}
 use Rattle.nav_run.specs.Words.{AskFor, IsForm, IsPlayForm, IsGenForm}
@@ -85,7 +86,10 @@ pub formless_run : (words : List (String Global)) (before : Option (List ℕ)) (
 formless_run words before rb ra hb ha wb wa status none ended =
     wrote words before before rb ra hb ha wb wa usage_text statuses.Usage status ended (inl (none, refl, refl)) (λ there. (none, there, refl))
 
--- the form `gen` that the words are in
+-- the form that the words are in
+pub play_form_of : (words : List (String Global)) (form : Form) → AskFor words (Some form) → form ≡ Play → IsPlayForm words
+play_form_of words form asked is = let A : Form → Type 0 = λ f. AskFor words (Some f) in subst A is asked
+
 pub gen_form_of : (words : List (String Global)) (number size : ℕ) (form : Form) → AskFor words (Some form) → form ≡ Gen number size
     → IsGenForm number size words
 gen_form_of words number size form asked is = let A : Form → Type 0 = λ f. AskFor words (Some f) in subst A is asked
@@ -136,3 +140,9 @@ read_stepped before after input bytes sb sa gave short same stepped =
 pub run_stepped : (words : List (String Global)) (before after : Option (List ℕ)) (steps_before steps_after : ℕ) → IsPlayForm words
     → HasReadStepped before after steps_before steps_after → HasRunStepped words before after steps_before steps_after
 run_stepped words before after sb sa form stepped = elim stepped [ inl none ↦ inl none | inr some ↦ inr (inl (form, some)) ]
+
+pub gen_stepped : (words : List (String Global)) (before after : Option (List ℕ)) (number size steps_before steps_after : ℕ)
+    → IsGenForm number size words → HasRisenAtMost (made_builds number size) steps_before steps_after
+    → HasRunStepped words before after steps_before steps_after
+gen_stepped words before after number size sb sa form risen =
+    inr (inr (record { number = number; size = size; form = form; steps = risen }))

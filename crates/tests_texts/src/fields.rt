@@ -1,5 +1,6 @@
 //! A field text of every form of line, and the line and kind of the first fault of wrong ones.
 
+use crate::texts::{append, check};
 use nav_ground::{AREAS, Agent, MeshKind, Setting, Span};
 use nav_text::FaultKind;
 use span_text::{FieldRefusal, FieldText, read_field};
@@ -20,9 +21,9 @@ static HEADER: [&str; 7] = [
 fn text_with(rt: &impl Abort, alloc: Global, lines: usize, tail: &str) -> Vec<u8> {
     let mut text = Vec::new(alloc);
     for line in HEADER.iter().take(lines) {
-        text.extend_from_slice(line.as_bytes()).expect(rt, "memory");
+        append(rt, &mut text, line, 1);
     }
-    text.extend_from_slice(tail.as_bytes()).expect(rt, "memory");
+    append(rt, &mut text, tail, 1);
     text
 }
 
@@ -90,9 +91,9 @@ fn every_setting() -> Setting {
 }
 
 fn check_every_form(rt: &impl Abort, read: &FieldText) {
-    assert!(rt; read.used == SCRIPT_AT && read.lines == 14);
-    assert!(rt; read.setting == every_setting());
-    assert!(rt; read.field.width == 1024 && read.field.depth == 1);
+    let is_whole = read.used == SCRIPT_AT && read.lines == 14;
+    let is_sized = read.field.width == 1024 && read.field.depth == 1;
+    assert!(rt; is_whole && is_sized && read.setting == every_setting());
     assert!(rt; read.field.spans.as_slice() == SPANS.as_slice());
 }
 
@@ -216,7 +217,7 @@ fn check_faults(rt: &impl Abort, alloc: Global, faults: &[FirstFault]) {
     for (lines, tail, line, kind) in faults {
         let text = text_with(rt, alloc, *lines, tail);
         let found = fault_of(alloc, text.as_slice());
-        assert!(rt; found == (*line, kind.number()), "at {tail}");
+        check(rt, found == (*line, kind.number()), tail);
     }
 }
 

@@ -1,5 +1,6 @@
 //! Made inputs and their summary. The wanted values were computed by a plain second program.
 
+use crate::texts::check;
 use nav_gen::{line_count, make, summary};
 use nav_record::Totals;
 use std::alloc::Global;
@@ -80,10 +81,11 @@ fn check_made(rt: &impl Abort, alloc: Global, made: &[Made]) {
     for row in made {
         assert!(rt; 32 <= row.size && row.size <= 512);
         let text = make(alloc, row.number, row.size).expect(rt, "memory");
-        assert!(rt; text.len() == row.bytes);
-        assert!(rt; count_lines(text.as_slice()) == row.lines as usize);
-        assert!(rt; line_count(row.size) == row.lines);
-        assert!(rt; checksum(text.as_slice()) == row.checksum);
+        let is_so = text.len() == row.bytes
+            && count_lines(text.as_slice()) == row.lines as usize
+            && line_count(row.size) == row.lines
+            && checksum(text.as_slice()) == row.checksum;
+        assert!(rt; is_so);
     }
 }
 
@@ -93,7 +95,7 @@ fn check_parts(rt: &impl Abort, text: &[u8], parts: &[(usize, &str)]) {
             Some(rest) => rest.starts_with(part.as_bytes()),
             None => false,
         };
-        assert!(rt; is_there, "at {at}");
+        check(rt, is_there, part);
     }
 }
 

@@ -1,5 +1,6 @@
 //! Every form of line once, beside its text written by hand.
 
+use crate::texts::check;
 use mesh_types::{Answer, Corner, Link, PathFound, PolyRef, Portal, Side};
 use nav_base::{FloorAt, Point};
 use nav_ground::{Entry, Reply, Request, Shape};
@@ -55,7 +56,7 @@ static STEPS: [(StepAnswer, &str); 13] = [
 
 /// What was written is this text.
 fn check_text(rt: &impl Abort, out: &[u8], wanted: &str) {
-    assert!(rt; out == wanted.as_bytes(), "at {wanted}");
+    check(rt, out == wanted.as_bytes(), wanted);
 }
 
 fn check_steps(rt: &impl Abort, alloc: Global, steps: &[(StepAnswer, &str)]) {
@@ -202,9 +203,9 @@ fn writes_the_frame_of_a_live_text(rt: HostRuntime) {
 }
 
 /// The answer to the question in a line is written as these lines.
-fn check_answer(rt: &impl Abort, alloc: Global, line: u32, answer: &Answer, wanted: &str) {
+fn check_answer(rt: &impl Abort, alloc: Global, line: u32, answer: Answer, wanted: &str) {
     let mut out = Vec::new(alloc);
-    write_answer(&mut out, line, answer).expect(rt, "memory");
+    write_answer(&mut out, line, &answer).expect(rt, "memory");
     check_text(rt, out.as_slice(), wanted);
 }
 
@@ -215,22 +216,22 @@ fn writes_floors(rt: HostRuntime) {
     let alloc = rt.alloc();
     let two = Vec::from_array(alloc, FLOORS).expect(&rt, "memory");
     let floors = Answer::Floors(Items::from_vec(two));
-    check_answer(&rt, alloc, 3, &floors, "floors 3 2 0 63 8191 1\n");
+    check_answer(&rt, alloc, 3, floors, "floors 3 2 0 63 8191 1\n");
     let none = Answer::Floors(Items::new(alloc));
-    check_answer(&rt, alloc, 3, &none, "floors 3 0\n");
+    check_answer(&rt, alloc, 3, none, "floors 3 0\n");
 }
 
 #[test]
 fn writes_answers(rt: HostRuntime) {
     let alloc = rt.alloc();
-    check_answer(&rt, alloc, 3, &Answer::NoStart, "nostart 3\n");
-    check_answer(&rt, alloc, 3, &Answer::NoGoal, "nogoal 3\n");
-    check_answer(&rt, alloc, 3, &Answer::NoPath, "nopath 3\n");
+    check_answer(&rt, alloc, 3, Answer::NoStart, "nostart 3\n");
+    check_answer(&rt, alloc, 3, Answer::NoGoal, "nogoal 3\n");
+    check_answer(&rt, alloc, 3, Answer::NoPath, "nopath 3\n");
     let reached = Answer::Reached(PolyRef {
         tile: 4294967295,
         index: 7,
     });
-    check_answer(&rt, alloc, 3, &reached, "reached 3 4294967295 7\n");
+    check_answer(&rt, alloc, 3, reached, "reached 3 4294967295 7\n");
     let wall = Answer::Wall {
         a: Point { x: -1, z: 0 },
         b: Point { x: 16384, z: 32 },
@@ -238,7 +239,7 @@ fn writes_answers(rt: HostRuntime) {
         den: -1,
     };
     let wanted = "wall 3 -1 0 16384 32 9223372036854775807 -1\n";
-    check_answer(&rt, alloc, 3, &wall, wanted);
+    check_answer(&rt, alloc, 3, wall, wanted);
 }
 
 const FIRST: PolyRef = PolyRef { tile: 0, index: 1 };
@@ -279,5 +280,5 @@ fn writes_a_path(rt: HostRuntime) {
     };
     let wanted =
         "path 12 18446744073709551615 0 1 1 2\nlink 3 4 16 32 48 64\nturn 16 32 L 0\nturn 48 64 R 0\n";
-    check_answer(&rt, alloc, 12, &Answer::Path(found), wanted);
+    check_answer(&rt, alloc, 12, Answer::Path(found), wanted);
 }
