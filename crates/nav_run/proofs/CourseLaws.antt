@@ -9,13 +9,11 @@ use Rattle.nav_io.proofs.Laws.{GivesAll-known}
 use Rattle.nav_record.specs.Texts.{usage_text, too_long_text}
 use Rattle.nav_run.specs.declared.status.Status.{Status}
 use Rattle.nav_run.specs.declared.status.Status.TheVariants as statuses
-use Rattle.nav_run.specs.Courses.{HasRun, HasRefused}
+use Rattle.nav_run.specs.Courses.{HasRun}
 use Rattle.nav_run.specs.Endings.{HasEnded}
-use Rattle.nav_run.specs.Answers.{TellsFault}
-use Rattle.nav_run.specs.Inputs.{IsPlay, IsPlayed, IsFault, input_limit}
-use Rattle.nav_run.specs.Made.{IsMadeSummary}
-use Rattle.nav_run.specs.Outcomes.{IsDue, IsPlayDue, IsFaultDue, HasTold, HasBroken, HasDone}
-use Rattle.nav_run.specs.Words.{IsForm, IsPlayForm, IsGen, IsGenForm}
+use Rattle.nav_run.specs.Inputs.{IsPlay, IsPlayed, input_limit}
+use Rattle.nav_run.specs.Outcomes.{IsDue, HasTold, HasBroken, HasDone}
+use Rattle.nav_run.specs.Words.{IsForm, IsPlayForm, IsGen}
 
 -- an input with a play text is in the grammar
 play_of : (bytes text : List ℕ) → IsPlayed bytes text → IsPlay bytes

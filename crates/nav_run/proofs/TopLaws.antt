@@ -1,8 +1,7 @@
 -- How a run ends.
-use Rattle.std.proofs.Common.{◌≡◌, ℕ, ◌+◌, ◌≤◌, ◌⊎◌, List, [], length, arith, subst, sym, ◌∙◌, refl, inl, inr}
+use Rattle.std.proofs.Common.{◌≡◌, ℕ, ◌+◌, ◌≤◌, List, [], length, arith, subst, sym, ◌∙◌, refl, inl, inr}
 use Rattle.std.specs.Prelude.{Option, Some, None, String}
 use Rattle.std.specs.declared.alloc.Global.{Global}
-use Rattle.std.specs.Io.KnownBytes.{Consumes}
 use Rattle.nav_io.specs.Causes.{GivesAll, TookMany, TookAtMost}
 use Rattle.nav_steps.specs.Counts.{HasRisenAtMost}
 use Rattle.nav_record.specs.Texts.{usage_text, too_long_text}

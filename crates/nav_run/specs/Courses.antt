@@ -1,5 +1,5 @@
 -- How a run goes, by the status that it ends with: all that the clauses of the top call say of the source and the sink.
-use Rattle.std.specs.Prelude.{◌≡◌, ℕ, ◌+◌, ◌⊎◌, List, Option, String}
+use Rattle.std.specs.Prelude.{◌≡◌, ℕ, ◌+◌, List, Option, String}
 use Rattle.std.specs.declared.alloc.Global.{Global}
 use Rattle.std.specs.Io.KnownBytes.{Appends, Keeps}
 use Rattle.nav_io.specs.Causes.{Rose, TookMany}
