@@ -7,36 +7,37 @@
 
 use nav_io::{StdSink, StdSource};
 use nav_run::{Status, run};
+use std::alloc::AllocError;
 use std::marker::Brand;
 use std::process::ExitCode;
 use std::sync::ledger::Blank;
 use std::{env, io};
 
-fn main(rt: HostRuntime) -> ExitCode {
+/// The words behind the program's name. One that is no text is in no form, and neither are no words. Only memory can be refused.
+fn words(rt: &HostRuntime) -> Result<Vec<String>, AllocError> {
     let alloc = rt.alloc();
-    let mut words = Vec::new(alloc);
-    match env::args(&rt) {
-        Ok(all) => {
-            for word in all.skip(1) {
-                if words.push(word).is_err() {
-                    return ExitCode::from(Status::OutOfMemory.number());
-                }
-            }
+    match env::args(rt) {
+        Ok(mut all) => {
+            all.next();
+            all.collect(alloc)
         }
-        // A word that is no text is in no form, and neither are no words.
-        Err(error) if error.kind() == io::ErrorKind::InvalidData => (),
-        Err(_) => return ExitCode::from(Status::OutOfMemory.number()),
+        Err(error) if error.kind() == io::ErrorKind::InvalidData => Ok(Vec::new(alloc)),
+        Err(_) => Err(AllocError),
     }
-    let mut source = StdSource::new(rt.reader());
-    let mut sink = StdSink::new(io::writer(&rt));
-    let status = run::<_, _, _, Brand>(
-        &rt,
-        alloc,
-        words.as_slice(),
-        &mut source,
-        &mut sink,
-        Blank::new(1),
-    );
+}
+
+fn main(rt: HostRuntime) -> ExitCode {
+    let status = match words(&rt) {
+        Ok(words) => run::<_, _, _, Brand>(
+            &rt,
+            rt.alloc(),
+            words.as_slice(),
+            &mut StdSource::new(rt.reader()),
+            &mut StdSink::new(io::writer(&rt)),
+            Blank::new(1),
+        ),
+        Err(_) => Status::OutOfMemory,
+    };
     ExitCode::from(status.number())
 }
 
