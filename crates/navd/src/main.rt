@@ -1,50 +1,43 @@
 //! The program `navd` plays a script over a level. For `play` it writes the play text of what it reads from standard input, for `gen NUMBER SIZE`
 //! the summary of an input that it makes.
 //!
-//! `navd` is the one top call: everything that the program promises is its contract. `main` makes the real source, sink, gate and counter,
-//! calls it, and ends with the status.
+//! `navd` of the crate `nav_run` is the one top call: everything that the program promises is its contract. `main` makes the real source and
+//! sink, calls it with a counter of its own, and ends with the status.
 #![tactic(auto)]
 
-mod answer;
-mod input;
-mod made;
-mod status;
-mod top;
-mod words;
-
 use nav_io::{StdSink, StdSource};
-pub use status::Status;
+use nav_run::{Status, run};
+use std::alloc::AllocError;
 use std::marker::Brand;
 use std::process::ExitCode;
 use std::sync::ledger::Blank;
 use std::{env, io};
-pub use top::{navd, run};
+
+/// The words behind the program's name. One that is no text is in no form, and neither are no words. Only memory can be refused.
+fn words(rt: &HostRuntime) -> Result<Vec<String>, AllocError> {
+    let alloc = rt.alloc();
+    match env::args(rt) {
+        Ok(mut all) => {
+            all.next();
+            all.collect(alloc)
+        }
+        Err(error) if error.kind() == io::ErrorKind::InvalidData => Ok(Vec::new(alloc)),
+        Err(_) => Err(AllocError),
+    }
+}
 
 fn main(rt: HostRuntime) -> ExitCode {
-    let alloc = rt.alloc();
-    let mut words = Vec::new(alloc);
-    match env::args(&rt) {
-        Ok(all) => {
-            for word in all.skip(1) {
-                if words.push(word).is_err() {
-                    return ExitCode::from(Status::OutOfMemory.number());
-                }
-            }
-        }
-        // A word that is no text is in no form, and neither are no words.
-        Err(error) if error.kind() == io::ErrorKind::InvalidData => (),
-        Err(_) => return ExitCode::from(Status::OutOfMemory.number()),
-    }
-    let mut source = StdSource::new(rt.reader());
-    let mut sink = StdSink::new(io::writer(&rt));
-    let status = run::<_, _, _, Brand>(
-        &rt,
-        alloc,
-        words.as_slice(),
-        &mut source,
-        &mut sink,
-        Blank::new(1),
-    );
+    let status = match words(&rt) {
+        Ok(words) => run::<_, _, _, Brand>(
+            &rt,
+            rt.alloc(),
+            words.as_slice(),
+            &mut StdSource::new(rt.reader()),
+            &mut StdSink::new(io::writer(&rt)),
+            Blank::new(1),
+        ),
+        Err(_) => Status::OutOfMemory,
+    };
     ExitCode::from(status.number())
 }
 

@@ -1,10 +1,8 @@
 //! Plays of the whole program: what scripts answer over levels. What is wanted was worked out by hand.
 
-use crate::Status;
-use crate::test_runs::{
-    FOUR_TILES, Over, ROOM, SquareField, built_level, check, check_ends, played, run_once,
-};
-use std::alloc::{AllocError, Global};
+use crate::test_runs::{FOUR_TILES, Over, ROOM, SquareField, check, check_ends, played};
+use nav_run::Status;
+use std::alloc::Global;
 use std::process::Abort;
 use std::sync::Wait;
 use std::thread::Threads;
@@ -12,19 +10,14 @@ use std::thread::Threads;
 /// The level, the script; the play text.
 type Play = (SquareField, &'static str, &'static str);
 
-fn check_plays<R: Abort + Threads + Wait + Sync>(
-    rt: &R,
-    alloc: Global,
-    plays: &[Play],
-) -> Result<(), AllocError> {
+fn check_plays<R: Abort + Threads + Wait + Sync>(rt: &R, alloc: Global, plays: &[Play]) {
     for (level, script, text) in plays {
-        let ran = played(rt, alloc, level, script)?;
+        let ran = played(rt, alloc, level, script, (100, 0), (100, 0));
         check(rt, &ran, Status::Ok, text.as_bytes());
     }
-    Ok(())
 }
 
-const SCRIPTS: [Play; 5] = [
+static SCRIPTS: [Play; 5] = [
     // The cell (4, 4) is 3 and 4 half cells from the centre: 9 + 16 is 25, the squared reach of the radius 2.
     (
         ROOM,
@@ -56,11 +49,11 @@ const SCRIPTS: [Play; 5] = [
 ];
 
 #[test]
-fn plays_scripts(rt: HostRuntime) -> Result<(), AllocError> {
-    check_plays(&rt, rt.alloc(), &SCRIPTS)
+fn plays_scripts(rt: HostRuntime) {
+    check_plays(&rt, rt.alloc(), &SCRIPTS);
 }
 
-const FLOORS: [Play; 9] = [
+static FLOORS: [Play; 9] = [
     (
         ROOM,
         "floor 1 1\nfloor 0 0\n",
@@ -138,8 +131,8 @@ const FLOORS: [Play; 9] = [
 ];
 
 #[test]
-fn finds_floors(rt: HostRuntime) -> Result<(), AllocError> {
-    check_plays(&rt, rt.alloc(), &FLOORS)
+fn finds_floors(rt: HostRuntime) {
+    check_plays(&rt, rt.alloc(), &FLOORS);
 }
 
 const ACROSS: &str = "floor 1 1\nfloor 0 0\npath 24 24 10 72 72 10\n";
@@ -153,7 +146,7 @@ const WALLS: SquareField = SquareField {
 };
 
 /// Each of these paths is the only right one.
-const PATHS: [Play; 8] = [
+static PATHS: [Play; 8] = [
     // The strips of the rows 1 to 4 are 16 sixteenths apart.
     (
         ROOM,
@@ -218,12 +211,14 @@ const PATHS: [Play; 8] = [
 ];
 
 #[test]
-fn finds_paths(rt: HostRuntime) -> Result<(), AllocError> {
-    check_plays(&rt, rt.alloc(), &PATHS)
+fn finds_paths(rt: HostRuntime) {
+    check_plays(&rt, rt.alloc(), &PATHS);
 }
 
-/// How the play text begins.
-const OUTLINES: [Play; 4] = [
+/// The level, the script; how the play text begins, and how it ends.
+type Frame = (SquareField, &'static str, &'static str, &'static str);
+
+static OUTLINES: [Frame; 4] = [
     // One region, whose outline is one polygon.
     (
         SquareField {
@@ -232,6 +227,7 @@ const OUTLINES: [Play; 4] = [
         },
         ACROSS,
         "floors 0 1 10 63\nfloors 0 0\npath 0 0 0 0 0 0\ndone 0 0\n",
+        "\ndone 0 0\n",
     ),
     // One cell, whose outline is flat with the error 50, so that the tile is a strip, and has four corners with the error 49.
     (
@@ -241,6 +237,7 @@ const OUTLINES: [Play; 4] = [
         },
         "path 24 24 10 24 24 10\n",
         "path 0 0 0 0 0 0\ndone 0 0\n",
+        "\ndone 0 0\n",
     ),
     (
         SquareField {
@@ -249,6 +246,7 @@ const OUTLINES: [Play; 4] = [
         },
         "path 24 24 10 24 24 10\n",
         "path 0 0 0 0 0 0\ndone 0 0\n",
+        "\ndone 0 0\n",
     ),
     // Four tiles of one polygon each; the straight line meets their common corner, so how many turns are listed is free.
     (
@@ -262,39 +260,42 @@ const OUTLINES: [Play; 4] = [
         },
         "path 160 160 10 1400 1400 10\n",
         "path 0 1440 0 0 2 ",
+        "\ndone 0 0\n",
     ),
 ];
 
-fn check_beginnings<R: Abort + Threads + Wait + Sync>(
-    rt: &R,
-    alloc: Global,
-    plays: &[Play],
-) -> Result<(), AllocError> {
-    for (level, script, text) in plays {
-        let ran = played(rt, alloc, level, script)?;
-        check_ends(rt, &ran, text, "\ndone 0 0\n");
+fn check_frames<R: Abort + Threads + Wait + Sync>(rt: &R, alloc: Global, plays: &[Frame]) {
+    for (level, script, first, last) in plays {
+        let ran = played(rt, alloc, level, script, (100, 0), (100, 0));
+        check_ends(rt, &ran, first, last);
     }
-    Ok(())
 }
 
 #[test]
-fn finds_paths_over_outlines(rt: HostRuntime) -> Result<(), AllocError> {
-    check_beginnings(&rt, rt.alloc(), &OUTLINES)
+fn finds_paths_over_outlines(rt: HostRuntime) {
+    check_frames(&rt, rt.alloc(), &OUTLINES);
 }
 
-#[test]
-fn finds_a_path_over_four_tiles(rt: HostRuntime) -> Result<(), AllocError> {
-    let alloc = rt.alloc();
+static CORRIDORS: [Frame; 2] = [
     // The block is the corner cell of a tile. Round it lead two corridors of one cost, each over two borders, and either is right.
-    let script = "add block 3 4 0 100 3 4\nsettle\npath 40 56 10 88 72 10\n";
-    let ran = played(&rt, alloc, &FOUR_TILES, script)?;
-    check_ends(
-        &rt,
-        &ran,
+    (
+        FOUR_TILES,
+        "add block 3 4 0 100 3 4\nsettle\npath 40 56 10 88 72 10\n",
         "entry 1 added\nsettled 1\npath 1 100 0 2 4 ",
         "\ndone 1 1\n",
-    );
-    Ok(())
+    ),
+    // It touches four tiles, and the mesh is published once none of them is awaited.
+    (
+        FOUR_TILES,
+        "add block 3 4 0 100 3 4\naim\npublish\nclaim 0\nsubmit 0\npublish\nsettle\npublish\npath 40 56 10 88 72 10\n",
+        "entry 1 added\naim 1\nnotyet 0\nclaim 0 tile 0\nsubmit 0 taken 0\nnotyet 1\nsettled 1\nsame 1\npath 1 100 0 2 4 ",
+        "\ndone 1 1\n",
+    ),
+];
+
+#[test]
+fn finds_one_of_two_paths_over_four_tiles(rt: HostRuntime) {
+    check_frames(&rt, rt.alloc(), &CORRIDORS);
 }
 
 /// Four tiles for two workers.
@@ -303,7 +304,7 @@ const SHARED: SquareField = SquareField {
     ..FOUR_TILES
 };
 
-const WORKERS: [Play; 7] = [
+static WORKERS: [Play; 7] = [
     // A second obstacle is aimed at before the first build comes in, which is stale.
     (
         ROOM,
@@ -349,27 +350,11 @@ const WORKERS: [Play; 7] = [
 ];
 
 #[test]
-fn leads_workers(rt: HostRuntime) -> Result<(), AllocError> {
-    check_plays(&rt, rt.alloc(), &WORKERS)
+fn leads_workers(rt: HostRuntime) {
+    check_plays(&rt, rt.alloc(), &WORKERS);
 }
 
-#[test]
-fn publishes_once_no_tile_is_awaited(rt: HostRuntime) -> Result<(), AllocError> {
-    let alloc = rt.alloc();
-    // The block touches four tiles. Either of two corridors of one cost is right.
-    let script =
-        "add block 3 4 0 100 3 4\naim\npublish\nclaim 0\nsubmit 0\npublish\nsettle\npublish\npath 40 56 10 88 72 10\n";
-    let ran = played(&rt, alloc, &FOUR_TILES, script)?;
-    check_ends(
-        &rt,
-        &ran,
-        "entry 1 added\naim 1\nnotyet 0\nclaim 0 tile 0\nsubmit 0 taken 0\nnotyet 1\nsettled 1\nsame 1\npath 1 100 0 2 4 ",
-        "\ndone 1 1\n",
-    );
-    Ok(())
-}
-
-const RAYS: [Play; 3] = [
+static RAYS: [Play; 3] = [
     // Nothing is held where there are no cells.
     (
         SquareField {
@@ -396,15 +381,12 @@ const RAYS: [Play; 3] = [
 ];
 
 #[test]
-fn follows_rays(rt: HostRuntime) -> Result<(), AllocError> {
-    check_plays(&rt, rt.alloc(), &RAYS)
+fn follows_rays(rt: HostRuntime) {
+    check_plays(&rt, rt.alloc(), &RAYS);
 }
 
 #[test]
-fn leaves_what_was_written_of_an_answer(rt: HostRuntime) -> Result<(), AllocError> {
-    let alloc = rt.alloc();
-    let text = built_level(alloc, &ROOM, ACROSS)?;
-    let ran = run_once(&rt, alloc, "play", text, (100, 0), (8, 2))?;
+fn leaves_what_was_written_of_an_answer(rt: HostRuntime) {
+    let ran = played(&rt, rt.alloc(), &ROOM, ACROSS, (100, 0), (8, 2));
     check(&rt, &ran, Status::WriteFault, b"floors 0".as_slice());
-    Ok(())
 }

@@ -2,10 +2,10 @@
 
 ghost use Rattle.std.specs.Prelude.{◌<◌};
 
-use crate::{Status, run};
 use nav_base::push_number;
 use nav_io::{MemorySink, MemorySource};
-use std::alloc::{AllocError, Global};
+use nav_run::{Status, run};
+use std::alloc::Global;
 use std::marker::Brand;
 use std::process::Abort;
 use std::sync::Wait;
@@ -20,71 +20,43 @@ pub(crate) struct Ran {
 }
 
 /// One run: the bytes a read and a write move at most, and the numbers of the read and the write that fail (0 for none).
-pub(crate) fn run_once<R: Threads + Wait + Sync>(
-    rt: &R,
-    alloc: Global,
-    word: &str,
-    input: Vec<u8>,
-    read: (usize, u32),
-    write: (usize, u32),
-) -> Result<Ran, AllocError>
-    requires reads { 0 < read.0 }
-    requires writes { 0 < write.0 }
-{
-    run_words(rt, alloc, &[word], input, read, write)
-}
-
-/// One run as `run_once`, on any words.
-pub(crate) fn run_words<R: Threads + Wait + Sync>(
+pub(crate) fn run_once<R: Abort + Threads + Wait + Sync>(
     rt: &R,
     alloc: Global,
     words: &[&str],
     input: Vec<u8>,
     read: (usize, u32),
     write: (usize, u32),
-) -> Result<Ran, AllocError>
+) -> Ran
     requires reads { 0 < read.0 }
     requires writes { 0 < write.0 }
 {
-    let mut source = source_of(alloc, input, read)?;
-    let sink = sink_of(alloc, write)?;
-    let words = words_of(alloc, words)?;
-    Ok(run_in_memory(rt, alloc, words.as_slice(), &mut source, sink))
+    let words = words_of(rt, alloc, words);
+    let failing_reads = vec![in alloc; read.1].expect(rt, "memory");
+    let mut source = MemorySource::new(input, read.0, failing_reads);
+    let failing_writes = vec![in alloc; write.1].expect(rt, "memory");
+    let mut sink = MemorySink::with_room(alloc, write.0, 2000000, failing_writes).expect(
+        rt, "memory",
+    );
+    let status = run::<_, _, _, Brand>(
+        rt,
+        alloc,
+        words.as_slice(),
+        &mut source,
+        &mut sink,
+        Blank::new(1),
+    );
+    Ran { status, sink }
 }
 
-fn words_of(alloc: Global, texts: &[&str]) -> Result<Vec<String>, AllocError> {
+fn words_of(rt: &impl Abort, alloc: Global, texts: &[&str]) -> Vec<String> {
     let mut words = Vec::new(alloc);
     for text in texts {
-        words.push(text.to_string(alloc)?)?;
+        words
+            .push(text.to_string(alloc).expect(rt, "memory"))
+            .expect(rt, "memory");
     }
-    Ok(words)
-}
-
-/// A source of so many bytes a read, of which one may fail.
-fn source_of(alloc: Global, input: Vec<u8>, read: (usize, u32)) -> Result<MemorySource, AllocError>
-    requires { 0 < read.0 }
-{
-    let calls = vec![in alloc; read.1]?;
-    Ok(MemorySource::new(input, read.0, calls))
-}
-
-/// An empty sink of so many bytes a write, of which one may fail.
-fn sink_of(alloc: Global, write: (usize, u32)) -> Result<MemorySink, AllocError>
-    requires { 0 < write.0 }
-{
-    let calls = vec![in alloc; write.1]?;
-    MemorySink::with_room(alloc, write.0, 2000000, calls)
-}
-
-fn run_in_memory<R: Threads + Wait + Sync>(
-    rt: &R,
-    alloc: Global,
-    words: &[String],
-    source: &mut MemorySource,
-    mut sink: MemorySink,
-) -> Ran {
-    let status = run::<_, _, _, Brand>(rt, alloc, words, source, &mut sink, Blank::new(1));
-    Ran { status, sink }
+    words
 }
 
 /// The run ended with a status, and the sink holds these bytes.
@@ -152,79 +124,81 @@ pub(crate) const FOUR_TILES: SquareField = SquareField {
 };
 
 /// Appends a line of a word and numbers.
-fn push_line(text: &mut Vec<u8>, word: &[u8], numbers: &[u32]) -> Result<(), AllocError> {
-    text.extend_from_slice(word)?;
+fn push_line(rt: &impl Abort, text: &mut Vec<u8>, word: &str, numbers: &[u32]) {
+    push_text(rt, text, word);
     for number in numbers {
-        text.push(b' ')?;
-        push_number(text, i64::from(*number))?;
+        text.push(b' ').expect(rt, "memory");
+        push_number(text, i64::from(*number)).expect(rt, "memory");
     }
-    text.push(b'\n')?;
-    Ok(())
+    text.push(b'\n').expect(rt, "memory");
 }
 
-fn push_header(text: &mut Vec<u8>, level: &SquareField) -> Result<(), AllocError> {
-    push_line(text, b"nav", &[1])?;
+fn push_text(rt: &impl Abort, text: &mut Vec<u8>, more: &str) {
+    text.extend_from_slice(more.as_bytes()).expect(rt, "memory");
+}
+
+fn push_header(rt: &impl Abort, text: &mut Vec<u8>, level: &SquareField) {
+    push_line(rt, text, "nav", &[1]);
     let side = u32::from(level.side);
-    push_line(text, b"size", &[side, side])?;
-    push_line(text, b"tile", &[level.tile])?;
-    push_line(text, b"agent", &[10, 4, level.radius])?;
-    text.extend_from_slice(level.mesh.as_bytes())?;
-    push_line(text, b"limit", &[level.limit])?;
-    text.extend_from_slice(level.costs.as_bytes())?;
-    Ok(())
+    push_line(rt, text, "size", &[side, side]);
+    push_line(rt, text, "tile", &[level.tile]);
+    push_line(rt, text, "agent", &[10, 4, level.radius]);
+    push_text(rt, text, level.mesh);
+    push_line(rt, text, "limit", &[level.limit]);
+    push_text(rt, text, level.costs);
 }
 
 /// Appends the spans of one column.
-fn push_column(text: &mut Vec<u8>, over: Over, x: u32, z: u32) -> Result<(), AllocError> {
+fn push_column(rt: &impl Abort, text: &mut Vec<u8>, over: Over, x: u32, z: u32) {
     let (top, area) = match over {
-        Over::Void => return Ok(()),
+        Over::Void => return,
         Over::Walls if x != 1 || z != 1 => (40, 0),
         Over::Step if 3 <= z => (14, 63),
         _ => (10, 63),
     };
-    push_line(text, b"span", &[x, z, 0, top, area])?;
+    push_line(rt, text, "span", &[x, z, 0, top, area]);
     match over {
-        Over::Spans(spans) if x == 2 && z == 2 => text.extend_from_slice(spans.as_bytes())?,
-        Over::Deck if 1 <= z && z <= 3 => push_line(text, b"span", &[x, z, 30, 40, 63])?,
+        Over::Spans(spans) if x == 2 && z == 2 => push_text(rt, text, spans),
+        Over::Deck if 1 <= z && z <= 3 => push_line(rt, text, "span", &[x, z, 30, 40, 63]),
         _ => (),
     }
-    Ok(())
 }
 
-fn push_columns(text: &mut Vec<u8>, level: &SquareField) -> Result<(), AllocError> {
+fn push_columns(rt: &impl Abort, text: &mut Vec<u8>, level: &SquareField) {
     let side = u32::from(level.side);
     for i in 0..side * side {
-        push_column(text, level.over, i % side, i / side)?;
+        push_column(rt, text, level.over, i % side, i / side);
     }
-    Ok(())
 }
 
-/// Appends the text of a level, and the script behind it.
-fn push_level(text: &mut Vec<u8>, level: &SquareField, script: &str) -> Result<(), AllocError> {
-    push_header(text, level)?;
-    push_columns(text, level)?;
-    text.extend_from_slice(b"end\n")?;
-    push_line(text, b"script", &[level.lanes, level.workers])?;
-    text.extend_from_slice(script.as_bytes())
-}
-
+/// The text of a level, and the script behind it.
 pub(crate) fn built_level(
+    rt: &impl Abort,
     alloc: Global,
     level: &SquareField,
     script: &str,
-) -> Result<Vec<u8>, AllocError> {
+) -> Vec<u8> {
     let mut text = Vec::new(alloc);
-    push_level(&mut text, level, script)?;
-    Ok(text)
+    push_header(rt, &mut text, level);
+    push_columns(rt, &mut text, level);
+    push_text(rt, &mut text, "end\n");
+    push_line(rt, &mut text, "script", &[level.lanes, level.workers]);
+    push_text(rt, &mut text, script);
+    text
 }
 
-/// Plays the script over the level, through reads and writes of some bytes each.
-pub(crate) fn played<R: Threads + Wait + Sync>(
+/// Plays the script over the level, through reads and writes as in `run_once`.
+pub(crate) fn played<R: Abort + Threads + Wait + Sync>(
     rt: &R,
     alloc: Global,
     level: &SquareField,
     script: &str,
-) -> Result<Ran, AllocError> {
-    let text = built_level(alloc, level, script)?;
-    run_once(rt, alloc, "play", text, (100, 0), (100, 0))
+    read: (usize, u32),
+    write: (usize, u32),
+) -> Ran
+    requires reads { 0 < read.0 }
+    requires writes { 0 < write.0 }
+{
+    let text = built_level(rt, alloc, level, script);
+    run_once(rt, alloc, &["play"], text, read, write)
 }

@@ -2,11 +2,9 @@
 
 ghost use Rattle.std.specs.Prelude.{◌<◌};
 
-use crate::Status;
-use crate::test_runs::{
-    ROOM, Ran, SquareField, built_level, check, check_ends, run_once, run_words,
-};
-use std::alloc::{AllocError, Global};
+use crate::test_runs::{ROOM, Ran, SquareField, built_level, check, check_ends, played, run_once};
+use nav_run::Status;
+use std::alloc::Global;
 use std::process::Abort;
 use std::sync::Wait;
 use std::thread::Threads;
@@ -17,18 +15,18 @@ const SCRIPT: &str = "floor 2 2\nadd block 2 2 0 100 2 2\nsettle\nfloor 2 2\n";
 const PLAYED: &str = "floors 0 1 10 63\nentry 1 added\nsettled 1\nfloors 1 0\ndone 1 1\n";
 
 /// So many times one line.
-fn lines(alloc: Global, count: u32, line: &str) -> Result<String, AllocError> {
+fn lines(rt: &impl Abort, alloc: Global, count: u32, line: &str) -> String {
     let mut script = String::new(alloc);
     for _ in 0..count {
-        script.push_str(line)?;
+        script.push_str(line).expect(rt, "memory");
     }
-    Ok(script)
+    script
 }
 
 /// The word, the script; the status and what the sink holds.
 type Ending = (&'static str, &'static str, Status, &'static str);
 
-const ENDINGS: [Ending; 9] = [
+static ENDINGS: [Ending; 9] = [
     ("play", SCRIPT, Status::Ok, PLAYED),
     ("play", "", Status::Ok, "done 0 0\n"),
     ("plays", "", Status::Usage, "fault usage\n"),
@@ -45,159 +43,102 @@ const ENDINGS: [Ending; 9] = [
     ("play", "aim\n", Status::Ok, "aim 0\ndone 0 0\n"),
 ];
 
-/// Runs the program on a word, over the room and a script.
-fn run_word<R: Threads + Wait + Sync>(
-    rt: &R,
-    alloc: Global,
-    word: &str,
-    script: &str,
-) -> Result<Ran, AllocError> {
-    let level = built_level(alloc, &ROOM, script)?;
-    run_once(rt, alloc, word, level, (100, 0), (8, 0))
-}
-
-fn check_endings<R: Abort + Threads + Wait + Sync>(
-    rt: &R,
-    alloc: Global,
-    endings: &[Ending],
-) -> Result<(), AllocError> {
+fn check_endings<R: Abort + Threads + Wait + Sync>(rt: &R, alloc: Global, endings: &[Ending]) {
     for (word, script, status, held) in endings {
-        let ran = run_word(rt, alloc, word, script)?;
+        let level = built_level(rt, alloc, &ROOM, script);
+        let ran = run_once(rt, alloc, &[*word], level, (100, 0), (8, 0));
         check(rt, &ran, *status, held.as_bytes());
     }
-    Ok(())
 }
 
 #[test]
-fn ends_with_the_status_of_its_cause(rt: HostRuntime) -> Result<(), AllocError> {
-    check_endings(&rt, rt.alloc(), &ENDINGS)
-}
-
-/// How many bytes the room and its script have.
-fn input_length(alloc: Global) -> Result<usize, AllocError> {
-    Ok(built_level(alloc, &ROOM, SCRIPT)?.len())
-}
-
-/// Plays the script over the room, where one read or write fails.
-fn play_failing<R: Threads + Wait + Sync>(
-    rt: &R,
-    alloc: Global,
-    read: (usize, u32),
-    write: (usize, u32),
-) -> Result<Ran, AllocError>
-    requires reads { 0 < read.0 }
-    requires writes { 0 < write.0 }
-{
-    let level = built_level(alloc, &ROOM, SCRIPT)?;
-    run_once(rt, alloc, "play", level, read, write)
+fn ends_with_the_status_of_its_cause(rt: HostRuntime) {
+    check_endings(&rt, rt.alloc(), &ENDINGS);
 }
 
 #[test]
-fn tells_each_failing_call(rt: HostRuntime) -> Result<(), AllocError> {
+fn tells_each_failing_call(rt: HostRuntime) {
     let alloc = rt.alloc();
-    let length = input_length(alloc)?;
+    let length = built_level(&rt, alloc, &ROOM, SCRIPT).len();
     assert!(rt; length < 5000);
     // The last call is the one that would tell the end.
     for call in 1..length + 2 {
-        let ran = play_failing(&rt, alloc, (1, call as u32), (8, 0))?;
+        let ran = played(&rt, alloc, &ROOM, SCRIPT, (1, call as u32), (8, 0));
         check(&rt, &ran, Status::ReadFault, b"");
     }
-    Ok(())
 }
 
 /// Where the writing of a text byte by byte fails, the bytes before are left.
-fn check_left<R: Abort + Threads + Wait + Sync>(
-    rt: &R,
-    alloc: Global,
-    text: &[u8],
-) -> Result<(), AllocError> {
+fn check_left<R: Abort + Threads + Wait + Sync>(rt: &R, alloc: Global, text: &[u8]) {
     assert!(rt; text.len() < 5000);
     for call in 0..text.len() {
-        let ran = play_failing(rt, alloc, (100, 0), (1, call as u32 + 1))?;
+        let ran = played(rt, alloc, &ROOM, SCRIPT, (100, 0), (1, call as u32 + 1));
         check(rt, &ran, Status::WriteFault, &text[..call]);
     }
-    Ok(())
 }
 
 #[test]
-fn leaves_what_was_written(rt: HostRuntime) -> Result<(), AllocError> {
-    check_left(&rt, rt.alloc(), PLAYED.as_bytes())
+fn leaves_what_was_written(rt: HostRuntime) {
+    check_left(&rt, rt.alloc(), PLAYED.as_bytes());
 }
 
 /// So many line feeds; the status and what the sink holds.
 type Feeds = (usize, Status, &'static str);
 
 /// As many line feeds as an input may have, and one more.
-const FEEDS: [Feeds; 2] = [
+static FEEDS: [Feeds; 2] = [
     (67108864, Status::BadText, "fault 1 1\n"),
     (67108865, Status::TooLong, "fault too long\n"),
 ];
 
-/// Runs the program over so many line feeds.
-fn run_feeds<R: Threads + Wait + Sync>(
-    rt: &R,
-    alloc: Global,
-    length: usize,
-) -> Result<Ran, AllocError> {
-    let feeds = vec![in alloc; b'\n'; length]?;
-    run_once(rt, alloc, "play", feeds, (1000000, 0), (8, 0))
-}
-
-fn check_feeds<R: Abort + Threads + Wait + Sync>(
-    rt: &R,
-    alloc: Global,
-    rows: &[Feeds],
-) -> Result<(), AllocError> {
+fn check_feeds<R: Abort + Threads + Wait + Sync>(rt: &R, alloc: Global, rows: &[Feeds]) {
     for (length, status, held) in rows {
-        let ran = run_feeds(rt, alloc, *length)?;
+        let feeds = vec![in alloc; b'\n'; *length].expect(rt, "memory");
+        let ran = run_once(rt, alloc, &["play"], feeds, (1000000, 0), (8, 0));
         check(rt, &ran, *status, held.as_bytes());
     }
-    Ok(())
 }
 
 #[test]
-fn reads_no_more_than_it_may(rt: HostRuntime) -> Result<(), AllocError> {
-    check_feeds(&rt, rt.alloc(), &FEEDS)
+fn reads_no_more_than_it_may(rt: HostRuntime) {
+    check_feeds(&rt, rt.alloc(), &FEEDS);
 }
 
 /// A level with room for one obstacle.
 const ONE_OBSTACLE: SquareField = SquareField { limit: 1, ..ROOM };
 
 /// Plays one line so many times over a level.
-fn play_lines<R: Threads + Wait + Sync>(
+fn play_lines<R: Abort + Threads + Wait + Sync>(
     rt: &R,
     alloc: Global,
     level: &SquareField,
     count: u32,
     line: &str,
-) -> Result<Ran, AllocError> {
-    let script = lines(alloc, count, line)?;
-    let text = built_level(alloc, level, script.as_str())?;
-    run_once(rt, alloc, "play", text, (4096, 0), (4096, 0))
+) -> Ran {
+    let script = lines(rt, alloc, count, line);
+    played(rt, alloc, level, script.as_str(), (4096, 0), (4096, 0))
 }
 
 #[test]
-fn fills_a_history(rt: HostRuntime) -> Result<(), AllocError> {
+fn fills_a_history(rt: HostRuntime) {
     let line = "add block 0 0 0 0 0 0\n";
-    let ran = play_lines(&rt, rt.alloc(), &ONE_OBSTACLE, 65537, line)?;
+    let ran = play_lines(&rt, rt.alloc(), &ONE_OBSTACLE, 65537, line);
     check_ends(
         &rt,
         &ran,
         "entry 1 added\nentry 2 full 1\n",
         "entry 65536 full 1\nhistory full 65536\ndone 0 65536\n",
     );
-    Ok(())
 }
 
 #[test]
-fn takes_no_more_lines_than_it_may(rt: HostRuntime) -> Result<(), AllocError> {
-    let ran = play_lines(&rt, rt.alloc(), &ROOM, 300001, "settle\n")?;
+fn takes_no_more_lines_than_it_may(rt: HostRuntime) {
+    let ran = play_lines(&rt, rt.alloc(), &ROOM, 300001, "settle\n");
     check(&rt, &ran, Status::BadText, b"fault 300046 11\n".as_slice());
-    Ok(())
 }
 
 /// Words that are no form.
-const NO_FORMS: [&[&str]; 17] = [
+static NO_FORMS: [&[&str]; 17] = [
     &[],
     &[""],
     &["Play"],
@@ -218,44 +159,27 @@ const NO_FORMS: [&[&str]; 17] = [
 ];
 
 /// Runs the program on words, over a source that fails at its first read.
-fn run_unread<R: Threads + Wait + Sync>(
+fn run_unread<R: Abort + Threads + Wait + Sync>(
     rt: &R,
     alloc: Global,
     words: &[&str],
     write: (usize, u32),
-) -> Result<Ran, AllocError>
+) -> Ran
     requires { 0 < write.0 }
 {
-    run_words(rt, alloc, words, Vec::new(alloc), (1, 1), write)
+    run_once(rt, alloc, words, Vec::new(alloc), (1, 1), write)
 }
 
-fn check_no_forms<R: Abort + Threads + Wait + Sync>(
-    rt: &R,
-    alloc: Global,
-    forms: &[&[&str]],
-) -> Result<(), AllocError> {
+fn check_no_forms<R: Abort + Threads + Wait + Sync>(rt: &R, alloc: Global, forms: &[&[&str]]) {
     for words in forms {
-        let ran = run_unread(rt, alloc, *words, (100, 0))?;
+        let ran = run_unread(rt, alloc, *words, (100, 0));
         check(rt, &ran, Status::Usage, b"fault usage\n");
     }
-    Ok(())
 }
 
 #[test]
-fn refuses_words_in_no_form(rt: HostRuntime) -> Result<(), AllocError> {
-    check_no_forms(&rt, rt.alloc(), &NO_FORMS)
-}
-
-/// The summary of a made input, through writes as given.
-fn summary_of<R: Threads + Wait + Sync>(
-    rt: &R,
-    alloc: Global,
-    number: &str,
-    write: (usize, u32),
-) -> Result<Ran, AllocError>
-    requires { 0 < write.0 }
-{
-    run_unread(rt, alloc, &["gen", number, "32"], write)
+fn refuses_words_in_no_form(rt: HostRuntime) {
+    check_no_forms(&rt, rt.alloc(), &NO_FORMS);
 }
 
 /// The summary of the number 1 and the size 32, by a second program that was written apart from this one.
@@ -263,20 +187,18 @@ const SUMMARY: &[u8] =
     b"gen 1 32\ninput 32189 2369\nhistory 120 published 120\npaths 1 nopath 2 nostart 48 nogoal 13\ncost 404\nmesh 40 74\n";
 
 #[test]
-fn plays_made_inputs(rt: HostRuntime) -> Result<(), AllocError> {
-    let ran = summary_of(&rt, rt.alloc(), "1", (100, 0))?;
+fn plays_made_inputs(rt: HostRuntime) {
+    let ran = run_unread(&rt, rt.alloc(), &["gen", "1", "32"], (100, 0));
     check(&rt, &ran, Status::Ok, SUMMARY);
-    Ok(())
 }
 
 #[test]
-fn leaves_what_was_written_of_a_summary(rt: HostRuntime) -> Result<(), AllocError> {
-    let ran = summary_of(&rt, rt.alloc(), "4294967295", (8, 3))?;
+fn leaves_what_was_written_of_a_summary(rt: HostRuntime) {
+    let ran = run_unread(&rt, rt.alloc(), &["gen", "4294967295", "32"], (8, 3));
     check(
         &rt,
         &ran,
         Status::WriteFault,
         b"gen 4294967295 3".as_slice(),
     );
-    Ok(())
 }

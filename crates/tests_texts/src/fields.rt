@@ -1,12 +1,13 @@
 //! A field text of every form of line, and the line and kind of the first fault of wrong ones.
 
+use crate::texts::{append, check};
 use nav_ground::{AREAS, Agent, MeshKind, Setting, Span};
 use nav_text::FaultKind;
 use span_text::{FieldRefusal, FieldText, read_field};
-use std::alloc::{AllocError, Global};
+use std::alloc::Global;
 use std::process::Abort;
 
-const HEADER: [&str; 7] = [
+static HEADER: [&str; 7] = [
     "nav 1\n",
     "size 6 6\n",
     "tile 6\n",
@@ -17,13 +18,13 @@ const HEADER: [&str; 7] = [
 ];
 
 /// The first lines of a header, and what follows them.
-fn text_with(alloc: Global, lines: usize, tail: &str) -> Result<Vec<u8>, AllocError> {
+fn text_with(rt: &impl Abort, alloc: Global, lines: usize, tail: &str) -> Vec<u8> {
     let mut text = Vec::new(alloc);
-    for line in HEADER.iter().take(lines) {
-        text.extend_from_slice(line.as_bytes())?;
+    for line in &HEADER[..lines.min(7)] {
+        append(rt, &mut text, line, 1);
     }
-    text.extend_from_slice(tail.as_bytes())?;
-    Ok(text)
+    append(rt, &mut text, tail, 1);
+    text
 }
 
 /// The line and kind of the fault of a text; zeros where it has none.
@@ -43,7 +44,7 @@ const EVERY_FORM: &str =
 const SCRIPT_AT: usize = 168;
 
 /// Its spans.
-const SPANS: [Span; 3] = [
+static SPANS: [Span; 3] = [
     Span {
         x: 0,
         z: 0,
@@ -90,9 +91,9 @@ fn every_setting() -> Setting {
 }
 
 fn check_every_form(rt: &impl Abort, read: &FieldText) {
-    assert!(rt; read.used == SCRIPT_AT && read.lines == 14);
-    assert!(rt; read.setting == every_setting());
-    assert!(rt; read.field.width == 1024 && read.field.depth == 1);
+    let is_whole = read.used == SCRIPT_AT && read.lines == 14;
+    let is_sized = read.field.width == 1024 && read.field.depth == 1;
+    assert!(rt; is_whole && is_sized && read.setting == every_setting());
     assert!(rt; read.field.spans.as_slice() == SPANS.as_slice());
 }
 
@@ -105,16 +106,16 @@ fn reads_every_form(rt: HostRuntime) {
 }
 
 #[test]
-fn reads_a_field_without_spans(rt: HostRuntime) -> Result<(), AllocError> {
-    let text = text_with(rt.alloc(), 7, "end\n")?;
-    assert!(rt; read_field(rt.alloc(), text.as_slice()).is_ok());
-    Ok(())
+fn reads_a_field_without_spans(rt: HostRuntime) {
+    let text = text_with(&rt, rt.alloc(), 7, "end\n");
+    let fault = fault_of(rt.alloc(), text.as_slice());
+    check(&rt, fault == (0, 0), "end");
 }
 
 /// How many lines of the header stand first, what follows them, and the line and kind of the first fault.
 type FirstFault = (usize, &'static str, u32, FaultKind);
 
-const HEADER_FAULTS: [FirstFault; 31] = [
+static HEADER_FAULTS: [FirstFault; 31] = [
     (0, "", 1, FaultKind::Unfinished),
     (0, "\n", 1, FaultKind::Form),
     (0, "nav 1", 1, FaultKind::Unfinished),
@@ -149,7 +150,7 @@ const HEADER_FAULTS: [FirstFault; 31] = [
 ];
 
 /// The same behind a whole header.
-const BODY_FAULTS: [FirstFault; 31] = [
+static BODY_FAULTS: [FirstFault; 31] = [
     (7, "", 8, FaultKind::Unfinished),
     (7, "end", 8, FaultKind::Unfinished),
     (7, "end \n", 8, FaultKind::Form),
@@ -213,26 +214,20 @@ const BODY_FAULTS: [FirstFault; 31] = [
     ),
 ];
 
-/// The line and kind of the fault of the first lines of a header and what follows them.
-fn fault_behind(alloc: Global, lines: usize, tail: &str) -> Result<(u32, u32), AllocError> {
-    let text = text_with(alloc, lines, tail)?;
-    Ok(fault_of(alloc, text.as_slice()))
-}
-
-fn check_faults(rt: &impl Abort, alloc: Global, faults: &[FirstFault]) -> Result<(), AllocError> {
+fn check_faults(rt: &impl Abort, alloc: Global, faults: &[FirstFault]) {
     for (lines, tail, line, kind) in faults {
-        let found = fault_behind(alloc, *lines, tail)?;
-        assert!(rt; found == (*line, kind.number()), "at {tail}");
+        let text = text_with(rt, alloc, *lines, tail);
+        let found = fault_of(alloc, text.as_slice());
+        check(rt, found == (*line, kind.number()), tail);
     }
-    Ok(())
 }
 
 #[test]
-fn tells_the_first_fault(rt: HostRuntime) -> Result<(), AllocError> {
-    check_faults(&rt, rt.alloc(), &HEADER_FAULTS)
+fn tells_the_first_fault(rt: HostRuntime) {
+    check_faults(&rt, rt.alloc(), &HEADER_FAULTS);
 }
 
 #[test]
-fn tells_the_first_fault_behind_the_header(rt: HostRuntime) -> Result<(), AllocError> {
-    check_faults(&rt, rt.alloc(), &BODY_FAULTS)
+fn tells_the_first_fault_behind_the_header(rt: HostRuntime) {
+    check_faults(&rt, rt.alloc(), &BODY_FAULTS);
 }

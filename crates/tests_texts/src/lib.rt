@@ -12,3 +12,5 @@ mod made;
 mod records;
 #[cfg(test)]
 mod scripts;
+#[cfg(test)]
+mod texts;

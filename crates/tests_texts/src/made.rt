@@ -1,8 +1,9 @@
 //! Made inputs and their summary. The wanted values were computed by a plain second program.
 
+use crate::texts::check;
 use nav_gen::{line_count, make, summary};
 use nav_record::Totals;
-use std::alloc::{AllocError, Global};
+use std::alloc::Global;
 use std::process::Abort;
 
 /// What a made input has to be.
@@ -15,7 +16,7 @@ struct Made {
     checksum: u64,
 }
 
-const MADE: [Made; 4] = [
+static MADE: [Made; 4] = [
     Made {
         number: 1,
         size: 32,
@@ -47,7 +48,7 @@ const MADE: [Made; 4] = [
 ];
 
 /// Parts of the text of number 1 and size 32, and where they begin: the header, a pillar, the first two rounds, the first `drop` and the last line.
-const PARTS: [(usize, &str); 5] = [
+static PARTS: [(usize, &str); 5] = [
     (
         0,
         "nav 1\nsize 32 32\ntile 32\nagent 10 4 2\nerror 169\nmesh contours\nlimit 64\nspan 0 0 0 11 63\nspan 1 0 0 11 63\nspan 2 0 0 11 63\n",
@@ -76,16 +77,16 @@ fn count_lines(text: &[u8]) -> usize {
     text.iter().filter(|byte| **byte == b'\n').count()
 }
 
-fn check_made(rt: &impl Abort, alloc: Global, made: &[Made]) -> Result<(), AllocError> {
+fn check_made(rt: &impl Abort, alloc: Global, made: &[Made]) {
     for row in made {
         assert!(rt; 32 <= row.size && row.size <= 512);
-        let text = make(alloc, row.number, row.size)?;
-        assert!(rt; text.len() == row.bytes);
-        assert!(rt; count_lines(text.as_slice()) == row.lines as usize);
-        assert!(rt; line_count(row.size) == row.lines);
-        assert!(rt; checksum(text.as_slice()) == row.checksum);
+        let text = make(alloc, row.number, row.size).expect(rt, "memory");
+        let is_so = text.len() == row.bytes
+            && count_lines(text.as_slice()) == row.lines as usize
+            && line_count(row.size) == row.lines
+            && checksum(text.as_slice()) == row.checksum;
+        assert!(rt; is_so);
     }
-    Ok(())
 }
 
 fn check_parts(rt: &impl Abort, text: &[u8], parts: &[(usize, &str)]) {
@@ -94,24 +95,23 @@ fn check_parts(rt: &impl Abort, text: &[u8], parts: &[(usize, &str)]) {
             Some(rest) => rest.starts_with(part.as_bytes()),
             None => false,
         };
-        assert!(rt; is_there, "at {at}");
+        check(rt, is_there, part);
     }
 }
 
 #[test]
-fn makes_inputs(rt: HostRuntime) -> Result<(), AllocError> {
-    check_made(&rt, rt.alloc(), &MADE)
+fn makes_inputs(rt: HostRuntime) {
+    check_made(&rt, rt.alloc(), &MADE);
 }
 
 #[test]
-fn makes_the_lines(rt: HostRuntime) -> Result<(), AllocError> {
-    let text = make(rt.alloc(), 1, 32)?;
+fn makes_the_lines(rt: HostRuntime) {
+    let text = make(rt.alloc(), 1, 32).expect(&rt, "memory");
     check_parts(&rt, text.as_slice(), &PARTS);
-    Ok(())
 }
 
 #[test]
-fn writes_a_summary(rt: HostRuntime) -> Result<(), AllocError> {
+fn writes_a_summary(rt: HostRuntime) {
     let totals = Totals {
         entries: 120,
         published: 119,
@@ -123,9 +123,8 @@ fn writes_a_summary(rt: HostRuntime) -> Result<(), AllocError> {
         polys: 40,
         links: 74,
     };
-    let text = summary(rt.alloc(), 7, 32, 32189, 2369, &totals)?;
+    let text = summary(rt.alloc(), 7, 32, 32189, 2369, &totals).expect(&rt, "memory");
     let wanted =
         "gen 7 32\ninput 32189 2369\nhistory 120 published 119\npaths 1 nopath 2 nostart 48 nogoal 13\ncost 18446744073709551615\nmesh 40 74\n";
     assert!(rt; text.as_slice() == wanted.as_bytes());
-    Ok(())
 }

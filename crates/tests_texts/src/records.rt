@@ -1,5 +1,6 @@
 //! Every form of line once, beside its text written by hand.
 
+use crate::texts::check;
 use mesh_types::{Answer, Corner, Link, PathFound, PolyRef, Portal, Side};
 use nav_base::{FloorAt, Point};
 use nav_ground::{Entry, Reply, Request, Shape};
@@ -9,11 +10,11 @@ use nav_record::{
     write_lane, write_reply, write_step,
 };
 use nav_text::{FaultKind, TextFault};
-use std::alloc::{AllocError, Global};
+use std::alloc::Global;
 use std::process::Abort;
 
 /// What a step answers, and its line.
-const STEPS: [(StepAnswer, &str); 13] = [
+static STEPS: [(StepAnswer, &str); 13] = [
     (StepAnswer::Aim { k: 0 }, "aim 0\n"),
     (
         StepAnswer::Claimed {
@@ -53,53 +54,53 @@ const STEPS: [(StepAnswer, &str); 13] = [
     ),
 ];
 
-/// Whether a step's answer is written as this line.
-fn writes_step(alloc: Global, step: &StepAnswer, wanted: &str) -> Result<bool, AllocError> {
-    let mut out = Vec::new(alloc);
-    write_step(&mut out, step)?;
-    Ok(out.as_slice() == wanted.as_bytes())
+/// What was written is this text.
+fn check_text(rt: &impl Abort, out: &[u8], wanted: &str) {
+    check(rt, out == wanted.as_bytes(), wanted);
 }
 
-fn check_steps(
-    rt: &impl Abort,
-    alloc: Global,
-    steps: &[(StepAnswer, &str)],
-) -> Result<(), AllocError> {
+fn check_steps(rt: &impl Abort, alloc: Global, steps: &[(StepAnswer, &str)]) {
     for (step, wanted) in steps {
-        let is_so = writes_step(alloc, step, wanted)?;
-        assert!(rt; is_so, "at {wanted}");
+        let mut out = Vec::new(alloc);
+        write_step(&mut out, step).expect(rt, "memory");
+        check_text(rt, out.as_slice(), wanted);
     }
-    Ok(())
 }
 
 #[test]
-fn writes_steps(rt: HostRuntime) -> Result<(), AllocError> {
-    check_steps(&rt, rt.alloc(), &STEPS)
+fn writes_steps(rt: HostRuntime) {
+    check_steps(&rt, rt.alloc(), &STEPS);
 }
 
-/// Appends the lines of replies, the last line of a play and lines of faults.
-fn write_others(out: &mut Vec<u8>) -> Result<(), AllocError> {
-    write_reply(out, 1, &Reply::Added { number: 1 })?;
-    write_reply(out, 2, &Reply::Full { live: 1024 })?;
-    write_reply(out, 65536, &Reply::Removed)?;
-    write_reply(out, 4, &Reply::Dead { number: 4294967295 })?;
-    write_done(out, 0, 4294967295)?;
-    write_fault(out, &TextFault::new(4294967295, FaultKind::TooManyLines))?;
-    write_fault(out, &TextFault { line: 0, kind: 0 })
+/// Replies and the numbers of their entries.
+static REPLIES: [(u32, Reply); 4] = [
+    (1, Reply::Added { number: 1 }),
+    (2, Reply::Full { live: 1024 }),
+    (65536, Reply::Removed),
+    (4, Reply::Dead { number: 4294967295 }),
+];
+
+fn write_replies(rt: &impl Abort, out: &mut Vec<u8>, replies: &[(u32, Reply)]) {
+    for (number, reply) in replies {
+        write_reply(out, *number, reply).expect(rt, "memory");
+    }
 }
 
 #[test]
-fn writes_the_other_lines(rt: HostRuntime) -> Result<(), AllocError> {
+fn writes_the_other_lines(rt: HostRuntime) {
     let mut out = Vec::new(rt.alloc());
-    write_others(&mut out)?;
+    write_replies(&rt, &mut out, &REPLIES);
+    write_done(&mut out, 0, 4294967295).expect(&rt, "memory");
+    let many_lines = TextFault::new(4294967295, FaultKind::TooManyLines);
+    write_fault(&mut out, &many_lines).expect(&rt, "memory");
+    write_fault(&mut out, &TextFault { line: 0, kind: 0 }).expect(&rt, "memory");
     let wanted = "entry 1 added\nentry 2 full 1024\nentry 65536 removed\nentry 4 dead 4294967295\n\
         done 0 4294967295\nfault 4294967295 11\nfault 0 0\n";
-    assert!(rt; out.as_slice() == wanted.as_bytes());
-    Ok(())
+    check_text(&rt, out.as_slice(), wanted);
 }
 
 /// An entry with the number 65536, and its line.
-const ENTRIES: [(Entry, &str); 6] = [
+static ENTRIES: [(Entry, &str); 6] = [
     (
         Entry {
             lane: 0,
@@ -178,80 +179,67 @@ const ENTRIES: [(Entry, &str); 6] = [
     ),
 ];
 
-fn check_entries(
-    rt: &impl Abort,
-    alloc: Global,
-    entries: &[(Entry, &str)],
-) -> Result<(), AllocError> {
+fn check_entries(rt: &impl Abort, alloc: Global, entries: &[(Entry, &str)]) {
     for (entry, wanted) in entries {
         let mut out = Vec::new(alloc);
-        write_entry(&mut out, 65536, entry)?;
-        assert_eq!(rt; out.as_slice(), wanted.as_bytes(), "at {wanted}");
+        write_entry(&mut out, 65536, entry).expect(rt, "memory");
+        check_text(rt, out.as_slice(), wanted);
     }
-    Ok(())
 }
 
 #[test]
-fn writes_entries(rt: HostRuntime) -> Result<(), AllocError> {
-    check_entries(&rt, rt.alloc(), &ENTRIES)
+fn writes_entries(rt: HostRuntime) {
+    check_entries(&rt, rt.alloc(), &ENTRIES);
 }
 
 #[test]
-fn writes_the_frame_of_a_live_text(rt: HostRuntime) -> Result<(), AllocError> {
+fn writes_the_frame_of_a_live_text(rt: HostRuntime) {
     let mut out = Vec::new(rt.alloc());
-    write_history(&mut out, 65536)?;
-    write_lane(&mut out, 15)?;
-    write_final(&mut out, 1, 13, 4294967295)?;
+    write_history(&mut out, 65536).expect(&rt, "memory");
+    write_lane(&mut out, 15).expect(&rt, "memory");
+    write_final(&mut out, 1, 13, 4294967295).expect(&rt, "memory");
     let wanted = "history 65536\nlane 15\nfinal 1 13 4294967295\n";
-    assert_eq!(rt; out.as_slice(), wanted.as_bytes());
-    Ok(())
+    check_text(&rt, out.as_slice(), wanted);
 }
 
-/// Whether the answer to the question in a line is written as these lines.
-fn writes(alloc: Global, line: u32, answer: &Answer, wanted: &str) -> Result<bool, AllocError> {
+/// The answer to the question in a line is written as these lines.
+fn check_answer(rt: &impl Abort, alloc: Global, line: u32, answer: Answer, wanted: &str) {
     let mut out = Vec::new(alloc);
-    write_answer(&mut out, line, answer)?;
-    Ok(out.as_slice() == wanted.as_bytes())
+    write_answer(&mut out, line, &answer).expect(rt, "memory");
+    check_text(rt, out.as_slice(), wanted);
 }
 
 const FLOORS: [FloorAt; 2] = [FloorAt { y: 0, area: 63 }, FloorAt { y: 8191, area: 1 }];
 
 #[test]
-fn writes_floors(rt: HostRuntime) -> Result<(), AllocError> {
+fn writes_floors(rt: HostRuntime) {
     let alloc = rt.alloc();
-    let floors = Answer::Floors(Items::from_vec(Vec::from_array(alloc, FLOORS)?));
-    assert!(rt; writes(alloc, 3, &floors, "floors 3 2 0 63 8191 1\n")?);
+    let two = Vec::from_array(alloc, FLOORS).expect(&rt, "memory");
+    let floors = Answer::Floors(Items::from_vec(two));
+    check_answer(&rt, alloc, 3, floors, "floors 3 2 0 63 8191 1\n");
     let none = Answer::Floors(Items::new(alloc));
-    assert!(rt; writes(alloc, 3, &none, "floors 3 0\n")?);
-    Ok(())
+    check_answer(&rt, alloc, 3, none, "floors 3 0\n");
 }
 
 #[test]
-fn writes_answers(rt: HostRuntime) -> Result<(), AllocError> {
+fn writes_answers(rt: HostRuntime) {
     let alloc = rt.alloc();
-    assert!(rt; writes(alloc, 3, &Answer::NoStart, "nostart 3\n")?);
-    assert!(rt; writes(alloc, 3, &Answer::NoGoal, "nogoal 3\n")?);
-    assert!(rt; writes(alloc, 3, &Answer::NoPath, "nopath 3\n")?);
+    check_answer(&rt, alloc, 3, Answer::NoStart, "nostart 3\n");
+    check_answer(&rt, alloc, 3, Answer::NoGoal, "nogoal 3\n");
+    check_answer(&rt, alloc, 3, Answer::NoPath, "nopath 3\n");
     let reached = Answer::Reached(PolyRef {
         tile: 4294967295,
         index: 7,
     });
-    assert!(rt; writes(alloc, 3, &reached, "reached 3 4294967295 7\n")?);
+    check_answer(&rt, alloc, 3, reached, "reached 3 4294967295 7\n");
     let wall = Answer::Wall {
         a: Point { x: -1, z: 0 },
         b: Point { x: 16384, z: 32 },
         num: 9223372036854775807,
         den: -1,
     };
-    assert!(rt;
-        writes(
-            alloc,
-            3,
-            &wall,
-            "wall 3 -1 0 16384 32 9223372036854775807 -1\n"
-        )?
-    );
-    Ok(())
+    let wanted = "wall 3 -1 0 16384 32 9223372036854775807 -1\n";
+    check_answer(&rt, alloc, 3, wall, wanted);
 }
 
 const FIRST: PolyRef = PolyRef { tile: 0, index: 1 };
@@ -280,16 +268,17 @@ const TURNS: [Corner; 2] = [
 ];
 
 #[test]
-fn writes_a_path(rt: HostRuntime) -> Result<(), AllocError> {
+fn writes_a_path(rt: HostRuntime) {
     let alloc = rt.alloc();
+    let links = Vec::from_array(alloc, [LINK]).expect(&rt, "memory");
+    let turns = Vec::from_array(alloc, TURNS).expect(&rt, "memory");
     let found = PathFound {
         first: FIRST,
         cost: 18446744073709551615,
-        links: Items::from_vec(Vec::from_array(alloc, [LINK])?),
-        turns: Items::from_vec(Vec::from_array(alloc, TURNS)?),
+        links: Items::from_vec(links),
+        turns: Items::from_vec(turns),
     };
     let wanted =
         "path 12 18446744073709551615 0 1 1 2\nlink 3 4 16 32 48 64\nturn 16 32 L 0\nturn 48 64 R 0\n";
-    assert!(rt; writes(alloc, 12, &Answer::Path(found), wanted)?);
-    Ok(())
+    check_answer(&rt, alloc, 12, Answer::Path(found), wanted);
 }

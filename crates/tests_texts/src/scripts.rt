@@ -1,9 +1,10 @@
 //! Each line form once good and once with each fault that it can have, and the faults of whole texts.
 
+use crate::texts::{append, check};
 use nav_base::{Point, Question};
 use nav_ground::Shape;
 use nav_script::{Line, ScriptRefusal, Way, read_script};
-use std::alloc::{AllocError, Global};
+use std::alloc::Global;
 use std::process::Abort;
 
 /// What is read of a text whose first line has the number 45: the number of its lines and the last of them, or the fault.
@@ -14,183 +15,198 @@ enum Told {
     Fault(u32, u32),
 }
 
-fn read_text(alloc: Global, text: &[u8], way: Way) -> Result<Told, AllocError> {
-    match read_script(alloc, text, 45, way) {
+/// A text is read as what is told of it.
+fn check_text(rt: &impl Abort, alloc: Global, text: &[u8], way: Way, wanted: Told, at: &str) {
+    let told = match read_script(alloc, text, 45, way) {
         Ok(script) => match script.lines.as_slice().last() {
-            Some(line) => Ok(Told::Last(script.lines.len(), *line)),
-            None => Ok(Told::Script {
+            Some(line) => Told::Last(script.lines.len(), *line),
+            None => Told::Script {
                 lanes: script.lanes,
                 workers: script.workers,
-            }),
+            },
         },
-        Err(ScriptRefusal::Fault(fault)) => Ok(Told::Fault(fault.line, fault.kind)),
-        Err(ScriptRefusal::OutOfMemory) => Err(AllocError),
-    }
+        Err(ScriptRefusal::Fault(fault)) => Told::Fault(fault.line, fault.kind),
+        Err(ScriptRefusal::OutOfMemory) => panic!(rt; "memory"),
+    };
+    check(rt, told == wanted, at);
 }
 
 const FROM: Point = Point { x: 16384, z: 0 };
 
 const TO: Point = Point { x: 7, z: 16384 };
 
+/// The third line of a script of two lanes and three workers, the way that it runs, and what is told.
+type Third = (&'static str, Way, Told);
+
 /// A line of each form, and what it says.
-const RIGHT_LINES: [(&str, Line); 14] = [
-    ("floor 1023 0", Line::Ask(Question::Floor { x: 1023, z: 0 })),
+static RIGHT_LINES: [Third; 14] = [
+    (
+        "floor 1023 0",
+        Way::Play,
+        Told::Last(2, Line::Ask(Question::Floor { x: 1023, z: 0 })),
+    ),
     (
         "path 16384 0 8191 7 16384 0",
-        Line::Ask(Question::Path {
-            from: FROM,
-            from_y: 8191,
-            to: TO,
-            to_y: 0,
-        }),
+        Way::Play,
+        Told::Last(
+            2,
+            Line::Ask(Question::Path {
+                from: FROM,
+                from_y: 8191,
+                to: TO,
+                to_y: 0,
+            }),
+        ),
     ),
     (
         "ray 16384 0 8191 7 16384",
-        Line::Ask(Question::Ray {
-            from: FROM,
-            from_y: 8191,
-            to: TO,
-        }),
+        Way::Play,
+        Told::Last(
+            2,
+            Line::Ask(Question::Ray {
+                from: FROM,
+                from_y: 8191,
+                to: TO,
+            }),
+        ),
     ),
     (
         "add block 0 1023 7 8191 5 6",
-        Line::Add(Shape::Block {
-            x0: 0,
-            x1: 1023,
-            y0: 7,
-            y1: 8191,
-            z0: 5,
-            z1: 6,
-        }),
+        Way::Play,
+        Told::Last(
+            2,
+            Line::Add(Shape::Block {
+                x0: 0,
+                x1: 1023,
+                y0: 7,
+                y1: 8191,
+                z0: 5,
+                z1: 6,
+            }),
+        ),
     ),
     (
         "add cylinder 2048 1 1023 8190 8191",
-        Line::Add(Shape::Cylinder {
-            cx: 2048,
-            cz: 1,
-            r: 1023,
-            y0: 8190,
-            y1: 8191,
-        }),
+        Way::Play,
+        Told::Last(
+            2,
+            Line::Add(Shape::Cylinder {
+                cx: 2048,
+                cz: 1,
+                r: 1023,
+                y0: 8190,
+                y1: 8191,
+            }),
+        ),
     ),
-    ("remove 4294967295", Line::Remove(4294967295)),
-    ("drop 1", Line::Undo(1)),
-    ("settle", Line::Settle),
-    ("lane 1", Line::Lane(1)),
-    ("aim", Line::Aim),
-    ("claim 2", Line::Claim(2)),
-    ("back 0", Line::Back(0)),
-    ("submit 1", Line::Submit(1)),
-    ("publish", Line::Publish),
+    (
+        "remove 4294967295",
+        Way::Play,
+        Told::Last(2, Line::Remove(4294967295)),
+    ),
+    ("drop 1", Way::Play, Told::Last(2, Line::Undo(1))),
+    ("settle", Way::Play, Told::Last(2, Line::Settle)),
+    ("lane 1", Way::Play, Told::Last(2, Line::Lane(1))),
+    ("aim", Way::Play, Told::Last(2, Line::Aim)),
+    ("claim 2", Way::Play, Told::Last(2, Line::Claim(2))),
+    ("back 0", Way::Play, Told::Last(2, Line::Back(0))),
+    ("submit 1", Way::Play, Told::Last(2, Line::Submit(1))),
+    ("publish", Way::Play, Told::Last(2, Line::Publish)),
 ];
 
-/// What is read of a script of two lanes and three workers whose third line is given.
-fn read_third(alloc: Global, line: &str, behind: &str, way: Way) -> Result<Told, AllocError> {
-    let text = format!(in alloc; "script 2 3\nadd block 0 0 0 0 0 0\n{line}\n{behind}")?;
-    read_text(alloc, text.as_bytes(), way)
-}
-
-fn check_right_lines(
-    rt: &impl Abort,
-    alloc: Global,
-    rows: &[(&str, Line)],
-) -> Result<(), AllocError> {
-    for (line, wanted) in rows {
-        let told = read_third(alloc, line, "", Way::Play)?;
-        assert!(rt; told == Told::Last(2, *wanted), "at {line}");
+/// Reads scripts with these third lines, and a text behind each.
+fn check_thirds(rt: &impl Abort, alloc: Global, behind: &str, rows: &[Third]) {
+    for (line, way, wanted) in rows {
+        let mut text = Vec::new(alloc);
+        append(rt, &mut text, "script 2 3\nadd block 0 0 0 0 0 0\n", 1);
+        append(rt, &mut text, line, 1);
+        append(rt, &mut text, "\n", 1);
+        append(rt, &mut text, behind, 1);
+        check_text(rt, alloc, text.as_slice(), *way, *wanted, line);
     }
-    Ok(())
 }
 
 #[test]
-fn reads_right_lines(rt: HostRuntime) -> Result<(), AllocError> {
-    check_right_lines(&rt, rt.alloc(), &RIGHT_LINES)
+fn reads_right_lines(rt: HostRuntime) {
+    check_thirds(&rt, rt.alloc(), "", &RIGHT_LINES);
 }
 
-/// A line of a script with two lanes and three workers, the way it runs, and the kind of the fault.
-const WRONG_LINES: [(&str, Way, u32); 61] = [
-    ("floor 0 1024", Way::Play, 2),
-    ("floor 1024 0", Way::Live, 2),
-    ("floor 0", Way::Play, 8),
-    ("floor 0 0 0", Way::Play, 8),
-    ("floor 0 0 ", Way::Play, 8),
-    ("floor  0 0", Way::Play, 8),
-    (" floor 0 0", Way::Play, 8),
-    ("floor 00 0", Way::Play, 8),
-    ("floor 0 4294967296", Way::Play, 8),
-    ("floor 0 4294967295", Way::Play, 2),
-    ("Floor 0 0", Way::Play, 8),
-    ("floor 0 0\r", Way::Play, 8),
-    ("path 16385 0 0 0 0 0", Way::Play, 2),
-    ("path 0 16385 0 0 0 0", Way::Play, 2),
-    ("path 0 0 8192 0 0 0", Way::Play, 2),
-    ("path 0 0 0 16385 0 0", Way::Play, 2),
-    ("path 0 0 0 0 16385 0", Way::Play, 2),
-    ("path 0 0 0 0 0 8192", Way::Play, 2),
-    ("path 0 0 0 0 0", Way::Play, 8),
-    ("ray 16385 0 0 0 0", Way::Play, 2),
-    ("ray 0 16385 0 0 0", Way::Play, 2),
-    ("ray 0 0 8192 0 0", Way::Play, 2),
-    ("ray 0 0 0 16385 0", Way::Play, 2),
-    ("ray 0 0 0 0 16385", Way::Play, 2),
-    ("ray 0 0 0 0 0 0", Way::Play, 8),
-    ("add block 1 0 0 0 0 0", Way::Play, 2),
-    ("add block 0 1024 0 0 0 0", Way::Play, 2),
-    ("add block 0 0 1 0 0 0", Way::Play, 2),
-    ("add block 0 0 0 8192 0 0", Way::Play, 2),
-    ("add block 0 0 0 0 1 0", Way::Play, 2),
-    ("add block 0 0 0 0 0 1024", Way::Play, 2),
-    ("add block 0 0 0 0 0", Way::Play, 8),
-    ("add area 1 block 0 0 0 0 0 0", Way::Play, 8),
-    ("add cylinder 2049 0 0 0 0", Way::Play, 2),
-    ("add cylinder 0 2049 0 0 0", Way::Play, 2),
-    ("add cylinder 0 0 1024 0 0", Way::Play, 2),
-    ("add cylinder 0 0 0 1 0", Way::Play, 2),
-    ("add cylinder 0 0 0 0 8192", Way::Play, 2),
-    ("add", Way::Play, 8),
-    ("remove", Way::Play, 8),
-    ("remove -1", Way::Play, 8),
-    ("drop 0", Way::Play, 2),
-    ("drop 2", Way::Play, 10),
-    ("drop 2", Way::Live, 10),
-    ("drop", Way::Play, 8),
-    ("settle 1", Way::Play, 8),
-    ("lane 2", Way::Play, 9),
-    ("lane 2", Way::Live, 9),
-    ("lane", Way::Play, 8),
-    ("claim 3", Way::Play, 9),
-    ("back 3", Way::Play, 9),
-    ("submit 3", Way::Play, 9),
-    ("claim", Way::Play, 8),
-    ("claim 0", Way::Live, 8),
-    ("back 0", Way::Live, 8),
-    ("submit 0", Way::Live, 8),
-    ("aim", Way::Live, 8),
-    ("publish", Way::Live, 8),
-    ("aims", Way::Play, 8),
-    ("jump", Way::Play, 8),
-    ("", Way::Play, 8),
+/// A line with each fault that it can have.
+static WRONG_LINES: [Third; 61] = [
+    ("floor 0 1024", Way::Play, Told::Fault(47, 2)),
+    ("floor 1024 0", Way::Live, Told::Fault(47, 2)),
+    ("floor 0", Way::Play, Told::Fault(47, 8)),
+    ("floor 0 0 0", Way::Play, Told::Fault(47, 8)),
+    ("floor 0 0 ", Way::Play, Told::Fault(47, 8)),
+    ("floor  0 0", Way::Play, Told::Fault(47, 8)),
+    (" floor 0 0", Way::Play, Told::Fault(47, 8)),
+    ("floor 00 0", Way::Play, Told::Fault(47, 8)),
+    ("floor 0 4294967296", Way::Play, Told::Fault(47, 8)),
+    ("floor 0 4294967295", Way::Play, Told::Fault(47, 2)),
+    ("Floor 0 0", Way::Play, Told::Fault(47, 8)),
+    ("floor 0 0\r", Way::Play, Told::Fault(47, 8)),
+    ("path 16385 0 0 0 0 0", Way::Play, Told::Fault(47, 2)),
+    ("path 0 16385 0 0 0 0", Way::Play, Told::Fault(47, 2)),
+    ("path 0 0 8192 0 0 0", Way::Play, Told::Fault(47, 2)),
+    ("path 0 0 0 16385 0 0", Way::Play, Told::Fault(47, 2)),
+    ("path 0 0 0 0 16385 0", Way::Play, Told::Fault(47, 2)),
+    ("path 0 0 0 0 0 8192", Way::Play, Told::Fault(47, 2)),
+    ("path 0 0 0 0 0", Way::Play, Told::Fault(47, 8)),
+    ("ray 16385 0 0 0 0", Way::Play, Told::Fault(47, 2)),
+    ("ray 0 16385 0 0 0", Way::Play, Told::Fault(47, 2)),
+    ("ray 0 0 8192 0 0", Way::Play, Told::Fault(47, 2)),
+    ("ray 0 0 0 16385 0", Way::Play, Told::Fault(47, 2)),
+    ("ray 0 0 0 0 16385", Way::Play, Told::Fault(47, 2)),
+    ("ray 0 0 0 0 0 0", Way::Play, Told::Fault(47, 8)),
+    ("add block 1 0 0 0 0 0", Way::Play, Told::Fault(47, 2)),
+    ("add block 0 1024 0 0 0 0", Way::Play, Told::Fault(47, 2)),
+    ("add block 0 0 1 0 0 0", Way::Play, Told::Fault(47, 2)),
+    ("add block 0 0 0 8192 0 0", Way::Play, Told::Fault(47, 2)),
+    ("add block 0 0 0 0 1 0", Way::Play, Told::Fault(47, 2)),
+    ("add block 0 0 0 0 0 1024", Way::Play, Told::Fault(47, 2)),
+    ("add block 0 0 0 0 0", Way::Play, Told::Fault(47, 8)),
+    (
+        "add area 1 block 0 0 0 0 0 0",
+        Way::Play,
+        Told::Fault(47, 8),
+    ),
+    ("add cylinder 2049 0 0 0 0", Way::Play, Told::Fault(47, 2)),
+    ("add cylinder 0 2049 0 0 0", Way::Play, Told::Fault(47, 2)),
+    ("add cylinder 0 0 1024 0 0", Way::Play, Told::Fault(47, 2)),
+    ("add cylinder 0 0 0 1 0", Way::Play, Told::Fault(47, 2)),
+    ("add cylinder 0 0 0 0 8192", Way::Play, Told::Fault(47, 2)),
+    ("add", Way::Play, Told::Fault(47, 8)),
+    ("remove", Way::Play, Told::Fault(47, 8)),
+    ("remove -1", Way::Play, Told::Fault(47, 8)),
+    ("drop 0", Way::Play, Told::Fault(47, 2)),
+    ("drop 2", Way::Play, Told::Fault(47, 10)),
+    ("drop 2", Way::Live, Told::Fault(47, 10)),
+    ("drop", Way::Play, Told::Fault(47, 8)),
+    ("settle 1", Way::Play, Told::Fault(47, 8)),
+    ("lane 2", Way::Play, Told::Fault(47, 9)),
+    ("lane 2", Way::Live, Told::Fault(47, 9)),
+    ("lane", Way::Play, Told::Fault(47, 8)),
+    ("claim 3", Way::Play, Told::Fault(47, 9)),
+    ("back 3", Way::Play, Told::Fault(47, 9)),
+    ("submit 3", Way::Play, Told::Fault(47, 9)),
+    ("claim", Way::Play, Told::Fault(47, 8)),
+    ("claim 0", Way::Live, Told::Fault(47, 8)),
+    ("back 0", Way::Live, Told::Fault(47, 8)),
+    ("submit 0", Way::Live, Told::Fault(47, 8)),
+    ("aim", Way::Live, Told::Fault(47, 8)),
+    ("publish", Way::Live, Told::Fault(47, 8)),
+    ("aims", Way::Play, Told::Fault(47, 8)),
+    ("jump", Way::Play, Told::Fault(47, 8)),
+    ("", Way::Play, Told::Fault(47, 8)),
 ];
 
-fn check_wrong_lines(
-    rt: &impl Abort,
-    alloc: Global,
-    rows: &[(&str, Way, u32)],
-) -> Result<(), AllocError> {
-    for (line, way, kind) in rows {
-        let told = read_third(alloc, line, "settle\n", *way)?;
-        assert!(rt; told == Told::Fault(47, *kind), "at {line}");
-    }
-    Ok(())
-}
-
 #[test]
-fn refuses_wrong_lines(rt: HostRuntime) -> Result<(), AllocError> {
-    check_wrong_lines(&rt, rt.alloc(), &WRONG_LINES)
+fn refuses_wrong_lines(rt: HostRuntime) {
+    check_thirds(&rt, rt.alloc(), "settle\n", &WRONG_LINES);
 }
 
 /// Whole texts, and what is read of them.
-const TEXTS: [(&str, Told); 19] = [
+static TEXTS: [(&str, Told); 19] = [
     ("", Told::Fault(45, 7)),
     ("script 1 1", Told::Fault(45, 7)),
     (
@@ -230,50 +246,19 @@ const TEXTS: [(&str, Told); 19] = [
     ),
 ];
 
-fn check_texts(rt: &impl Abort, alloc: Global, rows: &[(&str, Told)]) -> Result<(), AllocError> {
+fn check_texts(rt: &impl Abort, alloc: Global, rows: &[(&str, Told)]) {
     for (text, wanted) in rows {
-        let told = read_text(alloc, text.as_bytes(), Way::Play)?;
-        assert!(rt; told == *wanted, "at {text}");
+        check_text(rt, alloc, text.as_bytes(), Way::Play, *wanted, text);
     }
-    Ok(())
 }
 
 #[test]
-fn reads_texts(rt: HostRuntime) -> Result<(), AllocError> {
-    check_texts(&rt, rt.alloc(), &TEXTS)
-}
-
-/// A text of a line, then another line so many times, then a last line.
-fn repeated(
-    alloc: Global,
-    first: &str,
-    line: &str,
-    count: u32,
-    last: &str,
-) -> Result<Vec<u8>, AllocError> {
-    let mut text = Vec::new(alloc);
-    text.extend_from_slice(first.as_bytes())?;
-    for _ in 0..count {
-        text.extend_from_slice(line.as_bytes())?;
-    }
-    text.extend_from_slice(last.as_bytes())?;
-    Ok(text)
-}
-
-/// What is read of a script of a line so many times, then a last line.
-fn read_repeated(
-    alloc: Global,
-    line: &str,
-    count: u32,
-    way: Way,
-    last: &str,
-) -> Result<Told, AllocError> {
-    let text = repeated(alloc, "script 1 1\n", line, count, last)?;
-    read_text(alloc, text.as_slice(), way)
+fn reads_texts(rt: HostRuntime) {
+    check_texts(&rt, rt.alloc(), &TEXTS);
 }
 
 /// A line, how often it stands, the way it runs, the line behind it, and what is read.
-const LONG_TEXTS: [(&str, u32, Way, &str, Told); 10] = [
+static LONG_TEXTS: [(&str, u32, Way, &str, Told); 10] = [
     (
         "settle\n",
         299999,
@@ -346,19 +331,17 @@ const LONG_TEXTS: [(&str, u32, Way, &str, Told); 10] = [
     ),
 ];
 
-fn check_long_texts(
-    rt: &impl Abort,
-    alloc: Global,
-    rows: &[(&str, u32, Way, &str, Told)],
-) -> Result<(), AllocError> {
+fn check_long_texts(rt: &impl Abort, alloc: Global, rows: &[(&str, u32, Way, &str, Told)]) {
     for (line, count, way, last, wanted) in rows {
-        let told = read_repeated(alloc, line, *count, *way, last)?;
-        assert!(rt; told == *wanted, "at {last}");
+        let mut text = Vec::new(alloc);
+        append(rt, &mut text, "script 1 1\n", 1);
+        append(rt, &mut text, line, *count);
+        append(rt, &mut text, last, 1);
+        check_text(rt, alloc, text.as_slice(), *way, *wanted, last);
     }
-    Ok(())
 }
 
 #[test]
-fn counts_lines(rt: HostRuntime) -> Result<(), AllocError> {
-    check_long_texts(&rt, rt.alloc(), &LONG_TEXTS)
+fn counts_lines(rt: HostRuntime) {
+    check_long_texts(&rt, rt.alloc(), &LONG_TEXTS);
 }

@@ -1,0 +1,5 @@
+pub mod InputLaws
+pub mod AnswerLaws
+pub mod CourseLaws
+pub mod TopLaws
+pub mod MadeLaws

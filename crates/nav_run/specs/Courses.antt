@@ -1,0 +1,36 @@
+-- How a run goes, by the status that it ends with: all that the clauses of the top call say of the source and the sink.
+use Rattle.std.specs.Prelude.{◌≡◌, ℕ, ◌+◌, List, Option, String}
+use Rattle.std.specs.declared.alloc.Global.{Global}
+use Rattle.std.specs.Io.KnownBytes.{Appends, Keeps}
+use Rattle.nav_io.specs.Causes.{Rose, TookMany}
+use Rattle.nav_record.specs.Texts.{usage_text, too_long_text}
+use Rattle.nav_run.specs.declared.status.Status.{Status}
+use Rattle.nav_run.specs.declared.status.Status.TheVariants as statuses
+use Rattle.nav_run.specs.Inputs.{IsPlay, input_limit}
+use Rattle.nav_run.specs.Outcomes.{IsFaultDue, HasDone, HasBroken}
+use Rattle.nav_run.specs.Words.{IsForm, IsPlayForm}
+
+-- the line of the fault of what was read was written, and what was read is no input
+pub record HasRefused (before after held_before held_after : Option (List ℕ)) : Type 0 where
+  pub text : List ℕ
+  pub due : IsFaultDue before after text
+  pub no_play : ¬ IsPlay due.input
+  pub written : Appends held_before held_after text
+
+-- what a run on these words has done, once it ended with this status
+abbrev pub HasRun : List (String Global) → (before after : Option (List ℕ)) → (reads_before reads_after : ℕ)
+    → (held_before held_after : Option (List ℕ)) → (writes_before writes_after : ℕ) → Status → Type 0
+HasRun words before after reads_before reads_after held_before held_after writes_before writes_after statuses.Ok =
+    HasDone words before after held_before held_after
+HasRun words before after reads_before reads_after held_before held_after writes_before writes_after statuses.BadText =
+    IsPlayForm words × HasRefused before after held_before held_after
+HasRun words before after reads_before reads_after held_before held_after writes_before writes_after statuses.Usage =
+    (¬ IsForm words) × Appends held_before held_after usage_text × (after ≡ before)
+HasRun words before after reads_before reads_after held_before held_after writes_before writes_after statuses.ReadFault =
+    IsPlayForm words × Rose reads_before reads_after × Keeps held_before held_after
+HasRun words before after reads_before reads_after held_before held_after writes_before writes_after statuses.WriteFault =
+    Rose writes_before writes_after × HasBroken words before after held_before held_after
+HasRun words before after reads_before reads_after held_before held_after writes_before writes_after statuses.TooLong =
+    IsPlayForm words × TookMany before after (input_limit + 1) × Appends held_before held_after too_long_text
+HasRun words before after reads_before reads_after held_before held_after writes_before writes_after statuses.OutOfMemory =
+    IsForm words × Keeps held_before held_after

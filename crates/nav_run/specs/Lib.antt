@@ -1,0 +1,10 @@
+pub mod Statuses
+pub mod Words
+pub mod Inputs
+pub mod Readings
+pub mod Answers
+pub mod Made
+pub mod Outcomes
+pub mod Endings
+pub mod StepCounts
+pub mod Courses

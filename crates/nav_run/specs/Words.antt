@@ -1,0 +1,50 @@
+-- The words behind the program's name.
+use Rattle.std.specs.Prelude.{◌≡◌, ℕ, ◌≤◌, ◌⊎◌, List, [], ◌∷◌, Option, Some, None, codes, decimal, String, string_bytes}
+use Rattle.std.specs.declared.alloc.Global.{Global}
+use Rattle.nav_gen.specs.MadeField.{IsMadeSize}
+use Rattle.nav_run.specs.declared.words.Form.{Form}
+use Rattle.nav_run.specs.declared.words.Form.TheVariants.{Play, Gen}
+
+-- the words are the form `play`: that one word
+abbrev pub IsPlayForm : List (String Global) → Type 0
+IsPlayForm [] = ⊥
+IsPlayForm (word ∷ []) = string_bytes word ≡ codes "play"
+IsPlayForm (word ∷ other ∷ more) = ⊥
+
+-- two texts spell a number of 32 bits and a size that inputs are made in
+pub record AreMadeWords (number size : ℕ) (first second : List ℕ) : Type 0 where
+  pub first_spelled : first ≡ decimal number
+  pub number_rules : number ≤ 4294967295
+  pub second_spelled : second ≡ decimal size
+  pub size_rules : IsMadeSize size
+
+-- the words are the form `gen NUMBER SIZE`: the word `gen`, and the spellings of this number and this size
+abbrev pub IsGenForm : (number size : ℕ) → List (String Global) → Type 0
+IsGenForm number size [] = ⊥
+IsGenForm number size (word ∷ []) = ⊥
+IsGenForm number size (word ∷ first ∷ []) = ⊥
+IsGenForm number size (word ∷ first ∷ second ∷ []) =
+    (string_bytes word ≡ codes "gen") × AreMadeWords number size (string_bytes first) (string_bytes second)
+IsGenForm number size (word ∷ first ∷ second ∷ other ∷ more) = ⊥
+
+-- the words are the form `gen NUMBER SIZE` with some number and some size
+pub record IsGen (words : List (String Global)) : Type 0 where
+  pub number : ℕ
+  pub size : ℕ
+  pub form : IsGenForm number size words
+
+-- the words are a form
+abbrev pub IsForm : List (String Global) → Type 0
+IsForm words = IsPlayForm words ⊎ IsGen words
+
+-- what the words ask for, or that they are no form
+abbrev pub AskFor : List (String Global) → Option Form → Type 0
+AskFor words (Some Play) = IsPlayForm words
+AskFor words (Some (Gen number size)) = IsGenForm number size words
+AskFor words None = ¬ IsForm words
+
+-- what two texts behind `gen` ask for, or that they ask for nothing
+abbrev pub AskBehindGen : (first second : List ℕ) → Option Form → Type 0
+AskBehindGen first second (Some Play) = ⊥
+AskBehindGen first second (Some (Gen number size)) = AreMadeWords number size first second
+AskBehindGen first second None = (number size : ℕ) → ¬ AreMadeWords number size first second

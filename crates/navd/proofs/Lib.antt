@@ -1,4 +1,0 @@
-pub mod InputLaws
-pub mod AnswerLaws
-pub mod TopLaws
-pub mod MadeLaws
