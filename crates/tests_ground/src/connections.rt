@@ -179,12 +179,23 @@ fn check_copy(rt: &impl Abort, alloc: Global, cells: &CompactField) -> Result<()
     Ok(())
 }
 
+fn check(rt: &impl Abort, alloc: Global, compact: &CompactField) -> Result<(), AllocError>
+    requires { IsCompact compact.now.cells }
+{
+    check_cells(rt, compact.cells.as_slice(), &ROWS);
+    check_neighbours(rt, compact, &NEIGHBOURS);
+    check_copy(rt, alloc, compact)
+}
+
+fn connected(alloc: Global) -> Result<CompactField, AllocError>
+    ensures { IfOk result (λ compact. IsCompact compact.cells) }
+{
+    let field = field(alloc)?;
+    compact(alloc, &field, &BESIDE, &AGENT)
+}
+
 #[test]
 fn bridge(rt: HostRuntime) -> Result<(), AllocError> {
-    let alloc = rt.alloc();
-    let field = field(alloc)?;
-    let cells = compact(alloc, &field, &BESIDE, &AGENT)?;
-    check_cells(&rt, cells.cells.as_slice(), &ROWS);
-    check_neighbours(&rt, &cells, &NEIGHBOURS);
-    check_copy(&rt, alloc, &cells)
+    let compact = connected(rt.alloc())?;
+    check(&rt, rt.alloc(), &compact)
 }

@@ -52,16 +52,24 @@ fn field(alloc: Global) -> Result<CompactField, AllocError>
     })
 }
 
-/// Places as x, z and level.
-fn as_tuples(alloc: Global, places: &[CellRef]) -> Result<Vec<(u32, u32, u32)>, AllocError> {
-    places
-        .iter()
-        .map(|at| (at.x, at.z, at.level))
-        .collect(alloc)
+/// A place as x, z and level.
+type Place = (u32, u32, u32);
+
+/// Whether cells are those at places.
+fn are_at(cells: &[CellRef], places: &[Place]) -> bool {
+    if cells.len() != places.len() {
+        return false;
+    }
+    for (cell, place) in cells.iter().zip(places.iter()) {
+        if (cell.x, cell.z, cell.level) != *place {
+            return false;
+        }
+    }
+    true
 }
 
 /// The cells with four connections, which are kept for a radius of 1.
-const INNER: [(u32, u32, u32); 9] = [
+const INNER: [Place; 9] = [
     (2, 2, 0),
     (3, 2, 0),
     (4, 2, 0),
@@ -74,10 +82,30 @@ const INNER: [(u32, u32, u32); 9] = [
 ];
 
 /// The middle cell, which alone is kept for a radius of 2: (2, 2) is one step from the boundary, (3, 3) is two.
-const MIDDLE: (u32, u32, u32) = (3, 3, 0);
+const MIDDLE: Place = (3, 3, 0);
 
 /// A radius, and how many cells are kept.
 const COUNTS: [(u32, usize); 5] = [(0, 28), (1, 9), (2, 1), (3, 0), (u32::MAX, 0)];
+
+/// How many cells `erode` keeps.
+fn kept_count(alloc: Global, field: &CompactField, radius: u32) -> Result<usize, AllocError>
+    requires { IsCompact field.now.cells }
+{
+    Ok(erode(alloc, field, radius)?.len())
+}
+
+/// How many cells `kept_marks` marks, and whether it marks the middle one.
+fn marked(
+    alloc: Global,
+    field: &CompactField,
+    radius: u32,
+) -> Result<(usize, Option<bool>), AllocError>
+    requires { IsCompact field.now.cells }
+{
+    let marks = kept_marks(alloc, field.cells.as_slice(), radius)?;
+    let count = marks.iter().filter(|mark| **mark).count();
+    Ok((count, marks.get(13).copied()))
+}
 
 fn check_counts(
     rt: &impl Abort,
@@ -88,68 +116,28 @@ fn check_counts(
     requires { IsCompact field.now.cells }
 {
     for (radius, wanted) in rows {
-        let kept = erode(alloc, field, *radius)?;
-        same(rt, (*radius, kept.len()), (*radius, *wanted));
-    }
-    Ok(())
-}
-
-#[test]
-fn keeps_so_many_cells(rt: HostRuntime) -> Result<(), AllocError> {
-    let alloc = rt.alloc();
-    let field = field(alloc)?;
-    check_counts(&rt, alloc, &field, &COUNTS)
-}
-
-fn check_marks(
-    rt: &impl Abort,
-    alloc: Global,
-    field: &CompactField,
-    rows: &[(u32, usize)],
-) -> Result<(), AllocError>
-    requires { IsCompact field.now.cells }
-{
-    for (radius, wanted) in rows {
-        let marks = kept_marks(alloc, field.cells.as_slice(), *radius)?;
-        let count = marks.iter().filter(|mark| **mark).count();
-        let middle = marks.get(13).copied();
+        let count = kept_count(alloc, field, *radius)?;
+        let marked = marked(alloc, field, *radius)?;
+        let middle = Some(*radius < 3);
         same(
             rt,
-            (*radius, count, middle),
-            (*radius, *wanted, Some(*radius < 3)),
+            (*radius, count, marked),
+            (*radius, *wanted, (*wanted, middle)),
         );
     }
     Ok(())
 }
 
-#[test]
-fn marks_so_many_cells(rt: HostRuntime) -> Result<(), AllocError> {
-    let alloc = rt.alloc();
-    let field = field(alloc)?;
-    check_marks(&rt, alloc, &field, &COUNTS)
-}
-
-fn check_kept(
-    rt: &impl Abort,
+/// Whether `erode` keeps the cells at these places.
+fn keeps(
     alloc: Global,
     field: &CompactField,
     radius: u32,
-    wanted: &[(u32, u32, u32)],
-) -> Result<(), AllocError>
+    wanted: &[Place],
+) -> Result<bool, AllocError>
     requires { IsCompact field.now.cells }
 {
-    let kept = erode(alloc, field, radius)?;
-    let kept = as_tuples(alloc, &kept)?;
-    same(rt, (radius, kept.as_slice()), (radius, wanted));
-    Ok(())
-}
-
-#[test]
-fn keeps_by_hand(rt: HostRuntime) -> Result<(), AllocError> {
-    let alloc = rt.alloc();
-    let field = field(alloc)?;
-    check_kept(&rt, alloc, &field, 1, &INNER)?;
-    check_kept(&rt, alloc, &field, 2, &[MIDDLE])
+    Ok(are_at(&erode(alloc, field, radius)?, wanted))
 }
 
 const ALL: Window = Window {
@@ -197,7 +185,7 @@ const EMPTY: Window = Window {
 };
 
 /// A window, a radius, and the cells of the window that are kept.
-type Kept = (Window, u32, &'static [(u32, u32, u32)]);
+type Kept = (Window, u32, &'static [Place]);
 
 const WINDOWS: [Kept; 15] = [
     (ALL, 1, &INNER),
@@ -217,6 +205,13 @@ const WINDOWS: [Kept; 15] = [
     (EMPTY, 1, &[]),
 ];
 
+/// Whether `erode_window` keeps the cells of a row.
+fn keeps_in_window(alloc: Global, field: &CompactField, row: &Kept) -> Result<bool, AllocError>
+    requires { IsCompact field.now.cells }
+{
+    Ok(are_at(&erode_window(alloc, field, row.0, row.1)?, row.2))
+}
+
 fn check_windows(
     rt: &impl Abort,
     alloc: Global,
@@ -225,21 +220,24 @@ fn check_windows(
 ) -> Result<(), AllocError>
     requires { IsCompact field.now.cells }
 {
-    for (window, radius, wanted) in rows {
-        let kept = erode_window(alloc, field, *window, *radius)?;
-        let kept = as_tuples(alloc, &kept)?;
-        same(
-            rt,
-            (*window, *radius, kept.as_slice()),
-            (*window, *radius, *wanted),
-        );
+    for (number, row) in rows.iter().enumerate() {
+        let is_right = keeps_in_window(alloc, field, row)?;
+        same(rt, (number, is_right), (number, true));
     }
     Ok(())
 }
 
+fn check_all(rt: &impl Abort, alloc: Global, field: &CompactField) -> Result<(), AllocError>
+    requires { IsCompact field.now.cells }
+{
+    check_counts(rt, alloc, field, &COUNTS)?;
+    assert!(rt; keeps(alloc, field, 1, &INNER)?);
+    assert!(rt; keeps(alloc, field, 2, &[MIDDLE])?);
+    check_windows(rt, alloc, field, &WINDOWS)
+}
+
 #[test]
-fn keeps_in_windows(rt: HostRuntime) -> Result<(), AllocError> {
-    let alloc = rt.alloc();
-    let field = field(alloc)?;
-    check_windows(&rt, alloc, &field, &WINDOWS)
+fn keeps_by_hand(rt: HostRuntime) -> Result<(), AllocError> {
+    let field = field(rt.alloc())?;
+    check_all(&rt, rt.alloc(), &field)
 }

@@ -5,7 +5,7 @@ ghost use Rattle.nav_ground.specs.Limits.{IsShape};
 ghost use Rattle.nav_ground.specs.Cells.{IsCut};
 
 use crate::checks::same;
-use nav_ground::{Cell, CellRef, Layer, Shape};
+use nav_ground::{Cell, CellRef, FreeLayer, Layer, Shape};
 use nav_list::Items;
 use obstacle_mark::mark;
 use std::alloc::{AllocError, Global};
@@ -74,6 +74,13 @@ fn layer(alloc: Global) -> Result<Layer, AllocError>
     })
 }
 
+fn marked(alloc: Global, shapes: &[Shape]) -> Result<FreeLayer, AllocError>
+    requires { All IsShape shapes.now }
+{
+    let layer = layer(alloc)?;
+    mark(alloc, &layer, shapes)
+}
+
 fn check(
     rt: &impl Abort,
     alloc: Global,
@@ -82,13 +89,8 @@ fn check(
 ) -> Result<(), AllocError>
     requires { All IsShape shapes.now }
 {
-    let layer = layer(alloc)?;
-    let free = mark(alloc, &layer, shapes)?;
-    same(
-        rt,
-        (free.tile, shapes, free.cells.as_slice()),
-        (5, shapes, wanted),
-    );
+    let free = marked(alloc, shapes)?;
+    same(rt, (free.tile, free.cells.as_slice()), (5, wanted));
     Ok(())
 }
 

@@ -4,7 +4,6 @@ ghost use Rattle.std.specs.Prelude.{◌≡◌, IfOk};
 ghost use Rattle.nav_ground.specs.Cells.{IsCut};
 
 use crate::cell_rows::{Row, free_of, ring};
-use crate::checks::same;
 use mesh_types::Regions;
 use mono_regions::regions;
 use nav_ground::FreeLayer;
@@ -60,6 +59,27 @@ fn places(alloc: Global, regions: &Regions) -> Result<Vec<(usize, u32, u32, u32)
     Ok(places)
 }
 
+/// Whether the strips of regions are these, region by region.
+fn are_at(
+    alloc: Global,
+    regions: &Regions,
+    wanted: &[(usize, u32, u32, u32)],
+) -> Result<bool, AllocError> {
+    Ok(places(alloc, regions)?.as_slice() == wanted)
+}
+
+/// Whether cells have regions of these strips.
+fn gives(
+    alloc: Global,
+    free: &FreeLayer,
+    wanted: &[(usize, u32, u32, u32)],
+) -> Result<bool, AllocError>
+    requires { IsCut free.now.cells }
+{
+    let regions = regions(alloc, free)?;
+    are_at(alloc, &regions, wanted)
+}
+
 fn check(
     rt: &impl Abort,
     alloc: Global,
@@ -68,9 +88,7 @@ fn check(
 ) -> Result<(), AllocError>
     requires { IsCut free.now.cells }
 {
-    let found = regions(alloc, free)?;
-    let places = places(alloc, &found)?;
-    same(rt, places.as_slice(), wanted);
+    assert!(rt; gives(alloc, free, wanted)?);
     Ok(())
 }
 
