@@ -15,6 +15,16 @@ use nav_list::Items;
 use std::alloc::{AllocError, Global};
 use std::process::Abort;
 
+/// What stands on or hangs over the floor of the column (2, 2).
+#[derive(Clone, Copy)]
+enum Over {
+    Nothing,
+    Step,
+    TwoSteps,
+    Beam,
+    LowBeam,
+}
+
 /// A square field with its floor at height 10 and spans over it, the tiles and the agent's radius, and what the cells are to be:
 /// none in so many columns along the edge, one of its own height over the column (2, 2), and one at height 10 over each other column.
 #[derive(Clone, Copy)]
@@ -22,7 +32,7 @@ struct Case {
     side: u32,
     tile: u32,
     radius: u32,
-    over: [Option<Span>; 2],
+    over: Over,
     edge: u32,
     height: u32,
 }
@@ -53,6 +63,16 @@ const LOW_BEAM: Span = Span {
     top: 22,
     ..STEP
 };
+
+fn spans_over(over: Over) -> &'static [Span] {
+    match over {
+        Over::Nothing => &[],
+        Over::Step => &[STEP],
+        Over::TwoSteps => &[STEP, NEXT_STEP],
+        Over::Beam => &[BEAM],
+        Over::LowBeam => &[LOW_BEAM],
+    }
+}
 
 fn setting_of(case: &Case) -> Setting
     requires side { (1 ≤ case.now.side) × (case.now.side ≤ 16) }
@@ -96,13 +116,7 @@ fn field_of(alloc: Global, case: &Case) -> Result<Field, AllocError>
             area: 63,
         })?;
         if x == 2 && z == 2 {
-            let [first, second] = case.over;
-            if let Some(span) = first {
-                spans.push(span)?;
-            }
-            if let Some(span) = second {
-                spans.push(span)?;
-            }
+            spans.extend_from_slice(spans_over(case.over))?;
         }
     }
     Ok(Field {
@@ -257,7 +271,7 @@ const FLAT: Case = Case {
     side: 6,
     tile: 6,
     radius: 0,
-    over: [None, None],
+    over: Over::Nothing,
     edge: 1,
     height: 10,
 };
@@ -271,22 +285,22 @@ const CASES: [Case; 7] = [
     },
     // A low step takes the area of the floor under it, and one on top of it does not.
     Case {
-        over: [Some(STEP), None],
+        over: Over::Step,
         height: 12,
         ..FLAT
     },
     Case {
-        over: [Some(STEP), Some(NEXT_STEP)],
+        over: Over::TwoSteps,
         height: 0,
         ..FLAT
     },
     // The agent fits under a beam of its own height, and not under one that is lower.
     Case {
-        over: [Some(BEAM), None],
+        over: Over::Beam,
         ..FLAT
     },
     Case {
-        over: [Some(LOW_BEAM), None],
+        over: Over::LowBeam,
         height: 0,
         ..FLAT
     },

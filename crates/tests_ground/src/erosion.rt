@@ -4,7 +4,7 @@ ghost use Rattle.std.specs.Prelude.{IfOk};
 ghost use Rattle.nav_ground.specs.Cells.{IsCompact};
 
 use crate::checks::same;
-use crate::rows::{Row, cells_of};
+use crate::rows::{NO, Row, cells_of};
 use agent_erode::{erode, erode_window, kept_marks};
 use compact_layer::CompactField;
 use nav_ground::{CellRef, Window};
@@ -14,34 +14,34 @@ use std::process::Abort;
 
 /// The columns from (1, 1) to (5, 5) on one level, and over (2, 3), (3, 3) and (4, 3) a bridge that leads nowhere, whose level is 3.
 const ROWS: [Row; 28] = [
-    (1, 1, 0, [None, Some(0), Some(0), None]),
-    (2, 1, 0, [Some(0), Some(0), Some(0), None]),
-    (3, 1, 0, [Some(0), Some(0), Some(0), None]),
-    (4, 1, 0, [Some(0), Some(0), Some(0), None]),
-    (5, 1, 0, [Some(0), Some(0), None, None]),
-    (1, 2, 0, [None, Some(0), Some(0), Some(0)]),
-    (2, 2, 0, [Some(0), Some(0), Some(0), Some(0)]),
-    (3, 2, 0, [Some(0), Some(0), Some(0), Some(0)]),
-    (4, 2, 0, [Some(0), Some(0), Some(0), Some(0)]),
-    (5, 2, 0, [Some(0), Some(0), None, Some(0)]),
-    (1, 3, 0, [None, Some(0), Some(0), Some(0)]),
-    (2, 3, 0, [Some(0), Some(0), Some(0), Some(0)]),
-    (2, 3, 3, [None, None, Some(3), None]),
-    (3, 3, 0, [Some(0), Some(0), Some(0), Some(0)]),
-    (3, 3, 3, [Some(3), None, Some(3), None]),
-    (4, 3, 0, [Some(0), Some(0), Some(0), Some(0)]),
-    (4, 3, 3, [Some(3), None, None, None]),
-    (5, 3, 0, [Some(0), Some(0), None, Some(0)]),
-    (1, 4, 0, [None, Some(0), Some(0), Some(0)]),
-    (2, 4, 0, [Some(0), Some(0), Some(0), Some(0)]),
-    (3, 4, 0, [Some(0), Some(0), Some(0), Some(0)]),
-    (4, 4, 0, [Some(0), Some(0), Some(0), Some(0)]),
-    (5, 4, 0, [Some(0), Some(0), None, Some(0)]),
-    (1, 5, 0, [None, None, Some(0), Some(0)]),
-    (2, 5, 0, [Some(0), None, Some(0), Some(0)]),
-    (3, 5, 0, [Some(0), None, Some(0), Some(0)]),
-    (4, 5, 0, [Some(0), None, Some(0), Some(0)]),
-    (5, 5, 0, [Some(0), None, None, Some(0)]),
+    (1, 1, 0, NO, 0, 0, NO),
+    (2, 1, 0, 0, 0, 0, NO),
+    (3, 1, 0, 0, 0, 0, NO),
+    (4, 1, 0, 0, 0, 0, NO),
+    (5, 1, 0, 0, 0, NO, NO),
+    (1, 2, 0, NO, 0, 0, 0),
+    (2, 2, 0, 0, 0, 0, 0),
+    (3, 2, 0, 0, 0, 0, 0),
+    (4, 2, 0, 0, 0, 0, 0),
+    (5, 2, 0, 0, 0, NO, 0),
+    (1, 3, 0, NO, 0, 0, 0),
+    (2, 3, 0, 0, 0, 0, 0),
+    (2, 3, 3, NO, NO, 3, NO),
+    (3, 3, 0, 0, 0, 0, 0),
+    (3, 3, 3, 3, NO, 3, NO),
+    (4, 3, 0, 0, 0, 0, 0),
+    (4, 3, 3, 3, NO, NO, NO),
+    (5, 3, 0, 0, 0, NO, 0),
+    (1, 4, 0, NO, 0, 0, 0),
+    (2, 4, 0, 0, 0, 0, 0),
+    (3, 4, 0, 0, 0, 0, 0),
+    (4, 4, 0, 0, 0, 0, 0),
+    (5, 4, 0, 0, 0, NO, 0),
+    (1, 5, 0, NO, NO, 0, 0),
+    (2, 5, 0, 0, NO, 0, 0),
+    (3, 5, 0, 0, NO, 0, 0),
+    (4, 5, 0, 0, NO, 0, 0),
+    (5, 5, 0, 0, NO, NO, 0),
 ];
 
 fn field(alloc: Global) -> Result<CompactField, AllocError>
@@ -52,37 +52,60 @@ fn field(alloc: Global) -> Result<CompactField, AllocError>
     })
 }
 
-/// A place as x, z and level.
-type Place = (u32, u32, u32);
+/// The middle cell, which alone is kept for a radius of 2: the corner (2, 2) is one step from the boundary, (3, 3) is two.
+const MIDDLE: CellRef = CellRef {
+    x: 3,
+    z: 3,
+    level: 0,
+};
 
-/// Whether cells are those at places.
-fn are_at(cells: &[CellRef], places: &[Place]) -> bool {
-    if cells.len() != places.len() {
-        return false;
-    }
-    for (cell, place) in cells.iter().zip(places.iter()) {
-        if (cell.x, cell.z, cell.level) != *place {
-            return false;
-        }
-    }
-    true
-}
+/// The cell of the bridge over the middle one.
+const BRIDGE: CellRef = CellRef { level: 3, ..MIDDLE };
+
+const LEFT_BELOW: CellRef = CellRef {
+    x: 2,
+    z: 2,
+    ..MIDDLE
+};
+
+const MIDDLE_BELOW: CellRef = CellRef { z: 2, ..MIDDLE };
+
+const RIGHT_BELOW: CellRef = CellRef {
+    x: 4,
+    z: 2,
+    ..MIDDLE
+};
+
+const LEFT_BESIDE: CellRef = CellRef { x: 2, ..MIDDLE };
+
+const RIGHT_BESIDE: CellRef = CellRef { x: 4, ..MIDDLE };
+
+const LEFT_ABOVE: CellRef = CellRef {
+    x: 2,
+    z: 4,
+    ..MIDDLE
+};
+
+const MIDDLE_ABOVE: CellRef = CellRef { z: 4, ..MIDDLE };
+
+const RIGHT_ABOVE: CellRef = CellRef {
+    x: 4,
+    z: 4,
+    ..MIDDLE
+};
 
 /// The cells with four connections, which are kept for a radius of 1.
-const INNER: [Place; 9] = [
-    (2, 2, 0),
-    (3, 2, 0),
-    (4, 2, 0),
-    (2, 3, 0),
-    (3, 3, 0),
-    (4, 3, 0),
-    (2, 4, 0),
-    (3, 4, 0),
-    (4, 4, 0),
+const INNER: [CellRef; 9] = [
+    LEFT_BELOW,
+    MIDDLE_BELOW,
+    RIGHT_BELOW,
+    LEFT_BESIDE,
+    MIDDLE,
+    RIGHT_BESIDE,
+    LEFT_ABOVE,
+    MIDDLE_ABOVE,
+    RIGHT_ABOVE,
 ];
-
-/// The middle cell, which alone is kept for a radius of 2: (2, 2) is one step from the boundary, (3, 3) is two.
-const MIDDLE: Place = (3, 3, 0);
 
 /// A radius, and how many cells are kept.
 const COUNTS: [(u32, usize); 5] = [(0, 28), (1, 9), (2, 1), (3, 0), (u32::MAX, 0)];
@@ -133,11 +156,11 @@ fn keeps(
     alloc: Global,
     field: &CompactField,
     radius: u32,
-    wanted: &[Place],
+    wanted: &[CellRef],
 ) -> Result<bool, AllocError>
     requires { IsCompact field.now.cells }
 {
-    Ok(are_at(&erode(alloc, field, radius)?, wanted))
+    Ok(erode(alloc, field, radius)?.as_slice() == wanted)
 }
 
 const ALL: Window = Window {
@@ -185,16 +208,16 @@ const EMPTY: Window = Window {
 };
 
 /// A window, a radius, and the cells of the window that are kept.
-type Kept = (Window, u32, &'static [Place]);
+type Kept = (Window, u32, &'static [CellRef]);
 
 const WINDOWS: [Kept; 15] = [
     (ALL, 1, &INNER),
     (ALL, 2, &[MIDDLE]),
     (ALL, u32::MAX, &[]),
-    (COLUMN, 1, &[(2, 2, 0), (2, 3, 0), (2, 4, 0)]),
-    (ROW, 1, &[(2, 4, 0), (3, 4, 0), (4, 4, 0)]),
+    (COLUMN, 1, &[LEFT_BELOW, LEFT_BESIDE, LEFT_ABOVE]),
+    (ROW, 1, &[LEFT_ABOVE, MIDDLE_ABOVE, RIGHT_ABOVE]),
     (ROW, 2, &[]),
-    (ONE_COLUMN, 0, &[MIDDLE, (3, 3, 3)]),
+    (ONE_COLUMN, 0, &[MIDDLE, BRIDGE]),
     (ONE_COLUMN, 1, &[MIDDLE]),
     (ONE_COLUMN, 2, &[MIDDLE]),
     (ONE_COLUMN, 3, &[]),
@@ -209,7 +232,7 @@ const WINDOWS: [Kept; 15] = [
 fn keeps_in_window(alloc: Global, field: &CompactField, row: &Kept) -> Result<bool, AllocError>
     requires { IsCompact field.now.cells }
 {
-    Ok(are_at(&erode_window(alloc, field, row.0, row.1)?, row.2))
+    Ok(erode_window(alloc, field, row.0, row.1)?.as_slice() == row.2)
 }
 
 fn check_windows(
