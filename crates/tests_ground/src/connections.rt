@@ -5,8 +5,9 @@ ghost use Rattle.nav_ground.specs.Fields.{IsField, AreAreas};
 ghost use Rattle.nav_ground.specs.Cells.{IsCompact};
 
 use crate::checks::same;
+use crate::rows::{CellRow, NO, check_cells, place};
 use compact_layer::{CompactField, compact, neighbour};
-use nav_ground::{Agent, Cell, CellRef, Field, Span};
+use nav_ground::{Agent, Field, Span};
 use nav_list::{Duplicate, Items};
 use std::alloc::{AllocError, Global};
 use std::process::Abort;
@@ -101,19 +102,16 @@ const AGENT: Agent = Agent {
     radius: 0,
 };
 
-/// Place, floor, ceiling, area, and levels in the four directions.
-type Row = ((u32, u32, u32), (u32, u32, u32), [Option<u32>; 4]);
-
-const ROWS: [Row; 9] = [
-    ((0, 0, 0), (10, 65535, 63), [None, Some(0), Some(0), None]),
-    ((1, 0, 0), (14, 65535, 5), [Some(0), None, None, None]),
-    ((2, 0, 0), (10, 20, 63), [None, Some(0), None, None]),
-    ((0, 1, 0), (10, 30, 63), [None, None, None, Some(0)]),
-    ((0, 1, 1), (40, 65535, 63), [None, None, Some(1), None]),
-    ((1, 1, 0), (10, 19, 63), [None, None, None, None]),
-    ((1, 1, 1), (40, 65535, 63), [Some(1), None, None, None]),
-    ((2, 1, 0), (10, 30, 63), [None, None, None, Some(0)]),
-    ((2, 1, 1), (45, 65535, 63), [None, None, None, None]),
+const ROWS: [CellRow; 9] = [
+    ((0, 0, 0), (10, 65535, 63), (NO, 0, 0, NO)),
+    ((1, 0, 0), (14, 65535, 5), (0, NO, NO, NO)),
+    ((2, 0, 0), (10, 20, 63), (NO, 0, NO, NO)),
+    ((0, 1, 0), (10, 30, 63), (NO, NO, NO, 0)),
+    ((0, 1, 1), (40, 65535, 63), (NO, NO, 1, NO)),
+    ((1, 1, 0), (10, 19, 63), (NO, NO, NO, NO)),
+    ((1, 1, 1), (40, 65535, 63), (1, NO, NO, NO)),
+    ((2, 1, 0), (10, 30, 63), (NO, NO, NO, 0)),
+    ((2, 1, 1), (45, 65535, 63), (NO, NO, NO, NO)),
 ];
 
 fn field(alloc: Global) -> Result<Field, AllocError>
@@ -125,26 +123,6 @@ fn field(alloc: Global) -> Result<Field, AllocError>
         depth: 2,
         spans: Items::from_vec(Vec::from_array(alloc, SPANS)?),
     })
-}
-
-fn place(at: (u32, u32, u32)) -> CellRef {
-    CellRef {
-        x: at.0,
-        z: at.1,
-        level: at.2,
-    }
-}
-
-fn check_cells(rt: &impl Abort, cells: &[Cell], rows: &[Row]) {
-    same(rt, cells.len(), rows.len());
-    for (cell, row) in cells.iter().zip(rows.iter()) {
-        let heights = (cell.floor, cell.ceiling, cell.area);
-        same(
-            rt,
-            (cell.at, heights, cell.next),
-            (place(row.0), row.1, row.2),
-        );
-    }
 }
 
 /// The number of a cell, a direction, and the place of its neighbour there.
@@ -179,12 +157,23 @@ fn check_copy(rt: &impl Abort, alloc: Global, cells: &CompactField) -> Result<()
     Ok(())
 }
 
+fn check(rt: &impl Abort, alloc: Global, compact: &CompactField) -> Result<(), AllocError>
+    requires { IsCompact compact.now.cells }
+{
+    check_cells(rt, compact.cells.as_slice(), &ROWS);
+    check_neighbours(rt, compact, &NEIGHBOURS);
+    check_copy(rt, alloc, compact)
+}
+
+fn connected(alloc: Global) -> Result<CompactField, AllocError>
+    ensures { IfOk result (λ compact. IsCompact compact.cells) }
+{
+    let field = field(alloc)?;
+    compact(alloc, &field, &BESIDE, &AGENT)
+}
+
 #[test]
 fn bridge(rt: HostRuntime) -> Result<(), AllocError> {
-    let alloc = rt.alloc();
-    let field = field(alloc)?;
-    let cells = compact(alloc, &field, &BESIDE, &AGENT)?;
-    check_cells(&rt, cells.cells.as_slice(), &ROWS);
-    check_neighbours(&rt, &cells, &NEIGHBOURS);
-    check_copy(&rt, alloc, &cells)
+    let compact = connected(rt.alloc())?;
+    check(&rt, rt.alloc(), &compact)
 }

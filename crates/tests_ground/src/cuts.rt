@@ -1,8 +1,9 @@
 //! Square fields cut by hand: flat but for a few spans over the column (2, 2), so that every layer can be said by its floors.
 
-ghost use Rattle.std.specs.Prelude.{◌≡◌, ◌≤◌, IfOk};
+ghost use Rattle.std.specs.Prelude.{◌≡◌, ◌<◌, ◌≤◌, IfOk, IsTrue};
 ghost use Rattle.nav_ground.specs.Grounds.{IsBuiltFor, IsGround};
 ghost use Rattle.nav_ground.specs.Limits.{IsSetting};
+ghost use Rattle.nav_ground.specs.Tiling.{tile_count};
 
 use crate::checks::same;
 use crate::rules::keeps_rules;
@@ -14,6 +15,16 @@ use nav_list::Items;
 use std::alloc::{AllocError, Global};
 use std::process::Abort;
 
+/// What stands on or hangs over the floor of the column (2, 2).
+#[derive(Clone, Copy)]
+enum Over {
+    Nothing,
+    Step,
+    TwoSteps,
+    Beam,
+    LowBeam,
+}
+
 /// A square field with its floor at height 10 and spans over it, the tiles and the agent's radius, and what the cells are to be:
 /// none in so many columns along the edge, one of its own height over the column (2, 2), and one at height 10 over each other column.
 #[derive(Clone, Copy)]
@@ -21,7 +32,7 @@ struct Case {
     side: u32,
     tile: u32,
     radius: u32,
-    over: [Option<Span>; 2],
+    over: Over,
     edge: u32,
     height: u32,
 }
@@ -52,6 +63,16 @@ const LOW_BEAM: Span = Span {
     top: 22,
     ..STEP
 };
+
+fn spans_over(over: Over) -> &'static [Span] {
+    match over {
+        Over::Nothing => &[],
+        Over::Step => &[STEP],
+        Over::TwoSteps => &[STEP, NEXT_STEP],
+        Over::Beam => &[BEAM],
+        Over::LowBeam => &[LOW_BEAM],
+    }
+}
 
 fn setting_of(case: &Case) -> Setting
     requires side { (1 ≤ case.now.side) × (case.now.side ≤ 16) }
@@ -95,13 +116,7 @@ fn field_of(alloc: Global, case: &Case) -> Result<Field, AllocError>
             area: 63,
         })?;
         if x == 2 && z == 2 {
-            let [first, second] = case.over;
-            if let Some(span) = first {
-                spans.push(span)?;
-            }
-            if let Some(span) = second {
-                spans.push(span)?;
-            }
+            spans.extend_from_slice(spans_over(case.over))?;
         }
     }
     Ok(Field {
@@ -136,9 +151,10 @@ fn at_ground(x: u32, z: u32) -> CellRef {
     CellRef { x, z, level: 0 }
 }
 
+/// The cell is as wanted.
 fn check_cell(rt: &impl Abort, case: &Case, cell: &Cell) {
     let (x, z) = (cell.at.x, cell.at.z);
-    assert!(rt; 0 < x && x < 1024 && 0 < z && z < 1024);
+    assert!(rt; is_inside(x) && is_inside(z));
     let next = [
         level_wanted(case, x - 1, z),
         level_wanted(case, x, z + 1),
@@ -151,6 +167,13 @@ fn check_cell(rt: &impl Abort, case: &Case, cell: &Cell) {
         (cell.at, said),
         (at_ground(x, z), (floor_wanted(case, x, z), 63, next)),
     );
+}
+
+/// Whether a column is not the first, and not past the last that a field can have.
+fn is_inside(column: u32) -> bool
+    ensures { IsTrue result → (0 < column) × (column < 1024) }
+{
+    0 < column && column < 1024
 }
 
 /// How many columns have a cell.
@@ -170,15 +193,35 @@ fn cells_in(layers: &[Layer]) -> usize {
     cells
 }
 
+/// Whether a cell lies in a tile.
+fn is_in(setting: &Setting, tile: TileNo, cell: &Cell) -> bool
+    requires { IsSetting setting.now }
+{
+    let CellRef { x, z, level: _ } = cell.at;
+    x < setting.width && z < setting.depth && tile_of(setting, x, z) == tile
+}
+
 /// The cells of a tile are as wanted, and lie in it.
 fn check_cells(rt: &impl Abort, case: &Case, setting: &Setting, tile: TileNo, cells: &[Cell])
     requires { IsSetting setting.now }
 {
     for cell in cells {
         check_cell(rt, case, cell);
-        assert!(rt; cell.at.x < setting.width && cell.at.z < setting.depth);
-        same(rt, tile_of(setting, cell.at.x, cell.at.z), tile);
+        assert!(rt; is_in(setting, tile, cell));
     }
+}
+
+/// Whether the layer of a tile alone is the one that is there.
+fn is_cut_alone(
+    alloc: Global,
+    whole: &Ground,
+    tile: TileNo,
+    there: &Layer,
+) -> Result<bool, AllocError>
+    requires whole { IsGround whole.now }
+    requires tile { tile < tile_count whole.now.setting }
+{
+    Ok(layer(alloc, &whole.field, &whole.setting, tile)? == *there)
 }
 
 /// There is a layer for each tile, as wanted, and the layer of that tile alone is the same.
@@ -195,11 +238,23 @@ fn check_layers(
     assert!(rt; layers.len() == tiles(setting) as usize);
     for tile in 0..tiles(setting) {
         let there = &layers[tile as usize];
-        same(rt, there.tile, tile);
+        assert!(rt; there.tile == tile);
         check_cells(rt, case, setting, tile, there.cells.as_slice());
-        assert!(rt; layer(alloc, &whole.field, setting, tile)? == *there);
+        assert!(rt; is_cut_alone(alloc, whole, tile, there)?);
     }
     Ok(())
+}
+
+/// The ground that a case is about.
+fn ground_of(rt: &impl Abort, alloc: Global, case: &Case) -> Result<Ground, AllocError>
+    requires side { (1 ≤ case.now.side) × (case.now.side ≤ 16) }
+    requires tile { (4 ≤ case.now.tile) × (case.now.tile ≤ 16) }
+    requires radius { case.now.radius ≤ 15 }
+    ensures { IfOk result IsGround }
+{
+    let field = field_of(alloc, case)?;
+    assert!(rt; keeps_rules(&field));
+    ground(alloc, setting_of(case), field)
 }
 
 fn check(rt: &impl Abort, alloc: Global, case: &Case) -> Result<(), AllocError>
@@ -207,10 +262,7 @@ fn check(rt: &impl Abort, alloc: Global, case: &Case) -> Result<(), AllocError>
     requires tile { (4 ≤ case.now.tile) × (case.now.tile ≤ 16) }
     requires radius { case.now.radius ≤ 15 }
 {
-    let setting = setting_of(case);
-    let field = field_of(alloc, case)?;
-    assert!(rt; keeps_rules(&field));
-    let whole = ground(alloc, setting, field)?;
+    let whole = ground_of(rt, alloc, case)?;
     same(rt, cells_in(whole.layers.as_slice()), cells_wanted(case));
     check_layers(rt, alloc, case, &whole)
 }
@@ -219,7 +271,7 @@ const FLAT: Case = Case {
     side: 6,
     tile: 6,
     radius: 0,
-    over: [None, None],
+    over: Over::Nothing,
     edge: 1,
     height: 10,
 };
@@ -233,22 +285,22 @@ const CASES: [Case; 7] = [
     },
     // A low step takes the area of the floor under it, and one on top of it does not.
     Case {
-        over: [Some(STEP), None],
+        over: Over::Step,
         height: 12,
         ..FLAT
     },
     Case {
-        over: [Some(STEP), Some(NEXT_STEP)],
+        over: Over::TwoSteps,
         height: 0,
         ..FLAT
     },
     // The agent fits under a beam of its own height, and not under one that is lower.
     Case {
-        over: [Some(BEAM), None],
+        over: Over::Beam,
         ..FLAT
     },
     Case {
-        over: [Some(LOW_BEAM), None],
+        over: Over::LowBeam,
         height: 0,
         ..FLAT
     },
@@ -270,10 +322,18 @@ const CASES: [Case; 7] = [
     },
 ];
 
+/// Whether a case is small enough.
+fn is_small(case: &Case) -> bool
+    ensures side { IsTrue result → (1 ≤ case.now.side) × (case.now.side ≤ 16) }
+    ensures tile { IsTrue result → (4 ≤ case.now.tile) × (case.now.tile ≤ 16) }
+    ensures radius { IsTrue result → case.now.radius ≤ 15 }
+{
+    1 <= case.side && case.side <= 16 && 4 <= case.tile && case.tile <= 16 && case.radius <= 15
+}
+
 fn check_all(rt: &impl Abort, alloc: Global, cases: &[Case]) -> Result<(), AllocError> {
     for case in cases {
-        assert!(rt; 1 <= case.side && case.side <= 16);
-        assert!(rt; 4 <= case.tile && case.tile <= 16 && case.radius <= 15);
+        assert!(rt; is_small(case));
         check(rt, alloc, case)?;
     }
     Ok(())

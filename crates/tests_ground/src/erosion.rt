@@ -4,7 +4,7 @@ ghost use Rattle.std.specs.Prelude.{IfOk};
 ghost use Rattle.nav_ground.specs.Cells.{IsCompact};
 
 use crate::checks::same;
-use crate::rows::{Row, cells_of};
+use crate::rows::{NO, Row, cells_of};
 use agent_erode::{erode, erode_window, kept_marks};
 use compact_layer::CompactField;
 use nav_ground::{CellRef, Window};
@@ -14,34 +14,34 @@ use std::process::Abort;
 
 /// The columns from (1, 1) to (5, 5) on one level, and over (2, 3), (3, 3) and (4, 3) a bridge that leads nowhere, whose level is 3.
 const ROWS: [Row; 28] = [
-    (1, 1, 0, [None, Some(0), Some(0), None]),
-    (2, 1, 0, [Some(0), Some(0), Some(0), None]),
-    (3, 1, 0, [Some(0), Some(0), Some(0), None]),
-    (4, 1, 0, [Some(0), Some(0), Some(0), None]),
-    (5, 1, 0, [Some(0), Some(0), None, None]),
-    (1, 2, 0, [None, Some(0), Some(0), Some(0)]),
-    (2, 2, 0, [Some(0), Some(0), Some(0), Some(0)]),
-    (3, 2, 0, [Some(0), Some(0), Some(0), Some(0)]),
-    (4, 2, 0, [Some(0), Some(0), Some(0), Some(0)]),
-    (5, 2, 0, [Some(0), Some(0), None, Some(0)]),
-    (1, 3, 0, [None, Some(0), Some(0), Some(0)]),
-    (2, 3, 0, [Some(0), Some(0), Some(0), Some(0)]),
-    (2, 3, 3, [None, None, Some(3), None]),
-    (3, 3, 0, [Some(0), Some(0), Some(0), Some(0)]),
-    (3, 3, 3, [Some(3), None, Some(3), None]),
-    (4, 3, 0, [Some(0), Some(0), Some(0), Some(0)]),
-    (4, 3, 3, [Some(3), None, None, None]),
-    (5, 3, 0, [Some(0), Some(0), None, Some(0)]),
-    (1, 4, 0, [None, Some(0), Some(0), Some(0)]),
-    (2, 4, 0, [Some(0), Some(0), Some(0), Some(0)]),
-    (3, 4, 0, [Some(0), Some(0), Some(0), Some(0)]),
-    (4, 4, 0, [Some(0), Some(0), Some(0), Some(0)]),
-    (5, 4, 0, [Some(0), Some(0), None, Some(0)]),
-    (1, 5, 0, [None, None, Some(0), Some(0)]),
-    (2, 5, 0, [Some(0), None, Some(0), Some(0)]),
-    (3, 5, 0, [Some(0), None, Some(0), Some(0)]),
-    (4, 5, 0, [Some(0), None, Some(0), Some(0)]),
-    (5, 5, 0, [Some(0), None, None, Some(0)]),
+    (1, 1, 0, NO, 0, 0, NO),
+    (2, 1, 0, 0, 0, 0, NO),
+    (3, 1, 0, 0, 0, 0, NO),
+    (4, 1, 0, 0, 0, 0, NO),
+    (5, 1, 0, 0, 0, NO, NO),
+    (1, 2, 0, NO, 0, 0, 0),
+    (2, 2, 0, 0, 0, 0, 0),
+    (3, 2, 0, 0, 0, 0, 0),
+    (4, 2, 0, 0, 0, 0, 0),
+    (5, 2, 0, 0, 0, NO, 0),
+    (1, 3, 0, NO, 0, 0, 0),
+    (2, 3, 0, 0, 0, 0, 0),
+    (2, 3, 3, NO, NO, 3, NO),
+    (3, 3, 0, 0, 0, 0, 0),
+    (3, 3, 3, 3, NO, 3, NO),
+    (4, 3, 0, 0, 0, 0, 0),
+    (4, 3, 3, 3, NO, NO, NO),
+    (5, 3, 0, 0, 0, NO, 0),
+    (1, 4, 0, NO, 0, 0, 0),
+    (2, 4, 0, 0, 0, 0, 0),
+    (3, 4, 0, 0, 0, 0, 0),
+    (4, 4, 0, 0, 0, 0, 0),
+    (5, 4, 0, 0, 0, NO, 0),
+    (1, 5, 0, NO, NO, 0, 0),
+    (2, 5, 0, 0, NO, 0, 0),
+    (3, 5, 0, 0, NO, 0, 0),
+    (4, 5, 0, 0, NO, 0, 0),
+    (5, 5, 0, 0, NO, NO, 0),
 ];
 
 fn field(alloc: Global) -> Result<CompactField, AllocError>
@@ -52,32 +52,83 @@ fn field(alloc: Global) -> Result<CompactField, AllocError>
     })
 }
 
-/// Places as x, z and level.
-fn as_tuples(alloc: Global, places: &[CellRef]) -> Result<Vec<(u32, u32, u32)>, AllocError> {
-    places
-        .iter()
-        .map(|at| (at.x, at.z, at.level))
-        .collect(alloc)
-}
+/// The middle cell, which alone is kept for a radius of 2: the corner (2, 2) is one step from the boundary, (3, 3) is two.
+const MIDDLE: CellRef = CellRef {
+    x: 3,
+    z: 3,
+    level: 0,
+};
+
+/// The cell of the bridge over the middle one.
+const BRIDGE: CellRef = CellRef { level: 3, ..MIDDLE };
+
+const LEFT_BELOW: CellRef = CellRef {
+    x: 2,
+    z: 2,
+    ..MIDDLE
+};
+
+const MIDDLE_BELOW: CellRef = CellRef { z: 2, ..MIDDLE };
+
+const RIGHT_BELOW: CellRef = CellRef {
+    x: 4,
+    z: 2,
+    ..MIDDLE
+};
+
+const LEFT_BESIDE: CellRef = CellRef { x: 2, ..MIDDLE };
+
+const RIGHT_BESIDE: CellRef = CellRef { x: 4, ..MIDDLE };
+
+const LEFT_ABOVE: CellRef = CellRef {
+    x: 2,
+    z: 4,
+    ..MIDDLE
+};
+
+const MIDDLE_ABOVE: CellRef = CellRef { z: 4, ..MIDDLE };
+
+const RIGHT_ABOVE: CellRef = CellRef {
+    x: 4,
+    z: 4,
+    ..MIDDLE
+};
 
 /// The cells with four connections, which are kept for a radius of 1.
-const INNER: [(u32, u32, u32); 9] = [
-    (2, 2, 0),
-    (3, 2, 0),
-    (4, 2, 0),
-    (2, 3, 0),
-    (3, 3, 0),
-    (4, 3, 0),
-    (2, 4, 0),
-    (3, 4, 0),
-    (4, 4, 0),
+const INNER: [CellRef; 9] = [
+    LEFT_BELOW,
+    MIDDLE_BELOW,
+    RIGHT_BELOW,
+    LEFT_BESIDE,
+    MIDDLE,
+    RIGHT_BESIDE,
+    LEFT_ABOVE,
+    MIDDLE_ABOVE,
+    RIGHT_ABOVE,
 ];
-
-/// The middle cell, which alone is kept for a radius of 2: (2, 2) is one step from the boundary, (3, 3) is two.
-const MIDDLE: (u32, u32, u32) = (3, 3, 0);
 
 /// A radius, and how many cells are kept.
 const COUNTS: [(u32, usize); 5] = [(0, 28), (1, 9), (2, 1), (3, 0), (u32::MAX, 0)];
+
+/// How many cells `erode` keeps.
+fn kept_count(alloc: Global, field: &CompactField, radius: u32) -> Result<usize, AllocError>
+    requires { IsCompact field.now.cells }
+{
+    Ok(erode(alloc, field, radius)?.len())
+}
+
+/// How many cells `kept_marks` marks, and whether it marks the middle one.
+fn marked(
+    alloc: Global,
+    field: &CompactField,
+    radius: u32,
+) -> Result<(usize, Option<bool>), AllocError>
+    requires { IsCompact field.now.cells }
+{
+    let marks = kept_marks(alloc, field.cells.as_slice(), radius)?;
+    let count = marks.iter().filter(|mark| **mark).count();
+    Ok((count, marks.get(13).copied()))
+}
 
 fn check_counts(
     rt: &impl Abort,
@@ -88,68 +139,28 @@ fn check_counts(
     requires { IsCompact field.now.cells }
 {
     for (radius, wanted) in rows {
-        let kept = erode(alloc, field, *radius)?;
-        same(rt, (*radius, kept.len()), (*radius, *wanted));
-    }
-    Ok(())
-}
-
-#[test]
-fn keeps_so_many_cells(rt: HostRuntime) -> Result<(), AllocError> {
-    let alloc = rt.alloc();
-    let field = field(alloc)?;
-    check_counts(&rt, alloc, &field, &COUNTS)
-}
-
-fn check_marks(
-    rt: &impl Abort,
-    alloc: Global,
-    field: &CompactField,
-    rows: &[(u32, usize)],
-) -> Result<(), AllocError>
-    requires { IsCompact field.now.cells }
-{
-    for (radius, wanted) in rows {
-        let marks = kept_marks(alloc, field.cells.as_slice(), *radius)?;
-        let count = marks.iter().filter(|mark| **mark).count();
-        let middle = marks.get(13).copied();
+        let count = kept_count(alloc, field, *radius)?;
+        let marked = marked(alloc, field, *radius)?;
+        let middle = Some(*radius < 3);
         same(
             rt,
-            (*radius, count, middle),
-            (*radius, *wanted, Some(*radius < 3)),
+            (*radius, count, marked),
+            (*radius, *wanted, (*wanted, middle)),
         );
     }
     Ok(())
 }
 
-#[test]
-fn marks_so_many_cells(rt: HostRuntime) -> Result<(), AllocError> {
-    let alloc = rt.alloc();
-    let field = field(alloc)?;
-    check_marks(&rt, alloc, &field, &COUNTS)
-}
-
-fn check_kept(
-    rt: &impl Abort,
+/// Whether `erode` keeps the cells at these places.
+fn keeps(
     alloc: Global,
     field: &CompactField,
     radius: u32,
-    wanted: &[(u32, u32, u32)],
-) -> Result<(), AllocError>
+    wanted: &[CellRef],
+) -> Result<bool, AllocError>
     requires { IsCompact field.now.cells }
 {
-    let kept = erode(alloc, field, radius)?;
-    let kept = as_tuples(alloc, &kept)?;
-    same(rt, (radius, kept.as_slice()), (radius, wanted));
-    Ok(())
-}
-
-#[test]
-fn keeps_by_hand(rt: HostRuntime) -> Result<(), AllocError> {
-    let alloc = rt.alloc();
-    let field = field(alloc)?;
-    check_kept(&rt, alloc, &field, 1, &INNER)?;
-    check_kept(&rt, alloc, &field, 2, &[MIDDLE])
+    Ok(erode(alloc, field, radius)?.as_slice() == wanted)
 }
 
 const ALL: Window = Window {
@@ -197,16 +208,16 @@ const EMPTY: Window = Window {
 };
 
 /// A window, a radius, and the cells of the window that are kept.
-type Kept = (Window, u32, &'static [(u32, u32, u32)]);
+type Kept = (Window, u32, &'static [CellRef]);
 
 const WINDOWS: [Kept; 15] = [
     (ALL, 1, &INNER),
     (ALL, 2, &[MIDDLE]),
     (ALL, u32::MAX, &[]),
-    (COLUMN, 1, &[(2, 2, 0), (2, 3, 0), (2, 4, 0)]),
-    (ROW, 1, &[(2, 4, 0), (3, 4, 0), (4, 4, 0)]),
+    (COLUMN, 1, &[LEFT_BELOW, LEFT_BESIDE, LEFT_ABOVE]),
+    (ROW, 1, &[LEFT_ABOVE, MIDDLE_ABOVE, RIGHT_ABOVE]),
     (ROW, 2, &[]),
-    (ONE_COLUMN, 0, &[MIDDLE, (3, 3, 3)]),
+    (ONE_COLUMN, 0, &[MIDDLE, BRIDGE]),
     (ONE_COLUMN, 1, &[MIDDLE]),
     (ONE_COLUMN, 2, &[MIDDLE]),
     (ONE_COLUMN, 3, &[]),
@@ -217,6 +228,13 @@ const WINDOWS: [Kept; 15] = [
     (EMPTY, 1, &[]),
 ];
 
+/// Whether `erode_window` keeps the cells of a row.
+fn keeps_in_window(alloc: Global, field: &CompactField, row: &Kept) -> Result<bool, AllocError>
+    requires { IsCompact field.now.cells }
+{
+    Ok(erode_window(alloc, field, row.0, row.1)?.as_slice() == row.2)
+}
+
 fn check_windows(
     rt: &impl Abort,
     alloc: Global,
@@ -225,21 +243,24 @@ fn check_windows(
 ) -> Result<(), AllocError>
     requires { IsCompact field.now.cells }
 {
-    for (window, radius, wanted) in rows {
-        let kept = erode_window(alloc, field, *window, *radius)?;
-        let kept = as_tuples(alloc, &kept)?;
-        same(
-            rt,
-            (*window, *radius, kept.as_slice()),
-            (*window, *radius, *wanted),
-        );
+    for (number, row) in rows.iter().enumerate() {
+        let is_right = keeps_in_window(alloc, field, row)?;
+        same(rt, (number, is_right), (number, true));
     }
     Ok(())
 }
 
+fn check_all(rt: &impl Abort, alloc: Global, field: &CompactField) -> Result<(), AllocError>
+    requires { IsCompact field.now.cells }
+{
+    check_counts(rt, alloc, field, &COUNTS)?;
+    assert!(rt; keeps(alloc, field, 1, &INNER)?);
+    assert!(rt; keeps(alloc, field, 2, &[MIDDLE])?);
+    check_windows(rt, alloc, field, &WINDOWS)
+}
+
 #[test]
-fn keeps_in_windows(rt: HostRuntime) -> Result<(), AllocError> {
-    let alloc = rt.alloc();
-    let field = field(alloc)?;
-    check_windows(&rt, alloc, &field, &WINDOWS)
+fn keeps_by_hand(rt: HostRuntime) -> Result<(), AllocError> {
+    let field = field(rt.alloc())?;
+    check_all(&rt, rt.alloc(), &field)
 }

@@ -1,6 +1,7 @@
 //! Filters by hand, on fields of 3 by 3 columns: the middle one, which alone is not at the edge, and the four beside it.
 
-ghost use Rattle.std.specs.Prelude.{◌≡◌, IfOk};
+ghost use Rattle.std.specs.Prelude.{◌≡◌, IfOk, IsTrue, length};
+ghost use Rattle.nav_ground.specs.Fields.{IsField, AreAreas};
 
 use crate::checks::same;
 use crate::rules::{are_areas, keeps_rules};
@@ -91,42 +92,17 @@ fn field_of(alloc: Global, spans: &[Span]) -> Result<Field, AllocError>
     })
 }
 
-/// The spans of a field, and the areas that are left.
-type Case = (&'static [Span], &'static [u32]);
-
-/// The spans of a field, the areas beside it, and those that are left.
-type CaseWithAreas = (&'static [Span], &'static [u32], &'static [u32]);
-
-/// Two steps stand on the middle column, one, or a high one.
-const LOW_HANGING: [Case; 3] = [
-    (
-        &[BELOW, LEFT, MIDDLE, STEP, RIGHT, ABOVE],
-        &[63, 63, 63, 63, 63, 63],
-    ),
-    (
-        &[BELOW, LEFT, MIDDLE, STEP, NEXT_STEP, RIGHT, ABOVE],
-        &[63, 63, 63, 63, 0, 63, 63],
-    ),
-    (
-        &[BELOW, LEFT, MIDDLE, HIGH_STEP, RIGHT, ABOVE],
-        &[63, 63, 63, 0, 63, 63],
-    ),
-];
-
-fn check_low_hanging(rt: &impl Abort, alloc: Global, cases: &[Case]) -> Result<(), AllocError> {
-    for (spans, wanted) in cases {
-        let field = field_of(alloc, spans)?;
-        assert!(rt; keeps_rules(&field));
-        let areas = low_hanging(alloc, &field, &AGENT)?;
-        same(rt, (*spans, areas.as_slice()), (*spans, *wanted));
-    }
-    Ok(())
+/// What is asked for: one filter, or all three in a row.
+#[derive(Clone, Copy)]
+enum Asked {
+    LowHanging,
+    Ledges,
+    LowCeilings,
+    Filtered,
 }
 
-#[test]
-fn low_hanging_by_hand(rt: HostRuntime) -> Result<(), AllocError> {
-    check_low_hanging(&rt, rt.alloc(), &LOW_HANGING)
-}
+/// What is asked for, the spans of a field, the areas beside it for the filters that take some, and those that are left.
+type Case = (Asked, &'static [Span], &'static [u32], &'static [u32]);
 
 const LOW_LEFT: Span = Span { top: 6, ..LEFT };
 
@@ -140,110 +116,150 @@ const BRIDGE: Span = Span {
     ..LEFT
 };
 
-/// A floor that is flat enough; one too steep; a drop to the left; a hole there; and a bridge over the drop.
-const LEDGES: [CaseWithAreas; 5] = [
+const CASES: [Case; 14] = [
+    // Two steps stand on the middle column, one, or a high one.
     (
+        Asked::LowHanging,
+        &[BELOW, LEFT, MIDDLE, STEP, RIGHT, ABOVE],
+        &[],
+        &[63, 63, 63, 63, 63, 63],
+    ),
+    (
+        Asked::LowHanging,
+        &[BELOW, LEFT, MIDDLE, STEP, NEXT_STEP, RIGHT, ABOVE],
+        &[],
+        &[63, 63, 63, 63, 0, 63, 63],
+    ),
+    (
+        Asked::LowHanging,
+        &[BELOW, LEFT, MIDDLE, HIGH_STEP, RIGHT, ABOVE],
+        &[],
+        &[63, 63, 63, 0, 63, 63],
+    ),
+    // A floor that is flat enough; one too steep; a drop to the left; a hole there; and a bridge over the drop.
+    (
+        Asked::Ledges,
         &[BELOW, LOW_LEFT, MIDDLE, RIGHT, ABOVE],
         &[1, 2, 3, 4, 5],
         &[0, 0, 3, 0, 0],
     ),
     (
+        Asked::Ledges,
         &[BELOW, LOW_LEFT, MIDDLE, HIGH_RIGHT, ABOVE],
         &[1, 2, 3, 4, 5],
         &[0, 0, 0, 0, 0],
     ),
     (
+        Asked::Ledges,
         &[BELOW, DEEP_LEFT, MIDDLE, RIGHT, ABOVE],
         &[1, 2, 3, 4, 5],
         &[0, 0, 0, 0, 0],
     ),
-    (&[BELOW, MIDDLE, RIGHT, ABOVE], &[1, 3, 4, 5], &[0, 0, 0, 0]),
     (
+        Asked::Ledges,
+        &[BELOW, MIDDLE, RIGHT, ABOVE],
+        &[1, 3, 4, 5],
+        &[0, 0, 0, 0],
+    ),
+    (
+        Asked::Ledges,
         &[BELOW, DEEP_LEFT, BRIDGE, MIDDLE, RIGHT, ABOVE],
         &[1, 2, 2, 3, 4, 5],
         &[0, 0, 0, 3, 0, 0],
     ),
-];
-
-fn check_ledges(rt: &impl Abort, alloc: Global, cases: &[CaseWithAreas]) -> Result<(), AllocError> {
-    for (spans, areas, wanted) in cases {
-        let field = field_of(alloc, spans)?;
-        assert!(rt; keeps_rules(&field) && are_areas(areas) && areas.len() == spans.len());
-        let left = ledges(alloc, &field, areas, &AGENT)?;
-        same(rt, (*spans, left.as_slice()), (*spans, *wanted));
-    }
-    Ok(())
-}
-
-#[test]
-fn ledges_by_hand(rt: HostRuntime) -> Result<(), AllocError> {
-    check_ledges(&rt, rt.alloc(), &LEDGES)
-}
-
-/// A roof as high as the agent, and one that is lower.
-const LOW_CEILINGS: [CaseWithAreas; 2] = [
+    // A roof as high as the agent, and one that is lower.
     (
+        Asked::LowCeilings,
         &[BELOW, LEFT, MIDDLE, ROOF, RIGHT, ABOVE],
         &[1, 2, 3, 4, 5, 6],
         &[1, 2, 3, 4, 5, 6],
     ),
     (
+        Asked::LowCeilings,
         &[BELOW, LEFT, MIDDLE, LOW_ROOF, RIGHT, ABOVE],
         &[1, 2, 3, 4, 5, 6],
         &[1, 2, 0, 4, 5, 6],
     ),
-];
-
-fn check_ceilings(
-    rt: &impl Abort,
-    alloc: Global,
-    cases: &[CaseWithAreas],
-) -> Result<(), AllocError> {
-    for (spans, areas, wanted) in cases {
-        let field = field_of(alloc, spans)?;
-        assert!(rt; keeps_rules(&field) && are_areas(areas) && areas.len() == spans.len());
-        let left = low_ceilings(alloc, &field, areas, &AGENT)?;
-        same(rt, (*spans, left.as_slice()), (*spans, *wanted));
-    }
-    Ok(())
-}
-
-#[test]
-fn ceilings_by_hand(rt: HostRuntime) -> Result<(), AllocError> {
-    check_ceilings(&rt, rt.alloc(), &LOW_CEILINGS)
-}
-
-/// All three filters, on a step, two steps, a room and a low room.
-const FILTERED: [Case; 4] = [
+    // All three filters, on a step, two steps, a room and a low room.
     (
+        Asked::Filtered,
         &[BELOW, LEFT, MIDDLE, STEP, RIGHT, ABOVE],
+        &[],
         &[0, 0, 0, 63, 0, 0],
     ),
     (
+        Asked::Filtered,
         &[BELOW, LEFT, MIDDLE, STEP, NEXT_STEP, RIGHT, ABOVE],
+        &[],
         &[0, 0, 0, 0, 0, 0, 0],
     ),
     (
+        Asked::Filtered,
         &[BELOW, LEFT, MIDDLE, ROOF, RIGHT, ABOVE],
+        &[],
         &[0, 0, 63, 0, 0, 0],
     ),
     (
+        Asked::Filtered,
         &[BELOW, LEFT, MIDDLE, LOW_ROOF, RIGHT, ABOVE],
+        &[],
         &[0, 0, 0, 0, 0, 0],
     ),
 ];
 
-fn check_filtered(rt: &impl Abort, alloc: Global, cases: &[Case]) -> Result<(), AllocError> {
-    for (spans, wanted) in cases {
-        let field = field_of(alloc, spans)?;
-        assert!(rt; keeps_rules(&field));
-        let areas = filtered(alloc, &field, &AGENT)?;
-        same(rt, (*spans, areas.as_slice()), (*spans, *wanted));
+/// Whether areas may stand beside a field.
+fn are_beside(field: &Field, areas: &[u32]) -> bool
+    ensures areas { IsTrue result → AreAreas areas.now }
+    ensures beside { IsTrue result → length areas.now ≡ length field.now.spans }
+{
+    are_areas(areas) && areas.len() == field.spans.len()
+}
+
+/// What is left of the areas of a field, or of those beside it.
+fn left(
+    rt: &impl Abort,
+    alloc: Global,
+    asked: Asked,
+    field: &Field,
+    areas: &[u32],
+) -> Result<Vec<u32>, AllocError>
+    requires { IsField field.now }
+{
+    match asked {
+        Asked::LowHanging => low_hanging(alloc, field, &AGENT),
+        Asked::Ledges => {
+            assert!(rt; are_beside(field, areas));
+            ledges(alloc, field, areas, &AGENT)
+        }
+        Asked::LowCeilings => {
+            assert!(rt; are_beside(field, areas));
+            low_ceilings(alloc, field, areas, &AGENT)
+        }
+        Asked::Filtered => filtered(alloc, field, &AGENT),
+    }
+}
+
+/// Whether a field keeps its rules, and just the areas wanted are left.
+fn leaves(rt: &impl Abort, alloc: Global, field: &Field, case: &Case) -> Result<bool, AllocError> {
+    let (asked, _, areas, wanted) = *case;
+    assert!(rt; keeps_rules(field));
+    Ok(left(rt, alloc, asked, field, areas)?.as_slice() == wanted)
+}
+
+fn is_right(rt: &impl Abort, alloc: Global, case: &Case) -> Result<bool, AllocError> {
+    let field = field_of(alloc, case.1)?;
+    leaves(rt, alloc, &field, case)
+}
+
+fn check(rt: &impl Abort, alloc: Global, cases: &[Case]) -> Result<(), AllocError> {
+    for (number, case) in cases.iter().enumerate() {
+        let is_right = is_right(rt, alloc, case)?;
+        same(rt, (number, is_right), (number, true));
     }
     Ok(())
 }
 
 #[test]
-fn filtered_by_hand(rt: HostRuntime) -> Result<(), AllocError> {
-    check_filtered(&rt, rt.alloc(), &FILTERED)
+fn filters_by_hand(rt: HostRuntime) -> Result<(), AllocError> {
+    check(&rt, rt.alloc(), &CASES)
 }

@@ -5,7 +5,8 @@ ghost use Rattle.nav_ground.specs.Limits.{IsShape};
 ghost use Rattle.nav_ground.specs.Cells.{IsCut};
 
 use crate::checks::same;
-use nav_ground::{Cell, CellRef, Layer, Shape};
+use crate::rows::{CellRow, NO, check_cells};
+use nav_ground::{Cell, CellRef, FreeLayer, Layer, Shape};
 use nav_list::Items;
 use obstacle_mark::mark;
 use std::alloc::{AllocError, Global};
@@ -74,21 +75,24 @@ fn layer(alloc: Global) -> Result<Layer, AllocError>
     })
 }
 
+fn marked(alloc: Global, shapes: &[Shape]) -> Result<FreeLayer, AllocError>
+    requires { All IsShape shapes.now }
+{
+    let layer = layer(alloc)?;
+    mark(alloc, &layer, shapes)
+}
+
 fn check(
     rt: &impl Abort,
     alloc: Global,
     shapes: &[Shape],
-    wanted: &[Cell],
+    wanted: &[CellRow],
 ) -> Result<(), AllocError>
     requires { All IsShape shapes.now }
 {
-    let layer = layer(alloc)?;
-    let free = mark(alloc, &layer, shapes)?;
-    same(
-        rt,
-        (free.tile, shapes, free.cells.as_slice()),
-        (5, shapes, wanted),
-    );
+    let free = marked(alloc, shapes)?;
+    same(rt, free.tile, 5);
+    check_cells(rt, free.cells.as_slice(), wanted);
     Ok(())
 }
 
@@ -142,67 +146,57 @@ const POND: Shape = Shape::AreaCylinder {
     y1: 6,
 };
 
-/// What is left beside the corner.
-const SECOND_LEFT: Cell = Cell {
-    next: [None, Some(0), Some(7), None],
-    ..SECOND
-};
-
-const THIRD_LEFT: Cell = Cell {
-    next: [None, None, Some(0), None],
-    ..THIRD
-};
-
-const BESIDE_CORNER: [Cell; 3] = [SECOND_LEFT, THIRD_LEFT, FOURTH];
-
-/// What is left beside the disc.
-const BESIDE_DISC: [Cell; 2] = [
-    Cell {
-        next: [None, Some(0), None, None],
-        ..FIRST
-    },
-    Cell {
-        next: [None, None, None, Some(0)],
-        ..THIRD
-    },
+/// All four cells.
+const WHOLE: [CellRow; 4] = [
+    ((1, 1, 0), (3, 65535, 63), (NO, 0, 0, NO)),
+    ((2, 1, 0), (4, 65535, 63), (0, 0, 7, NO)),
+    ((1, 2, 0), (5, 65535, 63), (NO, NO, 0, 0)),
+    ((2, 2, 0), (6, 65535, 63), (0, NO, NO, 0)),
 ];
 
-/// The third cell alone, in mud.
-const ALONE: Cell = Cell {
-    area: 5,
-    next: [None; 4],
-    ..THIRD
-};
+/// What is left beside the corner.
+const BESIDE_CORNER: [CellRow; 3] = [
+    ((2, 1, 0), (4, 65535, 63), (NO, 0, 7, NO)),
+    ((1, 2, 0), (5, 65535, 63), (NO, NO, 0, NO)),
+    ((2, 2, 0), (6, 65535, 63), (0, NO, NO, 0)),
+];
+
+/// What is left beside the disc.
+const BESIDE_DISC: [CellRow; 2] = [
+    ((1, 1, 0), (3, 65535, 63), (NO, 0, NO, NO)),
+    ((1, 2, 0), (5, 65535, 63), (NO, NO, NO, 0)),
+];
 
 #[test]
 fn leaves_what_stands_free(rt: HostRuntime) -> Result<(), AllocError> {
     let alloc = rt.alloc();
-    check(&rt, alloc, &[], &CELLS)?;
-    check(&rt, alloc, &[TOO_LOW], &CELLS)?;
+    check(&rt, alloc, &[], &WHOLE)?;
+    check(&rt, alloc, &[TOO_LOW], &WHOLE)?;
     check(&rt, alloc, &[CORNER], &BESIDE_CORNER)?;
     check(&rt, alloc, &[DISC], &BESIDE_DISC)
 }
 
-/// A cell with another area.
-fn with_area(area: u32, cell: Cell) -> Cell {
-    Cell { area, ..cell }
-}
+/// The cells beside the corner, of which the last two lie in the pond.
+const MUDDY: [CellRow; 3] = [
+    ((2, 1, 0), (4, 65535, 5), (NO, 0, 7, NO)),
+    ((1, 2, 0), (5, 65535, 9), (NO, NO, 0, NO)),
+    ((2, 2, 0), (6, 65535, 9), (0, NO, NO, 0)),
+];
+
+/// The same, all in mud.
+const ALL_MUD: [CellRow; 3] = [
+    ((2, 1, 0), (4, 65535, 5), (NO, 0, 7, NO)),
+    ((1, 2, 0), (5, 65535, 5), (NO, NO, 0, NO)),
+    ((2, 2, 0), (6, 65535, 5), (0, NO, NO, 0)),
+];
+
+/// The third cell alone, in mud.
+const ALONE: [CellRow; 1] = [((1, 2, 0), (5, 65535, 5), (NO, NO, NO, NO))];
 
 #[test]
 fn sets_the_last_area(rt: HostRuntime) -> Result<(), AllocError> {
     let alloc = rt.alloc();
-    let [second, third, fourth] = BESIDE_CORNER;
-    let muddy = [
-        with_area(5, second),
-        with_area(9, third),
-        with_area(9, fourth),
-    ];
-    check(&rt, alloc, &[MUD, POND, CORNER], &muddy)?;
-    let all_mud = [
-        with_area(5, second),
-        with_area(5, third),
-        with_area(5, fourth),
-    ];
-    check(&rt, alloc, &[POND, CORNER, MUD], &all_mud)?;
-    check(&rt, alloc, &[DISC, CORNER, MUD], &[ALONE])
+    check(&rt, alloc, &[MUD, POND, CORNER], &MUDDY)?;
+    check(&rt, alloc, &[POND, CORNER, MUD], &ALL_MUD)?;
+    check(&rt, alloc, &[DISC, CORNER, MUD], &ALONE)
 }

@@ -4,7 +4,7 @@ ghost use Rattle.std.specs.Prelude.{IfOk};
 ghost use Rattle.nav_ground.specs.Cells.{IsCells};
 
 use crate::checks::same;
-use crate::rows::{Row, cells_of};
+use crate::rows::{NO, Row, cells_of};
 use cell_table::neighbour_table;
 use nav_ground::Cell;
 use std::alloc::{AllocError, Global};
@@ -12,11 +12,11 @@ use std::test::Fail;
 
 /// Levels with gaps, two levels of one column, a name of a cell that is not there, and columns at the field's corner.
 const ROWS: [Row; 5] = [
-    (0, 0, 2, [None, None, Some(7), None]),
-    (1, 0, 0, [None, Some(4), None, None]),
-    (1, 0, 7, [Some(2), Some(1), Some(0), None]),
-    (1, 1, 4, [None, None, None, Some(0)]),
-    (1, 1, 9, [Some(0), None, None, Some(9)]),
+    (0, 0, 2, NO, NO, 7, NO),
+    (1, 0, 0, NO, 4, NO, NO),
+    (1, 0, 7, 2, 1, 0, NO),
+    (1, 1, 4, NO, NO, NO, 0),
+    (1, 1, 9, 0, NO, NO, 9),
 ];
 
 fn cells(alloc: Global) -> Result<Vec<Cell>, AllocError>

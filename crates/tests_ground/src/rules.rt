@@ -35,13 +35,19 @@ fn both(a: bool, b: bool) -> bool
 fn are_spans(width: u32, depth: u32, spans: &[Span]) -> bool
     ensures { result ≡ list_all (Literals.is_span width depth) spans.now }
 {
-    spans.iter().all(|span| is_span(width, depth, span))
+    match spans {
+        [] => true,
+        [first, rest @ ..] => both(is_span(width, depth, first), are_spans(width, depth, rest)),
+    }
 }
 
 fn are_after(first: &Span, rest: &[Span]) -> bool
     ensures { result ≡ list_all (Literals.is_span_before first.now) rest.now }
 {
-    rest.iter().all(|span| is_span_before(first, span))
+    match rest {
+        [] => true,
+        [second, rest @ ..] => both(is_span_before(first, second), are_after(first, rest)),
+    }
 }
 
 fn is_size(n: u32) -> bool
@@ -85,5 +91,8 @@ pub(crate) fn are_areas(areas: &[u32]) -> bool
 fn all_small(areas: &[u32]) -> bool
     ensures { result ≡ list_all (λ area. nat_le area 63) areas.now }
 {
-    areas.iter().all(|area| *area <= 63)
+    match areas {
+        [] => true,
+        [first, rest @ ..] => both(*first <= 63, all_small(rest)),
+    }
 }

@@ -161,18 +161,21 @@ fn row_of(link: &Link) -> LinkRow {
     )
 }
 
-/// The edge of the lower region that lies on the border to the right.
+/// The edge of the lower region that lies on the border to the right is the only one there.
 fn check_rim(rt: &impl Abort, rim: &[RimEdge]) {
-    same(rt, rim.len(), 1);
-    for entry in rim {
-        let place = (entry.poly, entry.edge, entry.side, entry.first);
-        let pair = LevelPair { own: 0, other: 2 };
-        same(
-            rt,
-            (place, entry.pairs.as_slice()),
-            ((0, 1, 2, 0), [pair].as_slice()),
-        );
-    }
+    let [entry] = rim else {
+        panic!(rt; "one edge lies on a border");
+    };
+    same(
+        rt,
+        (entry.poly, entry.edge, entry.side, entry.first),
+        (0, 1, 2, 0),
+    );
+    same(
+        rt,
+        entry.pairs.as_slice(),
+        [LevelPair { own: 0, other: 2 }].as_slice(),
+    );
 }
 
 /// The mesh, which is made.

@@ -8,8 +8,8 @@ use contour_walk::contour;
 use mesh_types::{Code, UnitEdge};
 use mono_regions::regions;
 use nav_ground::{AREAS, Agent, FreeLayer, MeshKind, Setting};
+use nav_list::Items;
 use std::alloc::{AllocError, Global};
-use std::test::Fail;
 
 /// Where an edge begins, and its code.
 type Wanted = (i32, i32, Code);
@@ -79,28 +79,35 @@ fn is_like(edges: &[UnitEdge], wanted: &[Wanted]) -> bool {
     true
 }
 
-/// Whether the contour of the first region of cells has these edges.
-fn gives(alloc: Global, free: &FreeLayer, wanted: &[Wanted]) -> Result<bool, AllocError>
+/// The contour of the first region of cells, and none where there is no region.
+fn first_contour(alloc: Global, free: &FreeLayer) -> Result<Items<UnitEdge>, AllocError>
     requires cells { IsCut free.now.cells }
     requires tile { free.now.tile ≡ 0 }
 {
     let regions = regions(alloc, free)?;
     if regions.regions.is_empty() {
-        return Ok(false);
+        return Ok(Items::new(alloc));
     }
-    let edges = contour(alloc, free, &SETTING, &regions, 0)?;
-    Ok(is_like(edges.as_slice(), wanted))
+    contour(alloc, free, &SETTING, &regions, 0)
+}
+
+/// Whether the contour of the first region of cells has these edges.
+fn gives(alloc: Global, free: &FreeLayer, wanted: &[Wanted]) -> Result<bool, AllocError>
+    requires cells { IsCut free.now.cells }
+    requires tile { free.now.tile ≡ 0 }
+{
+    Ok(is_like(first_contour(alloc, free)?.as_slice(), wanted))
 }
 
 #[test]
-fn ring_by_hand(rt: HostRuntime) -> Result<(), Fail> {
+fn ring_by_hand(rt: HostRuntime) -> Result<(), AllocError> {
     let free = ring(rt.alloc())?;
     assert!(rt; gives(rt.alloc(), &free, &RING_CONTOUR)?);
     Ok(())
 }
 
 #[test]
-fn step_by_hand(rt: HostRuntime) -> Result<(), Fail> {
+fn step_by_hand(rt: HostRuntime) -> Result<(), AllocError> {
     let free = step(rt.alloc())?;
     assert!(rt; gives(rt.alloc(), &free, &STEP_CONTOUR)?);
     Ok(())

@@ -17,6 +17,4 @@ mod cut_outlines;
 #[cfg(test)]
 mod outlines;
 #[cfg(test)]
-mod pieces;
-#[cfg(test)]
 mod stacks;

@@ -3,8 +3,7 @@
 ghost use Rattle.std.specs.Prelude.{◌≡◌, IfOk};
 ghost use Rattle.nav_ground.specs.Cells.{IsCut};
 
-use crate::cell_rows::{Row, free_of, ring};
-use crate::checks::same;
+use crate::cell_rows::{NO, Row, free_of, ring};
 use mesh_types::Regions;
 use mono_regions::regions;
 use nav_ground::FreeLayer;
@@ -14,25 +13,25 @@ use std::process::Abort;
 /// The first row has the columns 1 to 3, the last of which has another area and a neighbour in another tile; the second row has the columns
 /// 1 and 2 on two levels, which are connected to the first row alone.
 const LEVELS: [Row; 5] = [
-    (1, 0, 0, 63, [None, Some(0), Some(0), None]),
-    (2, 0, 0, 63, [Some(0), Some(1), Some(0), None]),
-    (3, 0, 0, 7, [Some(0), None, Some(2), None]),
-    (1, 1, 0, 63, [None, None, None, Some(0)]),
-    (2, 1, 1, 63, [None, None, None, Some(0)]),
+    (1, 0, 0, 63, NO, 0, 0, NO),
+    (2, 0, 0, 63, 0, 1, 0, NO),
+    (3, 0, 0, 7, 0, NO, 2, NO),
+    (1, 1, 0, 63, NO, NO, NO, 0),
+    (2, 1, 1, 63, NO, NO, NO, 0),
 ];
 
 /// The first two rows join. The third has a common column with the second that is not connected, the fourth has another area than the third,
 /// and the fifth that of the fourth.
 const STAIRS: [Row; 9] = [
-    (0, 0, 0, 63, [None, Some(0), Some(0), None]),
-    (1, 0, 0, 63, [Some(0), Some(0), None, None]),
-    (0, 1, 0, 63, [None, None, Some(0), Some(0)]),
-    (1, 1, 0, 63, [Some(0), None, Some(0), Some(0)]),
-    (2, 1, 0, 63, [Some(0), Some(0), None, None]),
-    (1, 2, 0, 63, [None, None, Some(0), None]),
-    (2, 2, 0, 63, [Some(0), Some(0), None, Some(0)]),
-    (2, 3, 0, 7, [None, Some(0), None, Some(0)]),
-    (2, 4, 0, 7, [None, None, None, Some(0)]),
+    (0, 0, 0, 63, NO, 0, 0, NO),
+    (1, 0, 0, 63, 0, 0, NO, NO),
+    (0, 1, 0, 63, NO, NO, 0, 0),
+    (1, 1, 0, 63, 0, NO, 0, 0),
+    (2, 1, 0, 63, 0, 0, NO, NO),
+    (1, 2, 0, 63, NO, NO, 0, NO),
+    (2, 2, 0, 63, 0, 0, NO, 0),
+    (2, 3, 0, 7, NO, 0, NO, 0),
+    (2, 4, 0, 7, NO, NO, NO, 0),
 ];
 
 fn levels(alloc: Global) -> Result<FreeLayer, AllocError>
@@ -60,6 +59,27 @@ fn places(alloc: Global, regions: &Regions) -> Result<Vec<(usize, u32, u32, u32)
     Ok(places)
 }
 
+/// Whether the strips of regions are these, region by region.
+fn are_at(
+    alloc: Global,
+    regions: &Regions,
+    wanted: &[(usize, u32, u32, u32)],
+) -> Result<bool, AllocError> {
+    Ok(places(alloc, regions)?.as_slice() == wanted)
+}
+
+/// Whether cells have regions of these strips.
+fn gives(
+    alloc: Global,
+    free: &FreeLayer,
+    wanted: &[(usize, u32, u32, u32)],
+) -> Result<bool, AllocError>
+    requires { IsCut free.now.cells }
+{
+    let regions = regions(alloc, free)?;
+    are_at(alloc, &regions, wanted)
+}
+
 fn check(
     rt: &impl Abort,
     alloc: Global,
@@ -68,9 +88,7 @@ fn check(
 ) -> Result<(), AllocError>
     requires { IsCut free.now.cells }
 {
-    let found = regions(alloc, free)?;
-    let places = places(alloc, &found)?;
-    same(rt, places.as_slice(), wanted);
+    assert!(rt; gives(alloc, free, wanted)?);
     Ok(())
 }
 

@@ -3,5 +3,5 @@ use Rattle.tests_ground.specs.Rows.{cell_of}
 use Rattle.tests_ground.proofs.rows.cells_of.Given as goal
 
 -- the cells so far
-abbrev pub invariant-loop-x : goal.invariant-loop-x
-invariant-loop-x l = l.cells.items ≡ map cell_of (take l.x-index l.rows)
+abbrev pub invariant-loop-row : goal.invariant-loop-row
+invariant-loop-row l = l.cells.items ≡ map cell_of (take l.row-index l.rows)
