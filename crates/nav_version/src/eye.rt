@@ -72,10 +72,10 @@ fn look(
     asked: (Global, &Question, &Told),
 ) -> (Looker, Result<(Told, Answer), AllocError>)
     requires question { IsAnswerable asked.1.now }
-    requires known { (ground : Ground) × (option_map origin (view reader.place) ≡ Some (asked.2.now.pair, ground)) }
+    requires known { (base : Ground) × (option_map origin (view reader.place) ≡ Some (asked.2.now.pair, base)) }
     ensures same { view result.0.place ≡ view reader.place }
-    ensures found { (ground : Ground) → option_map origin (view reader.place) ≡ Some (asked.entry.2.now.pair, ground)
-        → IfOk result.1 (HasFound ground asked.entry.1.now asked.entry.2.now) }
+    ensures found { (base : Ground) → option_map origin (view reader.place) ≡ Some (asked.entry.2.now.pair, base)
+        → IfOk result.1 (HasFound base asked.entry.1.now asked.entry.2.now) }
 {
     let (alloc, question, seen) = asked;
     match reader.enter_as::<Entering>() {
