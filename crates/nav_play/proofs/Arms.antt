@@ -1,5 +1,5 @@
 -- What the arms of a step come to.
-use Rattle.std.proofs.Common.{◌≡◌, ℕ, ◌+◌, ◌<◌, List, [], ◌∷◌, ◌++◌, length, set, replicate, ap, ◌∙◌, sym, subst, refl, arith, append-nil, Option, None}
+use Rattle.std.proofs.Common.{◌≡◌, ℕ, ◌+◌, ◌<◌, List, [], ◌++◌, length, set, replicate, ap, ◌∙◌, sym, subst, refl, arith, append-nil, None}
 use Rattle.std.specs.Prelude.{IfOk, IsOkAnd, OnOk, Result, Ok, Err}
 use Rattle.std.proofs.lemmas.List.{length-set}
 use Rattle.std.proofs.lemmas.Result.{on_ok_weaker}
@@ -18,14 +18,13 @@ use Rattle.nav_query.specs.Questions.{HasLowCost}
 use Rattle.nav_book.specs.Results.{published_mesh}
 use Rattle.nav_record.specs.declared.step.StepAnswer.{StepAnswer}
 use Rattle.nav_record.specs.declared.step.StepAnswer.TheVariants as answers
-use Rattle.nav_record.specs.declared.totals.Totals.{Totals}
-use Rattle.nav_record.specs.Texts.{answer_text, reply_text, step_text}
+use Rattle.nav_record.specs.Texts.{answer_text, step_text}
 use Rattle.nav_script.specs.declared.line.Line.{Line}
 use Rattle.nav_script.specs.declared.line.Line.TheVariants.{Lane, Ask, Add, Remove, Undo, Settle, Aim, Claim, Back, Submit, Publish}
 use Rattle.nav_play.specs.declared.player.Player.{Player}
 use Rattle.nav_play.specs.Claims.{HasClaimed}
 use Rattle.nav_play.specs.Jobs.{back_said, book_after_back, book_after_submit, publication_said, submit_said}
-use Rattle.nav_play.specs.PlayRecord.{PlayState, IsSaid, adds_and, answered_text, number_added, number_answered, number_got, number_in, request_text, state_after}
+use Rattle.nav_play.specs.PlayRecord.{PlayState, IsSaid, adds_and, answered_text, number_answered, number_got, number_in, request_text, state_after}
 use Rattle.nav_play.specs.Players.{AreHeld, HasPlayed, HasRequested, HasState, IsPlayable, IsSteady, held_job, jobs_of_held, player_state}
 use Rattle.nav_play.specs.Settling.{after_settle, awaited_tiles, settling}
 use Rattle.nav_play.specs.Tallies.{HasCounted, totals_after}

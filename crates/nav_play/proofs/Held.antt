@@ -1,5 +1,5 @@
 -- What workers hold, and the jobs of that.
-use Rattle.std.proofs.Common.{◌≡◌, ℕ, zero, suc, ◌<◌, List, ◌∷◌, length, map, get_or, set, replicate, ap, ◌∙◌, sym, subst, refl, arith, true, false, Option, None, Some}
+use Rattle.std.proofs.Common.{◌≡◌, ℕ, zero, suc, ◌<◌, List, ◌∷◌, length, get_or, set, replicate, ap, ◌∙◌, sym, subst, refl, arith, true, false, Option, None, Some}
 use Rattle.std.specs.Prelude.{is_some}
 use Rattle.std.specs.Option.{option_map}
 use Rattle.std.proofs.lemmas.Bool.{both_ways}

@@ -1,18 +1,18 @@
 -- A claim and a submission for each awaited tile, one after another.
-use Rattle.std.proofs.Common.{◌≡◌, ℕ, suc, ◌+◌, ◌<◌, ◌≤◌, Bool, true, false, List, [], ◌∷◌, length, get_or, set, replicate, ap, ◌∙◌, sym, subst, refl, arith, inl, inr, Option, Some, None, ⊎_elim}
-use Rattle.std.specs.Prelude.{not, ◌&&◌, if◌then◌else◌}
-use Rattle.std.specs.List.{filter, find, fold, range_with_len}
+use Rattle.std.proofs.Common.{◌≡◌, ℕ, ◌+◌, ◌<◌, ◌≤◌, Bool, true, false, List, [], ◌∷◌, length, set, replicate, ap, ◌∙◌, sym, subst, refl, arith, inl, inr, Option, Some, None}
+use Rattle.std.specs.Prelude.{not, ◌&&◌}
+use Rattle.std.specs.List.{find, fold, range_with_len}
 use Rattle.std.specs.Option.{option_map, option_map_or}
 use Rattle.std.proofs.Math.ListN.{get_or-eq_default}
-use Rattle.std.proofs.lemmas.Bool.{cases_Bool, cases_eq, cases_lt, cond-true, cond-false}
+use Rattle.std.proofs.lemmas.Bool.{cases_eq, cases_lt, cond-true}
 use Rattle.std.proofs.lemmas.List.{get_or-set_same, get_or-set_other, get_or-replicate, length-replicate, length-set}
 use Rattle.nav_ground.specs.declared.shape.Shape.{Shape}
 use Rattle.nav_ground.specs.Tiling.{tile_count}
 use Rattle.nav_desk.specs.declared.answers.Job.{Job}
-use Rattle.nav_desk.specs.BookState.{BookState, IsBook, is_awaited, is_claimable, is_claimed, least_awaited, least_claimable, wanted_at}
+use Rattle.nav_desk.specs.BookState.{BookState, IsBook, is_awaited, is_claimed, least_awaited, least_claimable, wanted_at}
 use Rattle.nav_desk.specs.Flags.{flag_of}
 use Rattle.nav_desk.specs.SameShapes.{are_same}
-use Rattle.nav_desk.specs.Steps.{after_claim, after_put_back_all, after_submit, is_taken, job_of, next_job}
+use Rattle.nav_desk.specs.Steps.{after_claim, after_submit, is_taken, job_of, next_job}
 use Rattle.nav_desk.proofs.BookLaws.{shown_after_publish}
 use Rattle.nav_desk.proofs.SameShapes.{same_lists_decide}
 use Rattle.nav_play.specs.Settling.{IsUnclaimed, after_job, after_settle, all_built, awaited_tiles, settling}

@@ -1,7 +1,7 @@
 -- The numbers of a range that pass a test, one after another.
-use Rattle.std.proofs.Common.{◌≡◌, ℕ, zero, suc, ◌+◌, ◌<◌, ◌≤◌, Bool, true, false, List, [], ◌∷◌, ap, ◌∙◌, sym, refl, arith, inl, inr, Option, Some, None}
+use Rattle.std.proofs.Common.{◌≡◌, ℕ, zero, suc, ◌+◌, ◌<◌, ◌≤◌, Bool, true, false, List, [], ◌∷◌, ap, ◌∙◌, sym, refl, arith, inl, inr, Some, None}
 use Rattle.std.specs.List.{filter, find, range_with_len}
-use Rattle.std.proofs.lemmas.Bool.{cases_Bool, cond-true, cond-false, both_ways}
+use Rattle.std.proofs.lemmas.Bool.{cases_Bool, cond-true, cond-false}
 
 -- a number is the first of a range that passes
 pub record IsFirst (p : ℕ → Bool) (a n t : ℕ) : Type 0 where

@@ -1,7 +1,7 @@
 -- The totals of the answers so far.
-use Rattle.std.proofs.Common.{◌≡◌, ℕ, zero, suc, ◌+◌, ◌*◌, ◌<◌, ◌≤◌, ◌^◌, List, [], ◌∷◌, ◌++◌, length, drop, ap, ◌∙◌, sym, subst, refl, arith, All, length-append}
+use Rattle.std.proofs.Common.{◌≡◌, ℕ, zero, suc, ◌+◌, ◌*◌, ◌<◌, ◌≤◌, List, [], ◌∷◌, ◌++◌, length, drop, ap, ◌∙◌, sym, refl, arith, All, length-append}
 use Rattle.std.specs.Prelude.{cond}
-use Rattle.std.specs.List.{fold, count_by, sum_by}
+use Rattle.std.specs.List.{fold, sum_by}
 use Rattle.std.proofs.lemmas.List.Elements.{All-append, All-nil, All-weaker}
 use Rattle.std.proofs.lemmas.List.Sums.{count_by-le-length, fold-append, sum_by-cons, sum_by-le}
 use Rattle.nav_base.specs.declared.answers.Question.{Question}
@@ -9,13 +9,11 @@ use Rattle.nav_base.specs.declared.answers.Question.TheVariants as questions
 use Rattle.mesh_types.specs.declared.answers.Answer.{Answer}
 use Rattle.mesh_types.specs.declared.answers.Answer.TheVariants as kinds
 use Rattle.nav_query.specs.Questions.{HasLowCost}
-use Rattle.nav_desk.specs.BookState.{BookState}
 use Rattle.nav_script.specs.declared.line.Line.{Line}
 use Rattle.nav_script.specs.declared.line.Line.TheVariants.{Lane, Ask, Add, Remove, Undo, Settle, Aim, Claim, Back, Submit, Publish}
-use Rattle.nav_book.specs.Results.{published_mesh}
 use Rattle.nav_record.specs.declared.totals.Totals.{Totals}
-use Rattle.nav_play.specs.PlayRecord.{PlayState, AddsSome, state_after}
-use Rattle.nav_play.specs.PlayTotals.{CountAnswers, IsCounted, IsPathAnswer, cost_of, is_no_goal, is_no_path, is_no_start, is_path}
+use Rattle.nav_play.specs.PlayRecord.{PlayState, state_after}
+use Rattle.nav_play.specs.PlayTotals.{CountAnswers, IsCounted, cost_of, is_no_goal, is_no_path, is_no_start, is_path}
 use Rattle.nav_play.specs.Tallies.{HasCounted, HasCountedAnswer, HasRoom, no_answers, totals_with}
 use Rattle.nav_play.proofs.Lists.{none_more}
 use Rattle.nav_play.proofs.Runs.{IsUnderWay, begun, goes_on}

@@ -6,7 +6,7 @@ use Rattle.nav_base.specs.declared.answers.Question.TheVariants as questions
 use Rattle.nav_ground.specs.declared.setting.Setting.{Setting}
 use Rattle.nav_ground.specs.declared.field.Field.{Field}
 use Rattle.mesh_types.specs.declared.answers.Answer.{Answer}
-use Rattle.mesh_types.specs.declared.answers.Answer.TheVariants.{Floors, Path, NoStart, NoGoal, NoPath, Reached, Wall}
+use Rattle.mesh_types.specs.declared.answers.Answer.TheVariants.{Path, NoStart, NoGoal, NoPath}
 use Rattle.mesh_types.specs.declared.mesh.Mesh.{Mesh}
 use Rattle.mesh_types.specs.Right.{IsRight}
 use Rattle.mesh_types.specs.Soundness.{link_count, polygon_count}

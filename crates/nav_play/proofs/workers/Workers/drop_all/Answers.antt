@@ -1,4 +1,4 @@
-use Rattle.std.proofs.Common.{List, length, replicate, ap, ◌∙◌, sym, arith, Option, None}
+use Rattle.std.proofs.Common.{List, length, replicate, ap, ◌∙◌, arith, Option, None}
 use Rattle.nav_book.specs.declared.result.TileResult.{TileResult}
 use Rattle.nav_play.proofs.Lists.{all_emptied, one_emptied}
 use Rattle.nav_play.proofs.workers.Workers.drop_all.Goals as goal

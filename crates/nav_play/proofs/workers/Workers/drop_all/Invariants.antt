@@ -1,5 +1,4 @@
-use Rattle.std.proofs.Common.{◌≡◌, ◌++◌, map, take, drop, None, Option}
-use Rattle.nav_book.specs.declared.result.TileResult.{TileResult}
+use Rattle.std.proofs.Common.{◌≡◌, ◌++◌, map, take, drop}
 use Rattle.nav_play.proofs.Lists.{nothing}
 use Rattle.nav_play.proofs.workers.Workers.drop_all.Given as goal
 
