@@ -1,2 +1,3 @@
+mod CellRows
 pub mod Literals
 pub mod TileLiterals

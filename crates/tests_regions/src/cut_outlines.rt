@@ -196,42 +196,35 @@ fn pieces_of(
     united(rt, alloc, &outline, triangles)
 }
 
-/// Whether the corners of pieces have these places.
-fn are_at(pieces: &[Piece], wanted: &[&[u32]]) -> bool {
-    if pieces.len() != wanted.len() {
+/// Whether the corners of three pieces have these places.
+fn are_at(pieces: &[Piece], wanted: &[&[u32]; 3]) -> bool {
+    let [first, second, third] = pieces else {
         return false;
-    }
-    for (piece, places) in pieces.iter().zip(wanted) {
-        if piece.corners.as_slice() != *places {
-            return false;
-        }
-    }
-    true
+    };
+    first.corners.as_slice() == wanted[0]
+        && second.corners.as_slice() == wanted[1]
+        && third.corners.as_slice() == wanted[2]
 }
 
 /// Corners, the triangles into which they are cut, and the places of the pieces into which these are united.
-type United = (
-    &'static [Point],
-    &'static [Triangle],
-    &'static [&'static [u32]],
-);
+type United = (&'static [Point], &'static [Triangle], [&'static [u32]; 3]);
 
 const UNITED: [United; 2] = [
     (
         &THIN,
         &THIN_TRIANGLES,
-        &[&[1, 2, 3], &[4, 5, 0], &[4, 0, 1, 3]],
+        [&[1, 2, 3], &[4, 5, 0], &[4, 0, 1, 3]],
     ),
     // Pieces have up to six corners.
     (
         &ROUND,
         &ROUND_TRIANGLES,
-        &[&[3, 5, 7, 0, 1, 2], &[3, 4, 5], &[5, 6, 7]],
+        [&[3, 5, 7, 0, 1, 2], &[3, 4, 5], &[5, 6, 7]],
     ),
 ];
 
 fn unites(rt: &impl Abort, alloc: Global, row: &United) -> Result<bool, EarRefusal> {
-    Ok(are_at(pieces_of(rt, alloc, row.0, row.1)?.as_slice(), row.2))
+    Ok(are_at(pieces_of(rt, alloc, row.0, row.1)?.as_slice(), &row.2))
 }
 
 #[test]
