@@ -42,7 +42,7 @@ fn crossed(a: Point, b: Point) -> Option<i64> {
 }
 
 /// Two vectors, and their cross.
-const CROSSES: [(Point, Point, i64); 3] = [
+static CROSSES: [(Point, Point, i64); 3] = [
     (Point { x: 1, z: 0 }, Point { x: 0, z: 1 }, 1),
     (Point { x: 3, z: -2 }, Point { x: -5, z: 7 }, 11),
     (
@@ -76,7 +76,7 @@ fn turned(a: Point, b: Point, c: Point) -> Option<i64> {
 }
 
 /// The ends of a walk, a point, and the turn.
-const TURNS: [(Point, Point, Point, i64); 4] = [
+static TURNS: [(Point, Point, Point, i64); 4] = [
     (
         Point { x: 0, z: 0 },
         Point { x: 4, z: 0 },
@@ -130,7 +130,7 @@ fn deviation(a: Point, b: Point, p: Point) -> Option<Deviation> {
 }
 
 /// The ends of a segment, a point, and the parts of its deviation.
-const DEVIATIONS: [(Point, Point, Point, u64, u64); 6] = [
+static DEVIATIONS: [(Point, Point, Point, u64, u64); 6] = [
     (
         Point { x: 0, z: 0 },
         Point { x: 4, z: 0 },
@@ -193,7 +193,7 @@ fn measures_deviations(rt: HostRuntime) {
 const MOST: u64 = 18446744073709551615;
 
 /// The parts of a deviation, an error, and whether the deviation exceeds it.
-const ERRORS: [(u64, u64, u32, bool); 6] = [
+static ERRORS: [(u64, u64, u32, bool); 6] = [
     (144, 16, 899, true),
     (144, 16, 900, false),
     (0, MOST, 0, false),
@@ -203,7 +203,7 @@ const ERRORS: [(u64, u64, u32, bool); 6] = [
 ];
 
 /// The parts of two deviations, and whether the first is less.
-const PAIRS: [(u64, u64, u64, u64, bool); 5] = [
+static PAIRS: [(u64, u64, u64, u64, bool); 5] = [
     (1, 2, 2, 3, true),
     (2, 3, 1, 2, false),
     (2, 4, 1, 2, false),
@@ -250,7 +250,7 @@ fn root(n: u64) -> Option<u32> {
 }
 
 /// A number, and its root rounded up.
-const ROOTS: [(u64, u32); 17] = [
+static ROOTS: [(u64, u32); 17] = [
     (0, 0),
     (1, 1),
     (2, 2),
@@ -313,7 +313,7 @@ const HIGH: Point = Point {
 };
 
 /// Corners, and whether they are a strictly convex polygon.
-const POLYGONS: [(&[Point], bool); 9] = [
+static POLYGONS: [(&[Point], bool); 9] = [
     (&[A, B, C, D, E], true),
     (&[B, C, D], true),
     (&[HIGH, B, FAR], true),

@@ -5,7 +5,7 @@ use nav_text::{FaultKind, TextFault, first_line, has_word, numbers_of};
 use std::process::Abort;
 
 /// A text, its first line, and what is left behind that.
-const FIRST_LINES: [(&str, Option<(&str, &str)>); 3] = [
+static FIRST_LINES: [(&str, Option<(&str, &str)>); 3] = [
     ("end\nscript 1 1\n", Some(("end", "script 1 1\n"))),
     ("\n", Some(("", ""))),
     ("end", None),
@@ -24,7 +24,7 @@ fn reads_lines(rt: HostRuntime) {
 }
 
 /// A line, and whether its word is `span`.
-const SPAN_LINES: [(&str, bool); 6] = [
+static SPAN_LINES: [(&str, bool); 6] = [
     ("span", true),
     ("span 1 x", true),
     ("span ", true),
@@ -46,7 +46,7 @@ fn tells_words(rt: HostRuntime) {
 }
 
 /// A line, and the two numbers that it has behind the word `size`.
-const SIZE_LINES: [(&str, Option<[u32; 2]>); 15] = [
+static SIZE_LINES: [(&str, Option<[u32; 2]>); 15] = [
     ("size 7 9", Some([7, 9])),
     ("size 0 4294967295", Some([0, 4294967295])),
     ("size 7", None),

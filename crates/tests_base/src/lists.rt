@@ -13,7 +13,7 @@ fn numbers(alloc: Global, first: u32, second: u32) -> Result<Items<u32>, AllocEr
 }
 
 /// A place, and the number of the list 7, 9 that stands there.
-const PLACES: [(usize, Option<u32>); 3] = [(0, Some(7)), (1, Some(9)), (2, None)];
+static PLACES: [(usize, Option<u32>); 3] = [(0, Some(7)), (1, Some(9)), (2, None)];
 
 fn check_places(rt: &impl Abort, items: &Items<u32>, rows: &[(usize, Option<u32>)]) {
     for (index, wanted) in rows {

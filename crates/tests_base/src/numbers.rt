@@ -6,7 +6,7 @@ use std::alloc::{AllocError, Global};
 use std::process::Abort;
 
 /// A text, the greatest number allowed, and the number that it spells.
-const TEXTS: [(&str, u32, Option<u32>); 16] = [
+static TEXTS: [(&str, u32, Option<u32>); 16] = [
     ("0", 0, Some(0)),
     ("00", 9, None),
     ("01", 9, None),

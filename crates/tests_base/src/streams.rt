@@ -58,7 +58,7 @@ fn read_in_pieces(
 /// Bytes a read, bytes at most, and the read that fails; the answer, bytes gone and faults.
 type Reading = (usize, usize, u32, Result<bool, ReadRefusal>, usize, u64);
 
-const READINGS: [Reading; 11] = [
+static READINGS: [Reading; 11] = [
     (1, 10, 0, Ok(true), 10, 0),
     (3, 10, 0, Ok(true), 10, 0),
     (100, 11, 0, Ok(true), 10, 0),
@@ -107,7 +107,7 @@ fn write_in_pieces(
 /// Bytes a write, the room, and the write that fails; the answer, what the sink holds, and faults.
 type Writing = (usize, usize, u32, Result<(), WriteFault>, &'static str, u64);
 
-const WRITINGS: [Writing; 10] = [
+static WRITINGS: [Writing; 10] = [
     (1, 20, 0, Ok(()), "abcdefghij", 0),
     (3, 10, 0, Ok(()), "abcdefghij", 0),
     (100, 10, 0, Ok(()), "abcdefghij", 0),

@@ -75,7 +75,7 @@ fn push_row(row: &[(u32, u32)], ends: &mut Vec<Vertex>) -> Result<(), AllocError
 /// From 0 to 3 by two arcs, and by one that weighs more; two arcs from 3 to 4, of which the second weighs less; a ring of arcs of weight
 /// 0 through 4, 5 and 6; loops of weight 0 and of more; and vertices that no arc leads to, 2 and 9 with loops alone, 7 and 8 with an arc
 /// to 0.
-const ROWS: [[(u32, u32); 2]; 10] = [
+static ROWS: [[(u32, u32); 2]; 10] = [
     [(3, 9), (1, 4)],
     [(3, 4), (1, 7)],
     [(2, 0), (2, 3)],
@@ -106,7 +106,7 @@ fn cheapest_cost(alloc: Global, from: u32, to: u32) -> Result<Option<u64>, Alloc
 }
 
 /// Two places, and what a cheapest walk from the first to the second costs.
-const COSTS: [(u32, u32, Option<u64>); 11] = [
+static COSTS: [(u32, u32, Option<u64>); 11] = [
     (0, 0, Some(0)),
     (0, 1, Some(4)),
     (0, 3, Some(8)),
@@ -139,7 +139,7 @@ fn searches_a_small_graph(rt: HostRuntime) -> Result<(), AllocError> {
 }
 
 /// The steps of a cheapest walk from 0 to 4.
-const STEPS: [Step; 3] = [
+static STEPS: [Step; 3] = [
     Step {
         from: Vertex { block: 0, place: 0 },
         place: 1,

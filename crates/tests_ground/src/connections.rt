@@ -14,7 +14,7 @@ use std::process::Abort;
 
 /// Three columns by two. A bridge crosses the second row; a step leads up to the column in the middle of the first, and boards hang over
 /// two columns, which agents do not walk on.
-const SPANS: [Span; 11] = [
+static SPANS: [Span; 11] = [
     Span {
         x: 0,
         z: 0,
@@ -94,7 +94,7 @@ const SPANS: [Span; 11] = [
     },
 ];
 
-const BESIDE: [u32; 11] = [63, 5, 63, 0, 63, 63, 63, 0, 63, 63, 63];
+static BESIDE: [u32; 11] = [63, 5, 63, 0, 63, 63, 63, 0, 63, 63, 63];
 
 const AGENT: Agent = Agent {
     height: 10,
@@ -102,7 +102,7 @@ const AGENT: Agent = Agent {
     radius: 0,
 };
 
-const ROWS: [CellRow; 9] = [
+static ROWS: [CellRow; 9] = [
     ((0, 0, 0), (10, 65535, 63), (NO, 0, 0, NO)),
     ((1, 0, 0), (14, 65535, 5), (0, NO, NO, NO)),
     ((2, 0, 0), (10, 20, 63), (NO, 0, NO, NO)),
@@ -128,7 +128,7 @@ fn field(alloc: Global) -> Result<Field, AllocError>
 /// The number of a cell, a direction, and the place of its neighbour there.
 type Beside = (usize, u32, Option<(u32, u32, u32)>);
 
-const NEIGHBOURS: [Beside; 8] = [
+static NEIGHBOURS: [Beside; 8] = [
     (0, 0, None),
     (0, 1, Some((0, 1, 0))),
     (0, 2, Some((1, 0, 0))),

@@ -276,7 +276,7 @@ const FLAT: Case = Case {
     height: 10,
 };
 
-const CASES: [Case; 7] = [
+static CASES: [Case; 7] = [
     // Four tiles; cells beside a border name those across it.
     Case {
         side: 8,

@@ -187,7 +187,7 @@ fn check(
 }
 
 /// A block that touches the tile 1 comes, is built, and goes and comes again, which makes nothing awaited.
-const ONE_BLOCK: [(Asked, Told); 12] = [
+static ONE_BLOCK: [(Asked, Told); 12] = [
     (Asked::Look, Told::Published(Published::Same { k: 0 })),
     (Asked::Add(5), Told::Replied(1, Reply::Added { number: 1 })),
     (Asked::Aim, Told::Aimed(1)),
@@ -202,7 +202,7 @@ const ONE_BLOCK: [(Asked, Told); 12] = [
     (Asked::Publish, Told::Published(Published::New { k: 1 })),
 ];
 
-const SAME_AGAIN: [(Asked, Told); 6] = [
+static SAME_AGAIN: [(Asked, Told); 6] = [
     (Asked::Look, Told::Published(Published::Same { k: 1 })),
     (Asked::Remove(1), Told::Replied(2, Reply::Removed)),
     (Asked::Add(5), Told::Replied(3, Reply::Added { number: 3 })),
@@ -212,7 +212,7 @@ const SAME_AGAIN: [(Asked, Told); 6] = [
 ];
 
 /// A block over a border comes, is built in one tile after it went, and is taken there since nobody has aimed anew.
-const TWO_TILES: [(Asked, Told); 15] = [
+static TWO_TILES: [(Asked, Told); 15] = [
     (Asked::Add(7), Told::Replied(4, Reply::Added { number: 4 })),
     (Asked::Add(0), Told::Replied(5, Reply::Full { live: 2 })),
     (

@@ -13,7 +13,7 @@ use std::alloc::{AllocError, Global};
 use std::process::Abort;
 
 /// The columns from (1, 1) to (5, 5) on one level, and over (2, 3), (3, 3) and (4, 3) a bridge that leads nowhere, whose level is 3.
-const ROWS: [Row; 28] = [
+static ROWS: [Row; 28] = [
     (1, 1, 0, NO, 0, 0, NO),
     (2, 1, 0, 0, 0, 0, NO),
     (3, 1, 0, 0, 0, 0, NO),
@@ -95,7 +95,7 @@ const RIGHT_ABOVE: CellRef = CellRef {
 };
 
 /// The cells with four connections, which are kept for a radius of 1.
-const INNER: [CellRef; 9] = [
+static INNER: [CellRef; 9] = [
     LEFT_BELOW,
     MIDDLE_BELOW,
     RIGHT_BELOW,
@@ -108,7 +108,7 @@ const INNER: [CellRef; 9] = [
 ];
 
 /// A radius, and how many cells are kept.
-const COUNTS: [(u32, usize); 5] = [(0, 28), (1, 9), (2, 1), (3, 0), (u32::MAX, 0)];
+static COUNTS: [(u32, usize); 5] = [(0, 28), (1, 9), (2, 1), (3, 0), (u32::MAX, 0)];
 
 /// How many cells `erode` keeps.
 fn kept_count(alloc: Global, field: &CompactField, radius: u32) -> Result<usize, AllocError>

@@ -116,7 +116,7 @@ const BRIDGE: Span = Span {
     ..LEFT
 };
 
-const CASES: [Case; 14] = [
+static CASES: [Case; 14] = [
     // Two steps stand on the middle column, one, or a high one.
     (
         Asked::LowHanging,

@@ -61,7 +61,7 @@ const FOURTH: Cell = Cell {
     next: [Some(0), None, None, Some(0)],
 };
 
-const CELLS: [Cell; 4] = [FIRST, SECOND, THIRD, FOURTH];
+static CELLS: [Cell; 4] = [FIRST, SECOND, THIRD, FOURTH];
 
 fn layer(alloc: Global) -> Result<Layer, AllocError>
     ensures cut { IfOk result (λ layer. IsCut layer.cells) }
@@ -147,7 +147,7 @@ const POND: Shape = Shape::AreaCylinder {
 };
 
 /// All four cells.
-const WHOLE: [CellRow; 4] = [
+static WHOLE: [CellRow; 4] = [
     ((1, 1, 0), (3, 65535, 63), (NO, 0, 0, NO)),
     ((2, 1, 0), (4, 65535, 63), (0, 0, 7, NO)),
     ((1, 2, 0), (5, 65535, 63), (NO, NO, 0, 0)),
@@ -155,14 +155,14 @@ const WHOLE: [CellRow; 4] = [
 ];
 
 /// What is left beside the corner.
-const BESIDE_CORNER: [CellRow; 3] = [
+static BESIDE_CORNER: [CellRow; 3] = [
     ((2, 1, 0), (4, 65535, 63), (NO, 0, 7, NO)),
     ((1, 2, 0), (5, 65535, 63), (NO, NO, 0, NO)),
     ((2, 2, 0), (6, 65535, 63), (0, NO, NO, 0)),
 ];
 
 /// What is left beside the disc.
-const BESIDE_DISC: [CellRow; 2] = [
+static BESIDE_DISC: [CellRow; 2] = [
     ((1, 1, 0), (3, 65535, 63), (NO, 0, NO, NO)),
     ((1, 2, 0), (5, 65535, 63), (NO, NO, NO, 0)),
 ];
@@ -177,21 +177,21 @@ fn leaves_what_stands_free(rt: HostRuntime) -> Result<(), AllocError> {
 }
 
 /// The cells beside the corner, of which the last two lie in the pond.
-const MUDDY: [CellRow; 3] = [
+static MUDDY: [CellRow; 3] = [
     ((2, 1, 0), (4, 65535, 5), (NO, 0, 7, NO)),
     ((1, 2, 0), (5, 65535, 9), (NO, NO, 0, NO)),
     ((2, 2, 0), (6, 65535, 9), (0, NO, NO, 0)),
 ];
 
 /// The same, all in mud.
-const ALL_MUD: [CellRow; 3] = [
+static ALL_MUD: [CellRow; 3] = [
     ((2, 1, 0), (4, 65535, 5), (NO, 0, 7, NO)),
     ((1, 2, 0), (5, 65535, 5), (NO, NO, 0, NO)),
     ((2, 2, 0), (6, 65535, 5), (0, NO, NO, 0)),
 ];
 
 /// The third cell alone, in mud.
-const ALONE: [CellRow; 1] = [((1, 2, 0), (5, 65535, 5), (NO, NO, NO, NO))];
+static ALONE: [CellRow; 1] = [((1, 2, 0), (5, 65535, 5), (NO, NO, NO, NO))];
 
 #[test]
 fn sets_the_last_area(rt: HostRuntime) -> Result<(), AllocError> {

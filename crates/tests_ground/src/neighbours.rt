@@ -11,7 +11,7 @@ use std::alloc::{AllocError, Global};
 use std::test::Fail;
 
 /// Levels with gaps, two levels of one column, a name of a cell that is not there, and columns at the field's corner.
-const ROWS: [Row; 5] = [
+static ROWS: [Row; 5] = [
     (0, 0, 2, NO, NO, 7, NO),
     (1, 0, 0, NO, 4, NO, NO),
     (1, 0, 7, 2, 1, 0, NO),

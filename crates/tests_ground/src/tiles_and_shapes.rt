@@ -105,7 +105,7 @@ fn tiles_by_hand(rt: HostRuntime) -> Result<(), AllocError> {
 /// A column, the height of a floor, and whether the shape covers that.
 type Covered = (u32, u32, u32, bool);
 
-const BY_BLOCK: [Covered; 8] = [
+static BY_BLOCK: [Covered; 8] = [
     (2, 1, 3, true),
     (4, 6, 5, true),
     (1, 1, 3, false),
@@ -116,7 +116,7 @@ const BY_BLOCK: [Covered; 8] = [
     (4, 6, 6, false),
 ];
 
-const BY_DISC: [Covered; 6] = [
+static BY_DISC: [Covered; 6] = [
     (4, 4, 10, true),
     (4, 4, 11, false),
     (5, 2, 0, true),
@@ -125,7 +125,7 @@ const BY_DISC: [Covered; 6] = [
     (6, 2, 0, false),
 ];
 
-const BY_DISC_LEFT: [Covered; 3] = [(4, 4, 0, false), (3, 4, 0, true), (u32::MAX, 4, 0, false)];
+static BY_DISC_LEFT: [Covered; 3] = [(4, 4, 0, false), (3, 4, 0, true), (u32::MAX, 4, 0, false)];
 
 fn check_covers(rt: &impl Abort, shape: &Shape, rows: &[Covered])
     requires { IsShape shape.now }

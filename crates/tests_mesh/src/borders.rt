@@ -172,14 +172,14 @@ macro_rules! link {
 }
 
 /// The links over the border to the right.
-const RIGHTWARD: [Link; 3] = [
+static RIGHTWARD: [Link; 3] = [
     link!(0, 0, 1, 1, 0, 16, 0),
     link!(0, 0, 1, 1, 0, 64, 48),
     link!(0, 0, 1, 1, 1, 48, 16),
 ];
 
 /// The links over the border to the left.
-const LEFTWARD: [Link; 3] = [
+static LEFTWARD: [Link; 3] = [
     link!(1, 0, 3, 0, 0, 0, 16),
     link!(1, 0, 3, 0, 0, 48, 64),
     link!(1, 1, 3, 0, 0, 16, 48),
@@ -263,7 +263,7 @@ fn mesh_is_linked(alloc: Global) -> bool {
 }
 
 /// A tile, a side, and the tile across it.
-const SIDES: [(u32, u32, Option<u32>); 6] = [
+static SIDES: [(u32, u32, Option<u32>); 6] = [
     (0, 0, None),
     (0, 1, None),
     (0, 2, Some(1)),

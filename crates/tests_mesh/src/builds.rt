@@ -14,7 +14,7 @@ use std::sync::ledger::{Blank, Ledger};
 use tile_build::build_tile;
 
 /// Three cells in a row, each connected to the next.
-const CELLS: [Cell; 3] = [
+static CELLS: [Cell; 3] = [
     Cell {
         at: CellRef {
             x: 1,

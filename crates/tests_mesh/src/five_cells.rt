@@ -4,7 +4,7 @@ use nav_ground::{Cell, CellRef};
 
 /// The first row has the columns 1 to 3, the last of which has another area and a neighbour in another tile; the second row has the columns
 /// 1 and 2 on two levels, which are connected to the first row alone.
-pub(crate) const CELLS: [Cell; 5] = [
+pub(crate) static CELLS: [Cell; 5] = [
     Cell {
         at: CellRef {
             x: 1,

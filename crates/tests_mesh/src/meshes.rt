@@ -14,7 +14,7 @@ use nav_list::{Duplicate, Items};
 use nav_share::Shared;
 use std::alloc::{AllocError, Global};
 
-const LABELS: [Option<u32>; 8] = [
+static LABELS: [Option<u32>; 8] = [
     Some(4),
     Some(4),
     None,
@@ -25,7 +25,7 @@ const LABELS: [Option<u32>; 8] = [
     Some(5),
 ];
 
-const RUNS: [Run; 3] = [
+static RUNS: [Run; 3] = [
     Run {
         first: 0,
         last: 1,
@@ -82,7 +82,7 @@ macro_rules! link {
 const FIRST: Link = link!(0, 0, 0, 2, 16);
 
 /// In order.
-const LINKS: [Link; 5] = [
+static LINKS: [Link; 5] = [
     FIRST,
     link!(0, 2, 0, 1, 16),
     link!(0, 2, 0, 1, 32),
@@ -98,7 +98,7 @@ fn puts_links_in_order() -> bool {
 }
 
 /// A polygon, and how many links leave it.
-const COUNTS: [(u32, usize); 5] = [(0, 1), (1, 0), (2, 0), (3, 0), (4000000000, 0)];
+static COUNTS: [(u32, usize); 5] = [(0, 1), (1, 0), (2, 0), (3, 0), (4000000000, 0)];
 
 fn wrong_count(list: &Links, rows: &[(u32, usize)]) -> Option<usize> {
     for row in 0..rows.len() {
@@ -180,7 +180,7 @@ fn mesh(alloc: Global) -> Result<Mesh, AllocError> {
 /// A tile, an index, and the area of the polygon there.
 type Place = (u32, u32, Option<u32>);
 
-const PLACES: [Place; 4] = [
+static PLACES: [Place; 4] = [
     (0, 0, Some(63)),
     (0, 1, Some(5)),
     (0, 2, None),

@@ -96,7 +96,7 @@ macro_rules! link {
     };
 }
 
-const LINKS: [Link; 6] = [
+static LINKS: [Link; 6] = [
     link!(0, 1, 1, 48, 0, 48, 16),
     link!(0, 2, 2, 32, 16, 16, 16),
     link!(0, 2, 3, 48, 16, 32, 16),

@@ -24,7 +24,7 @@ fn free(alloc: Global) -> Result<FreeLayer, AllocError>
 /// The row, the columns, the area and the levels of a strip.
 type Row = (u32, u32, u32, u32, &'static [u32]);
 
-const WANTED: [Row; 4] = [
+static WANTED: [Row; 4] = [
     (0, 1, 2, 63, &[0, 0]),
     (0, 3, 3, 7, &[0]),
     (1, 1, 1, 63, &[0]),

@@ -438,15 +438,10 @@ fn wrong_in_play<R: Wait, L: Ledger>(
     }
 }
 
-/// The tiles of a ground, a table's name, and the table, which is played with a book of that ground.
-type Play = (Layout, &'static str, &'static [Row]);
-
-/// Plays tables, each over a blank ledger.
-fn play_all<R: Abort + Wait>(rt: &R, alloc: Global, plays: &[Play]) {
-    for (layout, name, rows) in plays {
-        let wrong = wrong_in_play::<R, Brand>(rt, alloc, *layout, *rows, Blank::new(1));
-        all_hold(rt, name, wrong);
-    }
+/// Plays a table with a book of a ground.
+fn play<R: Abort + Wait>(rt: &R, alloc: Global, layout: Layout, name: &str, rows: &[Row]) {
+    let wrong = wrong_in_play::<R, Brand>(rt, alloc, layout, rows, Blank::new(1));
+    all_hold(rt, name, wrong);
 }
 
 const BARE: Option<FloorAt> = Some(FloorAt { y: 10, area: 63 });
@@ -454,7 +449,7 @@ const BARE: Option<FloorAt> = Some(FloorAt { y: 10, area: 63 });
 const MUDDY: Option<FloorAt> = Some(FloorAt { y: 10, area: 5 });
 
 /// Requests with their numbers and replies.
-const ASKINGS: [Row; 23] = [
+static ASKINGS: [Row; 23] = [
     (
         Step::Ask(3, Asked::Block(1)),
         Told::Reply(Ok((1, Reply::Added { number: 1 }))),
@@ -527,7 +522,7 @@ const LAST: Entry = Entry {
 };
 
 /// What is published, and what is seen of it. Columns of the edge and those outside have no floors, each other one has one.
-const SETTLINGS: [Row; 34] = [
+static SETTLINGS: [Row; 34] = [
     (
         Step::Ask(0, Asked::Remove(9)),
         Told::Reply(Ok((1, Reply::Dead { number: 9 }))),
@@ -583,7 +578,7 @@ const SETTLINGS: [Row; 34] = [
 ];
 
 /// The goal is covered once the request is published, and not before.
-const COVERING: [Row; 5] = [
+static COVERING: [Row; 5] = [
     (Step::Path, Told::Stays(0)),
     (
         Step::Ask(0, Asked::Block(2)),
@@ -595,7 +590,7 @@ const COVERING: [Row; 5] = [
 ];
 
 /// A history that is full.
-const FILLING: [Row; 3] = [
+static FILLING: [Row; 3] = [
     (Step::Fill, Told::Nothing),
     (
         Step::Ask(0, Asked::Remove(1)),
@@ -608,7 +603,7 @@ const FILLING: [Row; 3] = [
 ];
 
 /// The tiles that are awaited are handed out. The column 1 is of the tile 0, the column 5 of the tile 1.
-const STEPS: [Row; 17] = [
+static STEPS: [Row; 17] = [
     (Step::Publish, Told::Published(Ok(Published::Same { k: 0 }))),
     (
         Step::Ask(0, Asked::Block(1)),
@@ -654,7 +649,7 @@ macro_rules! late {
     };
 }
 
-const LATE_ELSEWHERE: [Row; 5] = late!(
+static LATE_ELSEWHERE: [Row; 5] = late!(
     &[Asked::Area(5)],
     Submitted::Taken,
     Published::NotYet { tile: 1 },
@@ -662,7 +657,7 @@ const LATE_ELSEWHERE: [Row; 5] = late!(
     BARE
 );
 
-const LATE_REMOVED: [Row; 5] = late!(
+static LATE_REMOVED: [Row; 5] = late!(
     &[Asked::Remove(1)],
     Submitted::Stale,
     Published::New { k: 2 },
@@ -670,7 +665,7 @@ const LATE_REMOVED: [Row; 5] = late!(
     BARE
 );
 
-const LATE_AGAIN: [Row; 5] = late!(
+static LATE_AGAIN: [Row; 5] = late!(
     &[Asked::Remove(1), Asked::Block(1)],
     Submitted::Taken,
     Published::New { k: 3 },
@@ -678,7 +673,7 @@ const LATE_AGAIN: [Row; 5] = late!(
     None
 );
 
-const LATE_MORE: [Row; 5] = late!(
+static LATE_MORE: [Row; 5] = late!(
     &[Asked::Area(1)],
     Submitted::Stale,
     Published::NotYet { tile: 0 },
@@ -687,28 +682,24 @@ const LATE_MORE: [Row; 5] = late!(
 );
 
 /// Four tiles of three strips each, with as many links inside tiles as over borders.
-const COUNTED: [Row; 1] = [(Step::Counts, Told::Numbers(12, 32))];
+static COUNTED: [Row; 1] = [(Step::Counts, Told::Numbers(12, 32))];
 
 /// One tile of four strips.
-const COUNTED_ONE: [Row; 1] = [(Step::Counts, Told::Numbers(4, 6))];
-
-const PLAYS: [Play; 11] = [
-    (Layout::Two, "requests", &ASKINGS),
-    (Layout::Two, "settlings", &SETTLINGS),
-    (Layout::Two, "covering", &COVERING),
-    (Layout::Two, "filling", &FILLING),
-    (Layout::Four, "awaited tiles", &STEPS),
-    (Layout::Four, "late, of another tile", &LATE_ELSEWHERE),
-    (Layout::Four, "late, without the block", &LATE_REMOVED),
-    (Layout::Four, "late, under the block again", &LATE_AGAIN),
-    (Layout::Four, "late, under more", &LATE_MORE),
-    (Layout::Four, "counts of four tiles", &COUNTED),
-    (Layout::One, "counts of one tile", &COUNTED_ONE),
-];
+static COUNTED_ONE: [Row; 1] = [(Step::Counts, Told::Numbers(4, 6))];
 
 #[test]
 fn plays_books(rt: HostRuntime) {
-    play_all(&rt, rt.alloc(), &PLAYS);
+    play(&rt, rt.alloc(), Layout::Two, "requests", &ASKINGS);
+    play(&rt, rt.alloc(), Layout::Two, "settlings", &SETTLINGS);
+    play(&rt, rt.alloc(), Layout::Two, "covering", &COVERING);
+    play(&rt, rt.alloc(), Layout::Two, "filling", &FILLING);
+    play(&rt, rt.alloc(), Layout::Four, "awaited tiles", &STEPS);
+    play(&rt, rt.alloc(), Layout::Four, "late, of another tile", &LATE_ELSEWHERE);
+    play(&rt, rt.alloc(), Layout::Four, "late, without the block", &LATE_REMOVED);
+    play(&rt, rt.alloc(), Layout::Four, "late, under the block again", &LATE_AGAIN);
+    play(&rt, rt.alloc(), Layout::Four, "late, under more", &LATE_MORE);
+    play(&rt, rt.alloc(), Layout::Four, "counts of four tiles", &COUNTED);
+    play(&rt, rt.alloc(), Layout::One, "counts of one tile", &COUNTED_ONE);
 }
 
 /// What eyes of a book see: the first one before a block is published there; the second one once it learnt the length that the book tells,

@@ -176,7 +176,7 @@ fn wrong_chain(alloc: Global, chains: &[Chain]) -> Option<usize> {
     None
 }
 
-const CHAINS: [Chain; 31] = [
+static CHAINS: [Chain; 31] = [
     // Paths that go straight through.
     //
     // no portals

@@ -186,7 +186,7 @@ type Row = ((u32, u32), (u32, u32), Option<(u64, &'static [Link])>);
 
 /// Two triangles of one tile have the same middle, so that the link between them weighs 1; the middles of the two tiles are 64 sixteenths
 /// from each other, and the area entered over the border costs 3.
-const ROWS: [Row; 9] = [
+static ROWS: [Row; 9] = [
     ((0, 1), (1, 1), Some((194, &[DOWN, BORDER, UP]))),
     ((0, 1), (1, 0), Some((193, &[DOWN, BORDER]))),
     ((0, 0), (1, 0), Some((192, &[BORDER]))),

@@ -108,7 +108,7 @@ fn found(mesh: &Mesh, x: i32, z: i32, y: u32) -> Option<(u32, u32)>
 /// A place by x, z and height, and the tile and the place of the polygon that locates it.
 type Row = (i32, i32, u32, Option<(u32, u32)>);
 
-const ROWS: [Row; 13] = [
+static ROWS: [Row; 13] = [
     // Heights over both polygons of the left tile.
     (32, 16, 0, Some((0, 0))),
     (32, 16, 3, Some((0, 0))),

@@ -17,7 +17,7 @@ use strip_mesh::strip_mesh;
 use tile_links::whole;
 
 /// Two cells in the first row, the second of which is connected to the first of two in the second row, and one apart in the last row.
-const CELLS: [Cell; 5] = [
+static CELLS: [Cell; 5] = [
     Cell {
         at: CellRef {
             x: 0,
@@ -166,7 +166,7 @@ macro_rules! reached {
     };
 }
 
-const ROWS: [(Question, Wanted); 14] = [
+static ROWS: [(Question, Wanted); 14] = [
     (floor!(1, 1), Wanted::Floors(&[FloorAt { y: 10, area: 1 }])),
     (floor!(0, 1), Wanted::Floors(&[])),
     (floor!(9, 9), Wanted::Floors(&[])),

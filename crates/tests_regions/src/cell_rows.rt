@@ -15,7 +15,7 @@ pub(crate) type Row = (u32, u32, u32, u32, u32, u32, u32, u32);
 pub(crate) const NO: u32 = 4294967295;
 
 /// A square of 4 by 4 cells from (1, 1) on, of which the middle 2 by 2 are blocked.
-pub(crate) const RING: [Row; 12] = [
+pub(crate) static RING: [Row; 12] = [
     (1, 1, 0, 63, NO, 0, 0, NO),
     (2, 1, 0, 63, 0, NO, 0, NO),
     (3, 1, 0, 63, 0, NO, 0, NO),
@@ -32,7 +32,7 @@ pub(crate) const RING: [Row; 12] = [
 
 /// The first two rows are a region that reaches further right below and further left above. The cell over them has another area, and the
 /// second has a neighbour in another tile.
-pub(crate) const STEP: [Row; 5] = [
+pub(crate) static STEP: [Row; 5] = [
     (3, 0, 0, 63, NO, 0, 0, NO),
     (4, 0, 0, 63, 0, NO, 2, NO),
     (2, 1, 0, 63, NO, NO, 0, NO),

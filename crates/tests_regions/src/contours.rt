@@ -15,7 +15,7 @@ use std::alloc::{AllocError, Global};
 type Wanted = (i32, i32, Code);
 
 /// Its first row is a region of its own, between the two columns of cells.
-const RING_CONTOUR: [Wanted; 10] = [
+static RING_CONTOUR: [Wanted; 10] = [
     (1, 1, Code::Wall),
     (2, 1, Code::Wall),
     (3, 1, Code::Wall),
@@ -28,7 +28,7 @@ const RING_CONTOUR: [Wanted; 10] = [
     (1, 2, Code::Wall),
 ];
 
-const STEP_CONTOUR: [Wanted; 10] = [
+static STEP_CONTOUR: [Wanted; 10] = [
     (2, 1, Code::Wall),
     (3, 1, Code::Wall),
     (3, 0, Code::Wall),

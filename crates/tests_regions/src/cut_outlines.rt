@@ -12,7 +12,7 @@ use poly_merge::merge;
 use std::alloc::{AllocError, Global};
 use std::process::Abort;
 
-const THIN: [Point; 6] = [
+static THIN: [Point; 6] = [
     Point { x: 1, z: 1 },
     Point { x: 5, z: 1 },
     Point { x: 5, z: 2 },
@@ -21,14 +21,14 @@ const THIN: [Point; 6] = [
     Point { x: 1, z: 2 },
 ];
 
-const THIN_TRIANGLES: [Triangle; 4] = [
+static THIN_TRIANGLES: [Triangle; 4] = [
     Triangle { a: 1, b: 2, c: 3 },
     Triangle { a: 4, b: 5, c: 0 },
     Triangle { a: 4, b: 0, c: 1 },
     Triangle { a: 1, b: 3, c: 4 },
 ];
 
-const ROUND: [Point; 8] = [
+static ROUND: [Point; 8] = [
     Point { x: 2, z: 0 },
     Point { x: 4, z: 0 },
     Point { x: 6, z: 2 },
@@ -39,7 +39,7 @@ const ROUND: [Point; 8] = [
     Point { x: 0, z: 2 },
 ];
 
-const ROUND_TRIANGLES: [Triangle; 6] = [
+static ROUND_TRIANGLES: [Triangle; 6] = [
     Triangle { a: 7, b: 0, c: 1 },
     Triangle { a: 1, b: 2, c: 3 },
     Triangle { a: 3, b: 4, c: 5 },
@@ -151,14 +151,14 @@ fn leaves(alloc: Global, corners: &[Point], wanted: &[u32]) -> bool {
 }
 
 /// Flat corners.
-const FLAT: [Point; 4] = [
+static FLAT: [Point; 4] = [
     Point { x: 5, z: 2 },
     Point { x: 4, z: 2 },
     Point { x: 2, z: 2 },
     Point { x: 1, z: 2 },
 ];
 
-const CROSSING: [Point; 4] = [
+static CROSSING: [Point; 4] = [
     Point { x: 0, z: 0 },
     Point { x: 2, z: 2 },
     Point { x: 2, z: 0 },

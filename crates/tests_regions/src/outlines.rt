@@ -8,7 +8,7 @@ use nav_base::Point;
 use std::alloc::{AllocError, Global};
 
 /// Four cells in a row: the region 2 lies above the last, the region 1 above the first, and a wall round the rest.
-const ROW: [UnitEdge; 10] = [
+static ROW: [UnitEdge; 10] = [
     UnitEdge {
         from: Point { x: 1, z: 1 },
         to: Point { x: 2, z: 1 },
@@ -62,7 +62,7 @@ const ROW: [UnitEdge; 10] = [
 ];
 
 /// One cell with a wall all round.
-const CELL: [UnitEdge; 4] = [
+static CELL: [UnitEdge; 4] = [
     UnitEdge {
         from: Point { x: 1, z: 1 },
         to: Point { x: 2, z: 1 },
@@ -105,7 +105,7 @@ fn written(simplified: &Simplified) -> (&[Point], &[Code]) {
     }
 }
 
-const LONG: [Point; 6] = [
+static LONG: [Point; 6] = [
     Point { x: 1, z: 1 },
     Point { x: 5, z: 1 },
     Point { x: 5, z: 2 },
@@ -114,14 +114,14 @@ const LONG: [Point; 6] = [
     Point { x: 1, z: 2 },
 ];
 
-const SHORT: [Point; 4] = [
+static SHORT: [Point; 4] = [
     Point { x: 5, z: 2 },
     Point { x: 4, z: 2 },
     Point { x: 2, z: 2 },
     Point { x: 1, z: 2 },
 ];
 
-const SQUARE: [Point; 4] = [
+static SQUARE: [Point; 4] = [
     Point { x: 1, z: 1 },
     Point { x: 2, z: 1 },
     Point { x: 2, z: 2 },
@@ -129,7 +129,7 @@ const SQUARE: [Point; 4] = [
 ];
 
 /// The codes of the sides of the long outline.
-const CODES: [Code; 6] = [
+static CODES: [Code; 6] = [
     Code::Wall,
     Code::Wall,
     Code::Region(2),

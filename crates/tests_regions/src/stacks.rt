@@ -12,7 +12,7 @@ use std::process::Abort;
 
 /// The first row has the columns 1 to 3, the last of which has another area and a neighbour in another tile; the second row has the columns
 /// 1 and 2 on two levels, which are connected to the first row alone.
-const LEVELS: [Row; 5] = [
+static LEVELS: [Row; 5] = [
     (1, 0, 0, 63, NO, 0, 0, NO),
     (2, 0, 0, 63, 0, 1, 0, NO),
     (3, 0, 0, 7, 0, NO, 2, NO),
@@ -22,7 +22,7 @@ const LEVELS: [Row; 5] = [
 
 /// The first two rows join. The third has a common column with the second that is not connected, the fourth has another area than the third,
 /// and the fifth that of the fourth.
-const STAIRS: [Row; 9] = [
+static STAIRS: [Row; 9] = [
     (0, 0, 0, 63, NO, 0, 0, NO),
     (1, 0, 0, 63, 0, 0, NO, NO),
     (0, 1, 0, 63, NO, NO, 0, 0),

@@ -209,7 +209,7 @@ fn check_answer(rt: &impl Abort, alloc: Global, line: u32, answer: Answer, wante
     check_text(rt, out.as_slice(), wanted);
 }
 
-const FLOORS: [FloorAt; 2] = [FloorAt { y: 0, area: 63 }, FloorAt { y: 8191, area: 1 }];
+static FLOORS: [FloorAt; 2] = [FloorAt { y: 0, area: 63 }, FloorAt { y: 8191, area: 1 }];
 
 #[test]
 fn writes_floors(rt: HostRuntime) {
@@ -254,7 +254,7 @@ const LINK: Link = Link {
     },
 };
 
-const TURNS: [Corner; 2] = [
+static TURNS: [Corner; 2] = [
     Corner {
         at: Point { x: 16, z: 32 },
         side: Side::L,

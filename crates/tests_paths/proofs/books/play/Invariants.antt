@@ -1,4 +1,4 @@
-use Rattle.tests_paths.proofs.books.play_all.Given as goal
+use Rattle.tests_paths.proofs.books.play.Given as goal
 
 -- the call's ledger is the blank one that it is handed
 abbrev pub ghosts-wrong_in_play : goal.ghosts-wrong_in_play
