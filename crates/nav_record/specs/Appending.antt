@@ -7,7 +7,8 @@ use Rattle.nav_record.specs.Texts.{poly_text, point_text, side_text}
 use Rattle.nav_record.specs.declared.append.Field.{Field}
 use Rattle.nav_record.specs.declared.append.Field.TheVariants as fields
 
--- all of the text is appended, or, where memory is refused, some of it; where there is room for all of it, it is; and no room is lost
+-- all of the text is appended, or, where memory is refused, the bytes from before still stand in front; where there is room for all of it, it
+-- is appended; and no room is lost
 pub record Appends {T E : Type 0} (old new : Vec ℕ Global) (result : Result T E) (text : List ℕ) : Type 0 where
   pub ok : OnOk result (new.items ≡ old.items ++ text)
   pub err : OnErr result (take (vec_len old) new.items ≡ old.items)

@@ -1,4 +1,4 @@
-//! Words with numbers behind them, appended whole or not at all.
+//! Words with numbers and other fields behind them. `append` appends all or nothing; the others may leave a part where memory is refused.
 ghost use Rattle.std.specs.Prelude.{◌≡◌, ◌+◌, ◌≤◌, ◌∷◌, ◌++◌, codes, length, IsOk, OnOk, OnErr, vec_len, vec_capacity};
 ghost use Rattle.nav_record.specs.Appending.{Appends, field_text, fields_text};
 ghost use Rattle.nav_text.specs.Forms.{line_text};

@@ -1,4 +1,4 @@
--- How a run goes, by the status that it ends with: all that the clauses of the top call say of the source and the sink.
+-- How a run goes, by the status that it ends with: what the clauses of the top call say but `took`, `unread` and `steps`.
 use Rattle.std.specs.Prelude.{◌≡◌, ℕ, ◌+◌, List, Option, String}
 use Rattle.std.specs.declared.alloc.Global.{Global}
 use Rattle.std.specs.Io.KnownBytes.{Appends, Keeps}

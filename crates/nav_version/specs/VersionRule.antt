@@ -53,8 +53,8 @@ pub record Enters (before : Option Shown) (shown same : Shown) (after : Option S
   pub so : IsSo shown before
   pub kept : after ≡ before
 
--- a version that was shown answered a question: its list goes on from the one that was seen, and the answer is right in its mesh, which is
--- that of the ground and the list
+-- a version that was shown answered a question: its list goes on from the one that was seen and has fewer entries than a
+-- u32 can count, and the answer is right in its mesh, which is that of the ground and the list, with a cost that a mesh can have
 pub record HasFound (ground : Ground) (question : Question) (seen : ToldView) (found : ToldView × Answer) : Type 0 where
   pub pair : found.0.pair ≡ seen.pair
   pub goes_on : IsPrefix seen.entries found.0.entries

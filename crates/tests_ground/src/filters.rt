@@ -117,7 +117,7 @@ const BRIDGE: Span = Span {
 };
 
 static CASES: [Case; 14] = [
-    // Two steps stand on the middle column, one, or a high one.
+    // One step stands on the middle column, two, or a high one.
     (
         Asked::LowHanging,
         &[BELOW, LEFT, MIDDLE, STEP, RIGHT, ABOVE],

@@ -53,16 +53,17 @@ fn polygon(x: u32) -> Polygon
     }
 }
 
-/// A tile without inner links.
+/// A tile without inner links, which knows of so many polygons that none leaves them.
 pub(crate) fn tile(
     alloc: Global,
     tile: u32,
+    polygons: u32,
     polys: Vec<Polygon>,
     rim: Vec<RimEdge>,
 ) -> Result<TileMesh, AllocError>
     ensures { IfOk result (λ made. made ≡ hand_tile tile polys.items rim.items) }
 {
-    let links = Links::new(alloc, Vec::new(alloc), 0)?;
+    let links = Links::new(alloc, Vec::new(alloc), polygons)?;
     Ok(TileMesh {
         tile,
         free: FreeLayer {
@@ -107,7 +108,7 @@ fn left(alloc: Global) -> Result<TileMesh, AllocError>
     ];
     let polys = Vec::from_array(alloc, [polygon(2)])?;
     let rim = Vec::from_array(alloc, [rim_edge(alloc, 0, 1, 2, 0, &pairs)?])?;
-    tile(alloc, 0, polys, rim)
+    tile(alloc, 0, 0, polys, rim)
 }
 
 /// The edges of the right tile on the border: the lower polygon leads to the left tile at the first and the last position, the upper one at
@@ -135,7 +136,7 @@ fn right(alloc: Global) -> Result<TileMesh, AllocError>
 {
     let polys = Vec::from_array(alloc, [polygon(4), polygon(4)])?;
     let rim = right_rim(alloc)?;
-    tile(alloc, 1, polys, rim)
+    tile(alloc, 1, 0, polys, rim)
 }
 
 /// The two tiles.
@@ -218,12 +219,12 @@ fn mesh(alloc: Global) -> Result<Mesh, AllocError>
 fn emptied(alloc: Global) -> Result<Vec<(TileNo, Shared<TileMesh>)>, AllocError>
     ensures { IfOk result (λ news. news.items ≡ (1, hand_tile 1 [] []) ∷ []) }
 {
-    let empty = tile(alloc, 1, Vec::new(alloc), Vec::new(alloc))?;
+    let empty = tile(alloc, 1, 0, Vec::new(alloc), Vec::new(alloc))?;
     let empty = Shared::new(alloc, empty)?;
     Ok(Vec::from_array(alloc, [(1, empty)])?)
 }
 
-/// Empties the right tile.
+/// Empties the right tile, and says whether that was done.
 fn empty_right(alloc: Global, mesh: &mut Mesh) -> bool
     requires { mesh.old ≡ mesh_of plain_setting (left_tile ∷ right_tile ∷ []) }
 {

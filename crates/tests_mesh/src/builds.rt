@@ -66,7 +66,7 @@ const SETTING: Setting = Setting {
     clear: false,
 };
 
-/// A block over the middle one.
+/// A block over the middle cell.
 const BLOCK: Shape = Shape::Block {
     x0: 2,
     x1: 2,

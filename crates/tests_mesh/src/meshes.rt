@@ -58,7 +58,7 @@ fn finds_runs(alloc: Global) -> bool {
     has_runs(alloc, &LABELS, &RUNS) && has_runs(alloc, &[], &[]) && has_runs(alloc, &[None], &[])
 }
 
-/// A link from a polygon over an edge to another, through a portal that begins at x.
+/// A link from a polygon of the tile 0 over an edge to another, through a portal that begins at x.
 macro_rules! link {
     ($index:expr, $edge:expr, $to_tile:expr, $to_index:expr, $x:expr) => {
         Link {
@@ -81,7 +81,7 @@ macro_rules! link {
 
 const FIRST: Link = link!(0, 0, 0, 2, 16);
 
-/// In order.
+/// Links in order.
 static LINKS: [Link; 5] = [
     FIRST,
     link!(0, 2, 0, 1, 16),
@@ -174,7 +174,7 @@ fn mesh_of(alloc: Global, tile: TileMesh) -> Result<Mesh, AllocError> {
 /// The mesh of one tile with two polygons and no links.
 fn mesh(alloc: Global) -> Result<Mesh, AllocError> {
     let polys = Vec::from_array(alloc, [square(63), square(5)])?;
-    mesh_of(alloc, tile(alloc, 0, polys, Vec::new(alloc))?)
+    mesh_of(alloc, tile(alloc, 0, 2, polys, Vec::new(alloc))?)
 }
 
 /// A tile, an index, and the area of the polygon there.

@@ -75,7 +75,7 @@ fn has_index(alloc: Global, cells: &[Cell]) -> bool
     }
 }
 
-/// A row that is wrong; 9 where the index is, or where there is no memory.
+/// A row that is wrong, 4 where there are not as many strips; 9 where the index is, or where there is no memory.
 fn wrong(alloc: Global) -> Option<usize> {
     match free(alloc) {
         Ok(free) if has_index(alloc, free.cells.as_slice()) => wrong_strip(alloc, &free),

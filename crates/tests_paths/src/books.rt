@@ -188,15 +188,20 @@ fn next_build<L: Ledger>(
 }
 
 /// Builds the least tile that can be claimed, if there is one, and submits it.
-fn build_next<L: Ledger>(book: &mut Book, alloc: Global, steps: &mut Steps<L>)
+fn build_next<L: Ledger>(
+    book: &mut Book,
+    alloc: Global,
+    steps: &mut Steps<L>,
+) -> Result<(), AllocError>
     ensures { book.new.pair ≡ book.old.pair }
 {
-    match next_build(book, alloc, steps) {
-        Ok(Some(made)) => {
+    match next_build(book, alloc, steps)? {
+        Some(made) => {
             let _taken = book.submit(made);
         }
-        _ => (),
+        None => (),
     }
+    Ok(())
 }
 
 /// Builds all tiles that are awaited for the whole history of a book, of which there are four at most, and publishes it.
@@ -211,7 +216,7 @@ fn settled<R: Wait, L: Ledger>(
     book.put_back_all();
     book.aim();
     for _ in 0..4 {
-        build_next(book, alloc, steps);
+        build_next(book, alloc, steps)?;
     }
     book.publish(rt, alloc)
 }
@@ -255,11 +260,12 @@ enum Step {
 /// What a step was answered.
 #[derive(Clone, Copy, PartialEq)]
 enum Told {
+    /// Also an answer that no row wants.
     Nothing,
     NoMemory,
     /// The number of a request, and the reply.
     Reply(Result<(u32, Reply), HistoryFull>),
-    /// The length that is aimed at, or the tile that is claimed.
+    /// The length that is aimed at, the tile that is claimed, or the length at which a history was not filled.
     Number(u32),
     Submitted(Submitted),
     Published(Result<Published, AllocError>),
@@ -521,7 +527,8 @@ const LAST: Entry = Entry {
     reply: Reply::Added { number: 11 },
 };
 
-/// What is published, and what is seen of it. Columns of the edge and those outside have no floors, each other one has one.
+/// What is published, and what is seen of it. In the last ten rows columns of the edge and those outside have no floors, and each other one has
+/// one.
 static SETTLINGS: [Row; 34] = [
     (
         Step::Ask(0, Asked::Remove(9)),
@@ -694,12 +701,48 @@ fn plays_books(rt: HostRuntime) {
     play(&rt, rt.alloc(), Layout::Two, "covering", &COVERING);
     play(&rt, rt.alloc(), Layout::Two, "filling", &FILLING);
     play(&rt, rt.alloc(), Layout::Four, "awaited tiles", &STEPS);
-    play(&rt, rt.alloc(), Layout::Four, "late, of another tile", &LATE_ELSEWHERE);
-    play(&rt, rt.alloc(), Layout::Four, "late, without the block", &LATE_REMOVED);
-    play(&rt, rt.alloc(), Layout::Four, "late, under the block again", &LATE_AGAIN);
-    play(&rt, rt.alloc(), Layout::Four, "late, under more", &LATE_MORE);
-    play(&rt, rt.alloc(), Layout::Four, "counts of four tiles", &COUNTED);
-    play(&rt, rt.alloc(), Layout::One, "counts of one tile", &COUNTED_ONE);
+    play(
+        &rt,
+        rt.alloc(),
+        Layout::Four,
+        "late, of another tile",
+        &LATE_ELSEWHERE,
+    );
+    play(
+        &rt,
+        rt.alloc(),
+        Layout::Four,
+        "late, without the block",
+        &LATE_REMOVED,
+    );
+    play(
+        &rt,
+        rt.alloc(),
+        Layout::Four,
+        "late, under the block again",
+        &LATE_AGAIN,
+    );
+    play(
+        &rt,
+        rt.alloc(),
+        Layout::Four,
+        "late, under more",
+        &LATE_MORE,
+    );
+    play(
+        &rt,
+        rt.alloc(),
+        Layout::Four,
+        "counts of four tiles",
+        &COUNTED,
+    );
+    play(
+        &rt,
+        rt.alloc(),
+        Layout::One,
+        "counts of one tile",
+        &COUNTED_ONE,
+    );
 }
 
 /// What eyes of a book see: the first one before a block is published there; the second one once it learnt the length that the book tells,

@@ -149,7 +149,7 @@ fn cross(alloc: Global) -> Result<Items<Shared<Links>>, AllocError>
     ensures { IfOk result (λ cross. cross ≡ (border_link ∷ []) ∷ [] ∷ []) }
 {
     let rightward = border(alloc)?;
-    let leftward = no_links(alloc)?;
+    let leftward = no_links(alloc, 2)?;
     Ok(Items::from_vec(Vec::from_array(alloc, [rightward, leftward])?))
 }
 

@@ -57,10 +57,11 @@ fn tile(alloc: Global, tile: u32, polys: Vec<Polygon>) -> Result<Shared<TileMesh
     Ok(Shared::new(alloc, made)?)
 }
 
-pub(crate) fn no_links(alloc: Global) -> Result<Shared<Links>, AllocError>
+/// No links of so many polygons.
+pub(crate) fn no_links(alloc: Global, polygons: u32) -> Result<Shared<Links>, AllocError>
     ensures { IfOk result (λ made. made ≡ []) }
 {
-    let links = Links::new(alloc, Vec::new(alloc), 0)?;
+    let links = Links::new(alloc, Vec::new(alloc), polygons)?;
     Ok(Shared::new(alloc, links)?)
 }
 
@@ -77,8 +78,8 @@ fn tiles(alloc: Global) -> Result<Items<Shared<TileMesh>>, AllocError>
 fn cross(alloc: Global) -> Result<Items<Shared<Links>>, AllocError>
     ensures { IfOk result (λ cross. cross ≡ [] ∷ [] ∷ []) }
 {
-    let rightward = no_links(alloc)?;
-    let leftward = no_links(alloc)?;
+    let rightward = no_links(alloc, 0)?;
+    let leftward = no_links(alloc, 0)?;
     Ok(Items::from_vec(Vec::from_array(alloc, [rightward, leftward])?))
 }
 

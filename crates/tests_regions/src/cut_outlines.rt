@@ -227,9 +227,14 @@ fn unites(rt: &impl Abort, alloc: Global, row: &United) -> Result<bool, EarRefus
     Ok(are_at(pieces_of(rt, alloc, row.0, row.1)?.as_slice(), &row.2))
 }
 
+fn check_united(rt: &impl Abort, alloc: Global, rows: &[United]) -> Result<(), EarRefusal> {
+    for row in rows {
+        assert!(rt; unites(rt, alloc, row)?);
+    }
+    Ok(())
+}
+
 #[test]
 fn unites_triangles(rt: HostRuntime) -> Result<(), EarRefusal> {
-    assert!(rt; unites(&rt, rt.alloc(), &UNITED[0])?);
-    assert!(rt; unites(&rt, rt.alloc(), &UNITED[1])?);
-    Ok(())
+    check_united(&rt, rt.alloc(), &UNITED)
 }

@@ -131,7 +131,7 @@ fn reads_right_lines(rt: HostRuntime) {
     check_thirds(&rt, rt.alloc(), "", &RIGHT_LINES);
 }
 
-/// A line with each fault that it can have.
+/// Lines with each fault that they can have.
 static WRONG_LINES: [Third; 61] = [
     ("floor 0 1024", Way::Play, Told::Fault(47, 2)),
     ("floor 1024 0", Way::Live, Told::Fault(47, 2)),
