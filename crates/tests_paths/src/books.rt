@@ -9,6 +9,7 @@ ghost use Rattle.nav_version.specs.Pairs.{EyeView};
 ghost use Rattle.tile_build.specs.Meshes.{tiles_under};
 ghost use Rattle.nav_book.specs.Results.{IsBuild};
 
+use crate::late_rows::{LATE_AGAIN, LATE_ELSEWHERE, LATE_MORE, LATE_REMOVED};
 use crate::rows::{all_hold, hold};
 use crate::versions::{both, floors};
 use layer_cut::ground;
@@ -32,7 +33,7 @@ use tile_build::build_tiles;
 
 /// What a table asks for: a block over the column (x, 1), a block there that sets the area 5, or that a number goes.
 #[derive(Clone, Copy)]
-enum Asked {
+pub(crate) enum Asked {
     Block(u32),
     Area(u32),
     Remove(u32),
@@ -231,7 +232,7 @@ fn ask_all(book: &mut Book, requests: &[Asked])
 
 /// What is done with a book, or asked of it.
 #[derive(Clone, Copy)]
-enum Step {
+pub(crate) enum Step {
     /// A request in a lane.
     Ask(u32, Asked),
     /// Requests that remove nothing, until the history is full.
@@ -259,7 +260,7 @@ enum Step {
 
 /// What a step was answered.
 #[derive(Clone, Copy, PartialEq)]
-enum Told {
+pub(crate) enum Told {
     /// Also an answer that no row wants.
     Nothing,
     NoMemory,
@@ -397,7 +398,7 @@ fn act<R: Wait, L: Ledger>(
 }
 
 /// A step, and what it is to be told.
-type Row = (Step, Told);
+pub(crate) type Row = (Step, Told);
 
 fn wrong_row<R: Wait, L: Ledger>(
     rt: &R,
@@ -450,7 +451,7 @@ fn play<R: Abort + Wait>(rt: &R, alloc: Global, layout: Layout, name: &str, rows
     all_hold(rt, name, wrong);
 }
 
-const BARE: Option<FloorAt> = Some(FloorAt { y: 10, area: 63 });
+pub(crate) const BARE: Option<FloorAt> = Some(FloorAt { y: 10, area: 63 });
 
 const MUDDY: Option<FloorAt> = Some(FloorAt { y: 10, area: 5 });
 
@@ -641,52 +642,6 @@ static STEPS: [Row; 17] = [
     (Step::AllBack, Told::Nothing),
     (Step::Claim, Told::Number(0)),
 ];
-
-/// The tile 0 is awaited under a block, and its build is submitted once more was asked: a row of what was asked, how the build is taken,
-/// what a publish is answered then, and the floors of the column (1, 1) afterwards.
-macro_rules! late {
-    ($asked:expr, $taken:expr, $published:expr, $count:expr, $floor:expr) => {
-        [
-            (Step::Ask(0, Asked::Block(1)), Told::Reply(Ok((1, Reply::Added { number: 1 })))),
-            (Step::Aim, Told::Number(1)),
-            (Step::Late($asked), Told::Submitted($taken)),
-            (Step::Publish, Told::Published(Ok($published))),
-            (Step::Floors(1, 1), Told::Floors($count, $floor)),
-        ]
-    };
-}
-
-static LATE_ELSEWHERE: [Row; 5] = late!(
-    &[Asked::Area(5)],
-    Submitted::Taken,
-    Published::NotYet { tile: 1 },
-    1,
-    BARE
-);
-
-static LATE_REMOVED: [Row; 5] = late!(
-    &[Asked::Remove(1)],
-    Submitted::Stale,
-    Published::New { k: 2 },
-    1,
-    BARE
-);
-
-static LATE_AGAIN: [Row; 5] = late!(
-    &[Asked::Remove(1), Asked::Block(1)],
-    Submitted::Taken,
-    Published::New { k: 3 },
-    0,
-    None
-);
-
-static LATE_MORE: [Row; 5] = late!(
-    &[Asked::Area(1)],
-    Submitted::Stale,
-    Published::NotYet { tile: 0 },
-    1,
-    BARE
-);
 
 /// Four tiles of three strips each, with as many links inside tiles as over borders.
 static COUNTED: [Row; 1] = [(Step::Counts, Told::Numbers(12, 32))];
