@@ -5,6 +5,7 @@ use Rattle.std.specs.Arc.{arc_value}
 use Rattle.nav_ground.specs.declared.history.Ground.{Ground}
 use Rattle.nav_ground.specs.Limits.{IsShape}
 use Rattle.mesh_types.specs.WholeMesh.{mesh_of}
+use Rattle.nav_version.specs.Pairs.{eye_of}
 use Rattle.nav_desk.specs.BookState.{first_state}
 use Rattle.nav_book.proofs.GroundTiles.{are_tiles, length-tiles_under}
 use Rattle.nav_book.proofs.KeptTiles.{kept_first, opening_is}
@@ -28,3 +29,8 @@ invariant_of-result g c =
     (c.in_ok-desk.ensures.state ∙ ap first_state (search rules)) c.in_ok-desk.ensures.rules c.requires.level
     (c.in_ok-fresh.ensures ∙ ap (λ n. replicate n None) (c.len.ensures ∙ ap length c.requires.tiles ∙ length-tiles_under whole [] c.requires.level))
     c.in_ok-press.ensures.ground (c.in_ok-press.ensures.entries ∙ c.in_ok-new.ensures)
+
+pub returns-clause-eyes : goal.returns-clause-eyes
+returns-clause-eyes g c =
+    let none = c.in_ok-press.ensures.entries ∙ c.in_ok-new.ensures in
+    c.in_ok-press.ensures.eyes ∙ (λ i. replicate c.args.readers (eye_of c.in_ok-press.press.pair (c.in_ok-press.ensures.ground i) (none i)))

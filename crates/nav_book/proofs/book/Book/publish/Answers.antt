@@ -11,7 +11,10 @@ pub publish-requires : goal.publish-requires
 publish-requires g c =
     let state = c.self.inside.desk in
     let patch = c.in_ok-patch-in-New.patch in
-    let between : patch.entries ≡ slice_range state.history state.published state.target = search rules in
+    let between : patch.entries ≡ slice_range state.history state.published state.target =
+    c.in_ok-patch-in-New.ensures.entries
+    ∙ (λ i. slice_range (c.entries.ensures.entries i) (c.published-from.ensures.value i) (c.target-to.ensures.value i))
+    ∙ ap (λ (s : BookState). slice_range s.history s.published s.target) c.publication-answer.ensures.same in
     let news : patch.tiles.items ≡ news_of c.self.inside.fresh.items = search rules in
     can_be_published state c.self.inside.fresh.items c.self.inside.press c.self.invariant c.in-New.k (sym c.in-New.ensures.answer) patch between news
 
@@ -19,7 +22,10 @@ pub invariant_of-self-in-Ok : goal.invariant_of-self-in-Ok
 invariant_of-self-in-Ok g c =
     let state = c.self.inside.desk in
     let patch = c.in_ok-patch-in-New.patch in
-    let between : patch.entries ≡ slice_range state.history state.published state.target = search rules in
+    let between : patch.entries ≡ slice_range state.history state.published state.target =
+    c.in_ok-patch-in-New.ensures.entries
+    ∙ (λ i. slice_range (c.entries.ensures.entries i) (c.published-from.ensures.value i) (c.target-to.ensures.value i))
+    ∙ ap (λ (s : BookState). slice_range s.history s.published s.target) c.publication-answer.ensures.same in
     kept_publish state c.self.inside.fresh.items c.self.inside.press c.self.invariant c.in-New.k (sym c.in-New.ensures.answer)
     c.publish-in-Ok.new.self _ c.publish.new.self patch.entries
     (c.publish-in-Ok.ensures.state ∙ ap after_publish c.publication-answer.ensures.same)
@@ -29,3 +35,6 @@ invariant_of-self-in-Ok g c =
     c.as_mut_slice.ensures.value c.empty.ensures)
     between
     c.in-Ok.ensures.published
+
+pub returns-in-Err-clause-published : goal.returns-in-Err-clause-published
+returns-in-Err-clause-published g c = tt
