@@ -1,9 +1,9 @@
-use Rattle.std.proofs.Common.{◌++◌, ◌∷◌, [], List, sym, subst}
+use Rattle.std.proofs.Common.{◌≡◌, Bool, true, false, not, ◌++◌, ◌∷◌, [], List, ap, refl, sym, subst}
 use Rattle.graph_search.specs.declared.arcs.Step.{Step}
 use Rattle.graph_search.specs.declared.visits.Visit.{Visit}
 use Rattle.graph_search.specs.Visited.{visit_at, IsClosed}
-use Rattle.graph_search.proofs.Writing.{apart_if}
-use Rattle.graph_search.proofs.WayBack.{IsWayTo, way-more}
+use Rattle.graph_search.proofs.Writing.{apart_if, same_if}
+use Rattle.graph_search.proofs.WayBack.{IsWayTo, way-more, way-whole}
 use Rattle.graph_search.proofs.search.walk_to.Goals as goal
 
 pub loop-start-preserved : goal.loop-start-preserved
@@ -18,3 +18,13 @@ loop-start-preserved c =
           (way-more arcs (visit_at c.args.visits.now) c.args.start c.loop-start.vertex c.args.to c.loop-start.steps.items tree c.loop-start.invariant.closed differ
           (c.loop-start.invariant.way arcs tree)));
     }
+
+not_apart : (b : Bool) → false ≡ not b → true ≡ b
+not_apart true is = refl
+not_apart false is = absurd cc
+
+pub returns : goal.returns
+returns c arcs tree =
+    way-whole arcs (visit_at c.args.visits.now) c.args.start c.loop-start.vertex c.args.to c.loop-start.steps.items _ tree
+    (same_if _ _ (not_apart _ c.loop-start-test.ensures)) (c.loop-start.invariant.way arcs tree) c.reverse.ensures.items
+    (ap (λ (u : Visit). u.cost) c.get-cost.ensures)

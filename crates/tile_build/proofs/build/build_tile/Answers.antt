@@ -1,4 +1,4 @@
-use Rattle.std.proofs.Common.{◌≡◌, ◌∙◌, ap, subst, sym}
+use Rattle.std.proofs.Common.{◌≡◌, ◌∙◌, ap, rules, subst, sym}
 use Rattle.nav_ground.specs.declared.cell.FreeLayer.{FreeLayer}
 use Rattle.nav_ground.specs.Cells.{IsInTile}
 use Rattle.std.proofs.lemmas.Result.{IfOk-weaker}
@@ -14,6 +14,11 @@ free_mesh-requires-clause-tile g c =
     subst (λ (free : FreeLayer). IsInTile c.args.setting.now free.tile free.cells) (sym c.in_ok-free.ensures.free)
     (free_in_tile c.args.setting.now c.args.layer.now c.args.shapes.now c.requires.layer.inside)
 
+pub returns-clause-value : goal.returns-clause-value
+returns-clause-value g c =
+    IfOk-weaker c.free_mesh.result _ (λ tile. tile ≡ tile_mesh_of c.args.setting.now c.args.layer.now c.args.shapes.now)
+    (λ tile is. is ∙ ap (mesh_of_free c.args.setting.now) c.in_ok-free.ensures.free) c.free_mesh.ensures.value
+
 pub returns-clause-local : goal.returns-clause-local
 returns-clause-local g c =
     let setting = c.args.setting.now in
@@ -22,3 +27,9 @@ returns-clause-local g c =
     IfOk-weaker c.free_mesh.result _ (λ tile. tile ≡ tile_mesh_of setting layer (touching_shapes setting layer.tile shapes))
     (λ tile is. is ∙ ap (mesh_of_free setting) c.in_ok-free.ensures.free ∙ sym (tile_mesh_local setting layer shapes c.requires.layer.inside))
     c.free_mesh.ensures.value
+
+pub returns-in_err-free-clause-step : goal.returns-in_err-free-clause-step
+returns-in_err-free-clause-step g c = c.tick.ensures
+
+pub returns-clause-step : goal.returns-clause-step
+returns-clause-step g c = search rules
