@@ -23,3 +23,6 @@ returns-in-Err-clause-fits g c = λ _ calm. absurd (calm (rose_since _ _ _ c.pie
 
 pub returns-in-Err-clause-more : goal.returns-in-Err-clause-more
 returns-in-Err-clause-more g c = λ _ calm. absurd (calm (rose_since _ _ _ c.pieces.invariant.later c.in-Err.ensures.cause.failed))
+
+pub returns-in-Err-clause-ok : goal.returns-in-Err-clause-ok
+returns-in-Err-clause-ok g c = tt

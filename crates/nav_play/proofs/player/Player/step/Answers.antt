@@ -1,4 +1,4 @@
-use Rattle.std.proofs.Common.{refl}
+use Rattle.std.proofs.Common.{refl, rules}
 use Rattle.nav_play.proofs.Arms.{add_played, aim_played, at_line, back_played, claim_played, lane_kept, lane_played, publish_played, settle_played, submit_played, undo_played}
 use Rattle.nav_play.proofs.Claiming.{no_step}
 use Rattle.nav_play.proofs.player.Player.step.Goals as goal
@@ -86,3 +86,6 @@ returns-in-Submit-clause-most g c = no_step _ _
 
 pub returns-in-Publish-clause-most : goal.returns-in-Publish-clause-most
 returns-in-Publish-clause-most g c = no_step _ _
+
+pub returns-in-Remove-clause-played : goal.returns-in-Remove-clause-played
+returns-in-Remove-clause-played g c = search rules
