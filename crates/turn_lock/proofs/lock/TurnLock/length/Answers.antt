@@ -4,12 +4,3 @@ use Rattle.turn_lock.proofs.lock.TurnLock.length.Goals as goal
 
 pub load-requires : goal.load-requires
 load-requires g c = (search rules, search rules, looks g.B.Booked.root g.B.Booked.entries g.B.Booked.maker _ _ _ _ _ (search rules) (search rules))
-
-pub returns-clause-met : goal.returns-clause-met
-returns-clause-met g c = search rules
-
-pub returns-clause-grows : goal.returns-clause-grows
-returns-clause-grows g c = search rules
-
-pub returns-clause-seen : goal.returns-clause-seen
-returns-clause-seen g c = search rules
