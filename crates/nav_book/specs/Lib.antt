@@ -2,3 +2,5 @@ pub mod Views
 pub mod Results
 pub mod Fresh
 pub mod Representation
+pub mod Openings
+pub mod Settling

@@ -8,6 +8,7 @@ use Rattle.nav_ground.specs.Tiling.{tile_count}
 use Rattle.mesh_types.specs.declared.mesh.Mesh.{Mesh}
 use Rattle.mesh_types.specs.declared.tile.TileMesh.{TileMesh}
 use Rattle.mesh_types.specs.Builds.{build_of, tile_mesh_of}
+use Rattle.nav_desk.specs.declared.answers.Job.{Job}
 use Rattle.nav_desk.specs.BookState.{BookState}
 use Rattle.nav_book.specs.declared.result.TileResult.{TileResult}
 
@@ -27,3 +28,7 @@ tile_under whole tile shapes = tile_mesh_of whole.setting (layer_of whole.settin
 pub record IsBuild (whole : Ground) (made : TileResult) : Type 0 where
   pub there : made.tile < tile_count whole.setting
   pub mesh : made.mesh ≡ tile_under whole made.tile made.shapes
+
+-- the job of a tile that was built
+abbrev pub job_built : TileResult → Job
+job_built made = record { tile = made.tile; shapes = made.shapes }

@@ -1,1 +1,9 @@
-mod Acts
+mod DealingLaws
+mod JoinLaws
+mod FullLaws
+mod Writing
+mod Catching
+mod RunLaws
+mod MusterLaws
+mod EndLaws
+mod LeftLaws

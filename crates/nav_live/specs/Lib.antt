@@ -1,5 +1,4 @@
 pub mod Dealing
-pub mod LaneRecords
 pub mod LiveRecord
-pub mod Roots
-pub mod LiveBooks
+pub mod Joined
+pub mod Crews

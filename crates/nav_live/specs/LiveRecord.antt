@@ -1,5 +1,5 @@
 -- What a run of a live script may write: one history that all lanes share, and for each lane what its lines were answered.
-use Rattle.std.specs.Prelude.{◌≡◌, ℕ, ◌<◌, List, [], ◌++◌, length, map, flat_map, get_or, All}
+use Rattle.std.specs.Prelude.{◌≡◌, ℕ, ◌<◌, List, [], ◌++◌, length, flat_map, get_or, All}
 use Rattle.std.specs.List.{enumerate_from}
 use Rattle.nav_ground.specs.declared.history.Entry.{Entry}
 use Rattle.nav_ground.specs.declared.history.Ground.{Ground}
@@ -10,10 +10,10 @@ use Rattle.mesh_types.specs.Soundness.{link_count, polygon_count}
 use Rattle.nav_record.specs.declared.step.StepAnswer.TheVariants as steps
 use Rattle.nav_record.specs.Texts.{reply_text, answer_text, step_text, history_text, entry_text, lane_text, final_text}
 use Rattle.nav_script.specs.declared.script.Script.{Script}
-use Rattle.nav_live.specs.declared.said.Said.{Said}
-use Rattle.nav_live.specs.declared.said.Said.TheVariants.{Replied, Answered, Settled}
+use Rattle.nav_lane.specs.declared.said.Said.{Said}
+use Rattle.nav_lane.specs.declared.said.Said.TheVariants.{Replied, Answered, Settled}
 use Rattle.nav_live.specs.Dealing.{lines_of}
-use Rattle.nav_live.specs.LaneRecords.{Spoken, IsLane}
+use Rattle.nav_lane.specs.LaneRecords.{Spoken, IsLane}
 
 -- the lines of what a line of a lane was answered
 abbrev pub said_text : Said → List ℕ

@@ -1,12 +1,16 @@
-//! What a live run stands on: a book that threads share, and what such a run may write. No call runs lanes yet.
+//! Runs a script's lanes over one book, each lane in a thread, beside workers that build tiles.
 //!
-//! The threads share a book under a turn lock: `LiveBook` is the lock's value. Each act on it is one step of the book's definition, with that
-//! step's answer; requests alone add entries to the history, each under the lane that makes it. `specs/LiveRecord.antt` says what a run of a
-//! live script may write.
+//! The program uses one contract: `live` gives a text that `specs/LiveRecord.antt` allows: one history of all requests, each once and those of a
+//! lane in the lane's order; for each lane, line by line, what it was answered, every question from a published version of that history that goes
+//! on from all that the lane had seen; and at last the counts of the mesh under the whole history.
 #![tactic(auto)]
 
-mod book;
-mod said;
+mod closing;
+mod crew;
+mod deal;
+mod hand;
+mod muster;
+mod run;
+mod text;
 
-pub use book::{LiveAct, LiveBook, LiveDone, LiveRoot};
-pub use said::Said;
+pub use run::{LiveText, live};

@@ -26,7 +26,7 @@ use Rattle.nav_play.specs.Claims.{HasClaimed}
 use Rattle.nav_play.specs.Jobs.{back_said, book_after_back, book_after_submit, publication_said, submit_said}
 use Rattle.nav_play.specs.PlayRecord.{PlayState, IsSaid, adds_and, answered_text, number_answered, number_got, number_in, request_text, state_after}
 use Rattle.nav_play.specs.Players.{AreHeld, HasPlayed, HasRequested, HasState, IsPlayable, IsSteady, held_job, jobs_of_held, player_state}
-use Rattle.nav_play.specs.Settling.{after_settle, awaited_tiles, settling}
+use Rattle.nav_book.specs.Settling.{after_settle, awaited_tiles, settling}
 use Rattle.nav_play.specs.Tallies.{HasCounted, totals_after}
 use Rattle.nav_play.specs.Work.{jobs_of}
 use Rattle.nav_play.proofs.Lists.{none_more}

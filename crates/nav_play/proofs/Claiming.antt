@@ -7,12 +7,12 @@ use Rattle.nav_desk.specs.declared.answers.Job.{Job}
 use Rattle.nav_desk.specs.BookState.{BookState}
 use Rattle.nav_desk.specs.Steps.{after_claim, next_job}
 use Rattle.nav_book.specs.declared.result.TileResult.{TileResult}
-use Rattle.nav_book.specs.Results.{IsBuild}
+use Rattle.nav_book.specs.Results.{IsBuild, job_built}
 use Rattle.nav_record.specs.declared.step.StepAnswer.TheVariants as answers
 use Rattle.nav_steps.specs.Counts.{HasRisenAtMost}
 use Rattle.nav_play.specs.Claims.{HasClaimed}
 use Rattle.nav_play.specs.Jobs.{book_after_claim, claim_said, held_after_claim, job_said, jobs_given, jobs_of_claim}
-use Rattle.nav_play.specs.Players.{AreHeld, held_job, job_built}
+use Rattle.nav_play.specs.Players.{AreHeld, held_job}
 use Rattle.nav_play.proofs.Held.{claim_jobs, held_set, idle, job_held, jobs_same}
 
 -- a worker that holds a tile is busy

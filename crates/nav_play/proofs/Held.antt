@@ -13,7 +13,8 @@ use Rattle.nav_desk.specs.declared.answers.Submitted.{Submitted}
 use Rattle.nav_desk.specs.Steps.{next_job, submission}
 use Rattle.nav_play.specs.Jobs.{held_after_claim, submission_said, submit_said}
 use Rattle.nav_book.specs.declared.result.TileResult.{TileResult}
-use Rattle.nav_play.specs.Players.{AreHeld, IsHeld, held_job, job_built, jobs_of_held}
+use Rattle.nav_book.specs.Results.{job_built}
+use Rattle.nav_play.specs.Players.{AreHeld, IsHeld, held_job, jobs_of_held}
 
 -- the job of what a worker holds
 pub job_held : (held : List (Option TileResult)) (worker : ℕ) (made : Option TileResult) → made ≡ get_or held worker None

@@ -1,6 +1,4 @@
 mod Lists
-mod Passing
-mod JobLaws
 mod Held
 mod Claiming
 mod Wholes

@@ -1,7 +1,6 @@
 -- That no line changes the ground, the number of lanes or the number of workers.
-use Rattle.std.proofs.Common.{◌≡◌, ℕ, List, [], ◌∷◌, Bool, true, false, Option, Some, None, refl}
+use Rattle.std.proofs.Common.{◌≡◌, Bool, true, false, ℕ, Option, Some, None, refl}
 use Rattle.std.specs.Prelude.{if◌then◌else◌, length}
-use Rattle.std.specs.List.{fold}
 use Rattle.std.proofs.lemmas.List.{length-replicate, length-set}
 use Rattle.nav_ground.specs.declared.history.Request.{Request}
 use Rattle.nav_desk.specs.declared.answers.Job.{Job}
@@ -11,15 +10,7 @@ use Rattle.nav_script.specs.declared.line.Line.{Line}
 use Rattle.nav_script.specs.declared.line.Line.TheVariants.{Lane, Ask, Add, Remove, Undo, Settle, Aim, Claim, Back, Submit, Publish}
 use Rattle.nav_play.specs.Jobs.{book_after_back, book_after_claim, book_after_submit}
 use Rattle.nav_play.specs.PlayRecord.{PlayState, held_by, state_after}
-use Rattle.nav_play.specs.Settling.{after_job, after_settle, all_built, awaited_tiles, settling}
-
-jobs_whole : (book : BookState) (tiles : List ℕ) → (fold after_job book tiles).whole ≡ book.whole
-jobs_whole book [] = refl
-jobs_whole book (tile ∷ tiles) = jobs_whole (after_job book tile) tiles
-
-pub settled_whole : (book : BookState) → (after_settle book).whole ≡ book.whole
-unfolding all_built
-settled_whole book = jobs_whole (settling book) (awaited_tiles (settling book))
+use Rattle.nav_book.proofs.Settled.{settled_whole}
 
 requested_whole : (book : BookState) (lane : ℕ) (request : Request) → (requested book lane request).whole ≡ book.whole
 requested_whole book lane request = by_case (is_full book)

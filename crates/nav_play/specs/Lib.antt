@@ -1,4 +1,3 @@
-pub mod Settling
 pub mod Jobs
 pub mod PlayRecord
 pub mod PlayTotals

@@ -8,7 +8,6 @@ use Rattle.nav_ground.specs.declared.history.Reply.{Reply}
 use Rattle.nav_ground.specs.declared.history.Reply.TheVariants.{Added, Removed, Full, Dead}
 use Rattle.nav_ground.specs.declared.history.Request.{Request}
 use Rattle.nav_ground.specs.declared.history.Request.TheVariants as requests
-use Rattle.nav_ground.specs.Layers.{layers_of}
 use Rattle.mesh_types.specs.declared.answers.Answer.{Answer}
 use Rattle.mesh_types.specs.Right.{IsRight}
 use Rattle.nav_desk.specs.declared.answers.HistoryFull.{HistoryFull}
@@ -16,14 +15,15 @@ use Rattle.nav_desk.specs.declared.answers.Job.{Job}
 use Rattle.nav_desk.specs.BookState.{BookState}
 use Rattle.nav_desk.specs.BookState as books
 use Rattle.nav_desk.specs.Steps.{after_aim, after_publish, publication, request_answer, requested}
+use Rattle.nav_book.specs.Openings.{ground_of}
 use Rattle.nav_book.specs.Results.{published_mesh}
+use Rattle.nav_book.specs.Settling.{after_settle}
 use Rattle.nav_record.specs.declared.step.StepAnswer.TheVariants as answers
 use Rattle.nav_record.specs.Texts.{reply_text, step_text, answer_text, done_text}
 use Rattle.nav_script.specs.declared.line.Line.{Line}
 use Rattle.nav_script.specs.declared.line.Line.TheVariants.{Lane, Ask, Add, Remove, Undo, Settle, Aim, Claim, Back, Submit, Publish}
 use Rattle.nav_script.specs.declared.script.Script.{Script}
 use Rattle.nav_play.specs.Jobs.{claim_said, held_after_claim, book_after_claim, back_said, book_after_back, submit_said, book_after_submit, publication_said}
-use Rattle.nav_play.specs.Settling.{after_settle}
 
 -- what stands between two lines: the book, the lane of the next request, for each lane the numbers that its add lines got, 0 where
 -- nothing was added, and for each worker the job of the tile that it holds, if it holds one
@@ -32,10 +32,6 @@ pub record PlayState : Type 0 where
   pub lane : ℕ
   pub adds : List (List ℕ)
   pub held : List (Option Job)
-
--- the ground of a setting and a field
-abbrev pub ground_of : Setting → Field → Ground
-ground_of setting field = record { setting = setting; field = field; layers = layers_of setting field }
 
 -- a play begins with no history, in lane 0, and its workers hold nothing
 abbrev pub opening_state : Ground → ℕ → ℕ → PlayState

@@ -7,7 +7,7 @@ use Rattle.nav_ground.specs.Limits.{IsShape}
 use Rattle.nav_desk.specs.declared.answers.Job.{Job}
 use Rattle.nav_desk.specs.Steps.{requested}
 use Rattle.nav_book.specs.declared.result.TileResult.{TileResult}
-use Rattle.nav_book.specs.Results.{IsBuild}
+use Rattle.nav_book.specs.Results.{IsBuild, job_built}
 use Rattle.nav_query.specs.Questions.{IsAnswerable}
 use Rattle.nav_play.specs.declared.player.Player.{Player}
 use Rattle.nav_play.specs.PlayRecord.{PlayState, AddsSome, IsSaid, request_text, state_after}
@@ -16,10 +16,6 @@ use Rattle.nav_play.specs.Work.{jobs_of}
 use Rattle.nav_script.specs.declared.line.Line.{Line}
 use Rattle.nav_script.specs.declared.line.Line.TheVariants.{Lane, Ask, Add, Remove, Undo, Settle, Aim, Claim, Back, Submit, Publish}
 use Rattle.nav_script.specs.declared.script.Script.{Script}
-
--- the job of a tile that was built
-abbrev pub job_built : TileResult → Job
-job_built made = record { tile = made.tile; shapes = made.shapes }
 
 -- the jobs of the tiles that workers hold
 abbrev pub jobs_of_held : List (Option TileResult) → List (Option Job)

@@ -1,17 +1,15 @@
 //! Single steps of workers and of the book.
 
-ghost use Rattle.std.specs.Prelude.{◌≡◌, ◌+◌, ◌<◌, [], None, IfOk, OnOk, length, replicate, slice_set};
-ghost use Rattle.nav_book.specs.Results.{IsBuild};
-ghost use Rattle.nav_desk.specs.BookState.{IsBook};
-ghost use Rattle.nav_desk.specs.Steps.{IsJob, after_publish, publication};
+ghost use Rattle.std.specs.Prelude.{◌≡◌, ◌+◌, ◌<◌, None, IfOk, OnOk, length, replicate, slice_set};
+ghost use Rattle.nav_desk.specs.Steps.{after_publish, publication};
 ghost use Rattle.nav_play.specs.Claims.{HasClaimed};
 ghost use Rattle.nav_play.specs.Jobs.{jobs_of_claim, back_said, book_after_back, submit_said, book_after_submit, publication_said};
-ghost use Rattle.nav_play.specs.Players.{AreHeld, held_job, job_built, jobs_of_held};
-ghost use Rattle.nav_play.specs.Settling.{IsUnclaimed, after_settle, all_built, awaited_tiles, settling};
+ghost use Rattle.nav_play.specs.Players.{AreHeld, held_job, jobs_of_held};
+ghost use Rattle.nav_book.specs.Settling.{after_settle, awaited_tiles, settling};
 ghost use Rattle.nav_steps.specs.Counts.{HasRisenAtMost};
 
 use crate::workers::Workers;
-use nav_book::{Book, Job, Published, Submitted, TileResult, build_job};
+use nav_book::{Book, Job, Published, Submitted, TileResult};
 use nav_record::StepAnswer;
 use nav_steps::Steps;
 use std::alloc::{AllocError, Global};
@@ -38,29 +36,11 @@ pub(crate) fn claim<L: Ledger>(
         None => Ok(StepAnswer::NoTile { worker }),
         Some(job) => {
             let tile = job.tile;
-            let made = built(alloc, book, job, steps)?;
+            let made = book.build(alloc, job, steps)?;
             workers.hold(worker, made);
             Ok(StepAnswer::Claimed { worker, tile })
         }
     }
-}
-
-/// The build of the tile of a job. It takes one step, also where memory is refused.
-fn built<L: Ledger>(
-    alloc: Global,
-    book: &Book,
-    job: Job,
-    steps: &mut Steps<L>,
-) -> Result<TileResult, AllocError>
-    requires job { IsJob book.now.state.whole.setting job }
-    ensures rules { IsBook book.now.state }
-    ensures job { IfOk result (λ made. job_built made ≡ job) }
-    ensures made { IfOk result (IsBuild book.now.state.whole) }
-    ensures step { steps.new ≡ steps.old + 1 }
-{
-    let mesh = build_job(alloc, book.level(), &job, steps)?;
-    let Job { tile, shapes } = job;
-    Ok(TileResult { tile, shapes, mesh })
 }
 
 /// A worker puts back the job of the tile that it holds.
@@ -138,28 +118,6 @@ pub(crate) fn settle<R: Wait, L: Ledger>(
     ensures most { HasRisenAtMost (length (awaited_tiles (settling book.old.state))) steps.old steps.new }
 {
     workers.drop_all();
-    book.put_back_all();
-    let k = book.aim();
-    build_all(alloc, book, steps)?;
-    let _ = book.publish(rt, alloc)?;
+    let k = book.settle(rt, alloc, steps)?;
     Ok(StepAnswer::Settled { k })
-}
-
-/// Builds and submits every tile that is awaited, in rising order.
-fn build_all<L: Ledger>(
-    alloc: Global,
-    book: &mut Book,
-    steps: &mut Steps<L>,
-) -> Result<(), AllocError>
-    requires free { IsUnclaimed book.old.state }
-    ensures book { OnOk result (book.new.state ≡ all_built book.old.state) }
-    ensures none { OnOk result (awaited_tiles book.new.state ≡ []) }
-    ensures steps { OnOk result (steps.new ≡ steps.old + length (awaited_tiles book.old.state)) }
-    ensures most { HasRisenAtMost (length (awaited_tiles book.old.state)) steps.old steps.new }
-{
-    while let Some(job) = book.claim(alloc)? {
-        let made = built(alloc, book, job, steps)?;
-        let _ = book.submit(made);
-    }
-    Ok(())
 }

@@ -1,29 +1,56 @@
 -- What the clauses of the top call say, from how a run went.
-use Rattle.std.proofs.Common.{◌≡◌, ℕ, ◌+◌, ◌≤◌, ◌⊎◌, List, [], ◌∷◌, length, arith, ap, subst, sym, ◌∙◌, refl, inl, inr}
-use Rattle.std.specs.Prelude.{Option, Some, None, IfSome, String}
+use Rattle.std.proofs.Common.{◌≡◌, ℕ, ◌+◌, ◌≤◌, ◌⊎◌, List, [], ◌∷◌, length, get_or, arith, ap, subst, sym, ◌∙◌, refl, inl, inr}
+use Rattle.std.specs.Prelude.{Option, Some, None, IfSome, String, codes}
 use Rattle.std.specs.declared.alloc.Global.{Global}
 use Rattle.std.specs.Io.KnownBytes.{Appends, Keeps}
 use Rattle.std.proofs.lemmas.List.{length-append}
 use Rattle.nav_io.specs.Causes.{Rose, GivesAll, TookMany, HasMore}
 use Rattle.nav_io.proofs.Laws.{GivesAll-known}
 use Rattle.nav_record.specs.Texts.{usage_text, too_long_text}
+use Rattle.nav_script.specs.declared.script.Way.{Way}
+use Rattle.nav_script.specs.declared.script.Way.TheVariants.{Play, Live}
 use Rattle.nav_run.specs.declared.status.Status.{Status}
 use Rattle.nav_run.specs.declared.status.Status.TheVariants as statuses
 use Rattle.nav_run.specs.Courses.{HasRun}
 use Rattle.nav_run.specs.Endings.{HasEnded}
-use Rattle.nav_run.specs.Inputs.{IsPlay, IsPlayed, input_limit}
+use Rattle.nav_run.specs.Inputs.{IsInputFor, IsRunText, input_limit}
 use Rattle.nav_run.specs.Outcomes.{IsDue, HasTold, HasBroken, HasDone}
-use Rattle.nav_run.specs.Words.{IsForm, IsPlayForm, IsGen}
+use Rattle.nav_run.specs.Words.{IsForm, IsReadForm, IsWayForm, IsGen}
 
--- an input with a play text is in the grammar
-play_of : (bytes text : List ℕ) → IsPlayed bytes text → IsPlay bytes
-play_of bytes text played = record { setting = played.setting; field = played.field; script = played.script; there = played.there }
+-- an input with a text of its run is in the grammar
+input_for : (way : Way) (bytes text : List ℕ) → IsRunText way bytes text → IsInputFor way bytes
+input_for way bytes text ran = record { setting = ran.setting; field = ran.field; script = ran.script; there = ran.there }
+
+-- the two words differ
+two_words : codes "play" ≡ codes "live" → ⊥
+two_words same = let first : get_or (codes "play") 0 0 ≡ get_or (codes "live") 0 0 = ap (λ xs. get_or xs 0 0) same in omega (arith, first)
+
+-- the words ask for one way at most
+same_way : (words : List (String Global)) (way other : Way) → IsWayForm way words → IsWayForm other words → way ≡ other
+same_way [] way other form there = absurd form
+same_way (word ∷ []) Play Play form there = refl
+same_way (word ∷ []) Play Live form there = absurd (two_words (sym form ∙ there))
+same_way (word ∷ []) Live Play form there = absurd (two_words (sym there ∙ form))
+same_way (word ∷ []) Live Live form there = refl
+same_way (word ∷ next ∷ more) way other form there = absurd form
+
+-- an input for one way that the words ask for is an input for the other
+same_input : (words : List (String Global)) (way other : Way) (input known : List ℕ) → IsWayForm way words → IsWayForm other words
+    → input ≡ known → IsInputFor way input → IsInputFor other known
+same_input words way other input known form there same fits =
+    let W : Way → Type 0 = λ w. IsInputFor w known in
+    let I : List ℕ → Type 0 = λ xs. IsInputFor way xs in
+    subst W (same_way words way other form there) (subst I same fits)
 
 -- one word is no form of three
-pub one_form : (words : List (String Global)) (Goal : Type 0) → IsPlayForm words → IsGen words → Goal
-one_form [] Goal play gen = absurd play
-one_form (word ∷ []) Goal play gen = absurd gen.form
-one_form (word ∷ other ∷ more) Goal play gen = absurd play
+pub one_form : (words : List (String Global)) (Goal : Type 0) → IsReadForm words → IsGen words → Goal
+one_form [] Goal reads gen = absurd reads.form
+one_form (word ∷ []) Goal reads gen = absurd gen.form
+one_form (word ∷ other ∷ more) Goal reads gen = absurd reads.form
+
+-- the words ask for an input to be read, as they ask for a way to run one
+pub reads_for : (words : List (String Global)) (way : Way) → IsWayForm way words → IsReadForm words
+reads_for words way form = record { way = way; form = form }
 
 -- a text that was read to its end within the limit is no longer
 pub not_more : (before after : Option (List ℕ)) (bytes : List ℕ) (Goal : Type 0) → GivesAll before after bytes → length bytes ≤ input_limit
@@ -59,18 +86,17 @@ module _ (words : List (String Global)) (before after : Option (List ℕ)) (read
   pub run_ok : (status : Status) → Run status → status ≡ statuses.Ok → HasDone words before after held_before held_after
   run_ok status run is = subst Run is run
 
-  pub run_bad_text : (status : Status) → Run status → status ≡ statuses.BadText
-      → IsPlayForm words × HasTold before after held_before held_after
+  pub run_bad_text : (status : Status) → Run status → status ≡ statuses.BadText → HasTold words before after held_before held_after
   run_bad_text status run is =
-      let told = subst Run is run in
-      (told.0, record { text = told.1.text; due = told.1.due; written = told.1.written })
+      let refused = subst Run is run in
+      record { text = refused.text; due = refused.due; written = refused.written }
 
   pub run_usage : (status : Status) → Run status → status ≡ statuses.Usage
       → (¬ IsForm words) × Appends held_before held_after usage_text × (after ≡ before)
   run_usage status run is = subst Run is run
 
   pub run_read_fault : (status : Status) → Run status → status ≡ statuses.ReadFault
-      → IsPlayForm words × Rose reads_before reads_after × Keeps held_before held_after
+      → IsReadForm words × Rose reads_before reads_after × Keeps held_before held_after
   run_read_fault status run is = subst Run is run
 
   pub run_write_fault : (status : Status) → Run status → status ≡ statuses.WriteFault
@@ -78,7 +104,7 @@ module _ (words : List (String Global)) (before after : Option (List ℕ)) (read
   run_write_fault status run is = subst Run is run
 
   pub run_too_long : (status : Status) → Run status → status ≡ statuses.TooLong
-      → IsPlayForm words × TookMany before after (input_limit + 1) × Appends held_before held_after too_long_text
+      → IsReadForm words × TookMany before after (input_limit + 1) × Appends held_before held_after too_long_text
   run_too_long status run is = subst Run is run
 
   pub run_no_memory : (status : Status) → Run status → status ≡ statuses.OutOfMemory → Keeps held_before held_after
@@ -86,8 +112,11 @@ module _ (words : List (String Global)) (before after : Option (List ℕ)) (read
 
   -- words in no form
   pub run_no_form : (status : Status) → Run status → (¬ IsForm words) → (status ≡ statuses.Usage) ⊎ (status ≡ statuses.WriteFault)
-  run_no_form statuses.Ok run none = absurd (none (elim run [ inl played ↦ inl played.0 | inr summed ↦ inr (record { number = summed.due.number; size = summed.due.size; form = summed.due.form }) ]))
-  run_no_form statuses.BadText run none = absurd (none (inl run.0))
+  run_no_form statuses.Ok run none = absurd (none (elim run [
+    | inl answered ↦ inl (reads_for words answered.due.way answered.due.form)
+    | inr summed ↦ inr (record { number = summed.due.number; size = summed.due.size; form = summed.due.form })
+  ]))
+  run_no_form statuses.BadText run none = absurd (none (inl (reads_for words run.due.way run.due.form)))
   run_no_form statuses.Usage run none = inl refl
   run_no_form statuses.ReadFault run none = absurd (none (inl run.0))
   run_no_form statuses.WriteFault run none = inr refl
@@ -95,14 +124,14 @@ module _ (words : List (String Global)) (before after : Option (List ℕ)) (read
   run_no_form statuses.OutOfMemory run none = absurd (none run.0)
 
   -- more than may be read
-  pub run_more : (status : Status) → Run status → IsPlayForm words → HasMore before input_limit
+  pub run_more : (status : Status) → Run status → IsReadForm words → HasMore before input_limit
       → (¬ Rose reads_before reads_after) → (¬ Rose writes_before writes_after)
       → (status ≡ statuses.TooLong) ⊎ (status ≡ statuses.OutOfMemory)
   run_more statuses.Ok run form more calm quiet = elim run [
-    | inl played ↦ not_more before after played.1.due.input _ played.1.due.read played.1.due.short more
+    | inl answered ↦ not_more before after answered.due.input _ answered.due.read answered.due.short more
     | inr summed ↦ one_form words _ form (record { number = summed.due.number; size = summed.due.size; form = summed.due.form })
   ]
-  run_more statuses.BadText run form more calm quiet = not_more before after run.1.due.input _ run.1.due.read run.1.due.short more
+  run_more statuses.BadText run form more calm quiet = not_more before after run.due.input _ run.due.read run.due.short more
   run_more statuses.Usage run form more calm quiet = absurd (run.0 (inl form))
   run_more statuses.ReadFault run form more calm quiet = absurd (calm run.1)
   run_more statuses.WriteFault run form more calm quiet = absurd (quiet run.0)
@@ -113,45 +142,52 @@ module _ (words : List (String Global)) (before after : Option (List ℕ)) (read
   pub run_made : (status : Status) → Run status → IsGen words → (¬ Rose writes_before writes_after)
       → (status ≡ statuses.Ok) ⊎ (status ≡ statuses.OutOfMemory)
   run_made statuses.Ok run gen quiet = inl refl
-  run_made statuses.BadText run gen quiet = one_form words _ run.0 gen
+  run_made statuses.BadText run gen quiet = one_form words _ (reads_for words run.due.way run.due.form) gen
   run_made statuses.Usage run gen quiet = absurd (run.0 (inr gen))
   run_made statuses.ReadFault run gen quiet = one_form words _ run.0 gen
   run_made statuses.WriteFault run gen quiet = absurd (quiet run.0)
   run_made statuses.TooLong run gen quiet = one_form words _ run.0 gen
   run_made statuses.OutOfMemory run gen quiet = inr refl
 
--- an input that can be played
+-- an input for the way that the words ask for
 pub run_complete : (words : List (String Global)) (before after : Option (List ℕ)) (reads_before reads_after : ℕ)
     (held_before held_after : Option (List ℕ)) (writes_before writes_after : ℕ) (status : Status)
     → HasRun words before after reads_before reads_after held_before held_after writes_before writes_after status
-    → IfSome before (λ input. IsPlayForm words → IsPlay input → length input ≤ input_limit
+    → IfSome before (λ input. (way : Way) → IsWayForm way words → IsInputFor way input → length input ≤ input_limit
     → (¬ Rose reads_before reads_after) → (¬ Rose writes_before writes_after)
     → (status ≡ statuses.Ok) ⊎ (status ≡ statuses.OutOfMemory))
 run_complete words None after rb ra hb ha wb wa status run = tt
-run_complete words (Some input) after rb ra hb ha wb wa statuses.Ok run = λ form play short calm quiet. inl refl
-run_complete words (Some input) after rb ra hb ha wb wa statuses.BadText run = λ form play short calm quiet.
-    absurd (run.1.no_play (subst IsPlay (sym (GivesAll-known (Some input) after run.1.due.input run.1.due.read)) play))
-run_complete words (Some input) after rb ra hb ha wb wa statuses.Usage run = λ form play short calm quiet. absurd (run.0 (inl form))
-run_complete words (Some input) after rb ra hb ha wb wa statuses.ReadFault run = λ form play short calm quiet. absurd (calm run.1)
-run_complete words (Some input) after rb ra hb ha wb wa statuses.WriteFault run = λ form play short calm quiet. absurd (quiet run.0)
-run_complete words (Some input) after rb ra hb ha wb wa statuses.TooLong run = λ form play short calm quiet. too_many input after _ run.1 short
-run_complete words (Some input) after rb ra hb ha wb wa statuses.OutOfMemory run = λ form play short calm quiet. inr refl
+run_complete words (Some input) after rb ra hb ha wb wa statuses.Ok run = λ way form fits short calm quiet. inl refl
+run_complete words (Some input) after rb ra hb ha wb wa statuses.BadText run = λ way form fits short calm quiet.
+    let same = GivesAll-known (Some input) after run.due.input run.due.read in
+    absurd (run.no_input (same_input words way run.due.way input run.due.input form run.due.form (sym same) fits))
+run_complete words (Some input) after rb ra hb ha wb wa statuses.Usage run = λ way form fits short calm quiet.
+    absurd (run.0 (inl (reads_for words way form)))
+run_complete words (Some input) after rb ra hb ha wb wa statuses.ReadFault run = λ way form fits short calm quiet. absurd (calm run.1)
+run_complete words (Some input) after rb ra hb ha wb wa statuses.WriteFault run = λ way form fits short calm quiet. absurd (quiet run.0)
+run_complete words (Some input) after rb ra hb ha wb wa statuses.TooLong run = λ way form fits short calm quiet. too_many input after _ run.1 short
+run_complete words (Some input) after rb ra hb ha wb wa statuses.OutOfMemory run = λ way form fits short calm quiet. inr refl
 
--- an input that cannot be played
+-- a text that is no input for the way that the words ask for
 pub run_wrong : (words : List (String Global)) (before after : Option (List ℕ)) (reads_before reads_after : ℕ)
     (held_before held_after : Option (List ℕ)) (writes_before writes_after : ℕ) (status : Status)
     → HasRun words before after reads_before reads_after held_before held_after writes_before writes_after status
-    → IfSome before (λ input. IsPlayForm words → (¬ IsPlay input) → length input ≤ input_limit
+    → IfSome before (λ input. (way : Way) → IsWayForm way words → (¬ IsInputFor way input) → length input ≤ input_limit
     → (¬ Rose reads_before reads_after) → (¬ Rose writes_before writes_after)
     → (status ≡ statuses.BadText) ⊎ (status ≡ statuses.OutOfMemory))
 run_wrong words None after rb ra hb ha wb wa status run = tt
-run_wrong words (Some input) after rb ra hb ha wb wa statuses.Ok run = λ form no_play short calm quiet. elim run [
-  | inl played ↦ absurd (no_play (subst IsPlay (GivesAll-known (Some input) after played.1.due.input played.1.due.read) (play_of _ _ played.1.due.played)))
-  | inr summed ↦ one_form words _ form (record { number = summed.due.number; size = summed.due.size; form = summed.due.form })
+run_wrong words (Some input) after rb ra hb ha wb wa statuses.Ok run = λ way form no_input short calm quiet. elim run [
+  | inl answered ↦
+      let due = answered.due in
+      absurd (no_input (same_input words due.way way due.input input due.form form (GivesAll-known (Some input) after due.input due.read)
+      (input_for due.way due.input answered.text due.ran)))
+  | inr summed ↦
+      one_form words _ (reads_for words way form) (record { number = summed.due.number; size = summed.due.size; form = summed.due.form })
 ]
-run_wrong words (Some input) after rb ra hb ha wb wa statuses.BadText run = λ form no_play short calm quiet. inl refl
-run_wrong words (Some input) after rb ra hb ha wb wa statuses.Usage run = λ form no_play short calm quiet. absurd (run.0 (inl form))
-run_wrong words (Some input) after rb ra hb ha wb wa statuses.ReadFault run = λ form no_play short calm quiet. absurd (calm run.1)
-run_wrong words (Some input) after rb ra hb ha wb wa statuses.WriteFault run = λ form no_play short calm quiet. absurd (quiet run.0)
-run_wrong words (Some input) after rb ra hb ha wb wa statuses.TooLong run = λ form no_play short calm quiet. too_many input after _ run.1 short
-run_wrong words (Some input) after rb ra hb ha wb wa statuses.OutOfMemory run = λ form no_play short calm quiet. inr refl
+run_wrong words (Some input) after rb ra hb ha wb wa statuses.BadText run = λ way form no_input short calm quiet. inl refl
+run_wrong words (Some input) after rb ra hb ha wb wa statuses.Usage run = λ way form no_input short calm quiet.
+    absurd (run.0 (inl (reads_for words way form)))
+run_wrong words (Some input) after rb ra hb ha wb wa statuses.ReadFault run = λ way form no_input short calm quiet. absurd (calm run.1)
+run_wrong words (Some input) after rb ra hb ha wb wa statuses.WriteFault run = λ way form no_input short calm quiet. absurd (quiet run.0)
+run_wrong words (Some input) after rb ra hb ha wb wa statuses.TooLong run = λ way form no_input short calm quiet. too_many input after _ run.1 short
+run_wrong words (Some input) after rb ra hb ha wb wa statuses.OutOfMemory run = λ way form no_input short calm quiet. inr refl

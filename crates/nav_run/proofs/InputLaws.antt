@@ -9,7 +9,7 @@ use Rattle.nav_ground.specs.Fields.{IsField}
 use Rattle.nav_script.specs.declared.script.Script.{Script}
 use Rattle.nav_script.specs.declared.script.ScriptRefusal.{ScriptRefusal}
 use Rattle.nav_script.specs.declared.script.ScriptRefusal.TheVariants as script_refusals
-use Rattle.nav_script.specs.declared.script.Way.TheVariants.{Play}
+use Rattle.nav_script.specs.declared.script.Way.{Way}
 use Rattle.nav_script.specs.Limits.{IsScriptText}
 use Rattle.nav_script.specs.Reading.{IsFirstFaultFrom}
 use Rattle.nav_script.specs.Reading as script_reading
@@ -23,7 +23,7 @@ use Rattle.span_text.specs.Outcome as field_reading
 use Rattle.nav_run.specs.declared.input.Input.{Input}
 use Rattle.nav_run.specs.declared.input.InputRefusal.{InputRefusal}
 use Rattle.nav_run.specs.declared.input.InputRefusal.TheVariants as input_refusals
-use Rattle.nav_run.specs.Inputs.{BeginsWithField, IsInput, IsScriptFault}
+use Rattle.nav_run.specs.Inputs.{BeginsWithField, IsInput, IsRunnable, IsScriptFault}
 
 -- the field reader reads the text of a setting and a field as these; the script reader the text of a script as that
 abbrev pub ReadsField : List ℕ → Result FieldText FieldRefusal → Type 0
@@ -31,8 +31,8 @@ ReadsField bytes result = (setting : Setting) (field : Field) (text rest : List 
     → IsSetting setting → IsField field → IsFieldText text setting field
     → bytes ≡ text ++ rest → field_reading.Gives setting field (length text) result
 
-abbrev pub ReadsScript : List ℕ → Result Script ScriptRefusal → Type 0
-ReadsScript bytes result = (script : Script) → IsScriptText Play bytes script → script_reading.Gives script result
+abbrev pub ReadsScript : Way → List ℕ → Result Script ScriptRefusal → Type 0
+ReadsScript way bytes result = (script : Script) → IsScriptText way bytes script → script_reading.Gives script result
 
 -- two faults of inputs that are the same refusal are the same
 pub same_fault : (x y : TextFault)
@@ -40,55 +40,55 @@ pub same_fault : (x y : TextFault)
 same_fault x y e = cc
 
 -- what the field reader gives of an input
-given : (bytes : List ℕ) (result : Result FieldText FieldRefusal) → ReadsField bytes result
-    → (setting : Setting) (field : Field) (script : Script) (there : IsInput bytes setting field script)
+given : (way : Way) (bytes : List ℕ) (result : Result FieldText FieldRefusal) → ReadsField bytes result
+    → (setting : Setting) (field : Field) (script : Script) (there : IsInput way bytes setting field script)
     → field_reading.Gives setting field (length there.head) result
-given bytes result reads setting field script there =
+given way bytes result reads setting field script there =
     reads setting field there.head there.tail there.front.setting_rules there.front.field_rules there.front.spelled there.front.parts
 
 -- an input has no fault in its field text
-pub no_field_fault : (bytes : List ℕ) (result : Result FieldText FieldRefusal) (fault : TextFault) → ReadsField bytes result
+pub no_field_fault : (way : Way) (bytes : List ℕ) (result : Result FieldText FieldRefusal) (fault : TextFault) → ReadsField bytes result
     → result ≡ Err (field_refusals.Fault fault)
-    → (setting : Setting) (field : Field) (script : Script) → IsInput bytes setting field script → ⊥
-no_field_fault bytes result fault reads is setting field script there =
+    → (setting : Setting) (field : Field) (script : Script) → IsInput way bytes setting field script → ⊥
+no_field_fault way bytes result fault reads is setting field script there =
     let P : Result FieldText FieldRefusal → Type 0 = λ r. field_reading.Gives setting field (length there.head) r in
-    subst P is (given bytes result reads setting field script there)
+    subst P is (given way bytes result reads setting field script there)
 
 -- the setting and the field of an input are those that were read, and the script text is what is behind the bytes used
-pub read_parts : (bytes : List ℕ) (result : Result FieldText FieldRefusal) (text : FieldText) → ReadsField bytes result
+pub read_parts : (way : Way) (bytes : List ℕ) (result : Result FieldText FieldRefusal) (text : FieldText) → ReadsField bytes result
     → result ≡ Ok text
-    → (setting : Setting) (field : Field) (script : Script) → IsInput bytes setting field script
-    → (text.setting ≡ setting) × (text.field ≡ field) × IsScriptText Play (drop text.used bytes) script
-read_parts bytes result text reads is setting field script there =
+    → (setting : Setting) (field : Field) (script : Script) → IsInput way bytes setting field script
+    → (text.setting ≡ setting) × (text.field ≡ field) × IsScriptText way (drop text.used bytes) script
+read_parts way bytes result text reads is setting field script there =
     let P : Result FieldText FieldRefusal → Type 0 = λ r. field_reading.Gives setting field (length there.head) r in
-    let parts = subst P is (given bytes result reads setting field script there) in
+    let parts = subst P is (given way bytes result reads setting field script there) in
     let behind : drop text.used bytes ≡ there.tail =
     ap (λ n. drop n bytes) parts.2 ∙ ap (λ xs. drop (length there.head) xs) there.front.parts ∙ drop_at there.head there.tail _ refl in
-    let S : List ℕ → Type 0 = λ xs. IsScriptText Play xs script in
+    let S : List ℕ → Type 0 = λ xs. IsScriptText way xs script in
     (parts.0, parts.1, subst S (sym behind) there.script_text)
 
 -- an input has no fault in its script text
-pub no_script_fault : (bytes behind : List ℕ) (result : Result FieldText FieldRefusal) (text : FieldText)
+pub no_script_fault : (way : Way) (bytes behind : List ℕ) (result : Result FieldText FieldRefusal) (text : FieldText)
     (read : Result Script ScriptRefusal) (fault : TextFault)
     → ReadsField bytes result → result ≡ Ok text → behind ≡ drop text.used bytes
-    → ReadsScript behind read → read ≡ Err (script_refusals.Fault fault)
-    → (setting : Setting) (field : Field) (script : Script) → IsInput bytes setting field script → ⊥
-no_script_fault bytes behind result text read fault reads is rest scripts faulty setting field script there =
-    let parts = read_parts bytes result text reads is setting field script there in
-    let S : List ℕ → Type 0 = λ xs. IsScriptText Play xs script in
+    → ReadsScript way behind read → read ≡ Err (script_refusals.Fault fault)
+    → (setting : Setting) (field : Field) (script : Script) → IsInput way bytes setting field script → ⊥
+no_script_fault way bytes behind result text read fault reads is rest scripts faulty setting field script there =
+    let parts = read_parts way bytes result text reads is setting field script there in
+    let S : List ℕ → Type 0 = λ xs. IsScriptText way xs script in
     let P : Result Script ScriptRefusal → Type 0 = λ r. script_reading.Gives script r in
     subst P faulty (scripts script (subst S (sym rest) parts.2))
 
 -- what was read is what the input says
-pub same_parts : (bytes behind : List ℕ) (result : Result FieldText FieldRefusal) (text : FieldText)
+pub same_parts : (way : Way) (bytes behind : List ℕ) (result : Result FieldText FieldRefusal) (text : FieldText)
     (read : Result Script ScriptRefusal) (found : Script)
     → ReadsField bytes result → result ≡ Ok text → behind ≡ drop text.used bytes
-    → ReadsScript behind read → read ≡ Ok found
-    → (setting : Setting) (field : Field) (script : Script) → IsInput bytes setting field script
+    → ReadsScript way behind read → read ≡ Ok found
+    → (setting : Setting) (field : Field) (script : Script) → IsInput way bytes setting field script
     → (text.setting ≡ setting) × (text.field ≡ field) × (found ≡ script)
-same_parts bytes behind result text read found reads is rest scripts good setting field script there =
-    let parts = read_parts bytes result text reads is setting field script there in
-    let S : List ℕ → Type 0 = λ xs. IsScriptText Play xs script in
+same_parts way bytes behind result text read found reads is rest scripts good setting field script there =
+    let parts = read_parts way bytes result text reads is setting field script there in
+    let S : List ℕ → Type 0 = λ xs. IsScriptText way xs script in
     let P : Result Script ScriptRefusal → Type 0 = λ r. script_reading.Gives script r in
     (parts.0, parts.1, subst P good (scripts script (subst S (sym rest) parts.2)))
 
@@ -104,25 +104,36 @@ front_of bytes behind text setting field spelled rest = record {
 }
 
 -- what was read is an input
-pub input_of : (bytes behind : List ℕ) (text : FieldText) (script : Script) → IsSetting text.setting → IsField text.field
+pub input_of : (way : Way) (bytes behind : List ℕ) (text : FieldText) (script : Script) → IsSetting text.setting → IsField text.field
     → IsFieldText (take text.used bytes) text.setting text.field → behind ≡ drop text.used bytes
-    → IsScriptText Play behind script
-    → IsInput bytes text.setting text.field script
-input_of bytes behind text script setting field spelled rest scripted = record {
+    → IsScriptText way behind script
+    → IsInput way bytes text.setting text.field script
+input_of way bytes behind text script setting field spelled rest scripted = record {
   head = take text.used bytes;
   tail = behind;
   front = front_of bytes behind text setting field spelled rest;
   script_text = scripted;
 }
 
+-- what an input says can be run
+pub runnable_of : (way : Way) (bytes : List ℕ) (setting : Setting) (field : Field) (script : Script) → IsInput way bytes setting field script
+    → IsRunnable way setting field script
+runnable_of way bytes setting field script there = record {
+  setting_rules = there.front.setting_rules;
+  field_rules = there.front.field_rules;
+  sized = record { width = there.front.spelled.width; depth = there.front.spelled.depth };
+  built = record { clear = there.front.spelled.clear };
+  script_rules = there.script_text.1;
+}
+
 -- a fault of the script text is one of the input
-pub script_fault_of : (bytes behind : List ℕ) (text : FieldText) (first : ℕ) (fault : TextFault) → IsSetting text.setting → IsField text.field
+pub script_fault_of : (way : Way) (bytes behind : List ℕ) (text : FieldText) (first : ℕ) (fault : TextFault) → IsSetting text.setting → IsField text.field
     → IsFieldText (take text.used bytes) text.setting text.field → behind ≡ drop text.used bytes
     → first ≡ length (lines (take text.used bytes)) + 1
-    → IsFirstFaultFrom Play first behind fault
-    → IsScriptFault bytes fault
-script_fault_of bytes behind text first fault setting field spelled rest counted fails =
-    let P : ℕ → Type 0 = λ n. IsFirstFaultFrom Play n behind fault in
+    → IsFirstFaultFrom way first behind fault
+    → IsScriptFault way bytes fault
+script_fault_of way bytes behind text first fault setting field spelled rest counted fails =
+    let P : ℕ → Type 0 = λ n. IsFirstFaultFrom way n behind fault in
     record {
       head = take text.used bytes;
       tail = behind;

@@ -10,14 +10,15 @@ use Rattle.nav_play.specs.PlayTotals.{AreTotals}
 use Rattle.nav_play.specs.Work.{builds_of}
 use Rattle.nav_record.specs.declared.totals.Totals.{Totals}
 use Rattle.nav_script.specs.declared.script.Script.{Script}
+use Rattle.nav_script.specs.declared.script.Way.TheVariants.{Play}
 use Rattle.nav_steps.specs.Counts.{HasRisenAtMost}
 use Rattle.nav_text.specs.Lines.{lines}
-use Rattle.nav_run.specs.Inputs.{IsInput, IsPlay, input_limit}
+use Rattle.nav_run.specs.Inputs.{IsInput, IsInputFor, input_limit}
 use Rattle.nav_run.specs.Made.{IsMadeSummary, made_builds}
 
 -- a made input is an input
 pub made_is_input : (number size : ℕ) → IsMadeInput number size
-    → IsInput (made_text number size) (made_setting size) (made_field number size) (made_script number size)
+    → IsInput Play (made_text number size) (made_setting size) (made_field number size) (made_script number size)
 made_is_input number size made = record {
   head = made_field_text number size;
   tail = made_script_text number size;
@@ -26,8 +27,8 @@ made_is_input number size made = record {
 }
 
 -- bytes that are a made input can be played, and are short enough
-pub made_play : (number size : ℕ) (bytes : List ℕ) → IsMadeInput number size → bytes ≡ made_text number size → IsPlay bytes
-made_play number size bytes made is = subst IsPlay (sym is) (record {
+pub made_play : (number size : ℕ) (bytes : List ℕ) → IsMadeInput number size → bytes ≡ made_text number size → IsInputFor Play bytes
+made_play number size bytes made is = subst (λ xs. IsInputFor Play xs) (sym is) (record {
   setting = made_setting size;
   field = made_field number size;
   script = made_script number size;
@@ -40,7 +41,7 @@ made_short number size bytes short is = let P : List ℕ → Type 0 = λ xs. len
 
 -- whatever these bytes are an input of is this setting, field and script
 abbrev pub AreReadAs : List ℕ → Setting → Field → Script → Type 0
-AreReadAs bytes setting field script = (set : Setting) (level : Field) (lines : Script) → IsInput bytes set level lines
+AreReadAs bytes setting field script = (set : Setting) (level : Field) (lines : Script) → IsInput Play bytes set level lines
     → (setting ≡ set) × (field ≡ level) × (script ≡ lines)
 
 -- a made input that was read is the setting, the field and the script that it was made of
@@ -48,7 +49,7 @@ made_parts : (number size : ℕ) (bytes : List ℕ) (setting : Setting) (field :
     → bytes ≡ made_text number size → AreReadAs bytes setting field script
     → (setting ≡ made_setting size) × (field ≡ made_field number size) × (script ≡ made_script number size)
 made_parts number size bytes setting field script made is reads =
-    let P : List ℕ → Type 0 = λ xs. IsInput xs (made_setting size) (made_field number size) (made_script number size) in
+    let P : List ℕ → Type 0 = λ xs. IsInput Play xs (made_setting size) (made_field number size) (made_script number size) in
     reads (made_setting size) (made_field number size) (made_script number size) (subst P (sym is) (made_is_input number size made))
 
 -- totals of a play, which has no others

@@ -5,34 +5,39 @@ use Rattle.std.specs.declared.alloc.Global.{Global}
 use Rattle.nav_io.specs.Causes.{GivesAll, TookMany, TookAtMost}
 use Rattle.nav_steps.specs.Counts.{HasRisenAtMost}
 use Rattle.nav_record.specs.Texts.{usage_text, too_long_text}
+use Rattle.nav_script.specs.declared.script.Way.{Way}
 use Rattle.nav_run.specs.declared.status.Status.{Status}
 use Rattle.nav_run.specs.declared.status.Status.TheVariants as statuses
 use Rattle.nav_run.specs.declared.words.Form.{Form}
-use Rattle.nav_run.specs.declared.words.Form.TheVariants.{Play, Gen}
+use Rattle.nav_run.specs.declared.words.Form.TheVariants.{Read, Gen}
 use Rattle.nav_run.specs.Answers.{TellsFault}
 use Rattle.nav_run.specs.Courses.{HasRun}
 use Rattle.nav_run.specs.Endings.{HasEnded}
-use Rattle.nav_run.specs.Inputs.{IsPlay, IsPlayed, IsFault, input_limit}
+use Rattle.nav_run.specs.Inputs.{IsInputFor, IsRunText, IsFault, input_limit}
 use Rattle.nav_run.specs.Made.{IsMadeSummary, made_builds}
-use Rattle.nav_run.specs.Outcomes.{IsPlayDue, IsFaultDue, IsSummaryDue}
-use Rattle.nav_run.specs.StepCounts.{HasStepped, HasReadStepped, HasRunStepped}
-use Rattle.nav_run.specs.Words.{AskFor, IsForm, IsPlayForm, IsGenForm}
-use Rattle.nav_run.proofs.CourseLaws.{wrote}
+use Rattle.nav_run.specs.Outcomes.{IsTextDue, IsFaultDue, IsSummaryDue}
+use Rattle.nav_run.specs.StepCounts.{HasStepped, HasRunStepped}
+use Rattle.nav_run.specs.Words.{AskFor, IsForm, IsWayForm, IsGenForm}
+use Rattle.nav_run.proofs.CourseLaws.{wrote, reads_for}
 
--- a play text of what was read is due
-play_due : (before after : Option (List ℕ)) (input bytes written text : List ℕ) → GivesAll before after input → length input ≤ input_limit
-    → bytes ≡ input → written ≡ text → IsPlayed bytes text → IsPlayDue before after written
-play_due before after input bytes written text gave short same as_text played =
-    let B : List ℕ → Type 0 = λ xs. IsPlayed xs text in
-    let T : List ℕ → Type 0 = λ xs. IsPlayed input xs in
-    record { input = input; read = gave; short = short; played = subst T (sym as_text) (subst B same played) }
+-- a text of the run of what was read is due
+text_due : (words : List (String Global)) (way : Way) (before after : Option (List ℕ)) (input bytes written text : List ℕ) → IsWayForm way words
+    → GivesAll before after input → length input ≤ input_limit → bytes ≡ input → written ≡ text → IsRunText way bytes text
+    → IsTextDue words before after written
+text_due words way before after input bytes written text form gave short same as_text ran =
+    let B : List ℕ → Type 0 = λ xs. IsRunText way xs text in
+    let T : List ℕ → Type 0 = λ xs. IsRunText way input xs in
+    record { way = way; form = form; input = input; read = gave; short = short; ran = subst T (sym as_text) (subst B same ran) }
 
 -- the line of the fault of what was read is due
-fault_due : (before after : Option (List ℕ)) (input bytes written text : List ℕ) → GivesAll before after input → length input ≤ input_limit
-    → bytes ≡ input → written ≡ text → TellsFault bytes text → IsFaultDue before after written
-fault_due before after input bytes written text gave short same as_text tells =
-    let B : List ℕ → Type 0 = λ xs. IsFault xs tells.fault in
+fault_due : (words : List (String Global)) (way : Way) (before after : Option (List ℕ)) (input bytes written text : List ℕ) → IsWayForm way words
+    → GivesAll before after input → length input ≤ input_limit → bytes ≡ input → written ≡ text → TellsFault way bytes text
+    → IsFaultDue words before after written
+fault_due words way before after input bytes written text form gave short same as_text tells =
+    let B : List ℕ → Type 0 = λ xs. IsFault way xs tells.fault in
     record {
+      way = way;
+      form = form;
       input = input;
       fault = tells.fault;
       read = gave;
@@ -41,41 +46,44 @@ fault_due before after input bytes written text gave short same as_text tells =
       told = as_text ∙ tells.told;
     }
 
--- a run that was to write the play of what was read
-pub played_run : (before after : Option (List ℕ)) (reads_before reads_after : ℕ) (held_before held_after : Option (List ℕ))
+-- a run that was to write a text of what was read
+pub answered_run : (way : Way) (before after : Option (List ℕ)) (reads_before reads_after : ℕ) (held_before held_after : Option (List ℕ))
     (writes_before writes_after : ℕ) (input bytes written text : List ℕ) (status : Status)
-    → GivesAll before after input → length input ≤ input_limit → bytes ≡ input → written ≡ text → IsPlayed bytes text
+    → GivesAll before after input → length input ≤ input_limit → bytes ≡ input → written ≡ text → IsRunText way bytes text
     → HasEnded held_before held_after writes_before writes_after written statuses.Ok status
-    → (words : List (String Global)) → IsPlayForm words
+    → (words : List (String Global)) → IsWayForm way words
     → HasRun words before after reads_before reads_after held_before held_after writes_before writes_after status
-played_run before after rb ra hb ha wb wa input bytes written text status gave short same as_text played ended words form =
-    let due = play_due before after input bytes written text gave short same as_text played in
-    wrote words before after rb ra hb ha wb wa written statuses.Ok status ended (inr (inr (form, inr (inl due))))
-    (λ there. inl (form, record { text = written; due = due; written = there }))
+answered_run way before after rb ra hb ha wb wa input bytes written text status gave short same as_text ran ended words form =
+    let due = text_due words way before after input bytes written text form gave short same as_text ran in
+    wrote words before after rb ra hb ha wb wa written statuses.Ok status ended (inr (inr (inr (inl due))))
+    (λ there. inl (record { text = written; due = due; written = there }))
 
 -- a run that was to write the fault of what was read
-pub refused_run : (before after : Option (List ℕ)) (reads_before reads_after : ℕ) (held_before held_after : Option (List ℕ))
+pub refused_run : (way : Way) (before after : Option (List ℕ)) (reads_before reads_after : ℕ) (held_before held_after : Option (List ℕ))
     (writes_before writes_after : ℕ) (input bytes written text : List ℕ) (status : Status)
-    → GivesAll before after input → length input ≤ input_limit → bytes ≡ input → written ≡ text → TellsFault bytes text → (IsPlay bytes → ⊥)
+    → GivesAll before after input → length input ≤ input_limit → bytes ≡ input → written ≡ text → TellsFault way bytes text
+    → (IsInputFor way bytes → ⊥)
     → HasEnded held_before held_after writes_before writes_after written statuses.BadText status
-    → (words : List (String Global)) → IsPlayForm words
+    → (words : List (String Global)) → IsWayForm way words
     → HasRun words before after reads_before reads_after held_before held_after writes_before writes_after status
 unfolding fault_due
-refused_run before after rb ra hb ha wb wa input bytes written text status gave short same as_text tells no_play ended words form =
-    let due : IsFaultDue before after written = fault_due before after input bytes written text gave short same as_text tells in
-    wrote words before after rb ra hb ha wb wa written statuses.BadText status ended (inr (inr (form, inr (inr due))))
-    (λ there. (form, record { text = written; due = due; no_play = λ play. no_play (subst IsPlay (sym same) play); written = there }))
+refused_run way before after rb ra hb ha wb wa input bytes written text status gave short same as_text tells none ended words form =
+    let I : List ℕ → Type 0 = λ xs. IsInputFor way xs in
+    let due : IsFaultDue words before after written = fault_due words way before after input bytes written text form gave short same as_text tells in
+    wrote words before after rb ra hb ha wb wa written statuses.BadText status ended (inr (inr (inr (inr due))))
+    (λ there. record { text = written; due = due; no_input = λ fits. none (subst I (sym same) fits); written = there })
 
 -- a run that read too many bytes
-pub long_run : (before after : Option (List ℕ)) (reads_before reads_after : ℕ) (held_before held_after : Option (List ℕ))
+pub long_run : (way : Way) (before after : Option (List ℕ)) (reads_before reads_after : ℕ) (held_before held_after : Option (List ℕ))
     (writes_before writes_after : ℕ) (status : Status)
     → TookMany before after (input_limit + 1)
     → HasEnded held_before held_after writes_before writes_after too_long_text statuses.TooLong status
-    → (words : List (String Global)) → IsPlayForm words
+    → (words : List (String Global)) → IsWayForm way words
     → HasRun words before after reads_before reads_after held_before held_after writes_before writes_after status
-long_run before after rb ra hb ha wb wa status many ended words form =
-    wrote words before after rb ra hb ha wb wa too_long_text statuses.TooLong status ended (inr (inr (form, inl (many, refl))))
-    (λ there. (form, many, there))
+long_run way before after rb ra hb ha wb wa status many ended words form =
+    let reads = reads_for words way form in
+    wrote words before after rb ra hb ha wb wa too_long_text statuses.TooLong status ended (inr (inr (inl (reads, many, refl))))
+    (λ there. (reads, many, there))
 
 -- a run on words in no form
 pub formless_run : (words : List (String Global)) (before : Option (List ℕ)) (reads_before reads_after : ℕ) (held_before held_after : Option (List ℕ))
@@ -86,8 +94,8 @@ formless_run words before rb ra hb ha wb wa status none ended =
     wrote words before before rb ra hb ha wb wa usage_text statuses.Usage status ended (inl (none, refl, refl)) (λ there. (none, there, refl))
 
 -- the form that the words are in
-pub play_form_of : (words : List (String Global)) (form : Form) → AskFor words (Some form) → form ≡ Play → IsPlayForm words
-play_form_of words form asked is = let A : Form → Type 0 = λ f. AskFor words (Some f) in subst A is asked
+pub way_form_of : (words : List (String Global)) (way : Way) (form : Form) → AskFor words (Some form) → form ≡ Read way → IsWayForm way words
+way_form_of words way form asked is = let A : Form → Type 0 = λ f. AskFor words (Some f) in subst A is asked
 
 pub gen_form_of : (words : List (String Global)) (number size : ℕ) (form : Form) → AskFor words (Some form) → form ≡ Gen number size
     → IsGenForm number size words
@@ -106,7 +114,10 @@ summed_run words before rb ra hb ha wb wa number size written text status form s
     wrote words before before rb ra hb ha wb wa written statuses.Ok status ended (inr (inl due))
     (λ there. inr (record { text = written; due = due; written = there }))
 
--- the words are a form, as they ask for a made input
+-- the words are a form, as they ask for a way to run an input; and as they ask for a made input
+pub is_read_form : (words : List (String Global)) (way : Way) → IsWayForm way words → IsForm words
+is_read_form words way form = inl (reads_for words way form)
+
 pub is_gen_form : (words : List (String Global)) (number size : ℕ) → IsGenForm number size words → IsForm words
 is_gen_form words number size form = inr (record { number = number; size = size; form = form })
 
@@ -125,20 +136,16 @@ pub took_none : (before : Option (List ℕ)) → TookAtMost before before (input
 took_none None = ([], omega arith, tt)
 took_none (Some bytes) = ([], omega arith, refl)
 
--- the steps of the play of what was read
-pub read_stepped : (before after : Option (List ℕ)) (input bytes : List ℕ) (steps_before steps_after : ℕ) → GivesAll before after input
-    → length input ≤ input_limit → bytes ≡ input → HasStepped bytes steps_before steps_after
-    → HasReadStepped before after steps_before steps_after
-read_stepped before after input bytes sb sa gave short same stepped =
-    let B : List ℕ → Type 0 = λ xs. HasStepped xs sb sa in
+-- the steps of the run of what was read
+pub read_stepped : (way : Way) (before after : Option (List ℕ)) (input bytes : List ℕ) (steps_before steps_after : ℕ) → GivesAll before after input
+    → length input ≤ input_limit → bytes ≡ input → HasStepped way bytes steps_before steps_after
+    → (words : List (String Global)) → IsWayForm way words → HasRunStepped words before after steps_before steps_after
+read_stepped way before after input bytes sb sa gave short same stepped words form =
+    let B : List ℕ → Type 0 = λ xs. HasStepped way xs sb sa in
     elim (subst B same stepped) [
       | inl none ↦ inl none
-      | inr some ↦ inr (record { input = input; read = gave; short = short; steps = some })
+      | inr some ↦ inr (inl (record { way = way; form = form; input = input; read = gave; short = short; steps = some }))
     ]
-
-pub run_stepped : (words : List (String Global)) (before after : Option (List ℕ)) (steps_before steps_after : ℕ) → IsPlayForm words
-    → HasReadStepped before after steps_before steps_after → HasRunStepped words before after steps_before steps_after
-run_stepped words before after sb sa form stepped = elim stepped [ inl none ↦ inl none | inr some ↦ inr (inl (form, some)) ]
 
 pub gen_stepped : (words : List (String Global)) (before after : Option (List ℕ)) (number size steps_before steps_after : ℕ)
     → IsGenForm number size words → HasRisenAtMost (made_builds number size) steps_before steps_after

@@ -1,31 +1,32 @@
 -- What an input is answered with.
 use Rattle.std.specs.Prelude.{◌≡◌, ℕ, List, ⊤}
 use Rattle.nav_record.specs.Texts.{fault_text}
+use Rattle.nav_script.specs.declared.script.Way.{Way}
 use Rattle.nav_text.specs.declared.fault.TextFault.{TextFault}
 use Rattle.nav_run.specs.declared.answer.Answer.{Answer}
-use Rattle.nav_run.specs.declared.answer.Answer.TheVariants.{Played, Fault, OutOfMemory}
-use Rattle.nav_run.specs.Inputs.{IsPlayed, IsFault}
+use Rattle.nav_run.specs.declared.answer.Answer.TheVariants.{Text, Fault, OutOfMemory}
+use Rattle.nav_run.specs.Inputs.{IsRunText, IsFault}
 
--- the text is the line of a fault of the input
-pub record TellsFault (bytes text : List ℕ) : Type 0 where
+-- the text is the line of a fault of the input that is to be run this way
+pub record TellsFault (way : Way) (bytes text : List ℕ) : Type 0 where
   pub fault : TextFault
-  pub wrong : IsFault bytes fault
+  pub wrong : IsFault way bytes fault
   pub told : text ≡ fault_text fault
 
--- the answer is right: a play text is one of the input, and a fault line tells a fault of it
-abbrev pub IsRight : List ℕ → Answer → Type 0
-IsRight bytes (Played text) = IsPlayed bytes text.items
-IsRight bytes (Fault text) = TellsFault bytes text.items
-IsRight bytes OutOfMemory = ⊤
+-- the answer is right: a text is one of the input for this way to run it, and a fault line tells a fault of it
+abbrev pub IsRight : Way → List ℕ → Answer → Type 0
+IsRight way bytes (Text text) = IsRunText way bytes text.items
+IsRight way bytes (Fault text) = TellsFault way bytes text.items
+IsRight way bytes OutOfMemory = ⊤
 
--- the answer is a play text, unless memory ran out
-abbrev pub IsPlayedUnless : Answer → Type 0
-IsPlayedUnless (Played text) = ⊤
-IsPlayedUnless (Fault text) = ⊥
-IsPlayedUnless OutOfMemory = ⊤
+-- the answer is a text of a run, unless memory ran out
+abbrev pub IsTextUnless : Answer → Type 0
+IsTextUnless (Text text) = ⊤
+IsTextUnless (Fault text) = ⊥
+IsTextUnless OutOfMemory = ⊤
 
 -- the answer is the line of this fault, unless memory ran out
 abbrev pub IsLineOf : TextFault → Answer → Type 0
-IsLineOf fault (Played text) = ⊥
+IsLineOf fault (Text text) = ⊥
 IsLineOf fault (Fault text) = text.items ≡ fault_text fault
 IsLineOf fault OutOfMemory = ⊤

@@ -4,25 +4,31 @@ use Rattle.std.specs.declared.alloc.Global.{Global}
 use Rattle.std.specs.Io.KnownBytes.{Appends}
 use Rattle.nav_io.specs.Causes.{GivesAll, TookMany, AppendsPrefix}
 use Rattle.nav_record.specs.Texts.{fault_text, usage_text, too_long_text}
+use Rattle.nav_script.specs.declared.script.Way.{Way}
 use Rattle.nav_text.specs.declared.fault.TextFault.{TextFault}
-use Rattle.nav_run.specs.Inputs.{IsPlayed, IsFault, input_limit}
+use Rattle.nav_run.specs.Inputs.{IsRunText, IsFault, input_limit}
 use Rattle.nav_run.specs.Made.{IsMadeSummary}
-use Rattle.nav_run.specs.Words.{IsForm, IsPlayForm, IsGenForm}
+use Rattle.nav_run.specs.Words.{IsForm, IsGenForm, IsReadForm, IsWayForm}
 
--- the whole input was read, and this text is a play text of it
-pub record IsPlayDue (before after : Option (List ℕ)) (text : List ℕ) : Type 0 where
+-- the words ask for an input to be run some way, the whole of it was read, and this text is one of it for that way: a play text for the word
+-- `play`, a live text for the word `live`
+pub record IsTextDue (words : List (String Global)) (before after : Option (List ℕ)) (text : List ℕ) : Type 0 where
+  pub way : Way
+  pub form : IsWayForm way words
   pub input : List ℕ
   pub read : GivesAll before after input
   pub short : length input ≤ input_limit
-  pub played : IsPlayed input text
+  pub ran : IsRunText way input text
 
--- the whole input was read, and this text tells its fault
-pub record IsFaultDue (before after : Option (List ℕ)) (text : List ℕ) : Type 0 where
+-- the words ask for an input to be run some way, the whole of it was read, and this text tells its fault
+pub record IsFaultDue (words : List (String Global)) (before after : Option (List ℕ)) (text : List ℕ) : Type 0 where
+  pub way : Way
+  pub form : IsWayForm way words
   pub input : List ℕ
   pub fault : TextFault
   pub read : GivesAll before after input
   pub short : length input ≤ input_limit
-  pub wrong : IsFault input fault
+  pub wrong : IsFault way input fault
   pub told : text ≡ fault_text fault
 
 -- the words ask for a made input, and this text is its summary; nothing was read
@@ -33,19 +39,19 @@ pub record IsSummaryDue (words : List (String Global)) (before after : Option (L
   pub unread : after ≡ before
   pub summary : IsMadeSummary number size text
 
--- the text is what the run owed its sink: after words in no form the usage line, with nothing read; after the word `play` the line that says
--- that too many bytes were read, or a play text or the fault of the whole input; after `gen NUMBER SIZE` the summary, with nothing read
+-- the text is what the run owed its sink: after words in no form the usage line, with nothing read; after the word `play` or `live` the line
+-- that says that too many bytes were read, or a text or the fault of the whole input; after `gen NUMBER SIZE` the summary, with nothing read
 abbrev pub IsDue : List (String Global) → Option (List ℕ) → Option (List ℕ) → List ℕ → Type 0
 IsDue words before after text =
     ((¬ IsForm words) × (after ≡ before) × (text ≡ usage_text))
     ⊎ (IsSummaryDue words before after text
-    ⊎ (IsPlayForm words × ((TookMany before after (input_limit + 1) × (text ≡ too_long_text))
-    ⊎ (IsPlayDue before after text ⊎ IsFaultDue before after text))))
+    ⊎ ((IsReadForm words × TookMany before after (input_limit + 1) × (text ≡ too_long_text))
+    ⊎ (IsTextDue words before after text ⊎ IsFaultDue words before after text)))
 
--- a play was written: all of its text, to the sink that held what it held
-pub record HasPlayed (before after held_before held_after : Option (List ℕ)) : Type 0 where
+-- an input was run: all of its text was written, to the sink that held what it held
+pub record HasAnswered (words : List (String Global)) (before after held_before held_after : Option (List ℕ)) : Type 0 where
   pub text : List ℕ
-  pub due : IsPlayDue before after text
+  pub due : IsTextDue words before after text
   pub written : Appends held_before held_after text
 
 -- the summary of a made input was written
@@ -54,15 +60,15 @@ pub record HasSummed (words : List (String Global)) (before after held_before he
   pub due : IsSummaryDue words before after text
   pub written : Appends held_before held_after text
 
--- what the words ask for was written: the play of what was read, or the summary of a made input
+-- what the words ask for was written: a text of what was read, or the summary of a made input
 abbrev pub HasDone : List (String Global) → (before after held_before held_after : Option (List ℕ)) → Type 0
 HasDone words before after held_before held_after =
-    (IsPlayForm words × HasPlayed before after held_before held_after) ⊎ HasSummed words before after held_before held_after
+    HasAnswered words before after held_before held_after ⊎ HasSummed words before after held_before held_after
 
 -- a fault was written
-pub record HasTold (before after held_before held_after : Option (List ℕ)) : Type 0 where
+pub record HasTold (words : List (String Global)) (before after held_before held_after : Option (List ℕ)) : Type 0 where
   pub text : List ℕ
-  pub due : IsFaultDue before after text
+  pub due : IsFaultDue words before after text
   pub written : Appends held_before held_after text
 
 -- a part of what was due was written, and not all of it

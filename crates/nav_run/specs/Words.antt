@@ -2,14 +2,26 @@
 use Rattle.std.specs.Prelude.{◌≡◌, ℕ, ◌≤◌, ◌⊎◌, List, [], ◌∷◌, Option, Some, None, codes, decimal, String, string_bytes}
 use Rattle.std.specs.declared.alloc.Global.{Global}
 use Rattle.nav_gen.specs.MadeField.{IsMadeSize}
+use Rattle.nav_script.specs.declared.script.Way.{Way}
+use Rattle.nav_script.specs.declared.script.Way.TheVariants.{Play, Live}
 use Rattle.nav_run.specs.declared.words.Form.{Form}
-use Rattle.nav_run.specs.declared.words.Form.TheVariants.{Play, Gen}
+use Rattle.nav_run.specs.declared.words.Form.TheVariants.{Read, Gen}
 
--- the words are the form `play`: that one word
-abbrev pub IsPlayForm : List (String Global) → Type 0
-IsPlayForm [] = ⊥
-IsPlayForm (word ∷ []) = string_bytes word ≡ codes "play"
-IsPlayForm (word ∷ other ∷ more) = ⊥
+-- the word that asks for an input to be read and run this way
+abbrev pub word_for : Way → List ℕ
+word_for Play = codes "play"
+word_for Live = codes "live"
+
+-- the words are the form `play` or `live` that asks for this way: its one word
+abbrev pub IsWayForm : Way → List (String Global) → Type 0
+IsWayForm way [] = ⊥
+IsWayForm way (word ∷ []) = string_bytes word ≡ word_for way
+IsWayForm way (word ∷ other ∷ more) = ⊥
+
+-- the words ask for an input to be read: they are the form `play` or the form `live`
+pub record IsReadForm (words : List (String Global)) : Type 0 where
+  pub way : Way
+  pub form : IsWayForm way words
 
 -- two texts spell a number of 32 bits and a size that inputs are made in
 pub record AreMadeWords (number size : ℕ) (first second : List ℕ) : Type 0 where
@@ -35,16 +47,22 @@ pub record IsGen (words : List (String Global)) : Type 0 where
 
 -- the words are a form
 abbrev pub IsForm : List (String Global) → Type 0
-IsForm words = IsPlayForm words ⊎ IsGen words
+IsForm words = IsReadForm words ⊎ IsGen words
 
 -- what the words ask for, or that they are no form
 abbrev pub AskFor : List (String Global) → Option Form → Type 0
-AskFor words (Some Play) = IsPlayForm words
+AskFor words (Some (Read way)) = IsWayForm way words
 AskFor words (Some (Gen number size)) = IsGenForm number size words
 AskFor words None = ¬ IsForm words
 
+-- what a text that is the one word asks for, or that it asks for nothing
+abbrev pub AskAlone : List ℕ → Option Form → Type 0
+AskAlone word (Some (Read way)) = word ≡ word_for way
+AskAlone word (Some (Gen number size)) = ⊥
+AskAlone word None = (way : Way) → ¬ (word ≡ word_for way)
+
 -- what two texts behind `gen` ask for, or that they ask for nothing
 abbrev pub AskBehindGen : (first second : List ℕ) → Option Form → Type 0
-AskBehindGen first second (Some Play) = ⊥
+AskBehindGen first second (Some (Read way)) = ⊥
 AskBehindGen first second (Some (Gen number size)) = AreMadeWords number size first second
 AskBehindGen first second None = (number size : ℕ) → ¬ AreMadeWords number size first second

@@ -1,54 +1,86 @@
-//! The answer to an input: a play text of it, or the line of its fault.
+//! The answer to an input: a text of its run, or the line of its fault.
 
-ghost use Rattle.std.specs.Prelude.{◌≡◌, ◌≤◌, length};
-ghost use Rattle.nav_run.specs.Inputs.{IsPlay, input_limit};
-ghost use Rattle.nav_run.specs.Answers.{IsRight, IsPlayedUnless, IsLineOf};
-ghost use Rattle.nav_run.specs.StepCounts.{HasStepped};
+ghost use Rattle.std.specs.Prelude.{◌≡◌, ◌≤◌, length, IfOk};
+ghost use Rattle.nav_steps.specs.Counts.{HasRisenAtMost};
+ghost use Rattle.nav_run.specs.Inputs.{IsInputFor, IsRunnable, IsTextOf, input_limit};
+ghost use Rattle.nav_run.specs.Answers.{IsLineOf, IsRight, IsTextUnless};
+ghost use Rattle.nav_run.specs.StepCounts.{HasStepped, builds_for};
 
 use crate::input::{Input, InputRefusal, read_input};
+use nav_io::Gate;
+use nav_live::{LiveText, live};
 use nav_play::{PlayText, play};
 use nav_record::write_fault;
+use nav_script::Way;
 use nav_steps::Steps;
 use nav_text::TextFault;
-use std::alloc::Global;
+use std::alloc::{AllocError, Global};
 use std::sync::Wait;
 use std::sync::ledger::Ledger;
+use std::thread::Threads;
 
 /// What an input is answered with.
 #[derive(Drop)]
 pub(crate) enum Answer {
-    /// A play text of it.
-    Played(Vec<u8>),
+    /// A text of its run.
+    Text(Vec<u8>),
     /// The line of its fault.
     Fault(Vec<u8>),
     OutOfMemory,
 }
 
-/// Reads an input and plays its script, or writes the line of its fault.
-pub(crate) fn answer_to<R: Wait, L: Ledger>(
+/// Reads an input and runs its script this way, or writes the line of its fault.
+pub(crate) fn answer_to<R: Threads + Wait + Sync, G: Gate + Sync, L: Ledger>(
     rt: &R,
     alloc: Global,
+    way: Way,
     bytes: &[u8],
+    gate: &G,
     steps: &mut Steps<L>,
 ) -> Answer
     requires { length bytes.now ≤ input_limit }
-    ensures right { IsRight bytes.now result }
-    ensures complete { IsPlay bytes.now → IsPlayedUnless result }
-    ensures steps { HasStepped bytes.now steps.old steps.new }
+    ensures right { IsRight way bytes.now result }
+    ensures complete { IsInputFor way bytes.now → IsTextUnless result }
+    ensures steps { HasStepped way bytes.now steps.old steps.new }
 {
-    let input = match read_input(alloc, bytes) {
+    let input = match read_input(alloc, way, bytes) {
         Ok(input) => input,
         Err(InputRefusal::Fault(fault)) => return told(alloc, &fault),
         Err(InputRefusal::OutOfMemory) => return Answer::OutOfMemory,
     };
+    match text_of(rt, alloc, way, input, gate, steps) {
+        Ok(text) => Answer::Text(text),
+        Err(_) => Answer::OutOfMemory,
+    }
+}
+
+/// Runs the script of an input this way over its field.
+fn text_of<R: Threads + Wait + Sync, G: Gate + Sync, L: Ledger>(
+    rt: &R,
+    alloc: Global,
+    way: Way,
+    input: Input,
+    gate: &G,
+    steps: &mut Steps<L>,
+) -> Result<Vec<u8>, AllocError>
+    requires runnable { IsRunnable way input.setting input.field input.script }
+    ensures text { IfOk result (λ text. IsTextOf way input.setting input.field input.script text.items) }
+    ensures most { HasRisenAtMost (builds_for way input.setting input.field input.script) steps.old steps.new }
+{
     let Input {
         setting,
         field,
         script,
     } = input;
-    match play(rt, alloc, setting, field, &script, steps) {
-        Ok(PlayText { bytes, .. }) => Answer::Played(bytes),
-        Err(_) => Answer::OutOfMemory,
+    match way {
+        Way::Play => {
+            let PlayText { bytes, .. } = play(rt, alloc, setting, field, &script, steps)?;
+            Ok(bytes)
+        }
+        Way::Live => {
+            let LiveText { bytes } = live(rt, alloc, setting, field, &script, gate, steps)?;
+            Ok(bytes)
+        }
     }
 }
 

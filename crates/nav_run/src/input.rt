@@ -29,13 +29,13 @@ pub(crate) enum InputRefusal {
     OutOfMemory,
 }
 
-/// Reads a field text and the script text behind it.
-pub(crate) fn read_input(alloc: Global, bytes: &[u8]) -> Result<Input, InputRefusal>
+/// Reads a field text and the text of a script for this way behind it.
+pub(crate) fn read_input(alloc: Global, way: Way, bytes: &[u8]) -> Result<Input, InputRefusal>
     requires { length bytes.now ≤ input_limit }
-    ensures found { IfOk result (λ input. IsInput bytes.now input.setting input.field input.script) }
-    ensures only { (setting : Setting) (field : Field) (script : Script) → IsInput bytes.now setting field script
+    ensures found { IfOk result (λ input. IsInput way bytes.now input.setting input.field input.script) }
+    ensures only { (setting : Setting) (field : Field) (script : Script) → IsInput way bytes.now setting field script
         → IsReadAs setting field script result }
-    ensures fault { (fault : TextFault) → result ≡ Err (InputRefusal.Fault fault) → IsFault bytes.now fault }
+    ensures fault { (fault : TextFault) → result ≡ Err (InputRefusal.Fault fault) → IsFault way bytes.now fault }
 {
     let text = match read_field(alloc, bytes) {
         Ok(text) => text,
@@ -43,7 +43,7 @@ pub(crate) fn read_input(alloc: Global, bytes: &[u8]) -> Result<Input, InputRefu
         Err(FieldRefusal::OutOfMemory) => return Err(InputRefusal::OutOfMemory),
     };
     let (_, behind) = bytes.split_at(text.used);
-    let script = match read_script(alloc, behind, text.lines + 1, Way::Play) {
+    let script = match read_script(alloc, behind, text.lines + 1, way) {
         Ok(script) => script,
         Err(ScriptRefusal::Fault(fault)) => return Err(InputRefusal::Fault(fault)),
         Err(ScriptRefusal::OutOfMemory) => return Err(InputRefusal::OutOfMemory),

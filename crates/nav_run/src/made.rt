@@ -6,12 +6,14 @@ ghost use Rattle.nav_ground.specs.declared.field.Field.{Field};
 ghost use Rattle.nav_ground.specs.declared.setting.Setting.{Setting};
 ghost use Rattle.nav_script.specs.declared.script.Script.{Script};
 ghost use Rattle.nav_steps.specs.Counts.{HasRisenAtMost};
-ghost use Rattle.nav_run.specs.Inputs.{IsInput, IsPlay, input_limit};
+ghost use Rattle.nav_script.specs.declared.script.Way.TheVariants.{Play};
+ghost use Rattle.nav_run.specs.Inputs.{IsInput, IsInputFor, input_limit};
 ghost use Rattle.nav_run.specs.Made.{IsMadeSummary, made_builds};
 
 use crate::input::{Input, read_input};
 use nav_gen::{line_count, make, summary};
 use nav_play::{PlayText, play};
+use nav_script::Way;
 use nav_steps::Steps;
 use std::alloc::{AllocError, Global};
 use std::sync::Wait;
@@ -46,15 +48,15 @@ pub(crate) fn summarize<R: Wait, L: Ledger>(
     )
 }
 
-/// Reads a text that is in the grammar, which only memory can refuse.
+/// Reads a text that is in the grammar for plays, which only memory can refuse.
 fn read_right(alloc: Global, bytes: &[u8]) -> Result<Input, AllocError>
-    requires play { IsPlay bytes.now }
+    requires input { IsInputFor Play bytes.now }
     requires short { length bytes.now ≤ input_limit }
-    ensures found { IfOk result (λ input. IsInput bytes.now input.setting input.field input.script) }
-    ensures only { (setting : Setting) (field : Field) (script : Script) → IsInput bytes.now setting field script
+    ensures found { IfOk result (λ input. IsInput Play bytes.now input.setting input.field input.script) }
+    ensures only { (setting : Setting) (field : Field) (script : Script) → IsInput Play bytes.now setting field script
         → IfOk result (λ input. (input.setting ≡ setting) × (input.field ≡ field) × (input.script ≡ script)) }
 {
-    match read_input(alloc, bytes) {
+    match read_input(alloc, Way::Play, bytes) {
         Ok(input) => Ok(input),
         Err(_) => Err(AllocError),
     }

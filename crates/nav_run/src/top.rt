@@ -5,18 +5,20 @@ ghost use Rattle.std.specs.declared.alloc.Global.{Global};
 ghost use Rattle.std.specs.Io.KnownBytes.{Appends, Keeps};
 ghost use Rattle.nav_io.specs.Causes.{Rose, TookMany, TookAtMost, HasMore};
 ghost use Rattle.nav_record.specs.Texts.{usage_text, too_long_text};
-ghost use Rattle.nav_run.specs.Inputs.{IsPlay, input_limit};
+ghost use Rattle.nav_script.specs.declared.script.Way.{Way};
+ghost use Rattle.nav_run.specs.Inputs.{IsInputFor, input_limit};
 ghost use Rattle.nav_run.specs.Outcomes.{HasDone, HasTold, HasBroken};
-ghost use Rattle.nav_run.specs.Words.{IsForm, IsPlayForm, IsGen};
+ghost use Rattle.nav_run.specs.Words.{IsForm, IsGen, IsReadForm, IsWayForm};
 ghost use Rattle.nav_run.specs.Endings.{HasEnded};
 ghost use Rattle.nav_run.specs.Courses.{HasRun};
-ghost use Rattle.nav_run.specs.StepCounts.{HasReadStepped, HasRunStepped};
+ghost use Rattle.nav_run.specs.StepCounts.{HasRunStepped};
 
 use crate::answer::{Answer, answer_to};
 use crate::made::summarize;
 use crate::status::Status;
 use crate::words::{Form, form_of};
 use nav_io::{FreeGate, Gate, ReadRefusal, Sink, Source, read_all, write_all};
+use nav_script::Way;
 use nav_steps::Steps;
 use std::alloc::Global;
 use std::sync::Wait;
@@ -26,8 +28,8 @@ use std::thread::Threads;
 /// How many bytes an input may have.
 const MOST: usize = 67108864;
 
-/// Runs the program on the words behind its name, and writes one text to the sink: for `play` of the whole input that it reads from the source;
-/// for `gen NUMBER SIZE` of the input that these determine, with nothing read.
+/// Runs the program on the words behind its name, and writes one text to the sink: for `play` and `live` of the whole input that it reads from
+/// the source; for `gen NUMBER SIZE` of the input that these determine, with nothing read.
 ///
 /// For the word `play` the text is a play text of the input: for each line of its script in order what the history and the published
 /// mesh answer, then how far the play came. What stands after a question is right in the mesh that is published then: the floors of the free
@@ -35,6 +37,16 @@ const MOST: usize = 67108864;
 /// no polygon holds the start, exactly where none does, or that one holds the start and none the goal; or that there is no path, exactly where
 /// both are held and no walk of links joins the two polygons; for a ray, that no polygon holds the start, or the polygon or the wall at which
 /// the straight walk ends. A text that is no input is told by the line of its fault.
+///
+/// For the word `live` the lanes of the script run in threads, beside workers that build tiles, over one history of requests, and pass the gate
+/// at each of their stages. However they run, the text is a live text of the input: the history, then for each lane what its lines were
+/// answered, then the counts of a mesh. Every request line stands in the history once, those of a lane in the lane's order, each with the reply
+/// that the entries before it leave, and nothing else stands there; the lane prints its entry's number and reply. Each question line names one
+/// length K of that history, never less than what the lane's question and `settle` lines before it named, and is answered right, as in a play, in
+/// the mesh that is built from scratch for the ground with the obstacles that the first K entries leave: so a path is a cheapest corridor there
+/// and a taut line through it, and there is no path exactly where none exists. `settled K` names at least the number of the lane's last entry
+/// before it. The last line counts the polygons and links of the mesh with the obstacles that all entries leave. `live` waits for its threads: that
+/// it returns is not promised.
 ///
 /// For `gen` the made input is played as one that is read, and the text is the summary of that: what was made, how many bytes and lines the
 /// input has, how far the play came, how many path questions were answered in which way, what the paths cost together, and how large
@@ -51,31 +63,33 @@ pub fn navd<R: Threads + Wait + Sync, S: Source, K: Sink, G: Gate + Sync, L: Led
     gate: &G,
     steps: &mut Steps<L>,
 ) -> Status
-    // The play of what was read, or the summary of the made input, whole, to the sink that held what it held.
+    // A text of what was read, or the summary of the made input, whole, to the sink that held what it held.
     ensures ok { result ≡ Status.Ok → HasDone words.now (S.left source.old) (S.left source.new) (K.held sink.old) (K.held sink.new) }
 
     // Each refusal has its cause, and the sink holds what is due.
-    ensures bad_text { result ≡ Status.BadText → IsPlayForm words.now
-        × HasTold (S.left source.old) (S.left source.new) (K.held sink.old) (K.held sink.new) }
+    ensures bad_text { result ≡ Status.BadText
+        → HasTold words.now (S.left source.old) (S.left source.new) (K.held sink.old) (K.held sink.new) }
     ensures usage { result ≡ Status.Usage → (¬ IsForm words.now)
         × Appends (K.held sink.old) (K.held sink.new) usage_text × (S.left source.new ≡ S.left source.old) }
-    ensures read_fault { result ≡ Status.ReadFault → IsPlayForm words.now
+    ensures read_fault { result ≡ Status.ReadFault → IsReadForm words.now
         × Rose (S.faults source.old) (S.faults source.new) × Keeps (K.held sink.old) (K.held sink.new) }
     ensures write_fault { result ≡ Status.WriteFault → Rose (K.faults sink.old) (K.faults sink.new)
         × HasBroken words.now (S.left source.old) (S.left source.new) (K.held sink.old) (K.held sink.new) }
-    ensures too_long { result ≡ Status.TooLong → IsPlayForm words.now
+    ensures too_long { result ≡ Status.TooLong → IsReadForm words.now
         × TookMany (S.left source.old) (S.left source.new) (input_limit + 1) × Appends (K.held sink.old) (K.held sink.new) too_long_text }
     ensures no_memory { result ≡ Status.OutOfMemory → Keeps (K.held sink.old) (K.held sink.new) }
 
     // What comes where nothing fails but memory.
     ensures no_form { (¬ IsForm words.now) → (result ≡ Status.Usage) ⊎ (result ≡ Status.WriteFault) }
-    ensures more { IsPlayForm words.now → HasMore (S.left source.old) input_limit
+    ensures more { IsReadForm words.now → HasMore (S.left source.old) input_limit
         → (¬ Rose (S.faults source.old) (S.faults source.new)) → (¬ Rose (K.faults sink.old) (K.faults sink.new))
         → (result ≡ Status.TooLong) ⊎ (result ≡ Status.OutOfMemory) }
-    ensures complete { IfSome (S.left source.old) (λ input. IsPlayForm words.now → IsPlay input → length input ≤ input_limit
+    ensures complete { IfSome (S.left source.old) (λ input. (way : Way) → IsWayForm way words.now
+        → IsInputFor way input → length input ≤ input_limit
         → (¬ Rose (S.faults source.old) (S.faults source.new)) → (¬ Rose (K.faults sink.old) (K.faults sink.new))
         → (result ≡ Status.Ok) ⊎ (result ≡ Status.OutOfMemory)) }
-    ensures wrong { IfSome (S.left source.old) (λ input. IsPlayForm words.now → (¬ IsPlay input) → length input ≤ input_limit
+    ensures wrong { IfSome (S.left source.old) (λ input. (way : Way) → IsWayForm way words.now
+        → (¬ IsInputFor way input) → length input ≤ input_limit
         → (¬ Rose (S.faults source.old) (S.faults source.new)) → (¬ Rose (K.faults sink.old) (K.faults sink.new))
         → (result ≡ Status.BadText) ⊎ (result ≡ Status.OutOfMemory)) }
     ensures made { IsGen words.now → (¬ Rose (K.faults sink.old) (K.faults sink.new))
@@ -83,31 +97,33 @@ pub fn navd<R: Threads + Wait + Sync, S: Source, K: Sink, G: Gate + Sync, L: Led
 
     // At most the bytes of the longest input and one more are gone from the source, and none where no input is read.
     ensures took { TookAtMost (S.left source.old) (S.left source.new) (input_limit + 1) }
-    ensures unread { (¬ IsPlayForm words.now) → source.new ≡ source.old }
+    ensures unread { (¬ IsReadForm words.now) → source.new ≡ source.old }
 
-    // Steps are taken for a play alone: at most one for each tile, and one for each claim of its script that gives a tile.
+    // Steps are taken for a play, at most one for each tile and one for each claim of its script that gives a tile; and for a live run, at most
+    // two for each tile, since each thread counts what it builds by itself.
     ensures steps { HasRunStepped words.now (S.left source.old) (S.left source.new) steps.old steps.new }
 {
-    respond(rt, alloc, words, source, sink, steps)
+    respond(rt, alloc, words, source, sink, gate, steps)
 }
 
 /// Does what the words ask for: answers the input that is read, sums up the made one, or tells that the words are in no form.
-fn respond<R: Wait, S: Source, K: Sink, L: Ledger>(
+fn respond<R: Threads + Wait + Sync, S: Source, K: Sink, G: Gate + Sync, L: Ledger>(
     rt: &R,
     alloc: Global,
     words: &[String],
     source: &mut S,
     sink: &mut K,
+    gate: &G,
     steps: &mut Steps<L>,
 ) -> Status
     ensures run { HasRun words.now (S.left source.old) (S.left source.new) (S.faults source.old) (S.faults source.new)
         (K.held sink.old) (K.held sink.new) (K.faults sink.old) (K.faults sink.new) result }
     ensures took { TookAtMost (S.left source.old) (S.left source.new) (input_limit + 1) }
-    ensures unread { (¬ IsPlayForm words.now) → source.new ≡ source.old }
+    ensures unread { (¬ IsReadForm words.now) → source.new ≡ source.old }
     ensures steps { HasRunStepped words.now (S.left source.old) (S.left source.new) steps.old steps.new }
 {
     match form_of(words) {
-        Some(Form::Play) => respond_to_input(rt, alloc, source, sink, steps),
+        Some(Form::Read { way }) => respond_to_input(rt, alloc, way, source, sink, gate, steps),
         Some(Form::Gen { number, size }) => match summarize(rt, alloc, number, size, steps) {
             Ok(text) => finish(sink, text.as_slice(), Status::Ok),
             Err(_) => Status::OutOfMemory,
@@ -116,19 +132,22 @@ fn respond<R: Wait, S: Source, K: Sink, L: Ledger>(
     }
 }
 
-/// Answers the whole input that it reads from the source.
-fn respond_to_input<R: Wait, S: Source, K: Sink, L: Ledger>(
+/// Reads the whole input from the source, and answers it with a text of its run this way.
+fn respond_to_input<R: Threads + Wait + Sync, S: Source, K: Sink, G: Gate + Sync, L: Ledger>(
     rt: &R,
     alloc: Global,
+    way: Way,
     source: &mut S,
     sink: &mut K,
+    gate: &G,
     steps: &mut Steps<L>,
 ) -> Status
-    ensures run { (words : List (String Global)) → IsPlayForm words
+    ensures run { (words : List (String Global)) → IsWayForm way words
         → HasRun words (S.left source.old) (S.left source.new) (S.faults source.old) (S.faults source.new)
         (K.held sink.old) (K.held sink.new) (K.faults sink.old) (K.faults sink.new) result }
     ensures took { TookAtMost (S.left source.old) (S.left source.new) (input_limit + 1) }
-    ensures steps { HasReadStepped (S.left source.old) (S.left source.new) steps.old steps.new }
+    ensures steps { (words : List (String Global)) → IsWayForm way words
+        → HasRunStepped words (S.left source.old) (S.left source.new) steps.old steps.new }
 {
     let input = match read_all(alloc, source, MOST) {
         Ok(input) => input,
@@ -136,8 +155,8 @@ fn respond_to_input<R: Wait, S: Source, K: Sink, L: Ledger>(
         Err(ReadRefusal::TooLong) => return finish(sink, b"fault too long\n", Status::TooLong),
         Err(ReadRefusal::OutOfMemory) => return Status::OutOfMemory,
     };
-    match answer_to(rt, alloc, input.as_slice(), steps) {
-        Answer::Played(text) => finish(sink, text.as_slice(), Status::Ok),
+    match answer_to(rt, alloc, way, input.as_slice(), gate, steps) {
+        Answer::Text(text) => finish(sink, text.as_slice(), Status::Ok),
         Answer::Fault(text) => finish(sink, text.as_slice(), Status::BadText),
         Answer::OutOfMemory => Status::OutOfMemory,
     }
@@ -166,31 +185,33 @@ pub fn run<R: Threads + Wait + Sync, S: Source, K: Sink, L: Ledger>(
     requires name { blank.name ≡ L.name }
     requires parts { blank.parts ≡ L.parts }
     requires some { 0 < blank.parts }
-    // The play of what was read, or the summary of the made input, whole, to the sink that held what it held.
+    // A text of what was read, or the summary of the made input, whole, to the sink that held what it held.
     ensures ok { result ≡ Status.Ok → HasDone words.now (S.left source.old) (S.left source.new) (K.held sink.old) (K.held sink.new) }
 
     // Each refusal has its cause, and the sink holds what is due.
-    ensures bad_text { result ≡ Status.BadText → IsPlayForm words.now
-        × HasTold (S.left source.old) (S.left source.new) (K.held sink.old) (K.held sink.new) }
+    ensures bad_text { result ≡ Status.BadText
+        → HasTold words.now (S.left source.old) (S.left source.new) (K.held sink.old) (K.held sink.new) }
     ensures usage { result ≡ Status.Usage → (¬ IsForm words.now)
         × Appends (K.held sink.old) (K.held sink.new) usage_text × (S.left source.new ≡ S.left source.old) }
-    ensures read_fault { result ≡ Status.ReadFault → IsPlayForm words.now
+    ensures read_fault { result ≡ Status.ReadFault → IsReadForm words.now
         × Rose (S.faults source.old) (S.faults source.new) × Keeps (K.held sink.old) (K.held sink.new) }
     ensures write_fault { result ≡ Status.WriteFault → Rose (K.faults sink.old) (K.faults sink.new)
         × HasBroken words.now (S.left source.old) (S.left source.new) (K.held sink.old) (K.held sink.new) }
-    ensures too_long { result ≡ Status.TooLong → IsPlayForm words.now
+    ensures too_long { result ≡ Status.TooLong → IsReadForm words.now
         × TookMany (S.left source.old) (S.left source.new) (input_limit + 1) × Appends (K.held sink.old) (K.held sink.new) too_long_text }
     ensures no_memory { result ≡ Status.OutOfMemory → Keeps (K.held sink.old) (K.held sink.new) }
 
     // What comes where nothing fails but memory.
     ensures no_form { (¬ IsForm words.now) → (result ≡ Status.Usage) ⊎ (result ≡ Status.WriteFault) }
-    ensures more { IsPlayForm words.now → HasMore (S.left source.old) input_limit
+    ensures more { IsReadForm words.now → HasMore (S.left source.old) input_limit
         → (¬ Rose (S.faults source.old) (S.faults source.new)) → (¬ Rose (K.faults sink.old) (K.faults sink.new))
         → (result ≡ Status.TooLong) ⊎ (result ≡ Status.OutOfMemory) }
-    ensures complete { IfSome (S.left source.old) (λ input. IsPlayForm words.now → IsPlay input → length input ≤ input_limit
+    ensures complete { IfSome (S.left source.old) (λ input. (way : Way) → IsWayForm way words.now
+        → IsInputFor way input → length input ≤ input_limit
         → (¬ Rose (S.faults source.old) (S.faults source.new)) → (¬ Rose (K.faults sink.old) (K.faults sink.new))
         → (result ≡ Status.Ok) ⊎ (result ≡ Status.OutOfMemory)) }
-    ensures wrong { IfSome (S.left source.old) (λ input. IsPlayForm words.now → (¬ IsPlay input) → length input ≤ input_limit
+    ensures wrong { IfSome (S.left source.old) (λ input. (way : Way) → IsWayForm way words.now
+        → (¬ IsInputFor way input) → length input ≤ input_limit
         → (¬ Rose (S.faults source.old) (S.faults source.new)) → (¬ Rose (K.faults sink.old) (K.faults sink.new))
         → (result ≡ Status.BadText) ⊎ (result ≡ Status.OutOfMemory)) }
     ensures made { IsGen words.now → (¬ Rose (K.faults sink.old) (K.faults sink.new))
@@ -198,7 +219,7 @@ pub fn run<R: Threads + Wait + Sync, S: Source, K: Sink, L: Ledger>(
 
     // At most the bytes of the longest input and one more are gone from the source, and none where no input is read.
     ensures took { TookAtMost (S.left source.old) (S.left source.new) (input_limit + 1) }
-    ensures unread { (¬ IsPlayForm words.now) → source.new ≡ source.old }
+    ensures unread { (¬ IsReadForm words.now) → source.new ≡ source.old }
 {
     let mut steps = Steps::<L>::new(blank);
     navd(rt, alloc, words, source, sink, &FreeGate, &mut steps)

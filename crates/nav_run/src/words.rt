@@ -1,14 +1,15 @@
 //! The words behind the program's name.
 
-ghost use Rattle.nav_run.specs.Words.{AskFor, AskBehindGen};
+ghost use Rattle.nav_run.specs.Words.{AskAlone, AskBehindGen, AskFor};
 
 use nav_base::read_number;
+use nav_script::Way;
 
 /// What the words ask for.
 #[derive(Clone, Copy)]
 pub(crate) enum Form {
-    /// `play`: the play of an input that is read.
-    Play,
+    /// `play` or `live`: the run of an input that is read, this way.
+    Read { way: Way },
     /// `gen NUMBER SIZE`: the play of a made input.
     Gen { number: u32, size: u32 },
 }
@@ -18,8 +19,19 @@ pub(crate) fn form_of(words: &[String]) -> Option<Form>
     ensures { AskFor words.now result }
 {
     match words {
-        [word] if word.as_str() == "play" => Some(Form::Play),
+        [word] => read_form(word.as_str()),
         [word, number, size] if word.as_str() == "gen" => gen_form(number.as_str(), size.as_str()),
+        _ => None,
+    }
+}
+
+/// The form of the one word `play` or `live`.
+fn read_form(word: &str) -> Option<Form>
+    ensures { AskAlone word.now result }
+{
+    match word {
+        "play" => Some(Form::Read { way: Way::Play }),
+        "live" => Some(Form::Read { way: Way::Live }),
         _ => None,
     }
 }

@@ -1,5 +1,5 @@
 -- What an eye finds in a version that is shown.
-use Rattle.std.proofs.Common.{◌≡◌, ◌<◌, List, length, refl, sym, ap, ◌∙◌, subst}
+use Rattle.std.proofs.Common.{◌≡◌, ◌<◌, List, length, sym, ap, ◌∙◌, subst}
 use Rattle.std.specs.Arc.{arc_value}
 use mathlib.Core.List.{IsPrefix}
 use Rattle.nav_base.specs.declared.answers.Question.{Question}
@@ -32,8 +32,8 @@ HasFound-in shown version question seen found is same pair goes_on told right lo
     }
 
 -- an eye that takes in what was found has looked
-pub HasLooked-found : (before : EyeView) (ground : Ground) (question : Question) (seen : ToldView) (found : ToldView × Answer)
-    → eye_of seen.pair ground seen.entries ≡ before → HasFound ground question seen found → HasLooked before (eye_of found.0.pair ground found.0.entries)
-HasLooked-found before ground question seen found is has =
-    subst (λ (eye : EyeView). HasLooked eye (eye_of found.0.pair ground found.0.entries)) is
-    (record { pair = has.pair; ground = refl; seen = has.goes_on; few = has.few })
+pub HasLooked-found : (before : EyeView) (ground now : Ground) (question : Question) (seen : ToldView) (found : ToldView × Answer)
+    → now ≡ ground → eye_of seen.pair ground seen.entries ≡ before → HasFound ground question seen found → HasLooked before (eye_of found.0.pair now found.0.entries)
+HasLooked-found before ground now question seen found same is has =
+    subst (λ (eye : EyeView). HasLooked eye (eye_of found.0.pair now found.0.entries)) is
+    (record { pair = has.pair; ground = same; seen = has.goes_on; few = has.few })

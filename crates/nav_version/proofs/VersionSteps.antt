@@ -1,13 +1,10 @@
 -- Each step keeps the rule of published versions.
 use Rattle.std.proofs.Common.{◌≡◌, ◌≢◌, ℕ, List, [], ◌∷◌, ◌++◌, set, fold, Option, Some, None, sym, refl, ap, ◌∙◌, subst, ⊎_elim}
 use Rattle.std.proofs.lemmas.List.Sums.{fold-append}
-use Rattle.std.specs.Option.{option_map}
 use mathlib.Core.Option.{some, some-ne-none}
 use lib.ListN.{get_elem?}
 use Rattle.atomic_table.proofs.Lists.{at_set, at_snoc}
 use Rattle.crossbeam_utils.specs.Register.{Admits, TurnsAt, Forks, Merges}
-use Rattle.logbook.specs.Pages.{Book}
-use Rattle.nav_ground.specs.declared.history.Ground.{Ground}
 use Rattle.nav_version.specs.declared.shown.Shown.{Shown}
 use Rattle.nav_version.specs.VersionRule.{Enters, IsShown, IsSo, Publishes, Stands, next_of, origin}
 
@@ -15,14 +12,6 @@ use Rattle.nav_version.specs.VersionRule.{Enters, IsShown, IsSo, Publishes, Stan
 still_so : (last next : Shown) (one : Option Shown) → origin next ≡ origin last → IsSo last one → IsSo next one
 still_so last next None same so = tt
 still_so last next (Some once) same so = so ∙ sym same
-
--- what is known of a pair and a ground is so of what is shown
-pub origin_known : (shown : Shown) (known : Option Shown) (origin' : Book × Ground) → IsSo shown known → option_map origin known ≡ Some origin' → origin' ≡ origin shown
-origin_known shown None origin' so is = absurd cc
-origin_known shown (Some once) origin' so is = Some-injective (sym is) ∙ so
-  where
-    Some-injective : {x y : Book × Ground} → Some x ≡ Some y → x ≡ y
-    Some-injective is = cc
 
 module _ (shown : Shown) (known : List (Option Shown)) where
   -- the rule after what one knows was changed

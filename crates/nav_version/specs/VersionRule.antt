@@ -1,5 +1,6 @@
 -- The rule of published versions, which holds between any two steps, and its four kinds of step.
-use Rattle.std.specs.Prelude.{◌≡◌, ◌<◌, ℕ, List, Option, Some, IfSome, length}
+use Rattle.std.specs.Prelude.{◌≡◌, ◌<◌, ℕ, false, List, [], Option, Some, None, IfSome, length}
+use Rattle.std.specs.Option.{option_map}
 use Rattle.std.specs.Arc.{arc_value}
 use mathlib.Core.Option.{some}
 use mathlib.Core.List.{IsPrefix}
@@ -7,6 +8,7 @@ use lib.ListN.{get_elem?}
 use Rattle.logbook.specs.Pages.{Book}
 use Rattle.nav_base.specs.declared.answers.Question.{Question}
 use Rattle.nav_ground.specs.declared.history.Ground.{Ground}
+use Rattle.nav_ground.specs.declared.setting.MeshKind.TheVariants.{Strips}
 use Rattle.mesh_types.specs.declared.answers.Answer.{Answer}
 use Rattle.mesh_types.specs.Builds.{build_of}
 use Rattle.mesh_types.specs.Right.{IsRight}
@@ -18,6 +20,33 @@ use Rattle.nav_version.specs.Versions.{IsVersion}
 -- what a shown version is of: its pair, and that pair's ground
 abbrev pub origin : Shown → Book × Ground
 origin shown = (shown.told.pair, arc_value shown.version.ground)
+
+-- a ground of no columns
+abbrev pub no_ground : Ground
+no_ground = record {
+  setting = record {
+    width = 0;
+    depth = 0;
+    tile = 0;
+    agent = record { height = 0; climb = 0; radius = 0 };
+    error = 0;
+    mesh = Strips;
+    limit = 0;
+    costs = [];
+    clear = false;
+  };
+  field = record { width = 0; depth = 0; spans = [] };
+  layers = [];
+}
+
+-- the ground of a version that is known. Where none is known it is one of no columns
+abbrev pub ground_known : Option Shown → Ground
+ground_known (Some once) = arc_value once.version.ground
+ground_known None = no_ground
+
+-- what is known is a version of this pair
+abbrev pub IsKnownOf : Book → Option Shown → Type 0
+IsKnownOf pair known = option_map origin known ≡ Some (pair, ground_known known)
 
 -- what is shown keeps the rules of versions, and its list is the version's entries
 pub record IsShown (shown : Shown) : Type 0 where

@@ -9,8 +9,8 @@ ghost use Rattle.nav_ground.specs.declared.history.Ground.{Ground};
 ghost use Rattle.mesh_types.specs.Builds.{build_of};
 ghost use Rattle.mesh_types.specs.Right.{IsRight};
 ghost use Rattle.nav_query.specs.Questions.{HasLowCost, IsAnswerable};
-ghost use Rattle.nav_version.specs.Pairs.{HasLooked, after_learning};
-ghost use Rattle.nav_version.specs.VersionRule.{HasFound, IsShown, origin};
+ghost use Rattle.nav_version.specs.Pairs.{HasLooked, after_learning, eye_of};
+ghost use Rattle.nav_version.specs.VersionRule.{HasFound, IsKnownOf, IsShown, ground_known, origin};
 
 use crate::rule::Entering;
 use crate::shown::Shown;
@@ -19,10 +19,8 @@ use crate::told::Told;
 use core::mem::replace_with;
 use mesh_types::Answer;
 use nav_base::Question;
-use nav_ground::Ground;
 use std::alloc::{AllocError, Global};
 use std::marker::Model;
-use std::snapshot::Snapshot;
 
 /// One reader of a pair's published versions.
 ///
@@ -30,7 +28,6 @@ use std::snapshot::Snapshot;
 #[derive(Drop)]
 pub struct Eye {
     reader: Looker,
-    ground: Snapshot<Ground>,
     told: Told,
 }
 
@@ -88,17 +85,12 @@ fn look(
 }
 
 impl Eye {
-    // An eye whose reader knows the pair and the ground.
-    pub(crate) fn opened(reader: Looker, ground: &Ground, told: Told) -> Eye
-        requires { option_map origin (view reader.place) ≡ Some (told.pair, ground.now) }
-        ensures { result ≡ record { pair = told.pair; ground = ground.now; seen = told.entries } }
+    // An eye whose reader knows a version of the pair.
+    pub(crate) fn opened(reader: Looker, told: Told) -> Eye
+        requires { IsKnownOf told.pair (view reader.place) }
+        ensures { result ≡ eye_of told.pair (ground_known (view reader.place)) told.entries }
     {
-        let ground = Snapshot::of(ground);
-        Eye {
-            reader,
-            ground,
-            told,
-        }
+        Eye { reader, told }
     }
 
     /// Takes in a published length: what the eye answers from then on comes from versions that go on from the one which was published

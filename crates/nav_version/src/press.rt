@@ -112,7 +112,7 @@ impl Press {
         ensures eye { IfOk result (λ eye. eye ≡ first_eye self.old) }
     {
         let reader = self.stage.looker()?;
-        Ok(Eye::opened(reader, &self.version().ground, self.told()))
+        Ok(Eye::opened(reader, self.told()))
     }
 
     /// Publishes the entries so far and those of the patch, with its tiles in place, and tells the new length. It waits for eyes that still

@@ -1,5 +1,5 @@
-//! The program `navd` plays a script over a level. For `play` it writes the play text of what it reads from standard input, for `gen NUMBER SIZE`
-//! the summary of an input that it makes.
+//! The program `navd` runs a script over a level. For `play` it writes the play text of what it reads from standard input, for `live`, which runs
+//! the script's lanes in threads, the live text of that, and for `gen NUMBER SIZE` the summary of an input that it makes and plays.
 //!
 //! `navd` of the crate `nav_run` is the one top call: everything that the program promises is its contract. `main` makes the real source and
 //! sink, calls it with a counter of its own, and ends with the status.
@@ -41,6 +41,8 @@ fn main(rt: HostRuntime) -> ExitCode {
     ExitCode::from(status.number())
 }
 
+#[cfg(test)]
+mod test_lives;
 #[cfg(test)]
 mod test_plays;
 #[cfg(test)]

@@ -1,6 +1,6 @@
 //! Plays of the whole program: what scripts answer over levels. What is wanted was worked out by hand.
 
-use crate::test_runs::{FOUR_TILES, Over, ROOM, SquareField, check, check_ends, played};
+use crate::test_runs::{FOUR_TILES, Over, ROOM, SquareField, WIDE, check, check_ends, played};
 use nav_run::Status;
 use std::alloc::Global;
 use std::process::Abort;
@@ -250,14 +250,7 @@ static OUTLINES: [Frame; 4] = [
     ),
     // Four tiles of one polygon each; the straight line meets their common corner, so how many turns are listed is free.
     (
-        SquareField {
-            side: 96,
-            tile: 48,
-            radius: 2,
-            mesh: "error 169\nmesh contours\n",
-            limit: 64,
-            ..ROOM
-        },
+        WIDE,
         "path 160 160 10 1400 1400 10\n",
         "path 0 1440 0 0 2 ",
         "\ndone 0 0\n",

@@ -1,15 +1,16 @@
 //! Runs of the whole program over sources and sinks in memory, and the levels that the tests run.
 
-ghost use Rattle.std.specs.Prelude.{◌<◌};
+ghost use Rattle.std.specs.Prelude.{◌≡◌, ◌<◌};
 
 use nav_base::push_number;
-use nav_io::{MemorySink, MemorySource};
-use nav_run::{Status, run};
+use nav_io::{FreeGate, Gate, MemorySink, MemorySource};
+use nav_run::{Status, navd};
+use nav_steps::Steps;
 use std::alloc::Global;
 use std::marker::Brand;
 use std::process::Abort;
 use std::sync::Wait;
-use std::sync::ledger::Blank;
+use std::sync::ledger::{Blank, Ledger};
 use std::thread::Threads;
 
 /// What a run gave: its status, and the sink after it.
@@ -19,7 +20,45 @@ pub(crate) struct Ran {
     pub(crate) sink: MemorySink,
 }
 
-/// One run: the bytes a read and a write move at most, and the numbers of the read and the write that fail (0 for none).
+/// One run, with a counter of its own: the gate, the bytes a read and a write move at most, and the numbers of the read and the write that
+/// fail (0 for none).
+fn run_counted<R: Abort + Threads + Wait + Sync, G: Gate + Sync, L: Ledger>(
+    rt: &R,
+    alloc: Global,
+    words: &[&str],
+    input: Vec<u8>,
+    gate: &G,
+    read: (usize, u32),
+    write: (usize, u32),
+    blank: Blank,
+) -> Ran
+    requires reads { 0 < read.0 }
+    requires writes { 0 < write.0 }
+    requires name { blank.name ≡ L.name }
+    requires parts { blank.parts ≡ L.parts }
+    requires some { 0 < blank.parts }
+{
+    let words = words_of(rt, alloc, words);
+    let failing_reads = vec![in alloc; read.1].expect(rt, "memory");
+    let mut source = MemorySource::new(input, read.0, failing_reads);
+    let failing_writes = vec![in alloc; write.1].expect(rt, "memory");
+    let mut sink = MemorySink::with_room(alloc, write.0, 2000000, failing_writes).expect(
+        rt, "memory",
+    );
+    let mut steps = Steps::<L>::new(blank);
+    let status = navd(
+        rt,
+        alloc,
+        words.as_slice(),
+        &mut source,
+        &mut sink,
+        gate,
+        &mut steps,
+    );
+    Ran { status, sink }
+}
+
+/// One run at whose gate nobody waits, through reads and writes as in `run_counted`.
 pub(crate) fn run_once<R: Abort + Threads + Wait + Sync>(
     rt: &R,
     alloc: Global,
@@ -31,22 +70,8 @@ pub(crate) fn run_once<R: Abort + Threads + Wait + Sync>(
     requires reads { 0 < read.0 }
     requires writes { 0 < write.0 }
 {
-    let words = words_of(rt, alloc, words);
-    let failing_reads = vec![in alloc; read.1].expect(rt, "memory");
-    let mut source = MemorySource::new(input, read.0, failing_reads);
-    let failing_writes = vec![in alloc; write.1].expect(rt, "memory");
-    let mut sink = MemorySink::with_room(alloc, write.0, 2000000, failing_writes).expect(
-        rt, "memory",
-    );
-    let status = run::<_, _, _, Brand>(
-        rt,
-        alloc,
-        words.as_slice(),
-        &mut source,
-        &mut sink,
-        Blank::new(1),
-    );
-    Ran { status, sink }
+    let blank = Blank::new(1);
+    run_counted::<_, _, Brand>(rt, alloc, words, input, &FreeGate, read, write, blank)
 }
 
 fn words_of(rt: &impl Abort, alloc: Global, texts: &[&str]) -> Vec<String> {
@@ -120,6 +145,16 @@ pub(crate) const ROOM: SquareField = SquareField {
 pub(crate) const FOUR_TILES: SquareField = SquareField {
     side: 8,
     tile: 4,
+    ..ROOM
+};
+
+/// A flat field of 96 by 96 columns in four tiles, whose meshes are outlines.
+pub(crate) const WIDE: SquareField = SquareField {
+    side: 96,
+    tile: 48,
+    radius: 2,
+    mesh: "error 169\nmesh contours\n",
+    limit: 64,
     ..ROOM
 };
 
@@ -201,4 +236,17 @@ pub(crate) fn played<R: Abort + Threads + Wait + Sync>(
 {
     let text = built_level(rt, alloc, level, script);
     run_once(rt, alloc, &["play"], text, read, write)
+}
+
+/// Runs the script live over the level, its actors through the gate.
+pub(crate) fn lived<R: Abort + Threads + Wait + Sync, G: Gate + Sync>(
+    rt: &R,
+    alloc: Global,
+    level: &SquareField,
+    script: &str,
+    gate: &G,
+) -> Ran {
+    let text = built_level(rt, alloc, level, script);
+    let blank = Blank::new(1);
+    run_counted::<_, _, Brand>(rt, alloc, &["live"], text, gate, (100, 0), (100, 0), blank)
 }

@@ -26,7 +26,7 @@ fn lines(rt: &impl Abort, alloc: Global, count: u32, line: &str) -> String {
 /// The word, the script; the status and what the sink holds.
 type Ending = (&'static str, &'static str, Status, &'static str);
 
-static ENDINGS: [Ending; 9] = [
+static ENDINGS: [Ending; 12] = [
     ("play", SCRIPT, Status::Ok, PLAYED),
     ("play", "", Status::Ok, "done 0 0\n"),
     ("plays", "", Status::Usage, "fault usage\n"),
@@ -41,6 +41,9 @@ static ENDINGS: [Ending; 9] = [
         "fault 47 2\n",
     ),
     ("play", "aim\n", Status::Ok, "aim 0\ndone 0 0\n"),
+    ("live", "aim\n", Status::BadText, "fault 46 8\n"),
+    ("live", "lane 1\n", Status::BadText, "fault 46 9\n"),
+    ("lives", "", Status::Usage, "fault usage\n"),
 ];
 
 fn check_endings<R: Abort + Threads + Wait + Sync>(rt: &R, alloc: Global, endings: &[Ending]) {
@@ -107,22 +110,24 @@ fn reads_no_more_than_it_may(rt: HostRuntime) {
 /// A level with room for one obstacle.
 const ONE_OBSTACLE: SquareField = SquareField { limit: 1, ..ROOM };
 
-/// Plays one line so many times over a level.
-fn play_lines<R: Abort + Threads + Wait + Sync>(
+/// Runs one line so many times over a level, as the word says.
+fn run_lines<R: Abort + Threads + Wait + Sync>(
     rt: &R,
     alloc: Global,
+    word: &str,
     level: &SquareField,
     count: u32,
     line: &str,
 ) -> Ran {
     let script = lines(rt, alloc, count, line);
-    played(rt, alloc, level, script.as_str(), (4096, 0), (4096, 0))
+    let text = built_level(rt, alloc, level, script.as_str());
+    run_once(rt, alloc, &[word], text, (4096, 0), (4096, 0))
 }
 
 #[test]
 fn fills_a_history(rt: HostRuntime) {
     let line = "add block 0 0 0 0 0 0\n";
-    let ran = play_lines(&rt, rt.alloc(), &ONE_OBSTACLE, 65537, line);
+    let ran = run_lines(&rt, rt.alloc(), "play", &ONE_OBSTACLE, 65537, line);
     check_ends(
         &rt,
         &ran,
@@ -131,18 +136,35 @@ fn fills_a_history(rt: HostRuntime) {
     );
 }
 
+/// The word, one more line than it takes, the line; the fault.
+type TooMany = (&'static str, u32, &'static str, &'static str);
+
+static TOO_MANY: [TooMany; 2] = [
+    ("play", 300001, "settle\n", "fault 300046 11\n"),
+    // A live run takes no more requests than a history has entries.
+    ("live", 65537, "remove 1\n", "fault 65582 11\n"),
+];
+
+fn check_too_many<R: Abort + Threads + Wait + Sync>(rt: &R, alloc: Global, rows: &[TooMany]) {
+    for (word, count, line, fault) in rows {
+        let ran = run_lines(rt, alloc, *word, &ROOM, *count, *line);
+        check(rt, &ran, Status::BadText, fault.as_bytes());
+    }
+}
+
 #[test]
 fn takes_no_more_lines_than_it_may(rt: HostRuntime) {
-    let ran = play_lines(&rt, rt.alloc(), &ROOM, 300001, "settle\n");
-    check(&rt, &ran, Status::BadText, b"fault 300046 11\n".as_slice());
+    check_too_many(&rt, rt.alloc(), &TOO_MANY);
 }
 
 /// Words that are no form.
-static NO_FORMS: [&[&str]; 17] = [
+static NO_FORMS: [&[&str]; 19] = [
     &[],
     &[""],
     &["Play"],
     &["play", ""],
+    &["Live"],
+    &["live", "play"],
     &["play", "1", "32"],
     &["gen"],
     &["gen", "1"],

@@ -14,7 +14,7 @@ pub returns-in_ok-made-in-Some-clause-claimed : goal.returns-in_ok-made-in-Some-
 returns-in_ok-made-in-Some-clause-claimed g c =
     tile_claimed _ _ _ _ _ _ _ c.in_ok-claim.field-0 c.in-Some.job c.in_ok-made-in-Some.made (sym c.is_busy.ensures ∙ c.if-is_busy.false)
     c.in_ok-claim.ensures.job c.in-Some.is c.in_ok-claim.ensures.claimed c.in_ok-made-in-Some.ensures.job c.in_ok-made-in-Some.ensures.made c.hold.ensures
-    c.built.ensures.step c.requires.held
+    c.build.ensures.step c.requires.held
 
 pub returns-then-is_busy-clause-most : goal.returns-then-is_busy-clause-most
 returns-then-is_busy-clause-most g c = no_step _ _
@@ -28,9 +28,9 @@ returns-in-None-clause-most g c = no_step _ _
 pub returns-in_err-made-in-Some-clause-most : goal.returns-in_err-made-in-Some-clause-most
 returns-in_err-made-in-Some-clause-most g c =
     one_step c.args.book.now.state c.args.workers.now c.args.worker _ _ c.in_ok-claim.field-0 c.in-Some.job (sym c.is_busy.ensures ∙ c.if-is_busy.false) c.in_ok-claim.ensures.job c.in-Some.is
-    c.built.ensures.step
+    c.build.ensures.step
 
 pub returns-in_ok-made-in-Some-clause-most : goal.returns-in_ok-made-in-Some-clause-most
 returns-in_ok-made-in-Some-clause-most g c =
     one_step c.args.book.now.state c.args.workers.now c.args.worker _ _ c.in_ok-claim.field-0 c.in-Some.job (sym c.is_busy.ensures ∙ c.if-is_busy.false) c.in_ok-claim.ensures.job c.in-Some.is
-    c.built.ensures.step
+    c.build.ensures.step

@@ -1,21 +1,23 @@
 use Rattle.std.proofs.Common.{refl, inl}
 use Rattle.std.proofs.KnownBytes.{Keeps-refl}
-use Rattle.nav_run.proofs.TopLaws.{play_form_of, gen_form_of, is_gen_form, summed_run, formless_run, took_none, run_stepped, gen_stepped}
+use Rattle.nav_run.proofs.CourseLaws.{reads_for}
+use Rattle.nav_run.proofs.TopLaws.{way_form_of, gen_form_of, is_gen_form, summed_run, formless_run, took_none, gen_stepped}
 use Rattle.nav_run.proofs.top.respond.Goals as goal
 
-pub returns-in-Some-Play-clause-run : goal.returns-in-Some-Play-clause-run
-returns-in-Some-Play-clause-run g c =
-    c.respond_to_input.ensures.run _ (play_form_of _ _ c.in-Some-Play.ensures c.in-Some-Play.field-0-is)
+pub returns-in-Some-Read-clause-run : goal.returns-in-Some-Read-clause-run
+returns-in-Some-Read-clause-run g c =
+    c.respond_to_input.ensures.run _ (way_form_of _ _ _ c.in-Some-Read.ensures c.in-Some-Read.field-0-is)
 
-pub returns-in-Some-Play-clause-took : goal.returns-in-Some-Play-clause-took
-returns-in-Some-Play-clause-took g c = c.respond_to_input.ensures.took
+pub returns-in-Some-Read-clause-took : goal.returns-in-Some-Read-clause-took
+returns-in-Some-Read-clause-took g c = c.respond_to_input.ensures.took
 
-pub returns-in-Some-Play-clause-unread : goal.returns-in-Some-Play-clause-unread
-returns-in-Some-Play-clause-unread g c other = absurd (other (play_form_of _ _ c.in-Some-Play.ensures c.in-Some-Play.field-0-is))
+pub returns-in-Some-Read-clause-unread : goal.returns-in-Some-Read-clause-unread
+returns-in-Some-Read-clause-unread g c other =
+    absurd (other (reads_for _ _ (way_form_of _ _ _ c.in-Some-Read.ensures c.in-Some-Read.field-0-is)))
 
-pub returns-in-Some-Play-clause-steps : goal.returns-in-Some-Play-clause-steps
-returns-in-Some-Play-clause-steps g c =
-    run_stepped _ _ _ _ _ (play_form_of _ _ c.in-Some-Play.ensures c.in-Some-Play.field-0-is) c.respond_to_input.ensures.steps
+pub returns-in-Some-Read-clause-steps : goal.returns-in-Some-Read-clause-steps
+returns-in-Some-Read-clause-steps g c =
+    c.respond_to_input.ensures.steps _ (way_form_of _ _ _ c.in-Some-Read.ensures c.in-Some-Read.field-0-is)
 
 pub returns-in-Ok-clause-run : goal.returns-in-Ok-clause-run
 returns-in-Ok-clause-run g c =

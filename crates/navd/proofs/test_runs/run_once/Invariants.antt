@@ -1,5 +1,5 @@
 use Rattle.navd.proofs.test_runs.run_once.Given as goal
 
 -- the counter's ledger is the blank one
-abbrev pub ghosts-run : goal.ghosts-run
-ghosts-run g a = record { name = a.blank.name; parts = a.blank.parts }
+abbrev pub ghosts-run_counted : goal.ghosts-run_counted
+ghosts-run_counted g a = record { name = a.blank.name; parts = a.blank.parts }

@@ -1,7 +1,7 @@
 use Rattle.std.proofs.Common.{◌∙◌, ap, length, refl, sym, arith}
 use Rattle.std.specs.Option.{option_map}
 use Rattle.std.proofs.lemmas.List.{length-map}
-use Rattle.nav_play.specs.Players.{job_built}
+use Rattle.nav_book.specs.Results.{job_built}
 use Rattle.nav_play.proofs.Arms.{state_is, still_steady}
 use Rattle.nav_play.proofs.Playable.{line_playable}
 use Rattle.nav_play.proofs.Playing.{all_steps, are_totals, line_broken, no_line_played, one_line_played, whole_text}

@@ -1,0 +1,129 @@
+-- What lines of a lane were answered stays right while the history grows, and one line more keeps the rules.
+use Rattle.std.proofs.Common.{◌≡◌, refl, sym, ap, subst, ℕ, zero, suc, ◌≤◌, List, [], ◌∷◌, ◌++◌, length, All, AllPairs, Option, Some, None, fold, take, slice_get, append-nil, arith, length-append}
+use Rattle.std.specs.List.{cons_option}
+use Rattle.std.proofs.lemmas.List.Elements.{All-append, All-cons, All-head, All-nil, All-push, All-tail, All-weaker, filter_map-append}
+use Rattle.std.proofs.lemmas.List.Sums.{fold-append}
+use Rattle.std.proofs.lemmas.List.Quantifiers.{all_pairs_push}
+use mathlib.Core.List.{IsPrefix}
+use Rattle.nav_base.specs.declared.answers.Question.{Question}
+use Rattle.nav_ground.specs.declared.history.Entry.{Entry}
+use Rattle.nav_ground.specs.declared.history.Ground.{Ground}
+use Rattle.mesh_types.specs.Right.{IsRight}
+use Rattle.nav_script.specs.declared.line.Line.{Line}
+use Rattle.nav_script.specs.declared.line.Line.TheVariants.{Lane, Ask, Add, Remove, Undo, Settle, Aim, Claim, Back, Submit, Publish}
+use Rattle.nav_book.proofs.GroundTiles.{build_of-append}
+use Rattle.nav_lane.specs.declared.said.Said.{Said}
+use Rattle.nav_lane.specs.declared.said.Said.TheVariants.{Replied, Answered, Settled}
+use Rattle.nav_lane.specs.LaneRecords.{Spoken, AreAnswers, CoverEntries, IsAnswered, IsSaid, IsSettled, NeverFall, last_number, length_told, lengths_told, number_after}
+
+-- a beginning of a list is no longer than the list
+pub IsPrefix-length : {A : Type 0} (xs ys : List A) → IsPrefix xs ys → length xs ≤ length ys
+IsPrefix-length xs ys p = omega (arith, ap length p.1, length-append xs p.0)
+
+answered_later : (whole : Ground) (history more : List Entry) (question : Question) (said : Said) → IsAnswered whole history question said → IsAnswered whole (history ++ more) question said
+answered_later whole history more question (Answered k answer) is =
+    (omega (arith, is.0, length-append history more), subst (λ mesh. IsRight mesh question answer) (sym (build_of-append whole history more k is.0)) is.1)
+answered_later whole history more question (Replied number reply) is = is
+answered_later whole history more question (Settled k) is = is
+
+settled_later : (history more : List Entry) (said : Said) → IsSettled history said → IsSettled (history ++ more) said
+settled_later history more (Settled k) is = omega (arith, is, length-append history more)
+settled_later history more (Answered k answer) is = is
+settled_later history more (Replied number reply) is = is
+
+said_later : (whole : Ground) (history more : List Entry) (line : Line) (said : Said) → IsSaid whole history line said → IsSaid whole (history ++ more) line said
+said_later whole history more (Ask question) said is = answered_later whole history more question said is
+said_later whole history more (Add shape) said is = is
+said_later whole history more (Remove number) said is = is
+said_later whole history more (Undo j) said is = is
+said_later whole history more Settle said is = settled_later history more said is
+said_later whole history more (Lane lane) said is = is
+said_later whole history more Aim said is = is
+said_later whole history more (Claim worker) said is = is
+said_later whole history more (Back worker) said is = is
+said_later whole history more (Submit worker) said is = is
+said_later whole history more Publish said is = is
+
+-- answers that are right in a history are right in every longer one
+pub answers_later : (whole : Ground) (history longer : List Entry) (spoken : List Spoken) → IsPrefix history longer → AreAnswers whole history spoken → AreAnswers whole longer spoken
+answers_later whole history longer spoken p are =
+    subst (λ list. AreAnswers whole list spoken) p.1
+    (All-weaker (λ (one : Spoken). IsSaid whole history one.0 one.1) (λ (one : Spoken). IsSaid whole (history ++ p.0) one.0 one.1)
+    (λ one is. said_later whole history p.0 one.0 one.1 is) spoken are)
+
+-- one answer more
+pub answers_and : (whole : Ground) (history : List Entry) (spoken : List Spoken) (one : Spoken) → AreAnswers whole history spoken → IsSaid whole history one.0 one.1 → AreAnswers whole history (spoken ++ one ∷ [])
+answers_and whole history spoken one are is = All-push (λ (one : Spoken). IsSaid whole history one.0 one.1) spoken one are is
+
+-- each length that lines name is one of the history
+said_within : (whole : Ground) (history : List Entry) (line : Line) (said : Said) (k : ℕ) → IsSaid whole history line said → length_told said ≡ Some k → k ≤ length history
+said_within whole history (Ask question) (Answered n answer) k is told = let same : n ≡ k = cc told in omega (arith, is.0, same)
+said_within whole history (Ask question) (Replied number reply) k is told = absurd is
+said_within whole history (Ask question) (Settled n) k is told = absurd is
+said_within whole history Settle (Settled n) k is told = let same : n ≡ k = cc told in omega (arith, is, same)
+said_within whole history Settle (Answered n answer) k is told = absurd is
+said_within whole history Settle (Replied number reply) k is told = absurd is
+said_within whole history (Add shape) (Replied number reply) k is told = absurd (cc told)
+said_within whole history (Add shape) (Answered n answer) k is told = absurd is
+said_within whole history (Add shape) (Settled n) k is told = absurd is
+said_within whole history (Remove number) (Replied n reply) k is told = absurd (cc told)
+said_within whole history (Remove number) (Answered n answer) k is told = absurd is
+said_within whole history (Remove number) (Settled n) k is told = absurd is
+said_within whole history (Undo j) (Replied number reply) k is told = absurd (cc told)
+said_within whole history (Undo j) (Answered n answer) k is told = absurd is
+said_within whole history (Undo j) (Settled n) k is told = absurd is
+said_within whole history (Lane lane) said k is told = absurd is
+said_within whole history Aim said k is told = absurd is
+said_within whole history (Claim worker) said k is told = absurd is
+said_within whole history (Back worker) said k is told = absurd is
+said_within whole history (Submit worker) said k is told = absurd is
+said_within whole history Publish said k is told = absurd is
+
+one_within : (told : Option ℕ) (n : ℕ) → ((k : ℕ) → told ≡ Some k → k ≤ n) → All (λ k. k ≤ n) (cons_option told [])
+one_within None n within = All-nil (λ (k : ℕ). k ≤ n)
+one_within (Some k) n within = All-cons (λ (k : ℕ). k ≤ n) k [] (within k refl) (All-nil (λ (k : ℕ). k ≤ n))
+
+cons_option-front : {A : Type 0} (x : Option A) (xs : List A) → cons_option x xs ≡ cons_option x [] ++ xs
+cons_option-front None xs = refl
+cons_option-front (Some x) xs = refl
+
+told_within : (whole : Ground) (history : List Entry) (spoken : List Spoken) → AreAnswers whole history spoken → All (λ k. k ≤ length history) (lengths_told spoken)
+told_within whole history [] are = All-nil (λ (k : ℕ). k ≤ length history)
+told_within whole history (one ∷ more) are =
+    let P : Spoken → Type 0 = λ one. IsSaid whole history one.0 one.1 in
+    let head = one_within (length_told one.1) (length history) (λ k told. said_within whole history one.0 one.1 k (All-head P one more are) told) in
+    let rest = told_within whole history more (All-tail P one more are) in
+    rw (cons_option-front (length_told one.1) (lengths_told more)) (All-append (λ (k : ℕ). k ≤ length history) (cons_option (length_told one.1) []) (lengths_told more) head rest)
+
+rising_and : (ks : List ℕ) (n : ℕ) (told : Option ℕ) → AllPairs (λ (a b : ℕ). a ≤ b) ks → All (λ k. k ≤ n) ks → ((k : ℕ) → told ≡ Some k → n ≤ k)
+    → AllPairs (λ (a b : ℕ). a ≤ b) (ks ++ cons_option told [])
+rising_and ks n None pairs within above = rw (append-nil ks) pairs
+rising_and ks n (Some k) pairs within above =
+    all_pairs_push (λ (a b : ℕ). a ≤ b) ks k pairs (λ i d there. let low = within i d there in let high = above k refl in omega (arith, low, high))
+
+-- one more keeps the lengths from falling, where it names at least the length of all that was seen
+pub rising_more : (whole : Ground) (history : List Entry) (spoken : List Spoken) (one : Spoken) → AreAnswers whole history spoken → NeverFall spoken
+    → ((k : ℕ) → length_told one.1 ≡ Some k → length history ≤ k) → NeverFall (spoken ++ one ∷ [])
+rising_more whole history spoken one are rising above =
+    let all = filter_map-append (λ (one : Spoken). length_told one.1) spoken (one ∷ []) in
+    rw all (rising_and (lengths_told spoken) (length history) (length_told one.1) rising (told_within whole history spoken are) above)
+
+-- the same of `settle` lines, where the numbers of entries go on from one
+abbrev CoverFrom : ℕ → List Spoken → Type 0
+CoverFrom start spoken = (place k : ℕ) (line : Line) → slice_get spoken place ≡ Some (line, Settled k) → fold (λ (last : ℕ) (one : Spoken). number_after last one.1) start (take place spoken) ≤ k
+
+covers_and : (start : ℕ) (spoken : List Spoken) (one : Spoken) → CoverFrom start spoken
+    → ((k : ℕ) → one.1 ≡ Settled k → fold (λ (last : ℕ) (one : Spoken). number_after last one.1) start spoken ≤ k) → CoverFrom start (spoken ++ one ∷ [])
+covers_and start [] one old new zero k line is = let said : one.1 ≡ Settled k = cc is in new k said
+covers_and start [] one old new (suc place) k line is = absurd (cc is)
+covers_and start (first ∷ more) one old new zero k line is = old zero k line is
+covers_and start (first ∷ more) one old new (suc place) k line is =
+    covers_and (number_after start first.1) more one (λ p n l at. old (suc p) n l at) new place k line is
+
+-- one more keeps `settle` lines above the entries before them, where it does so itself
+pub covers_more : (spoken : List Spoken) (one : Spoken) → CoverEntries spoken → ((k : ℕ) → one.1 ≡ Settled k → last_number spoken ≤ k) → CoverEntries (spoken ++ one ∷ [])
+covers_more spoken one old new = covers_and 0 spoken one old new
+
+-- the last number after one more
+pub last_number_and : (spoken : List Spoken) (one : Spoken) → last_number (spoken ++ one ∷ []) ≡ number_after (last_number spoken) one.1
+last_number_and spoken one = fold-append (λ (last : ℕ) (one : Spoken). number_after last one.1) 0 spoken (one ∷ [])

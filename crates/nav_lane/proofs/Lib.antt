@@ -1,0 +1,6 @@
+mod ActLaws
+pub mod EntryLaws
+pub mod AnswerLaws
+pub mod RecordLaws
+mod PassLaws
+mod LaneLaws

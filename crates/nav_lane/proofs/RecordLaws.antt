@@ -1,0 +1,87 @@
+-- What the lines of a lane that has run say of the one history, once it has ended, and how many entries the lane has in it.
+use Rattle.std.proofs.Common.{◌≡◌, ◌∙◌, refl, sym, ap, ℕ, ◌+◌, ◌==◌, List, [], ◌∷◌, length, map, count_by, cond, arith}
+use Rattle.std.specs.List.{cons_option, enumerate_from}
+use Rattle.std.proofs.lemmas.List.Elements.{All-head, All-tail}
+use Rattle.std.proofs.lemmas.List.Sums.{length-filter, sum_by-cons}
+use mathlib.Core.List.{IsPrefix}
+use Rattle.turn_lock.specs.Growth.{Extends}
+use Rattle.turn_lock.specs.Locks.{LockId}
+use Rattle.nav_ground.specs.declared.history.Entry.{Entry}
+use Rattle.nav_ground.specs.declared.history.Ground.{Ground}
+use Rattle.nav_script.specs.declared.line.Line.{Line}
+use Rattle.nav_script.specs.declared.line.Line.TheVariants.{Lane, Ask, Add, Remove, Undo, Settle, Aim, Claim, Back, Submit, Publish}
+use Rattle.nav_script.specs.Lanes.{is_request}
+use Rattle.nav_lane.specs.Roots.{RootView}
+use Rattle.nav_lane.specs.declared.lane.Lane as lanes
+use Rattle.nav_lane.specs.declared.said.Said.{Said}
+use Rattle.nav_lane.specs.declared.said.Said.TheVariants.{Replied, Answered, Settled}
+use Rattle.nav_lane.specs.LaneRecords.{Spoken, AreAnswers, IsLane, IsSaid, adds_with, entries_from, entries_made, entry_said}
+use Rattle.nav_lane.specs.Lanes.{KeepsLane}
+use Rattle.nav_lane.proofs.AnswerLaws.{answers_later}
+use Rattle.nav_lane.proofs.EntryLaws.{entries_extended}
+
+-- where the one history goes on from what the lane's pass and its eye have seen, the lane's lines say what they may
+pub lane_record : (lock : LockId RootView) (history : List Entry) (list : List Line) (lane : lanes.Lane) → KeepsLane lock lane
+    → Extends (λ (entry : Entry). entry.lane) lane.pass.number lane.pass.seen history → IsPrefix lane.eye.seen history
+    → map (λ (one : Spoken). one.0) lane.spoken ≡ list → IsLane lock.root.level history lane.pass.number list lane.spoken
+lane_record lock history list lane keeps extends seen each = record {
+  each = each;
+  entries = entries_extended lane.pass.number lane.pass.seen history extends ∙ keeps.entries;
+  answers = answers_later lock.root.level lane.eye.seen history lane.spoken seen keeps.answers;
+  settled = keeps.settled;
+  rising = keeps.rising;
+}
+
+-- a line that was answered as it may be says one entry where it makes a request, and none where it does not
+said_by : (whole : Ground) (history : List Entry) (lane : ℕ) (adds : List ℕ) (line : Line) (said : Said) (rest : List (ℕ × Entry)) → IsSaid whole history line said
+    → length (cons_option (entry_said lane adds line said) rest) ≡ cond (is_request line) 1 0 + length rest
+said_by whole history lane adds (Add shape) (Replied number reply) rest is = omega arith
+said_by whole history lane adds (Add shape) (Answered k answer) rest is = absurd is
+said_by whole history lane adds (Add shape) (Settled k) rest is = absurd is
+said_by whole history lane adds (Remove obstacle) (Replied number reply) rest is = omega arith
+said_by whole history lane adds (Remove obstacle) (Answered k answer) rest is = absurd is
+said_by whole history lane adds (Remove obstacle) (Settled k) rest is = absurd is
+said_by whole history lane adds (Undo j) (Replied number reply) rest is = omega arith
+said_by whole history lane adds (Undo j) (Answered k answer) rest is = absurd is
+said_by whole history lane adds (Undo j) (Settled k) rest is = absurd is
+said_by whole history lane adds (Ask question) (Answered k answer) rest is = omega arith
+said_by whole history lane adds (Ask question) (Replied number reply) rest is = absurd is
+said_by whole history lane adds (Ask question) (Settled k) rest is = absurd is
+said_by whole history lane adds Settle (Settled k) rest is = omega arith
+said_by whole history lane adds Settle (Replied number reply) rest is = absurd is
+said_by whole history lane adds Settle (Answered k answer) rest is = absurd is
+said_by whole history lane adds (Lane other) said rest is = absurd is
+said_by whole history lane adds Aim said rest is = absurd is
+said_by whole history lane adds (Claim worker) said rest is = absurd is
+said_by whole history lane adds (Back worker) said rest is = absurd is
+said_by whole history lane adds (Submit worker) said rest is = absurd is
+said_by whole history lane adds Publish said rest is = absurd is
+
+-- lines that were answered as they may be say as many entries as requests are among them
+length-entries_from : (whole : Ground) (history : List Entry) (lane : ℕ) (adds : List ℕ) (spoken : List Spoken) → AreAnswers whole history spoken
+    → length (entries_from lane adds spoken) ≡ count_by is_request (map (λ (one : Spoken). one.0) spoken)
+length-entries_from whole history lane adds [] are = refl
+length-entries_from whole history lane adds (one ∷ more) are =
+    let P : Spoken → Type 0 = λ one. IsSaid whole history one.0 one.1 in
+    said_by whole history lane adds one.0 one.1 (entries_from lane (adds_with adds one) more) (All-head P one more are)
+    ∙ ap (λ count. cond (is_request one.0) 1 0 + count) (length-entries_from whole history lane (adds_with adds one) more (All-tail P one more are))
+    ∙ sym (sum_by-cons (λ (line : Line). cond (is_request line) 1 0) one.0 (map (λ (one : Spoken). one.0) more))
+
+-- a lane's pass has seen as many entries of its own as requests are among the lines that the lane has run
+pub length-entries_made : (lock : LockId RootView) (list : List Line) (lane : lanes.Lane) → KeepsLane lock lane → map (λ (one : Spoken). one.0) lane.spoken ≡ list
+    → length (entries_made lane.pass.number lane.pass.seen) ≡ count_by is_request list
+length-entries_made lock list lane keeps each =
+    ap length keeps.entries ∙ length-entries_from lock.root.level lane.eye.seen lane.pass.number [] lane.spoken keeps.answers ∙ ap (count_by is_request) each
+
+-- numbers do not matter to how many entries a lane made
+count_made : (lane n : ℕ) (history : List Entry)
+    → count_by (λ (entry : ℕ × Entry). entry.1.lane == lane) (enumerate_from n history) ≡ count_by (λ (entry : Entry). entry.lane == lane) history
+count_made lane n [] = refl
+count_made lane n (e ∷ rest) =
+    sum_by-cons (λ (entry : ℕ × Entry). cond (entry.1.lane == lane) 1 0) (n, e) (enumerate_from (n + 1) rest)
+    ∙ ap (λ count. cond (e.lane == lane) 1 0 + count) (count_made lane (n + 1) rest)
+    ∙ sym (sum_by-cons (λ (entry : Entry). cond (entry.lane == lane) 1 0) e rest)
+
+-- how many entries of a history a lane made
+pub entries_made-count : (lane : ℕ) (history : List Entry) → length (entries_made lane history) ≡ count_by (λ (entry : Entry). entry.lane == lane) history
+entries_made-count lane history = length-filter (λ (entry : ℕ × Entry). entry.1.lane == lane) (enumerate_from 1 history) ∙ count_made lane 1 history

@@ -1,0 +1,17 @@
+use Rattle.std.proofs.Common.{[], sym, ◌∙◌, subst}
+use Rattle.nav_lane.specs.Lanes.{CanStart}
+use Rattle.nav_live.proofs.MusterLaws.{next_of_drop}
+use Rattle.nav_live.proofs.muster.new_lane.Goals as goal
+
+pub returns-clause-new : goal.returns-clause-new
+returns-clause-new c all dealt eyes lists =
+    let eye = next_of_drop all _ c.args.number c.in-Some.eye (sym c.in-Some.ensures.cases.0 ∙ eyes) in
+    let list = next_of_drop dealt _ c.args.number c.in-Some-next.lines (sym c.in-Some-next.ensures.cases.0 ∙ lists) in (
+      list.within,
+      λ d. record {
+        made = c.new.ensures.pass;
+        dealt = sym (list.is []);
+        fresh = c.new.ensures.fresh;
+        keeps = λ lock can. c.new.ensures.keeps lock (subst (CanStart lock c.args.number c.args.pass) (eye.is d) can);
+      },
+    )
