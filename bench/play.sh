@@ -9,5 +9,5 @@ trap 'rm -rf "$work"' EXIT
 for seed in 1 2 3; do
     python3 "$here/play_input.py" 128 1000 $seed > "$work/input"
     /usr/bin/time -f "seed $seed: %e s, %M KB" "$navd" play < "$work/input" > "$work/output"
-    python3 "$here/play_check.py" "$work/input" "$work/output" && echo "seed $seed: the same as the second program"
+    python3 "$here/../reference/play_check.py" "$work/input" "$work/output" && echo "seed $seed: the same as the second program"
 done
