@@ -8,8 +8,8 @@ cd "$(dirname "$0")/.."
 work=$(mktemp -d)
 trap 'rm -rf "$work"' EXIT
 
-(cd crates/bench_stages && rt run < stdin > "$work/build.log" 2>&1) || { cat "$work/build.log"; exit 1; }
-cp crates/bench_stages/out/bench_stages "$work/product"
+(cd crates/bench_calls && rt run < stdin > "$work/build.log" 2>&1) || { cat "$work/build.log"; exit 1; }
+cp crates/bench_calls/out/bench_calls "$work/product"
 
 # seconds NAME PULLS: the least processor time of five runs
 seconds() {

@@ -1,5 +1,5 @@
 #!/bin/sh
-# Times the ground of whole fields, by the stages of the program bench_strip_mesh: reading the text, and then the ground, for fields of two
+# Times the ground of whole fields, by the stages of the program bench_pipeline: reading the text, and then the ground, for fields of two
 # floors with an agent of radius 2 in tiles of 48, 128 to 1024 columns a side. Prints processor seconds, the least of five runs each. Fails
 # where the ground of the largest field (2000000 spans) takes more than 6 times its reading, or more than 400 bytes of memory a span at the
 # peak. Then two neighbouring columns of 4000 spans each, which may take 50 ms.     usage: bench/ground.sh
@@ -8,8 +8,8 @@ cd "$(dirname "$0")/.."
 work=$(mktemp -d)
 trap 'rm -rf "$work"' EXIT
 
-(cd crates/bench_strip_mesh && rt run < stdin > "$work/build.log" 2>&1) || { cat "$work/build.log"; exit 1; }
-program=$PWD/crates/bench_strip_mesh/out/bench_strip_mesh
+(cd crates/bench_pipeline && rt run < stdin > "$work/build.log" 2>&1) || { cat "$work/build.log"; exit 1; }
+program=$PWD/crates/bench_pipeline/out/bench_pipeline
 
 # text SIDE: a field of two floors, of at most 2000000 spans
 text() {

@@ -1,4 +1,4 @@
-//! The same work as the program bench_stages, in Rust with its library's root.
+//! The same work as the program bench_calls, in Rust with its library's root.
 
 use std::io::BufRead;
 

@@ -9,8 +9,8 @@ work=$(mktemp -d)
 trap 'rm -rf "$work"' EXIT
 
 rustc -O -o "$work/rust" bench/nav_base.rs
-(cd crates/bench_stages && rt run < stdin > "$work/build.log" 2>&1) || { cat "$work/build.log"; exit 1; }
-cp crates/bench_stages/out/bench_stages "$work/product"
+(cd crates/bench_calls && rt run < stdin > "$work/build.log" 2>&1) || { cat "$work/build.log"; exit 1; }
+cp crates/bench_calls/out/bench_calls "$work/product"
 
 # seconds PROGRAM: the least processor time of five runs on the work file
 seconds() {

@@ -1,4 +1,4 @@
-//! The same reader as the program bench_stages, in Rust with the C library's memchr.
+//! The same reader as the program bench_calls, in Rust with the C library's memchr.
 
 use std::io::Read;
 

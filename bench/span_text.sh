@@ -8,8 +8,8 @@ work=$(mktemp -d)
 trap 'rm -rf "$work"' EXIT
 
 rustc -O -o "$work/rust" bench/span_text.rs
-(cd crates/bench_stages && rt run < stdin > "$work/build.log" 2>&1) || { cat "$work/build.log"; exit 1; }
-cp crates/bench_stages/out/bench_stages "$work/product"
+(cd crates/bench_calls && rt run < stdin > "$work/build.log" 2>&1) || { cat "$work/build.log"; exit 1; }
+cp crates/bench_calls/out/bench_calls "$work/product"
 
 {
     printf 'nav 1\nsize 1000 1000\ntile 32\nagent 10 4 2\nerror 169\nmesh contours\nlimit 64\ncost 63 2\n'

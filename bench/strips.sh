@@ -10,8 +10,8 @@ cd "$(dirname "$0")/.."
 work=$(mktemp -d)
 trap 'rm -rf "$work"' EXIT
 
-(cd crates/bench_strip_mesh && rt run < stdin > "$work/build.log" 2>&1) || { cat "$work/build.log"; exit 1; }
-program=$PWD/crates/bench_strip_mesh/out/bench_strip_mesh
+(cd crates/bench_pipeline && rt run < stdin > "$work/build.log" 2>&1) || { cat "$work/build.log"; exit 1; }
+program=$PWD/crates/bench_pipeline/out/bench_pipeline
 
 # flat SIDE AREAS: a field of two floors, of at most 2000000 spans; the areas along x are 1 to AREAS, again and again
 flat() {

@@ -1,4 +1,4 @@
-// The same work as the program bench_stages under a `std::sync::Mutex`: so many rounds of 10000 pairs in one thread.
+// The same work as the program bench_calls under a `std::sync::Mutex`: so many rounds of 10000 pairs in one thread.
 use std::hint::black_box;
 use std::sync::Mutex;
 

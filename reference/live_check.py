@@ -1,7 +1,11 @@
 #!/usr/bin/env python3
-"""Checks live runs of random scripts by the built program: that each lane's requests are its entries in order, that the lengths of a lane do not fall
-and cover its entries at a settle, and each answer with length K against a play of the first K entries of the printed history.
-usage: live_check.py NAVD RUNS [SEED]"""
+"""Checks live runs by the built program, of random scripts or of one input: that each lane's requests are its entries in order, that the
+lengths of a lane do not fall and cover its entries at a settle, and each answer with length K against a play of the first K entries of the
+printed history.
+
+usage: live_check.py NAVD RUNS [SEED]     so many random scripts (default seed 1)
+       live_check.py NAVD INPUT           the live run of one input
+"""
 import random
 import subprocess
 import sys
@@ -70,11 +74,30 @@ def determined(answer):
     return [words[0], *(words[2:5] if words[0] == "path" else words[2:])]
 
 
-def check(navd, rng):
+def random_input(rng):
+    """The lines of a level, how many workers there are, and the lines of each lane."""
     size = rng.choice([24, 40])
     head = level(size, rng.choice([8, 16, 48]), rng)
     lanes = [lane(size, rng.randrange(1, 40), rng) for _ in range(rng.randrange(1, 7))]
-    script = [f"script {len(lanes)} {rng.randrange(1, 9)}"]
+    return head, rng.randrange(1, 9), lanes
+
+
+def read_input(text):
+    """The same of an input that is read."""
+    lines = text.splitlines()
+    end = lines.index("end") + 1
+    count, workers = map(int, lines[end].split()[1:])
+    lanes, at = [[] for _ in range(count)], 0
+    for line in lines[end + 1 :]:
+        if line.startswith("lane "):
+            at = int(line.split()[1])
+        else:
+            lanes[at].append(line)
+    return lines[:end], workers, lanes
+
+
+def check(navd, head, workers, lanes):
+    script = [f"script {len(lanes)} {workers}"]
     for at, lines in enumerate(lanes):
         script += [f"lane {at}", *lines]
     out = run(navd, "live", "\n".join(head + script) + "\n")
@@ -97,7 +120,7 @@ def check(navd, rng):
             words, told = line.split(), answer[0].split()
             if words[0] in ("add", "remove", "drop"):
                 entry = own.pop(0)
-                wanted = words if words[0] == "add" else ["remove", str(adds[int(words[1]) - 1])]
+                wanted = ["remove", str(adds[int(words[1]) - 1])] if words[0] == "drop" else words
                 assert entry[3 : 3 + len(wanted)] == wanted, (line, entry)
                 assert told == ["entry", entry[1], *entry[3 + len(wanted) :]], (told, entry)
                 newest = int(entry[1])
@@ -135,8 +158,12 @@ def check(navd, rng):
     return len(asked), sum(len(v) for v in asked.values()), n
 
 
-rng = random.Random(int(sys.argv[3]) if len(sys.argv) > 3 else 1)
+if sys.argv[2].isdigit():
+    rng = random.Random(int(sys.argv[3]) if len(sys.argv) > 3 else 1)
+    inputs = (random_input(rng) for _ in range(int(sys.argv[2])))
+else:
+    inputs = [read_input(open(sys.argv[2]).read())]
 totals = [0, 0, 0]
-for _ in range(int(sys.argv[2])):
-    totals = [a + b for a, b in zip(totals, check(sys.argv[1], rng))]
+for head, workers, lanes in inputs:
+    totals = [a + b for a, b in zip(totals, check(sys.argv[1], head, workers, lanes))]
 print("lengths named", totals[0], "questions", totals[1], "entries", totals[2], "all as in plays")

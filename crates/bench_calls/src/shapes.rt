@@ -1,7 +1,7 @@
 //! The chains: rows of portals that stand upright, one to the right of the other, so that the left end of each is its upper one.
 
 ghost use Rattle.std.specs.Prelude.{◌≡◌, ◌≤◌, IfOk};
-ghost use Rattle.bench_stages.specs.Rows.{CanBePulled, IsSlope, upright_at};
+ghost use Rattle.bench_calls.specs.Rows.{CanBePulled, IsSlope, upright_at};
 
 use crate::chain::Chain;
 use mesh_types::Portal;

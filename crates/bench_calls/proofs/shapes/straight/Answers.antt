@@ -3,9 +3,9 @@ use Rattle.std.proofs.Common.{◌≡◌, ℕ, ◌+◌, ◌*◌, pos, negsuc, ◌
 use Rattle.std.proofs.lemmas.Int.{ints}
 use Rattle.std.proofs.lemmas.List.{length-append}
 use Rattle.mesh_types.specs.declared.links.Portal.{Portal}
-use Rattle.bench_stages.specs.Rows.{IsRow}
-use Rattle.bench_stages.proofs.RowLaws.{row_grown, row_pulled}
-use Rattle.bench_stages.proofs.shapes.straight.Goals as goal
+use Rattle.bench_calls.specs.Rows.{IsRow}
+use Rattle.bench_calls.proofs.RowLaws.{row_grown, row_pulled}
+use Rattle.bench_calls.proofs.shapes.straight.Goals as goal
 
 pub loop-place-preserved : goal.loop-place-preserved
 loop-place-preserved c =

@@ -1,7 +1,7 @@
 //! Paths pulled through a chain of portals: `straight PORTALS ROUNDS`, through a straight corridor, and `turn PORTALS ROUNDS`, round a wall that
 //! bends slowly. The chain has so many portals, at most 4000; the sum is that of the corners of all paths.
 
-ghost use Rattle.bench_stages.specs.Rows.{CanBePulled};
+ghost use Rattle.bench_calls.specs.Rows.{CanBePulled};
 
 use crate::chain::Chain;
 use crate::shapes::{straight, turn};

@@ -3,8 +3,8 @@ use Rattle.std.specs.Prelude.{◌≡◌, ℕ, ◌<◌, ◌≤◌, ℤ, pos, ◌-
 use Rattle.mesh_types.specs.declared.links.Portal.{Portal}
 use Rattle.mesh_types.specs.Chains.{IsChain}
 use Rattle.funnel_path.specs.Coordinates.{HasChainCoordinates, HasEndCoordinates}
-use Rattle.bench_stages.specs.declared.chain.Chain.{Chain}
-use Rattle.bench_stages.specs.declared.shapes.Slope.{Slope}
+use Rattle.bench_calls.specs.declared.chain.Chain.{Chain}
+use Rattle.bench_calls.specs.declared.shapes.Slope.{Slope}
 
 -- a path can be pulled through a chain
 pub record CanBePulled (chain : Chain) : Type 0 where

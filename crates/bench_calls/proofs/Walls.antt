@@ -1,8 +1,8 @@
 -- A wall so far.
 use Rattle.std.proofs.Common.{◌≡◌, ℕ, ◌≤◌, pos, negsuc, ◌-ℤ◌, List, length}
 use Rattle.mesh_types.specs.declared.links.Portal.{Portal}
-use Rattle.bench_stages.specs.declared.shapes.Slope.{Slope}
-use Rattle.bench_stages.specs.Rows.{IsRow, IsSlope}
+use Rattle.bench_calls.specs.declared.shapes.Slope.{Slope}
+use Rattle.bench_calls.specs.Rows.{IsRow, IsSlope}
 
 -- so many portals stand in a row up to a corner within the borders, and the next edge has a slope of a wall
 pub record IsWall (portals : List Portal) (count before : ℕ) (slope : Slope) (across high : ℕ) : Type 0 where

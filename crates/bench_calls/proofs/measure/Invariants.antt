@@ -1,5 +1,5 @@
 use Rattle.std.proofs.Common.{length}
-use Rattle.bench_stages.proofs.measure.Given as goal
+use Rattle.bench_calls.proofs.measure.Given as goal
 
 -- the lines that are left
 abbrev pub decreases-loop-line : goal.decreases-loop-line

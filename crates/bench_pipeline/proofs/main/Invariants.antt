@@ -1,4 +1,4 @@
-use Rattle.bench_strip_mesh.proofs.main.Given as goal
+use Rattle.bench_pipeline.proofs.main.Given as goal
 
 -- the call's ledger is the blank one that it is handed
 abbrev pub ghosts-measured : goal.ghosts-measured

@@ -3,8 +3,8 @@ use Rattle.std.proofs.Common.{negsuc, List, [], ◌∷◌, length, ap, ◌∙◌
 use Rattle.std.proofs.lemmas.Int.{ints}
 use Rattle.std.proofs.lemmas.List.{length-append}
 use Rattle.mesh_types.specs.declared.links.Portal.{Portal}
-use Rattle.bench_stages.proofs.RowLaws.{row_grown, row_pulled}
-use Rattle.bench_stages.proofs.shapes.turn.Goals as goal
+use Rattle.bench_calls.proofs.RowLaws.{row_grown, row_pulled}
+use Rattle.bench_calls.proofs.shapes.turn.Goals as goal
 
 pub loop-preserved : goal.loop-preserved
 loop-preserved c =
