@@ -7,6 +7,7 @@ there to the names in that definition, and so on. Of a type of the code it takes
 where a variable is called like one, and none too few. Words of the toolchain's library are counted and not listed.
 
 usage: tools/claim.py             writes the page
+       tools/claim.py --of NAME   lists what stands behind one definition, as IsRightPath, in reading order
        tools/claim.py --check     ends with 1 where the page is not what the files say
        tools/claim.py --unused    lists the definitions that contracts do not need: those that proofs alone cite, and those that nothing cites
        tools/claim.py --calls     lists the public calls of the product with the names of their clauses, to compare before and after
@@ -413,6 +414,17 @@ def unused(house):
             print(f"  {item.crate}/specs/{item.module.replace('.', '/')}: {item.name}")
 
 
+def behind(house, name):
+    """What has to be believed for one definition."""
+    roots = [item for module in house.specs.values() for item in module.items.values() if item.name == name]
+    items = house.reached(roots)
+    definitions = [item for item in items if item.kind == "definition"]
+    for key in order_of(house, items):
+        for item in in_order(house.specs[key], items):
+            print(f"{item.crate}/specs/{item.module.replace('.', '/')}  {item.name}: {sentence(item.comment, 100) or 'the same comment, above'}")
+    print(f"{len(definitions)} definitions, {sum(map(lines_of, definitions))} lines, and the types " + ", ".join(sorted(it.name for it in items if it.kind != "definition")))
+
+
 def calls(house):
     """Each public call with the names of its conditions and its promises; a clause without a name is told as `_`."""
     for (crate, name), module in house.code.items():
@@ -434,6 +446,9 @@ def calls(house):
 
 def main():
     house = House()
+    if "--of" in sys.argv[:-1]:
+        behind(house, sys.argv[sys.argv.index("--of") + 1])
+        return 0
     if "--calls" in sys.argv:
         calls(house)
         return 0
