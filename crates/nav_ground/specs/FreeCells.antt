@@ -49,7 +49,3 @@ free_layer_of layer shapes = record {
   tile = layer.tile;
   cells = map (free_cell_of layer.cells shapes) (filter (is_free shapes) layer.cells);
 }
-
--- the free cells of each layer, for one list of shapes
-abbrev pub free_layers_of : List Layer → List Shape → List FreeLayer
-free_layers_of layers shapes = map (λ (layer : Layer). free_layer_of layer shapes) layers
