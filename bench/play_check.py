@@ -18,6 +18,7 @@ import contours
 
 DIRECTIONS = [(-1, 0), (0, 1), (1, 0), (0, -1)]
 BELOW_ALL = -10 ** 9
+HISTORY_LIMIT = 262144
 
 lines = open(sys.argv[1]).read().split("\n")[:-1]
 told = open(sys.argv[2]).read().split("\n")[:-1]
@@ -218,8 +219,8 @@ def step(word, worker):
 
 
 def request(kind, value):
-    if len(history) == 65536:
-        expect("history full 65536")
+    if len(history) == HISTORY_LIMIT:
+        expect(f"history full {HISTORY_LIMIT}")
         return 0
     number = len(history) + 1
     history.append((lane, kind, value))

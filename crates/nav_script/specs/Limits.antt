@@ -5,7 +5,7 @@ use Rattle.nav_base.specs.declared.answers.Question.{Question}
 use Rattle.nav_base.specs.declared.answers.Question.TheVariants.{Floor, Path, Ray}
 use Rattle.nav_ground.specs.declared.shape.Shape.{Shape}
 use Rattle.nav_ground.specs.declared.shape.Shape.TheVariants.{Block, Cylinder, AreaBlock, AreaCylinder}
-use Rattle.nav_ground.specs.declared.history.TheConstants.{HISTORY_LIMIT}
+use Rattle.nav_ground.specs.History.{history_limit}
 use Rattle.nav_ground.specs.Limits.{IsShape}
 use Rattle.nav_script.specs.declared.line.Line.{Line}
 use Rattle.nav_script.specs.declared.line.Line.TheVariants.{Lane, Ask, Add, Remove, Undo, Settle, Aim, Claim, Back, Submit, Publish}
@@ -58,7 +58,7 @@ pub record IsScript (way : Way) (script : Script) : Type 0 where
   pub workers_least : 1 ≤ script.workers
   pub workers_most : script.workers ≤ 8
   pub few : length script.lines ≤ 300000
-  pub requests : way ≡ Live → count_by is_request script.lines ≤ HISTORY_LIMIT
+  pub requests : way ≡ Live → count_by is_request script.lines ≤ history_limit
   pub each : (k : ℕ) (line : Line) → slice_get script.lines k ≡ Some line
       → IsLine way script.lanes script.workers (adds_before (take k script.lines)) line
 
