@@ -8,7 +8,7 @@ use Rattle.nav_base.specs.declared.point.Point.{Point}
 use Rattle.nav_base.specs.Point.{HasCoordinates, IsCoordinate}
 use Rattle.nav_query.specs.Questions.{IsAnswerable}
 use Rattle.nav_script.specs.declared.line.Line.{Line}
-use Rattle.nav_script.specs.declared.line.Line.TheVariants.{Lane, Ask, Add, Remove, Undo, Settle, Aim, Claim, Back, Submit, Publish}
+use Rattle.nav_script.specs.declared.line.Line.TheVariants.{Lane, Ask, Add, Claim, Back, Submit}
 use Rattle.nav_script.specs.declared.script.Script.{Script}
 use Rattle.nav_script.specs.declared.script.Way.TheVariants.{Play}
 use Rattle.nav_script.specs.Limits.{IsScript, IsLine, IsPlace, IsQuestion}
@@ -32,14 +32,10 @@ playable : (lanes workers before : ℕ) (line : Line) → IsLine Play lanes work
 playable lanes workers before (Lane lane) fits = fits
 playable lanes workers before (Ask question) fits = answerable question fits
 playable lanes workers before (Add shape) fits = fits
-playable lanes workers before (Remove number) fits = tt
-playable lanes workers before (Undo back) fits = tt
-playable lanes workers before Settle fits = tt
-playable lanes workers before Aim fits = tt
 playable lanes workers before (Claim worker) fits = fits.1
 playable lanes workers before (Back worker) fits = fits.1
 playable lanes workers before (Submit worker) fits = fits.1
-playable lanes workers before Publish fits = tt
+playable lanes workers before _ fits = tt
 
 -- each line of a script can be played
 pub line_playable : (script : Script) (items : List Line) (k lanes workers : ℕ) (d : Line) → IsScript Play script → items ≡ script.lines → k < length items
