@@ -3,9 +3,10 @@
 steps, hanging spans and low ceilings, for an agent with a radius; and LINES script lines that mix floors, paths, blocks, cylinders, removes
 and settles. MESH is strips or contours, with its ERROR. With WORKERS of at least 1 the script also has rays and the workers' single steps:
 aims, claims, submits, backs and publishes. With KIND `smooth` the field has few holes, areas in patches, and ramps between the two floors, so
-that regions are large and most questions are answered by paths. The same arguments give the same bytes.
+that regions are large and most questions are answered by paths. With AREAS `areas` two obstacles in five set an area. The same arguments give
+the same bytes.
 
-usage: level_input.py [SIDE [LINES [SEED [MESH [ERROR [WORKERS [KIND]]]]]]]     (defaults 40 300 1 strips 169 0 rough)
+usage: level_input.py [SIDE [LINES [SEED [MESH [ERROR [WORKERS [KIND [AREAS]]]]]]]]     (defaults 40 300 1 strips 169 0 rough none)
 """
 import random
 import sys
@@ -16,6 +17,7 @@ random.seed(int(sys.argv[3]) if len(sys.argv) > 3 else 1)
 mesh = sys.argv[4] if len(sys.argv) > 4 else "strips"
 error, workers = [int(word) for word in sys.argv[5:7]] + [169, 0][len(sys.argv[5:7]):]
 kind = sys.argv[7] if len(sys.argv) > 7 else "rough"
+areas = sys.argv[8:9] == ["areas"]
 
 
 def rough_column(x, z):
@@ -51,7 +53,7 @@ def smooth_column(x, z):
 tile = random.choice([4, 7, 16, 48])
 climb, radius = (random.randrange(6), random.randrange(4)) if kind == "rough" else (random.choice([2, 3, 4]), random.choice([0, 0, 1, 2]))
 out = ["nav 1", f"size {side} {side - 3}", f"tile {tile}", f"agent 10 {climb} {radius}",
-       f"error {error}", f"mesh {mesh}", f"limit {random.choice([3, 64])}"] + [["cost 5 3"], []][random.randrange(2)]
+       f"error {error}", f"mesh {mesh}", f"limit {random.choice([3, 64])}"] + [["cost 5 3"], []][random.randrange(2)] + ["cost 20 7"] * areas
 for z in range(side - 3):
     for x in range(side):
         for bottom, top, area in (rough_column if kind == "rough" else smooth_column)(x, z):
@@ -68,16 +70,21 @@ def steps():
     return random.choice([["aim"], ["publish"], [f"claim {worker}"], [f"claim {worker}"], [f"submit {worker}"], [f"back {worker}"], few, few + ["publish"]])
 
 
+def add():
+    """The first words of an obstacle's line."""
+    return f"add area {random.choice([5, 20, 63])}" if areas and random.randrange(5) < 2 else "add"
+
+
 for _ in range(count):
     line = random.randrange(16 if workers else 11)
     if line == 0:
         x, z, y = random.randrange(side), random.randrange(side), random.choice([0, 20])
-        out.append(f"add block {x} {x + random.randrange(8)} {y} {y + random.randrange(40)} {z} {z + random.randrange(8)}")
+        out.append(f"{add()} block {x} {x + random.randrange(8)} {y} {y + random.randrange(40)} {z} {z + random.randrange(8)}")
         adds[lane] += 1
     elif line == 1 and adds[lane]:
         out.append(f"drop {random.randrange(1, adds[lane] + 1)}")
     elif line == 2:
-        out.append(f"add cylinder {random.randrange(2 * side)} {random.randrange(2 * side)} {random.randrange(6)} 0 {random.choice([15, 100])}")
+        out.append(f"{add()} cylinder {random.randrange(2 * side)} {random.randrange(2 * side)} {random.randrange(6)} 0 {random.choice([15, 100])}")
         adds[lane] += 1
     elif line == 3:
         out.append("settle")

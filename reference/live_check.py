@@ -12,7 +12,7 @@ import sys
 
 
 def level(size, tile, rng):
-    lines = ["nav 1", f"size {size} {size}", f"tile {tile}", "agent 10 4 2", "error 169", rng.choice(["mesh strips", "mesh contours"]), "limit 24"]
+    lines = ["nav 1", f"size {size} {size}", f"tile {tile}", "agent 10 4 2", "error 169", rng.choice(["mesh strips", "mesh contours"]), "limit 24", "cost 20 3", "cost 30 7"]
     for z in range(size):
         for x in range(size):
             lines.append(f"span {x} {z} 0 {40 if rng.random() < 1 / 64 else 10} 63")
@@ -32,10 +32,11 @@ def question(size, rng):
 def request(size, adds, rng):
     if adds and rng.random() < 0.4:
         return f"drop {rng.randrange(adds) + 1}"
+    add = f"add area {rng.choice([20, 30])}" if rng.random() < 0.4 else "add"
     if rng.random() < 0.5:
         x, z = rng.randrange(size), rng.randrange(size)
-        return f"add block {x} {x + rng.randrange(6)} 0 100 {z} {z + rng.randrange(6)}"
-    return f"add cylinder {rng.randrange(2 * size)} {rng.randrange(2 * size)} {rng.randrange(5)} 0 100"
+        return f"{add} block {x} {x + rng.randrange(6)} 0 100 {z} {z + rng.randrange(6)}"
+    return f"{add} cylinder {rng.randrange(2 * size)} {rng.randrange(2 * size)} {rng.randrange(5)} 0 100"
 
 
 def lane(size, count, rng):
@@ -139,7 +140,8 @@ def check(navd, head, workers, lanes):
     for k in range(n + 1):
         if k:
             e = entries[k - 1]
-            play.append(" ".join(e[3 : {"remove": 5}.get(e[3], 11 if e[4] == "block" else 10)]))
+            kind = 6 if e[4] == "area" else 4  # where an obstacle's kind stands: its numbers follow
+            play.append(" ".join(e[3 : 5 if e[3] == "remove" else kind + (7 if e[kind] == "block" else 6)]))
             rest = e[3 + len(play[-1].split()) :]
             wanted.append(["entry", str(k), *rest])
         if k in asked:

@@ -18,6 +18,7 @@ import contours
 
 DIRECTIONS = [(-1, 0), (0, 1), (1, 0), (0, -1)]
 BELOW_ALL = -10 ** 9
+HISTORY_LIMIT = 262144
 
 lines = open(sys.argv[1]).read().split("\n")[:-1]
 told = open(sys.argv[2]).read().split("\n")[:-1]
@@ -149,7 +150,7 @@ def window(tile):
 
 
 def covers(shape, x, z, floor):
-    kind, n = shape
+    kind, n, _ = shape
     if kind == "block":
         x0, x1, y0, y1, z0, z1 = n
         return x0 <= x <= x1 and z0 <= z <= z1 and y0 <= floor <= y1
@@ -157,10 +158,20 @@ def covers(shape, x, z, floor):
     return (2 * x + 1 - cx) ** 2 + (2 * z + 1 - cz) ** 2 <= (2 * r + 1) ** 2 and y0 <= floor <= y1
 
 
+def is_blocked(shapes, x, z, floor):
+    """Whether a shape that sets no area covers a cell."""
+    return any(area is None and covers((kind, n, area), x, z, floor) for kind, n, area in shapes)
+
+
+def area_under(shapes, x, z, cell):
+    """The area of a free cell: what the last area shape that covers it sets, or its own."""
+    return ([cell[2]] + [shape[2] for shape in shapes if shape[2] is not None and covers(shape, x, z, cell[0])])[-1]
+
+
 def touches(shape, tile):
     """Whether the bounds of a shape have a column of the field in common with a tile."""
     x0, x1, z0, z1 = window(tile)
-    kind, n = shape
+    kind, n, _ = shape
     if kind == "block":
         return n[0] <= x1 and x0 <= n[1] and n[4] <= z1 and z0 <= n[5]
     cx, cz, r = n[:3]
@@ -218,8 +229,8 @@ def step(word, worker):
 
 
 def request(kind, value):
-    if len(history) == 65536:
-        expect("history full 65536")
+    if len(history) == HISTORY_LIMIT:
+        expect(f"history full {HISTORY_LIMIT}")
         return 0
     number = len(history) + 1
     history.append((lane, kind, value))
@@ -246,7 +257,7 @@ def near(place, dir):
 
 def built(tile, free):
     """The built tile, which is made once for the same free cells."""
-    key = tile, frozenset(free)
+    key = tile, frozenset(free.items())
     if key not in built_kept:
         built_kept[key] = contours.build(window(tile), free, near, error)
     return built_kept[key]
@@ -255,11 +266,11 @@ def built(tile, free):
 def published_mesh():
     """The polygons under the published shapes, by tile and place, and the links that leave each of them: edge, polygon entered, left end,
     right end. Over borders a link goes where two tiles have a connected pair of free cells on their rims."""
-    shapes = list(published.values())
+    shapes = [shape for _, shape in sorted(published.items())]
     free = [{} for _ in range(tile_count)]
     for (x, z, level), cell in kept_at.items():
-        if not any(covers(shape, x, z, cell[0]) for shape in shapes):
-            free[tile_of(x, z)][x, z, level] = (cell[0], cell[2])
+        if not is_blocked(shapes, x, z, cell[0]):
+            free[tile_of(x, z)][x, z, level] = (cell[0], area_under(shapes, x, z, cell))
     polygons, links, rims = {}, {}, {}
     for tile in range(tile_count):
         made, inner, rim = built(tile, free[tile])
@@ -465,7 +476,9 @@ for line in lines[at + 2:]:
     if words[0] == "lane":
         lane = int(words[1])
     elif words[0] == "add":
-        adds[lane].append(request("add", (words[1], list(map(int, words[2:])))))
+        area = int(words.pop(2)) if words[1] == "area" else None
+        kind = words[1] if area is None else words.pop(2)
+        adds[lane].append(request("add", (kind, list(map(int, words[2:])), area)))
     elif words[0] == "remove":
         request("remove", int(words[1]))
     elif words[0] == "drop":
@@ -486,8 +499,9 @@ for line in lines[at + 2:]:
         expect(step(words[0], int(words[1])))
     elif words[0] == "floor":
         x, z = int(words[1]), int(words[2])
-        free = [cell for cell in kept.get((x, z), []) if not any(covers(shape, x, z, cell[0]) for shape in published.values())]
-        expect(f"floors {published_length} {len(free)}" + "".join(f" {cell[0]} {cell[2]}" for cell in free))
+        shapes = [shape for _, shape in sorted(published.items())]
+        free = [cell for cell in kept.get((x, z), []) if not is_blocked(shapes, x, z, cell[0])]
+        expect(f"floors {published_length} {len(free)}" + "".join(f" {cell[0]} {area_under(shapes, x, z, cell)}" for cell in free))
     elif words[0] == "path":
         check_path(words)
     elif words[0] == "ray":

@@ -4,7 +4,7 @@ ghost use Rattle.std.specs.Prelude.{◌≡◌, ◌↔◌, ◌+◌, ◌<◌, ◌�
 ghost use Rattle.std.specs.Arc.{arc_value};
 ghost use Rattle.nav_ground.specs.declared.history.Entry.{Entry};
 ghost use Rattle.nav_ground.specs.Grounds.{IsGround};
-ghost use Rattle.nav_ground.specs.History.{IsRequest, IsHistory};
+ghost use Rattle.nav_ground.specs.History.{IsRequest, IsHistory, history_limit};
 ghost use Rattle.nav_ground.specs.Tiling.{tile_count};
 ghost use Rattle.mesh_types.specs.Builds.{build_of};
 ghost use Rattle.mesh_types.specs.Right.{IsRight};
@@ -22,7 +22,7 @@ use crate::result::TileResult;
 use mesh_types::{Answer, Mesh, TileMesh};
 use nav_base::Question;
 use nav_desk::{Desk, HistoryFull, Job, Published, Submitted};
-use nav_ground::{Entry, Ground, HISTORY_LIMIT, Reply, Request};
+use nav_ground::{Entry, Ground, Reply, Request};
 use nav_list::Items;
 use nav_share::Shared;
 use nav_version::{Entries, Eye, Press, Told, Version, pair};
@@ -93,7 +93,7 @@ impl Book {
         ensures pair { self.new.pair ≡ self.old.pair }
 
         // It is refused exactly where the history is full, and then nothing changes.
-        ensures full { IsErr result ↔ (length self.old.state.history ≡ HISTORY_LIMIT) }
+        ensures full { IsErr result ↔ (length self.old.state.history ≡ history_limit) }
         ensures len { IfErr result (λ refused. refused.len ≡ length self.old.state.history) }
         ensures refused { OnErr result (self.new ≡ self.old) }
     {

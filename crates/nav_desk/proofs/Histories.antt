@@ -4,13 +4,12 @@ use Rattle.std.specs.List.{All, filter_map, cons_option}
 use Rattle.std.proofs.lemmas.List.{length_push}
 use Rattle.std.proofs.lemmas.List.Elements.{All-push, All-map, All-nil, All-cons}
 use Rattle.std.proofs.lemmas.Option.{none-some, same_Some, option_and_then_some, slice_get_within, get_or_from_slice_get}
-use Rattle.nav_ground.specs.declared.history.TheConstants.{HISTORY_LIMIT}
 use Rattle.nav_ground.specs.declared.history.Entry.{Entry}
 use Rattle.nav_ground.specs.declared.history.Request.{Request}
 use Rattle.nav_ground.specs.declared.history.Request.TheVariants.{Add, Remove}
 use Rattle.nav_ground.specs.declared.shape.Shape.{Shape}
 use Rattle.nav_ground.specs.Limits.{IsShape}
-use Rattle.nav_ground.specs.History.{IsHistory, IsRequest, alive_after, entry_at, shape_in, shape_of, shapes_alive, reply_to}
+use Rattle.nav_ground.specs.History.{IsHistory, IsRequest, alive_after, entry_at, shape_in, shape_of, shapes_alive, reply_to, history_limit}
 use Rattle.nav_ground.proofs.AliveLaws.{IsWellReplied-push}
 use Rattle.nav_desk.specs.declared.live.Live.{Live}
 use Rattle.nav_ground.specs.declared.history.Reply.{Reply}
@@ -18,7 +17,7 @@ use Rattle.nav_desk.specs.LiveTable.{IsLiveTable, reply_among, rows_after}
 use Rattle.nav_desk.proofs.Tables.{table_after, table_replies}
 
 -- one entry more, with the reply of the history before it
-pub IsHistory-push : (limit : ℕ) (history : List Entry) (entry : Entry) → IsHistory limit history → length history < HISTORY_LIMIT → IsRequest entry.request
+pub IsHistory-push : (limit : ℕ) (history : List Entry) (entry : Entry) → IsHistory limit history → length history < history_limit → IsRequest entry.request
     → entry.reply ≡ reply_to limit history entry.request → IsHistory limit (history ++ entry ∷ [])
 IsHistory-push limit history entry rules room request reply = record {
   few = omega (arith, length_push history entry);
@@ -51,7 +50,7 @@ table_limits history rows requests table =
 
 -- a book's history and its table after a request
 pub request_kept : (limit lane number : ℕ) (history : List Entry) (rows : List Live) (request : Request) (reply : Reply)
-    → IsHistory limit history → IsLiveTable history rows → length history < HISTORY_LIMIT → IsRequest request
+    → IsHistory limit history → IsLiveTable history rows → length history < history_limit → IsRequest request
     → number ≡ length history + 1 → reply ≡ reply_among limit number rows request
     → (reply ≡ reply_to limit history request)
     × IsHistory limit (history ++ record { lane = lane; request = request; reply = reply } ∷ [])

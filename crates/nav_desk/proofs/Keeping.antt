@@ -7,9 +7,9 @@ use Rattle.std.proofs.lemmas.List.{get_or-replicate, get_or-set_same, get_or-set
 use Rattle.std.proofs.lemmas.List.Elements.{All-filter}
 use Rattle.std.specs.Arc.{arc_value}
 use Rattle.nav_ground.specs.declared.history.Request.{Request}
-use Rattle.nav_ground.specs.declared.history.TheConstants.{HISTORY_LIMIT}
 use Rattle.nav_ground.specs.declared.setting.Setting.{Setting}
 use Rattle.nav_ground.specs.declared.shape.Shape.{Shape}
+use Rattle.nav_ground.specs.History.{history_limit}
 use Rattle.nav_ground.specs.Grounds.{IsGround}
 use Rattle.nav_ground.specs.Limits.{IsShape}
 use Rattle.nav_ground.specs.Tiling.{tile_count}
@@ -155,17 +155,17 @@ awaited_after inside tile shapes kept there same k within = ⊎_elim
     (cases_eq k tile)
 
 -- a request where the history is not full
-pub room_step : (state : BookState) (lane : ℕ) (request : Request) → length state.history ≢ HISTORY_LIMIT
+pub room_step : (state : BookState) (lane : ℕ) (request : Request) → length state.history ≢ history_limit
     → (after_request state lane request ≡ requested state lane request) × (Ok (length state.history + 1, next_reply state request) ≡ request_answer state request)
 room_step state lane request room =
-    let is = ne_eqb (length state.history) HISTORY_LIMIT room in (
+    let is = ne_eqb (length state.history) history_limit room in (
       sym (ap (λ (b : Bool). if b then state else after_request state lane request) is),
       sym (ap (λ (b : Bool). if b then Err (record { len = length state.history }) else Ok (length state.history + 1, next_reply state request)) is),
     )
 
 -- what is kept at the opening: no entries, nothing alive, and each tile stored without shapes, none marked, awaited or claimed
 pub first_kept : (inside : Inside) → IsGround (arc_value inside.level)
-    → (inside.entries.items ≡ []) × (HISTORY_LIMIT ≤ vec_capacity inside.entries)
+    → (inside.entries.items ≡ []) × (history_limit ≤ vec_capacity inside.entries)
     → (inside.live.items ≡ []) × ((arc_value inside.level).setting.limit ≤ vec_capacity inside.live)
     → (inside.aimed.items ≡ []) × ((arc_value inside.level).setting.limit ≤ vec_capacity inside.aimed)
     → inside.target ≡ 0 → inside.published ≡ 0

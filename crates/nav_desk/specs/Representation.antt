@@ -1,9 +1,8 @@
 -- What the fields of a desk keep at every moment.
 use Rattle.std.specs.Prelude.{◌≡◌, ℕ, ◌<◌, ◌≤◌, false, [], length, slice_index_or, vec_capacity}
 use Rattle.std.specs.Arc.{arc_value}
-use Rattle.nav_ground.specs.declared.history.TheConstants.{HISTORY_LIMIT}
 use Rattle.nav_ground.specs.Grounds.{IsGround}
-use Rattle.nav_ground.specs.History.{IsHistory, shapes_alive}
+use Rattle.nav_ground.specs.History.{IsHistory, shapes_alive, history_limit}
 use Rattle.nav_ground.specs.Tiling.{tile_count}
 use Rattle.nav_ground.specs.Touching.{touching_shapes}
 use Rattle.nav_desk.specs.declared.desk.Desk.TheInside.{Inside}
@@ -28,7 +27,7 @@ state_of inside = record {
 pub record IsKept (inside : Inside) : Type 0 where
   pub level : IsGround (arc_value inside.level)
   pub history : IsHistory (arc_value inside.level).setting.limit inside.entries.items
-  pub room : HISTORY_LIMIT ≤ vec_capacity inside.entries
+  pub room : history_limit ≤ vec_capacity inside.entries
   pub table : IsLiveTable inside.entries.items inside.live.items
   pub few : length inside.live.items ≤ (arc_value inside.level).setting.limit
   pub live_room : (arc_value inside.level).setting.limit ≤ vec_capacity inside.live

@@ -3,10 +3,9 @@ use Rattle.std.specs.Prelude.{ℕ, ◌+◌, ◌<◌, Bool, true, false, ◌&&◌
 use Rattle.std.specs.Option.{option_map_or}
 use Rattle.nav_ground.specs.declared.history.Reply.{Reply}
 use Rattle.nav_ground.specs.declared.history.Request.{Request}
-use Rattle.nav_ground.specs.declared.history.TheConstants.{HISTORY_LIMIT}
 use Rattle.nav_ground.specs.declared.setting.Setting.{Setting}
 use Rattle.nav_ground.specs.declared.shape.Shape.{Shape}
-use Rattle.nav_ground.specs.History.{reply_to}
+use Rattle.nav_ground.specs.History.{reply_to, history_limit}
 use Rattle.nav_ground.specs.Limits.{IsShape}
 use Rattle.nav_ground.specs.Tiling.{tile_count}
 use Rattle.nav_desk.specs.declared.answers.HistoryFull.{HistoryFull}
@@ -30,7 +29,7 @@ after_request state lane request = record state {
 -- but where the history is full it is refused with the length of the history, and nothing changes; else it gets the number of its entry, from
 -- 1, and its reply
 abbrev pub is_full : BookState → Bool
-is_full state = length state.history == HISTORY_LIMIT
+is_full state = length state.history == history_limit
 
 abbrev pub request_answer : BookState → Request → Result (ℕ × Reply) HistoryFull
 request_answer state request = if is_full state then Err (record { len = length state.history }) else Ok (length state.history + 1, next_reply state request)

@@ -3,7 +3,7 @@
 ghost use Rattle.std.specs.Prelude.{◌≡◌, ◌↔◌, ◌+◌, ◌<◌, ◌≤◌, None, [], false, length, replicate, IsErr, IfOk, IfErr, IfSome, OnOk, OnErr, vec_capacity};
 ghost use Rattle.std.specs.Arc.{arc_value};
 ghost use Rattle.nav_ground.specs.Grounds.{IsGround};
-ghost use Rattle.nav_ground.specs.History.{IsHistory, IsRequest};
+ghost use Rattle.nav_ground.specs.History.{IsHistory, IsRequest, history_limit};
 ghost use Rattle.nav_ground.specs.Tiling.{tile_count};
 ghost use Rattle.nav_desk.specs.BookState.{IsBook, first_state, least_awaited};
 ghost use Rattle.nav_desk.specs.Steps.{IsJob, next_reply, next_job, request_answer, requested, after_request, after_aim, after_claim, after_put_back, after_put_back_all, after_submit, after_publish, submission};
@@ -92,7 +92,7 @@ impl Desk {
         ensures rules { IsBook self.new }
 
         // It is refused exactly where the history is full, and then nothing changes.
-        ensures full { IsErr result ↔ (length self.old.history ≡ HISTORY_LIMIT) }
+        ensures full { IsErr result ↔ (length self.old.history ≡ history_limit) }
         ensures len { IfErr result (λ refused. refused.len ≡ length self.old.history) }
         ensures refused { OnErr result (self.new ≡ self.old) }
     {
@@ -272,7 +272,7 @@ struct Room {
 
 /// The room for a whole history and for so many live obstacles, with nothing in it.
 fn empty_room(alloc: Global, limit: u32) -> Result<Room, AllocError>
-    ensures history { IfOk result (λ room. (room.entries.items ≡ []) × (HISTORY_LIMIT ≤ vec_capacity room.entries)) }
+    ensures history { IfOk result (λ room. (room.entries.items ≡ []) × (history_limit ≤ vec_capacity room.entries)) }
     ensures live { IfOk result (λ room. (room.live.items ≡ []) × (limit ≤ vec_capacity room.live)) }
     ensures aimed { IfOk result (λ room. (room.aimed.items ≡ []) × (limit ≤ vec_capacity room.aimed)) }
 {

@@ -8,8 +8,11 @@ use Rattle.nav_ground.specs.declared.history.Reply.{Reply}
 use Rattle.nav_ground.specs.declared.history.Reply.TheVariants.{Added, Removed, Full, Dead}
 use Rattle.nav_ground.specs.declared.history.Request.{Request}
 use Rattle.nav_ground.specs.declared.history.Request.TheVariants.{Add, Remove}
-use Rattle.nav_ground.specs.declared.history.TheConstants.{HISTORY_LIMIT}
 use Rattle.nav_ground.specs.Limits.{IsShape}
+
+-- how many entries a history may have
+abbrev pub history_limit : ℕ
+history_limit = 262144
 
 -- a request's shape, if it has one, is within its limits
 abbrev pub IsRequest : Request → Type 0
@@ -84,6 +87,6 @@ IsWellReplied limit history = (k : ℕ) (entry : Entry) → slice_get history k 
 
 -- a history: no longer than it may be, its shapes within their limits, and each request answered by the rules
 pub record IsHistory (limit : ℕ) (history : List Entry) : Type 0 where
-  pub few : length history ≤ HISTORY_LIMIT
+  pub few : length history ≤ history_limit
   pub requests : All (λ (entry : Entry). IsRequest entry.request) history
   pub replies : IsWellReplied limit history

@@ -7,7 +7,7 @@ use crate::shape::Shape;
 use nav_list::Items;
 
 /// How many entries a history can have.
-pub const HISTORY_LIMIT: u32 = 65536;
+pub const HISTORY_LIMIT: u32 = 262144;
 
 /// What can be asked of a ground: a new obstacle, or that the obstacle with a number goes.
 #[derive(Clone, Copy, PartialEq, Eq)]

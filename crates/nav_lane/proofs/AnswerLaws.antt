@@ -10,7 +10,7 @@ use Rattle.nav_ground.specs.declared.history.Entry.{Entry}
 use Rattle.nav_ground.specs.declared.history.Ground.{Ground}
 use Rattle.mesh_types.specs.Right.{IsRight}
 use Rattle.nav_script.specs.declared.line.Line.{Line}
-use Rattle.nav_script.specs.declared.line.Line.TheVariants.{Lane, Ask, Add, Remove, Undo, Settle, Aim, Claim, Back, Submit, Publish}
+use Rattle.nav_script.specs.declared.line.Line.TheVariants.{Ask, Add, Remove, Undo, Settle}
 use Rattle.nav_book.proofs.GroundTiles.{build_of-append}
 use Rattle.nav_lane.specs.declared.said.Said.{Said}
 use Rattle.nav_lane.specs.declared.said.Said.TheVariants.{Replied, Answered, Settled}
@@ -33,16 +33,8 @@ settled_later history more (Replied number reply) is = is
 
 said_later : (whole : Ground) (history more : List Entry) (line : Line) (said : Said) → IsSaid whole history line said → IsSaid whole (history ++ more) line said
 said_later whole history more (Ask question) said is = answered_later whole history more question said is
-said_later whole history more (Add shape) said is = is
-said_later whole history more (Remove number) said is = is
-said_later whole history more (Undo j) said is = is
 said_later whole history more Settle said is = settled_later history more said is
-said_later whole history more (Lane lane) said is = is
-said_later whole history more Aim said is = is
-said_later whole history more (Claim worker) said is = is
-said_later whole history more (Back worker) said is = is
-said_later whole history more (Submit worker) said is = is
-said_later whole history more Publish said is = is
+said_later whole history more _ said is = is
 
 -- answers that are right in a history are right in every longer one
 pub answers_later : (whole : Ground) (history longer : List Entry) (spoken : List Spoken) → IsPrefix history longer → AreAnswers whole history spoken → AreAnswers whole longer spoken
@@ -72,12 +64,7 @@ said_within whole history (Remove number) (Settled n) k is told = absurd is
 said_within whole history (Undo j) (Replied number reply) k is told = absurd (cc told)
 said_within whole history (Undo j) (Answered n answer) k is told = absurd is
 said_within whole history (Undo j) (Settled n) k is told = absurd is
-said_within whole history (Lane lane) said k is told = absurd is
-said_within whole history Aim said k is told = absurd is
-said_within whole history (Claim worker) said k is told = absurd is
-said_within whole history (Back worker) said k is told = absurd is
-said_within whole history (Submit worker) said k is told = absurd is
-said_within whole history Publish said k is told = absurd is
+said_within whole history _ said k is told = absurd is
 
 one_within : (told : Option ℕ) (n : ℕ) → ((k : ℕ) → told ≡ Some k → k ≤ n) → All (λ k. k ≤ n) (cons_option told [])
 one_within None n within = All-nil (λ (k : ℕ). k ≤ n)

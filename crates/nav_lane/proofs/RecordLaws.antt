@@ -9,7 +9,7 @@ use Rattle.turn_lock.specs.Locks.{LockId}
 use Rattle.nav_ground.specs.declared.history.Entry.{Entry}
 use Rattle.nav_ground.specs.declared.history.Ground.{Ground}
 use Rattle.nav_script.specs.declared.line.Line.{Line}
-use Rattle.nav_script.specs.declared.line.Line.TheVariants.{Lane, Ask, Add, Remove, Undo, Settle, Aim, Claim, Back, Submit, Publish}
+use Rattle.nav_script.specs.declared.line.Line.TheVariants.{Ask, Add, Remove, Undo, Settle}
 use Rattle.nav_script.specs.Lanes.{is_request}
 use Rattle.nav_lane.specs.Roots.{RootView}
 use Rattle.nav_lane.specs.declared.lane.Lane as lanes
@@ -50,12 +50,7 @@ said_by whole history lane adds (Ask question) (Settled k) rest is = absurd is
 said_by whole history lane adds Settle (Settled k) rest is = omega arith
 said_by whole history lane adds Settle (Replied number reply) rest is = absurd is
 said_by whole history lane adds Settle (Answered k answer) rest is = absurd is
-said_by whole history lane adds (Lane other) said rest is = absurd is
-said_by whole history lane adds Aim said rest is = absurd is
-said_by whole history lane adds (Claim worker) said rest is = absurd is
-said_by whole history lane adds (Back worker) said rest is = absurd is
-said_by whole history lane adds (Submit worker) said rest is = absurd is
-said_by whole history lane adds Publish said rest is = absurd is
+said_by whole history lane adds _ said rest is = absurd is
 
 -- lines that were answered as they may be say as many entries as requests are among them
 length-entries_from : (whole : Ground) (history : List Entry) (lane : ℕ) (adds : List ℕ) (spoken : List Spoken) → AreAnswers whole history spoken

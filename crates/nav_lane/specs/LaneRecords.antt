@@ -11,7 +11,7 @@ use Rattle.nav_ground.specs.History.{is_added}
 use Rattle.mesh_types.specs.Builds.{build_of}
 use Rattle.mesh_types.specs.Right.{IsRight}
 use Rattle.nav_script.specs.declared.line.Line.{Line}
-use Rattle.nav_script.specs.declared.line.Line.TheVariants.{Lane, Ask, Add, Remove, Undo, Settle, Aim, Claim, Back, Submit, Publish}
+use Rattle.nav_script.specs.declared.line.Line.TheVariants.{Ask, Add, Remove, Undo, Settle}
 use Rattle.nav_lane.specs.declared.said.Said.{Said}
 use Rattle.nav_lane.specs.declared.said.Said.TheVariants.{Replied, Answered, Settled}
 
@@ -84,12 +84,7 @@ IsSaid whole history (Add shape) said = IsReplied said
 IsSaid whole history (Remove number) said = IsReplied said
 IsSaid whole history (Undo j) said = IsReplied said
 IsSaid whole history Settle said = IsSettled history said
-IsSaid whole history (Lane lane) said = ⊥
-IsSaid whole history Aim said = ⊥
-IsSaid whole history (Claim worker) said = ⊥
-IsSaid whole history (Back worker) said = ⊥
-IsSaid whole history (Submit worker) said = ⊥
-IsSaid whole history Publish said = ⊥
+IsSaid whole history _ said = ⊥
 
 -- the number of the last entry that these lines left; 0 where they left none
 abbrev pub number_after : ℕ → Said → ℕ

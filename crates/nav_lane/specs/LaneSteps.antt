@@ -4,7 +4,7 @@ use Rattle.turn_lock.specs.Locks.{LockId}
 use Rattle.nav_ground.specs.Limits.{IsShape}
 use Rattle.nav_query.specs.Questions.{IsAnswerable}
 use Rattle.nav_script.specs.declared.line.Line.{Line}
-use Rattle.nav_script.specs.declared.line.Line.TheVariants.{Lane, Ask, Add, Remove, Undo, Settle, Aim, Claim, Back, Submit, Publish}
+use Rattle.nav_script.specs.declared.line.Line.TheVariants.{Ask, Add, Remove, Undo, Settle}
 use Rattle.nav_lane.specs.Roots.{RootView}
 use Rattle.nav_lane.specs.declared.lane.Lane as lanes
 use Rattle.nav_lane.specs.declared.said.Said.{Said}
@@ -18,12 +18,7 @@ IsRunnable (Add shape) = IsShape shape
 IsRunnable (Remove number) = ⊤
 IsRunnable (Undo j) = ⊤
 IsRunnable Settle = ⊤
-IsRunnable (Lane lane) = ⊥
-IsRunnable Aim = ⊥
-IsRunnable (Claim worker) = ⊥
-IsRunnable (Back worker) = ⊥
-IsRunnable (Submit worker) = ⊥
-IsRunnable Publish = ⊥
+IsRunnable _ = ⊥
 
 -- a line was answered: it stands behind those before, with what it was answered
 pub record IsAnsweredLast (line : Line) (before after : List Spoken) : Type 0 where

@@ -3,8 +3,7 @@ use Rattle.std.specs.Prelude.{◌≡◌, ℕ, ◌≤◌, ◌⊎◌, ⊤, List, [
 use Rattle.nav_ground.specs.declared.history.Entry.{Entry}
 use Rattle.nav_ground.specs.declared.history.Reply.{Reply}
 use Rattle.nav_ground.specs.declared.history.Request.{Request}
-use Rattle.nav_ground.specs.declared.history.TheConstants.{HISTORY_LIMIT}
-use Rattle.nav_ground.specs.History.{IsHistory, IsRequest}
+use Rattle.nav_ground.specs.History.{IsHistory, IsRequest, history_limit}
 use Rattle.nav_ground.specs.Limits.{IsShape}
 use Rattle.nav_version.specs.Lists.{ToldView}
 use Rattle.nav_desk.specs.declared.answers.HistoryFull.{HistoryFull}
@@ -57,7 +56,7 @@ IsAllowed root acts.Publish = ⊤
 abbrev pub DoesAsk : ℕ → Request → List Entry → LiveDone → List Entry → Type 0
 DoesAsk lane request before (dones.Asked number reply) after =
     (after ≡ before ++ record { lane = lane; request = request; reply = reply } ∷ []) × (number ≡ length after)
-DoesAsk lane request before (dones.HistoryFull len) after = (after ≡ before) × (len ≡ length after) × (len ≡ HISTORY_LIMIT)
+DoesAsk lane request before (dones.HistoryFull len) after = (after ≡ before) × (len ≡ length after) × (len ≡ history_limit)
 DoesAsk lane request before _ after = ⊥
 
 abbrev pub DoesAim : LiveDone → Type 0

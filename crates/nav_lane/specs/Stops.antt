@@ -2,7 +2,7 @@
 use Rattle.std.specs.Prelude.{◌≡◌, ◌<◌, true, List, length, count_by, ⊤}
 use Rattle.turn_lock.specs.Locks.{LockId, PassView}
 use Rattle.nav_ground.specs.declared.history.Entry.{Entry}
-use Rattle.nav_ground.specs.declared.history.TheConstants.{HISTORY_LIMIT}
+use Rattle.nav_ground.specs.History.{history_limit}
 use Rattle.nav_script.specs.declared.line.Line.{Line}
 use Rattle.nav_script.specs.Lanes.{is_request}
 use Rattle.nav_lane.specs.Roots.{RootView}
@@ -15,7 +15,7 @@ use Rattle.nav_lane.specs.Lanes.{SawOthers}
 pub record FindsFull (lock : LockId RootView) (line : Line) (before after : PassView RootView Entry) : Type 0 where
   pub asks : is_request line ≡ true
   pub saw : SawOthers lock before after
-  pub full : length after.seen ≡ HISTORY_LIMIT
+  pub full : length after.seen ≡ history_limit
 
 -- why a line was not run: the history was full, or memory was refused, of which nothing more is said
 abbrev pub IsStoppedAt : LockId RootView → Line → PassView RootView Entry → PassView RootView Entry → Stop → Type 0
@@ -25,7 +25,7 @@ IsStoppedAt lock line before after HistoryFull = FindsFull lock line before afte
 -- a lane with these lines has met a full history: its pass has seen as many entries as a history can have, and fewer of them are its own than its
 -- lines make requests
 pub record HasMetFull (list : List Line) (pass : PassView RootView Entry) : Type 0 where
-  pub full : length pass.seen ≡ HISTORY_LIMIT
+  pub full : length pass.seen ≡ history_limit
   pub fewer : length (entries_made pass.number pass.seen) < count_by is_request list
 
 -- why a lane with these lines has ended before its last line: the history was full, or memory was refused, of which nothing more is said

@@ -13,16 +13,13 @@ use Rattle.nav_base.specs.declared.answers.Question.{Question}
 use Rattle.nav_base.specs.declared.answers.Question.TheVariants.{Floor, Path, Ray}
 use Rattle.nav_base.specs.declared.point.Point.{Point}
 use Rattle.nav_base.specs.Point.{HasCoordinates}
-use Rattle.nav_ground.specs.declared.shape.Shape.{Shape}
-use Rattle.nav_ground.specs.declared.shape.Shape.TheVariants.{Block, Cylinder, AreaBlock, AreaCylinder}
-use Rattle.nav_ground.specs.Limits.{IsShape}
 use Rattle.nav_query.specs.Questions.{IsAnswerable}
 use Rattle.nav_script.specs.declared.line.Line.{Line}
 use Rattle.nav_script.specs.declared.line.Line.TheVariants.{Lane, Ask, Add, Remove, Undo, Settle, Aim, Claim, Back, Submit, Publish}
 use Rattle.nav_script.specs.declared.script.Script.{Script}
 use Rattle.nav_script.specs.declared.script.Way.TheVariants.{Live}
 use Rattle.nav_script.specs.Lanes.{adds_before, next_lane}
-use Rattle.nav_script.specs.Limits.{IsLine, IsObstacle, IsPlace, IsQuestion, IsScript}
+use Rattle.nav_script.specs.Limits.{IsLine, IsPlace, IsQuestion, IsScript}
 use Rattle.nav_lane.specs.LaneSteps.{IsRunnable}
 use Rattle.nav_live.specs.Dealing.{dealt, given, lines_from, lines_of, names_lane}
 
@@ -135,17 +132,11 @@ can_be_answered (Floor x z) fits = tt
 can_be_answered (Path from from_y to to_y) fits = (has_coordinates from fits.0, has_coordinates to fits.2)
 can_be_answered (Ray from from_y to) fits = (has_coordinates from fits.0, has_coordinates to fits.2)
 
-is_shape : (shape : Shape) → IsObstacle shape → IsShape shape
-is_shape (Block x0 x1 y0 y1 z0 z1) fits = fits
-is_shape (Cylinder cx cz r y0 y1) fits = fits
-is_shape (AreaBlock area x0 x1 y0 y1 z0 z1) fits = absurd fits
-is_shape (AreaCylinder area cx cz r y0 y1) fits = absurd fits
-
 -- a lane can run each line of a live script that names no lane
 can_run : (lanes workers adds : ℕ) (line : Line) → IsLine Live lanes workers adds line → names_lane line ≡ false → IsRunnable line
 can_run lanes workers adds (Lane lane) fits other = absurd (cc other)
 can_run lanes workers adds (Ask question) fits other = can_be_answered question fits
-can_run lanes workers adds (Add shape) fits other = is_shape shape fits
+can_run lanes workers adds (Add shape) fits other = fits
 can_run lanes workers adds (Remove number) fits other = tt
 can_run lanes workers adds (Undo back) fits other = tt
 can_run lanes workers adds Settle fits other = tt

@@ -9,7 +9,7 @@ use Rattle.std.proofs.lemmas.Option.{slice_get_cases}
 use Rattle.turn_lock.specs.Locks.{LockId, PassView}
 use Rattle.turn_lock.proofs.GrowthLemmas.{Extends-length}
 use Rattle.nav_ground.specs.declared.history.Entry.{Entry}
-use Rattle.nav_ground.specs.declared.history.TheConstants.{HISTORY_LIMIT}
+use Rattle.nav_ground.specs.History.{history_limit}
 use Rattle.mesh_types.proofs.Totals.{once_in_range, sum_by-exchanged, sum_by-no_more, sum_by-one, sum_by-plus, sum_by-range_no_more, sum_by-same, sum_by-zero}
 use Rattle.nav_script.specs.declared.line.Line.{Line}
 use Rattle.nav_script.specs.declared.script.Script.{Script}
@@ -134,7 +134,7 @@ not_full lock script passes history k d rules closed asked there met =
     let all : length history ≤ sum_by made range = entries_in_all count history (made_within lock script passes history closed asked) in
     let less : sum_by made range < sum_by asks range = sum_less made asks count k there most fewer in
     let within : sum_by asks range ≤ count_by is_request script.lines = requests_in_all count 0 script.lines in
-    let limit : count_by is_request script.lines ≤ HISTORY_LIMIT = rules.requests refl in
+    let limit : count_by is_request script.lines ≤ history_limit = rules.requests refl in
     let seen : length pass.seen ≤ length history = Extends-length (λ (entry : Entry). entry.lane) pass.number pass.seen history (closed.extends k d there) in
     omega (arith, all, less, within, limit, seen, met.full)
 

@@ -13,7 +13,7 @@ use Rattle.mesh_types.proofs.RightLaws.{alike}
 use Rattle.nav_book.specs.Results.{published_mesh}
 use Rattle.nav_record.specs.declared.totals.Totals.{Totals}
 use Rattle.nav_script.specs.declared.line.Line.{Line}
-use Rattle.nav_script.specs.declared.line.Line.TheVariants.{Lane, Ask, Add, Remove, Undo, Settle, Aim, Claim, Back, Submit, Publish}
+use Rattle.nav_script.specs.declared.line.Line.TheVariants.{Ask}
 use Rattle.nav_play.specs.PlayRecord.{PlayState, AreSaid, state_after}
 use Rattle.nav_play.specs.PlayTotals.{AreTotalsFrom, IsCounted, IsPathAnswer, cost_of, is_no_goal, is_no_path, is_no_start, is_path}
 
@@ -95,16 +95,7 @@ question_same part agrees mesh (questions.Ray from from_y to) xs ys one other = 
 line_same : (part : Answer → ℕ) → Agrees part → (state : PlayState) (line : Line) (xs ys : List Answer) → IsCounted state line xs → IsCounted state line ys
     → sum_by part xs ≡ sum_by part ys
 line_same part agrees state (Ask question) xs ys one other = question_same part agrees (published_mesh state.book) question xs ys one other
-line_same part agrees state (Lane lane) xs ys one other = ap (sum_by part) one ∙ sym (ap (sum_by part) other)
-line_same part agrees state (Add shape) xs ys one other = ap (sum_by part) one ∙ sym (ap (sum_by part) other)
-line_same part agrees state (Remove number) xs ys one other = ap (sum_by part) one ∙ sym (ap (sum_by part) other)
-line_same part agrees state (Undo j) xs ys one other = ap (sum_by part) one ∙ sym (ap (sum_by part) other)
-line_same part agrees state Settle xs ys one other = ap (sum_by part) one ∙ sym (ap (sum_by part) other)
-line_same part agrees state Aim xs ys one other = ap (sum_by part) one ∙ sym (ap (sum_by part) other)
-line_same part agrees state (Claim worker) xs ys one other = ap (sum_by part) one ∙ sym (ap (sum_by part) other)
-line_same part agrees state (Back worker) xs ys one other = ap (sum_by part) one ∙ sym (ap (sum_by part) other)
-line_same part agrees state (Submit worker) xs ys one other = ap (sum_by part) one ∙ sym (ap (sum_by part) other)
-line_same part agrees state Publish xs ys one other = ap (sum_by part) one ∙ sym (ap (sum_by part) other)
+line_same part agrees state _ xs ys one other = ap (sum_by part) one ∙ sym (ap (sum_by part) other)
 
 answers_same : (part : Answer → ℕ) → Agrees part → (state : PlayState) (lines : List Line) (xs ys : List Answer) → AreSaid IsCounted state lines xs
     → AreSaid IsCounted state lines ys → sum_by part xs ≡ sum_by part ys

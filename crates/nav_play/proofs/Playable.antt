@@ -6,24 +6,14 @@ use Rattle.nav_base.specs.declared.answers.Question.{Question}
 use Rattle.nav_base.specs.declared.answers.Question.TheVariants.{Floor, Path, Ray}
 use Rattle.nav_base.specs.declared.point.Point.{Point}
 use Rattle.nav_base.specs.Point.{HasCoordinates, IsCoordinate}
-use Rattle.nav_ground.specs.declared.shape.Shape.{Shape}
-use Rattle.nav_ground.specs.declared.shape.Shape.TheVariants.{Block, Cylinder, AreaBlock, AreaCylinder}
-use Rattle.nav_ground.specs.Limits.{IsShape}
 use Rattle.nav_query.specs.Questions.{IsAnswerable}
 use Rattle.nav_script.specs.declared.line.Line.{Line}
-use Rattle.nav_script.specs.declared.line.Line.TheVariants.{Lane, Ask, Add, Remove, Undo, Settle, Aim, Claim, Back, Submit, Publish}
+use Rattle.nav_script.specs.declared.line.Line.TheVariants.{Lane, Ask, Add, Claim, Back, Submit}
 use Rattle.nav_script.specs.declared.script.Script.{Script}
 use Rattle.nav_script.specs.declared.script.Way.TheVariants.{Play}
-use Rattle.nav_script.specs.Limits.{IsScript, IsLine, IsObstacle, IsPlace, IsQuestion}
+use Rattle.nav_script.specs.Limits.{IsScript, IsLine, IsPlace, IsQuestion}
 use Rattle.nav_script.specs.Lanes.{adds_before}
 use Rattle.nav_play.specs.Players.{IsPlayable}
-
--- an obstacle of a script is within its limits
-obstacle_fits : (shape : Shape) → IsObstacle shape → IsShape shape
-obstacle_fits (Block x0 x1 y0 y1 z0 z1) fits = fits
-obstacle_fits (Cylinder cx cz r y0 y1) fits = fits
-obstacle_fits (AreaBlock area x0 x1 y0 y1 z0 z1) none = elim none [ ]
-obstacle_fits (AreaCylinder area cx cz r y0 y1) none = elim none [ ]
 
 -- a place that a script names is a point with coordinates
 coordinate : (n : ℤ) → pos 0 ≤ℤ n → n ≤ℤ pos 16384 → IsCoordinate n
@@ -41,15 +31,11 @@ answerable (Ray from from_y to) fits = (place_fits from fits.0, place_fits to fi
 playable : (lanes workers before : ℕ) (line : Line) → IsLine Play lanes workers before line → IsPlayable lanes workers line
 playable lanes workers before (Lane lane) fits = fits
 playable lanes workers before (Ask question) fits = answerable question fits
-playable lanes workers before (Add shape) fits = obstacle_fits shape fits
-playable lanes workers before (Remove number) fits = tt
-playable lanes workers before (Undo back) fits = tt
-playable lanes workers before Settle fits = tt
-playable lanes workers before Aim fits = tt
+playable lanes workers before (Add shape) fits = fits
 playable lanes workers before (Claim worker) fits = fits.1
 playable lanes workers before (Back worker) fits = fits.1
 playable lanes workers before (Submit worker) fits = fits.1
-playable lanes workers before Publish fits = tt
+playable lanes workers before _ fits = tt
 
 -- each line of a script can be played
 pub line_playable : (script : Script) (items : List Line) (k lanes workers : ℕ) (d : Line) → IsScript Play script → items ≡ script.lines → k < length items

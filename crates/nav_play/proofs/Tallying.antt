@@ -10,7 +10,7 @@ use Rattle.mesh_types.specs.declared.answers.Answer.{Answer}
 use Rattle.mesh_types.specs.declared.answers.Answer.TheVariants as kinds
 use Rattle.nav_query.specs.Questions.{HasLowCost}
 use Rattle.nav_script.specs.declared.line.Line.{Line}
-use Rattle.nav_script.specs.declared.line.Line.TheVariants.{Lane, Ask, Add, Remove, Undo, Settle, Aim, Claim, Back, Submit, Publish}
+use Rattle.nav_script.specs.declared.line.Line.TheVariants.{Ask}
 use Rattle.nav_record.specs.declared.totals.Totals.{Totals}
 use Rattle.nav_play.specs.PlayRecord.{PlayState, state_after}
 use Rattle.nav_play.specs.PlayTotals.{CountAnswers, IsCounted, cost_of, is_no_goal, is_no_path, is_no_start, is_path}
@@ -50,16 +50,7 @@ no_answer state line before after fits same = record { said = []; fits = fits; c
 
 pub adds_answers : (state : PlayState) (line : Line) (before after : Totals) → HasCounted state line before after → AddsAnswers state line before after
 adds_answers state (Ask question) before after has = answer_counted state question before after has
-adds_answers state (Lane lane) before after same = no_answer state (Lane lane) before after refl same
-adds_answers state (Add shape) before after same = no_answer state (Add shape) before after refl same
-adds_answers state (Remove number) before after same = no_answer state (Remove number) before after refl same
-adds_answers state (Undo j) before after same = no_answer state (Undo j) before after refl same
-adds_answers state Settle before after same = no_answer state Settle before after refl same
-adds_answers state Aim before after same = no_answer state Aim before after refl same
-adds_answers state (Claim worker) before after same = no_answer state (Claim worker) before after refl same
-adds_answers state (Back worker) before after same = no_answer state (Back worker) before after refl same
-adds_answers state (Submit worker) before after same = no_answer state (Submit worker) before after refl same
-adds_answers state Publish before after same = no_answer state Publish before after refl same
+adds_answers state line before after same = no_answer state line before after refl same
 
 -- the totals are those of answers that are right, one at most for each line so far
 pub record IsTallied (first : PlayState) (lines : List Line) (done : ℕ) (state : PlayState) (totals : Totals) : Type 0 where

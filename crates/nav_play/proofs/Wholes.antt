@@ -7,7 +7,7 @@ use Rattle.nav_desk.specs.declared.answers.Job.{Job}
 use Rattle.nav_desk.specs.BookState.{BookState}
 use Rattle.nav_desk.specs.Steps.{after_request, is_full, requested}
 use Rattle.nav_script.specs.declared.line.Line.{Line}
-use Rattle.nav_script.specs.declared.line.Line.TheVariants.{Lane, Ask, Add, Remove, Undo, Settle, Aim, Claim, Back, Submit, Publish}
+use Rattle.nav_script.specs.declared.line.Line.TheVariants.{Add, Remove, Undo, Settle, Claim, Back, Submit}
 use Rattle.nav_play.specs.Jobs.{book_after_back, book_after_claim, book_after_submit}
 use Rattle.nav_play.specs.PlayRecord.{PlayState, held_by, state_after}
 use Rattle.nav_book.proofs.Settled.{settled_whole}
@@ -32,40 +32,22 @@ submit_whole book None = refl
 submit_whole book (Some job) = refl
 
 pub whole_stays : (state : PlayState) (line : Line) → (state_after state line).book.whole ≡ state.book.whole
-whole_stays state (Lane lane) = refl
-whole_stays state (Ask question) = refl
 whole_stays state (Add shape) = requested_whole state.book state.lane _
 whole_stays state (Remove number) = requested_whole state.book state.lane _
 whole_stays state (Undo back) = requested_whole state.book state.lane _
 whole_stays state Settle = settled_whole state.book
-whole_stays state Aim = refl
 whole_stays state (Claim worker) = claim_whole state.book (held_by state worker)
 whole_stays state (Back worker) = back_whole state.book (held_by state worker)
 whole_stays state (Submit worker) = submit_whole state.book (held_by state worker)
-whole_stays state Publish = refl
+whole_stays state _ = refl
 
 pub lanes_stay : (state : PlayState) (line : Line) → length (state_after state line).adds ≡ length state.adds
-lanes_stay state (Lane lane) = refl
-lanes_stay state (Ask question) = refl
 lanes_stay state (Add shape) = length-set state.adds state.lane _
-lanes_stay state (Remove number) = refl
-lanes_stay state (Undo back) = refl
-lanes_stay state Settle = refl
-lanes_stay state Aim = refl
-lanes_stay state (Claim worker) = refl
-lanes_stay state (Back worker) = refl
-lanes_stay state (Submit worker) = refl
-lanes_stay state Publish = refl
+lanes_stay state _ = refl
 
 pub workers_stay : (state : PlayState) (line : Line) → length (state_after state line).held ≡ length state.held
-workers_stay state (Lane lane) = refl
-workers_stay state (Ask question) = refl
-workers_stay state (Add shape) = refl
-workers_stay state (Remove number) = refl
-workers_stay state (Undo back) = refl
 workers_stay state Settle = length-replicate (length state.held) None
-workers_stay state Aim = refl
 workers_stay state (Claim worker) = length-set state.held worker _
 workers_stay state (Back worker) = length-set state.held worker None
 workers_stay state (Submit worker) = length-set state.held worker None
-workers_stay state Publish = refl
+workers_stay state _ = refl

@@ -13,7 +13,7 @@ use Rattle.mesh_types.specs.Soundness.{link_count, polygon_count}
 use Rattle.nav_book.specs.Results.{published_mesh}
 use Rattle.nav_record.specs.declared.totals.Totals.{Totals}
 use Rattle.nav_script.specs.declared.line.Line.{Line}
-use Rattle.nav_script.specs.declared.line.Line.TheVariants.{Lane, Ask, Add, Remove, Undo, Settle, Aim, Claim, Back, Submit, Publish}
+use Rattle.nav_script.specs.declared.line.Line.TheVariants.{Ask}
 use Rattle.nav_script.specs.declared.script.Script.{Script}
 use Rattle.nav_play.specs.PlayRecord.{PlayState, AreSaid, first_state_of, state_after_all}
 
@@ -32,16 +32,7 @@ IsPathAnswer mesh (questions.Ray from from_y to) given = given ≡ []
 -- the answers of a line that count: that of a `path` line, in the mesh that is published then
 abbrev pub IsCounted : PlayState → Line → List Answer → Type 0
 IsCounted state (Ask question) given = IsPathAnswer (published_mesh state.book) question given
-IsCounted state (Lane lane) given = given ≡ []
-IsCounted state (Add shape) given = given ≡ []
-IsCounted state (Remove number) given = given ≡ []
-IsCounted state (Undo j) given = given ≡ []
-IsCounted state Settle given = given ≡ []
-IsCounted state Aim given = given ≡ []
-IsCounted state (Claim worker) given = given ≡ []
-IsCounted state (Back worker) given = given ≡ []
-IsCounted state (Submit worker) given = given ≡ []
-IsCounted state Publish given = given ≡ []
+IsCounted state _ given = given ≡ []
 
 -- the kinds of answers
 abbrev pub is_path : Answer → Bool

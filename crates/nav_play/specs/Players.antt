@@ -14,7 +14,7 @@ use Rattle.nav_play.specs.PlayRecord.{PlayState, AddsSome, IsSaid, request_text,
 use Rattle.nav_play.specs.Tallies.{HasCounted, no_answers}
 use Rattle.nav_play.specs.Work.{jobs_of}
 use Rattle.nav_script.specs.declared.line.Line.{Line}
-use Rattle.nav_script.specs.declared.line.Line.TheVariants.{Lane, Ask, Add, Remove, Undo, Settle, Aim, Claim, Back, Submit, Publish}
+use Rattle.nav_script.specs.declared.line.Line.TheVariants.{Lane, Ask, Add, Claim, Back, Submit}
 use Rattle.nav_script.specs.declared.script.Script.{Script}
 
 -- the jobs of the tiles that workers hold
@@ -55,14 +55,10 @@ abbrev pub IsPlayable : ℕ → ℕ → Line → Type 0
 IsPlayable lanes workers (Lane lane) = lane < lanes
 IsPlayable lanes workers (Ask question) = IsAnswerable question
 IsPlayable lanes workers (Add shape) = IsShape shape
-IsPlayable lanes workers (Remove number) = ⊤
-IsPlayable lanes workers (Undo back) = ⊤
-IsPlayable lanes workers Settle = ⊤
-IsPlayable lanes workers Aim = ⊤
 IsPlayable lanes workers (Claim worker) = worker < workers
 IsPlayable lanes workers (Back worker) = worker < workers
 IsPlayable lanes workers (Submit worker) = worker < workers
-IsPlayable lanes workers Publish = ⊤
+IsPlayable lanes workers _ = ⊤
 
 -- a player has come to a state
 pub record HasState (player : Player) (state : PlayState) : Type 0 where

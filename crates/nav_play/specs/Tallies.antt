@@ -11,7 +11,7 @@ use Rattle.nav_desk.specs.BookState.{BookState}
 use Rattle.nav_book.specs.Results.{published_mesh}
 use Rattle.nav_record.specs.declared.totals.Totals.{Totals}
 use Rattle.nav_script.specs.declared.line.Line.{Line}
-use Rattle.nav_script.specs.declared.line.Line.TheVariants.{Lane, Ask, Add, Remove, Undo, Settle, Aim, Claim, Back, Submit, Publish}
+use Rattle.nav_script.specs.declared.line.Line.TheVariants.{Ask}
 use Rattle.nav_play.specs.PlayRecord.{PlayState}
 
 -- nothing is counted
@@ -44,16 +44,7 @@ pub record HasCountedAnswer (book : BookState) (question : Question) (before aft
 -- what a line was answered is counted
 abbrev pub HasCounted : PlayState → Line → Totals → Totals → Type 0
 HasCounted state (Ask question) before after = HasCountedAnswer state.book question before after
-HasCounted state (Lane lane) before after = after ≡ before
-HasCounted state (Add shape) before after = after ≡ before
-HasCounted state (Remove number) before after = after ≡ before
-HasCounted state (Undo j) before after = after ≡ before
-HasCounted state Settle before after = after ≡ before
-HasCounted state Aim before after = after ≡ before
-HasCounted state (Claim worker) before after = after ≡ before
-HasCounted state (Back worker) before after = after ≡ before
-HasCounted state (Submit worker) before after = after ≡ before
-HasCounted state Publish before after = after ≡ before
+HasCounted state _ before after = after ≡ before
 
 -- there is room for one answer more, whose cost is low
 pub record HasRoom (totals : Totals) : Type 0 where

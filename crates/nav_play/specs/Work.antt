@@ -4,7 +4,7 @@ use Rattle.nav_ground.specs.declared.setting.Setting.{Setting}
 use Rattle.nav_ground.specs.declared.field.Field.{Field}
 use Rattle.nav_ground.specs.Tiling.{tile_count}
 use Rattle.nav_script.specs.declared.line.Line.{Line}
-use Rattle.nav_script.specs.declared.line.Line.TheVariants.{Lane, Ask, Add, Remove, Undo, Settle, Aim, Claim, Back, Submit, Publish}
+use Rattle.nav_script.specs.declared.line.Line.TheVariants.{Settle, Claim}
 use Rattle.nav_script.specs.declared.script.Script.{Script}
 use Rattle.nav_play.specs.Jobs.{jobs_of_claim}
 use Rattle.nav_play.specs.PlayRecord.{PlayState, first_state_of, held_by, state_after}
@@ -14,15 +14,7 @@ use Rattle.nav_book.specs.Settling.{awaited_tiles, settling}
 abbrev pub jobs_of : PlayState → Line → ℕ
 jobs_of state Settle = length (awaited_tiles (settling state.book))
 jobs_of state (Claim worker) = jobs_of_claim state.book (held_by state worker)
-jobs_of state (Lane lane) = 0
-jobs_of state (Ask question) = 0
-jobs_of state (Add shape) = 0
-jobs_of state (Remove number) = 0
-jobs_of state (Undo back) = 0
-jobs_of state Aim = 0
-jobs_of state (Back worker) = 0
-jobs_of state (Submit worker) = 0
-jobs_of state Publish = 0
+jobs_of state _ = 0
 
 -- how many claims of lines give a tile, one line after another
 unfoldable pub jobs_from : PlayState → List Line → ℕ

@@ -1,13 +1,13 @@
 -- The laws of a script's lines: what is read of a line is spelled so, and what is spelled so is read.
-use Rattle.std.proofs.Common.{◌≡◌, ℕ, suc, ◌<◌, ◌≤◌, Bool, true, false, cond, ◌&&◌, eqb, nat_le, nat_lt, List, [], ◌∷◌, length, Option, Some, None, Ok, Err, codes, unwrap_or, subst, refl, ap, arith, slice_index, IfOk}
+use Rattle.std.proofs.Common.{◌≡◌, ℕ, suc, ◌<◌, ◌≤◌, Bool, true, false, cond, ◌&&◌, eqb, nat_le, nat_lt, List, [], ◌∷◌, ◌++◌, length, Option, Some, None, Ok, Err, codes, unwrap_or, subst, refl, ap, ◌∙◌, arith, slice_index, IfOk}
 use Rattle.std.proofs.lemmas.Bool.{and_parts, ltb-true, leb-true}
 use Rattle.std.proofs.lemmas.Bool.Decides.{nat_tests}
 use Rattle.std.proofs.lemmas.Int.{ints}
-use Rattle.nav_ground.specs.Limits.{IsBox, IsRound}
+use Rattle.nav_ground.specs.Limits.{IsArea, IsBox, IsRound}
 use Rattle.nav_text.specs.declared.fault.FaultKind.TheVariants as kinds
-use Rattle.nav_text.specs.Forms.{numbers_of, line_text, AreNumbers}
-use Rattle.nav_text.proofs.FormLaws.{numbers_take}
-use Rattle.nav_text.proofs.Inversions.{map_some, ok_is}
+use Rattle.nav_text.specs.Forms.{numbers_of, number_after, line_text, AreNumbers}
+use Rattle.nav_text.proofs.FormLaws.{numbers_take, number_after_take}
+use Rattle.nav_text.proofs.Inversions.{bind_some, map_some, ok_is}
 use Rattle.nav_script.specs.declared.line.Line.{Line}
 use Rattle.nav_script.specs.declared.line.Line.TheVariants.{Lane, Remove, Undo, Settle, Aim, Claim, Back, Submit, Publish}
 use Rattle.nav_script.specs.declared.script.Way.{Way}
@@ -15,7 +15,7 @@ use Rattle.nav_script.specs.declared.script.Way.TheVariants.{Play, Live}
 use Rattle.nav_script.specs.Spelling.{line_of}
 use Rattle.nav_script.specs.Lanes.{NamesLaneBelow}
 use Rattle.nav_script.specs.Limits.{IsPlace, IsLine}
-use Rattle.nav_script.specs.Forms.{LineRead, in_limits, below_count, floor_line, is_place, is_standing, point_at, path_line, ray_line, is_range, block_line, cylinder_line, drop_line, form, first_of_them, question_forms, question_line, request_forms, request_line, lane_forms, lane_line, worker_forms, worker_line, played_line, line_read}
+use Rattle.nav_script.specs.Forms.{LineRead, in_limits, below_count, floor_line, is_place, is_standing, point_at, path_line, ray_line, is_range, is_block, is_cylinder, block_line, cylinder_line, area_block_line, area_cylinder_line, drop_line, form, first_of_them, question_forms, question_line, request_forms, request_line, area_forms, area_line, lane_forms, lane_line, worker_forms, worker_line, played_line, line_read}
 
 -- the lists of a length, one element after another
 some_more : (P : List ℕ → Type 0) (n : List ℕ) (k : ℕ) → ((x : ℕ) (more : List ℕ) → length more ≡ k → P (x ∷ more)) → length n ≡ suc k → P n
@@ -127,6 +127,21 @@ cylinder_limits cx cz r y0 y1 h = record {
   y_most = grind (arith, nat_tests);
 }
 
+area_limits : (area : ℕ) → is_range 1 area 63 ≡ true → IsArea area
+area_limits area h = grind (arith, nat_tests)
+
+area_block_limits : (area x0 x1 y0 y1 z0 z1 : ℕ) → is_range 1 area 63 && is_block (x0 ∷ x1 ∷ y0 ∷ y1 ∷ z0 ∷ z1 ∷ []) ≡ true
+    → IsArea area × IsBox x0 x1 y0 y1 z0 z1
+area_block_limits area x0 x1 y0 y1 z0 z1 h =
+    let parts = and_parts (is_range 1 area 63) (is_block (x0 ∷ x1 ∷ y0 ∷ y1 ∷ z0 ∷ z1 ∷ [])) h in
+    (area_limits area parts.0, block_limits x0 x1 y0 y1 z0 z1 parts.1)
+
+area_cylinder_limits : (area cx cz r y0 y1 : ℕ) → is_range 1 area 63 && is_cylinder (cx ∷ cz ∷ r ∷ y0 ∷ y1 ∷ []) ≡ true
+    → IsArea area × IsRound cx cz r y0 y1
+area_cylinder_limits area cx cz r y0 y1 h =
+    let parts = and_parts (is_range 1 area 63) (is_cylinder (cx ∷ cz ∷ r ∷ y0 ∷ y1 ∷ [])) h in
+    (area_limits area parts.0, cylinder_limits cx cz r y0 y1 parts.1)
+
 -- a line that names a lane or a worker
 below_told : (number count : ℕ) (made line : Line) → below_count number count made ≡ Ok line → (number < count) × (made ≡ line)
 below_told number count made line e = split (nat_lt number count) refl e
@@ -211,6 +226,37 @@ request_right way lanes workers adds text =
       ),
     )
 
+-- what the rest of a text gives, behind `add area` and an area
+abbrev GivesArea : Way → (lanes workers adds area : ℕ) → List ℕ → List ℕ → (List ℕ → LineRead) → List ℕ → Type 0
+GivesArea way lanes workers adds area text word make n =
+    AreNumbers n → text ≡ line_text (codes "add area") (area ∷ []) ++ line_text word n → IsRight way lanes workers adds text (make n)
+
+area_rest : (way : Way) (lanes workers adds area : ℕ) (text rest : List ℕ) → text ≡ line_text (codes "add area") (area ∷ []) ++ rest
+    → (read : LineRead) → first_of_them (area_forms area rest) ≡ Some read → IsRight way lanes workers adds text read
+area_rest way lanes workers adds area text rest before =
+    let Q : LineRead → Type 0 = IsRight way lanes workers adds text in
+    let R : List ℕ → (List ℕ → LineRead) → List ℕ → Type 0 = GivesArea way lanes workers adds area text in
+    let right = limits_right way lanes workers adds text in
+    let whole : (word n : List ℕ) → rest ≡ line_text word n → text ≡ line_text (codes "add area") (area ∷ []) ++ line_text word n =
+    λ word n spelled. before ∙ ap (λ (more : List ℕ). line_text (codes "add area") (area ∷ []) ++ more) spelled in
+    first_is Q (area_forms area rest) (
+      form_is Q (codes " block") 6 (area_block_line area) rest
+          (λ n long fit spelled. six (R (codes " block") (area_block_line area)) (λ x0 x1 y0 y1 z0 z1 fit all. right _ _ all (area_block_limits area x0 x1 y0 y1 z0 z1))
+          n long fit (whole (codes " block") n spelled)),
+      (
+        form_is Q (codes " cylinder") 5 (area_cylinder_line area) rest
+            (λ n long fit spelled. five (R (codes " cylinder") (area_cylinder_line area)) (λ cx cz r y0 y1 fit all. right _ _ all (area_cylinder_limits area cx cz r y0 y1))
+            n long fit (whole (codes " cylinder") n spelled)),
+        tt,
+      ),
+    )
+
+pub area_right : (way : Way) (lanes workers adds : ℕ) (text : List ℕ) → (read : LineRead) → area_line text ≡ Some read → IsRight way lanes workers adds text read
+unfolding area_line
+area_right way lanes workers adds text read e =
+    let told = bind_some (λ (x : ℕ × List ℕ). first_of_them (area_forms x.0 x.1)) (number_after (codes "add area") text) read e in
+    area_rest way lanes workers adds told.0.0 text told.0.1 (number_after_take (codes "add area") text told.0 told.1) read told.2
+
 pub lane_right : (way : Way) (lanes workers adds : ℕ) (text : List ℕ)
     → (read : LineRead) → lane_line lanes text ≡ Some read → IsRight way lanes workers adds text read
 unfolding lane_line
@@ -270,14 +316,17 @@ pub line_right : (way : Way) (lanes workers adds : ℕ) (text : List ℕ) (line 
     → line_read way lanes workers adds text ≡ Ok line → (text ≡ line_of line) × IsLine way lanes workers adds line
 line_right way lanes workers adds text line e =
     let Q : LineRead → Type 0 = IsRight way lanes workers adds text in
-    let forms = question_line text ∷ request_line adds text ∷ lane_line lanes text ∷ played_line way workers text ∷ [] in
+    let forms = question_line text ∷ request_line adds text ∷ area_line text ∷ lane_line lanes text ∷ played_line way workers text ∷ [] in
     first_is Q forms (
       question_right way lanes workers adds text,
       (
         request_right way lanes workers adds text,
         (
-          lane_right way lanes workers adds text,
-          (played_right way lanes workers adds text, tt),
+          area_right way lanes workers adds text,
+          (
+            lane_right way lanes workers adds text,
+            (played_right way lanes workers adds text, tt),
+          ),
         ),
       ),
     )

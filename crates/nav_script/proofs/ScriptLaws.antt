@@ -7,7 +7,7 @@ use Rattle.std.proofs.lemmas.Bool.Decides.{nat_tests}
 use Rattle.std.proofs.lemmas.List.{take-append-le, length_push}
 use Rattle.std.proofs.lemmas.List.Sums.{sum_by_push, sum_by-append}
 use Rattle.std.proofs.lemmas.Option.{slice_get_within}
-use Rattle.nav_ground.specs.declared.history.TheConstants.{HISTORY_LIMIT}
+use Rattle.nav_ground.specs.History.{history_limit}
 use Rattle.nav_text.specs.declared.fault.TextFault.{TextFault}
 use Rattle.nav_text.specs.declared.fault.FaultKind.{FaultKind}
 use Rattle.nav_text.specs.declared.fault.FaultKind.TheVariants as kinds
@@ -122,13 +122,13 @@ get_seam (x ∷ front) line back = get_seam front line back
 
 -- a script that runs live has room for a request that is not refused
 room_left : (way : Way) (before : List Line) (text : List ℕ) (line : Line) → lacks_room way before text ≡ false → text ≡ line_of line
-    → way ≡ Live → count_by is_request before ≤ HISTORY_LIMIT → count_by is_request before + cond (is_request line) 1 0 ≤ HISTORY_LIMIT
+    → way ≡ Live → count_by is_request before ≤ history_limit → count_by is_request before + cond (is_request line) 1 0 ≤ history_limit
 room_left Play before text line room spelled live most = absurd cc
 room_left Live before text line room spelled live most =
     let begins : begins_request text ≡ is_request line = ap begins_request spelled ∙ begins_spelled line in
-    split (is_request line) (subst (λ b. leb HISTORY_LIMIT (count_by is_request before) && b ≡ false) begins room)
+    split (is_request line) (subst (λ b. leb history_limit (count_by is_request before) && b ≡ false) begins room)
   where
-    split : (b : Bool) → leb HISTORY_LIMIT (count_by is_request before) && b ≡ false → count_by is_request before + cond b 1 0 ≤ HISTORY_LIMIT
+    split : (b : Bool) → leb history_limit (count_by is_request before) && b ≡ false → count_by is_request before + cond b 1 0 ≤ history_limit
     split true h = grind (arith, nat_tests)
     split false h = omega arith
 
@@ -248,17 +248,17 @@ requests_at before line more =
     ∙ (sum_by-append count (before ++ line ∷ []) more ∙ ap (λ n. n + sum_by count more) (sum_by_push count before line))
 
 -- a request of a script that runs live is not one too many
-room_again : (way : Way) (before : List Line) (line : Line) (more : List Line) → (way ≡ Live → count_by is_request (before ++ line ∷ more) ≤ HISTORY_LIMIT)
+room_again : (way : Way) (before : List Line) (line : Line) (more : List Line) → (way ≡ Live → count_by is_request (before ++ line ∷ more) ≤ history_limit)
     → lacks_room way before (line_of line) ≡ false
 room_again Play before line more most = refl
 room_again Live before line more most =
-    let enough : count_by is_request before + cond (is_request line) 1 0 + count_by is_request more ≤ HISTORY_LIMIT =
-    subst (λ n. n ≤ HISTORY_LIMIT) (requests_at before line more) (most refl) in
-    ap (λ b. leb HISTORY_LIMIT (count_by is_request before) && b) (begins_spelled line) ∙ split (is_request line) enough
+    let enough : count_by is_request before + cond (is_request line) 1 0 + count_by is_request more ≤ history_limit =
+    subst (λ n. n ≤ history_limit) (requests_at before line more) (most refl) in
+    ap (λ b. leb history_limit (count_by is_request before) && b) (begins_spelled line) ∙ split (is_request line) enough
   where
-    split : (b : Bool) → count_by is_request before + cond b 1 0 + count_by is_request more ≤ HISTORY_LIMIT → leb HISTORY_LIMIT (count_by is_request before) && b ≡ false
+    split : (b : Bool) → count_by is_request before + cond b 1 0 + count_by is_request more ≤ history_limit → leb history_limit (count_by is_request before) && b ≡ false
     split true h = grind (arith, nat_tests)
-    split false h = and_right (leb HISTORY_LIMIT (count_by is_request before)) false refl
+    split false h = and_right (leb history_limit (count_by is_request before)) false refl
 
 verdict_again : (way : Way) (lanes workers : ℕ) (before : List Line) (line : Line) (more : List Line) → IsScript way (script_at lanes workers (before ++ line ∷ more))
     → (line_verdict way (AtLines lanes workers before) (line_of line) ≡ Goes (AtLines lanes workers (before ++ line ∷ []))) × (is_line (line_of line) ≡ true)

@@ -1,26 +1,27 @@
 -- The laws of spelled lines: each is read as the line that it spells.
-use Rattle.std.proofs.Common.{◌≡◌, ℕ, ◌^◌, ◌<◌, ◌≤◌, true, false, nat_lt, eqb, [], ◌∷◌, Some, Ok, Err, ℤ, pos, negsuc, ◌≤ℤ◌, nat_abs, codes, unwrap_or, refl, ap, ap₂, ◌∙◌, arith}
+use Rattle.std.proofs.Common.{◌≡◌, ℕ, ◌^◌, ◌<◌, ◌≤◌, true, false, not, nat_lt, eqb, List, [], ◌∷◌, ◌++◌, Some, Ok, Err, ℤ, pos, negsuc, ◌≤ℤ◌, nat_abs, codes, unwrap_or, refl, ap, ap₂, ◌∙◌, arith}
 use Rattle.std.proofs.lemmas.Bool.{and_from, le-leb, lt-ltb}
 use Rattle.std.proofs.lemmas.Bool.Decides.{nat_tests}
 use Rattle.std.proofs.lemmas.Int.{ints}
+use Rattle.std.proofs.lemmas.List.Folds.{list_all-append}
 use Rattle.nav_base.specs.declared.point.Point.{Point}
 use Rattle.nav_base.specs.declared.answers.Question.{Question}
 use Rattle.nav_base.specs.declared.answers.Question.TheVariants.{Floor, Path, Ray}
 use Rattle.nav_ground.specs.declared.shape.Shape.{Shape}
 use Rattle.nav_ground.specs.declared.shape.Shape.TheVariants.{Block, Cylinder, AreaBlock, AreaCylinder}
-use Rattle.nav_ground.specs.Limits.{IsBox, IsRound}
+use Rattle.nav_ground.specs.Limits.{IsArea, IsBox, IsRound, IsShape}
 use Rattle.nav_text.specs.declared.fault.FaultKind.TheVariants as kinds
 use Rattle.nav_text.specs.Lines.{is_line}
-use Rattle.nav_text.specs.Forms.{numbers_of, line_text, AreNumbers}
-use Rattle.nav_text.proofs.FormLaws.{fields_of_again, is_line-line_text}
+use Rattle.nav_text.specs.Forms.{numbers_of, number_after, line_text, AreNumbers}
+use Rattle.nav_text.proofs.FormLaws.{fields_of_again, number_after_at, is_line-line_text}
 use Rattle.nav_script.specs.declared.line.Line.{Line}
 use Rattle.nav_script.specs.declared.line.Line.TheVariants.{Lane, Ask, Add, Remove, Undo, Settle, Aim, Claim, Back, Submit, Publish}
 use Rattle.nav_script.specs.declared.script.Way.{Way}
 use Rattle.nav_script.specs.declared.script.Way.TheVariants.{Play, Live}
 use Rattle.nav_script.specs.Spelling.{question_spelling, shape_spelling, line_of}
 use Rattle.nav_script.specs.Lanes.{is_request}
-use Rattle.nav_script.specs.Limits.{IsPlace, IsLine, IsQuestion, IsObstacle}
-use Rattle.nav_script.specs.Forms.{LineRead, is_place, is_standing, point_at, is_range, drop_line, question_line, request_line, lane_line, worker_line, line_read}
+use Rattle.nav_script.specs.Limits.{IsPlace, IsLine, IsQuestion}
+use Rattle.nav_script.specs.Forms.{LineRead, is_place, is_standing, point_at, is_range, drop_line, question_line, request_line, area_line, lane_line, worker_line, line_read}
 use Rattle.nav_script.specs.Reading.{begins_request}
 
 -- a line begins with the word of a request exactly where it is one
@@ -58,7 +59,7 @@ unfolding question_line request_line numbers_of
 remove_again way lanes workers adds number fits = rw (fields_of_again (number ∷ []) (fits, tt)) refl
 
 settle_again : (way : Way) (lanes workers adds : ℕ) → line_read way lanes workers adds (line_of Settle) ≡ Ok Settle
-unfolding question_line request_line lane_line numbers_of
+unfolding question_line request_line area_line lane_line numbers_of number_after
 settle_again way lanes workers adds = rw (fields_of_again [] tt) refl
 
 place_true : (x z : ℕ) → x ≤ 16384 → z ≤ 16384 → is_place x z ≡ true
@@ -146,6 +147,40 @@ cylinder_again way lanes workers adds cx cz r y0 y1 round =
       range_true y0 y1 8191 round.y round.y_most,
     ) refl
 
+area_true : (area : ℕ) → IsArea area → is_range 1 area 63 ≡ true
+area_true area rules = range_true 1 area 63 (omega arith) (omega arith)
+
+area_block_again : (way : Way) (lanes workers adds area x0 x1 y0 y1 z0 z1 : ℕ) → IsArea area → IsBox x0 x1 y0 y1 z0 z1
+    → line_read way lanes workers adds (line_of (Add (AreaBlock area x0 x1 y0 y1 z0 z1))) ≡ Ok (Add (AreaBlock area x0 x1 y0 y1 z0 z1))
+unfolding question_line request_line area_line numbers_of
+area_block_again way lanes workers adds area x0 x1 y0 y1 z0 z1 rules box =
+    let n : List ℕ = x0 ∷ x1 ∷ y0 ∷ y1 ∷ z0 ∷ z1 ∷ [] in
+    let fit : AreNumbers n = (omega arith, (omega arith, (omega arith, (omega arith, (omega arith, (omega arith, tt)))))) in
+    rw (
+      number_after_at (codes "add area") area (line_text (codes " block") n) (omega arith) refl,
+      fields_of_again n fit,
+      area_true area rules,
+      range_true x0 x1 1023 box.x box.x_most,
+      range_true y0 y1 8191 box.y box.y_most,
+      range_true z0 z1 1023 box.z box.z_most,
+    ) refl
+
+area_cylinder_again : (way : Way) (lanes workers adds area cx cz r y0 y1 : ℕ) → IsArea area → IsRound cx cz r y0 y1
+    → line_read way lanes workers adds (line_of (Add (AreaCylinder area cx cz r y0 y1))) ≡ Ok (Add (AreaCylinder area cx cz r y0 y1))
+unfolding question_line request_line area_line numbers_of
+area_cylinder_again way lanes workers adds area cx cz r y0 y1 rules round =
+    let n : List ℕ = cx ∷ cz ∷ r ∷ y0 ∷ y1 ∷ [] in
+    let fit : AreNumbers n = (omega arith, (omega arith, (omega arith, (omega arith, (omega arith, tt))))) in
+    rw (
+      number_after_at (codes "add area") area (line_text (codes " cylinder") n) (omega arith) refl,
+      fields_of_again n fit,
+      area_true area rules,
+      le-leb cx 2048 round.cx_most,
+      le-leb cz 2048 round.cz_most,
+      le-leb r 1023 round.r_most,
+      range_true y0 y1 8191 round.y round.y_most,
+    ) refl
+
 drop_true : (adds back : ℕ) → 1 ≤ back → back ≤ adds → drop_line adds back ≡ Ok (Undo back)
 drop_true adds back least most =
     let some : eqb back 0 ≡ false = grind (arith, nat_tests) in
@@ -160,30 +195,30 @@ undo_again way lanes workers adds back least most few =
 
 lane_again : (way : Way) (lanes workers adds lane : ℕ) → lanes ≤ 16 → lane < lanes
     → line_read way lanes workers adds (line_of (Lane lane)) ≡ Ok (Lane lane)
-unfolding question_line request_line lane_line numbers_of
+unfolding question_line request_line area_line lane_line numbers_of number_after
 lane_again way lanes workers adds lane few below = rw (fields_of_again (lane ∷ []) (omega arith, tt), lt-ltb lane lanes below) refl
 
 claim_again : (lanes workers adds worker : ℕ) → workers ≤ 8 → worker < workers
     → line_read Play lanes workers adds (line_of (Claim worker)) ≡ Ok (Claim worker)
-unfolding question_line request_line lane_line worker_line numbers_of
+unfolding question_line request_line area_line lane_line worker_line numbers_of number_after
 claim_again lanes workers adds worker few below = rw (fields_of_again (worker ∷ []) (omega arith, tt), lt-ltb worker workers below) refl
 
 back_again : (lanes workers adds worker : ℕ) → workers ≤ 8 → worker < workers
     → line_read Play lanes workers adds (line_of (Back worker)) ≡ Ok (Back worker)
-unfolding question_line request_line lane_line worker_line numbers_of
+unfolding question_line request_line area_line lane_line worker_line numbers_of number_after
 back_again lanes workers adds worker few below = rw (fields_of_again (worker ∷ []) (omega arith, tt), lt-ltb worker workers below) refl
 
 submit_again : (lanes workers adds worker : ℕ) → workers ≤ 8 → worker < workers
     → line_read Play lanes workers adds (line_of (Submit worker)) ≡ Ok (Submit worker)
-unfolding question_line request_line lane_line worker_line numbers_of
+unfolding question_line request_line area_line lane_line worker_line numbers_of number_after
 submit_again lanes workers adds worker few below = rw (fields_of_again (worker ∷ []) (omega arith, tt), lt-ltb worker workers below) refl
 
 aim_again : (lanes workers adds : ℕ) → line_read Play lanes workers adds (line_of Aim) ≡ Ok Aim
-unfolding question_line request_line lane_line worker_line numbers_of
+unfolding question_line request_line area_line lane_line worker_line numbers_of number_after
 aim_again lanes workers adds = rw (fields_of_again [] tt) refl
 
 publish_again : (lanes workers adds : ℕ) → line_read Play lanes workers adds (line_of Publish) ≡ Ok Publish
-unfolding question_line request_line lane_line worker_line numbers_of
+unfolding question_line request_line area_line lane_line worker_line numbers_of number_after
 publish_again lanes workers adds = rw (fields_of_again [] tt) refl
 
 -- A line that may stand there, spelled, is read as that line.
@@ -195,8 +230,8 @@ line_again way lanes workers adds (Ask (Path from from_y to to_y)) few crew coun
 line_again way lanes workers adds (Ask (Ray from from_y to)) few crew counted is = ray_again way lanes workers adds from from_y to is
 line_again way lanes workers adds (Add (Block x0 x1 y0 y1 z0 z1)) few crew counted is = block_again way lanes workers adds x0 x1 y0 y1 z0 z1 is
 line_again way lanes workers adds (Add (Cylinder cx cz r y0 y1)) few crew counted is = cylinder_again way lanes workers adds cx cz r y0 y1 is
-line_again way lanes workers adds (Add (AreaBlock area x0 x1 y0 y1 z0 z1)) few crew counted is = absurd is
-line_again way lanes workers adds (Add (AreaCylinder area cx cz r y0 y1)) few crew counted is = absurd is
+line_again way lanes workers adds (Add (AreaBlock area x0 x1 y0 y1 z0 z1)) few crew counted is = area_block_again way lanes workers adds area x0 x1 y0 y1 z0 z1 is.0 is.1
+line_again way lanes workers adds (Add (AreaCylinder area cx cz r y0 y1)) few crew counted is = area_cylinder_again way lanes workers adds area cx cz r y0 y1 is.0 is.1
 line_again way lanes workers adds (Remove number) few crew counted is = remove_again way lanes workers adds number is
 line_again way lanes workers adds (Undo back) few crew counted is = undo_again way lanes workers adds back is.0 is.1 counted
 line_again way lanes workers adds Settle few crew counted is = settle_again way lanes workers adds
@@ -235,15 +270,25 @@ plain_question (Ray from from_y to) is =
     is_line-line_text (codes "ray") (nat_abs from.x ∷ nat_abs from.z ∷ from_y ∷ nat_abs to.x ∷ nat_abs to.z ∷ []) refl
     (omega arith, (omega arith, (omega arith, (omega arith, (omega arith, tt)))))
 
-plain_shape : (shape : Shape) → IsObstacle shape → is_line (shape_spelling shape) ≡ true
+plain_area : (area : ℕ) (word numbers : List ℕ) → IsArea area → is_line word ≡ true → AreNumbers numbers
+    → is_line (line_text (codes "add area") (area ∷ []) ++ line_text word numbers) ≡ true
+plain_area area word numbers rules plain fit =
+    list_all-append (λ c. not (eqb c 10)) (line_text (codes "add area") (area ∷ [])) (line_text word numbers)
+    ∙ and_from _ _ (is_line-line_text (codes "add area") (area ∷ []) refl (omega arith, tt)) (is_line-line_text word numbers plain fit)
+
+plain_shape : (shape : Shape) → IsShape shape → is_line (shape_spelling shape) ≡ true
 plain_shape (Block x0 x1 y0 y1 z0 z1) box =
     is_line-line_text (codes "add block") (x0 ∷ x1 ∷ y0 ∷ y1 ∷ z0 ∷ z1 ∷ []) refl
     (omega arith, (omega arith, (omega arith, (omega arith, (omega arith, (omega arith, tt))))))
 plain_shape (Cylinder cx cz r y0 y1) round =
     is_line-line_text (codes "add cylinder") (cx ∷ cz ∷ r ∷ y0 ∷ y1 ∷ []) refl
     (omega arith, (omega arith, (omega arith, (omega arith, (omega arith, tt)))))
-plain_shape (AreaBlock area x0 x1 y0 y1 z0 z1) is = absurd is
-plain_shape (AreaCylinder area cx cz r y0 y1) is = absurd is
+plain_shape (AreaBlock area x0 x1 y0 y1 z0 z1) (rules, box) =
+    plain_area area (codes " block") (x0 ∷ x1 ∷ y0 ∷ y1 ∷ z0 ∷ z1 ∷ []) rules refl
+    (omega arith, (omega arith, (omega arith, (omega arith, (omega arith, (omega arith, tt))))))
+plain_shape (AreaCylinder area cx cz r y0 y1) (rules, round) =
+    plain_area area (codes " cylinder") (cx ∷ cz ∷ r ∷ y0 ∷ y1 ∷ []) rules refl
+    (omega arith, (omega arith, (omega arith, (omega arith, (omega arith, tt)))))
 
 -- a line that may stand there, spelled, has no line feed in it
 pub line_plain : (way : Way) (lanes workers adds : ℕ) (line : Line) → lanes ≤ 16 → workers ≤ 8 → adds < 2 ^ 32 → IsLine way lanes workers adds line

@@ -1,12 +1,12 @@
 -- What a line of a script says, or what is wrong with it, its form first, then its numbers.
-use Rattle.std.specs.Prelude.{ℕ, Bool, nat_lt, nat_le, ◌==◌, ◌&&◌, if◌then◌else◌, List, [], ◌∷◌, slice_index, codes, pos, Option, Some, None, Result, Ok, Err, unwrap_or}
+use Rattle.std.specs.Prelude.{ℕ, Bool, nat_lt, nat_le, ◌==◌, ◌&&◌, if◌then◌else◌, List, [], ◌∷◌, slice_index, codes, pos, Option, Some, None, option_and_then, Result, Ok, Err, unwrap_or}
 use Rattle.std.specs.Option.{option_map}
 use Rattle.nav_base.specs.declared.point.Point.{Point}
 use Rattle.nav_base.specs.declared.answers.Question.TheVariants.{Floor, Path, Ray}
-use Rattle.nav_ground.specs.declared.shape.Shape.TheVariants.{Block, Cylinder}
+use Rattle.nav_ground.specs.declared.shape.Shape.TheVariants.{Block, Cylinder, AreaBlock, AreaCylinder}
 use Rattle.nav_text.specs.declared.fault.FaultKind.{FaultKind}
 use Rattle.nav_text.specs.declared.fault.FaultKind.TheVariants as kinds
-use Rattle.nav_text.specs.Forms.{numbers_of}
+use Rattle.nav_text.specs.Forms.{numbers_of, number_after}
 use Rattle.nav_script.specs.declared.line.Line.{Line}
 use Rattle.nav_script.specs.declared.line.Line.TheVariants.{Lane, Ask, Add, Remove, Undo, Settle, Aim, Claim, Back, Submit, Publish}
 use Rattle.nav_script.specs.declared.script.Way.{Way}
@@ -54,17 +54,32 @@ ray_line n =
 abbrev pub is_range : ℕ → ℕ → ℕ → Bool
 is_range low high most = nat_le low high && nat_le high most
 
+-- the limits of the numbers of a block, and of those of a cylinder
+abbrev pub is_block : List ℕ → Bool
+is_block n = is_range (slice_index n 0) (slice_index n 1) 1023 && is_range (slice_index n 2) (slice_index n 3) 8191 && is_range (slice_index n 4) (slice_index n 5) 1023
+
+abbrev pub is_cylinder : List ℕ → Bool
+is_cylinder n = nat_le (slice_index n 0) 2048 && nat_le (slice_index n 1) 2048 && nat_le (slice_index n 2) 1023 && is_range (slice_index n 3) (slice_index n 4) 8191
+
 abbrev pub block_line : List ℕ → LineRead
 block_line n =
-    in_limits
-    (is_range (slice_index n 0) (slice_index n 1) 1023 && is_range (slice_index n 2) (slice_index n 3) 8191 && is_range (slice_index n 4) (slice_index n 5) 1023)
-    (Add (Block (slice_index n 0) (slice_index n 1) (slice_index n 2) (slice_index n 3) (slice_index n 4) (slice_index n 5)))
+    in_limits (is_block n) (Add (Block (slice_index n 0) (slice_index n 1) (slice_index n 2) (slice_index n 3) (slice_index n 4) (slice_index n 5)))
 
 abbrev pub cylinder_line : List ℕ → LineRead
-cylinder_line n =
+cylinder_line n = in_limits (is_cylinder n) (Add (Cylinder (slice_index n 0) (slice_index n 1) (slice_index n 2) (slice_index n 3) (slice_index n 4)))
+
+-- and with an area from 1 to 63
+abbrev pub area_block_line : ℕ → List ℕ → LineRead
+area_block_line area n =
     in_limits
-    (nat_le (slice_index n 0) 2048 && nat_le (slice_index n 1) 2048 && nat_le (slice_index n 2) 1023 && is_range (slice_index n 3) (slice_index n 4) 8191)
-    (Add (Cylinder (slice_index n 0) (slice_index n 1) (slice_index n 2) (slice_index n 3) (slice_index n 4)))
+    (is_range 1 area 63 && is_block n)
+    (Add (AreaBlock area (slice_index n 0) (slice_index n 1) (slice_index n 2) (slice_index n 3) (slice_index n 4) (slice_index n 5)))
+
+abbrev pub area_cylinder_line : ℕ → List ℕ → LineRead
+area_cylinder_line area n =
+    in_limits
+    (is_range 1 area 63 && is_cylinder n)
+    (Add (AreaCylinder area (slice_index n 0) (slice_index n 1) (slice_index n 2) (slice_index n 3) (slice_index n 4)))
 
 -- a `drop` where so many adds of its lane stand before it
 abbrev pub drop_line : ℕ → ℕ → LineRead
@@ -104,6 +119,13 @@ request_forms adds line =
 unfoldable pub request_line : ℕ → List ℕ → Option LineRead
 request_line adds line = first_of_them (request_forms adds line)
 
+-- an obstacle that sets an area: its forms behind `add area` and the area
+abbrev pub area_forms : ℕ → List ℕ → List (Option LineRead)
+area_forms area rest = form (codes " block") 6 (area_block_line area) rest ∷ form (codes " cylinder") 5 (area_cylinder_line area) rest ∷ []
+
+unfoldable pub area_line : List ℕ → Option LineRead
+area_line line = option_and_then (λ x. first_of_them (area_forms x.0 x.1)) (number_after (codes "add area") line)
+
 -- `settle`, and the lane of the lines that follow, where there are so many lanes
 abbrev pub lane_forms : ℕ → List ℕ → List (Option LineRead)
 lane_forms lanes line =
@@ -135,4 +157,6 @@ played_line Live workers line = None
 -- what a line of a script says; of no form, it is wrong as a line
 abbrev pub line_read : Way → (lanes workers adds : ℕ) → List ℕ → LineRead
 line_read way lanes workers adds line =
-    unwrap_or (first_of_them (question_line line ∷ request_line adds line ∷ lane_line lanes line ∷ played_line way workers line ∷ [])) (Err kinds.Line)
+    unwrap_or
+    (first_of_them (question_line line ∷ request_line adds line ∷ area_line line ∷ lane_line lanes line ∷ played_line way workers line ∷ []))
+    (Err kinds.Line)

@@ -3,9 +3,7 @@ use Rattle.std.specs.Prelude.{◌≡◌, ℕ, ◌^◌, ◌<◌, ◌≤◌, pos, 
 use Rattle.nav_base.specs.declared.point.Point.{Point}
 use Rattle.nav_base.specs.declared.answers.Question.{Question}
 use Rattle.nav_base.specs.declared.answers.Question.TheVariants.{Floor, Path, Ray}
-use Rattle.nav_ground.specs.declared.shape.Shape.{Shape}
-use Rattle.nav_ground.specs.declared.shape.Shape.TheVariants.{Block, Cylinder, AreaBlock, AreaCylinder}
-use Rattle.nav_ground.specs.declared.history.TheConstants.{HISTORY_LIMIT}
+use Rattle.nav_ground.specs.History.{history_limit}
 use Rattle.nav_ground.specs.Limits.{IsShape}
 use Rattle.nav_script.specs.declared.line.Line.{Line}
 use Rattle.nav_script.specs.declared.line.Line.TheVariants.{Lane, Ask, Add, Remove, Undo, Settle, Aim, Claim, Back, Submit, Publish}
@@ -28,19 +26,12 @@ IsQuestion (Floor x z) = (x ≤ 1023) × (z ≤ 1023)
 IsQuestion (Path from from_y to to_y) = IsPlace from × (from_y ≤ 8191) × IsPlace to × (to_y ≤ 8191)
 IsQuestion (Ray from from_y to) = IsPlace from × (from_y ≤ 8191) × IsPlace to
 
--- a script adds blocks and cylinders within their limits, and no area shapes
-abbrev pub IsObstacle : Shape → Type 0
-IsObstacle (Block x0 x1 y0 y1 z0 z1) = IsShape (Block x0 x1 y0 y1 z0 z1)
-IsObstacle (Cylinder cx cz r y0 y1) = IsShape (Cylinder cx cz r y0 y1)
-IsObstacle (AreaBlock area x0 x1 y0 y1 z0 z1) = ⊥
-IsObstacle (AreaCylinder area cx cz r y0 y1) = ⊥
-
 -- a line may stand where so many adds of its lane stand before it: its numbers are in their limits, lanes and workers are below
 -- their counts, a `drop` names one of those adds, counted from 1, and the lines that lead workers are played only
 abbrev pub IsLine : Way → (lanes workers adds : ℕ) → Line → Type 0
 IsLine way lanes workers adds (Lane lane) = lane < lanes
 IsLine way lanes workers adds (Ask question) = IsQuestion question
-IsLine way lanes workers adds (Add shape) = IsObstacle shape
+IsLine way lanes workers adds (Add shape) = IsShape shape
 IsLine way lanes workers adds (Remove number) = number < 2 ^ 32
 IsLine way lanes workers adds (Undo back) = (1 ≤ back) × (back ≤ adds)
 IsLine way lanes workers adds Settle = ⊤
@@ -58,7 +49,7 @@ pub record IsScript (way : Way) (script : Script) : Type 0 where
   pub workers_least : 1 ≤ script.workers
   pub workers_most : script.workers ≤ 8
   pub few : length script.lines ≤ 300000
-  pub requests : way ≡ Live → count_by is_request script.lines ≤ HISTORY_LIMIT
+  pub requests : way ≡ Live → count_by is_request script.lines ≤ history_limit
   pub each : (k : ℕ) (line : Line) → slice_get script.lines k ≡ Some line
       → IsLine way script.lanes script.workers (adds_before (take k script.lines)) line
 

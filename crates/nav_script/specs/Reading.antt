@@ -1,6 +1,6 @@
 -- How a script's text is read: first its `script` line, then each of its lines, given those before it.
 use Rattle.std.specs.Prelude.{◌≡◌, ℕ, ◌+◌, Bool, false, nat_le, ◌&&◌, ◌||◌, if◌then◌else◌, List, [], ◌∷◌, ◌++◌, length, count_by, codes, slice_index, Option, Some, None, Result, Ok, Err, ⊤}
-use Rattle.nav_ground.specs.declared.history.TheConstants.{HISTORY_LIMIT}
+use Rattle.nav_ground.specs.History.{history_limit}
 use Rattle.nav_text.specs.declared.fault.TextFault.{TextFault}
 use Rattle.nav_text.specs.declared.fault.FaultKind.{FaultKind}
 use Rattle.nav_text.specs.declared.fault.FaultKind.TheVariants as kinds
@@ -40,7 +40,7 @@ begins_request line = has_word (codes "add") line || has_word (codes "remove") l
 -- a script that runs live has as many requests as a history has entries, and the line is one more
 abbrev pub lacks_room : Way → List Line → List ℕ → Bool
 lacks_room Play before line = false
-lacks_room Live before line = nat_le HISTORY_LIMIT (count_by is_request before) && begins_request line
+lacks_room Live before line = nat_le history_limit (count_by is_request before) && begins_request line
 
 abbrev pub header_verdict : Result Header FaultKind → Verdict Place Script
 header_verdict (Ok header) = Goes (AtLines header.lanes header.workers [])

@@ -18,7 +18,7 @@ question_spelling (Path from from_y to to_y) =
 question_spelling (Ray from from_y to) =
     line_text (codes "ray") (nat_abs from.x ∷ nat_abs from.z ∷ from_y ∷ nat_abs to.x ∷ nat_abs to.z ∷ [])
 
--- an obstacle: its kind and its numbers; an area shape, which no script has, is spelled with its area before them
+-- an obstacle: its kind and its numbers, and before them the area where it sets one
 abbrev pub shape_spelling : Shape → List ℕ
 shape_spelling (Block x0 x1 y0 y1 z0 z1) = line_text (codes "add block") (x0 ∷ x1 ∷ y0 ∷ y1 ∷ z0 ∷ z1 ∷ [])
 shape_spelling (Cylinder cx cz r y0 y1) = line_text (codes "add cylinder") (cx ∷ cz ∷ r ∷ y0 ∷ y1 ∷ [])

@@ -8,7 +8,7 @@ use crate::line::Line;
 use crate::script::Way;
 use nav_base::{Point, Question};
 use nav_ground::Shape;
-use nav_text::{FaultKind, numbers_of};
+use nav_text::{FaultKind, number_after, numbers_of};
 
 /// The greatest number of a column.
 const LAST_COLUMN: u32 = 1023;
@@ -21,6 +21,8 @@ const LAST_SIXTEENTH: u32 = 16384;
 const LAST_CENTRE: u32 = 2048;
 /// The greatest radius of a cylinder, in cells.
 const LARGEST_RADIUS: u32 = 1023;
+/// The greatest area that an obstacle can set.
+const GREATEST_AREA: u32 = 63;
 
 fn in_limits(fits: bool, line: Line) -> Result<Line, FaultKind>
     ensures { result ≡ Rattle.nav_script.specs.Forms.in_limits fits line }
@@ -111,12 +113,26 @@ fn ray_line(n: [u32; 5]) -> Result<Line, FaultKind>
     }))
 }
 
+fn is_block(n: [u32; 6]) -> bool
+    ensures { result ≡ Rattle.nav_script.specs.Forms.is_block n }
+{
+    let [x0, x1, y0, y1, z0, z1] = n;
+    is_range(x0, x1, LAST_COLUMN) && is_range(y0, y1, HIGHEST) && is_range(z0, z1, LAST_COLUMN)
+}
+
+fn is_cylinder(n: [u32; 5]) -> bool
+    ensures { result ≡ Rattle.nav_script.specs.Forms.is_cylinder n }
+{
+    let [cx, cz, r, y0, y1] = n;
+    cx <= LAST_CENTRE && cz <= LAST_CENTRE && r <= LARGEST_RADIUS && is_range(y0, y1, HIGHEST)
+}
+
 fn block_line(n: [u32; 6]) -> Result<Line, FaultKind>
     ensures { result ≡ Rattle.nav_script.specs.Forms.block_line n }
 {
     let [x0, x1, y0, y1, z0, z1] = n;
     in_limits(
-        is_range(x0, x1, LAST_COLUMN) && is_range(y0, y1, HIGHEST) && is_range(z0, z1, LAST_COLUMN),
+        is_block(n),
         Line::Add(Shape::Block {
             x0,
             x1,
@@ -133,8 +149,43 @@ fn cylinder_line(n: [u32; 5]) -> Result<Line, FaultKind>
 {
     let [cx, cz, r, y0, y1] = n;
     in_limits(
-        cx <= LAST_CENTRE && cz <= LAST_CENTRE && r <= LARGEST_RADIUS && is_range(y0, y1, HIGHEST),
+        is_cylinder(n),
         Line::Add(Shape::Cylinder { cx, cz, r, y0, y1 }),
+    )
+}
+
+fn area_block_line(area: u32, n: [u32; 6]) -> Result<Line, FaultKind>
+    ensures { result ≡ Rattle.nav_script.specs.Forms.area_block_line area n }
+{
+    let [x0, x1, y0, y1, z0, z1] = n;
+    in_limits(
+        is_range(1, area, GREATEST_AREA) && is_block(n),
+        Line::Add(Shape::AreaBlock {
+            area,
+            x0,
+            x1,
+            y0,
+            y1,
+            z0,
+            z1,
+        }),
+    )
+}
+
+fn area_cylinder_line(area: u32, n: [u32; 5]) -> Result<Line, FaultKind>
+    ensures { result ≡ Rattle.nav_script.specs.Forms.area_cylinder_line area n }
+{
+    let [cx, cz, r, y0, y1] = n;
+    in_limits(
+        is_range(1, area, GREATEST_AREA) && is_cylinder(n),
+        Line::Add(Shape::AreaCylinder {
+            area,
+            cx,
+            cz,
+            r,
+            y0,
+            y1,
+        }),
     )
 }
 
@@ -179,6 +230,18 @@ fn request_line(adds: u32, line: &[u8]) -> Option<Result<Line, FaultKind>>
     }
     let n = numbers_of::<1>(b"drop", line)?;
     Some(drop_line(adds, n[0]))
+}
+
+#[tactic(auto, unfolding(crate::specs::Forms::area_line))]
+fn area_line(line: &[u8]) -> Option<Result<Line, FaultKind>>
+    ensures { result ≡ Rattle.nav_script.specs.Forms.area_line line.now }
+{
+    let (area, rest) = number_after(b"add area", line)?;
+    if let Some(n) = numbers_of::<6>(b" block", rest) {
+        return Some(area_block_line(area, n));
+    }
+    let n = numbers_of::<5>(b" cylinder", rest)?;
+    Some(area_cylinder_line(area, n))
 }
 
 #[tactic(auto, unfolding(crate::specs::Forms::lane_line))]
@@ -233,6 +296,9 @@ pub fn read_line(way: Way, header: Header, adds: u32, line: &[u8]) -> Result<Lin
         return read;
     }
     if let Some(read) = request_line(adds, line) {
+        return read;
+    }
+    if let Some(read) = area_line(line) {
         return read;
     }
     if let Some(read) = lane_line(header.lanes, line) {

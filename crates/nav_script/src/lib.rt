@@ -7,6 +7,8 @@
 //! | `lane I` | I below LANES; the lines that follow belong to this lane, those before the first such line to lane 0 |
 //! | `add block X0 X1 Y0 Y1 Z0 Z1` | X and Z at most 1023, Y at most 8191, no range backwards |
 //! | `add cylinder CX CZ R Y0 Y1` | CX and CZ at most 2048 half cells, R at most 1023, Y0 at most Y1 at most 8191 |
+//! | `add area A block X0 X1 Y0 Y1 Z0 Z1` | A 1 to 63; else as `add block` |
+//! | `add area A cylinder CX CZ R Y0 Y1` | A 1 to 63; else as `add cylinder` |
 //! | `remove N` | any number |
 //! | `drop J` | 1 to the number of `add` lines of this lane before |
 //! | `floor X Z` | columns of at most 1023 |

@@ -10,7 +10,7 @@ pub enum Line {
     Lane(u32),
     /// A question of the mesh. Points are in sixteenths of a cell and not negative.
     Ask(Question),
-    /// A new obstacle: a block or a cylinder.
+    /// A new obstacle: a block or a cylinder that stops agents, or one that sets an area.
     Add(Shape),
     /// The obstacle with this number goes.
     Remove(u32),

@@ -12,7 +12,7 @@ use Rattle.std.proofs.lemmas.Slice.Eq.{bytes_eq-Decides}
 use Rattle.nav_base.specs.Number.{number_at, EndsNumber}
 use Rattle.nav_base.proofs.NumberLaws.{number_takes, number_again, digits_of_decimal}
 use Rattle.nav_text.specs.Lines.{is_line}
-use Rattle.nav_text.specs.Forms.{field_at, fields_of, numbers_of, line_text, ends_word, has_word, AreNumbers}
+use Rattle.nav_text.specs.Forms.{field_at, fields_of, numbers_of, number_after, line_text, ends_word, has_word, AreNumbers}
 use Rattle.nav_text.proofs.Inversions.{some_is, when, bind_some, map_some}
 
 -- the numbers of a line, each behind a space
@@ -83,6 +83,33 @@ numbers_take word count line numbers e =
       fields.1,
       fields.2,
     )
+
+-- a word, a number and what is behind it
+after_is : (first rest : List ℕ) (number : ℕ) → line_text first (number ∷ []) ++ rest ≡ first ++ 32 ∷ (decimal number ++ rest)
+after_is first rest number =
+    append_assoc first (32 ∷ (decimal number ++ [])) rest ∙ ap (λ text. first ++ 32 ∷ (text ++ rest)) (append-nil (decimal number))
+
+-- A word and a number are read as that number, where what follows ends it.
+pub number_after_at : (word : List ℕ) (number : ℕ) (rest : List ℕ) → number < 2 ^ 32 → EndsNumber rest
+    → number_after word (line_text word (number ∷ []) ++ rest) ≡ Some (number, rest)
+unfolding number_after
+number_after_at word number rest small ends =
+    let behind : List ℕ = 32 ∷ (decimal number ++ rest) in
+    let begins : starts_with nat_eq (word ++ behind) word ≡ true =
+    ap (bytes_eq word) (take_at word behind (length word) refl) ∙ (bytes_eq-Decides word word).1 refl in
+    ap (number_after word) (after_is word rest number)
+    ∙ cond-true _ _ _ begins
+    ∙ ap field_at (drop_at word behind (length word) refl)
+    ∙ field_again number rest small ends
+
+-- A line of which a number behind a word is read is the word, that number and the rest.
+pub number_after_take : (word line : List ℕ) (x : ℕ × List ℕ) → number_after word line ≡ Some x → line ≡ line_text word (x.0 ∷ []) ++ x.1
+unfolding number_after
+number_after_take word line x e =
+    let told = when (starts_with nat_eq line word) (field_at (drop (length word) line)) x e in
+    let field = field_takes (drop (length word) line) x.0 x.1 told.1 in
+    let begins : word ≡ take (length word) line = (bytes_eq-Decides word (take (length word) line)).0 told.0 in
+    sym (take-append-drop (length word) line) ∙ ap₂ (λ a b. a ++ b) (sym begins) field.0 ∙ sym (after_is word x.1 x.0)
 
 -- a line of a word and numbers has that first word
 pub has_word-numbers : (word : List ℕ) (count : ℕ) (line numbers : List ℕ) → numbers_of word (suc count) line ≡ Some numbers → has_word word line ≡ true

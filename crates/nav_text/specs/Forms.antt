@@ -26,6 +26,10 @@ fields_of (suc count) bytes = option_and_then (λ x. option_map (λ numbers. x.0
 unfoldable pub numbers_of : List ℕ → ℕ → List ℕ → Option (List ℕ)
 numbers_of word count line = if starts_with nat_eq line word then fields_of count (drop (length word) line) else None
 
+-- the number behind the word at the front of a line, and the bytes after it
+unfoldable pub number_after : List ℕ → List ℕ → Option (ℕ × List ℕ)
+number_after word line = if starts_with nat_eq line word then field_at (drop (length word) line) else None
+
 -- nothing follows, or a space
 abbrev pub ends_word : List ℕ → Bool
 ends_word [] = true

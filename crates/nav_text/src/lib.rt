@@ -8,4 +8,4 @@ mod fault;
 mod line;
 
 pub use fault::{FaultKind, TextFault};
-pub use line::{first_line, has_word, numbers_of};
+pub use line::{first_line, has_word, number_after, numbers_of};

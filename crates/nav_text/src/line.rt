@@ -2,7 +2,7 @@
 ghost use Rattle.std.specs.Prelude.{◌≡◌, ℕ, ◌++◌, ◌==◌, ◌∷◌, [], List, Some, length, MatchOption, IfSome};
 ghost use Rattle.std.specs.Option.{option_map};
 ghost use Rattle.nav_text.specs.Lines.{lines, is_ended};
-ghost use Rattle.nav_text.specs.Forms.{field_at, fields_of, numbers_of, has_word, line_text, AreNumbers};
+ghost use Rattle.nav_text.specs.Forms.{field_at, fields_of, numbers_of, number_after, has_word, line_text, AreNumbers};
 
 use memchr::memchr;
 use nav_base::number_at;
@@ -68,4 +68,12 @@ pub fn numbers_of<const COUNT: usize>(word: &[u8], line: &[u8]) -> Option<[u32; 
         → line.now ≡ line_text word.now numbers → result ≡ Some numbers }
 {
     fields_of(line.strip_prefix(word)?)
+}
+
+/// The number behind the word at the front of a line and one space, and the bytes after it. None where the line does not begin so.
+#[tactic(auto, unfolding(crate::specs::Forms::number_after))]
+pub fn number_after<'a>(word: &[u8], line: &'a [u8]) -> Option<(u32, &'a [u8])>
+    ensures { option_map (λ x. (x.0, x.1.now)) result ≡ number_after word.now line.now }
+{
+    field_at(line.strip_prefix(word)?)
 }

@@ -14,7 +14,7 @@ use std::thread::Threads;
 /// The level, the script; the live text, of which one lane leaves no choice.
 type Live = (SquareField, &'static str, &'static str);
 
-static ALONE: [Live; 4] = [
+static ALONE: [Live; 5] = [
     (ROOM, "", "history 0\nlane 0\nfinal 0 4 6\n"),
     // Four strips of four cells, of which the block cuts the second in two.
     (
@@ -26,6 +26,11 @@ static ALONE: [Live; 4] = [
         ROOM,
         "add cylinder 6 5 2 0 100\ndrop 1\nsettle\nfloor 4 4\npath 24 24 10 0 0 10\n",
         "history 2\nentry 1 0 add cylinder 6 5 2 0 100 added\nentry 2 0 remove 1 removed\nlane 0\nentry 1 added\nentry 2 removed\nsettled 2\nfloors 2 1 10 63\nnogoal 2\nfinal 2 4 6\n",
+    ),
+    (
+        ROOM,
+        "add area 20 block 2 2 0 100 2 2\nsettle\nfloor 2 2\ndrop 1\nadd area 63 cylinder 5 5 0 0 10\n",
+        "history 3\nentry 1 0 add area 20 block 2 2 0 100 2 2 added\nentry 2 0 remove 1 removed\nentry 3 0 add area 63 cylinder 5 5 0 0 10 added\nlane 0\nentry 1 added\nsettled 1\nfloors 1 1 10 20\nentry 2 removed\nentry 3 added\nfinal 3 4 6\n",
     ),
     // The add that was refused counts as the lane's second, and dropping it removes number 0.
     (

@@ -135,6 +135,67 @@ fn finds_floors(rt: HostRuntime) {
     check_plays(&rt, rt.alloc(), &FLOORS);
 }
 
+/// A field on which area 20 costs 3.
+const MUDDY: SquareField = SquareField {
+    costs: "cost 20 3\n",
+    ..ROOM
+};
+
+const MUD: &str =
+    "add area 20 block 0 5 0 100 2 2\nsettle\nfloor 2 2\npath 24 24 10 72 72 10\nremove 1\nsettle\npath 24 24 10 72 72 10\n";
+
+/// Obstacles that set an area.
+static AREAS: [Play; 7] = [
+    // The second of four strips costs three times as much while it is mud.
+    (
+        MUDDY,
+        MUD,
+        "entry 1 added\nsettled 1\nfloors 1 1 10 20\npath 1 80 0 0 3 0\nlink 0 1 16 32 80 32\nlink 0 2 16 48 80 48\nlink 0 3 16 64 80 64\nentry 2 removed\nsettled 2\npath 2 48 0 0 3 0\nlink 0 1 16 32 80 32\nlink 0 2 16 48 80 48\nlink 0 3 16 64 80 64\ndone 2 2\n",
+    ),
+    // By outlines the mud is a region between two others, whose middles are 16 and 24 away.
+    (
+        SquareField {
+            mesh: "error 49\nmesh contours\n",
+            ..MUDDY
+        },
+        MUD,
+        "entry 1 added\nsettled 1\nfloors 1 1 10 20\npath 1 72 0 0 2 0\nlink 0 1 16 32 80 32\nlink 0 2 16 48 80 48\nentry 2 removed\nsettled 2\npath 2 0 0 0 0 0\ndone 2 2\n",
+    ),
+    // The last of two areas holds, and a block takes the cell away from both.
+    (
+        ROOM,
+        "add area 20 block 2 2 0 100 2 2\nadd area 30 block 2 3 0 100 2 2\nsettle\nfloor 2 2\nremove 2\nsettle\nfloor 2 2\nadd block 2 2 0 100 2 2\nsettle\nfloor 2 2\n",
+        "entry 1 added\nentry 2 added\nsettled 2\nfloors 2 1 10 30\nentry 3 removed\nsettled 3\nfloors 3 1 10 20\nentry 4 added\nsettled 4\nfloors 4 0\ndone 4 4\n",
+    ),
+    // A cylinder over one column, and a block above its floor.
+    (
+        ROOM,
+        "add area 20 cylinder 5 5 0 0 10\nadd area 30 block 2 2 11 100 2 2\nsettle\nfloor 2 2\nfloor 3 2\n",
+        "entry 1 added\nentry 2 added\nsettled 2\nfloors 2 1 10 20\nfloors 2 1 10 63\ndone 2 2\n",
+    ),
+    // A build under another area is stale, one under the same area in the same place serves, and one in another order is stale.
+    (
+        ROOM,
+        "add area 20 block 2 2 0 100 2 2\naim\nclaim 0\ndrop 1\nadd area 21 block 2 2 0 100 2 2\naim\nsubmit 0\n",
+        "entry 1 added\naim 1\nclaim 0 tile 0\nentry 2 removed\nentry 3 added\naim 3\nsubmit 0 stale 0\ndone 0 3\n",
+    ),
+    (
+        ROOM,
+        "add area 20 block 2 2 0 100 2 2\naim\nclaim 0\ndrop 1\nadd area 20 block 2 2 0 100 2 2\naim\nsubmit 0\n",
+        "entry 1 added\naim 1\nclaim 0 tile 0\nentry 2 removed\nentry 3 added\naim 3\nsubmit 0 taken 0\ndone 0 3\n",
+    ),
+    (
+        ROOM,
+        "add area 20 block 2 2 0 100 2 2\nadd area 30 block 2 2 0 100 2 2\naim\nclaim 0\ndrop 1\nadd area 20 block 2 2 0 100 2 2\naim\nsubmit 0\n",
+        "entry 1 added\nentry 2 added\naim 2\nclaim 0 tile 0\nentry 3 removed\nentry 4 added\naim 4\nsubmit 0 stale 0\ndone 0 4\n",
+    ),
+];
+
+#[test]
+fn sets_areas(rt: HostRuntime) {
+    check_plays(&rt, rt.alloc(), &AREAS);
+}
+
 const ACROSS: &str = "floor 1 1\nfloor 0 0\npath 24 24 10 72 72 10\n";
 
 /// Walls round one column, in a tile of another side than the field.

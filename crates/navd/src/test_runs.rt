@@ -42,7 +42,7 @@ fn run_counted<R: Abort + Threads + Wait + Sync, G: Gate + Sync, L: Ledger>(
     let failing_reads = vec![in alloc; read.1].expect(rt, "memory");
     let mut source = MemorySource::new(input, read.0, failing_reads);
     let failing_writes = vec![in alloc; write.1].expect(rt, "memory");
-    let mut sink = MemorySink::with_room(alloc, write.0, 2000000, failing_writes).expect(
+    let mut sink = MemorySink::with_room(alloc, write.0, 6000000, failing_writes).expect(
         rt, "memory",
     );
     let mut steps = Steps::<L>::new(blank);

@@ -127,12 +127,12 @@ fn run_lines<R: Abort + Threads + Wait + Sync>(
 #[test]
 fn fills_a_history(rt: HostRuntime) {
     let line = "add block 0 0 0 0 0 0\n";
-    let ran = run_lines(&rt, rt.alloc(), "play", &ONE_OBSTACLE, 65537, line);
+    let ran = run_lines(&rt, rt.alloc(), "play", &ONE_OBSTACLE, 262145, line);
     check_ends(
         &rt,
         &ran,
         "entry 1 added\nentry 2 full 1\n",
-        "entry 65536 full 1\nhistory full 65536\ndone 0 65536\n",
+        "entry 262144 full 1\nhistory full 262144\ndone 0 262144\n",
     );
 }
 
@@ -142,7 +142,7 @@ type TooMany = (&'static str, u32, &'static str, &'static str);
 static TOO_MANY: [TooMany; 2] = [
     ("play", 300001, "settle\n", "fault 300046 11\n"),
     // A live run takes no more requests than a history has entries.
-    ("live", 65537, "remove 1\n", "fault 65582 11\n"),
+    ("live", 262145, "remove 1\n", "fault 262190 11\n"),
 ];
 
 fn check_too_many<R: Abort + Threads + Wait + Sync>(rt: &R, alloc: Global, rows: &[TooMany]) {

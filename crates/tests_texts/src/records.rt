@@ -44,13 +44,13 @@ static STEPS: [(StepAnswer, &str); 13] = [
         },
         "submit 10 stale 7\n",
     ),
-    (StepAnswer::Published { k: 65536 }, "published 65536\n"),
+    (StepAnswer::Published { k: 262144 }, "published 262144\n"),
     (StepAnswer::Same { k: 9 }, "same 9\n"),
     (StepAnswer::NotYet { tile: 63 }, "notyet 63\n"),
     (StepAnswer::Settled { k: 12 }, "settled 12\n"),
     (
-        StepAnswer::HistoryFull { len: 65536 },
-        "history full 65536\n",
+        StepAnswer::HistoryFull { len: 262144 },
+        "history full 262144\n",
     ),
 ];
 
@@ -76,7 +76,7 @@ fn writes_steps(rt: HostRuntime) {
 static REPLIES: [(u32, Reply); 4] = [
     (1, Reply::Added { number: 1 }),
     (2, Reply::Full { live: 1024 }),
-    (65536, Reply::Removed),
+    (262144, Reply::Removed),
     (4, Reply::Dead { number: 4294967295 }),
 ];
 
@@ -94,12 +94,12 @@ fn writes_the_other_lines(rt: HostRuntime) {
     let many_lines = TextFault::new(4294967295, FaultKind::TooManyLines);
     write_fault(&mut out, &many_lines).expect(&rt, "memory");
     write_fault(&mut out, &TextFault { line: 0, kind: 0 }).expect(&rt, "memory");
-    let wanted = "entry 1 added\nentry 2 full 1024\nentry 65536 removed\nentry 4 dead 4294967295\n\
+    let wanted = "entry 1 added\nentry 2 full 1024\nentry 262144 removed\nentry 4 dead 4294967295\n\
         done 0 4294967295\nfault 4294967295 11\nfault 0 0\n";
     check_text(&rt, out.as_slice(), wanted);
 }
 
-/// An entry with the number 65536, and its line.
+/// An entry with the number 262144, and its line.
 static ENTRIES: [(Entry, &str); 6] = [
     (
         Entry {
@@ -112,9 +112,9 @@ static ENTRIES: [(Entry, &str); 6] = [
                 z0: 41,
                 z1: 56,
             }),
-            reply: Reply::Added { number: 65536 },
+            reply: Reply::Added { number: 262144 },
         },
-        "entry 65536 0 add block 40 55 0 100 41 56 added\n",
+        "entry 262144 0 add block 40 55 0 100 41 56 added\n",
     ),
     (
         Entry {
@@ -128,7 +128,7 @@ static ENTRIES: [(Entry, &str); 6] = [
             }),
             reply: Reply::Full { live: 1024 },
         },
-        "entry 65536 15 add cylinder 2048 0 1023 1 8191 full 1024\n",
+        "entry 262144 15 add cylinder 2048 0 1023 1 8191 full 1024\n",
     ),
     (
         Entry {
@@ -136,7 +136,7 @@ static ENTRIES: [(Entry, &str); 6] = [
             request: Request::Remove(7),
             reply: Reply::Removed,
         },
-        "entry 65536 4294967295 remove 7 removed\n",
+        "entry 262144 4294967295 remove 7 removed\n",
     ),
     (
         Entry {
@@ -144,7 +144,7 @@ static ENTRIES: [(Entry, &str); 6] = [
             request: Request::Remove(4294967295),
             reply: Reply::Dead { number: 4294967295 },
         },
-        "entry 65536 2 remove 4294967295 dead 4294967295\n",
+        "entry 262144 2 remove 4294967295 dead 4294967295\n",
     ),
     (
         Entry {
@@ -160,7 +160,7 @@ static ENTRIES: [(Entry, &str); 6] = [
             }),
             reply: Reply::Added { number: 8 },
         },
-        "entry 65536 1 add area 5 block 1 2 3 4 6 7 added\n",
+        "entry 262144 1 add area 5 block 1 2 3 4 6 7 added\n",
     ),
     (
         Entry {
@@ -175,14 +175,14 @@ static ENTRIES: [(Entry, &str); 6] = [
             }),
             reply: Reply::Added { number: 8 },
         },
-        "entry 65536 1 add area 63 cylinder 1 2 3 4 5 added\n",
+        "entry 262144 1 add area 63 cylinder 1 2 3 4 5 added\n",
     ),
 ];
 
 fn check_entries(rt: &impl Abort, alloc: Global, entries: &[(Entry, &str)]) {
     for (entry, wanted) in entries {
         let mut out = Vec::new(alloc);
-        write_entry(&mut out, 65536, entry).expect(rt, "memory");
+        write_entry(&mut out, 262144, entry).expect(rt, "memory");
         check_text(rt, out.as_slice(), wanted);
     }
 }
@@ -195,10 +195,10 @@ fn writes_entries(rt: HostRuntime) {
 #[test]
 fn writes_the_frame_of_a_live_text(rt: HostRuntime) {
     let mut out = Vec::new(rt.alloc());
-    write_history(&mut out, 65536).expect(&rt, "memory");
+    write_history(&mut out, 262144).expect(&rt, "memory");
     write_lane(&mut out, 15).expect(&rt, "memory");
     write_final(&mut out, 1, 13, 4294967295).expect(&rt, "memory");
-    let wanted = "history 65536\nlane 15\nfinal 1 13 4294967295\n";
+    let wanted = "history 262144\nlane 15\nfinal 1 13 4294967295\n";
     check_text(&rt, out.as_slice(), wanted);
 }
 

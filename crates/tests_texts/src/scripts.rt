@@ -39,7 +39,7 @@ const TO: Point = Point { x: 7, z: 16384 };
 type Third = (&'static str, Way, Told);
 
 /// A line of each form, and what it says.
-static RIGHT_LINES: [Third; 14] = [
+static RIGHT_LINES: [Third; 16] = [
     (
         "floor 1023 0",
         Way::Play,
@@ -100,6 +100,37 @@ static RIGHT_LINES: [Third; 14] = [
         ),
     ),
     (
+        "add area 63 block 0 1023 7 8191 5 6",
+        Way::Play,
+        Told::Last(
+            2,
+            Line::Add(Shape::AreaBlock {
+                area: 63,
+                x0: 0,
+                x1: 1023,
+                y0: 7,
+                y1: 8191,
+                z0: 5,
+                z1: 6,
+            }),
+        ),
+    ),
+    (
+        "add area 1 cylinder 2048 1 1023 8190 8191",
+        Way::Live,
+        Told::Last(
+            2,
+            Line::Add(Shape::AreaCylinder {
+                area: 1,
+                cx: 2048,
+                cz: 1,
+                r: 1023,
+                y0: 8190,
+                y1: 8191,
+            }),
+        ),
+    ),
+    (
         "remove 4294967295",
         Way::Play,
         Told::Last(2, Line::Remove(4294967295)),
@@ -132,7 +163,7 @@ fn reads_right_lines(rt: HostRuntime) {
 }
 
 /// Lines with each fault that they can have.
-static WRONG_LINES: [Third; 61] = [
+static WRONG_LINES: [Third; 76] = [
     ("floor 0 1024", Way::Play, Told::Fault(47, 2)),
     ("floor 1024 0", Way::Live, Told::Fault(47, 2)),
     ("floor 0", Way::Play, Told::Fault(47, 8)),
@@ -166,10 +197,65 @@ static WRONG_LINES: [Third; 61] = [
     ("add block 0 0 0 0 0 1024", Way::Play, Told::Fault(47, 2)),
     ("add block 0 0 0 0 0", Way::Play, Told::Fault(47, 8)),
     (
-        "add area 1 block 0 0 0 0 0 0",
+        "add area 0 block 0 0 0 0 0 0",
+        Way::Play,
+        Told::Fault(47, 2),
+    ),
+    (
+        "add area 64 block 0 0 0 0 0 0",
+        Way::Live,
+        Told::Fault(47, 2),
+    ),
+    (
+        "add area 4294967295 cylinder 0 0 0 0 0",
+        Way::Play,
+        Told::Fault(47, 2),
+    ),
+    (
+        "add area 1 block 0 0 0 0 1 0",
+        Way::Play,
+        Told::Fault(47, 2),
+    ),
+    (
+        "add area 1 block 0 0 0 8192 0 0",
+        Way::Play,
+        Told::Fault(47, 2),
+    ),
+    (
+        "add area 1 cylinder 0 0 1024 0 0",
+        Way::Play,
+        Told::Fault(47, 2),
+    ),
+    ("add area", Way::Play, Told::Fault(47, 8)),
+    ("add area block 0 0 0 0 0 0", Way::Play, Told::Fault(47, 8)),
+    ("add area 1 block 0 0 0 0 0", Way::Play, Told::Fault(47, 8)),
+    ("add area 64 block 0 0 0 0 0", Way::Play, Told::Fault(47, 8)),
+    (
+        "add area 20 blocks 0 0 0 0 0 0",
         Way::Play,
         Told::Fault(47, 8),
     ),
+    (
+        "add area 20  block 0 0 0 0 0 0",
+        Way::Play,
+        Told::Fault(47, 8),
+    ),
+    (
+        "add area 020 block 0 0 0 0 0 0",
+        Way::Play,
+        Told::Fault(47, 8),
+    ),
+    (
+        "add area 4294967296 cylinder 0 0 0 0 0",
+        Way::Play,
+        Told::Fault(47, 8),
+    ),
+    (
+        "add area 1 cylinder 0 0 0 0 0 0",
+        Way::Live,
+        Told::Fault(47, 8),
+    ),
+    ("add area 1block 0 0 0 0 0 0", Way::Play, Told::Fault(47, 8)),
     ("add cylinder 2049 0 0 0 0", Way::Play, Told::Fault(47, 2)),
     ("add cylinder 0 2049 0 0 0", Way::Play, Told::Fault(47, 2)),
     ("add cylinder 0 0 1024 0 0", Way::Play, Told::Fault(47, 2)),
@@ -282,52 +368,52 @@ static LONG_TEXTS: [(&str, u32, Way, &str, Told); 10] = [
     ),
     (
         "remove 0\n",
-        65535,
+        262143,
         Way::Live,
         "remove 1\n",
-        Told::Last(65536, Line::Remove(1)),
+        Told::Last(262144, Line::Remove(1)),
     ),
     (
         "remove 0\n",
-        65536,
+        262144,
         Way::Live,
         "settle\n",
-        Told::Last(65537, Line::Settle),
+        Told::Last(262145, Line::Settle),
     ),
     (
         "remove 0\n",
-        65536,
+        262144,
         Way::Live,
         "drop",
-        Told::Fault(65582, 7),
+        Told::Fault(262190, 7),
     ),
     (
         "remove 0\n",
-        65536,
+        262144,
         Way::Live,
         "drop\n",
-        Told::Fault(65582, 11),
+        Told::Fault(262190, 11),
     ),
     (
         "remove 0\n",
-        65536,
+        262144,
         Way::Live,
         "add area\n",
-        Told::Fault(65582, 11),
+        Told::Fault(262190, 11),
     ),
     (
         "remove 0\n",
-        65536,
+        262144,
         Way::Live,
         "removes 0\n",
-        Told::Fault(65582, 8),
+        Told::Fault(262190, 8),
     ),
     (
         "remove 0\n",
-        65536,
+        262144,
         Way::Play,
         "remove 1\n",
-        Told::Last(65537, Line::Remove(1)),
+        Told::Last(262145, Line::Remove(1)),
     ),
 ];
 

@@ -3,8 +3,8 @@ use Rattle.std.specs.Arc.{arc_value}
 use Rattle.std.proofs.lemmas.List.{length_push}
 use Rattle.nav_ground.specs.declared.history.Entry.{Entry}
 use Rattle.nav_ground.specs.declared.history.Reply.{Reply}
-use Rattle.nav_ground.specs.declared.history.TheConstants.{HISTORY_LIMIT}
 use Rattle.nav_ground.specs.declared.setting.Setting.{Setting}
+use Rattle.nav_ground.specs.History.{history_limit}
 use Rattle.nav_ground.specs.Touching.{is_touching}
 use Rattle.nav_ground.proofs.AliveLaws.{shapes_alive-append}
 use Rattle.nav_desk.proofs.FlagLaws.{unset}
@@ -26,7 +26,7 @@ invariant_of-self c =
     let limit : ℕ = setting.limit in
     let kept = c.self.invariant in
     let len : c.length-len.result ≡ length history = rw (← c.self.view_is) at c.length-len.ensures in
-    let room : length history < HISTORY_LIMIT = omega (arith, kept.history.few, len, c.if-len-eq-HISTORY_LIMIT.false) in
+    let room : length history < history_limit = omega (arith, kept.history.few, len, c.if-len-eq-HISTORY_LIMIT.false) in
     let answered = rw c.deref.ensures at c.answer-answered.ensures in
     let marked = rw c.deref-2.ensures at c.mark_changed.ensures in
     let request = request_kept limit c.args.lane (c.length-len.result + 1) history c.self.inside.live.items c.args.request c.answer-answered.result.reply
@@ -56,7 +56,7 @@ returns-clause-reply c =
     let history : List Entry = c.self.inside.entries.items in
     let limit : ℕ = (arc_value c.self.inside.level).setting.limit in
     let len : c.length-len.result ≡ length history = rw (← c.self.view_is) at c.length-len.ensures in
-    let room : length history < HISTORY_LIMIT = omega (arith, c.self.invariant.history.few, len, c.if-len-eq-HISTORY_LIMIT.false) in
+    let room : length history < history_limit = omega (arith, c.self.invariant.history.few, len, c.if-len-eq-HISTORY_LIMIT.false) in
     let answered = rw c.deref.ensures at c.answer-answered.ensures in
     let kept = request_kept limit c.args.lane (c.length-len.result + 1) history c.self.inside.live.items c.args.request c.answer-answered.result.reply
     c.self.invariant.history c.self.invariant.table room c.requires (ap (λ n. n + 1) len) answered.reply in
@@ -72,12 +72,12 @@ returns-clause-rules c = is_book _ (invariant_of-self c)
 
 pub returns-clause-state : goal.returns-clause-state
 returns-clause-state c =
-    let room = subst (λ (n : ℕ). n ≢ HISTORY_LIMIT) c.length-len.ensures c.if-len-eq-HISTORY_LIMIT.false in
+    let room = subst (λ (n : ℕ). n ≢ history_limit) c.length-len.ensures c.if-len-eq-HISTORY_LIMIT.false in
     returns-clause-appended c ∙ (room_step c.args.self.now c.args.lane c.args.request room).0
 
 pub returns-clause-answer : goal.returns-clause-answer
 returns-clause-answer c =
-    let room = subst (λ (n : ℕ). n ≢ HISTORY_LIMIT) c.length-len.ensures c.if-len-eq-HISTORY_LIMIT.false in
+    let room = subst (λ (n : ℕ). n ≢ history_limit) c.length-len.ensures c.if-len-eq-HISTORY_LIMIT.false in
     ap (λ (n : ℕ). Ok (n + 1, c.answer-answered.result.reply)) c.length-len.ensures
     ∙ ap (λ (reply : Reply). Ok (length c.args.self.now.history + 1, reply)) (returns-clause-reply c)
     ∙ (room_step c.args.self.now c.args.lane c.args.request room).1
