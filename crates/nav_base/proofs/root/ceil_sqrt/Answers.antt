@@ -16,3 +16,6 @@ returns-then-near-n-clause-value c = ceil_sqrt_of-only c.args.n (c.near_root-nea
 
 pub returns-else-near-n-clause-value : goal.returns-else-near-n-clause-value
 returns-else-near-n-clause-value c = ceil_sqrt_of-only c.args.n c.near_root-near.result (IsLeastRoot-near_enough c.args.n c.near_root-near.result c.near_root-near.ensures.near c.if-near-n.false)
+
+pub returns-then-is_least_root-clause-value : goal.returns-then-is_least_root-clause-value
+returns-then-is_least_root-clause-value c = ceil_sqrt_of-only c.args.n c.guessed_root-guess.result (c.is_least_root.ensures cc)
