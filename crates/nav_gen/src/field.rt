@@ -1,6 +1,6 @@
 //! The text of a made level.
 ghost use Rattle.std.specs.Prelude.{◌≡◌, ◌*◌, ◌++◌, map, OnOk};
-ghost use Rattle.nav_text.specs.Lines.{ended, text_of};
+ghost use Rattle.nav_text.specs.Lines.{text_of};
 ghost use Rattle.span_text.specs.FieldText.{header_lines, span_text};
 ghost use Rattle.nav_gen.specs.Draws.{state_after};
 ghost use Rattle.nav_gen.specs.MadeField.{IsMadeSize, made_setting, made_spans};
@@ -9,6 +9,7 @@ ghost use Rattle.nav_gen.specs.MadeText.{made_field_text};
 use crate::draws::Draws;
 use crate::line::push_line;
 use nav_ground::Span;
+use span_text::write_span;
 use std::alloc::AllocError;
 
 /// The lines of the setting behind its size.
@@ -41,7 +42,7 @@ fn push_spans(out: &mut Vec<u8>, draws: &mut Draws, size: u32) -> Result<(), All
 {
     for column in 0..size * size {
         let span = made_span(size, column, draws.next());
-        push_span(out, &span)?;
+        write_span(out, &span)?;
     }
     Ok(())
 }
@@ -63,14 +64,4 @@ fn made_span(size: u32, column: u32, drawn: u32) -> Span
         top,
         area,
     }
-}
-
-fn push_span(out: &mut Vec<u8>, span: &Span) -> Result<(), AllocError>
-    ensures { OnOk result (out.new.items ≡ out.old.items ++ ended (span_text span.now)) }
-{
-    push_line(
-        out,
-        b"span",
-        &[span.x, span.z, span.bottom, span.top, span.area],
-    )
 }

@@ -1,19 +1,9 @@
--- What a call appends to the bytes that are written so far.
-use Rattle.std.specs.Prelude.{◌≡◌, ℕ, ◌+◌, ◌≤◌, List, [], ◌∷◌, ◌++◌, length, take, codes, decimal, Option, Some, None, Result, IsOk, OnOk, OnErr, vec_len, vec_capacity}
+-- What is written of the fields of a line.
+use Rattle.std.specs.Prelude.{ℕ, List, [], ◌∷◌, ◌++◌, codes, decimal, Option, Some, None}
 use Rattle.std.specs.Fmt.{signed_decimal}
-use Rattle.std.specs.declared.alloc.Global.{Global}
-use Rattle.std.specs.declared.vec.Vec.{Vec}
 use Rattle.nav_record.specs.Texts.{poly_text, point_text, side_text}
 use Rattle.nav_record.specs.declared.append.Field.{Field}
 use Rattle.nav_record.specs.declared.append.Field.TheVariants as fields
-
--- all of the text is appended, or, where memory is refused, the bytes from before still stand in front; where there is room for all of it, it
--- is appended; and no room is lost
-pub record Appends {T E : Type 0} (old new : Vec ℕ Global) (result : Result T E) (text : List ℕ) : Type 0 where
-  pub ok : OnOk result (new.items ≡ old.items ++ text)
-  pub err : OnErr result (take (vec_len old) new.items ≡ old.items)
-  pub room : vec_len old + length text ≤ vec_capacity old → IsOk result
-  pub capacity : vec_capacity old ≤ vec_capacity new
 
 -- what is written of a field
 abbrev pub value_text : Field → List ℕ

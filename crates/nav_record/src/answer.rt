@@ -1,6 +1,6 @@
 //! Answers to questions.
 ghost use Rattle.std.specs.Prelude.{◌≡◌, ◌+◌, ◌≤◌, ◌++◌, length, IsOk, OnOk, OnErr, vec_len, vec_capacity};
-ghost use Rattle.nav_record.specs.Appending.{Appends};
+ghost use Rattle.nav_text.specs.Appends.{Appends};
 ghost use Rattle.nav_record.specs.OneLine.{HasLines};
 ghost use Rattle.nav_record.specs.Texts.{answer_text, line_count};
 

@@ -1,11 +1,12 @@
 //! Words with numbers and other fields behind them. `append` appends all or nothing; the others may leave a part where memory is refused.
 ghost use Rattle.std.specs.Prelude.{◌≡◌, ◌+◌, ◌≤◌, ◌∷◌, ◌++◌, codes, length, IsOk, OnOk, OnErr, vec_len, vec_capacity};
-ghost use Rattle.nav_record.specs.Appending.{Appends, field_text, fields_text};
-ghost use Rattle.nav_text.specs.Forms.{line_text};
+ghost use Rattle.nav_record.specs.Appending.{field_text, fields_text};
+ghost use Rattle.nav_text.specs.Appends.{Appends};
 
-use itoa::{Buffer, Integer};
+use itoa::Integer;
 use mesh_types::{PolyRef, Side};
 use nav_base::Point;
+use nav_text::append_number;
 use std::alloc::AllocError;
 
 /// What a line tells behind its word.
@@ -84,23 +85,4 @@ fn append_pair<I: Integer>(out: &mut Vec<u8>, first: I, second: I) -> Result<(),
 {
     append_number(out, first)?;
     append_number(out, second)
-}
-
-/// Appends a space and a number.
-fn append_number<I: Integer>(out: &mut Vec<u8>, number: I) -> Result<(), AllocError>
-    ensures { Appends out.old out.new result (32 ∷ I.text number) }
-{
-    out.push(b' ')?;
-    out.extend_from_slice(Buffer::new().format(number).as_bytes())
-}
-
-/// Appends a word and numbers, each behind a space. Where memory is refused a part may stand at the end.
-pub fn append_line(out: &mut Vec<u8>, word: &[u8], numbers: &[u32]) -> Result<(), AllocError>
-    ensures { Appends out.old out.new result (line_text word.now numbers.now) }
-{
-    out.extend_from_slice(word)?;
-    for number in numbers {
-        append_number(out, *number)?;
-    }
-    Ok(())
 }

@@ -1,13 +1,14 @@
 //! Entries of the history.
 ghost use Rattle.std.specs.Prelude.{◌≡◌, ◌+◌, ◌≤◌, [], ◌∷◌, ◌++◌, length, codes, IsOk, OnOk, OnErr, vec_len, vec_capacity};
-ghost use Rattle.nav_record.specs.Appending.{Appends};
+ghost use Rattle.nav_text.specs.Appends.{Appends};
 ghost use Rattle.nav_record.specs.OneLine.{IsOneLine};
 ghost use Rattle.nav_record.specs.Texts.{entry_text, outcome_text, request_spelling};
 ghost use Rattle.nav_text.specs.Forms.{line_text};
 ghost use Rattle.nav_script.specs.Spelling.{shape_spelling};
 
-use crate::append::{Field, append_line, append_parts};
+use crate::append::{Field, append_parts};
 use nav_ground::{Entry, Reply, Request, Shape};
+use nav_text::append_line;
 use std::alloc::AllocError;
 
 /// Appends the line of an entry of the history: its number, the lane that made the request, the request, and what became of it.

@@ -1,5 +1,5 @@
 //! The floors of a column.
-ghost use Rattle.nav_record.specs.Appending.{Appends};
+ghost use Rattle.nav_text.specs.Appends.{Appends};
 ghost use Rattle.nav_record.specs.Texts.{floors_text};
 
 use crate::append::{Field, append_fields};

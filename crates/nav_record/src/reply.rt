@@ -1,6 +1,6 @@
 //! What became of a request.
 ghost use Rattle.std.specs.Prelude.{◌≡◌, ◌+◌, ◌≤◌, ◌++◌, length, IsOk, OnOk, OnErr, vec_len, vec_capacity};
-ghost use Rattle.nav_record.specs.Appending.{Appends};
+ghost use Rattle.nav_text.specs.Appends.{Appends};
 ghost use Rattle.nav_record.specs.OneLine.{IsOneLine};
 ghost use Rattle.nav_record.specs.Texts.{reply_text};
 

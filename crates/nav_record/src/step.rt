@@ -1,6 +1,7 @@
 //! Steps of builders and of the book, and their lines.
 ghost use Rattle.std.specs.Prelude.{◌≡◌, ◌+◌, ◌≤◌, ◌++◌, length, IsOk, OnOk, OnErr, vec_len, vec_capacity};
-ghost use Rattle.nav_record.specs.Appending.{Appends, phrase_text};
+ghost use Rattle.nav_record.specs.Appending.{phrase_text};
+ghost use Rattle.nav_text.specs.Appends.{Appends};
 ghost use Rattle.nav_record.specs.OneLine.{IsOneLine};
 ghost use Rattle.nav_record.specs.Texts.{step_text};
 

@@ -2,5 +2,4 @@ pub mod LineLaws
 pub mod LaneLaws
 pub mod ReaderLaws
 pub mod SpellingLaws
-pub mod TextLaws
 pub mod ScriptLaws

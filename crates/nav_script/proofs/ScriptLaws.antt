@@ -33,7 +33,7 @@ use Rattle.nav_script.specs.Reading.{Place, AtScript, AtLines, in_counts, header
 use Rattle.nav_script.proofs.LineLaws.{line_right, two}
 use Rattle.nav_script.proofs.SpellingLaws.{begins_spelled, line_again, line_plain}
 use Rattle.nav_script.proofs.LaneLaws.{adds_at_most}
-use Rattle.nav_script.proofs.TextLaws.{text_ended, whole_text}
+use Rattle.nav_text.proofs.TextLaws.{text_ended, whole_text}
 
 abbrev script_at : ℕ → ℕ → List Line → Script
 script_at lanes workers those = record { lanes = lanes; workers = workers; lines = those }

@@ -3,7 +3,7 @@ ghost use Rattle.std.specs.Prelude.{◌≡◌};
 ghost use Rattle.nav_text.specs.Faults.{kind_number, fault_at};
 
 /// What is wrong with a line. Where several tests fail on one line, the kind is that of the first in the order Unfinished,
-/// TooMany or TooManyLines, Form or Line, Range, Lane, Climb, Order, Overlap, BeforeAdd.
+/// TooMany, TooManyTriangles or TooManyLines, Form or Line, Range, Lane, Climb, Order, Overlap, BeforeAdd.
 #[derive(Clone, Copy, PartialEq, Eq, Debug)]
 pub enum FaultKind {
     /// A line of the field, or the `script` line, is not of a form that is allowed at its place.
@@ -28,10 +28,12 @@ pub enum FaultKind {
     BeforeAdd,
     /// More lines after `script` than are allowed.
     TooManyLines,
+    /// A line whose first word is `tri`, after 100000 triangles.
+    TooManyTriangles,
 }
 
 impl FaultKind {
-    /// The kind's number in fault texts, 1 to 11 in the order in which the kinds are declared.
+    /// The kind's number in fault texts.
     pub fn number(self) -> u32
         ensures { result ≡ kind_number self }
     {
@@ -47,6 +49,7 @@ impl FaultKind {
             FaultKind::Lane => 9,
             FaultKind::BeforeAdd => 10,
             FaultKind::TooManyLines => 11,
+            FaultKind::TooManyTriangles => 13,
         }
     }
 }

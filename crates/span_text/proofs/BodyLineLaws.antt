@@ -1,7 +1,7 @@
 -- The laws of the lines behind the header: what is read is spelled so, and what is spelled so is read.
-use Rattle.std.proofs.Common.{◌≢◌, ◌≡◌, ℕ, ◌-◌, ◌<◌, ◌≤◌, ◌⊎◌, false, cond, not, ◌||◌, ◌&&◌, ◌==◌, nat_lt, nat_le, bytes_eq, List, [], ◌∷◌, length, slice_index, slice_get, codes, Option, Some, None, refl, ap, ap₂, ◌∙◌, inl, inr, ⊎_elim, arith}
+use Rattle.std.proofs.Common.{◌≢◌, ◌≡◌, ℕ, ◌-◌, ◌<◌, ◌≤◌, ◌⊎◌, false, cond, not, ◌||◌, ◌&&◌, ◌==◌, nat_lt, nat_le, bytes_eq, List, [], ◌∷◌, length, slice_index, slice_get, codes, Option, Some, None, refl, ap, ap₂, subst, ◌∙◌, inl, inr, ⊎_elim, arith}
 use Rattle.std.specs.Prelude.{⊤}
-use Rattle.std.proofs.lemmas.Bool.{and_from, eq-eqb, or_parts, and_right, cond_both, cond-false, ltb-false, leb-false, cases_order, ne_eqb}
+use Rattle.std.proofs.lemmas.Bool.{and_from, eq-eqb, or_parts, and_right, cond_both, cond-true, cond-false, ltb-false, leb-false, cases_order, ne_eqb}
 use Rattle.std.proofs.lemmas.Bool.Decides.{nat_tests}
 use Rattle.std.proofs.lemmas.Slice.Eq.{bytes_eq-Decides}
 use Rattle.nav_ground.specs.declared.field.Span.{Span}
@@ -14,7 +14,7 @@ use Rattle.span_text.specs.declared.body.BodyLine.{BodyLine}
 use Rattle.span_text.specs.declared.body.BodyLine.TheVariants.{Cost, Spans, End, Fails}
 use Rattle.span_text.specs.FieldText.{span_text}
 use Rattle.span_text.specs.Header.{is_in}
-use Rattle.span_text.specs.Body.{cost_in, span_of, is_span, is_column_before, is_column_of, span_after, span_in, other_line, span_or_other, body_line}
+use Rattle.span_text.specs.Body.{cost_in, span_of, is_span, is_column_before, is_column_of, span_after, span_in, other_line, header_line, span_or_other, body_line}
 
 -- a span comes after the last one, where there is one
 abbrev pub IsAfter : Option Span → Span → Type 0
@@ -35,7 +35,7 @@ Says width depth before count last line (Fails kind) = ⊤
 in_range : (low high n : ℕ) → not (is_in low high n) ≡ false → (low ≤ n) × (n ≤ high)
 in_range low high n h = grind (arith, nat_tests)
 
-cost_says : (width depth before count : ℕ) (last : Option Span) (line : List ℕ) → count ≡ 0 → Says width depth before count last line (cost_in before (numbers_of (codes "cost") 2 line))
+pub cost_says : (width depth before count : ℕ) (last : Option Span) (line : List ℕ) → count ≡ 0 → Says width depth before count last line (cost_in before (numbers_of (codes "cost") 2 line))
 cost_says width depth before count last line none = of_numbers (numbers_of (codes "cost") 2 line) refl
   where
     of_numbers : (numbers : Option (List ℕ)) → numbers_of (codes "cost") 2 line ≡ numbers → Says width depth before count last line (cost_in before numbers)
@@ -137,11 +137,10 @@ pub end_again : (width depth before : ℕ) (spans : List Span) → body_line wid
 unfolding body_line other_line numbers_of
 end_again width depth before spans = cond-false (length spans == 2000000 && false) (Fails TooMany) End (and_right (length spans == 2000000) false refl)
 
--- A cost line before all spans is read as that cost.
-pub cost_again : (width depth before area cost : ℕ) → before < area → area ≤ 63 → 1 ≤ cost → cost ≤ 1000
-    → body_line width depth before [] (line_text (codes "cost") (area ∷ cost ∷ [])) ≡ Cost area cost
-unfolding body_line other_line numbers_of
-cost_again width depth before area cost further most least few =
+-- A cost line is read as that cost.
+pub cost_in_again : (before area cost : ℕ) → before < area → area ≤ 63 → 1 ≤ cost → cost ≤ 1000
+    → cost_in before (numbers_of (codes "cost") 2 (line_text (codes "cost") (area ∷ cost ∷ []))) ≡ Cost area cost
+cost_in_again before area cost further most least few =
     ap (cost_in before) (numbers_again (codes "cost") (area ∷ cost ∷ []) (omega arith, (omega arith, tt)))
     ∙ ap₂ (λ a b. cond a (Fails Range) (cond b (Fails Order) (Cost area cost))) (in_limits area cost (omega arith) most least few) (not_behind before area further)
   where
@@ -150,6 +149,60 @@ cost_again width depth before area cost further most least few =
 
     not_behind : (before area : ℕ) → before < area → nat_le area before ≡ false
     not_behind before area further = grind (arith, nat_tests)
+
+-- The same before all spans.
+pub cost_again : (width depth before area cost : ℕ) → before < area → area ≤ 63 → 1 ≤ cost → cost ≤ 1000
+    → body_line width depth before [] (line_text (codes "cost") (area ∷ cost ∷ [])) ≡ Cost area cost
+unfolding body_line other_line numbers_of
+cost_again width depth before area cost further most least few = cost_in_again before area cost further most least few
+
+-- a line behind the seven lines of a header is a cost, or its first word is another, or it fails
+abbrev pub HeaderSays : (before : ℕ) (line : List ℕ) → BodyLine → Type 0
+HeaderSays before line (Cost area cost) = (line ≡ line_text (codes "cost") (area ∷ cost ∷ [])) × (before < area) × (area ≤ 63) × (1 ≤ cost) × (cost ≤ 1000)
+HeaderSays before line (Spans span) = ⊥
+HeaderSays before line End = has_word (codes "cost") line ≡ false
+HeaderSays before line (Fails kind) = ⊤
+
+header_cost : (before : ℕ) (line : List ℕ) → HeaderSays before line (cost_in before (numbers_of (codes "cost") 2 line))
+header_cost before line = of_numbers (numbers_of (codes "cost") 2 line) refl
+  where
+    joined : (told : BodyLine) → told ≡ Fails Order ⊎ (told ≡ Fails Range ⊎ ((area : ℕ) × (cost : ℕ) × (told ≡ Cost area cost))) → Says 0 0 before 0 None line told → HeaderSays before line told
+    joined (Cost area cost) kind says = (says.1, says.2, says.3, says.4, says.5)
+    joined (Spans span) kind says = elim kind [ inl a ↦ absurd cc | inr (inl b) ↦ absurd cc | inr (inr c) ↦ (let e = c.2 in absurd cc) ]
+    joined End kind says = elim kind [ inl a ↦ absurd cc | inr (inl b) ↦ absurd cc | inr (inr c) ↦ (let e = c.2 in absurd cc) ]
+    joined (Fails kind) which says = tt
+
+    of_numbers : (numbers : Option (List ℕ)) → numbers_of (codes "cost") 2 line ≡ numbers → HeaderSays before line (cost_in before numbers)
+    of_numbers None is = tt
+    of_numbers (Some numbers) is =
+        let told = cost_in before (Some numbers) in
+        let said = subst (λ o. Says 0 0 before 0 None line (cost_in before o)) is (cost_says 0 0 before 0 None line refl) in
+        joined told
+        (cond_both (not (is_in 1 63 (slice_index numbers 0)) || not (is_in 1 1000 (slice_index numbers 1))) (Fails Range) _
+        (λ t. t ≡ Fails Order ⊎ (t ≡ Fails Range ⊎ ((area : ℕ) × (cost : ℕ) × (t ≡ Cost area cost)))) (λ bad. inr (inl refl))
+        (λ good. cond_both (nat_le (slice_index numbers 0) before) (Fails Order) (Cost (slice_index numbers 0) (slice_index numbers 1))
+        (λ t. t ≡ Fails Order ⊎ (t ≡ Fails Range ⊎ ((area : ℕ) × (cost : ℕ) × (t ≡ Cost area cost)))) (λ behind. inl refl)
+        (λ further. inr (inr (slice_index numbers 0, slice_index numbers 1, refl)))))
+        said
+
+pub header_says : (before : ℕ) (line : List ℕ) → HeaderSays before line (header_line before line)
+unfolding header_line
+header_says before line =
+    cond_both (has_word (codes "cost") line) (cost_in before (numbers_of (codes "cost") 2 line)) End (HeaderSays before line) (λ cost. header_cost before line) (λ other. other)
+
+-- A cost line is read as that cost in a header, and a line with another first word as its end.
+pub header_cost_again : (before area cost : ℕ) → before < area → area ≤ 63 → 1 ≤ cost → cost ≤ 1000
+    → header_line before (line_text (codes "cost") (area ∷ cost ∷ [])) ≡ Cost area cost
+unfolding header_line
+header_cost_again before area cost further most least few =
+    let numbers = area ∷ cost ∷ [] in
+    let again = numbers_again (codes "cost") numbers (omega arith, (omega arith, tt)) in
+    cond-true (has_word (codes "cost") (line_text (codes "cost") numbers)) (cost_in before (numbers_of (codes "cost") 2 (line_text (codes "cost") numbers))) End
+    (has_word-numbers (codes "cost") 1 (line_text (codes "cost") numbers) numbers again) ∙ cost_in_again before area cost further most least few
+
+pub header_end_again : (before : ℕ) (line : List ℕ) → has_word (codes "cost") line ≡ false → header_line before line ≡ End
+unfolding header_line
+header_end_again before line other = cond-false (has_word (codes "cost") line) (cost_in before (numbers_of (codes "cost") 2 line)) End other
 
 tests_from_after : (z x bottom last_z last_x top : ℕ) → (last_z < z) ⊎ ((last_z ≡ z) × ((last_x < x) ⊎ ((last_x ≡ x) × (top ≤ bottom))))
     → ((nat_lt z last_z || z == last_z && nat_lt x last_x) ≡ false) × (((z == last_z && x == last_x) && nat_lt bottom top) ≡ false)

@@ -1,5 +1,6 @@
 -- What is read of a field text is spelled so: the lines that lead to a place say what the place has.
 use Rattle.std.proofs.Common.{zero, suc, length-set, ◌≡◌, ℕ, ◌+◌, ◌-◌, ◌<◌, ◌≤◌, true, false, List, [], ◌∷◌, ◌++◌, length, take, get_or, map, replicate, set, codes, Some, Result, Ok, Err, All, AllPairs, IsTrue, sym, refl, ap, ap₂, ◌∙◌, subst, ⊎_elim, arith, append_assoc, append-nil}
+use Rattle.std.specs.Prelude.{⊤}
 use Rattle.std.specs.List.{list_all}
 use Rattle.std.proofs.lemmas.Bool.{and_from, and_parts, cases_lt}
 use Rattle.std.proofs.lemmas.Bool.Decides.{nat_tests}
@@ -17,14 +18,14 @@ use Rattle.nav_ground.specs.Fields.{IsSpan, IsSpanBefore, IsField}
 use Rattle.nav_text.specs.declared.fault.FaultKind.{FaultKind}
 use Rattle.nav_text.specs.Forms.{line_text}
 use Rattle.nav_text.specs.Lines.{lines, text_of}
-use Rattle.nav_text.specs.Reading.{Goes, Ends}
+use Rattle.nav_text.specs.Reading.{Verdict, Goes, Ends}
 use Rattle.nav_text.proofs.ReadingLaws.{EndsAt, read_takes, leads_keep}
 use Rattle.span_text.specs.declared.body.BodyLine.{BodyLine}
 use Rattle.span_text.specs.declared.body.BodyLine.TheVariants as said
 use Rattle.span_text.specs.FieldText.{Cost, RiseAbove, with_cost, costs_of, mesh_text, header_lines, cost_text, span_text, IsFieldText}
 use Rattle.span_text.specs.Header.{nav_line, size_line, limited, agent_line, mesh_line}
 use Rattle.span_text.specs.Body.{body_line}
-use Rattle.span_text.specs.FieldFormat.{Place, AtNav, AtSize, AtTile, AtAgent, AtError, AtMesh, AtLimit, AtBody, Value, plain_setting, lead, set_cost, field_with, body_verdict, verdict, field_format, field_of}
+use Rattle.span_text.specs.FieldFormat.{Place, AtNav, AtSize, AtTile, AtAgent, AtError, AtMesh, AtLimit, AtBody, Value, plain_setting, lead, set_cost, field_with, body_verdict, BodyVerdict, headed, field_body, field_format, field_of}
 use Rattle.span_text.proofs.HeaderLaws.{nav_takes, IsSize, size_takes, limited_takes, agent_takes, mesh_takes}
 use Rattle.span_text.proofs.BodyLineLaws.{IsAfter, last_of, Says, body_says}
 
@@ -49,7 +50,7 @@ abbrev IsTile : ℕ → Type 0
 IsTile tile = (4 ≤ tile) × (tile ≤ 128)
 
 -- what the lines before say at each place
-abbrev Said : Place → List (List ℕ) → Type 0
+abbrev pub Said : Place → List (List ℕ) → Type 0
 Said AtNav those = those ≡ []
 Said AtSize those = those ≡ codes "nav 1" ∷ []
 Said (AtTile width depth) those = IsSize width depth × (those ≡ codes "nav 1" ∷ line_text (codes "size") (width ∷ depth ∷ []) ∷ [])
@@ -66,7 +67,8 @@ Said (AtLimit width depth tile agent error mesh) those = IsSize width depth × I
     ∷ line_text (codes "agent") (agent.height ∷ agent.climb ∷ agent.radius ∷ []) ∷ line_text (codes "error") (error ∷ []) ∷ mesh_text mesh ∷ [])
 Said (AtBody setting before spans) those = (length spans ≤ 2000000) × HasSaid setting before spans those
 
-lead_goes : {A : Type 0} (told : Result A FaultKind) (next : A → Place) (place : Place) → lead told next ≡ Goes place → (x : A) × (told ≡ Ok x) × (next x ≡ place)
+lead_goes : {A V : Type 0} (told : Result A FaultKind) (next : A → Place) (place : Place) → ◌≡◌ {A = Verdict Place V} (lead told next) (Goes place)
+    → (x : A) × (told ≡ Ok x) × (next x ≡ place)
 lead_goes (Ok x) next place e = (x, refl, cc)
 lead_goes (Err kind) next place e = absurd cc
 
@@ -147,7 +149,7 @@ set_limits setting area cost limits least most = record {
   clear = limits.clear;
 }
 
-said_cost : (setting : Setting) (before : ℕ) (spans : List Span) (those : List (List ℕ)) (line : List ℕ) (area cost : ℕ) → HasSaid setting before spans those
+pub said_cost : (setting : Setting) (before : ℕ) (spans : List Span) (those : List (List ℕ)) (line : List ℕ) (area cost : ℕ) → HasSaid setting before spans those
     → Says setting.width setting.depth before (length spans) (last_of spans) line (said.Cost area cost) → HasSaid (set_cost setting area cost) area spans (those ++ line ∷ [])
 said_cost setting before spans those line area cost has says =
     let added : Cost = record { area = area; cost = cost } in
@@ -198,31 +200,48 @@ body_goes setting before spans next those line few has (said.Spans span) says e 
 body_goes setting before spans next those line few has said.End says e = absurd cc
 body_goes setting before spans next those line few has (said.Fails kind) says e = absurd cc
 
+-- the spans that a place has
+abbrev pub spans_at : Place → List Span
+spans_at AtNav = []
+spans_at AtSize = []
+spans_at (AtTile width depth) = []
+spans_at (AtAgent width depth tile) = []
+spans_at (AtError width depth tile agent) = []
+spans_at (AtMesh width depth tile agent error) = []
+spans_at (AtLimit width depth tile agent error mesh) = []
+spans_at (AtBody setting before spans) = spans
+
+-- a right line behind the seven lines of a header leads on to what it says, where the spans before are such
+abbrev pub BodyGoes : {V : Type 0} → (List Span → Type 0) → BodyVerdict V → Type 0
+BodyGoes {V} Such body = (setting : Setting) (before : ℕ) (spans : List Span) (next : Place) (those : List (List ℕ)) (line : List ℕ) → Such spans → length spans ≤ 2000000
+    → HasSaid setting before spans those → ◌≡◌ {A = Verdict Place V} (body setting before spans line) (Goes next) → Said next (those ++ line ∷ [])
+
 -- a right line leads on to what it says
-header_goes : (place next : Place) (those : List (List ℕ)) (line : List ℕ) → Said place those → verdict place line ≡ Goes next → Said next (those ++ line ∷ [])
-header_goes AtNav next those line h e =
+pub header_goes : {V : Type 0} (Such : List Span → Type 0) (body : BodyVerdict V) → BodyGoes Such body → (place next : Place) (those : List (List ℕ)) (line : List ℕ)
+    → Such (spans_at place) → Said place those → headed body place line ≡ Goes next → Said next (those ++ line ∷ [])
+header_goes Such body behind AtNav next those line such h e =
     let told = lead_goes (nav_line line) (λ said. AtSize) next e in
     subst (λ p. Said p (those ++ line ∷ [])) told.2 (ap₂ (λ ls l. ls ++ l ∷ []) h (nav_takes line told.0 told.1))
-header_goes AtSize next those line h e =
+header_goes Such body behind AtSize next those line such h e =
     let told = lead_goes (size_line line) (λ size. AtTile size.0 size.1) next e in
     let size = size_takes line told.0 told.1 in
     subst (λ p. Said p (those ++ line ∷ [])) told.2 (size.1, ap₂ (λ ls l. ls ++ l ∷ []) h size.0)
-header_goes (AtTile width depth) next those line h e =
+header_goes Such body behind (AtTile width depth) next those line such h e =
     let told = lead_goes (limited (codes "tile") 4 128 line) (λ tile. AtAgent width depth tile) next e in
     let tile = limited_takes (codes "tile") 4 128 line told.0 told.1 in
     subst (λ p. Said p (those ++ line ∷ [])) told.2 (h.0, (tile.1, tile.2), ap₂ (λ ls l. ls ++ l ∷ []) h.1 tile.0)
-header_goes (AtAgent width depth tile) next those line h e =
+header_goes Such body behind (AtAgent width depth tile) next those line such h e =
     let told = lead_goes (agent_line line) (λ agent. AtError width depth tile agent) next e in
     let agent = agent_takes line told.0 told.1 in
     subst (λ p. Said p (those ++ line ∷ [])) told.2 (h.0, h.1, agent.1, ap₂ (λ ls l. ls ++ l ∷ []) h.2 agent.0)
-header_goes (AtError width depth tile agent) next those line h e =
+header_goes Such body behind (AtError width depth tile agent) next those line such h e =
     let told = lead_goes (limited (codes "error") 0 10000 line) (λ error. AtMesh width depth tile agent error) next e in
     let error = limited_takes (codes "error") 0 10000 line told.0 told.1 in
     subst (λ p. Said p (those ++ line ∷ [])) told.2 (h.0, h.1, h.2, error.2, ap₂ (λ ls l. ls ++ l ∷ []) h.3 error.0)
-header_goes (AtMesh width depth tile agent error) next those line h e =
+header_goes Such body behind (AtMesh width depth tile agent error) next those line such h e =
     let told = lead_goes (mesh_line line) (λ mesh. AtLimit width depth tile agent error mesh) next e in
     subst (λ p. Said p (those ++ line ∷ [])) told.2 (h.0, h.1, h.2, h.3, ap₂ (λ ls l. ls ++ l ∷ []) h.4 (mesh_takes line told.0 told.1))
-header_goes (AtLimit width depth tile agent error mesh) next those line h e =
+header_goes Such body behind (AtLimit width depth tile agent error mesh) next those line such h e =
     let told = lead_goes (limited (codes "limit") 1 1024 line) (λ limit. AtBody (plain_setting width depth tile agent error mesh limit) 0 []) next e in
     let limit = limited_takes (codes "limit") 1 1024 line told.0 told.1 in
     subst (λ p. Said p (those ++ line ∷ [])) told.2 (
@@ -239,14 +258,17 @@ header_goes (AtLimit width depth tile agent error mesh) next those line h e =
         spelled = ap₂ (λ ls l. ls ++ l ∷ []) h.4 limit.0;
       },
     )
-header_goes (AtBody setting before spans) next those line h e =
-    body_goes setting before spans next those line h.0 h.1 (body_line setting.width setting.depth before spans line) (body_says setting.width setting.depth before spans line) e
+header_goes Such body behind (AtBody setting before spans) next those line such h e = behind setting before spans next those line such h.0 h.1 e
+
+field_goes : BodyGoes (λ spans. ⊤) field_body
+field_goes setting before spans next those line any few has e =
+    body_goes setting before spans next those line few has (body_line setting.width setting.depth before spans line) (body_says setting.width setting.depth before spans line) e
 
 -- the lines before the end of a text say its value
 abbrev IsWhole : Value → List (List ℕ) → Type 0
 IsWhole value those = IsSetting value.0 × IsField value.1 × IsFieldText (text_of those) value.0 value.1
 
-lead_never_ends : {A : Type 0} (told : Result A FaultKind) (next : A → Place) (value : Value) → lead told next ≡ Ends value → ⊥
+lead_never_ends : {A V : Type 0} (told : Result A FaultKind) (next : A → Place) (value : V) → ◌≡◌ {A = Verdict Place V} (lead told next) (Ends value) → ⊥
 lead_never_ends (Ok x) next value e = cc
 lead_never_ends (Err kind) next value e = cc
 
@@ -282,24 +304,39 @@ body_ends setting before spans value those line few has said.End says e =
     let is : (setting, field_with setting spans) ≡ value = cc in subst (λ v. IsWhole v (those ++ line ∷ [])) is (whole_body setting before spans those line few has says)
 body_ends setting before spans value those line few has (said.Fails kind) says e = absurd cc
 
-place_ends : (place : Place) (value : Value) (those : List (List ℕ)) (line : List ℕ) → Said place those → verdict place line ≡ Ends value → IsWhole value (those ++ line ∷ [])
-place_ends AtNav value those line h e = absurd (lead_never_ends (nav_line line) (λ said. AtSize) value e)
-place_ends AtSize value those line h e = absurd (lead_never_ends (size_line line) (λ size. AtTile size.0 size.1) value e)
-place_ends (AtTile width depth) value those line h e = absurd (lead_never_ends (limited (codes "tile") 4 128 line) (λ tile. AtAgent width depth tile) value e)
-place_ends (AtAgent width depth tile) value those line h e = absurd (lead_never_ends (agent_line line) (λ agent. AtError width depth tile agent) value e)
-place_ends (AtError width depth tile agent) value those line h e =
+-- a text ends behind the seven lines of its header
+pub record EndsBehind {V : Type 0} (body : BodyVerdict V) (place : Place) (value : V) (line : List ℕ) : Type 0 where
+  pub setting : Setting
+  pub before : ℕ
+  pub spans : List Span
+  pub at : place ≡ AtBody setting before spans
+  pub ends : body setting before spans line ≡ Ends value
+
+pub ends_behind : {V : Type 0} (body : BodyVerdict V) (place : Place) (value : V) (line : List ℕ) → headed body place line ≡ Ends value → EndsBehind body place value line
+ends_behind body AtNav value line e = absurd (lead_never_ends (nav_line line) (λ said. AtSize) value e)
+ends_behind body AtSize value line e = absurd (lead_never_ends (size_line line) (λ size. AtTile size.0 size.1) value e)
+ends_behind body (AtTile width depth) value line e = absurd (lead_never_ends (limited (codes "tile") 4 128 line) (λ tile. AtAgent width depth tile) value e)
+ends_behind body (AtAgent width depth tile) value line e = absurd (lead_never_ends (agent_line line) (λ agent. AtError width depth tile agent) value e)
+ends_behind body (AtError width depth tile agent) value line e =
     absurd (lead_never_ends (limited (codes "error") 0 10000 line) (λ error. AtMesh width depth tile agent error) value e)
-place_ends (AtMesh width depth tile agent error) value those line h e = absurd (lead_never_ends (mesh_line line) (λ mesh. AtLimit width depth tile agent error mesh) value e)
-place_ends (AtLimit width depth tile agent error mesh) value those line h e =
+ends_behind body (AtMesh width depth tile agent error) value line e = absurd (lead_never_ends (mesh_line line) (λ mesh. AtLimit width depth tile agent error mesh) value e)
+ends_behind body (AtLimit width depth tile agent error mesh) value line e =
     absurd (lead_never_ends (limited (codes "limit") 1 1024 line) (λ limit. AtBody (plain_setting width depth tile agent error mesh limit) 0 []) value e)
-place_ends (AtBody setting before spans) value those line h e =
-    body_ends setting before spans value those line h.0 h.1 (body_line setting.width setting.depth before spans line) (body_says setting.width setting.depth before spans line) e
+ends_behind body (AtBody setting before spans) value line e = record { setting = setting; before = before; spans = spans; at = refl; ends = e }
+
+place_ends : (place : Place) (value : Value) (those : List (List ℕ)) (line : List ℕ) → Said place those → headed field_body place line ≡ Ends value → IsWhole value (those ++ line ∷ [])
+place_ends place value those line h e =
+    let told = ends_behind field_body place value line e in
+    let setting = told.setting in
+    let said = subst (λ p. Said p those) told.at h in
+    body_ends setting told.before told.spans value those line said.0 said.1 (body_line setting.width setting.depth told.before told.spans line)
+    (body_says setting.width setting.depth told.before told.spans line) told.ends
 
 -- What is read is within its limits, and the lines that were read spell it.
 pub field_takes : (bytes : List ℕ) (value : Value) (total : ℕ) → field_of bytes ≡ Ok (value, total) → IsWhole value (take total (lines bytes))
 field_takes bytes value total e =
     let told = read_takes field_format AtNav 0 (lines bytes) value total e in
-    let kept = leads_keep field_format Said header_goes AtNav [] told.good told.at refl told.leads in
+    let kept = leads_keep field_format Said (λ place next those line said e. header_goes (λ spans. ⊤) field_body field_goes place next those line tt said e) AtNav [] told.good told.at refl told.leads in
     at_end told.at told.good told.rest told.more kept told.ends told.parts told.counted
   where
     first_lines : (good : List (List ℕ)) (line : List ℕ) (rest those : List (List ℕ)) (more : ℕ) → those ≡ good ++ line ∷ rest → total ≡ 0 + length good + more → more ≡ 1

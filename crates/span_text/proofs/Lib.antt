@@ -4,3 +4,4 @@ pub mod BodyLineLaws
 pub mod FoundLaws
 pub mod OnlyLaws
 pub mod FieldLaws
+pub mod FrontLaws

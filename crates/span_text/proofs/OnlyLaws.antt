@@ -20,17 +20,18 @@ use Rattle.nav_text.proofs.LineLaws.{lines_again}
 use Rattle.nav_text.proofs.FormLaws.{is_line-line_text}
 use Rattle.nav_text.proofs.ReadingLaws.{leads_read}
 use Rattle.span_text.specs.FieldText.{Cost, RiseAbove, with_cost, costs_of, mesh_text, header_lines, cost_text, span_text, field_lines, IsFieldText}
-use Rattle.span_text.specs.FieldFormat.{AtNav, AtSize, AtTile, AtAgent, AtError, AtMesh, AtLimit, AtBody, plain_setting, lead, set_cost, field_with, body_verdict, field_format, field_of}
+use Rattle.span_text.specs.FieldFormat.{AtNav, AtSize, AtTile, AtAgent, AtError, AtMesh, AtLimit, AtBody, plain_setting, lead, set_cost, field_with, BodyVerdict, body_verdict, headed_format, field_body, field_format, field_of}
 use Rattle.span_text.proofs.HeaderLaws.{size_again, limited_again, agent_again, mesh_again}
 use Rattle.span_text.proofs.BodyLineLaws.{IsAfter, last_of, end_again, cost_again, span_again}
 use Rattle.span_text.proofs.FoundLaws.{last_area}
 
 -- the setting that a header says
-abbrev said_by : Setting → Setting
+abbrev pub said_by : Setting → Setting
 said_by setting = plain_setting setting.width setting.depth setting.tile setting.agent setting.error setting.mesh setting.limit
 
-header_leads : (setting : Setting) → IsSetting setting → Leads field_format AtNav (header_lines setting) (AtBody (said_by setting) 0 [])
-header_leads setting h =
+pub header_leads : {V : Type 0} (body : BodyVerdict V) (setting : Setting) → IsSetting setting
+    → Leads (headed_format body) AtNav (header_lines setting) (AtBody (said_by setting) 0 [])
+header_leads body setting h =
     let w = setting.width in
     let d = setting.depth in
     let t = setting.tile in
@@ -67,7 +68,7 @@ header_leads setting h =
     )
 
 -- a setting after some cost lines
-abbrev after_costs : Setting → List Cost → Setting
+abbrev pub after_costs : Setting → List Cost → Setting
 after_costs setting costs = record setting { costs = fold with_cost setting.costs costs }
 
 costs_lead : (setting : Setting) (before : ℕ) (costs : List Cost) → RiseAbove before costs
@@ -123,7 +124,7 @@ plain_mesh : (mesh : MeshKind) → is_line (mesh_text mesh) ≡ true
 plain_mesh Strips = refl
 plain_mesh Contours = refl
 
-header_plain : (setting : Setting) → IsSetting setting → list_all is_line (header_lines setting) ≡ true
+pub header_plain : (setting : Setting) → IsSetting setting → list_all is_line (header_lines setting) ≡ true
 header_plain setting h =
     let all = header_lines setting in
     let agent = setting.agent in
@@ -144,7 +145,7 @@ header_plain setting h =
     (plain_cons (mesh_text setting.mesh) (drop 6 all) (plain_mesh setting.mesh)
     (plain_cons (line_text (codes "limit") (setting.limit ∷ [])) [] (is_line-line_text (codes "limit") (setting.limit ∷ []) refl (omega arith, tt)) refl))))))
 
-costs_plain : (before : ℕ) (costs : List Cost) → RiseAbove before costs → list_all is_line (map cost_text costs) ≡ true
+pub costs_plain : (before : ℕ) (costs : List Cost) → RiseAbove before costs → list_all is_line (map cost_text costs) ≡ true
 costs_plain before [] rise = refl
 costs_plain before (line ∷ more) rise =
     let area : line.area ≤ 63 = rise.1 in
@@ -178,7 +179,7 @@ count_all : (header costs spans : List (List ℕ)) (end : List ℕ) → 0 + leng
 count_all header costs spans end =
     omega (arith, length-append (header ++ costs ++ spans) (end ∷ []), length-append (header ++ costs) spans, length-append header costs)
 
-same_setting : (setting : Setting) (costs : List Cost) → setting.costs ≡ costs_of costs → setting.clear ≡ false → after_costs (said_by setting) costs ≡ setting
+pub same_setting : (setting : Setting) (costs : List Cost) → setting.costs ≡ costs_of costs → setting.clear ≡ false → after_costs (said_by setting) costs ≡ setting
 same_setting setting costs table clear = ap₂ (λ t c. record setting { costs = t; clear = c }) (sym table) (sym clear)
 
 same_field : (setting : Setting) (field : Field) → field.width ≡ setting.width → field.depth ≡ setting.depth → field_with setting field.spans ≡ field
@@ -213,7 +214,7 @@ field_again bytes text rest setting field limits fits spelling parts =
     let said = after_costs (said_by setting) spelling.costs in
     let before = last_area 0 spelling.costs in
     ap (read field_format AtNav 0) all
-    ∙ (leads_read field_format AtNav 0 header (costs ++ (spans ++ codes "end" ∷ lines rest)) (AtBody (said_by setting) 0 []) (header_leads setting limits)
+    ∙ (leads_read field_format AtNav 0 header (costs ++ (spans ++ codes "end" ∷ lines rest)) (AtBody (said_by setting) 0 []) (header_leads field_body setting limits)
     ∙ (leads_read field_format (AtBody (said_by setting) 0 []) (0 + length header) costs (spans ++ codes "end" ∷ lines rest) (AtBody said before [])
     (costs_lead (said_by setting) 0 spelling.costs spelling.rise)
     ∙ (leads_read field_format (AtBody said before []) (0 + length header + length costs) spans (codes "end" ∷ lines rest) (AtBody said before field.spans)

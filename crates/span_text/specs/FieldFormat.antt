@@ -1,4 +1,4 @@
--- The format of field texts: what each line is, after what the lines before it have said.
+-- The formats of field texts and of their headers: what each line is, after what the lines before it have said.
 use Rattle.std.specs.Prelude.{ℕ, false, List, [], ◌∷◌, ◌++◌, replicate, slice_set, None, Result, Ok, Err}
 use Rattle.nav_ground.specs.declared.setting.Agent.{Agent}
 use Rattle.nav_ground.specs.declared.setting.MeshKind.{MeshKind}
@@ -12,7 +12,7 @@ use Rattle.nav_text.specs.Reading.{Verdict, Goes, Ends, Refuses, Format, read}
 use Rattle.span_text.specs.declared.body.BodyLine.{BodyLine}
 use Rattle.span_text.specs.declared.body.BodyLine.TheVariants.{Cost, Spans, End, Fails}
 use Rattle.span_text.specs.Header.{nav_line, size_line, limited, agent_line, mesh_line}
-use Rattle.span_text.specs.Body.{body_line}
+use Rattle.span_text.specs.Body.{body_line, header_line}
 use Rattle.std.specs.Prelude.{codes}
 
 -- what the lines before have said: nothing; that this is a field text; its size; and so on; at last the setting as far as it is said,
@@ -46,7 +46,7 @@ plain_setting width depth tile agent error mesh limit = record {
 }
 
 -- a right line leads to a further place
-abbrev pub lead : {A : Type 0} → Result A FaultKind → (A → Place) → Verdict Place Value
+abbrev pub lead : {A V : Type 0} → Result A FaultKind → (A → Place) → Verdict Place V
 lead (Ok said) next = Goes (next said)
 lead (Err kind) next = Refuses kind
 
@@ -62,21 +62,51 @@ body_verdict setting before spans (Spans span) = Goes (AtBody setting before (sp
 body_verdict setting before spans End = Ends (setting, field_with setting spans)
 body_verdict setting before spans (Fails kind) = Refuses kind
 
-abbrev pub verdict : Place → List ℕ → Verdict Place Value
-verdict AtNav line = lead (nav_line line) (λ said. AtSize)
-verdict AtSize line = lead (size_line line) (λ size. AtTile size.0 size.1)
-verdict (AtTile width depth) line = lead (limited (codes "tile") 4 128 line) (λ tile. AtAgent width depth tile)
-verdict (AtAgent width depth tile) line = lead (agent_line line) (λ agent. AtError width depth tile agent)
-verdict (AtError width depth tile agent) line = lead (limited (codes "error") 0 10000 line) (λ error. AtMesh width depth tile agent error)
-verdict (AtMesh width depth tile agent error) line = lead (mesh_line line) (λ mesh. AtLimit width depth tile agent error mesh)
-verdict (AtLimit width depth tile agent error mesh) line =
+-- what a line behind the seven lines of a header is: after a setting, the area of the last cost, and spans
+abbrev pub BodyVerdict : Type 0 → Type 0
+BodyVerdict V = Setting → ℕ → List Span → List ℕ → Verdict Place V
+
+-- what a line is, in a text that begins with the seven lines of a header
+abbrev pub headed : {V : Type 0} → BodyVerdict V → Place → List ℕ → Verdict Place V
+headed body AtNav line = lead (nav_line line) (λ said. AtSize)
+headed body AtSize line = lead (size_line line) (λ size. AtTile size.0 size.1)
+headed body (AtTile width depth) line = lead (limited (codes "tile") 4 128 line) (λ tile. AtAgent width depth tile)
+headed body (AtAgent width depth tile) line = lead (agent_line line) (λ agent. AtError width depth tile agent)
+headed body (AtError width depth tile agent) line = lead (limited (codes "error") 0 10000 line) (λ error. AtMesh width depth tile agent error)
+headed body (AtMesh width depth tile agent error) line = lead (mesh_line line) (λ mesh. AtLimit width depth tile agent error mesh)
+headed body (AtLimit width depth tile agent error mesh) line =
     lead (limited (codes "limit") 1 1024 line) (λ limit. AtBody (plain_setting width depth tile agent error mesh limit) 0 [])
-verdict (AtBody setting before spans) line = body_verdict setting before spans (body_line setting.width setting.depth before spans line)
+headed body (AtBody setting before spans) line = body setting before spans line
+
+-- a text that begins with the seven lines of a header may end nowhere but at a line of its own that ends it
+abbrev pub headed_format : {V : Type 0} → BodyVerdict V → Format Place V
+headed_format body = record { verdict = headed body; value = λ place. None }
+
+-- in field texts costs, spans and the `end` line stand behind the seven lines
+abbrev pub field_body : BodyVerdict Value
+field_body setting before spans line = body_verdict setting before spans (body_line setting.width setting.depth before spans line)
 
 -- field texts end with their `end` line, and nowhere else
 abbrev pub field_format : Format Place Value
-field_format = record { verdict = verdict; value = λ place. None }
+field_format = headed_format field_body
 
 -- what is read of some bytes: the setting, the field and the number of lines, or the first fault
 abbrev pub field_of : List ℕ → Result (Value × ℕ) TextFault
 field_of bytes = read field_format AtNav 0 (lines bytes)
+
+abbrev pub costs_verdict : Setting → ℕ → List Span → BodyLine → Verdict Place Setting
+costs_verdict setting before spans (Cost area cost) = Goes (AtBody (set_cost setting area cost) area spans)
+costs_verdict setting before spans (Spans span) = Ends setting
+costs_verdict setting before spans End = Ends setting
+costs_verdict setting before spans (Fails kind) = Refuses kind
+
+-- in headers only costs stand behind the seven lines, and a line with another first word ends the header: it is no part of it
+abbrev pub header_body : BodyVerdict Setting
+header_body setting before spans line = costs_verdict setting before spans (header_line before line)
+
+abbrev pub header_format : Format Place Setting
+header_format = headed_format header_body
+
+-- what is read of some bytes as a header: the setting and the number of lines with the one behind it, or the first fault
+abbrev pub header_of : List ℕ → Result (Setting × ℕ) TextFault
+header_of bytes = read header_format AtNav 0 (lines bytes)

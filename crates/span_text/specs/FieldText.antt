@@ -5,8 +5,8 @@ use Rattle.nav_ground.specs.declared.setting.MeshKind.{MeshKind}
 use Rattle.nav_ground.specs.declared.setting.MeshKind.TheVariants.{Strips, Contours}
 use Rattle.nav_ground.specs.declared.field.Span.{Span}
 use Rattle.nav_ground.specs.declared.field.Field.{Field}
-use Rattle.nav_text.specs.Lines.{text_of}
-use Rattle.nav_text.specs.Forms.{line_text}
+use Rattle.nav_text.specs.Lines.{lines, text_of}
+use Rattle.nav_text.specs.Forms.{line_text, has_word}
 
 -- what a `cost` line says: what a unit of way costs in an area
 pub record Cost : Type 0 where
@@ -46,6 +46,26 @@ cost_text line = line_text (codes "cost") (line.area ∷ line.cost ∷ [])
 
 abbrev pub span_text : Span → List ℕ
 span_text span = line_text (codes "span") (span.x ∷ span.z ∷ span.bottom ∷ span.top ∷ span.area ∷ [])
+
+-- the lines of a header: those of the setting, and the costs
+abbrev pub all_header_lines : Setting → List Cost → List (List ℕ)
+all_header_lines setting costs = header_lines setting ++ map cost_text costs
+
+-- A text spells a setting as the header of a further text: some rising cost lines give the setting's costs, and the text is the lines of the
+-- setting and these costs.
+pub record IsHeaderText (bytes : List ℕ) (setting : Setting) : Type 0 where
+  pub costs : List Cost
+  pub rise : RiseAbove 0 costs
+  pub table : setting.costs ≡ costs_of costs
+  pub clear : setting.clear ≡ false
+  pub spelled : bytes ≡ text_of (all_header_lines setting costs)
+
+-- a text goes on behind a header: it has a line, whose first word is not `cost`
+pub record GoesOn (bytes : List ℕ) : Type 0 where
+  pub line : List ℕ
+  pub more : List (List ℕ)
+  pub those : lines bytes ≡ line ∷ more
+  pub other : has_word (codes "cost") line ≡ false
 
 -- all lines of a field text: the header, the costs, the spans, and `end`
 abbrev pub field_lines : Setting → List Cost → List Span → List (List ℕ)

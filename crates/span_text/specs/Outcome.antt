@@ -1,5 +1,5 @@
--- What reading a field text leaves, against the lines of the bytes.
-use Rattle.std.specs.Prelude.{◌≡◌, ℕ, ◌≤◌, length, take, Ok, Err, Result, ⊤}
+-- What reading a field text or a header leaves, against the lines of the bytes.
+use Rattle.std.specs.Prelude.{◌≡◌, ℕ, ◌≤◌, ◌+◌, length, take, drop, Ok, Err, Result, ⊤}
 use Rattle.nav_ground.specs.declared.setting.Setting.{Setting}
 use Rattle.nav_ground.specs.declared.field.Field.{Field}
 use Rattle.nav_ground.specs.declared.field.Span.{Span}
@@ -7,7 +7,9 @@ use Rattle.nav_text.specs.Lines.{lines, text_of}
 use Rattle.span_text.specs.declared.field.FieldText.{FieldText}
 use Rattle.span_text.specs.declared.field.FieldRefusal.{FieldRefusal}
 use Rattle.span_text.specs.declared.field.FieldRefusal.TheVariants.{Fault, OutOfMemory}
-use Rattle.span_text.specs.FieldFormat.{field_of, field_with}
+use Rattle.span_text.specs.declared.front.HeaderText.{HeaderText}
+use Rattle.span_text.specs.FieldText.{GoesOn}
+use Rattle.span_text.specs.FieldFormat.{field_of, field_with, header_of}
 use Rattle.std.specs.Prelude.{List}
 
 -- a text with its setting and spans
@@ -26,3 +28,16 @@ abbrev pub Gives : Setting → Field → ℕ → Result FieldText FieldRefusal �
 Gives setting field used (Ok text) = (text.setting ≡ setting) × (text.field ≡ field) × (text.used ≡ used)
 Gives setting field used (Err (Fault fault)) = ⊥
 Gives setting field used (Err OutOfMemory) = ⊤
+
+-- a header that was read has the setting of the bytes' first lines, and ends before the line that ended its reading; a fault is that of the bytes
+abbrev pub IsHeaderRead : List ℕ → Result HeaderText FieldRefusal → Type 0
+IsHeaderRead bytes (Ok header) = (header_of bytes ≡ Ok (header.setting, header.lines + 1))
+    × (take header.used bytes ≡ text_of (take header.lines (lines bytes))) × (header.used ≤ length bytes)
+    × GoesOn (drop header.used bytes) × (header.lines ≤ 70)
+IsHeaderRead bytes (Err (Fault fault)) = header_of bytes ≡ Err fault
+IsHeaderRead bytes (Err OutOfMemory) = ⊥
+
+-- a header with this setting is read, of so many bytes
+abbrev pub GivesHeader : Setting → ℕ → Result HeaderText FieldRefusal → Type 0
+GivesHeader setting used (Ok header) = (header.setting ≡ setting) × (header.used ≡ used)
+GivesHeader setting used (Err refusal) = ⊥

@@ -1,6 +1,7 @@
 //! The lines behind the header: costs, spans and the end.
-ghost use Rattle.std.specs.Prelude.{◌≡◌, ◌≤◌, Some, length};
-ghost use Rattle.span_text.specs.Body.{cost_in, span_of, is_span, is_column_before, is_column_of, span_after, span_in, other_line, body_line, Fits};
+ghost use Rattle.std.specs.Prelude.{◌≡◌, ◌≤◌, Some, codes, length};
+ghost use Rattle.span_text.specs.Body.{cost_in, span_of, is_span, is_column_before, is_column_of, span_after, span_in, other_line, body_line, header_line, Fits};
+ghost use Rattle.nav_text.specs.Forms.{numbers_of};
 ghost use Rattle.std.specs.Option.{option_copied};
 
 use crate::header::is_in;
@@ -10,12 +11,15 @@ use nav_text::{FaultKind, has_word, numbers_of};
 /// The most spans that a field can have.
 pub const MAX_SPANS: usize = 2000000;
 
-/// What a line behind the header is.
+/// What a line behind the seven lines of a header is.
 #[derive(Clone, Copy)]
 pub enum BodyLine {
+    /// What a unit of way costs in an area.
     Cost { area: u32, cost: u32 },
     Spans(Span),
+    /// The line that ends the text, or, where a header is read, the one behind it.
     End,
+    /// It fails, as this kind says.
     Fails(FaultKind),
 }
 
@@ -47,6 +51,13 @@ fn other_line(before: u32, count: usize, line: &[u8]) -> BodyLine
     if count > 0 {
         return BodyLine::Fails(FaultKind::Form);
     }
+    cost_line(before, line)
+}
+
+/// A cost of a further area than `before`.
+fn cost_line(before: u32, line: &[u8]) -> BodyLine
+    ensures { result ≡ cost_in before (numbers_of (codes "cost") 2 line.now) }
+{
     let Some(numbers) = numbers_of::<2>(b"cost", line) else {
         return BodyLine::Fails(FaultKind::Form);
     };
@@ -58,6 +69,19 @@ fn other_line(before: u32, count: usize, line: &[u8]) -> BodyLine
     } else {
         BodyLine::Cost { area, cost }
     }
+}
+
+/// A line behind the seven lines of a header, where only costs are asked for: a cost, or the header's end where the line's first word is
+/// another.
+#[tactic(auto, unfolding(crate::specs::Body::header_line))]
+pub fn header_line(before: u32, line: &[u8]) -> BodyLine
+    ensures value { result ≡ header_line before line.now }
+    ensures fits { Fits before 0 result }
+{
+    if !has_word(b"cost", line) {
+        return BodyLine::End;
+    }
+    cost_line(before, line)
 }
 
 /// The span of five numbers after the last span.

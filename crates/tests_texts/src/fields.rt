@@ -18,7 +18,7 @@ static HEADER: [&str; 7] = [
 ];
 
 /// The first lines of a header, and what follows them.
-fn text_with(rt: &impl Abort, alloc: Global, lines: usize, tail: &str) -> Vec<u8> {
+pub(crate) fn text_with(rt: &impl Abort, alloc: Global, lines: usize, tail: &str) -> Vec<u8> {
     let mut text = Vec::new(alloc);
     for line in &HEADER[..lines.min(7)] {
         append(rt, &mut text, line, 1);

@@ -7,6 +7,8 @@
 #[cfg(test)]
 mod fields;
 #[cfg(test)]
+mod headers;
+#[cfg(test)]
 mod made;
 #[cfg(test)]
 mod records;

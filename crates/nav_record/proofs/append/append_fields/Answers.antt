@@ -2,7 +2,8 @@ use Rattle.std.proofs.Common.{◌∙◌, ap, sym, drop, ◌+◌, ◌++◌, take,
 use Rattle.std.specs.List.{flat_map}
 use Rattle.std.proofs.lemmas.List.{append-nil, take_all}
 use Rattle.nav_record.specs.Appending.{field_text}
-use Rattle.nav_record.proofs.AppendLaws.{extended, spelled, and_then, longer, handed, fields_behind, one_more, and_rest}
+use Rattle.nav_text.proofs.AppendLaws.{extended, spelled, and_then, longer, handed, one_more, and_rest}
+use Rattle.nav_record.proofs.AppendLaws.{fields_behind}
 use Rattle.nav_record.proofs.append.append_fields.Goals as goal
 
 pub loop-field-init : goal.loop-field-init

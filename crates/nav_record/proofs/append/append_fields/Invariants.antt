@@ -1,7 +1,7 @@
 use Rattle.std.proofs.Common.{◌++◌, take}
 use Rattle.std.specs.List.{flat_map}
 use Rattle.nav_record.specs.Appending.{field_text}
-use Rattle.nav_record.proofs.AppendLaws.{Appended}
+use Rattle.nav_text.proofs.AppendLaws.{Appended}
 use Rattle.nav_record.proofs.append.append_fields.Given as goal
 
 -- the word and the fields so far are appended

@@ -1,5 +1,5 @@
 use Rattle.std.proofs.Common.{[], ◌∷◌, ap, sym, append_assoc}
-use Rattle.nav_record.proofs.AppendLaws.{spelled, and_then, longer, handed}
+use Rattle.nav_text.proofs.AppendLaws.{spelled, and_then, longer, handed}
 use Rattle.nav_record.proofs.append.append_pair.Goals as goal
 
 pub returns-in_err-append_number : goal.returns-in_err-append_number

@@ -1,5 +1,5 @@
 use Rattle.nav_record.specs.Appending.{fields_text}
-use Rattle.nav_record.proofs.AppendLaws.{extended, and_then, longer, handed}
+use Rattle.nav_text.proofs.AppendLaws.{extended, and_then, longer, handed}
 use Rattle.nav_record.proofs.append.append_parts.Goals as goal
 
 pub returns-in_err-append_fields : goal.returns-in_err-append_fields

@@ -1,7 +1,7 @@
 use Rattle.std.proofs.Common.{◌++◌, codes, decimal, length, take}
 use Rattle.std.specs.List.{flat_map}
 use Rattle.nav_record.specs.Texts.{floor_text}
-use Rattle.nav_record.proofs.AppendLaws.{Appended}
+use Rattle.nav_text.proofs.AppendLaws.{Appended}
 use Rattle.nav_record.proofs.floors.append_floors.Given as goal
 
 -- the front of the line and the floors so far are appended

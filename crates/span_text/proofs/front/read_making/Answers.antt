@@ -1,5 +1,5 @@
 use Rattle.nav_text.proofs.LineLaws.{IsPast_next}
-use Rattle.span_text.proofs.field.read_making.Goals as goal
+use Rattle.span_text.proofs.front.read_making.Goals as goal
 
 pub returns-clause-past : goal.returns-clause-past
 returns-clause-past c = λ whole past4.

@@ -1,7 +1,7 @@
 use Rattle.std.proofs.Common.{take}
 use Rattle.nav_text.specs.Forms.{line_text}
-use Rattle.nav_record.proofs.AppendLaws.{Appended}
-use Rattle.nav_record.proofs.append.append_line.Given as goal
+use Rattle.nav_text.proofs.AppendLaws.{Appended}
+use Rattle.nav_text.proofs.append.append_line.Given as goal
 
 -- the word and the numbers so far are appended
 abbrev pub invariant-loop-number : goal.invariant-loop-number

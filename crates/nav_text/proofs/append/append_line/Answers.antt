@@ -1,8 +1,8 @@
 use Rattle.std.proofs.Common.{ap, sym, ℕ, List, drop, ◌+◌, ◌∷◌, ◌++◌, take, get_or, decimal, Err}
 use Rattle.std.specs.List.{flat_map}
 use Rattle.std.proofs.lemmas.List.{append-nil, take_all}
-use Rattle.nav_record.proofs.AppendLaws.{extended, spelled, and_then, longer, handed, one_more, and_rest}
-use Rattle.nav_record.proofs.append.append_line.Goals as goal
+use Rattle.nav_text.proofs.AppendLaws.{extended, spelled, and_then, longer, handed, one_more, and_rest}
+use Rattle.nav_text.proofs.append.append_line.Goals as goal
 
 -- a number behind a space
 abbrev spaced : ℕ → List ℕ

@@ -1,5 +1,5 @@
 use Rattle.nav_text.proofs.LineLaws.{IsPast_start, IsPast_next}
-use Rattle.span_text.proofs.field.read_sizes.Goals as goal
+use Rattle.span_text.proofs.front.read_sizes.Goals as goal
 
 pub returns-clause-past : goal.returns-clause-past
 returns-clause-past c =

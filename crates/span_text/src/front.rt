@@ -1,0 +1,189 @@
+//! The header that a field text, as other texts, begins with: seven lines and costs.
+ghost use Rattle.std.specs.Prelude.{◌≡◌, ℕ, ◌≤◌, List, [], ◌∷◌, ◌++◌, take, drop, length, MatchResult, IfOk, Err};
+ghost use Rattle.nav_ground.specs.declared.setting.Setting.{Setting};
+ghost use Rattle.nav_ground.specs.Limits.{IsSetting};
+ghost use Rattle.nav_text.specs.declared.fault.TextFault.{TextFault};
+ghost use Rattle.nav_text.specs.declared.fault.FaultKind.TheVariants.{Unfinished};
+ghost use Rattle.nav_text.specs.Faults.{fault_at};
+ghost use Rattle.nav_text.specs.Lines.{lines, IsPast};
+ghost use Rattle.nav_text.specs.Reading.{read, IsFirstFault};
+ghost use Rattle.span_text.specs.FieldText.{IsHeaderText, GoesOn};
+ghost use Rattle.span_text.specs.FieldFormat.{field_of, field_format, header_of, header_format, AtNav, AtError, AtBody};
+ghost use Rattle.span_text.specs.Outcome.{IsHeaderRead, GivesHeader};
+
+use crate::body::{BodyLine, header_line};
+use crate::field::FieldRefusal;
+use crate::header::{agent_line, limited, mesh_line, nav_line, size_line};
+use nav_ground::{AREAS, Agent, Setting};
+use nav_text::{FaultKind, TextFault, first_line};
+
+/// A header that was read.
+#[derive(Clone, Copy)]
+pub struct HeaderText {
+    pub setting: Setting,
+    /// How many bytes the header has.
+    pub used: usize,
+    /// How many lines the header has.
+    pub lines: u32,
+}
+
+/// The first line of what is left of a text, and what follows it. The line has this number, and where it is not ended, that is the fault.
+fn line_at(number: u32, text: &[u8]) -> Result<(&[u8], &[u8]), TextFault>
+    ensures lines { MatchResult result (λ x. lines text.now ≡ x.0.now ∷ lines x.1.now)
+        (λ fault. (lines text.now ≡ []) × (fault ≡ fault_at number Unfinished)) }
+    ensures text { IfOk result (λ x. text.now ≡ x.0.now ++ 10 ∷ x.1.now) }
+{
+    match first_line(text) {
+        Some(line) => Ok(line),
+        None => Err(TextFault::new(number, FaultKind::Unfinished)),
+    }
+}
+
+/// The seven lines that a header begins with: its setting, in which every area costs 1, and the bytes behind them.
+pub(crate) fn read_front(bytes: &[u8]) -> Result<(Setting, &[u8]), TextFault>
+    ensures said { MatchResult result
+        (λ x. field_of bytes.now ≡ read field_format (AtBody x.0 0 []) 7 (lines x.1.now))
+        (λ fault. field_of bytes.now ≡ Err fault) }
+    ensures header { MatchResult result
+        (λ x. header_of bytes.now ≡ read header_format (AtBody x.0 0 []) 7 (lines x.1.now))
+        (λ fault. header_of bytes.now ≡ Err fault) }
+    ensures past { IfOk result (λ x. IsPast bytes.now x.1.now 7) }
+{
+    let (sizes, rest) = read_sizes(bytes)?;
+    read_making(sizes, rest)
+}
+
+/// What the first four lines say: the field's size, the tiles' side and the agent.
+#[derive(Clone, Copy)]
+struct Sizes {
+    width: u32,
+    depth: u32,
+    tile: u32,
+    agent: Agent,
+}
+
+/// The first four lines of a header, and the bytes behind them.
+#[tactic(auto, unfolding(nav_text::specs::Reading::read))]
+fn read_sizes(bytes: &[u8]) -> Result<(Sizes, &[u8]), TextFault>
+    ensures said { MatchResult result
+        (λ x. field_of bytes.now ≡ read field_format (AtError x.0.width x.0.depth x.0.tile x.0.agent) 4 (lines x.1.now))
+        (λ fault. field_of bytes.now ≡ Err fault) }
+    ensures header { MatchResult result
+        (λ x. header_of bytes.now ≡ read header_format (AtError x.0.width x.0.depth x.0.tile x.0.agent) 4 (lines x.1.now))
+        (λ fault. header_of bytes.now ≡ Err fault) }
+    ensures past { IfOk result (λ x. IsPast bytes.now x.1.now 4) }
+{
+    let (line, rest) = line_at(1, bytes)?;
+    nav_line(line).map_err(|kind| TextFault::new(1, kind))?;
+    let (line, rest) = line_at(2, rest)?;
+    let (width, depth) = size_line(line).map_err(|kind| TextFault::new(2, kind))?;
+    let (line, rest) = line_at(3, rest)?;
+    let tile = limited(b"tile", 4, 128, line).map_err(|kind| TextFault::new(3, kind))?;
+    let (line, rest) = line_at(4, rest)?;
+    let agent = agent_line(line).map_err(|kind| TextFault::new(4, kind))?;
+    let sizes = Sizes {
+        width,
+        depth,
+        tile,
+        agent,
+    };
+    Ok((sizes, rest))
+}
+
+/// The other three lines, which say how meshes are made: the whole setting, and the bytes behind them.
+#[tactic(auto, unfolding(nav_text::specs::Reading::read))]
+fn read_making(sizes: Sizes, text: &[u8]) -> Result<(Setting, &[u8]), TextFault>
+    ensures said { MatchResult result
+        (λ x. read field_format (AtError sizes.width sizes.depth sizes.tile sizes.agent) 4 (lines text.now)
+        ≡ read field_format (AtBody x.0 0 []) 7 (lines x.1.now))
+        (λ fault. read field_format (AtError sizes.width sizes.depth sizes.tile sizes.agent) 4 (lines text.now) ≡ Err fault) }
+    ensures header { MatchResult result
+        (λ x. read header_format (AtError sizes.width sizes.depth sizes.tile sizes.agent) 4 (lines text.now)
+        ≡ read header_format (AtBody x.0 0 []) 7 (lines x.1.now))
+        (λ fault. read header_format (AtError sizes.width sizes.depth sizes.tile sizes.agent) 4 (lines text.now) ≡ Err fault) }
+    ensures past { IfOk result (λ x. (whole : List ℕ) → IsPast whole text.now 4 → IsPast whole x.1.now 7) }
+{
+    let (line, rest) = line_at(5, text)?;
+    let error = limited(b"error", 0, 10000, line).map_err(|kind| TextFault::new(5, kind))?;
+    let (line, rest) = line_at(6, rest)?;
+    let mesh = mesh_line(line).map_err(|kind| TextFault::new(6, kind))?;
+    let (line, rest) = line_at(7, rest)?;
+    let limit = limited(b"limit", 1, 1024, line).map_err(|kind| TextFault::new(7, kind))?;
+    let setting = Setting {
+        width: sizes.width,
+        depth: sizes.depth,
+        tile: sizes.tile,
+        agent: sizes.agent,
+        error,
+        mesh,
+        limit,
+        costs: [1; AREAS],
+        clear: false,
+    };
+    Ok((setting, rest))
+}
+
+/// The costs behind the seven lines, up to a line with another first word.
+fn read_costs(front: Setting, bytes: &[u8], body: &[u8]) -> Result<HeaderText, FieldRefusal>
+    requires header { header_of bytes.now ≡ read header_format (AtBody front 0 []) 7 (lines body.now) }
+    requires past { IsPast bytes.now body.now 7 }
+    ensures { IsHeaderRead bytes.now result }
+{
+    let mut setting = front;
+    let mut before = 0;
+    let mut count = 7;
+    let mut rest = body;
+    while let Some((line, after)) = first_line(rest) {
+        match header_line(before, line) {
+            BodyLine::Cost { area, cost } => {
+                setting.costs[area as usize] = cost;
+                before = area;
+            }
+            BodyLine::Fails(kind) => {
+                let fault = TextFault::new(count + 1, kind);
+                return Err(FieldRefusal::Fault(fault));
+            }
+            BodyLine::End | BodyLine::Spans(_) => {
+                return Ok(HeaderText {
+                    setting,
+                    used: bytes.len() - rest.len(),
+                    lines: count,
+                });
+            }
+        }
+        count += 1;
+        rest = after;
+    }
+    Err(FieldRefusal::Fault(TextFault::new(count + 1, FaultKind::Unfinished)))
+}
+
+fn read_whole(bytes: &[u8]) -> Result<HeaderText, FieldRefusal>
+    ensures { IsHeaderRead bytes.now result }
+{
+    match read_front(bytes) {
+        Ok((setting, body)) => read_costs(setting, bytes, body),
+        Err(fault) => Err(FieldRefusal::Fault(fault)),
+    }
+}
+
+/// Reads the header that the bytes begin with, which are the seven lines and the costs of a field text, and leaves what follows: one more line
+/// at least, whose first word is not `cost`. No memory is taken, and so none is refused.
+pub fn read_header(bytes: &[u8]) -> Result<HeaderText, FieldRefusal>
+    // What is read is within its limits, the bytes that it used spell it, and another line follows.
+    ensures setting { IfOk result (λ header. IsSetting header.setting) }
+    ensures found { IfOk result (λ header. IsHeaderText (take header.used bytes.now) header.setting) }
+    ensures used { IfOk result (λ header. header.used ≤ length bytes.now) }
+    ensures lines { IfOk result (λ header. header.lines ≡ length (lines (take header.used bytes.now))) }
+    ensures on { IfOk result (λ header. GoesOn (drop header.used bytes.now)) }
+    ensures few { IfOk result (λ header. header.lines ≤ 70) }
+
+    // Bytes that begin with a header, behind which another line follows, are read as that header.
+    ensures only { (setting : Setting) (text rest : List ℕ) → IsSetting setting → IsHeaderText text setting → GoesOn rest
+        → bytes.now ≡ text ++ rest → GivesHeader setting (length text) result }
+
+    // A fault is that of the first line that fails, given the lines before it.
+    ensures first { (fault : TextFault) → result ≡ Err (FieldRefusal.Fault fault)
+        → IsFirstFault header_format AtNav 0 (lines bytes.now) fault }
+{
+    read_whole(bytes)
+}
