@@ -3,7 +3,8 @@
 had at most. A run whose script is the dearest that there is takes hours: of these it runs a short script over the same field, and prints what one
 line of it took.
 
-usage: large.py NAVD [FOLDER]     with NAVD a built program, as crates/navd/out/navd, and FOLDER for the texts (some 64 MB each, one at a time)
+usage: large.py NAVD [FOLDER [FROM]]     with NAVD a built program, as crates/navd/out/navd, FOLDER for the texts (some 64 MB each, one at a time),
+                                         and FROM the row of the table to begin with
 """
 import os
 import subprocess
@@ -14,6 +15,8 @@ import time
 LIMIT = 67108864
 SPANS = 2000000
 SCRIPT_LINES = 300000
+# a history has 65536 entries: so many requests, each with a `settle` behind it; further `settle` lines find nothing to do
+CHANGES = 131072
 SECONDS = 900
 
 
@@ -101,10 +104,10 @@ TEXTS = [
     ("300000 `settle` lines over a small field", "play", lambda: script(SMALL(), ["settle\n"], SCRIPT_LINES), "settled 0", None),
     ("300001 of them", "play", lambda: script(SMALL(), ["settle\n"], SCRIPT_LINES + 1), "fault 300046 11", None),
     ("300000 `settle` lines, 65536 tiles of 4 by 4", "play", lambda: script(BIG(), ["settle\n"], SCRIPT_LINES), "settled 0", None),
-    ("300000 lines: a block over one tile of 65536 put up, settled, taken away, settled", "play",
-        lambda: script(BIG(), ["add block 5 6 0 100 5 6\n", "settle\n", "drop 1\n", "settle\n"], SCRIPT_LINES), "entry 1 added", None),
-    ("the same in `live`", "live", lambda: script(BIG(), ["add block 5 6 0 100 5 6\n", "settle\n"], 60000), "history 30000", None),
-    ("a block over all 65536 tiles put up, settled, taken away, settled", "play", lambda: script(BIG(), WHOLE, 16), "entry 1 added", (16, SCRIPT_LINES)),
+    ("a block over one tile of 65536 put up, settled, taken away, settled", "play",
+        lambda: script(BIG(), ["add block 5 6 0 100 5 6\n", "settle\n", "drop 1\n", "settle\n"], 2000), "entry 1 added", (2000, CHANGES)),
+    ("the same in `live`", "live", lambda: script(BIG(), ["add block 5 6 0 100 5 6\n", "settle\n"], 2000), "history 1000", (2000, CHANGES)),
+    ("a block over all 65536 tiles put up, settled, taken away, settled", "play", lambda: script(BIG(), WHOLE, 16), "entry 1 added", (16, CHANGES)),
     ("a path across 1044484 polygons of one column each", "play",
         lambda: script(field(1024, 1024, 128, checkered), FAR, 8), None, (8, SCRIPT_LINES)),
     ("a path through a field of teeth", "play", lambda: script(field(1024, 1024, 128, zigzag), FAR, 8), None, (8, SCRIPT_LINES)),
@@ -145,4 +148,4 @@ if __name__ == "__main__":
     navd = os.path.abspath(sys.argv[1])
     print("| Text | Word | Bytes | Status | First line | Processor time | Memory at most |\n|---|---|---|---|---|---|---|")
     with tempfile.TemporaryDirectory(dir=sys.argv[2] if len(sys.argv) > 2 else None) as folder:
-        sys.exit(bool(sum([run(navd, folder, *it) for it in TEXTS])))
+        sys.exit(bool(sum([run(navd, folder, *it) for it in TEXTS[int(sys.argv[3]) - 1 if len(sys.argv) > 3 else 0 :]])))
