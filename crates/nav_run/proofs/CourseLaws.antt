@@ -87,9 +87,7 @@ module _ (words : List (String Global)) (before after : Option (List ℕ)) (read
   run_ok status run is = subst Run is run
 
   pub run_bad_text : (status : Status) → Run status → status ≡ statuses.BadText → HasTold words before after held_before held_after
-  run_bad_text status run is =
-      let refused = subst Run is run in
-      record { text = refused.text; due = refused.due; written = refused.written }
+  run_bad_text status run is = subst Run is run
 
   pub run_usage : (status : Status) → Run status → status ≡ statuses.Usage
       → (¬ IsForm words) × Appends held_before held_after usage_text × (after ≡ before)

@@ -6,16 +6,9 @@ use Rattle.nav_io.specs.Causes.{Rose, TookMany}
 use Rattle.nav_record.specs.Texts.{usage_text, too_long_text}
 use Rattle.nav_run.specs.declared.status.Status.{Status}
 use Rattle.nav_run.specs.declared.status.Status.TheVariants as statuses
-use Rattle.nav_run.specs.Inputs.{IsInputFor, input_limit}
-use Rattle.nav_run.specs.Outcomes.{IsFaultDue, HasDone, HasBroken}
+use Rattle.nav_run.specs.Inputs.{input_limit}
+use Rattle.nav_run.specs.Outcomes.{HasDone, HasTold, HasBroken}
 use Rattle.nav_run.specs.Words.{IsForm, IsReadForm}
-
--- the line of the fault of what was read was written, and what was read is no input for the way to run it
-pub record HasRefused (words : List (String Global)) (before after held_before held_after : Option (List ℕ)) : Type 0 where
-  pub text : List ℕ
-  pub due : IsFaultDue words before after text
-  pub no_input : ¬ IsInputFor due.way due.input
-  pub written : Appends held_before held_after text
 
 -- what a run on these words has done, once it ended with this status
 abbrev pub HasRun : List (String Global) → (before after : Option (List ℕ)) → (reads_before reads_after : ℕ)
@@ -23,7 +16,7 @@ abbrev pub HasRun : List (String Global) → (before after : Option (List ℕ)) 
 HasRun words before after reads_before reads_after held_before held_after writes_before writes_after statuses.Ok =
     HasDone words before after held_before held_after
 HasRun words before after reads_before reads_after held_before held_after writes_before writes_after statuses.BadText =
-    HasRefused words before after held_before held_after
+    HasTold words before after held_before held_after
 HasRun words before after reads_before reads_after held_before held_after writes_before writes_after statuses.Usage =
     (¬ IsForm words) × Appends held_before held_after usage_text × (after ≡ before)
 HasRun words before after reads_before reads_after held_before held_after writes_before writes_after statuses.ReadFault =

@@ -6,7 +6,7 @@ use Rattle.nav_io.specs.Causes.{GivesAll, TookMany, AppendsPrefix}
 use Rattle.nav_record.specs.Texts.{fault_text, usage_text, too_long_text}
 use Rattle.nav_script.specs.declared.script.Way.{Way}
 use Rattle.nav_text.specs.declared.fault.TextFault.{TextFault}
-use Rattle.nav_run.specs.Inputs.{IsRunText, IsFault, input_limit}
+use Rattle.nav_run.specs.Inputs.{IsInputFor, IsRunText, IsFault, input_limit}
 use Rattle.nav_run.specs.Made.{IsMadeSummary}
 use Rattle.nav_run.specs.Words.{IsForm, IsGenForm, IsReadForm, IsWayForm}
 
@@ -65,10 +65,11 @@ abbrev pub HasDone : List (String Global) → (before after held_before held_aft
 HasDone words before after held_before held_after =
     HasAnswered words before after held_before held_after ⊎ HasSummed words before after held_before held_after
 
--- a fault was written
+-- the line of the fault of what was read was written, and what was read is no input for the way to run it
 pub record HasTold (words : List (String Global)) (before after held_before held_after : Option (List ℕ)) : Type 0 where
   pub text : List ℕ
   pub due : IsFaultDue words before after text
+  pub no_input : ¬ IsInputFor due.way due.input
   pub written : Appends held_before held_after text
 
 -- a part of what was due was written, and not all of it
