@@ -7,7 +7,7 @@ use Rattle.nav_ground.specs.declared.history.Entry.{Entry}
 use Rattle.nav_version.specs.declared.shown.Shown.{Shown}
 use Rattle.nav_version.specs.Pairs.{PressView, press_of}
 use Rattle.nav_version.specs.Lists.{ToldView}
-use Rattle.nav_version.specs.VersionRule.{IsKept, IsShown}
+use Rattle.nav_version.specs.VersionRule.{GoesOn, IsKept, IsShown}
 use Rattle.nav_version.specs.Versions.{IsVersion}
 use Rattle.nav_version.proofs.Beginnings.{IsPrefix-self, IsPrefix-trans, IsPrefix-whole}
 
@@ -38,6 +38,17 @@ IsShown-grown told history grown next more kept same rules' told_is added entrie
     record {
       rules = rules';
       list = ap (λ (t : ToldView). t.entries) told_is ∙ added ∙ ap (λ (list : List Entry). list ++ more) (sym all) ∙ sym entries;
+    }
+
+-- the next version with the history so grown goes on from what is shown
+pub GoesOn-grown : (before next : Shown) (history grown : ToldView) → IsKept before.told history → grown.pair ≡ history.pair → IsPrefix history.entries grown.entries
+    → next.told ≡ grown → arc_value next.version.ground ≡ arc_value before.version.ground → GoesOn before next
+GoesOn-grown before next history grown kept pair begins told ground =
+    let same_pair : before.told.pair ≡ next.told.pair = kept.pair ∙ sym pair ∙ sym (ap (λ (t : ToldView). t.pair) told) in
+    record {
+      same = λ i. (same_pair i, sym ground i);
+      begins = IsPrefix-trans before.told.entries history.entries next.told.entries kept.begins
+          (subst (λ (t : ToldView). IsPrefix history.entries t.entries) (sym told) begins);
     }
 
 -- contracts see the next version's entries once it is shown

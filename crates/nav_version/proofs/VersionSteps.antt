@@ -6,12 +6,18 @@ use lib.ListN.{get_elem?}
 use Rattle.atomic_table.proofs.Lists.{at_set, at_snoc}
 use Rattle.crossbeam_utils.specs.Register.{Admits, TurnsAt, Forks, Merges}
 use Rattle.nav_version.specs.declared.shown.Shown.{Shown}
-use Rattle.nav_version.specs.VersionRule.{Enters, IsShown, IsSo, Publishes, Stands, next_of, origin}
+use Rattle.nav_version.specs.VersionRule.{Enters, GoesOn, IsShown, IsSo, Publishes, Stands, next_of}
+use Rattle.nav_version.proofs.Beginnings.{IsPrefix-self, IsPrefix-trans}
 
--- what was so of a version is so of another of its pair and ground
-still_so : (last next : Shown) (one : Option Shown) → origin next ≡ origin last → IsSo last one → IsSo next one
-still_so last next None same so = tt
-still_so last next (Some once) same so = so ∙ sym same
+-- what is shown goes on from itself
+pub GoesOn-self : (shown : Shown) → GoesOn shown shown
+GoesOn-self shown = record { same = refl; begins = IsPrefix-self shown.told.entries }
+
+-- what was so of a version is so of one that goes on from it
+still_so : (last next : Shown) (one : Option Shown) → GoesOn last next → IsSo last one → IsSo next one
+still_so last next None goes so = tt
+still_so last next (Some once) goes so =
+    record { same = so.same ∙ goes.same; begins = IsPrefix-trans once.told.entries last.told.entries next.told.entries so.begins goes.begins }
 
 module _ (shown : Shown) (known : List (Option Shown)) where
   -- the rule after what one knows was changed
@@ -35,10 +41,10 @@ pub admits : Admits Stands None
 admits shown known stands = record { is = stands.is; each = added shown known None stands.each tt }
 
 -- publish
-pub publishes : (seat : ℕ) (one : Option Shown) (last next : Shown) → origin next ≡ origin last → IsShown next → TurnsAt Stands seat one last next Publishes
-publishes seat one last next same is' known stands at_seat = (
+pub publishes : (seat : ℕ) (one : Option Shown) (last next : Shown) → GoesOn last next → IsShown next → TurnsAt Stands seat one last next Publishes
+publishes seat one last next goes is' known stands at_seat = (
   Some next,
-  record { is = is'; each = changed next known seat (Some next) (λ j other is. still_so last next other same (stands.each j other is)) refl },
+  record { is = is'; each = changed next known seat (Some next) (λ j other is. still_so last next other goes (stands.each j other is)) (GoesOn-self next) },
   refl,
 )
 
@@ -54,19 +60,18 @@ has_shown last next now after pending before is all known =
     (same, known ∙ ap Some same)
 
 pub publishes_last : (seat : ℕ) (one : Option Shown) (last next now : Shown) (pending before : List Shown) → now ≡ fold next_of last pending → pending ≡ before ++ next ∷ []
-    → origin next ≡ origin last → IsShown next → TurnsAt Stands seat one last now Publishes
-publishes_last seat one last next now pending before is all same is' =
+    → GoesOn last next → IsShown next → TurnsAt Stands seat one last now Publishes
+publishes_last seat one last next now pending before is all goes is' =
     let now_is : now ≡ next = shows_last last next now pending before is all in
-    publishes seat one last now (ap origin now_is ∙ same) (subst IsShown (sym now_is) is')
+    publishes seat one last now (subst (GoesOn last) (sym now_is) goes) (subst IsShown (sym now_is) is')
 
 -- enter
 pub enters : (seat : ℕ) (one : Option Shown) (shown : Shown) → TurnsAt Stands seat one shown shown Enters
-enters seat one shown known stands at_seat =
-    let so' = stands.each seat one at_seat in (
-      one,
-      record { is = stands.is; each = changed shown known seat one stands.each so' },
-      record { is = stands.is; so = so'; kept = refl },
-    )
+enters seat one shown known stands at_seat = (
+  Some shown,
+  record { is = stands.is; each = changed shown known seat (Some shown) stands.each (GoesOn-self shown) },
+  record { is = stands.is; so = stands.each seat one at_seat; knows = refl },
+)
 
 -- tell
 pub tells : (seat : ℕ) (one : Option Shown) → Forks Stands seat one one one

@@ -57,11 +57,16 @@ pub record IsShown (shown : Shown) : Type 0 where
 abbrev pub next_of : Shown → Shown → Shown
 next_of last next = next
 
--- what is known is a version that was shown once, if any: it is of the same pair and ground
-abbrev pub IsSo : Shown → Option Shown → Type 0
-IsSo shown known = IfSome known (λ once. origin once ≡ origin shown)
+-- what is shown goes on from a version that was shown once: it is of the same pair and ground, and its list begins with the one of that version
+pub record GoesOn (once shown : Shown) : Type 0 where
+  pub same : origin once ≡ origin shown
+  pub begins : IsPrefix once.told.entries shown.told.entries
 
--- the rule: what is shown is right, and what the press and each eye know is of the same pair and ground
+-- what is known is a version that was shown once, if any: what is shown goes on from it
+abbrev pub IsSo : Shown → Option Shown → Type 0
+IsSo shown known = IfSome known (λ once. GoesOn once shown)
+
+-- the rule: what is shown is right, and goes on from what the press and each eye know. So what is shown only grows
 pub record Stands (shown : Shown) (known : List (Option Shown)) : Type 0 where
   pub is : IsShown shown
   pub each : (seat : ℕ) (one : Option Shown) → get_elem? known seat ≡ some one → IsSo shown one
@@ -76,11 +81,22 @@ pub record IsKept (told history : ToldView) : Type 0 where
 abbrev pub Publishes : Option Shown → Shown → Shown → Option Shown → Type 0
 Publishes before last next after = after ≡ Some next
 
--- enter: the eye takes what is shown, which is right and of the pair and ground that the eye knows; it knows what it knew
+-- enter: the eye takes what is shown, which is right and goes on from what the eye knew; the eye knows that then
 pub record Enters (before : Option Shown) (shown same : Shown) (after : Option Shown) : Type 0 where
   pub is : IsShown shown
   pub so : IsSo shown before
-  pub kept : after ≡ before
+  pub knows : after ≡ Some shown
+
+-- an eye took a version that is shown: it is right, and goes on from what the eye knew
+pub record IsTaken (known : Option Shown) (taken : Shown) : Type 0 where
+  pub is : IsShown taken
+  pub so : IsSo taken known
+
+-- an eye has taken a version, and knows it
+pub record Takes (before after : Option Shown) : Type 0 where
+  pub shown : Shown
+  pub taken : IsTaken before shown
+  pub knows : after ≡ Some shown
 
 -- a version that was shown answered a question: its list goes on from the one that was seen and has fewer entries than a
 -- u32 can count, and the answer is right in its mesh, which is that of the ground and the list, with a cost that a mesh can have

@@ -2,15 +2,13 @@
 
 ghost use Rattle.std.specs.Prelude.{◌≡◌, ◌⊎◌, IfOk, OnOk, OnErr, Some, length};
 ghost use Rattle.std.specs.Arc.{arc_value};
-ghost use Rattle.std.specs.Option.{option_map};
 ghost use mathlib.Core.List.{IsPrefix};
 ghost use Rattle.left_right.specs.Sides.{view};
-ghost use Rattle.nav_ground.specs.declared.history.Ground.{Ground};
 ghost use Rattle.mesh_types.specs.Builds.{build_of};
 ghost use Rattle.mesh_types.specs.Right.{IsRight};
 ghost use Rattle.nav_query.specs.Questions.{HasLowCost, IsAnswerable};
 ghost use Rattle.nav_version.specs.Pairs.{HasLooked, after_learning, eye_of};
-ghost use Rattle.nav_version.specs.VersionRule.{HasFound, IsKnownOf, IsShown, ground_known, origin};
+ghost use Rattle.nav_version.specs.VersionRule.{HasFound, IsKnownOf, IsShown, IsTaken, Takes, ground_known};
 
 use crate::rule::Entering;
 use crate::shown::Shown;
@@ -44,7 +42,7 @@ impl Model for Eye {
 }
 
 // An answer to a question from a version that is shown, and the version's list. It is refused for want of memory; and where the version
-// were a shorter one than was seen, which no press shows.
+// were a shorter one than was learnt of, which no press shows.
 fn answered(
     alloc: Global,
     shown: &Shown,
@@ -63,22 +61,17 @@ fn answered(
     Ok((shown.told.again(), answer))
 }
 
-// The same from the version that is shown now. It is refused, too, where the press has ended.
-fn look(
-    reader: Looker,
-    asked: (Global, &Question, &Told),
-) -> (Looker, Result<(Told, Answer), AllocError>)
-    requires question { IsAnswerable asked.1.now }
-    requires known { (base : Ground) × (option_map origin (view reader.place) ≡ Some (asked.2.now.pair, base)) }
-    ensures same { view result.0.place ≡ view reader.place }
-    ensures found { (base : Ground) → option_map origin (view reader.place) ≡ Some (asked.entry.2.now.pair, base)
-        → IfOk result.1 (HasFound base asked.entry.1.now asked.entry.2.now) }
+// A further owner of what is shown now. The reader is inside only while it takes that. It is refused where the count of owners has reached
+// its end, and where the press has ended.
+fn look(reader: Looker, _nothing: ()) -> (Looker, Result<Shown, AllocError>)
+    ensures shown { IfOk result.1 (λ shown. view result.0.place ≡ Some shown) }
+    ensures taken { IfOk result.1 (IsTaken (view reader.place)) }
+    ensures knows { Takes (view reader.place) (view result.0.place) ⊎ (view result.0.place ≡ view reader.place) }
 {
-    let (alloc, question, seen) = asked;
     match reader.enter_as::<Entering>() {
         Ok(reading) => {
-            let found = answered(alloc, reading.get(), question, seen);
-            (reading.leave(), found)
+            let shown = reading.get().share();
+            (reading.leave(), shown)
         }
         Err(reader) => (reader, Err(AllocError)),
     }
@@ -115,8 +108,11 @@ impl Eye {
 
     /// The length of a published version, and an answer to the question that is right in its mesh. It takes no lock and does not wait.
     ///
+    /// The eye is inside what is shown only while it takes a share of it, and answers from that: a question holds up no publishing, however
+    /// long it takes.
+    ///
     /// The version goes on from all that the eye saw or learnt of. It is refused for want of memory, and where the press has ended; and where
-    /// the version were a shorter one than the eye has seen, which no press shows.
+    /// the version were a shorter one than a length that the eye has learnt, which no press shows.
     pub fn ask(&mut self, alloc: Global, question: &Question) -> Result<(u32, Answer), AllocError>
         requires { IsAnswerable question.now }
         ensures looked { OnOk result (HasLooked self.old self.new) }
@@ -127,7 +123,8 @@ impl Eye {
         // After a refusal the eye has looked all the same, or nothing has changed.
         ensures refused { OnErr result (HasLooked self.old self.new ⊎ (self.new ≡ self.old)) }
     {
-        let (told, answer) = replace_with(&mut self.reader, (alloc, question, &self.told), look)?;
+        let shown = replace_with(&mut self.reader, (), look)?;
+        let (told, answer) = answered(alloc, &shown, question, &self.told)?;
         let length = told.length();
         self.told = told;
         Ok((length, answer))

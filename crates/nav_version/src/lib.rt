@@ -8,7 +8,7 @@
 //! Contracts see of a press its pair, its ground and the published entries; of an eye its pair, its ground, and the longest list of
 //! entries that it saw or learnt of. Lists are all that versions are told apart by: the mesh is that of the ground and the list. They are
 //! all beginnings of one history, which only grows (`specs/Histories.antt`). Between any two steps the rule of `specs/VersionRule.antt`
-//! holds, which ties the version that is shown to that history, and the press and the eyes to one pair.
+//! holds: the press and the eyes are of one pair, and what is shown only grows, since it goes on from all that the press and the eyes know.
 #![tactic(auto)]
 
 mod entries;

@@ -2,7 +2,7 @@
 
 ghost use Rattle.std.specs.Prelude.{◌≡◌, [], IfOk, MatchBool, Some, None, drop};
 ghost use Rattle.left_right.specs.Sides.{view};
-ghost use Rattle.nav_version.specs.VersionRule.{IsShown, origin};
+ghost use Rattle.nav_version.specs.VersionRule.{GoesOn, IsShown};
 
 use crate::rule::{Learning, Publishing, Telling, Versions};
 use crate::shown::Shown;
@@ -48,7 +48,7 @@ fn writer_of(alloc: Global, first: &Shown, readers: u32) -> Result<Shower, Alloc
 // The writer once it shows the next version, and whether it does. It does not where memory is refused.
 fn shown<R: Wait>(writer: Shower, next: (&R, Shown)) -> (Shower, bool)
     requires is { IsShown next.1 }
-    requires origin { origin next.1 ≡ origin writer.desk.shown.value }
+    requires goes_on { GoesOn writer.desk.shown.value next.1 }
     ensures { MatchBool result.1 ((result.0.desk.shown.value ≡ next.entry.1) × (view result.0.desk.place ≡ Some next.entry.1))
         ((result.0.desk.shown.value ≡ writer.desk.shown.value) × (view result.0.desk.place ≡ view writer.desk.place)) }
 {
@@ -100,7 +100,7 @@ impl Stage {
     /// Shows the next version, at one step, and says whether it did. It waits for eyes that still read the version from before the last one.
     pub(crate) fn show<R: Wait>(&mut self, rt: &R, next: Shown) -> bool
         requires is { IsShown next }
-        requires origin { origin next ≡ origin self.old }
+        requires goes_on { GoesOn self.old next }
         ensures shown { MatchBool result (self.new ≡ next) (self.new ≡ self.old) }
         ensures rules { IsShown self.new }
     {

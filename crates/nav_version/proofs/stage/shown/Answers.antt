@@ -1,6 +1,6 @@
-use Rattle.std.proofs.Common.{drop, sym, ap, ◌∙◌}
+use Rattle.std.proofs.Common.{drop, sym, subst, ap, ◌∙◌}
 use Rattle.left_right.specs.Sides.{view}
-use Rattle.nav_version.specs.VersionRule.{origin}
+use Rattle.nav_version.specs.VersionRule.{GoesOn}
 use Rattle.nav_version.proofs.VersionSteps.{has_shown, publishes_last}
 use Rattle.nav_version.proofs.stage.shown.Goals as goal
 
@@ -8,7 +8,7 @@ pub publish_as-writer-requires : goal.publish_as-writer-requires
 publish_as-writer-requires g c next is =
     publishes_last _ _ c.append.new.self.desk.shown.value c.args.next.1 next (drop c.append.new.self.behind c.append.new.self.log.items)
     (drop c.args.writer.behind c.args.writer.log.items) is c.in-Ok.ensures.pending
-    (c.requires.origin ∙ ap (λ desk. origin desk.shown.value) (sym c.append.ensures.desk)) c.requires.is
+    (subst (λ desk. GoesOn desk.shown.value c.args.next.1) (sym c.append.ensures.desk) c.requires.goes_on) c.requires.is
 
 pub returns-in-Ok-published : goal.returns-in-Ok-published
 returns-in-Ok-published g c =

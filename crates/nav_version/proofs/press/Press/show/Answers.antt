@@ -1,9 +1,8 @@
 use Rattle.std.proofs.Common.{◌≡◌, ◌++◌, length, ap, sym, ◌∙◌, rules}
 use Rattle.std.specs.Arc.{arc_value}
 use Rattle.nav_version.specs.declared.shown.Shown.{Shown}
-use Rattle.nav_version.specs.Lists.{ToldView}
 use Rattle.nav_version.specs.Pairs.{PressView, press_of}
-use Rattle.nav_version.proofs.PressLaws.{IsKept-grown, IsKept-longer, IsShown-grown, after_showing}
+use Rattle.nav_version.proofs.PressLaws.{GoesOn-grown, IsKept-grown, IsKept-longer, IsShown-grown, after_showing}
 use Rattle.nav_version.proofs.press.Press.show.Goals as goal
 
 pub show-requires-clause-is : goal.show-requires-clause-is
@@ -15,11 +14,11 @@ show-requires-clause-is g c =
     IsShown-grown before c.self.inside.history c.add.new.self next c.args.more.now c.self.invariant same c.requires.rules c.told-told.ensures
     c.if-not-add.ensures.grown entries
 
-pub show-requires-clause-origin : goal.show-requires-clause-origin
-show-requires-clause-origin g c =
-    let pair = ap (λ (t : ToldView). t.pair) c.told-told.ensures ∙ c.add.ensures.pair ∙ sym c.self.invariant.pair in
-    let ground = c.requires.ground ∙ ap (λ (press : PressView). press.ground) (sym c.self.view_is) in
-    λ i. (pair i, ground i)
+pub show-requires-clause-goes_on : goal.show-requires-clause-goes_on
+show-requires-clause-goes_on g c =
+    let next : Shown = record { version = c.args.next; told = c.told-told.result } in
+    GoesOn-grown c.self.inside.stage next c.self.inside.history c.add.new.self c.self.invariant c.add.ensures.pair c.add.ensures.begins
+    c.told-told.ensures (c.requires.ground ∙ ap (λ (press : PressView). press.ground) (sym c.self.view_is))
 
 pub invariant_of-self : goal.invariant_of-self
 invariant_of-self g c = IsKept-longer c.self.inside.stage.told c.self.inside.history c.add.new.self c.self.invariant c.add.ensures.pair c.add.ensures.begins
