@@ -17,7 +17,7 @@ use std::alloc::{AllocError, Global};
 /// The cells of a field for an agent, where one area stands beside each span: a cell on each span whose area is not 0, by z, then x, then
 /// level, each connected to at most one cell of each neighbouring column, as in Recast's compact height field. The areas are those that the
 /// filters leave, or any others. A cell's ceiling is the bottom of the next span, whatever its area; heights and the agent are in height
-/// units. It takes memory once, for the cells.
+/// units. It takes memory once, for the cells, and nothing else can be refused.
 pub fn compact(
     alloc: Global,
     field: &Field,

@@ -19,7 +19,7 @@ use span_filters::filtered;
 use std::alloc::{AllocError, Global};
 
 /// The ground that a field makes for a setting: its layers have the kept cells of each tile, in order of tiles, each connected to its
-/// kept neighbours in its own tile and across the border. It takes one pass over the field for each stage.
+/// kept neighbours in its own tile and across the border. It takes one pass over the field for each stage. Only memory can be refused.
 pub fn ground(alloc: Global, setting: Setting, field: Field) -> Result<Ground, AllocError>
     requires setting { IsSetting setting }
     requires field { IsField field }
@@ -40,7 +40,7 @@ pub fn ground(alloc: Global, setting: Setting, field: Field) -> Result<Ground, A
 /// The layer of one tile: exactly what `ground` makes of that tile. It works on the spans over the tile's columns and over those within the
 /// agent's radius and two more on each side of it, and searches the list of spans for where their rows begin. The radius is for the
 /// neighbours across the border and the walks to them, the two more are for the connections of the cells where those walks begin and for
-/// the filters of the cells so connected; where the radius is 0 they are for the neighbours and their filters.
+/// the filters of the cells so connected; where the radius is 0 they are for the neighbours and their filters. Only memory can be refused.
 pub fn layer(
     alloc: Global,
     field: &Field,

@@ -21,7 +21,7 @@ use std::alloc::{AllocError, Global};
 /// numbered by their first strips, in order. From Recast's monotone partitioning. Linear in the number of cells.
 ///
 /// Each region is a stack of strips, at most one in a row, and each over a part of the one before. Two cells of a region in neighbouring
-/// columns are connected. Each free cell is in exactly one strip of one region.
+/// columns are connected. Each free cell is in exactly one strip of one region. Only memory can be refused.
 pub fn regions(alloc: Global, free: &FreeLayer) -> Result<Regions, AllocError>
     requires { IsCut free.now.cells }
     ensures regions { IfOk result (λ regions. regions ≡ regions_of free.now.cells) }

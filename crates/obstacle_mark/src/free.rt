@@ -16,7 +16,7 @@ use nav_list::Items;
 use std::alloc::{AllocError, Global};
 
 /// The free cells of a layer whose radius is 0, for a list of obstacles: its cells that none of them blocks, each with the area of the
-/// last area shape that covers it, and with those neighbours that are free or lie in another tile.
+/// last area shape that covers it, and with those neighbours that are free or lie in another tile. Only memory can be refused.
 pub fn mark(alloc: Global, layer: &Layer, shapes: &[Shape]) -> Result<FreeLayer, AllocError>
     requires cells { IsCut layer.now.cells }
     requires near { layer.now.radius ≡ 0 }

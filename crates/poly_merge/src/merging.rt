@@ -10,7 +10,7 @@ use mesh_types::{Outline, Piece, Triangle};
 use nav_list::Items;
 use std::alloc::{AllocError, Global};
 
-/// The pieces into which the triangles of an outline are united.
+/// The pieces into which the triangles of an outline are united. Only memory can be refused.
 pub fn merge(
     alloc: Global,
     outline: &Outline,

@@ -75,7 +75,7 @@ fn area_under(ceiling: u32, needed: u32, area: u32) -> u32
     if ceiling < needed { 0 } else { area }
 }
 
-/// The areas that the three filters leave, one after the other: low hanging spans, ledges, low ceilings.
+/// The areas that the three filters leave, one after the other: low hanging spans, ledges, low ceilings. Only memory can be refused.
 pub fn filtered(alloc: Global, field: &Field, agent: &Agent) -> Result<Vec<u32>, AllocError>
     requires field { IsField field.now }
     requires agent { IsAgent agent.now }

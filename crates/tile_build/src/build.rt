@@ -19,8 +19,8 @@ use std::alloc::{AllocError, Global};
 use std::sync::ledger::Ledger;
 use strip_mesh::strip_mesh_over;
 
-/// The mesh of a layer under a list of shapes, which is also its mesh under those of them that touch its tile. It takes one step, also
-/// where memory is refused.
+/// The mesh of a layer under a list of shapes, which is also its mesh under those of them that touch its tile. Only memory can be refused,
+/// and it takes one step then too.
 pub fn build_tile<L: Ledger>(
     alloc: Global,
     layer: &Layer,

@@ -17,7 +17,7 @@ use nav_steps::Steps;
 use std::alloc::{AllocError, Global};
 use std::sync::ledger::Ledger;
 
-/// The mesh of each tile of a ground under a list of shapes, in order. It takes one step a tile.
+/// The mesh of each tile of a ground under a list of shapes, in order. It takes one step a tile. Only memory can be refused.
 pub fn build_tiles<L: Ledger>(
     alloc: Global,
     whole: &Ground,

@@ -14,7 +14,7 @@ use nav_list::Items;
 use nav_share::Shared;
 use std::alloc::{AllocError, Global};
 
-/// The mesh of a setting and its tiles: the tiles, and for each of them the links that leave it over its sides.
+/// The mesh of a setting and its tiles: the tiles, and for each of them the links that leave it over its sides. Only memory can be refused.
 pub fn whole(alloc: Global, setting: &Setting, tiles: Vec<TileMesh>) -> Result<Mesh, AllocError>
     requires setting { IsSetting setting.now }
     requires tiles { AreTiles setting.now tiles.items }
