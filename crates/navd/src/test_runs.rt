@@ -159,7 +159,7 @@ pub(crate) const WIDE: SquareField = SquareField {
 };
 
 /// Appends a line of a word and numbers.
-fn push_line(rt: &impl Abort, text: &mut Vec<u8>, word: &str, numbers: &[u32]) {
+pub(crate) fn push_line(rt: &impl Abort, text: &mut Vec<u8>, word: &str, numbers: &[u32]) {
     push_text(rt, text, word);
     for number in numbers {
         text.push(b' ').expect(rt, "memory");

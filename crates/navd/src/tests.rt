@@ -2,7 +2,9 @@
 
 ghost use Rattle.std.specs.Prelude.{◌<◌};
 
-use crate::test_runs::{ROOM, Ran, SquareField, built_level, check, check_ends, played, run_once};
+use crate::test_runs::{
+    ROOM, Ran, SquareField, built_level, check, check_ends, played, push_line, run_once,
+};
 use nav_run::Status;
 use std::alloc::Global;
 use std::process::Abort;
@@ -83,6 +85,65 @@ fn check_left<R: Abort + Threads + Wait + Sync>(rt: &R, alloc: Global, text: &[u
 #[test]
 fn leaves_what_was_written(rt: HostRuntime) {
     check_left(&rt, rt.alloc(), PLAYED.as_bytes());
+}
+
+#[test]
+fn leaves_nothing_of_a_fault(rt: HostRuntime) {
+    let ran = run_once(
+        &rt,
+        rt.alloc(),
+        &["play"],
+        Vec::new(rt.alloc()),
+        (1, 0),
+        (8, 1),
+    );
+    check(&rt, &ran, Status::WriteFault, b"");
+}
+
+/// What the first lines of the script over the flat room are answered with, its 45 lines of a level before them.
+fn played_by(lines: u32) -> &'static str {
+    match lines {
+        45 => "done 0 0\n",
+        46 => "floors 0 1 10 63\ndone 0 0\n",
+        47 => "floors 0 1 10 63\nentry 1 added\ndone 0 1\n",
+        _ => "floors 0 1 10 63\nentry 1 added\nsettled 1\ndone 1 1\n",
+    }
+}
+
+/// A beginning of an input is played where it ends with a line behind the level; else the fault is that of the first line that is not whole.
+fn check_beginning<R: Abort + Threads + Wait + Sync>(
+    rt: &R,
+    alloc: Global,
+    beginning: &[u8],
+    lines: u32,
+    is_whole: bool,
+) {
+    let mut input = Vec::new(alloc);
+    input.extend_from_slice(beginning).expect(rt, "memory");
+    let ran = run_once(rt, alloc, &["play"], input, (100, 0), (100, 0));
+    if is_whole && lines >= 45 {
+        check(rt, &ran, Status::Ok, played_by(lines).as_bytes());
+    } else {
+        let mut fault = Vec::new(alloc);
+        push_line(rt, &mut fault, "fault", &[lines.saturating_add(1), 7]);
+        check(rt, &ran, Status::BadText, fault.as_slice());
+    }
+}
+
+fn check_beginnings<R: Abort + Threads + Wait + Sync>(rt: &R, alloc: Global, text: &[u8]) {
+    let mut lines = 0u32;
+    let mut is_whole = true;
+    for length in 0..text.len() {
+        check_beginning(rt, alloc, &text[..length], lines, is_whole);
+        is_whole = text[length] == b'\n';
+        lines = lines.saturating_add(u32::from(is_whole));
+    }
+}
+
+#[test]
+fn tells_where_an_input_is_cut(rt: HostRuntime) {
+    let text = built_level(&rt, rt.alloc(), &ROOM, SCRIPT);
+    check_beginnings(&rt, rt.alloc(), text.as_slice());
 }
 
 /// So many line feeds; the status and what the sink holds.

@@ -16,7 +16,7 @@ use std::alloc::{AllocError, Global};
 use std::process::Abort;
 use std::sync::Arc;
 
-/// What is asked of a desk. Blocks are those over the columns from x to x + 1 of row 1; a list has one block at most, given by its x.
+/// What is asked of a desk. Blocks are those over the columns from x to x + 1 of row 1; a list has two blocks at most, given by their x.
 #[derive(Clone, Copy)]
 enum Asked {
     Add(u32),
@@ -26,6 +26,7 @@ enum Asked {
     Back(TileNo),
     BackAll,
     Submit(TileNo, Option<u32>),
+    SubmitTwo(TileNo, u32, u32),
     Look,
     Publish,
 }
@@ -103,7 +104,8 @@ fn ask(desk: &mut Desk, alloc: Global, asked: Asked) -> Result<Told, AllocError>
             desk.put_back_all();
             Ok(Told::Nothing)
         }
-        Asked::Submit(tile, x) => submitted(desk, alloc, tile, x),
+        Asked::Submit(tile, x) => submitted(desk, alloc, tile, &[x]),
+        Asked::SubmitTwo(tile, x, next) => submitted(desk, alloc, tile, &[Some(x), Some(next)]),
         Asked::Look => Ok(Told::Published(desk.publication())),
         Asked::Publish => Ok(Told::Published(published(desk))),
     }
@@ -149,11 +151,11 @@ fn submitted(
     desk: &mut Desk,
     alloc: Global,
     tile: TileNo,
-    x: Option<u32>,
+    list: &[Option<u32>],
 ) -> Result<Told, AllocError> {
     let mut shapes = Vec::new(alloc);
-    if let Some(x) = x {
-        shapes.push(block(x))?;
+    for x in list.iter().flatten() {
+        shapes.push(block(*x))?;
     }
     if !is_there(desk, tile) {
         return Ok(Told::Nothing);
@@ -244,6 +246,50 @@ fn check_all(rt: &impl Abort, desk: &mut Desk, alloc: Global) -> Result<(), Allo
 fn takes_steps(rt: HostRuntime) -> Result<(), AllocError> {
     let mut desk = opened(rt.alloc())?;
     check_all(&rt, &mut desk, rt.alloc())
+}
+
+/// Of two blocks that touch one tile the list in reverse order is stale, and changes nothing but the claim.
+static REVERSED: [(Asked, Told); 9] = [
+    (Asked::Add(4), Told::Replied(1, Reply::Added { number: 1 })),
+    (Asked::Add(5), Told::Replied(2, Reply::Added { number: 2 })),
+    (Asked::Aim, Told::Aimed(2)),
+    (Asked::Claim, Told::Job(1, Some(4), 2)),
+    (Asked::SubmitTwo(1, 5, 4), Told::Submitted(Submitted::Stale)),
+    (Asked::Look, Told::Published(Published::NotYet { tile: 1 })),
+    (Asked::Claim, Told::Job(1, Some(4), 2)),
+    (Asked::SubmitTwo(1, 4, 5), Told::Submitted(Submitted::Taken)),
+    (Asked::Publish, Told::Published(Published::New { k: 2 })),
+];
+
+/// A list with a block that does not touch the tile is stale.
+static APART: [(Asked, Told); 9] = [
+    (Asked::Add(4), Told::Replied(1, Reply::Added { number: 1 })),
+    (
+        Asked::Add(900),
+        Told::Replied(2, Reply::Added { number: 2 }),
+    ),
+    (Asked::Aim, Told::Aimed(2)),
+    (Asked::Claim, Told::Job(1, Some(4), 1)),
+    (
+        Asked::SubmitTwo(1, 4, 900),
+        Told::Submitted(Submitted::Stale),
+    ),
+    (Asked::Look, Told::Published(Published::NotYet { tile: 1 })),
+    (Asked::Claim, Told::Job(1, Some(4), 1)),
+    (Asked::Submit(1, Some(4)), Told::Submitted(Submitted::Taken)),
+    (Asked::Publish, Told::Published(Published::New { k: 2 })),
+];
+
+#[test]
+fn takes_lists_in_order(rt: HostRuntime) -> Result<(), AllocError> {
+    let mut desk = opened(rt.alloc())?;
+    check(&rt, &mut desk, rt.alloc(), &REVERSED)
+}
+
+#[test]
+fn takes_touching_lists(rt: HostRuntime) -> Result<(), AllocError> {
+    let mut desk = opened(rt.alloc())?;
+    check(&rt, &mut desk, rt.alloc(), &APART)
 }
 
 /// Fills a history with requests that remove nothing.

@@ -1,6 +1,7 @@
 //! A field text of every form of line, and the line and kind of the first fault of wrong ones.
 
 use crate::texts::{append, check};
+use nav_base::push_number;
 use nav_ground::{AREAS, Agent, MeshKind, Setting, Span};
 use nav_text::FaultKind;
 use span_text::{FieldRefusal, FieldText, read_field};
@@ -229,4 +230,54 @@ fn tells_the_first_fault(rt: HostRuntime) {
 #[test]
 fn tells_the_first_fault_behind_the_header(rt: HostRuntime) {
     check_faults(&rt, rt.alloc(), &BODY_FAULTS);
+}
+
+fn append_span(rt: &impl Abort, text: &mut Vec<u8>, x: u32, bottom: u32) {
+    append(rt, text, "span ", 1);
+    push_number(text, i64::from(x)).expect(rt, "memory");
+    append(rt, text, " 0 ", 1);
+    push_number(text, i64::from(bottom)).expect(rt, "memory");
+    append(rt, text, " ", 1);
+    push_number(text, i64::from(bottom) + 1).expect(rt, "memory");
+    append(rt, text, " 63\n", 1);
+}
+
+/// As many spans as a field may have: 4000 of height 1 over each other in each of 500 columns.
+fn most_spans(rt: &impl Abort, alloc: Global) -> Vec<u8> {
+    let mut text = Vec::new(alloc);
+    append(rt, &mut text, MOST_HEADER, 1);
+    for x in 0..500 {
+        for bottom in 0..4000 {
+            append_span(rt, &mut text, x, bottom);
+        }
+    }
+    text
+}
+
+const MOST_HEADER: &str =
+    "nav 1\nsize 500 1\ntile 6\nagent 10 4 0\nerror 169\nmesh strips\nlimit 4\n";
+
+/// What stands behind them; the kind of the fault of line 2000008, or 0.
+static BEHIND_MOST: [(&str, u32); 5] = [
+    ("end\n", 0),
+    ("span 499 0 8000 8001 63\n", 6),
+    ("span\n", 6),
+    ("spans 499 0 8000 8001 63\n", 1),
+    ("span 499 0 8000 8001 63", 7),
+];
+
+fn check_behind_most(rt: &impl Abort, alloc: Global, text: &mut Vec<u8>, rows: &[(&str, u32)]) {
+    let length = text.len();
+    for (tail, kind) in rows {
+        append(rt, text, *tail, 1);
+        let wanted = if *kind == 0 { (0, 0) } else { (2000008, *kind) };
+        check(rt, fault_of(alloc, text.as_slice()) == wanted, *tail);
+        text.truncate(length);
+    }
+}
+
+#[test]
+fn takes_no_more_spans_than_it_may(rt: HostRuntime) {
+    let mut text = most_spans(&rt, rt.alloc());
+    check_behind_most(&rt, rt.alloc(), &mut text, &BEHIND_MOST);
 }
