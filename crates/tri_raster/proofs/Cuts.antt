@@ -83,12 +83,16 @@ pub record IsBest {A : Type 0} (f h : A → ℤ) (xs : List A) (k l : ℤ) : Typ
   pub others : (fv hv : ℤ) → pos 0 ≤ℤ hv → All (λ (q : A). f q <ℤ pos 0 → pos 0 ≤ℤ crossed fv hv (f q) (h q)) xs → pos 0 ≤ℤ less k l fv hv
 
 pub best : {A : Type 0} (f h : A → ℤ) (xs : List A) → (k : ℤ) × (l : ℤ) × IsBest f h xs k l
-best {A} f h [] = (pos 1, pos 0, record {
-  some = omega (arith, ints);
-  least = omega (arith, ints);
-  all = All-nil (λ (v : A). f v <ℤ pos 0 → pos 0 ≤ℤ less (pos 1) (pos 0) (f v) (h v));
-  others = λ fv hv p crossings. along _ _ (only fv hv) p;
-})
+best {A} f h [] = (
+  pos 1,
+  pos 0,
+  record {
+    some = omega (arith, ints);
+    least = omega (arith, ints);
+    all = All-nil (λ (v : A). f v <ℤ pos 0 → pos 0 ≤ℤ less (pos 1) (pos 0) (f v) (h v));
+    others = λ fv hv p crossings. along _ _ (only fv hv) p;
+  },
+)
   where
     only : (fv hv : ℤ) → hv ≡ less (pos 1) (pos 0) fv hv
     only fv hv = equal (fv ∷ hv ∷ []) (at 1) (difference (product (number (pos 1)) (at 1)) (product (number (pos 0)) (at 0))) refl
@@ -118,8 +122,8 @@ best {A} f h (x ∷ xs) = longer (best f h xs).0 (best f h xs).1 (best f h xs).2
     longer k l b =
         by_lt_z (f x) (pos 0)
         (λ behind. by_lt_z (less k l (f x) (h x)) (pos 0)
-            (λ beaten. (neg_ℤ (f x), neg_ℤ (h x), better k l b behind beaten))
-            (λ level. (k, l, kept k l b (λ p. level))))
+        (λ beaten. (neg_ℤ (f x), neg_ℤ (h x), better k l b behind beaten))
+        (λ level. (k, l, kept k l b (λ p. level))))
         (λ before. (k, l, kept k l b (λ p. absurd (not_both (f x) p before))))
 
 -- ---- one line
@@ -148,12 +152,16 @@ pub one_cut : {A : Type 0} (f h : A → ℤ) (xs : List A)
 one_cut {A} f h xs left crossings = cut (best f h xs).0 (best f h xs).1 (best f h xs).2
   where
     cut : (k l : ℤ) → IsBest f h xs k l → (k' : ℤ) × (l' : ℤ) × IsCut f h xs k' l'
-    cut k l b = (k, l, record {
-      some = b.some;
-      least = b.least;
-      all = λ i d inside. by_lt_z _ (pos 0) (b.all i d inside)
-          (λ before. b.others _ _ (left i d inside before) (λ j e within behind. on_line _ _ _ _ before (left i d inside before) behind (λ beyond. crossings i d inside j e within beyond behind)));
-    })
+    cut k l b = (
+      k,
+      l,
+      record {
+        some = b.some;
+        least = b.least;
+        all = λ i d inside. by_lt_z _ (pos 0) (b.all i d inside)
+            (λ before. b.others _ _ (left i d inside before) (λ j e within behind. on_line _ _ _ _ before (left i d inside before) behind (λ beyond. crossings i d inside j e within beyond behind)));
+      },
+    )
 
 -- ---- two lines
 
@@ -232,11 +240,11 @@ two_cuts {A} f g h xs strip left by_first by_second = second (best g h xs).0 (be
         crossings = λ i d inside j e within ahead behind. along _ _ (joined _ _ _ _ _ _)
             (b.others _ _ (by_first i d inside j e within ahead behind)
             (λ n o third under. twice _ _ _ _ _ _ _ _ ahead behind under (far _ _ behind (strip j e within))
-                (inner_crossing _ _ _ _ ahead behind (strip i d inside) (strip j e within))
-                (by_second j e within n o third (far _ _ behind (strip j e within)) under)
-                (λ over. by_second i d inside n o third over under)
-                (λ over. left i d inside (weak _ ahead) over)
-                (λ below. by_second j e within i d inside (far _ _ behind (strip j e within)) below)))
+            (inner_crossing _ _ _ _ ahead behind (strip i d inside) (strip j e within))
+            (by_second j e within n o third (far _ _ behind (strip j e within)) under)
+            (λ over. by_second i d inside n o third over under)
+            (λ over. left i d inside (weak _ ahead) over)
+            (λ below. by_second j e within i d inside (far _ _ behind (strip j e within)) below)))
           where
             weak : (a : ℤ) → pos 0 <ℤ a → pos 0 ≤ℤ a
             weak a p = omega (arith, ints)
@@ -248,12 +256,17 @@ two_cuts {A} f g h xs strip left by_first by_second = second (best g h xs).0 (be
                 refl
 
         both : (k' l' : ℤ) → IsCut f lessened xs k' l' → (k'' : ℤ) × (l'' : ℤ) × (m'' : ℤ) × IsStrip f g h xs k'' l'' m''
-        both k' l' c = (k' *ℤ k, l', k' *ℤ m, record {
-          some = product-positive k' k c.some b.some;
-          first = c.least;
-          second = product-not_negative k' m (weak k' c.some) b.least;
-          all = λ i d inside. along _ _ (spread k' l' _ _ _) (c.all i d inside);
-        })
+        both k' l' c = (
+          k' *ℤ k,
+          l',
+          k' *ℤ m,
+          record {
+            some = product-positive k' k c.some b.some;
+            first = c.least;
+            second = product-not_negative k' m (weak k' c.some) b.least;
+            all = λ i d inside. along _ _ (spread k' l' _ _ _) (c.all i d inside);
+          },
+        )
           where
             weak : (a : ℤ) → pos 0 <ℤ a → pos 0 ≤ℤ a
             weak a p = omega (arith, ints)

@@ -13,3 +13,6 @@ pub struct Hits {
     pub first: u32,
     pub end: u32,
 }
+
+/// The bounds of a column that no height was put into: no height is above 8190.
+pub const FRESH: Bound = Bound { low: 8191, high: 0 };

@@ -9,8 +9,11 @@
 #![tactic(auto)]
 
 mod bound;
+mod gather;
+mod marks;
 mod row;
 mod shadow;
+mod spot;
 mod triangle;
 
 pub use shadow::Shadow;
