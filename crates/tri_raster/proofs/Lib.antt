@@ -1,3 +1,6 @@
 pub mod Cuts
 pub mod Divisions
 pub mod Places
+pub mod Puts
+pub mod Spans
+pub mod Cells
