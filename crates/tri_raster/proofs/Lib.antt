@@ -4,3 +4,4 @@ pub mod Places
 pub mod Puts
 pub mod Spans
 pub mod Cells
+pub mod Points
