@@ -5,3 +5,4 @@ pub mod Puts
 pub mod Spans
 pub mod Cells
 pub mod Points
+pub mod Shadows
