@@ -35,8 +35,8 @@ crossing_height a c k ln lx ly rn rx ry w u e e' =
     straight : crossed (pos (w + k * rn) -ℤ pos (k * rn)) (height_at a c rn ry) (pos lx -ℤ pos (u + lx)) (height_at a c ln ly) ≡ height_at a c (w * ln + u * rn) (w * ly + u * ry)
     straight = equal (pos w ∷ pos u ∷ pos k ∷ pos ln ∷ pos lx ∷ pos ly ∷ pos rn ∷ pos ry ∷ a ∷ c ∷ [])
         (difference
-            (product (difference (sum (at 0) (product (at 2) (at 6))) (product (at 2) (at 6))) (sum (product (at 8) (at 3)) (product (at 9) (at 5))))
-            (product (difference (at 4) (sum (at 1) (at 4))) (sum (product (at 8) (at 6)) (product (at 9) (at 7)))))
+        (product (difference (sum (at 0) (product (at 2) (at 6))) (product (at 2) (at 6))) (sum (product (at 8) (at 3)) (product (at 9) (at 5))))
+        (product (difference (at 4) (sum (at 1) (at 4))) (sum (product (at 8) (at 6)) (product (at 9) (at 7)))))
         (sum (product (at 8) (sum (product (at 0) (at 3)) (product (at 1) (at 6)))) (product (at 9) (sum (product (at 0) (at 5)) (product (at 1) (at 7)))))
         refl
 
@@ -54,9 +54,9 @@ pub crossing_left : (a c : ℤ) (k : ℕ) (left right : Spot) → left.x < 16 * 
     → pos 0 ≤ℤ crossed (left_of (16 * k) left) (height_at a c left.n left.y) (left_of (16 * k) right) (height_at a c right.n right.y)
 crossing_left a c k left right before behind holds =
     subst (λ (n : ℤ). pos 0 ≤ℤ n) (sym (turned (left_of (16 * k) left) (height_at a c left.n left.y) (left_of (16 * k) right) (height_at a c right.n right.y)))
-        (subst (λ (n : ℤ). pos 0 ≤ℤ crossed n (height_at a c right.n right.y) (neg_ℤ (left_of (16 * k) left)) (height_at a c left.n left.y)) (back_to right.x (16 * k * right.n))
-            (subst (λ (n : ℤ). pos 0 ≤ℤ crossed (right_of (16 * k) right) (height_at a c right.n right.y) n (height_at a c left.n left.y)) (back_to left.x (16 * k * left.n))
-                (crossing_right a c k left right before behind holds)))
+    (subst (λ (n : ℤ). pos 0 ≤ℤ crossed n (height_at a c right.n right.y) (neg_ℤ (left_of (16 * k) left)) (height_at a c left.n left.y)) (back_to right.x (16 * k * right.n))
+    (subst (λ (n : ℤ). pos 0 ≤ℤ crossed (right_of (16 * k) right) (height_at a c right.n right.y) n (height_at a c left.n left.y)) (back_to left.x (16 * k * left.n))
+    (crossing_right a c k left right before behind holds)))
   where
     back_to : (a l : ℕ) → pos a -ℤ pos l ≡ neg_ℤ (pos l -ℤ pos a)
     back_to a l = equal (pos a ∷ pos l ∷ []) (difference (at 0) (at 1)) (opposite (difference (at 1) (at 0))) refl
@@ -113,9 +113,9 @@ over_column a c tri x z spots covers some there crossings p over = summed cuts.0
     summed : (k l m : ℤ) → IsStrip f g h spots k l m → pos 0 ≤ℤ height_at a c (count_of p) (y_of tri p)
     summed k l m s = left_over k l m _ _ _ s.some s.first s.second (not_less _ _ over.left) (not_less (x_of tri p) (16 * (x + 1) * count_of p) (omega (arith, over.right)))
         (subst (λ (n : ℤ). pos 0 ≤ℤ n) (left_form_is k l m a c (16 * x) (16 * (x + 1)) (count_of p) (x_of tri p) (y_of tri p))
-            (covers.holds (left_form k l m a c (16 * x) (16 * (x + 1)))
-                (λ i d within. subst (λ (n : ℤ). pos 0 ≤ℤ n) (sym (left_form_is k l m a c (16 * x) (16 * (x + 1)) (slice_index_or spots i d).n (slice_index_or spots i d).x (slice_index_or spots i d).y)) (s.all i d within))
-                p over.front over.back))
+        (covers.holds (left_form k l m a c (16 * x) (16 * (x + 1)))
+        (λ i d within. subst (λ (n : ℤ). pos 0 ≤ℤ n) (sym (left_form_is k l m a c (16 * x) (16 * (x + 1)) (slice_index_or spots i d).n (slice_index_or spots i d).x (slice_index_or spots i d).y)) (s.all i d within))
+        p over.front over.back))
       where
         not_less : (a b : ℕ) → a ≤ b → pos 0 ≤ℤ (pos b -ℤ pos a)
         not_less a b le = omega (arith, ints)

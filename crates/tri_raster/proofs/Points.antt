@@ -81,8 +81,8 @@ pub line_spot : (tri : Tri) (z k : ℕ) (left right : Spot) → left.x < 16 * k 
 line_spot tri z k left right before behind p q = point_spot tri z (line_crossing left right k) (w * z_of tri p.point + u * z_of tri q.point)
     (omega (arith, times_le 1 w left.n (omega arith), p.some))
     (subst (λ (n : ℕ). IsPoint tri (w * left.n + u * right.n) n (w * left.y + u * right.y) (w * z_of tri p.point + u * z_of tri q.point))
-        (on_the_line (16 * k) left.n left.x right.n right.x w u (omega arith) (omega arith))
-        (mixed tri left.n left.x left.y (z_of tri p.point) right.n right.x right.y (z_of tri q.point) w u (spot_point tri z left p) (spot_point tri z right q)))
+    (on_the_line (16 * k) left.n left.x right.n right.x w u (omega arith) (omega arith))
+    (mixed tri left.n left.x left.y (z_of tri p.point) right.n right.x right.y (z_of tri q.point) w u (spot_point tri z left p) (spot_point tri z right q)))
     (both_le w u left.n right.n (16 * z) (z_of tri p.point) (z_of tri q.point) p.front q.front)
     (both_ge w u left.n right.n (16 * z + 16) (z_of tri p.point) (z_of tri q.point) p.back q.back)
   where
@@ -102,9 +102,9 @@ line_spot tri z k left right before behind p q = point_spot tri z (line_crossing
 edge_point : (tri : Tri) (z line : ℕ) (a b : Corner3) → IsPoint tri 1 a.x a.y a.z → IsPoint tri 1 b.x b.y b.z → a.z < line → line < b.z → 16 * z ≤ line → line ≤ 16 * z + 16 → IsSpotOf tri z (crossing a b line)
 edge_point tri z line a b p q low high front back = point_spot tri z (crossing a b line) (line * (b.z - a.z)) (omega arith)
     (subst (λ (n : ℕ). IsPoint tri n (w * a.x + u * b.x) (w * a.y + u * b.y) (line * (b.z - a.z))) (whole a.z line b.z low high)
-        (subst (λ (n : ℕ). IsPoint tri (w * 1 + u * 1) (w * a.x + u * b.x) (w * a.y + u * b.y) n)
-            (on_the_line line 1 a.z 1 b.z w u (omega arith) (omega arith) ∙ ap (λ n. line * n) (whole a.z line b.z low high))
-            (mixed tri 1 a.x a.y a.z 1 b.x b.y b.z w u p q)))
+    (subst (λ (n : ℕ). IsPoint tri (w * 1 + u * 1) (w * a.x + u * b.x) (w * a.y + u * b.y) n)
+    (on_the_line line 1 a.z 1 b.z w u (omega arith) (omega arith) ∙ ap (λ n. line * n) (whole a.z line b.z low high))
+    (mixed tri 1 a.x a.y a.z 1 b.x b.y b.z w u p q)))
     (times_le (16 * z) line (b.z - a.z) front)
     (times_le line (16 * z + 16) (b.z - a.z) back)
   where
@@ -153,6 +153,6 @@ row_spots_are tri z =
     let low' : 16 * z ≤ 16 * z + 16 = omega arith in
     let high' : 16 * z + 16 ≤ 16 * z + 16 = omega arith in
     All-append P _ _ (All-append P _ _ (All-append P _ _ (All-append P _ _ (All-append P _ _ (All-append P _ _ (All-append P _ _ (All-append P _ _
-        (corner_all tri z tri.a a) (corner_all tri z tri.b b)) (corner_all tri z tri.c c))
-        (edge_all tri z (16 * z) tri.a tri.b a b low low')) (edge_all tri z (16 * z) tri.b tri.c b c low low')) (edge_all tri z (16 * z) tri.c tri.a c a low low'))
-        (edge_all tri z (16 * z + 16) tri.a tri.b a b low' high')) (edge_all tri z (16 * z + 16) tri.b tri.c b c low' high')) (edge_all tri z (16 * z + 16) tri.c tri.a c a low' high')
+    (corner_all tri z tri.a a) (corner_all tri z tri.b b)) (corner_all tri z tri.c c))
+    (edge_all tri z (16 * z) tri.a tri.b a b low low')) (edge_all tri z (16 * z) tri.b tri.c b c low low')) (edge_all tri z (16 * z) tri.c tri.a c a low low'))
+    (edge_all tri z (16 * z + 16) tri.a tri.b a b low' high')) (edge_all tri z (16 * z + 16) tri.b tri.c b c low' high')) (edge_all tri z (16 * z + 16) tri.c tri.a c a low' high')

@@ -1,5 +1,5 @@
 -- What heights put into bounds do to them.
-use Rattle.std.proofs.Common.{◌≡◌, ℕ, ◌+◌, ◌*◌, ◌/◌, ◌≤◌, ◌<◌, min, max, ◌⊎◌, inl, inr, ◌≢◌, List, length, refl, sym, ◌∙◌, ap, subst, arith}
+use Rattle.std.proofs.Common.{◌≡◌, ℕ, zero, suc, ◌+◌, ◌*◌, ◌/◌, ◌≤◌, ◌<◌, min, max, ◌⊎◌, inl, inr, ◌≢◌, List, [], ◌∷◌, length, refl, sym, ◌∙◌, ap, subst, arith}
 use Rattle.std.specs.Prelude.{slice_index_or, slice_set}
 use Rattle.std.specs.Int.{div_ceil}
 use Rattle.std.proofs.lemmas.Bool.{cases_lt, cases_eq}
@@ -70,6 +70,12 @@ widened_filled tri x z low high bound h (inl e) = inr (subst (λ (b : Bound). Is
 widened_filled tri x z low high bound h (inr r) = inr (reached_more tri x z low high bound h r)
 
 -- ---- a list of bounds
+
+-- nothing is written beyond the end
+pub set_beyond : (xs : List Bound) (i : ℕ) (v : Bound) → length xs ≤ i → slice_set xs i v ≡ xs
+set_beyond [] i v beyond = refl
+set_beyond (x ∷ xs) zero v beyond = absurd (omega arith)
+set_beyond (x ∷ xs) (suc i) v beyond = ap (λ ys. x ∷ ys) (set_beyond xs i v (omega arith))
 
 pub put-length : (bounds : List Bound) (x low high : ℕ) → length (put_at bounds x low high) ≡ length bounds
 put-length bounds x low high = length-set bounds x (widened (bound_at bounds x) low high)

@@ -79,14 +79,16 @@ pushed : (tri : Tri) (x z n px y deep : ℕ) → IsPoint tri n px y deep → 16 
     → (p : Weights) × IsInside tri x z p
 pushed tri x z n px y deep is left right front back i =
     let m : ℕ = 16 * x * i.n + i.x + 1 in
-    let total = mixed tri n px y deep i.n i.x i.y i.deep m 1 is i.is in
-    (total.point, record {
-      some = omega (arith, total.count, some i.n i.deep i.front i.back, times_le 0 m n (omega arith));
-      left = subst (λ (k : ℕ). 16 * x * k < x_of tri total.point) (sym total.count) (omega (arith, total.x_is, over m n px i.n i.x (16 * x) left (omega arith)));
-      right = subst (λ (k : ℕ). x_of tri total.point < (16 * x + 16) * k) (sym total.count) (omega (arith, total.x_is, under m n px i.n i.x (16 * x + 16) right (omega arith)));
-      front = subst (λ (k : ℕ). 16 * z * k < z_of tri total.point) (sym total.count) (omega (arith, total.z_is, ahead m n deep i.n i.deep (16 * z) front i.front));
-      back = subst (λ (k : ℕ). z_of tri total.point < (16 * z + 16) * k) (sym total.count) (omega (arith, total.z_is, behind m n deep i.n i.deep (16 * z + 16) back i.back));
-    })
+    let total = mixed tri n px y deep i.n i.x i.y i.deep m 1 is i.is in (
+      total.point,
+      record {
+        some = omega (arith, total.count, some i.n i.deep i.front i.back, times_le 0 m n (omega arith));
+        left = subst (λ (k : ℕ). 16 * x * k < x_of tri total.point) (sym total.count) (omega (arith, total.x_is, over m n px i.n i.x (16 * x) left (omega arith)));
+        right = subst (λ (k : ℕ). x_of tri total.point < (16 * x + 16) * k) (sym total.count) (omega (arith, total.x_is, under m n px i.n i.x (16 * x + 16) right (omega arith)));
+        front = subst (λ (k : ℕ). 16 * z * k < z_of tri total.point) (sym total.count) (omega (arith, total.z_is, ahead m n deep i.n i.deep (16 * z) front i.front));
+        back = subst (λ (k : ℕ). z_of tri total.point < (16 * z + 16) * k) (sym total.count) (omega (arith, total.z_is, behind m n deep i.n i.deep (16 * z + 16) back i.back));
+      },
+    )
   where
     some : (n deep : ℕ) → 16 * z * n < deep → deep < (16 * z + 16) * n → 1 ≤ n
     some n deep p q = elim (cases_lt 0 n) [ inl more ↦ more | inr none ↦ absurd (let e : n ≡ 0 = omega arith in let f = ap (λ (k : ℕ). (16 * z + 16) * k) e in omega arith) ]
@@ -128,11 +130,11 @@ hit tri x z s t p q right left i = elim (cases_lt s.x ((16 * x + 16) * s.n)) [
         let some : 1 ≤ w = omega (arith, p.some) in
         let more : 1 ≤ w * t.n = omega (arith, q.some, times_le 1 w t.n some) in
         pushed tri x z (w * t.n + u * s.n) (w * t.x + u * s.x) (w * t.y + u * s.y) (w * z_of tri q.point + u * z_of tri p.point)
-            (mixed tri t.n t.x t.y (z_of tri q.point) s.n s.x s.y (z_of tri p.point) w u (spot_point tri z t q) (spot_point tri z s p))
-            (omega arith) (omega arith)
-            (both_le w u t.n s.n (16 * z) (z_of tri q.point) (z_of tri p.point) q.front p.front)
-            (both_ge w u t.n s.n (16 * z + 16) (z_of tri q.point) (z_of tri p.point) q.back p.back)
-            i
+        (mixed tri t.n t.x t.y (z_of tri q.point) s.n s.x s.y (z_of tri p.point) w u (spot_point tri z t q) (spot_point tri z s p))
+        (omega arith) (omega arith)
+        (both_le w u t.n s.n (16 * z) (z_of tri q.point) (z_of tri p.point) q.front p.front)
+        (both_ge w u t.n s.n (16 * z + 16) (z_of tri q.point) (z_of tri p.point) q.back p.back)
+        i
 
 -- ---- no others
 
@@ -140,7 +142,7 @@ hit tri x z s t p q right left i = elim (cases_lt s.x ((16 * x + 16) * s.n)) [
 pub all_right : (tri : Tri) (x z : ℕ) (spots : List Spot) → Covers tri z spots → All (λ (s : Spot). (16 * x + 16) * s.n ≤ s.x) spots → (p : Weights) → IsInside tri x z p → ⊥
 all_right tri x z spots covers all p is = low (x_of tri p) ((16 * x + 16) * count_of p) is.right
     (subst (λ (n : ℤ). pos 0 ≤ℤ n) (is_form (count_of p) (x_of tri p) (y_of tri p))
-        (covers.holds form (λ i d within. subst (λ (n : ℤ). pos 0 ≤ℤ n) (sym (is_form _ _ _)) (high _ _ (all i d within))) p (omega (arith, is.front)) (omega (arith, is.back))))
+    (covers.holds form (λ i d within. subst (λ (n : ℤ). pos 0 ≤ℤ n) (sym (is_form _ _ _)) (high _ _ (all i d within))) p (omega (arith, is.front)) (omega (arith, is.back))))
   where
     form : Form
     form = record { n = neg_ℤ (pos (16 * x + 16)); x = pos 1; y = pos 0 }
@@ -157,7 +159,7 @@ all_right tri x z spots covers all p is = low (x_of tri p) ((16 * x + 16) * coun
 pub all_left : (tri : Tri) (x z : ℕ) (spots : List Spot) → Covers tri z spots → All (λ (s : Spot). s.x ≤ 16 * x * s.n) spots → (p : Weights) → IsInside tri x z p → ⊥
 all_left tri x z spots covers all p is = low (16 * x * count_of p) (x_of tri p) is.left
     (subst (λ (n : ℤ). pos 0 ≤ℤ n) (is_form (count_of p) (x_of tri p) (y_of tri p))
-        (covers.holds form (λ i d within. subst (λ (n : ℤ). pos 0 ≤ℤ n) (sym (is_form _ _ _)) (high _ _ (all i d within))) p (omega (arith, is.front)) (omega (arith, is.back))))
+    (covers.holds form (λ i d within. subst (λ (n : ℤ). pos 0 ≤ℤ n) (sym (is_form _ _ _)) (high _ _ (all i d within))) p (omega (arith, is.front)) (omega (arith, is.back))))
   where
     form : Form
     form = record { n = pos (16 * x); x = neg_ℤ (pos 1); y = pos 0 }
@@ -194,9 +196,9 @@ module _ (tri : Tri) (x z : ℕ) (spots : List Spot) (bound : Bound) (covers : C
   pub below : (p : Weights) → IsOver tri x z p → bound.low * count_of p ≤ y_of tri p
   below p over = at_least _ _ (subst (λ (n : ℤ). pos 0 ≤ℤ n) (low_at bound.low (count_of p) (y_of tri p))
       (over_column (neg_ℤ (pos bound.low)) (pos 1) tri x z spots covers some
-          (λ i d within left right. holds (about.spots_there i d within left right))
-          (λ i d within j e reached k before behind which. holds (about.crossings i d within j e reached k before behind which))
-          p over))
+      (λ i d within left right. holds (about.spots_there i d within left right))
+      (λ i d within j e reached k before behind which. holds (about.crossings i d within j e reached k before behind which))
+      p over))
     where
       holds : {s : Spot} → IsAbout s bound → pos 0 ≤ℤ height_at (neg_ℤ (pos bound.low)) (pos 1) s.n s.y
       holds {s} is = subst (λ (n : ℤ). pos 0 ≤ℤ n) (sym (low_at bound.low s.n s.y)) (not_less _ _ is.low)
@@ -204,9 +206,9 @@ module _ (tri : Tri) (x z : ℕ) (spots : List Spot) (bound : Bound) (covers : C
   pub above : (p : Weights) → IsOver tri x z p → y_of tri p ≤ bound.high * count_of p
   above p over = at_least _ _ (subst (λ (n : ℤ). pos 0 ≤ℤ n) (high_at bound.high (count_of p) (y_of tri p))
       (over_column (pos bound.high) (neg_ℤ (pos 1)) tri x z spots covers some
-          (λ i d within left right. holds (about.spots_there i d within left right))
-          (λ i d within j e reached k before behind which. holds (about.crossings i d within j e reached k before behind which))
-          p over))
+      (λ i d within left right. holds (about.spots_there i d within left right))
+      (λ i d within j e reached k before behind which. holds (about.crossings i d within j e reached k before behind which))
+      p over))
     where
       holds : {s : Spot} → IsAbout s bound → pos 0 ≤ℤ height_at (pos bound.high) (neg_ℤ (pos 1)) s.n s.y
       holds {s} is = subst (λ (n : ℤ). pos 0 ≤ℤ n) (sym (high_at bound.high s.n s.y)) (not_less _ _ is.high)

@@ -80,8 +80,8 @@ crossing_form f L ax ay az bx by bz w u e e' =
     straight : crossed (pos (w + (u + az)) -ℤ pos (u + az)) (form_at f 1 bx by) (pos az -ℤ pos (u + az)) (form_at f 1 ax ay) ≡ form_at f (w + u) (w * ax + u * bx) (w * ay + u * by)
     straight = equal (pos w ∷ pos u ∷ pos az ∷ pos ax ∷ pos ay ∷ pos bx ∷ pos by ∷ f.n ∷ f.x ∷ f.y ∷ [])
         (difference
-            (product (difference (sum (at 0) (sum (at 1) (at 2))) (sum (at 1) (at 2))) (sum (sum (product (at 7) (number (pos 1))) (product (at 8) (at 3))) (product (at 9) (at 4))))
-            (product (difference (at 2) (sum (at 1) (at 2))) (sum (sum (product (at 7) (number (pos 1))) (product (at 8) (at 5))) (product (at 9) (at 6)))))
+        (product (difference (sum (at 0) (sum (at 1) (at 2))) (sum (at 1) (at 2))) (sum (sum (product (at 7) (number (pos 1))) (product (at 8) (at 3))) (product (at 9) (at 4))))
+        (product (difference (at 2) (sum (at 1) (at 2))) (sum (sum (product (at 7) (number (pos 1))) (product (at 8) (at 5))) (product (at 9) (at 6)))))
         (sum (sum (product (at 7) (sum (at 0) (at 1))) (product (at 8) (sum (product (at 0) (at 3)) (product (at 1) (at 5))))) (product (at 9) (sum (product (at 0) (at 4)) (product (at 1) (at 6)))))
         refl
 
@@ -90,7 +90,7 @@ rising : (f : Form) (L : ℕ) (a b : Corner3) → (a.z < L → L < b.z → pos 0
     → pos 0 ≤ℤ crossed (pos b.z -ℤ pos L) (at_spot f (spot_of b)) (pos a.z -ℤ pos L) (at_spot f (spot_of a))
 rising f L a b holds low high =
     subst (λ (n : ℤ). pos 0 ≤ℤ n) (sym (crossing_form f L a.x a.y a.z b.x b.y b.z (b.z - L) (L - a.z) (omega arith) (omega arith)))
-        (subst (λ (n : ℕ). pos 0 ≤ℤ form_at f n ((b.z - L) * a.x + (L - a.z) * b.x) ((b.z - L) * a.y + (L - a.z) * b.y)) (all_of a.z L b.z low high) (holds low high))
+    (subst (λ (n : ℕ). pos 0 ≤ℤ form_at f n ((b.z - L) * a.x + (L - a.z) * b.x) ((b.z - L) * a.y + (L - a.z) * b.y)) (all_of a.z L b.z low high) (holds low high))
   where
     all_of : (a l b : ℕ) → a < l → l < b → b - a ≡ (b - l) + (l - a)
     all_of a l b p q = omega arith
@@ -131,7 +131,7 @@ weighed : (f : Form) (u v w ax ay bx by cx cy : ℕ)
 weighed f u v w ax ay bx by cx cy = equal (pos u ∷ pos v ∷ pos w ∷ pos ax ∷ pos ay ∷ pos bx ∷ pos by ∷ pos cx ∷ pos cy ∷ f.n ∷ f.x ∷ f.y ∷ [])
     (sum (sum (product (at 0) (one 3 4)) (product (at 1) (one 5 6))) (product (at 2) (one 7 8)))
     (sum (sum (product (at 9) (sum (sum (at 0) (at 1)) (at 2))) (product (at 10) (sum (sum (product (at 0) (at 3)) (product (at 1) (at 5))) (product (at 2) (at 7)))))
-        (product (at 11) (sum (sum (product (at 0) (at 4)) (product (at 1) (at 6))) (product (at 2) (at 8)))))
+    (product (at 11) (sum (sum (product (at 0) (at 4)) (product (at 1) (at 6))) (product (at 2) (at 8)))))
     refl
   where
     one : ℕ → ℕ → Term
@@ -143,7 +143,7 @@ lessened : (k l m ha hb hc : ℤ) (u v w az bz cz low high : ℕ)
 lessened k l m ha hb hc u v w az bz cz low high = equal (k ∷ l ∷ m ∷ ha ∷ hb ∷ hc ∷ pos u ∷ pos v ∷ pos w ∷ pos az ∷ pos bz ∷ pos cz ∷ pos low ∷ pos high ∷ [])
     (sum (sum (product (at 6) (one (at 9) (at 3))) (product (at 7) (one (at 10) (at 4)))) (product (at 8) (one (at 11) (at 5))))
     (difference (difference (product (at 0) (sum (sum (product (at 6) (at 3)) (product (at 7) (at 4))) (product (at 8) (at 5))))
-        (product (at 1) (difference deep (product (at 12) count)))) (product (at 2) (difference (product (at 13) count) deep)))
+    (product (at 1) (difference deep (product (at 12) count)))) (product (at 2) (difference (product (at 13) count) deep)))
     refl
   where
     one : Term → Term → Term
@@ -188,9 +188,9 @@ spanned f tri z aa bs cs low high p front back = summed cuts.0 cuts.1 cuts.2 cut
     down : (a b : Corner3) → Holds f (16 * z + 16) a b → pos 0 <ℤ before z a → before z b <ℤ pos 0 → pos 0 ≤ℤ crossed (before z a) (h a) (before z b) (h b)
     down a b holds over under =
         subst (λ (n : ℤ). pos 0 ≤ℤ n) (sym (turned (before z a) (h a) (before z b) (h b)))
-            (subst (λ (n : ℤ). pos 0 ≤ℤ crossed n (h b) (neg_ℤ (before z a)) (h a)) (back_to b.z (16 * z + 16))
-                (subst (λ (n : ℤ). pos 0 ≤ℤ crossed (pos b.z -ℤ pos (16 * z + 16)) (h b) n (h a)) (back_to a.z (16 * z + 16))
-                    (rising f (16 * z + 16) a b holds (omega (arith, ints)) (omega (arith, ints)))))
+        (subst (λ (n : ℤ). pos 0 ≤ℤ crossed n (h b) (neg_ℤ (before z a)) (h a)) (back_to b.z (16 * z + 16))
+        (subst (λ (n : ℤ). pos 0 ≤ℤ crossed (pos b.z -ℤ pos (16 * z + 16)) (h b) n (h a)) (back_to a.z (16 * z + 16))
+        (rising f (16 * z + 16) a b holds (omega (arith, ints)) (omega (arith, ints)))))
       where
         back_to : (a l : ℕ) → pos a -ℤ pos l ≡ neg_ℤ (pos l -ℤ pos a)
         back_to a l = equal (pos a ∷ pos l ∷ []) (difference (at 0) (at 1)) (opposite (difference (at 1) (at 0))) refl
@@ -205,11 +205,11 @@ spanned f tri z aa bs cs low high p front back = summed cuts.0 cuts.1 cuts.2 cut
     summed : (k l m : ℤ) → IsStrip (ahead z) (before z) h corners k l m → pos 0 ≤ℤ form_at f (count_of p) (x_of tri p) (y_of tri p)
     summed k l m s =
         subst (λ (n : ℤ). pos 0 ≤ℤ n) (weighed f p.u p.v p.w tri.a.x tri.a.y tri.b.x tri.b.y tri.c.x tri.c.y)
-            (left_over k l m _ _ _ s.some s.first s.second (not_less _ _ front) (not_less _ _ back)
-                (subst (λ (n : ℤ). pos 0 ≤ℤ n) (lessened k l m (h tri.a) (h tri.b) (h tri.c) p.u p.v p.w tri.a.z tri.b.z tri.c.z (16 * z) (16 * z + 16))
-                    (sums _ _ _ (product-not_negative (pos p.u) _ (natural p.u) (s.all 0 tri.a (omega arith)))
-                        (product-not_negative (pos p.v) _ (natural p.v) (s.all 1 tri.a (omega arith)))
-                        (product-not_negative (pos p.w) _ (natural p.w) (s.all 2 tri.a (omega arith))))))
+        (left_over k l m _ _ _ s.some s.first s.second (not_less _ _ front) (not_less _ _ back)
+        (subst (λ (n : ℤ). pos 0 ≤ℤ n) (lessened k l m (h tri.a) (h tri.b) (h tri.c) p.u p.v p.w tri.a.z tri.b.z tri.c.z (16 * z) (16 * z + 16))
+        (sums _ _ _ (product-not_negative (pos p.u) _ (natural p.u) (s.all 0 tri.a (omega arith)))
+        (product-not_negative (pos p.v) _ (natural p.v) (s.all 1 tri.a (omega arith)))
+        (product-not_negative (pos p.w) _ (natural p.w) (s.all 2 tri.a (omega arith))))))
       where
         natural : (n : ℕ) → pos 0 ≤ℤ pos n
         natural n = omega (arith, ints)
@@ -233,16 +233,16 @@ pub row_covers : (tri : Tri) (z : ℕ) → Covers tri z (row_spots tri z)
 unfolding row_spots
 row_covers tri z = record {
   holds = λ f all.
-    let Q : Spot → Type 0 = λ s. pos 0 ≤ℤ at_spot f s in
-    let all8 = front_of Q _ (edge_spots tri.c tri.a (16 * z + 16)) all in
-    let all7 = front_of Q _ (edge_spots tri.b tri.c (16 * z + 16)) all8 in
-    let all6 = front_of Q _ (edge_spots tri.a tri.b (16 * z + 16)) all7 in
-    let all5 = front_of Q _ (edge_spots tri.c tri.a (16 * z)) all6 in
-    let all4 = front_of Q _ (edge_spots tri.b tri.c (16 * z)) all5 in
-    let all3 = front_of Q _ (edge_spots tri.a tri.b (16 * z)) all4 in
-    let all2 = front_of Q (corner_spots tri.a z ++ corner_spots tri.b z) (corner_spots tri.c z) all3 in
-    spanned f tri z (front_of Q (corner_spots tri.a z) (corner_spots tri.b z) all2) (rest_of Q (corner_spots tri.a z) (corner_spots tri.b z) all2)
-        (rest_of Q (corner_spots tri.a z ++ corner_spots tri.b z) (corner_spots tri.c z) all3)
-        (edges f (16 * z) tri.a tri.b tri.c (rest_of Q _ (edge_spots tri.a tri.b (16 * z)) all4) (rest_of Q _ (edge_spots tri.b tri.c (16 * z)) all5) (rest_of Q _ (edge_spots tri.c tri.a (16 * z)) all6))
-        (edges f (16 * z + 16) tri.a tri.b tri.c (rest_of Q _ (edge_spots tri.a tri.b (16 * z + 16)) all7) (rest_of Q _ (edge_spots tri.b tri.c (16 * z + 16)) all8) (rest_of Q _ (edge_spots tri.c tri.a (16 * z + 16)) all));
+      let Q : Spot → Type 0 = λ s. pos 0 ≤ℤ at_spot f s in
+      let all8 = front_of Q _ (edge_spots tri.c tri.a (16 * z + 16)) all in
+      let all7 = front_of Q _ (edge_spots tri.b tri.c (16 * z + 16)) all8 in
+      let all6 = front_of Q _ (edge_spots tri.a tri.b (16 * z + 16)) all7 in
+      let all5 = front_of Q _ (edge_spots tri.c tri.a (16 * z)) all6 in
+      let all4 = front_of Q _ (edge_spots tri.b tri.c (16 * z)) all5 in
+      let all3 = front_of Q _ (edge_spots tri.a tri.b (16 * z)) all4 in
+      let all2 = front_of Q (corner_spots tri.a z ++ corner_spots tri.b z) (corner_spots tri.c z) all3 in
+      spanned f tri z (front_of Q (corner_spots tri.a z) (corner_spots tri.b z) all2) (rest_of Q (corner_spots tri.a z) (corner_spots tri.b z) all2)
+      (rest_of Q (corner_spots tri.a z ++ corner_spots tri.b z) (corner_spots tri.c z) all3)
+      (edges f (16 * z) tri.a tri.b tri.c (rest_of Q _ (edge_spots tri.a tri.b (16 * z)) all4) (rest_of Q _ (edge_spots tri.b tri.c (16 * z)) all5) (rest_of Q _ (edge_spots tri.c tri.a (16 * z)) all6))
+      (edges f (16 * z + 16) tri.a tri.b tri.c (rest_of Q _ (edge_spots tri.a tri.b (16 * z + 16)) all7) (rest_of Q _ (edge_spots tri.b tri.c (16 * z + 16)) all8) (rest_of Q _ (edge_spots tri.c tri.a (16 * z + 16)) all));
 }

@@ -24,9 +24,13 @@ pub fn clear(bounds: &mut [Bound], first: u32, end: u32)
 fn put(bounds: &mut [Bound], x: u32, low: u32, high: u32)
     ensures { bounds.new ≡ put_at bounds.old x low high }
 {
-    if let Some(bound) = bounds.get_mut(x as usize) {
-        bound.low = bound.low.min(low);
-        bound.high = bound.high.max(high);
+    let at = x as usize;
+    if at < bounds.len() {
+        let bound = bounds[at];
+        bounds[at] = Bound {
+            low: bound.low.min(low),
+            high: bound.high.max(high),
+        };
     }
 }
 

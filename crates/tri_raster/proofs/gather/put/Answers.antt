@@ -1,8 +1,0 @@
-use Rattle.std.proofs.Common.{arith}
-use Rattle.tri_raster.proofs.gather.put.Goals as goal
-
-pub returns-in-Some : goal.returns-in-Some
-returns-in-Some c = ?
-
-pub returns-in_default : goal.returns-in_default
-returns-in_default c = ?
