@@ -10,11 +10,16 @@
 
 mod bound;
 mod gather;
+mod group;
 mod marks;
+mod raster;
 mod row;
 mod shadow;
 mod spot;
 mod triangle;
+#[cfg(test)]
+mod tries;
 
+pub use raster::{RasterRefusal, raster};
 pub use shadow::Shadow;
 pub use triangle::{Corner3, Tri};
