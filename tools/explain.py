@@ -9,7 +9,7 @@ import os
 import subprocess
 import sys
 
-from scenes import HERE, Trouble, read_input
+from inputs import HERE, Trouble, read_input
 
 PROGRAM = os.path.join(HERE, "..", "crates", "navd", "out", "navd")
 

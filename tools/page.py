@@ -12,7 +12,8 @@ import os
 import sys
 
 from drawing import Drawing, show, style
-from scenes import HERE, Play, Trouble
+from inputs import HERE, Trouble
+from scenes import Play
 
 TEMPLATE = os.path.join(HERE, "page.html")
 

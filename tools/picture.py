@@ -8,7 +8,8 @@ import argparse
 import sys
 
 from drawing import Drawing, show, style
-from scenes import Play, Trouble
+from inputs import Trouble
+from scenes import Play
 
 MARGIN = 16
 LEGEND = 22

@@ -8,15 +8,12 @@ import subprocess
 from concurrent.futures import ThreadPoolExecutor
 from dataclasses import dataclass, field
 
-HERE = os.path.dirname(os.path.abspath(__file__))
+from inputs import HERE, Trouble, read_input
+
 PROGRAM = os.path.join(HERE, "..", "crates", "navd_scene", "out", "navd_scene")
 # Script lines that are answered by a question's answer, and those that are answered by nothing.
 QUESTIONS = ("path", "ray", "floor")
 SILENT = ("lane",)
-
-
-class Trouble(Exception):
-    """A wrong input or a missing program, told in one sentence."""
 
 
 @dataclass
@@ -90,16 +87,6 @@ def program(given):
     if not os.access(path, os.X_OK):
         raise Trouble(f"there is no program {os.path.relpath(path)}: build it by `cd crates/navd_scene && rt run < stdin`, or name it by --program")
     return path
-
-
-def read_input(path):
-    """The lines of an input."""
-    try:
-        with open(path, "rb") as file:
-            data = file.read()
-    except OSError as error:
-        raise Trouble(f"{path} cannot be read: {error.strerror}") from error
-    return data.split(b"\n")[:-1] if data.endswith(b"\n") else data.split(b"\n")
 
 
 def run(path, data):
