@@ -51,7 +51,8 @@ fn append_request(out: &mut Vec<u8>, request: &Request) -> Result<(), AllocError
     }
 }
 
-fn append_shape(out: &mut Vec<u8>, shape: &Shape) -> Result<(), AllocError>
+/// Appends a shape as a script spells it behind `add`, with that word. Where memory is refused a part may stand at the end.
+pub fn append_shape(out: &mut Vec<u8>, shape: &Shape) -> Result<(), AllocError>
     ensures { Appends out.old out.new result (shape_spelling shape.now) }
 {
     match *shape {

@@ -2,7 +2,8 @@
 //!
 //! Each function appends the whole lines of one answer to the bytes that are written so far, exactly as its definition in `specs/`
 //! spells them, or appends nothing where memory is refused. Where the vector has the room for all of them, it succeeds. All is one line but a
-//! path, which has one more for each link and each turn.
+//! path, which has one more for each link and each turn. `append_fields` and `append_parts` are what the lines are made with, also those of the
+//! crates above: where memory is refused they may leave a part at the end.
 #![tactic(auto)]
 
 mod answer;
@@ -18,8 +19,9 @@ mod step;
 mod totals;
 
 pub use answer::write_answer;
+pub use append::{Field, append_fields, append_parts};
 pub use done::write_done;
-pub use entry::write_entry;
+pub use entry::{append_shape, write_entry};
 pub use fault::write_fault;
 pub use live::{write_final, write_history, write_lane};
 pub use reply::write_reply;
