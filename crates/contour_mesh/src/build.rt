@@ -24,7 +24,7 @@ use crate::placed::side_tables;
 use crate::polygons::polygons;
 use crate::rim::door_rim;
 use contour_walk::{RegionTable, region_table};
-use mesh_types::{Door, Links, Part, Polygon, Regions, RimEdge, TileMesh};
+use mesh_types::{Door, Links, Part, Polygons, Regions, RimEdge, TileMesh};
 use mono_regions::regions;
 use nav_ground::{Cell, FreeLayer, Setting, TileNo};
 use nav_list::Items;
@@ -113,7 +113,7 @@ fn part_polygons(
     regions: &Regions,
     table: &RegionTable,
     parts: &[Part],
-) -> Result<Items<Polygon>, AllocError>
+) -> Result<Polygons, AllocError>
     requires table { IsTableOf cells.now regions.now.regions table.now }
     requires parts { All IsCutPart parts.now }
     requires each { length parts.now ≤ length regions.now.regions }

@@ -8,9 +8,8 @@ ghost use Rattle.contour_mesh.specs.Footings.{polygon_over, facet_over_footing};
 
 use crate::footing::Footing;
 use crate::footings::footing_at;
-use mesh_types::{Corners, Part, Polygon};
+use mesh_types::{Corners, Part, Polygon, Polygons};
 use nav_base::Point;
-use nav_list::Items;
 use std::alloc::{AllocError, Global};
 
 /// The polygons of a tile: a polygon for each piece of each part, over the footing of its region.
@@ -18,7 +17,7 @@ pub fn polygons(
     alloc: Global,
     parts: &[Part],
     footings: &[Option<Footing>],
-) -> Result<Items<Polygon>, AllocError>
+) -> Result<Polygons, AllocError>
     requires parts { All IsCutPart parts.now }
     requires footings { length parts.now ≤ length footings.now }
     ensures { IfOk result (λ polys. polys ≡ map (facet_over_footing footings.now) (facets_of parts.now)) }
@@ -29,7 +28,7 @@ pub fn polygons(
         let footing = footing_at(footings, region);
         push_polygons(&parts[region], footing, &mut corners, &mut polys)?;
     }
-    Ok(Items::from_vec(polys))
+    Polygons::from_vec(alloc, polys)
 }
 
 /// Appends the polygons of a part. The corners are room to work in.

@@ -1,10 +1,9 @@
 -- The box of a polygon: its corners lie in it, so do the ends of the portals on its edges, and its middle is not far from them.
-use Rattle.std.proofs.Common.{◌≡◌, ℕ, zero, suc, ◌<◌, ◌+◌, ℤ, pos, ◌+ℤ◌, ◌-ℤ◌, ◌*ℤ◌, ◌≤ℤ◌, ◌<ℤ◌, List, [], ◌∷◌, ◌++◌, length, map, take, get_or, refl, sym, subst, ap, ◌∙◌, arith}
+use Rattle.std.proofs.Common.{◌≡◌, ℕ, zero, suc, ◌<◌, ℤ, pos, ◌+ℤ◌, ◌-ℤ◌, ◌*ℤ◌, ◌≤ℤ◌, ◌<ℤ◌, List, [], ◌∷◌, ◌++◌, length, map, get_or, refl, sym, subst, ap, ◌∙◌, arith}
 use Rattle.std.specs.Prelude.{All}
 use Rattle.std.specs.Int.{int_min, int_max}
 use Rattle.std.proofs.lemmas.Int.{ints, clamps}
-use Rattle.std.proofs.lemmas.List.{get_or-map, length-map, map_more}
-use Rattle.std.proofs.lemmas.List.Sums.{fold_push}
+use Rattle.std.proofs.lemmas.List.{get_or-map, length-map}
 use Rattle.std.proofs.lemmas.List.Elements.{All-map}
 use lib.IntN.{*ℤ_comm, *ℤ-zero}
 use Rattle.nav_base.specs.declared.point.Point.{Point}
@@ -13,7 +12,7 @@ use Rattle.nav_base.specs.Convex.{corner_at}
 use Rattle.nav_base.proofs.Polynomials.{at, sum, difference, product, equal}
 use Rattle.nav_base.proofs.PointTerms.{place, coordinates, from_to_term, dot_term, orient_term}
 use Rattle.nav_base.proofs.Signs.{product-not_negative, product-not_positive, factor-not_negative, factor-not_positive}
-use Rattle.mesh_types.specs.Corridors.{least_of, greatest_of}
+use Rattle.mesh_types.specs.Extents.{least_of, greatest_of}
 use Rattle.mesh_types.specs.Soundness.{along, LiesAlong}
 
 -- the least of numbers is none above the first and none above any other, and the greatest none below
@@ -47,15 +46,6 @@ greatest_bound k first [] high each = high
 greatest_bound k first (x ∷ xs) high each =
     let here : x ≤ℤ k = each 0 x (omega arith) in
     greatest_bound k (int_max first x) xs (omega (arith, ints, clamps)) (λ i d there. each (suc i) d (omega (arith, there)))
-
--- one number more
-pub least-more : (c : Point → ℤ) (corners : List Point) (i : ℕ) (d : Point) (first : ℤ) → i < length corners
-    → least_of first (map c (take (i + 1) corners)) ≡ int_min (least_of first (map c (take i corners))) (c (get_or corners i d))
-least-more c corners i d first there = ap (least_of first) (map_more c corners i d there) ∙ fold_push int_min first (map c (take i corners)) (c (get_or corners i d))
-
-pub greatest-more : (c : Point → ℤ) (corners : List Point) (i : ℕ) (d : Point) (first : ℤ) → i < length corners
-    → greatest_of first (map c (take (i + 1) corners)) ≡ int_max (greatest_of first (map c (take i corners))) (c (get_or corners i d))
-greatest-more c corners i d first there = ap (greatest_of first) (map_more c corners i d there) ∙ fold_push int_max first (map c (take i corners)) (c (get_or corners i d))
 
 -- along one axis: the least and the greatest coordinate of corners
 module _ (c : Point → ℤ) (corners : List Point) where

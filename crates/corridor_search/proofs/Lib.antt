@@ -5,3 +5,4 @@ pub mod Vertices
 pub mod LinkWeights
 pub mod Searchable
 pub mod MeshWalks
+pub mod Extents

@@ -9,6 +9,7 @@ use Rattle.mesh_types.specs.declared.links.PolyRef.{PolyRef}
 use Rattle.mesh_types.specs.declared.links.Link.{Link}
 use Rattle.mesh_types.specs.declared.polygon.Polygon.{Polygon}
 use Rattle.mesh_types.specs.declared.mesh.Mesh.{Mesh}
+use Rattle.mesh_types.specs.LinkIndex.{entered_by}
 use Rattle.mesh_types.specs.Corridors.{centre_of, weight_of}
 use Rattle.mesh_types.specs.WholeMesh.{poly_at}
 use Rattle.mesh_types.specs.Soundness.{IsSound}
@@ -35,6 +36,11 @@ ends-are mesh at = sym (map-append end_of (inner_links mesh at) (outer_links mes
     each : (links : List Link) → map end_of links ≡ ends_of (map (arc_over mesh) links)
     each [] = refl
     each (link ∷ links) = ap (λ (ends : List Vertex). end_of link ∷ ends) (each links)
+
+-- the vertices of the polygons that links enter are their ends
+pub ends-over : (links : List Link) → map vertex_of (map entered_by links) ≡ map end_of links
+ends-over [] = refl
+ends-over (link ∷ links) = ap (λ (ends : List Vertex). end_of link ∷ ends) (ends-over links)
 
 -- the polygon that the arc of a step enters is there, and the arc weighs what its link does
 pub step-enters : (mesh : Mesh) (step : Step) (to : Vertex) → IsSound mesh → step.place < length (arcs_from mesh step.from) → (arc_of (arcs_from mesh) step).to ≡ to

@@ -1,9 +1,9 @@
 -- The mesh as a graph: its polygons are the vertices, by tile and place, and its links are the arcs.
-use Rattle.std.specs.Prelude.{◌≡◌, ℕ, ◌+◌, ◌*◌, ◌<◌, max, pos, ◌≤ℤ◌, List, [], ◌∷◌, ◌++◌, length, map, slice_get, slice_index, slice_index_or, Some}
+use Rattle.std.specs.Prelude.{◌≡◌, ℕ, ◌+◌, ◌*◌, ◌<◌, max, pos, ◌≤ℤ◌, ◌+ℤ◌, ◌*ℤ◌, List, [], ◌∷◌, ◌++◌, length, map, slice_get, slice_index, slice_index_or, Some}
 use Rattle.std.specs.List.{range_with_len}
 use Rattle.std.specs.Option.{option_map_or}
 use Rattle.nav_base.specs.declared.point.Point.{Point}
-use Rattle.nav_base.specs.Point.{from_to}
+use Rattle.nav_base.specs.Point.{IsCellCorner, from_to}
 use Rattle.nav_base.specs.Deviation.{square_of}
 use Rattle.nav_base.specs.Root.{ceil_sqrt_of}
 use Rattle.nav_ground.specs.Limits.{IsSetting}
@@ -12,7 +12,9 @@ use Rattle.mesh_types.specs.declared.links.Link.{Link}
 use Rattle.mesh_types.specs.declared.polygon.Polygon.{Polygon}
 use Rattle.mesh_types.specs.declared.tile.TileMesh.{TileMesh}
 use Rattle.mesh_types.specs.declared.mesh.Mesh.{Mesh}
-use Rattle.mesh_types.specs.LinkIndex.{leaving_of}
+use Rattle.mesh_types.specs.declared.extent.Extent.{Extent}
+use Rattle.mesh_types.specs.Extents.{extent_of}
+use Rattle.mesh_types.specs.LinkIndex.{leaving_of, entered_by}
 use Rattle.mesh_types.specs.WholeMesh.{poly_at}
 use Rattle.mesh_types.specs.Corridors.{centre_of, weight_of, WalksTo}
 use Rattle.mesh_types.specs.Soundness.{IsSound}
@@ -90,7 +92,28 @@ weight_from mesh centre at =
 abbrev pub estimate_from : Mesh → Point → PolyRef → ℕ
 estimate_from mesh goal at = option_map_or (λ (polygon : Polygon). ceil_sqrt_of (square_of (from_to (centre_of polygon.corners) goal))) (poly_at mesh at) 0
 
--- the same for all vertices
+-- the extent of a polygon, and the middle of its box in sixteenths of a cell
+abbrev pub nowhere : Extent
+nowhere =
+    let origin : Point = record { x = pos 0; z = pos 0 } in
+    record { low = origin; high = origin; area = 0 }
+
+abbrev pub extent_at : Mesh → PolyRef → Extent
+extent_at mesh at = option_map_or (λ (tile : TileMesh). slice_index_or (map extent_of tile.polys) at.index nowhere) (slice_get mesh.tiles at.tile) nowhere
+
+abbrev pub middle_of : Extent → Point
+middle_of extent = record { x = pos 8 *ℤ (extent.low.x +ℤ extent.high.x); z = pos 8 *ℤ (extent.low.z +ℤ extent.high.z) }
+
+-- both corners of the box lie in the largest field
+pub record IsBox (extent : Extent) : Type 0 where
+  pub low : IsCellCorner extent.low
+  pub high : IsCellCorner extent.high
+
+-- the extents of all vertices
+abbrev pub extents_of : Mesh → Vertex → Extent
+extents_of mesh v = extent_at mesh (polygon_of v)
+
+-- the estimates of all vertices
 abbrev pub estimates_of : Mesh → Point → Vertex → ℕ
 estimates_of mesh goal v = estimate_from mesh goal (polygon_of v)
 
@@ -109,7 +132,7 @@ pub record IsSearched (mesh : Mesh) (goal : Point) : Type 0 where
 
 -- the vertex of the polygon that a link enters
 abbrev pub end_of : Link → Vertex
-end_of link = vertex_of link.to
+end_of link = vertex_of (entered_by link)
 
 -- a step takes a link that leaves its polygon
 pub record IsOver (mesh : Mesh) (step : Step) : Type 0 where

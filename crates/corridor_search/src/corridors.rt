@@ -8,7 +8,7 @@ ghost use Rattle.graph_search.specs.declared.arcs.Step.{Step};
 ghost use Rattle.corridor_search.specs.MeshGraphs.{IsThere, IsApart, IsOver, link_of};
 
 use crate::mesh_graph::{MeshGraph, link_at, vertex_at};
-use crate::weights::{centre, polygon_at};
+use crate::weights::{extent_at, middle};
 use graph_search::{Step, cheapest_walk};
 use mesh_types::{Corridor, Link, Mesh, PolyRef};
 use nav_list::Items;
@@ -31,7 +31,7 @@ pub fn cheapest(
     ensures none { IfOk result (λ answer. IfNone answer (IsApart mesh.now from to)) }
     ensures few { IfOk result (λ answer. IfSome answer (λ corridor. corridor.cost < 2 ^ 45)) }
 {
-    let goal = centre(polygon_at(mesh, to));
+    let goal = middle(extent_at(mesh, to));
     let graph = MeshGraph { mesh, goal };
     match cheapest_walk(alloc, &graph, vertex_at(from), vertex_at(to))? {
         Some(walk) => {

@@ -1,11 +1,12 @@
 //! The mesh as a graph.
 
 ghost use Rattle.std.specs.Prelude.{◌≡◌, ◌++◌, ◌<◌, OnOk, map, length};
-ghost use Rattle.corridor_search.specs.MeshGraphs.{vertex_of, polygon_of, inner_links, outer_links, links_from, link_of, end_of};
+ghost use Rattle.mesh_types.specs.LinkIndex.{entered_by};
+ghost use Rattle.corridor_search.specs.MeshGraphs.{vertex_of, polygon_of, inner_links, outer_links, links_from, link_of};
 
-use crate::weights::{centre, distance, polygon_at, weight};
+use crate::weights::{distance, extent_at, middle, weight};
 use graph_search::{Graph, Step, Vertex};
-use mesh_types::{Link, Mesh, PolyRef};
+use mesh_types::{Extent, Link, Mesh, PolyRef};
 use nav_base::Point;
 use std::alloc::AllocError;
 
@@ -49,6 +50,26 @@ fn outer(mesh: &Mesh, at: PolyRef) -> &[Link]
     }
 }
 
+/// The polygons that those links enter.
+fn entered_inside(mesh: &Mesh, at: PolyRef) -> &[PolyRef]
+    ensures { result.now ≡ map entered_by (inner_links mesh.now at) }
+{
+    match mesh.tiles.get(at.tile as usize) {
+        Some(tile) => tile.get().links.entered_from(at.index),
+        None => &[],
+    }
+}
+
+/// The polygons that the links over the border enter.
+fn entered_outside(mesh: &Mesh, at: PolyRef) -> &[PolyRef]
+    ensures { result.now ≡ map entered_by (outer_links mesh.now at) }
+{
+    match mesh.cross.get(at.tile as usize) {
+        Some(links) => links.get().entered_from(at.index),
+        None => &[],
+    }
+}
+
 /// The link that a step takes.
 pub(crate) fn link_at(mesh: &Mesh, step: Step) -> Link
     requires { step.place < length (links_from mesh.now (polygon_of step.from)) }
@@ -72,13 +93,17 @@ pub(crate) struct MeshGraph<'a> {
 }
 
 impl Graph for MeshGraph<'_> {
-    ghost use Rattle.corridor_search.specs.MeshGraphs.{IsSearched, vertices_of, arcs_from, estimates_of};
+    ghost use Rattle.corridor_search.specs.MeshGraphs.{IsSearched, vertices_of, arcs_from, extents_of, estimates_of};
+
+    type Spot = Extent;
 
     ghost is_sound = { λ g. IsSearched g.mesh.now g.goal };
 
     ghost vertices = { λ g. vertices_of g.mesh.now };
 
     ghost arcs = { λ g. arcs_from g.mesh.now };
+
+    ghost spots = { λ g. extents_of g.mesh.now };
 
     ghost estimates = { λ g. estimates_of g.mesh.now g.goal };
 
@@ -88,27 +113,31 @@ impl Graph for MeshGraph<'_> {
 
     fn push_ends(&self, from: Vertex, ends: &mut Vec<Vertex>) -> Result<(), AllocError> {
         let at = reference(from);
-        push_entered(inner(self.mesh, at), ends)?;
-        push_entered(outer(self.mesh, at), ends)
+        push_vertices(entered_inside(self.mesh, at), ends)?;
+        push_vertices(entered_outside(self.mesh, at), ends)
     }
 
-    fn weight(&self, step: Step, to: Vertex) -> u64 {
-        let middle = centre(polygon_at(self.mesh, reference(step.from)));
-        weight(self.mesh, middle, reference(to))
+    fn spot(&self, of: Vertex) -> Extent {
+        extent_at(self.mesh, reference(of))
     }
 
-    fn estimate(&self, from: Vertex) -> u64 {
-        let middle = centre(polygon_at(self.mesh, reference(from)));
-        u64::from(distance(middle, self.goal))
+    fn weight(&self, step: Step, to: Vertex, left: Extent, entered: Extent) -> u64 {
+        let _ = (step, to);
+        weight(&self.mesh.setting, middle(left), entered)
+    }
+
+    fn estimate(&self, from: Vertex, spot: Extent) -> u64 {
+        let _ = from;
+        u64::from(distance(middle(spot), self.goal))
     }
 }
 
-/// Appends the vertices of the polygons that links enter.
-fn push_entered(links: &[Link], ends: &mut Vec<Vertex>) -> Result<(), AllocError>
-    ensures { OnOk result (ends.new.items ≡ ends.old.items ++ map end_of links.now) }
+/// Appends the vertices of polygons.
+fn push_vertices(polygons: &[PolyRef], ends: &mut Vec<Vertex>) -> Result<(), AllocError>
+    ensures { OnOk result (ends.new.items ≡ ends.old.items ++ map vertex_of polygons.now) }
 {
-    for link in links {
-        ends.push(vertex_at(link.to))?;
+    for at in polygons {
+        ends.push(vertex_at(*at))?;
     }
     Ok(())
 }

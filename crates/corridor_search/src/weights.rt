@@ -1,83 +1,53 @@
 //! Middles of polygons, and what links cost.
 
-ghost use Rattle.std.specs.Prelude.{◌≡◌, ◌≤◌, ◌<◌, ◌*◌, length, All, Some, pos, ◌≤ℤ◌, ◌+ℤ◌, ◌*ℤ◌};
-ghost use Rattle.std.specs.Int.{int_min, int_max};
+ghost use Rattle.std.specs.Prelude.{◌≡◌, ◌≤◌, ◌*◌, max, slice_index, slice_index_or, pos, ◌≤ℤ◌, ◌+ℤ◌, ◌*ℤ◌};
 ghost use Rattle.std.specs.Int.RustNames.{unsigned_abs};
 ghost use Rattle.nav_base.specs.Point.{IsCellCorner, from_to};
 ghost use Rattle.nav_base.specs.Deviation.{square_of};
 ghost use Rattle.nav_base.specs.Root.{ceil_sqrt_of};
-ghost use Rattle.nav_ground.specs.Limits.{IsSetting};
-ghost use Rattle.mesh_types.specs.Corridors.{centre_of};
-ghost use Rattle.mesh_types.specs.WholeMesh.{poly_at};
-ghost use Rattle.mesh_types.specs.Soundness.{IsSound, IsPolygon};
-ghost use Rattle.corridor_search.specs.MeshGraphs.{IsThere, IsInField, weight_from};
+ghost use Rattle.nav_ground.specs.Limits.{IsSetting, IsArea};
+ghost use Rattle.corridor_search.specs.MeshGraphs.{IsInField, IsBox, nowhere, middle_of, extent_at};
 
-use mesh_types::{Mesh, PolyRef, Polygon, poly};
+use mesh_types::{Extent, Mesh, PolyRef};
 use nav_base::{Point, ceil_sqrt};
+use nav_ground::Setting;
 
-/// The polygon that a reference names.
-pub(crate) fn polygon_at(mesh: &Mesh, at: PolyRef) -> &Polygon
-    requires sound { IsSound mesh.now }
-    requires there { IsThere mesh.now at }
-    ensures named { poly_at mesh.now at ≡ Some result.now }
-    ensures rules { IsPolygon result.now }
+/// Stands for the extent of no polygon.
+const NOWHERE: Extent = Extent {
+    low: Point { x: 0, z: 0 },
+    high: Point { x: 0, z: 0 },
+    area: 0,
+};
+
+/// The extent of the polygon that a reference names.
+pub(crate) fn extent_at(mesh: &Mesh, at: PolyRef) -> Extent
+    ensures { result ≡ extent_at mesh.now at }
 {
-    poly(mesh, at).unwrap()
+    match mesh.tiles.get(at.tile as usize) {
+        Some(tile) => extent_in(tile.get().polys.extents(), at.index as usize),
+        None => NOWHERE,
+    }
+}
+
+/// The extent at a place.
+fn extent_in(extents: &[Extent], place: usize) -> Extent
+    ensures { result ≡ slice_index_or extents.now place nowhere }
+{
+    match extents.get(place) {
+        Some(extent) => *extent,
+        None => NOWHERE,
+    }
 }
 
 /// The middle of a polygon's box, in sixteenths of a cell.
-pub(crate) fn centre(polygon: &Polygon) -> Point
-    requires { IsPolygon polygon.now }
-    ensures value { result ≡ centre_of polygon.now.corners }
+pub(crate) fn middle(extent: Extent) -> Point
+    requires { IsBox extent }
+    ensures value { result ≡ middle_of extent }
     ensures in_field { IsInField result }
 {
-    middle(polygon.corners.as_slice())
-}
-
-/// The middle of the box of corners, in sixteenths of a cell.
-fn middle(corners: &[Point]) -> Point
-    requires some { 0 < length corners.now }
-    requires corners { All IsCellCorner corners.now }
-    ensures value { result ≡ centre_of corners.now }
-    ensures in_field { IsInField result }
-{
-    let mut least = corners[0];
-    let mut greatest = corners[0];
-    for corner in corners {
-        least = least_corner(least, *corner);
-        greatest = greatest_corner(greatest, *corner);
-    }
     Point {
-        x: half_way(least.x, greatest.x),
-        z: half_way(least.z, greatest.z),
-    }
-}
-
-/// The corner of a box with the lesser parts of two corners.
-fn least_corner(a: Point, b: Point) -> Point
-    requires a { IsCellCorner a }
-    requires b { IsCellCorner b }
-    ensures x { result.x ≡ int_min a.x b.x }
-    ensures z { result.z ≡ int_min a.z b.z }
-    ensures corner { IsCellCorner result }
-{
-    Point {
-        x: a.x.min(b.x),
-        z: a.z.min(b.z),
-    }
-}
-
-/// The corner of a box with the greater parts of two corners.
-fn greatest_corner(a: Point, b: Point) -> Point
-    requires a { IsCellCorner a }
-    requires b { IsCellCorner b }
-    ensures x { result.x ≡ int_max a.x b.x }
-    ensures z { result.z ≡ int_max a.z b.z }
-    ensures corner { IsCellCorner result }
-{
-    Point {
-        x: a.x.max(b.x),
-        z: a.z.max(b.z),
+        x: half_way(extent.low.x, extent.high.x),
+        z: half_way(extent.low.z, extent.high.z),
     }
 }
 
@@ -120,15 +90,15 @@ fn square(n: i32) -> u64
     n * n
 }
 
-/// What a step into a polygon costs from a polygon with a given middle.
-pub(crate) fn weight(mesh: &Mesh, from: Point, to: PolyRef) -> u64
-    requires sound { IsSound mesh.now }
-    requires setting { IsSetting mesh.now.setting }
+/// What a step costs from a point into a polygon with an extent: the distance to its middle, rounded up and at least 1, times the cost of its
+/// area.
+pub(crate) fn weight(setting: &Setting, from: Point, to: Extent) -> u64
+    requires setting { IsSetting setting.now }
     requires from { IsInField from }
-    requires there { IsThere mesh.now to }
-    ensures { result ≡ weight_from mesh.now from to }
+    requires to { IsBox to }
+    requires area { IsArea to.area }
+    ensures { result ≡ max 1 (ceil_sqrt_of (square_of (from_to from (middle_of to)))) * slice_index setting.now.costs to.area }
 {
-    let polygon = polygon_at(mesh, to);
-    let length = distance(from, centre(polygon)).max(1);
-    u64::from(length) * u64::from(mesh.setting.costs[polygon.area as usize])
+    let length = distance(from, middle(to)).max(1);
+    u64::from(length) * u64::from(setting.costs[to.area as usize])
 }

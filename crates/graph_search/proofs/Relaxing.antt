@@ -123,7 +123,7 @@ module _ (vertices : List Vertex) (arcs : Vertex → List Arc) (estimate : Verte
             | inr kept ↦ kept.1
           ]
 
-      kept-cost : (v : Vertex) → IsClosed (at v) → (at' v).cost ≡ (at v).cost
+      pub kept-cost : (v : Vertex) → IsClosed (at v) → (at' v).cost ≡ (at v).cost
       kept-cost v is_closed = ap (λ (u : Visit). u.cost) (kept-closed v is_closed)
 
       -- no cost rises
@@ -296,6 +296,7 @@ following-then vertices arcs estimate heaviest vertex closed before waited at wa
   relaxing = next.relaxing;
   tree = λ start tree. next.tree start (first.tree start tree);
   ranks = record { same = λ v. next.ranks.same v ∙ first.ranks.same v };
+  cost = next.cost ∙ first.cost;
   more = omega (arith, first.more, next.more);
 }
 
@@ -310,6 +311,7 @@ following-none vertices arcs estimate heaviest vertex closed at waiting known cl
   relaxing = relaxing;
   tree = λ start tree. tree;
   ranks = record { same = λ v. refl };
+  cost = refl;
   more = omega arith;
 }
 
@@ -345,6 +347,7 @@ module _ (vertices : List Vertex) (arcs : Vertex → List Arc) (estimate : Verte
           (subst (λ (v : Vertex). (at v).cost ≤ (at vertex).cost + (arc_of arcs own_step).weight) (sym enters) no_less);
       tree = λ start tree. tree;
       ranks = record { same = λ v. refl };
+      cost = refl;
       more = omega arith;
     }
 
@@ -379,6 +382,8 @@ module _ (vertices : List Vertex) (arcs : Vertex → List Arc) (estimate : Verte
                 waiting waiting' closed known better at' written waits;
             ranks = ranks-kept vertices arcs estimate heaviest searchable vertex member place below at (closed * heaviest) closing limit-fits
                 waiting waiting' closed known better at' written waits;
+            cost = kept-cost vertices arcs estimate heaviest searchable vertex member place below at (closed * heaviest) closing limit-fits
+                waiting waiting' closed known better at' written waits vertex closing.closed;
             more = omega (arith, longer);
           }
 

@@ -80,6 +80,7 @@ pub record IsFollowing (vertices : List Vertex) (arcs : Vertex → List Arc) (es
   pub relaxing : AreBeingRelaxed arcs at vertex count
   pub tree : (start : Vertex) → IsTree arcs start before → IsTree arcs start at
   pub ranks : KeepsRanks before at
+  pub cost : (at vertex).cost ≡ (before vertex).cost
   pub more : length waiting ≤ length waited + added
 
 -- a vertex as it is when it is closed

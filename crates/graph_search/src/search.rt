@@ -32,7 +32,7 @@ pub fn cheapest_walk<G: Graph>(
     ensures few { IfOk result (λ answer. IfSome answer (λ walk. walk.cost ≤ length (G.vertices graph.now) * G.heaviest graph.now)) }
     ensures none { IfOk result (λ answer. IfNone answer (IsApart (G.arcs graph.now) from to)) }
 {
-    let mut search = Search::begin(alloc, from, graph.estimate(from))?;
+    let mut search = Search::begin(alloc, from, graph.estimate(from, graph.spot(from)))?;
     let mut ends = Vec::new(alloc);
     while let Some((_, vertex)) = search.waiting.pop() {
         let rank = search.visits.get(vertex).rank;
@@ -46,6 +46,13 @@ pub fn cheapest_walk<G: Graph>(
         search.relax(alloc, graph, vertex, &mut ends)?;
     }
     Ok(None)
+}
+
+/// What is known of the vertex that an arc leaves: what it costs, and its spot.
+#[derive(Clone, Copy)]
+struct Origin<S> {
+    cost: u64,
+    spot: S,
 }
 
 /// The state of a search.
@@ -126,8 +133,11 @@ impl Search {
         ends.clear();
         graph.push_ends(from, ends)?;
         let ends = ends.as_slice();
+        let cost = self.visits.get(from).cost;
+        let spot = graph.spot(from);
         for (place, to) in ends.iter().enumerate() {
-            self.follow(alloc, graph, Step { from, place }, *to)?;
+            let origin = Origin { cost, spot };
+            self.follow(alloc, graph, Step { from, place }, origin, *to)?;
         }
         Ok(())
     }
@@ -139,6 +149,7 @@ impl Search {
         alloc: Global,
         graph: &G,
         last: Step,
+        origin: Origin<G::Spot>,
         to: Vertex,
     ) -> Result<(), AllocError>
         requires sound { G.is_sound graph.now }
@@ -146,6 +157,8 @@ impl Search {
         requires there { Contains (G.vertices graph.now) last.from }
         requires place { last.place < length (G.arcs graph.now last.from) }
         requires end { (arc_of (G.arcs graph.now) last).to ≡ to }
+        requires cost { origin.cost ≡ (visit_at self.old.visits last.from).cost }
+        requires spot { origin.spot ≡ G.spots graph.now last.from }
         requires few { self.old.closed ≤ length (G.vertices graph.now) }
         requires known { IsKnown (G.vertices graph.now) (G.estimates graph.now) (visit_at self.old.visits)
             (heap_items self.old.waiting.heap) (self.old.closed * G.heaviest graph.now) self.old.closed }
@@ -161,7 +174,8 @@ impl Search {
         if known.rank != 0 {
             return Ok(());
         }
-        let through = self.visits.get(last.from).cost + graph.weight(last, to);
+        let spot = graph.spot(to);
+        let through = origin.cost + graph.weight(last, to, origin.spot, spot);
         if known.cost <= through {
             return Ok(());
         }
@@ -172,7 +186,7 @@ impl Search {
             last,
         };
         self.visits.set(alloc, to, better)?;
-        let key = through + graph.estimate(to);
+        let key = through + graph.estimate(to, spot);
         self.waiting.push(key, to)?;
         Ok(())
     }

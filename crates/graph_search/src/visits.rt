@@ -27,8 +27,8 @@ pub(crate) const UNSEEN: Visit = Visit {
     },
 };
 
-/// What is known of all vertices, a page for each block. A page reaches to the last of its vertices that was written; those beyond it are
-/// unseen.
+/// What is known of all vertices, a page for each block. A page reaches to the last of its vertices that was written, or a little further;
+/// those beyond it are unseen.
 #[derive(Drop)]
 pub(crate) struct Visits {
     pub(crate) pages: Vec<Vec<Visit>>,
@@ -97,7 +97,7 @@ fn write(page: &mut Vec<Visit>, place: usize, visit: Visit) -> Result<(), AllocE
     ensures { OnOk result (IsWrittenAt page.old.items place visit page.new.items) }
 {
     if page.len() <= place {
-        page.resize(place + 1, UNSEEN)?;
+        page.resize((place / 64 + 1) * 64, UNSEEN)?;
     }
     page[place] = visit;
     Ok(())

@@ -42,3 +42,4 @@ pub mod DoorLaws
 pub mod DoorRims
 pub mod ContourFit
 pub mod RegionLaws
+mod ExtentLaws

@@ -1,7 +1,6 @@
 -- Corridors: walks over links, what they cost, and the cheapest.
 use Rattle.std.specs.Prelude.{◌≡◌, ℕ, ◌*◌, ◌≤◌, max, ℤ, pos, ◌+ℤ◌, ◌*ℤ◌, List, [], ◌∷◌, map, slice_get, slice_index, Some, Contains, ◌⊎◌}
-use Rattle.std.specs.List.{sum_by, fold}
-use Rattle.std.specs.Int.{int_min, int_max}
+use Rattle.std.specs.List.{sum_by}
 use Rattle.std.specs.Option.{option_map_or}
 use Rattle.nav_base.specs.declared.point.Point.{Point}
 use Rattle.nav_base.specs.Point.{from_to}
@@ -14,14 +13,8 @@ use Rattle.mesh_types.specs.declared.polygon.Polygon.{Polygon}
 use Rattle.mesh_types.specs.declared.tile.TileMesh.{TileMesh}
 use Rattle.mesh_types.specs.declared.mesh.Mesh.{Mesh}
 use Rattle.mesh_types.specs.declared.corridor.Corridor.{Corridor}
+use Rattle.mesh_types.specs.Extents.{least_of, greatest_of}
 use Rattle.mesh_types.specs.WholeMesh.{poly_at}
-
--- the least and the greatest of numbers, from the first of them on
-abbrev pub least_of : ℤ → List ℤ → ℤ
-least_of first numbers = fold int_min first numbers
-
-abbrev pub greatest_of : ℤ → List ℤ → ℤ
-greatest_of first numbers = fold int_max first numbers
 
 -- the middle of a polygon's box, in sixteenths of a cell
 abbrev pub centre_of : List Point → Point

@@ -1,5 +1,6 @@
 pub mod Inline
 pub mod LinkIndex
+pub mod Extents
 pub mod Runs
 pub mod Strips
 pub mod LinkOrder

@@ -2,6 +2,7 @@
 use Rattle.std.specs.Prelude.{◌≡◌, ℕ, ◌+◌, ◌<◌, Bool, nat_lt, ◌==◌, List, map, filter, All}
 use Rattle.std.specs.List.{count_by, range_with_len}
 use Rattle.std.specs.List.Sorted.{IsNonDecreasingBy}
+use Rattle.mesh_types.specs.declared.links.PolyRef.{PolyRef}
 use Rattle.mesh_types.specs.declared.links.Link.{Link}
 
 -- links stand in the order of the polygons that they leave
@@ -30,3 +31,12 @@ pub record IsIndexed (links : List Link) (starts : List ℕ) : Type 0 where
   pub order : AreOrderedLinks links
   pub within : AreBelow polygons links
   pub starts_are : starts ≡ starts_of links polygons
+
+-- the polygon that a link enters
+abbrev pub entered_by : Link → PolyRef
+entered_by link = link.to
+
+-- the starts stand beside ordered links, and so do the polygons that the links enter
+pub record AreKept (links : List Link) (starts : List ℕ) (entered : List PolyRef) : Type 0 where
+  pub indexed : IsIndexed links starts
+  pub entered_are : entered ≡ map entered_by links

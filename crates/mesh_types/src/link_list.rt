@@ -1,32 +1,33 @@
 //! Lists of links in which those that leave a polygon are one slice.
 
-ghost use Rattle.std.specs.Prelude.{◌≡◌, ◌<◌, ◌≤◌, ◌+◌, IfOk, length, slice_range};
+ghost use Rattle.std.specs.Prelude.{◌≡◌, ◌<◌, ◌≤◌, ◌+◌, IfOk, length, map, slice_range};
 ghost use Rattle.std.specs.List.{count_by};
-ghost use Rattle.mesh_types.specs.LinkIndex.{AreOrderedLinks, AreBelow, is_before_polygon, leaving_of, starts_of};
+ghost use Rattle.mesh_types.specs.LinkIndex.{AreOrderedLinks, AreBelow, is_before_polygon, leaving_of, entered_by, starts_of};
 
-use crate::links::Link;
+use crate::links::{Link, PolyRef};
 use nav_list::Duplicate;
 use std::alloc::{AllocError, Global};
 use std::marker::Model;
 
 /// The links that leave the polygons of one tile, by the polygon that they leave, seen by contracts as their list. Beside the links stands
-/// where those of each polygon begin, so that they are found at once.
+/// where those of each polygon begin, so that they are found at once, and which polygons they enter, which is all that a search asks of them.
 #[derive(Drop)]
 pub struct Links {
     links: Vec<Link>,
     starts: Vec<usize>,
+    entered: Vec<PolyRef>,
 }
 
 impl Model for Links {
     ghost use Rattle.std.specs.Prelude.{List};
     ghost use Rattle.mesh_types.specs.declared.links.Link.{Link};
-    ghost use Rattle.mesh_types.specs.LinkIndex.{IsIndexed};
+    ghost use Rattle.mesh_types.specs.LinkIndex.{AreKept};
 
     ghost Value = { List Link };
 
     ghost view = { λ a. a.links.items };
 
-    ghost invariant = { λ a. IsIndexed a.links.items a.starts.items };
+    ghost invariant = { λ a. AreKept a.links.items a.starts.items a.entered.items };
 }
 
 impl Links {
@@ -37,7 +38,12 @@ impl Links {
         ensures { IfOk result (λ made. made ≡ links.items) }
     {
         let starts = starts(alloc, links.as_slice(), polygons)?;
-        Ok(Links { links, starts })
+        let entered = entered(alloc, links.as_slice())?;
+        Ok(Links {
+            links,
+            starts,
+            entered,
+        })
     }
 
     /// All links, in order.
@@ -69,14 +75,40 @@ impl Links {
             self.starts[place + 1],
         )
     }
+
+    /// The polygons that the links which leave a polygon enter, in order of the links.
+    pub fn entered_from(&self, polygon: u32) -> &[PolyRef]
+        ensures { result.now ≡ map entered_by (leaving_of polygon self.now) }
+    {
+        let place = polygon as usize;
+        if self.starts.len() <= place + 1 {
+            return &[];
+        }
+        between(
+            self.entered.as_slice(),
+            self.starts[place],
+            self.starts[place + 1],
+        )
+    }
 }
 
-/// The links from one place up to another.
-fn between(links: &[Link], first: usize, end: usize) -> &[Link]
-    requires { (first ≤ end) × (end ≤ length links.now) }
-    ensures { result.now ≡ slice_range links.now first end }
+/// The polygons that links enter, in order.
+fn entered(alloc: Global, links: &[Link]) -> Result<Vec<PolyRef>, AllocError>
+    ensures { IfOk result (λ ends. ends.items ≡ map entered_by links.now) }
 {
-    &links[first..end]
+    let mut ends = Vec::with_capacity(alloc, links.len())?;
+    for link in links {
+        ends.push(link.to)?;
+    }
+    Ok(ends)
+}
+
+/// The elements from one place up to another.
+fn between<T>(items: &[T], first: usize, end: usize) -> &[T]
+    requires { (first ≤ end) × (end ≤ length items.now) }
+    ensures { result.now ≡ slice_range items.now first end }
+{
+    &items[first..end]
 }
 
 /// For each polygon, and the number after the last, how many links leave earlier ones.
@@ -111,6 +143,7 @@ impl Duplicate for Links {
         Ok(Links {
             links: Vec::from_slice(alloc, self.links.as_slice())?,
             starts: Vec::from_slice(alloc, self.starts.as_slice())?,
+            entered: Vec::from_slice(alloc, self.entered.as_slice())?,
         })
     }
 }

@@ -1,7 +1,7 @@
 //! The mesh of one tile.
 
 use crate::link_list::Links;
-use crate::polygon::Polygon;
+use crate::polygons::Polygons;
 use nav_ground::{FreeLayer, TileNo};
 use nav_list::{Duplicate, Items};
 use std::alloc::{AllocError, Global};
@@ -33,7 +33,7 @@ pub struct RimEdge {
 pub struct TileMesh {
     pub tile: TileNo,
     pub free: FreeLayer,
-    pub polys: Items<Polygon>,
+    pub polys: Polygons,
     pub links: Links,
     pub rim: Items<RimEdge>,
 }

@@ -11,7 +11,7 @@ use crate::inner::inner_links;
 use crate::polygons::polygons;
 use crate::rim::rim;
 use crate::tile_strips::TileStrips;
-use mesh_types::{Links, Polygon, RimEdge, TileMesh};
+use mesh_types::{Links, Polygons, RimEdge, TileMesh};
 use nav_ground::{FreeLayer, Setting, Window, tile_bounds};
 use nav_list::{Duplicate, Items};
 use std::alloc::{AllocError, Global};
@@ -74,7 +74,7 @@ fn mesh(alloc: Global, free: FreeLayer, setting: &Setting) -> Result<TileMesh, A
 /// What strips add to a mesh.
 #[derive(Drop)]
 struct StripParts {
-    polys: Items<Polygon>,
+    polys: Polygons,
     links: Links,
     rim: Items<RimEdge>,
 }

@@ -9,13 +9,12 @@ ghost use Rattle.strip_mesh.specs.Strips.{polygon_at};
 
 use crate::portals::corner;
 use crate::tile_strips::TileStrips;
-use mesh_types::{Corners, Polygon};
+use mesh_types::{Corners, Polygon, Polygons};
 use nav_ground::Cell;
-use nav_list::Items;
 use std::alloc::{AllocError, Global};
 
 /// The polygons of a tile: a rectangle for each strip, in order.
-pub fn polygons(alloc: Global, strips: &TileStrips) -> Result<Items<Polygon>, AllocError>
+pub fn polygons(alloc: Global, strips: &TileStrips) -> Result<Polygons, AllocError>
     requires { AreIndexed strips.now }
     ensures { IfOk result (λ polys. polys ≡ map strip_polygon (runs_in strips.now)) }
 {
@@ -25,7 +24,7 @@ pub fn polygons(alloc: Global, strips: &TileStrips) -> Result<Items<Polygon>, Al
     for strip in 0..count {
         polys.push(polygon(cells, strips.run(strip)))?;
     }
-    Ok(Items::from_vec(polys))
+    Polygons::from_vec(alloc, polys)
 }
 
 /// The rectangle round cells of one row, by their indices, counterclockwise from its least corner.

@@ -8,7 +8,7 @@ ghost use Rattle.tests_mesh.specs.TwoTiles.{hand_polygon, hand_tile, left_tile, 
 
 use crate::rows::{all_hold, hold};
 use mesh_types::{
-    Corners, LevelPair, Link, Links, Mesh, PolyRef, Polygon, Portal, RimEdge, TileMesh,
+    Corners, LevelPair, Link, Links, Mesh, PolyRef, Polygon, Polygons, Portal, RimEdge, TileMesh,
 };
 use nav_base::Point;
 use nav_ground::{AREAS, Agent, FreeLayer, MeshKind, Setting, TileNo};
@@ -70,7 +70,7 @@ pub(crate) fn tile(
             tile,
             cells: Items::new(alloc),
         },
-        polys: Items::from_vec(polys),
+        polys: Polygons::from_vec(alloc, polys)?,
         links,
         rim: Items::from_vec(rim),
     })

@@ -8,13 +8,17 @@ use Rattle.graph_search.specs.Walks as graph
 use Rattle.corridor_search.specs.MeshGraphs.{IsOver, vertex_of, vertices_of, arcs_from, link_of}
 use Rattle.corridor_search.proofs.Vertices.{there-contains}
 use Rattle.corridor_search.proofs.Searchable.{searchable, vertices-few}
+use Rattle.corridor_search.proofs.Extents.{extent-rules}
 use Rattle.corridor_search.proofs.MeshWalks.{steps-over, corridor-cheapest, none-joined}
 use Rattle.corridor_search.proofs.corridors.cheapest.Goals as goal
 
+pub middle-goal-requires : goal.middle-goal-requires
+middle-goal-requires c = (extent-rules c.args.mesh.now c.args.to c.extent_at.result c.requires.sound c.requires.to c.extent_at.ensures).box
+
 pub cheapest_walk-requires-clause-searchable : goal.cheapest_walk-requires-clause-searchable
 cheapest_walk-requires-clause-searchable c =
-    searchable c.args.mesh.now c.centre-goal.result
-    (record { sound = c.requires.sound; setting = c.requires.setting; in_field = c.centre-goal.ensures.in_field })
+    searchable c.args.mesh.now c.middle-goal.result
+    (record { sound = c.requires.sound; setting = c.requires.setting; in_field = c.middle-goal.ensures.in_field })
 
 pub cheapest_walk-requires-clause-there : goal.cheapest_walk-requires-clause-there
 cheapest_walk-requires-clause-there c =

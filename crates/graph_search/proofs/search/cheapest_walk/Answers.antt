@@ -7,7 +7,7 @@ use Rattle.graph_search.specs.Visited.{visit_at, IsClosed}
 use Rattle.graph_search.specs.Searching.{IsKnown}
 use Rattle.graph_search.proofs.Writing.{same_if, apart_if_not}
 use Rattle.graph_search.proofs.WayBack.{ranked-tree}
-use Rattle.graph_search.proofs.Turns.{between-begun, work-dropped, between-dropped, closed-fewer, turn-tree, cheapest, vertex-member, turn-few, turn-known, turn-closing, work-turned, between-turned, apart, none_left, IsBetween}
+use Rattle.graph_search.proofs.Turns.{between-begun, work-dropped, between-dropped, closed-fewer, turn-tree, cheapest, vertex-member, turn-few, turn-known, turn-closing, turn-relaxing, work-turned, between-turned, apart, none_left, IsBetween}
 use Rattle.graph_search.proofs.search.cheapest_walk.Goals as goal
 
 pub loop-vertex-init : goal.loop-vertex-init
@@ -75,6 +75,11 @@ relax-requires-clause-known g c =
 pub relax-requires-clause-closing : goal.relax-requires-clause-closing
 relax-requires-clause-closing g c =
     turn-closing _ _ _ _ c.requires.searchable c.args.from c.args.to _ _ _ c.loop-vertex.invariant c.in-Some.field-0-0 c.in-Some.vertex _ c.in-Some.ensures.taken c.in-Some.ensures.least
+    (sym (ap (λ (u : Visit). u.rank) c.get-rank.ensures) ∙ c.if-rank-ne0.false) _ _ c.in_ok-close.ensures.written c.in_ok-close.ensures.closed
+
+pub relax-requires-clause-relaxing : goal.relax-requires-clause-relaxing
+relax-requires-clause-relaxing g c =
+    turn-relaxing _ _ _ _ c.requires.searchable c.args.from c.args.to _ _ _ c.loop-vertex.invariant c.in-Some.field-0-0 c.in-Some.vertex _ c.in-Some.ensures.taken c.in-Some.ensures.least
     (sym (ap (λ (u : Visit). u.rank) c.get-rank.ensures) ∙ c.if-rank-ne0.false) _ _ c.in_ok-close.ensures.written c.in_ok-close.ensures.closed
 
 pub loop-vertex-smaller : goal.loop-vertex-smaller

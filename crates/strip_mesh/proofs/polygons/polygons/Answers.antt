@@ -1,7 +1,9 @@
-use Rattle.std.proofs.Common.{◌<◌, [], ◌∷◌, ◌++◌, List, length, map, ap, ◌∙◌, sym, subst, arith}
+use Rattle.std.proofs.Common.{◌≡◌, ◌<◌, [], ◌∷◌, ◌++◌, List, length, map, ap, ◌∙◌, sym, subst, arith}
 use Rattle.std.proofs.lemmas.List.{map_more, take_all}
+use Rattle.std.proofs.lemmas.Result.{IfOk-weaker}
 use Rattle.nav_ground.specs.declared.cell.Cell.{Cell}
 use Rattle.nav_ground.specs.Cells.{IsCells}
+use Rattle.mesh_types.specs.declared.polygon.Polygon.{Polygon}
 use Rattle.mesh_types.specs.StripMeshes.{strip_polygon}
 use Rattle.mono_regions.specs.Indices.{AreIndices}
 use Rattle.strip_mesh.specs.Indexed.{runs_in}
@@ -25,5 +27,6 @@ loop-strip-preserved c =
 pub returns : goal.returns
 returns c =
     let runs = runs_in c.args.strips.now in
-    c.from_vec.ensures ∙ c.loop-strip.invariant
-    ∙ ap (map strip_polygon) (take_all c.loop-strip.strip runs (omega (arith, c.loop-strip-test.false, c.count-count.ensures.value)))
+    let all : c.loop-strip.polys.items ≡ map strip_polygon runs =
+    c.loop-strip.invariant ∙ ap (map strip_polygon) (take_all c.loop-strip.strip runs (omega (arith, c.loop-strip-test.false, c.count-count.ensures.value))) in
+    IfOk-weaker c.from_vec.result (λ (polys : List Polygon). polys ≡ c.loop-strip.polys.items) (λ (polys : List Polygon). polys ≡ map strip_polygon runs) (λ polys same. same ∙ all) c.from_vec.ensures

@@ -1,28 +1,34 @@
-use Rattle.std.proofs.Common.{◌≡◌, ap, sym, subst, ◌∙◌}
-use Rattle.std.specs.Prelude.{Some}
+use Rattle.std.proofs.Common.{◌*◌, max, ap, ◌∙◌}
+use Rattle.std.specs.Prelude.{slice_index}
 use Rattle.nav_base.specs.declared.point.Point.{Point}
-use Rattle.mesh_types.specs.declared.links.PolyRef.{PolyRef}
-use Rattle.mesh_types.specs.WholeMesh.{poly_at}
-use Rattle.mesh_types.specs.Corridors.{centre_of}
-use Rattle.corridor_search.specs.MeshGraphs.{IsThere, polygon_of, weight_from}
+use Rattle.nav_base.specs.Point.{from_to}
+use Rattle.nav_base.specs.Deviation.{square_of}
+use Rattle.nav_base.specs.Root.{ceil_sqrt_of}
+use Rattle.corridor_search.specs.MeshGraphs.{polygon_of, middle_of}
 use Rattle.corridor_search.proofs.Vertices.{contains-there}
-use Rattle.corridor_search.proofs.Searchable.{step-enters, step-weight}
+use Rattle.corridor_search.proofs.Searchable.{step-enters}
+use Rattle.corridor_search.proofs.Extents.{extent-rules, weight-by-extents}
 use Rattle.corridor_search.proofs.mesh_graph.MeshGraphGraph.weight.Goals as goal
 
-pub polygon_at-requires-clause-there : goal.polygon_at-requires-clause-there
-polygon_at-requires-clause-there c =
-    subst (IsThere c.args.self.now.mesh.now) (sym c.reference.ensures) (contains-there c.args.self.now.mesh.now c.args.step.from c.requires.there)
+pub middle-requires : goal.middle-requires
+middle-requires c =
+    (extent-rules c.args.self.now.mesh.now (polygon_of c.args.step.from) c.args.left c.requires.sound.sound
+    (contains-there c.args.self.now.mesh.now c.args.step.from c.requires.there) c.requires.left).box
 
-pub weight-requires-clause-there : goal.weight-requires-clause-there
-weight-requires-clause-there c =
-    subst (IsThere c.args.self.now.mesh.now) (sym c.reference-2.ensures)
-    (step-enters c.args.self.now.mesh.now c.args.step c.args.to c.requires.sound.sound c.requires.place c.requires.end)
+pub weight-requires-clause-to : goal.weight-requires-clause-to
+weight-requires-clause-to c =
+    (extent-rules c.args.self.now.mesh.now (polygon_of c.args.to) c.args.entered c.requires.sound.sound
+    (step-enters c.args.self.now.mesh.now c.args.step c.args.to c.requires.sound.sound c.requires.place c.requires.end) c.requires.entered).box
+
+pub weight-requires-clause-area : goal.weight-requires-clause-area
+weight-requires-clause-area c =
+    (extent-rules c.args.self.now.mesh.now (polygon_of c.args.to) c.args.entered c.requires.sound.sound
+    (step-enters c.args.self.now.mesh.now c.args.step c.args.to c.requires.sound.sound c.requires.place c.requires.end) c.requires.entered).area
 
 pub returns : goal.returns
 returns c =
     let mesh = c.args.self.now.mesh.now in
-    let named : poly_at mesh (polygon_of c.args.step.from) ≡ Some c.polygon_at.result.now =
-    subst (λ (at : PolyRef). poly_at mesh at ≡ Some c.polygon_at.result.now) c.reference.ensures c.polygon_at.ensures.named in
-    c.weight.ensures ∙ ap (λ (p : Point). weight_from mesh p c.reference-2.result) c.centre-middle.ensures.value
-    ∙ ap (weight_from mesh (centre_of c.polygon_at.result.now.corners)) c.reference-2.ensures
-    ∙ step-weight mesh c.args.step c.args.to c.polygon_at.result.now c.requires.sound.sound c.requires.place c.requires.end named
+    c.weight.ensures
+    ∙ ap (λ (p : Point). max 1 (ceil_sqrt_of (square_of (from_to p (middle_of c.args.entered)))) * slice_index mesh.setting.costs c.args.entered.area) c.middle.ensures.value
+    ∙ weight-by-extents mesh c.args.step c.args.to c.args.left c.args.entered c.requires.sound.sound
+    (contains-there mesh c.args.step.from c.requires.there) c.requires.place c.requires.end c.requires.left c.requires.entered

@@ -17,17 +17,19 @@ returns-then-known-ne0-clause-followed g c =
 
 pub overflow_add-through : goal.overflow_add-through
 overflow_add-through g c =
-    let cost = ap (λ (u : Visit). u.cost) c.get.ensures in
     let fits = key-fits _ _ _ _ c.requires.searchable c.args.last.from c.requires.there c.args.last.place c.requires.place c.args.to c.requires.end c.args.self.now.closed c.requires.few
     _ _ c.requires.known c.requires.closing c.requires.relaxing in
-    omega (arith, fits, cost, c.weight.ensures)
+    omega (arith, fits, c.requires.cost, c.weight.ensures)
 
 pub returns-then-known-through-clause-followed : goal.returns-then-known-through-clause-followed
 returns-then-known-through-clause-followed g c =
     let known = ap (λ (u : Visit). u.cost) c.get-known.ensures in
-    let cost = ap (λ (u : Visit). u.cost) c.get.ensures in
     following-no_less _ _ _ _ c.requires.searchable c.args.last.from c.requires.there c.args.last.place c.requires.place c.args.to c.requires.end c.args.self.now.closed c.requires.few
-    _ _ c.requires.known c.requires.closing c.requires.relaxing (omega (arith, known, cost, c.weight.ensures, c.if-known-through.true))
+    _ _ c.requires.known c.requires.closing c.requires.relaxing (omega (arith, known, c.requires.cost, c.weight.ensures, c.if-known-through.true))
+
+pub spot-spot-requires-clause-there : goal.spot-spot-requires-clause-there
+spot-spot-requires-clause-there g c =
+    end-member _ _ _ _ c.requires.searchable c.args.last.from c.requires.there c.args.last.place c.requires.place c.args.to c.requires.end c.args.self.now.closed c.requires.few
 
 pub estimate-requires-clause-there : goal.estimate-requires-clause-there
 estimate-requires-clause-there g c =
@@ -35,10 +37,9 @@ estimate-requires-clause-there g c =
 
 pub overflow_add-key : goal.overflow_add-key
 overflow_add-key g c =
-    let cost = ap (λ (u : Visit). u.cost) c.get.ensures in
     let fits = key-fits _ _ _ _ c.requires.searchable c.args.last.from c.requires.there c.args.last.place c.requires.place c.args.to c.requires.end c.args.self.now.closed c.requires.few
     _ _ c.requires.known c.requires.closing c.requires.relaxing in
-    omega (arith, fits, cost, c.weight.ensures, c.estimate.ensures)
+    omega (arith, fits, c.requires.cost, c.weight.ensures, c.estimate.ensures)
 
 pub returns-clause-followed : goal.returns-clause-followed
 returns-clause-followed g c =
@@ -46,13 +47,12 @@ returns-clause-followed g c =
     let at = visit_at c.args.self.now.visits in
     let waiting = heap_items c.args.self.now.waiting.heap in
     let known = ap (λ (u : Visit). u.cost) c.get-known.ensures in
-    let cost = ap (λ (u : Visit). u.cost) c.get.ensures in
-    let through : c.get.result.cost + c.weight.result ≡ (at c.args.last.from).cost + (arc_of arcs c.args.last).weight = λ i. cost i + c.weight.ensures i in
+    let through : c.args.origin.cost + c.weight.result ≡ (at c.args.last.from).cost + (arc_of arcs c.args.last).weight = λ i. c.requires.cost i + c.weight.ensures i in
     following-better _ _ _ _ c.requires.searchable c.args.last.from c.requires.there c.args.last.place c.requires.place c.args.to c.requires.end c.args.self.now.closed c.requires.few
     _ _ c.requires.known c.requires.closing c.requires.relaxing _ _ (omega (arith, known, through, c.if-known-through.false))
     (subst (λ (n : ℕ). IsWritten at c.args.to (record { cost = n; rank = 0; last = c.args.last }) (visit_at c.set.new.self)) through c.in_ok-set.ensures)
     (subst (λ (n : ℕ). IsPermutation (entry (n + g.G.Graph.estimates c.args.graph.now c.args.to) c.args.to ∷ waiting) (heap_items c.push.new.self.heap)) through
-    (subst (λ (k : ℕ). IsPermutation (entry (c.get.result.cost + c.weight.result + k) c.args.to ∷ waiting) (heap_items c.push.new.self.heap)) c.estimate.ensures c.in_ok-push.ensures))
+    (subst (λ (k : ℕ). IsPermutation (entry (c.args.origin.cost + c.weight.result + k) c.args.to ∷ waiting) (heap_items c.push.new.self.heap)) c.estimate.ensures c.in_ok-push.ensures))
 
 pub returns-in_err-set-clause-followed : goal.returns-in_err-set-clause-followed
 returns-in_err-set-clause-followed g c = IfOk-from_err c.from_residual.result _ c.from_residual.ensures.0

@@ -4,7 +4,7 @@ use Rattle.std.proofs.lemmas.List.{length-map}
 use Rattle.std.proofs.lemmas.Result.{IfOk-from_err}
 use Rattle.graph_search.specs.declared.arcs.Arc.{Arc}
 use Rattle.graph_search.specs.declared.arcs.Vertex.{Vertex}
-use Rattle.graph_search.specs.Walks.{no_arc, arc_of, ends_of}
+use Rattle.graph_search.specs.Walks.{no_arc, ends_of}
 use Rattle.graph_search.specs.Visited.{visit_at}
 use Rattle.graph_search.specs.Searching.{AreBeingRelaxed}
 use Rattle.graph_search.proofs.Relaxing.{all-relaxed, following-then}
