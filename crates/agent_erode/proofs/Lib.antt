@@ -1,3 +1,4 @@
+pub mod Stages
 pub mod Gaps
 pub mod Walks
 pub mod Reaches

@@ -9,7 +9,8 @@ use Rattle.nav_ground.proofs.Selections.{range-push}
 use Rattle.std.proofs.lemmas.List.Folds.{list_any_at, list_any-append}
 use Rattle.std.proofs.lemmas.List.Sums.{fold-append}
 use Rattle.std.proofs.lemmas.List.FromFn.{length-range_with_len, get_or-range_with_len}
-use Rattle.agent_erode.specs.Reaching.{Progress, reached, is_among}
+use Rattle.agent_erode.specs.Reaching.{Progress, reached}
+use Rattle.agent_erode.proofs.Stages.{is_among}
 use Rattle.cell_table.proofs.Places.{same_test}
 use Rattle.agent_erode.proofs.Walks.{hit_of}
 

@@ -12,8 +12,9 @@ use Rattle.nav_ground.specs.Cells.{IsCells}
 use Rattle.nav_ground.specs.Clearance.{is_walk_end}
 use Rattle.nav_ground.proofs.Selections.{range-push}
 use Rattle.cell_table.specs.Table.{neighbour_table}
-use Rattle.agent_erode.specs.Reaching.{Progress, reached, is_among, axis_ends, diagonal_ends, axis_ends_from, diagonal_ends_from, after_axis_steps, after_round, has_gap, boundary}
-use Rattle.agent_erode.specs.Clearances.{is_ended_below, is_beyond, IsLeast, IsLeastBelow, IsStage, IsSpread}
+use Rattle.agent_erode.specs.Reaching.{Progress, reached, axis_ends, diagonal_ends, axis_ends_from, diagonal_ends_from, after_axis_steps, after_round, has_gap, boundary}
+use Rattle.agent_erode.specs.Clearances.{is_ended_below, is_beyond}
+use Rattle.agent_erode.proofs.Stages.{is_among, IsLeast, IsLeastBelow, IsStage, IsSpread}
 use Rattle.cell_table.proofs.Places.{same_test, no_cell}
 use Rattle.cell_table.proofs.Tables.{table_length}
 use Rattle.agent_erode.proofs.Walks.{hit_of, IsLastStep, last_step, walk_begins, walk_along, walk_across}

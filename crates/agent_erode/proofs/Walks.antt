@@ -9,7 +9,8 @@ use Rattle.nav_ground.specs.declared.cell.Cell.{Cell}
 use Rattle.nav_ground.specs.Cells.{IsCells, is_naming}
 use Rattle.nav_ground.specs.Clearance.{is_axis_step, is_turn, is_diagonal_step, is_walk_end}
 use Rattle.cell_table.specs.Table.{neighbour_table, neighbour}
-use Rattle.agent_erode.specs.Reaching.{axis_ends, diagonal_ends, has_gap, is_among}
+use Rattle.agent_erode.specs.Reaching.{axis_ends, diagonal_ends, has_gap}
+use Rattle.agent_erode.proofs.Stages.{is_among}
 use Rattle.cell_table.proofs.Tables.{table_names, table_past}
 use Rattle.agent_erode.proofs.Gaps.{table_boundary}
 

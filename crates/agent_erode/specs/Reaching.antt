@@ -1,6 +1,6 @@
 -- What walks reach, cost by cost: cells are taken out of those that are kept, and stand in the order in which they were reached.
-use Rattle.std.specs.Prelude.{ℕ, ◌+◌, ◌%◌, ◌==◌, Bool, true, false, not, ◌&&◌, nat_lt, if◌then◌else◌, List, [], ◌∷◌, ◌++◌, filter, fold, replicate, slice_index_or, slice_set}
-use Rattle.std.specs.List.{list_any, flat_map, slice_range, range_with_len}
+use Rattle.std.specs.Prelude.{ℕ, ◌+◌, ◌%◌, Bool, true, false, not, ◌&&◌, nat_lt, if◌then◌else◌, List, [], ◌∷◌, ◌++◌, filter, fold, replicate, slice_index_or, slice_set}
+use Rattle.std.specs.List.{flat_map, slice_range, range_with_len}
 use Rattle.cell_table.specs.Table.{neighbour}
 
 -- which cells are still kept, and the indices of the others in the order in which they were reached
@@ -27,10 +27,6 @@ turn_ends table from dir =
 
 abbrev pub diagonal_ends : List (List ℕ) → ℕ → List ℕ
 diagonal_ends table from = turn_ends table from 0 ++ turn_ends table from 1 ++ turn_ends table from 2 ++ turn_ends table from 3
-
--- an index is among others
-abbrev pub is_among : ℕ → List ℕ → Bool
-is_among i indices = list_any (λ index. index == i) indices
 
 -- the same from each cell that was reached from one place in the order to before another
 abbrev pub axis_ends_from : List (List ℕ) → List ℕ → ℕ → ℕ → List ℕ

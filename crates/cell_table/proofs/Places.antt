@@ -12,8 +12,13 @@ use Rattle.nav_ground.specs.declared.cell.Cell.{Cell}
 use Rattle.nav_ground.specs.declared.cell.CellRef.{CellRef}
 use Rattle.nav_ground.specs.Cells.{IsCellBefore, IsCells, is_toward, is_naming, next_level}
 use Rattle.nav_ground.proofs.Directions.{both_equal, tests_of_equal}
-use Rattle.cell_table.specs.Columns.{IsPlace, column_of, column_toward, is_at, is_before}
+use Rattle.cell_table.specs.Columns.{column_of, column_toward, is_at, is_before}
 use Rattle.cell_table.specs.Table.{index_of, index_named}
+
+-- a place lies in the largest field
+pub record IsPlace (at : CellRef) : Type 0 where
+  pub x : at.x < 1024
+  pub z : at.z < 1024
 
 abbrev pub no_cell : Cell
 no_cell = record { at = record { x = 0; z = 0; level = 0 }; floor = 0; ceiling = 0; area = 0; next = [] }

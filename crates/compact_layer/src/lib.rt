@@ -1,7 +1,8 @@
 //! The cells of a field: where an agent can stand, and to which cell of each neighbouring column it can step.
 //!
-//! The crates above use two contracts: `compact` gives exactly the compact cells of the definition, which keep the rules of compact
-//! cells, and `neighbour` gives the place of the cell that a cell is connected to.
+//! `compact` gives exactly the compact cells of the definition, which keep the rules of compact cells: they are in order, and connections
+//! lead both ways. `neighbour` gives the place of the cell that a cell is connected to, which is one of the list. After Recast's compact
+//! height field.
 #![tactic(auto)]
 
 mod columns;

@@ -1,7 +1,7 @@
 //! Cuts a field into layers: the cells that an agent can stand on and that keep its radius from every boundary, one list a tile.
 //!
-//! The crates above use `ground`, which makes exactly the ground of its definition with the rules of layers; `layer`, which makes one
-//! tile's layer, the same that `ground` makes; and `tile_of`, the tile of a column.
+//! `ground` gives exactly the ground of its definition, whose layers keep the rules of layers. `layer` gives the layer of one tile, the same
+//! that stands in the ground, from the spans near that tile alone. `tile_of` gives the tile of a column.
 #![tactic(auto)]
 
 mod nearby;

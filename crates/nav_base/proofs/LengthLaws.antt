@@ -5,11 +5,11 @@ use Rattle.std.proofs.lemmas.Int.{ints}
 use Rattle.std.proofs.lemmas.Nat.{mul-le}
 use Rattle.std.proofs.lemmas.Bool.{cases_lt}
 use Rattle.nav_base.specs.declared.point.Point.{Point}
-use Rattle.nav_base.specs.Point.{from_to, moved, dot_of, cross_of}
+use Rattle.nav_base.specs.Point.{from_to, dot_of, cross_of}
 use Rattle.nav_base.specs.Deviation.{square_of}
 use Rattle.nav_base.specs.Root.{ceil_sqrt_of}
 use Rattle.nav_base.proofs.Polynomials.{sum, equal}
-use Rattle.nav_base.proofs.PointTerms.{place, coordinates, from_to_term, moved_term, dot_term}
+use Rattle.nav_base.proofs.PointTerms.{place, coordinates, from_to_term, moved, moved_term, dot_term}
 use Rattle.nav_base.proofs.OrientLaws.{dot_of-product}
 use Rattle.nav_base.proofs.RootLaws.{ceil_sqrt_of-least, ceil_sqrt_of-at_most}
 

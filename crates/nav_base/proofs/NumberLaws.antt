@@ -1,5 +1,6 @@
 -- The laws of numbers in texts.
 use Rattle.std.proofs.Common.{All, ◌≡◌, ℕ, ◌+◌, ◌-◌, ◌*◌, ◌^◌, ◌<◌, ◌≤◌, Bool, true, false, cond, nat_lt, List, [], ◌∷◌, ◌++◌, length, take, drop, get_or, pos, Some, None, decimal, sym, refl, ap, ◌∙◌, subst, inl, inr, arith, take-append-drop, le_refl, length-append}
+use Rattle.std.specs.Prelude.{⊤}
 use Rattle.std.specs.Char.{is_ascii_digit, digit_value}
 use Rattle.std.specs.Fmt.{signed_decimal}
 use Rattle.std.specs.Int.{IsInRange}
@@ -13,7 +14,7 @@ use Rattle.std.proofs.lemmas.List.{get_or_default, nil_from_length, drop_more, d
 use Rattle.std.proofs.lemmas.List.Folds.{length-prefix_len}
 use Rattle.std.proofs.lemmas.List.Sums.{prefix_len_is, prefix_len_passes, prefix_len_stops}
 use Rattle.std.proofs.lemmas.Str.Parse.{IsNumeralModel, numerals_by_value, tells_by_index, digits_value-take-le}
-use Rattle.nav_base.specs.Number.{is_canonical, leading_digits, number_at, EndsNumber}
+use Rattle.nav_base.specs.Number.{is_canonical, leading_digits, number_at}
 
 -- every byte is a digit
 abbrev pub AreDigits : List ℕ → Type 0
@@ -109,6 +110,11 @@ some_is e = cc
 when : {A : Type 0} (b : Bool) (x y : A) → cond b (Some x) None ≡ Some y → (b ≡ true) × (x ≡ y)
 when true x y e = (refl, cc)
 when false x y e = absurd cc
+
+-- no digit stands at the front, so that a number before these bytes ends there
+abbrev pub EndsNumber : List ℕ → Type 0
+EndsNumber [] = ⊤
+EndsNumber (c ∷ cs) = is_ascii_digit c ≡ false
 
 ends_after : (bytes : List ℕ) (k : ℕ) → (k < length bytes → is_ascii_digit (get_or bytes k 0) ≡ false) → EndsNumber (drop k bytes)
 ends_after bytes k stops =

@@ -2,9 +2,9 @@
 use Rattle.std.proofs.Common.{◌≡◌, ℤ, pos, ◌+ℤ◌, ◌-ℤ◌, ◌*ℤ◌, [], ◌∷◌, ◌++◌, refl, ◌∙◌}
 use lib.IntN.{neg_ℤ}
 use Rattle.nav_base.specs.declared.point.Point.{Point}
-use Rattle.nav_base.specs.Point.{from_to, moved, dot_of, cross_of, orient_of}
+use Rattle.nav_base.specs.Point.{from_to, dot_of, cross_of, orient_of}
 use Rattle.nav_base.proofs.Polynomials.{Term, at, number, opposite, sum, difference, product, equal}
-use Rattle.nav_base.proofs.PointTerms.{Place, place, coordinates, from_to_term, moved_term, dot_term, cross_term, orient_term}
+use Rattle.nav_base.proofs.PointTerms.{Place, place, coordinates, from_to_term, moved, moved_term, dot_term, cross_term, orient_term}
 
 -- the points of the equations below, as terms
 abbrev p₀ : Place

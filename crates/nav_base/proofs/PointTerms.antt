@@ -1,5 +1,5 @@
 -- Points as terms of polynomials, so that an equation about sides, crosses and scalar products can be written down as it is read.
-use Rattle.std.proofs.Common.{ℕ, ◌+◌, ◌*◌, ℤ, List, [], ◌∷◌}
+use Rattle.std.proofs.Common.{ℕ, ◌+◌, ◌*◌, ℤ, ◌+ℤ◌, List, [], ◌∷◌}
 use Rattle.nav_base.specs.declared.point.Point.{Point}
 use Rattle.nav_base.proofs.Polynomials.{Term, at, sum, difference, product}
 
@@ -19,6 +19,10 @@ place k = record { x = at (2 * k); z = at (2 * k + 1) }
 
 abbrev pub from_to_term : Place → Place → Place
 from_to_term a b = record { x = difference b.x a.x; z = difference b.z a.z }
+
+-- the point that the vector v leads to from p, which is also the sum of two vectors
+abbrev pub moved : Point → Point → Point
+moved p v = record { x = p.x +ℤ v.x; z = p.z +ℤ v.z }
 
 abbrev pub moved_term : Place → Place → Place
 moved_term p v = record { x = sum p.x v.x; z = sum p.z v.z }

@@ -1,5 +1,5 @@
 -- Numbers as texts spell them: `0`, or digits of which the first is not `0`. Std's `decimal n` is the spelling of n.
-use Rattle.std.specs.Prelude.{◌≡◌, ℕ, ◌^◌, Bool, false, ◌&&◌, ◌||◌, ◌==◌, nat_lt, if◌then◌else◌, List, [], ◌∷◌, Option, Some, None, length, drop, slice_index, take_while, ⊤}
+use Rattle.std.specs.Prelude.{ℕ, ◌^◌, Bool, ◌&&◌, ◌||◌, ◌==◌, nat_lt, if◌then◌else◌, List, [], ◌∷◌, Option, Some, None, length, drop, slice_index, take_while}
 use Rattle.std.specs.Char.{is_ascii_digit}
 use Rattle.std.specs.Str.Parse.{digits_value}
 
@@ -16,8 +16,3 @@ unfoldable pub number_at : List ℕ → Option (ℕ × List ℕ)
 number_at bytes =
     let digits = leading_digits bytes in
     if nat_lt (digits_value 10 digits) (2 ^ 32) && is_canonical digits then Some (digits_value 10 digits, drop (length digits) bytes) else None
-
--- no digit stands at the front, so that a number before these bytes ends there
-abbrev pub EndsNumber : List ℕ → Type 0
-EndsNumber [] = ⊤
-EndsNumber (c ∷ cs) = is_ascii_digit c ≡ false

@@ -29,10 +29,6 @@ pub record IsWithin (k : ℕ) (v : Point) : Type 0 where
 abbrev pub from_to : Point → Point → Point
 from_to a b = record { x = b.x -ℤ a.x; z = b.z -ℤ a.z }
 
--- the point that the vector v leads to from p, which is also the sum of two vectors
-abbrev pub moved : Point → Point → Point
-moved p v = record { x = p.x +ℤ v.x; z = p.z +ℤ v.z }
-
 -- the scalar product of two vectors
 unfoldable pub dot_of : Point → Point → ℤ
 dot_of u v = u.x *ℤ v.x +ℤ u.z *ℤ v.z

@@ -8,8 +8,11 @@ use std::alloc::{AllocError, Global};
 /// Levels are counted before agents keep from walls and before obstacles, so those in a layer may have gaps.
 #[derive(Clone, Copy, PartialEq, Eq, Debug)]
 pub struct CellRef {
+    /// Its column along x, 0 to 1023.
     pub x: u32,
+    /// Its column along z, 0 to 1023.
     pub z: u32,
+    /// 0 for the lowest of its column.
     pub level: u32,
 }
 
@@ -19,15 +22,17 @@ pub struct Cell {
     pub at: CellRef,
     /// The height to stand on, in height units, at most 8191.
     pub floor: u32,
-    /// The height of what is above, 65535 where nothing is.
+    /// The height of what is above, in height units; 65535 where nothing is.
     pub ceiling: u32,
-    /// 1 to 63.
+    /// What is stood on, 1 to 63.
     pub area: u32,
-    /// For each direction the level of the connected cell of that neighbouring column, or none.
+    /// For each direction (0 for x - 1, 1 for z + 1, 2 for x + 1, 3 for z - 1) the level of the connected cell of that neighbouring
+    /// column, or none.
     pub next: [Option<u32>; 4],
 }
 
-/// A closed rectangle of columns: from x0 to x1 and from z0 to z1. It may lie outside the field, and is empty where an end is below its beginning.
+/// A closed rectangle of columns: from x0 to x1 and from z0 to z1, both ends within. It may lie outside the field, and is empty where an
+/// end is below its beginning.
 #[derive(Clone, Copy, PartialEq, Eq, Debug)]
 pub struct Window {
     pub x0: i32,
@@ -36,10 +41,11 @@ pub struct Window {
     pub z1: i32,
 }
 
-/// The cells of one tile, by z, then x, then level, as the ground was built, before obstacles.
+/// The cells of one tile as the ground was built, before obstacles.
 #[derive(PartialEq, Eq, Drop)]
 pub struct Layer {
     pub tile: TileNo,
+    /// By z, then x, then level.
     pub cells: Items<Cell>,
     /// How far agents keep from obstacles, in cells: the agent's radius where the setting says clear, else 0, and then obstacles block
     /// only what they cover.

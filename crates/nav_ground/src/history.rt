@@ -9,7 +9,7 @@ use nav_list::Items;
 /// How many entries a history can have.
 pub const HISTORY_LIMIT: u32 = 262144;
 
-/// What can be asked of a ground: a new obstacle, or that the obstacle with a number goes.
+/// What can be asked of a ground: a new obstacle, or that the obstacle goes that the entry with a number added, from 1.
 #[derive(Clone, Copy, PartialEq, Eq)]
 pub enum Request {
     Add(Shape),
@@ -23,7 +23,7 @@ pub enum Reply {
     Added { number: u32 },
     /// The obstacle is alive no more.
     Removed,
-    /// As many obstacles are alive as may be; nothing was added.
+    /// As many obstacles are alive as may be, which is their number; nothing was added.
     Full { live: u32 },
     /// No obstacle with this number is alive; nothing was removed.
     Dead { number: u32 },
@@ -32,6 +32,7 @@ pub enum Reply {
 /// One request in the history, with who made it and what became of it. Entries are numbered from 1.
 #[derive(Clone, Copy, PartialEq, Eq)]
 pub struct Entry {
+    /// Who made it: a number that means nothing to the history.
     pub lane: u32,
     pub request: Request,
     pub reply: Reply,
@@ -41,6 +42,8 @@ pub struct Entry {
 #[derive(Drop)]
 pub struct Ground {
     pub setting: Setting,
+    /// As wide and as deep as the setting says.
     pub field: Field,
+    /// By the numbers of their tiles.
     pub layers: Items<Layer>,
 }

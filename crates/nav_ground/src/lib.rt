@@ -1,8 +1,12 @@
 //! The shared types and definitions of the ground: settings, spans, cells, layers, obstacles and their history.
 //!
-//! Every crate above speaks of the ground in these words. A field is a list of spans in columns; what an agent can stand on are the
-//! cells of layers, one layer a tile; obstacles are shapes that block cells or set their areas; a history of requests says which shapes are alive.
-//! The crates above use the exact contracts of `tiles`, `tile_bounds`, `covers`, `bounds`, `sets` and `touches`, and the definitions of `specs/`.
+//! A field is a list of spans in columns; what an agent can stand on are the cells of layers, one layer a tile; obstacles are shapes that
+//! block cells or set their areas; a history of requests says which shapes are alive. What these records keep, in which order they stand
+//! and which numbers they may hold are definitions of `specs/`.
+//!
+//! `tiles` and `tile_bounds` give the number of tiles and the columns of one. `covers`, `bounds` and `sets` say of an obstacle which cells it
+//! covers, how far it reaches and which area it sets; `touches` says whether it reaches into a tile, and it covers no cell of another. All of
+//! them answer exactly as defined, take constant time and no memory.
 //!
 //! Units: `x` and `z` count columns of the field (cells), heights count height units; a direction is 0 for x - 1, 1 for z + 1,
 //! 2 for x + 1 and 3 for z - 1. With x drawn to the right and z upward, tiles are squares numbered row by row from the corner (0, 0).

@@ -8,7 +8,7 @@ pub const AREAS: usize = 64;
 pub struct Agent {
     /// Height units that the agent needs above its floor, 1 to 255.
     pub height: u32,
-    /// The greatest step up or down, in height units; below the height.
+    /// The greatest step up or down, in height units, 0 to 254; below the height.
     pub climb: u32,
     /// Cells that the agent keeps from walls and edges, 0 to 15.
     pub radius: u32,
@@ -31,12 +31,13 @@ pub struct Setting {
     /// The side of a tile in columns, 4 to 128, and at least twice the agent's radius where `clear` is set.
     pub tile: u32,
     pub agent: Agent,
-    /// How far an outline may stray from the contour, in hundredths of a squared cell, 0 to 10000.
+    /// How far an outline may stray from the contour, in hundredths of a squared cell, 0 to 10000; 169 is 1.3 cells, a usual value of
+    /// Recast's greatest simplification error.
     pub error: u32,
     pub mesh: MeshKind,
     /// How many obstacles may be alive at once, 1 to 1024.
     pub limit: u32,
-    /// What a unit of way costs in each area, 1 to 1000.
+    /// What a sixteenth of a cell of way costs in each area, by its number, 1 to 1000.
     pub costs: [u32; AREAS],
     /// Whether agents keep their radius from obstacles too.
     pub clear: bool,

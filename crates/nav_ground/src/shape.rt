@@ -7,9 +7,10 @@ ghost use Rattle.nav_ground.specs.Tiling.{IsInWindow};
 
 use crate::cell::Window;
 
-/// An obstacle. Ranges are closed, x and z in columns and y in height units; a cylinder's centre is in half cells, and it reaches the
-/// columns whose middle is at most r cells and a half from it. A shape covers a cell in reach whose floor lies in y0 to y1.
-/// A block or cylinder stops agents; an area block or area cylinder gives the cells that it covers another area.
+/// An obstacle. Ranges are closed and do not run backwards: x and z in columns, 0 to 1023, and y in height units, 0 to 8191. A cylinder's
+/// centre is in half cells, 0 to 2048, and its r in cells, 0 to 1023; it reaches the columns whose middle is at most r cells and a half
+/// from the centre. A shape covers a cell in reach whose floor lies in y0 to y1. A block or cylinder stops agents; an area block or area
+/// cylinder gives the cells that it covers another area, 1 to 63. A shape may lie outside the field, and then covers nothing.
 #[derive(Clone, Copy, PartialEq, Eq, Debug)]
 pub enum Shape {
     Block {

@@ -9,8 +9,8 @@ use Rattle.std.proofs.lemmas.List.{nil_from_length, take_at, drop_at, take_all, 
 use Rattle.std.proofs.lemmas.List.Folds.{list_all-append}
 use Rattle.std.proofs.lemmas.List.Sums.{list_all-from_AllPass}
 use Rattle.std.proofs.lemmas.Slice.Eq.{bytes_eq-Decides}
-use Rattle.nav_base.specs.Number.{number_at, EndsNumber}
-use Rattle.nav_base.proofs.NumberLaws.{number_takes, number_again, digits_of_decimal}
+use Rattle.nav_base.specs.Number.{number_at}
+use Rattle.nav_base.proofs.NumberLaws.{EndsNumber, number_takes, number_again, digits_of_decimal}
 use Rattle.nav_text.specs.Lines.{is_line}
 use Rattle.nav_text.specs.Forms.{field_at, fields_of, numbers_of, number_after, line_text, ends_word, has_word, AreNumbers}
 use Rattle.nav_text.proofs.Inversions.{some_is, when, bind_some, map_some}

@@ -1,6 +1,6 @@
 -- Gaps of spans that stand one above the other: which of them show nothing.
 use Rattle.std.proofs.Common.{◌≡◌, ℕ, ◌+◌, ◌<◌, ◌≤◌, Bool, true, false, length, List, [], ◌∷◌, ◌++◌, take, drop, get_or, ap, ◌∙◌, sym, refl, subst, Option, Some, None, arith, zero, suc, max, min}
-use Rattle.std.specs.Prelude.{All, AllPairs, IfSome, filter, if◌then◌else◌}
+use Rattle.std.specs.Prelude.{⊤, All, AllPairs, IfSome, filter, if◌then◌else◌}
 use Rattle.std.specs.Option.{option_map_or}
 use Rattle.std.proofs.lemmas.Bool.{both_ways, leb-false, lt-leb, eqb-true}
 use Rattle.std.proofs.lemmas.List.{take-append-drop, get_or-take, length-take-le}
@@ -11,9 +11,18 @@ use Rattle.nav_ground.specs.Column.{gaps_over, gaps_of}
 use Rattle.nav_ground.specs.Fields.{IsSpan, IsSpanBefore}
 use Rattle.span_filters.specs.declared.gaps.Stand.{Stand}
 use Rattle.span_filters.specs.declared.gaps.Seen.{Seen}
-use Rattle.span_filters.specs.Columns.{AreSpans, IsCutAt, IsStack, IsOver, column_of, is_in, place_of, start_of, floor_over}
+use Rattle.span_filters.specs.Columns.{AreSpans, IsCutAt, column_of, is_in, place_of, start_of, floor_over}
 use Rattle.span_filters.specs.Gaps.{IsStand, is_open_to, with_gap, with_floor, seen_over, is_in_reach}
 use Rattle.span_filters.proofs.Neighbours.{stacked}
+
+-- a height is not below a floor, if there is one
+abbrev pub IsOver : Option ℕ → ℕ → Type 0
+IsOver floor height = IfSome floor (λ f. f ≤ height)
+
+-- spans stand one above the other over a floor
+abbrev pub IsStack : Option ℕ → List Span → Type 0
+IsStack floor [] = ⊤
+IsStack floor (span ∷ above) = IsOver floor span.bottom × (span.bottom < span.top) × IsStack (Some span.top) above
 
 -- the greater floor over which a gap is open is at least the own one, and at least the gap's
 higher : ℕ → Option ℕ → ℕ

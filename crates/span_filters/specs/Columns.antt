@@ -1,5 +1,5 @@
 -- Columns by number and heights over them as places, so that spans in order begin at places in order.
-use Rattle.std.specs.Prelude.{◌≡◌, ℕ, ◌+◌, ◌-◌, ◌*◌, ◌<◌, ◌≤◌, Bool, ◌==◌, if◌then◌else◌, List, [], ◌∷◌, length, All, AllPairs, Option, Some, IfSome, slice_index_or, ⊤}
+use Rattle.std.specs.Prelude.{◌≡◌, ℕ, ◌+◌, ◌-◌, ◌*◌, ◌<◌, ◌≤◌, Bool, ◌==◌, if◌then◌else◌, List, [], ◌∷◌, length, All, AllPairs, Option, Some, slice_index_or}
 use Rattle.nav_ground.specs.declared.field.Span.{Span}
 use Rattle.nav_ground.specs.Fields.{IsSpan, IsSpanBefore}
 
@@ -55,12 +55,3 @@ pub record IsCutAt (spans : List Span) (n place : ℕ) : Type 0 where
 abbrev pub floor_over : Option ℕ → List Span → Option ℕ
 floor_over floor [] = floor
 floor_over floor (span ∷ above) = floor_over (Some span.top) above
-
--- a height is not below a floor, if there is one
-abbrev pub IsOver : Option ℕ → ℕ → Type 0
-IsOver floor height = IfSome floor (λ f. f ≤ height)
-
--- spans stand one above the other over a floor
-abbrev pub IsStack : Option ℕ → List Span → Type 0
-IsStack floor [] = ⊤
-IsStack floor (span ∷ above) = IsOver floor span.bottom × (span.bottom < span.top) × IsStack (Some span.top) above

@@ -5,7 +5,8 @@
 //! Recast (Mikko Mononen's library for navigation meshes); the rule of ledges is our own. All of them take time in proportion to the number
 //! of spans.
 //!
-//! The crates above use the exact contracts of the four calls; `filtered` also says that it gives one area a span.
+//! Each of the three calls gives exactly the areas that its rule leaves, one a span, and `filtered` those that all three leave one after the
+//! other. Only memory can be refused.
 #![tactic(auto)]
 
 mod columns;

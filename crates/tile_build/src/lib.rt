@@ -1,7 +1,8 @@
 //! Builds the meshes of tiles from their cells that obstacles leave free: by the outlines of their regions or as strips, as the setting asks.
 //!
-//! The crates above use `build_tile`, which gives exactly the tile mesh of its definition, fit for the setting, and takes one step, and
-//! `build_tiles`, which builds each tile of a ground.
+//! `build_tile` gives exactly the tile mesh of its definition, fit for the setting, and takes one step; obstacles that do not touch the tile
+//! change nothing of it. `build_tiles` gives the mesh of each tile of a ground, in order, and takes one step a tile. Only memory can be
+//! refused.
 #![tactic(auto)]
 
 mod build;

@@ -2,8 +2,9 @@
 //!
 //! The rim of a tile says where its polygons run along the tile's sides, and at which level each position leads to which level across.
 //! Two rim entries on the two sides of a border meet where each names the other's level; each run of positions where they meet is a link.
-//! The crates above use the exact contracts of `joined` and `replaced`; `rim_links`, `cross_links`, `whole` and `replace` have theirs too. Every
-//! mesh that these make is sound.
+//! `whole` and `joined` give exactly the mesh of a setting and its tiles, `replace` and `replaced` that of a mesh some of whose tiles are new;
+//! every mesh that these make is sound. `rim_links` gives the links from a tile to the one across a side, `cross_links` those that leave a tile
+//! over its four sides, in the order of links. Only memory can be refused, and then what was lent is unchanged.
 //!
 //! Sides are 0 for x - 1, 1 for z + 1, 2 for x + 1 and 3 for z - 1; a position is z on the sides 0 and 2, and x on the sides 1 and 3.
 //! Rim entries and corners are in whole cells, portals in sixteenths of a cell.

@@ -1,5 +1,6 @@
 use Rattle.std.proofs.Common.{◌≡◌, ℕ, ◌+◌, List, length, map, ◌∙◌, sym, ap, subst, arith}
-use Rattle.agent_erode.specs.Clearances.{is_beyond, IsSpread}
+use Rattle.agent_erode.specs.Clearances.{is_beyond}
+use Rattle.agent_erode.proofs.Stages.{IsSpread}
 use Rattle.cell_table.proofs.Tables.{table_length}
 use Rattle.agent_erode.proofs.Rounds.{spread_begins, spread_goes_on, spread_ends}
 use Rattle.agent_erode.proofs.clearance.spread.Goals as goal

@@ -1,6 +1,6 @@
 use Rattle.std.proofs.Common.{◌≡◌, ◌-◌, ◌≤◌}
 use Rattle.cell_table.specs.Table.{neighbour_table}
-use Rattle.agent_erode.specs.Clearances.{IsSpread}
+use Rattle.agent_erode.proofs.Stages.{IsSpread}
 use Rattle.agent_erode.proofs.clearance.spread.Given as goal
 
 -- the walks that cost less than the cost are done

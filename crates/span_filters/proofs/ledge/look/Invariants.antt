@@ -3,8 +3,9 @@ use Rattle.std.specs.Prelude.{slice_index_or, IfSome}
 use Rattle.std.specs.List.{filter}
 use Rattle.nav_ground.specs.declared.field.Span.{Span}
 use Rattle.nav_ground.specs.Column.{gaps_over, gaps_of}
-use Rattle.span_filters.specs.Columns.{column_of, is_in, IsStack}
+use Rattle.span_filters.specs.Columns.{column_of, is_in}
 use Rattle.span_filters.specs.Gaps.{seen_over}
+use Rattle.span_filters.proofs.Stacks.{IsStack}
 use Rattle.span_filters.proofs.ledge.look.Given as goal
 
 -- what is seen so far and what the gaps from here on show is what all gaps of the column show
