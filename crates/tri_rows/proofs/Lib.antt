@@ -1,0 +1,15 @@
+mod Cuts
+mod Divisions
+mod Places
+mod Parts
+mod Heights
+mod Noted
+mod Crossed
+mod Gathered
+mod Ends
+mod Assembled
+mod Puts
+mod Spans
+mod Cells
+mod Points
+mod Shadows

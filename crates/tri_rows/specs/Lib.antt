@@ -1,0 +1,5 @@
+pub mod Triangles
+pub mod Rasters
+pub mod Spots
+pub mod Bounds
+pub mod Rows
