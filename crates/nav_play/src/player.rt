@@ -2,7 +2,7 @@
 
 ghost use Rattle.std.specs.Prelude.{◌≡◌, ℕ, ◌+◌, ◌<◌, ◌++◌, IfOk, IsOkAnd, OnOk, length};
 ghost use Rattle.nav_ground.specs.History.{IsRequest};
-ghost use Rattle.nav_play.specs.PlayRecord.{IsTextFrom, number_added, number_got};
+ghost use Rattle.nav_play.specs.PlayRecord.{IsTextFrom, number_added, number_got, state_after_all};
 ghost use Rattle.nav_play.specs.PlayTotals.{AreTotalsFrom};
 ghost use Rattle.nav_play.specs.Players.{HasBegun, HasPlayed, HasRequested, IsPlayable, IsSteady, player_state};
 ghost use Rattle.nav_play.specs.Tallies.{HasRoom, totals_at};
@@ -14,6 +14,7 @@ ghost use Rattle.nav_script.specs.declared.script.Way.TheVariants.{Play};
 ghost use Rattle.nav_steps.specs.Counts.{HasRisenAtMost};
 
 use crate::lanes::Lanes;
+use crate::run::{PlayText, Played};
 use crate::steps::{claim, publish, put_back, settle, submit};
 use crate::tally::count;
 use crate::workers::Workers;
@@ -52,6 +53,7 @@ impl Player {
         requires begun { HasBegun script.now self.old }
         ensures text { OnOk result (IsTextFrom (player_state self.old) script.now.lines self.new.text.items) }
         ensures totals { IfOk result (λ totals. AreTotalsFrom (player_state self.old) script.now.lines totals) }
+        ensures ended { OnOk result (self.new.book.state ≡ (state_after_all (player_state self.old) script.now.lines).book) }
         ensures steps { OnOk result (steps.new ≡ steps.old + jobs_from (player_state self.old) script.now.lines) }
         ensures most { HasRisenAtMost (jobs_from (player_state self.old) script.now.lines) steps.old steps.new }
     {
@@ -60,6 +62,29 @@ impl Player {
         }
         write_done(&mut self.text, self.book.published(), self.book.length())?;
         Ok(told(&self.book, self.totals))
+    }
+
+    /// What the play came to: its book, its text so far, and these totals.
+    pub(crate) fn stop(self, totals: Totals) -> Played
+        ensures book { result.book.state ≡ self.book.state }
+        ensures bytes { result.text.bytes.items ≡ self.text.items }
+        ensures totals { result.text.totals ≡ totals }
+    {
+        let Player {
+            book,
+            lane: _,
+            adds: _,
+            workers: _,
+            totals: _,
+            text,
+        } = self;
+        Played {
+            book,
+            text: PlayText {
+                bytes: text,
+                totals,
+            },
+        }
     }
 
     /// The text so far. It ends the book.

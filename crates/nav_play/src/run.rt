@@ -5,7 +5,7 @@ ghost use Rattle.nav_ground.specs.Limits.{IsSetting};
 ghost use Rattle.nav_ground.specs.Fields.{IsField};
 ghost use Rattle.nav_ground.specs.Grounds.{IsBuiltFor, IsGround, IsSized};
 ghost use Rattle.nav_ground.specs.Tiling.{tile_count};
-ghost use Rattle.nav_play.specs.PlayRecord.{IsPlayText, first_state_of, opening_state};
+ghost use Rattle.nav_play.specs.PlayRecord.{IsPlayText, first_state_of, opening_state, state_after_all};
 ghost use Rattle.nav_play.specs.PlayTotals.{AreTotals};
 ghost use Rattle.nav_play.specs.Players.{HasBegun, player_state};
 ghost use Rattle.nav_play.specs.Work.{builds_of};
@@ -40,6 +40,12 @@ pub struct PlayText {
     pub totals: Totals,
 }
 
+/// A play that came to its end: the book as its last line leaves it, and the text. It is not `Drop`, since its book is not: end the book.
+pub struct Played {
+    pub book: Book,
+    pub text: PlayText,
+}
+
 /// Plays a script over a field: for each script line in order what it is answered, and then the published length and the history's length.
 /// It takes one step for each tile that it builds: each tile at its beginning, and one for each claim that gives one, of a `claim` line or
 /// within a `settle` line. Only memory can be refused.
@@ -64,13 +70,39 @@ pub fn play<R: Wait, L: Ledger>(
     ensures steps { OnOk result (steps.new ≡ steps.old + builds_of setting field script.now) }
     ensures most { HasRisenAtMost (builds_of setting field script.now) steps.old steps.new }
 {
+    let Played { book, text } = play_to_end(rt, alloc, setting, field, script, steps)?;
+    book.end(rt);
+    Ok(text)
+}
+
+/// The same with the book as the last line leaves it. Only memory can be refused.
+pub fn play_to_end<R: Wait, L: Ledger>(
+    rt: &R,
+    alloc: Global,
+    setting: Setting,
+    field: Field,
+    script: &Script,
+    steps: &mut Steps<L>,
+) -> Result<Played, AllocError>
+    requires setting { IsSetting setting }
+    requires field { IsField field }
+    requires sized { IsSized setting field }
+    requires script { IsScript Play script.now }
+    requires built { IsBuiltFor setting }
+    ensures book { IfOk result (λ played. played.book.state ≡ (state_after_all (first_state_of setting field script.now) script.now.lines).book) }
+    ensures text { IfOk result (λ played. IsPlayText setting field script.now played.text.bytes.items) }
+    ensures totals { IfOk result (λ played. AreTotals setting field script.now played.text.totals) }
+    ensures steps { OnOk result (steps.new ≡ steps.old + builds_of setting field script.now) }
+    ensures most { HasRisenAtMost (builds_of setting field script.now) steps.old steps.new }
+{
     let mut player = begin(rt, alloc, setting, field, script, steps)?;
-    let totals = player.play(rt, alloc, script, steps);
-    let bytes = player.end(rt);
-    Ok(PlayText {
-        bytes,
-        totals: totals?,
-    })
+    match player.play(rt, alloc, script, steps) {
+        Ok(totals) => Ok(player.stop(totals)),
+        Err(refused) => {
+            let _ = player.end(rt);
+            Err(refused)
+        }
+    }
 }
 
 /// The player of a script over a field, before its first line. It takes one step for each tile.

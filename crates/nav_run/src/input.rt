@@ -16,21 +16,21 @@ use std::alloc::Global;
 
 /// What an input says.
 #[derive(Drop)]
-pub(crate) struct Input {
-    pub(crate) setting: Setting,
-    pub(crate) field: Field,
-    pub(crate) script: Script,
+pub struct Input {
+    pub setting: Setting,
+    pub field: Field,
+    pub script: Script,
 }
 
 /// Why no input was read.
 #[derive(Clone, Copy)]
-pub(crate) enum InputRefusal {
+pub enum InputRefusal {
     Fault(TextFault),
     OutOfMemory,
 }
 
 /// Reads a field text and the text of a script for this way behind it.
-pub(crate) fn read_input(alloc: Global, way: Way, bytes: &[u8]) -> Result<Input, InputRefusal>
+pub fn read_input(alloc: Global, way: Way, bytes: &[u8]) -> Result<Input, InputRefusal>
     requires { length bytes.now ≤ input_limit }
     ensures found { IfOk result (λ input. IsInput way bytes.now input.setting input.field input.script) }
     ensures only { (setting : Setting) (field : Field) (script : Script) → IsInput way bytes.now setting field script

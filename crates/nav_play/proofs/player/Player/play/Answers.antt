@@ -4,8 +4,9 @@ use Rattle.std.proofs.lemmas.List.{length-map}
 use Rattle.nav_book.specs.Results.{job_built}
 use Rattle.nav_play.proofs.Arms.{state_is, still_steady}
 use Rattle.nav_play.proofs.Playable.{line_playable}
-use Rattle.nav_play.proofs.Playing.{all_steps, are_totals, line_broken, no_line_played, one_line_played, whole_text}
+use Rattle.nav_play.proofs.Playing.{all_steps, are_totals, last_state, line_broken, no_line_played, one_line_played, whole_text}
 use Rattle.nav_play.proofs.Tallying.{room}
+use Rattle.nav_play.specs.PlayRecord.{PlayState}
 use Rattle.nav_play.proofs.player.Player.play.Goals as goal
 
 pub loop-line-init : goal.loop-line-init
@@ -51,3 +52,8 @@ returns-clause-totals g c =
 pub returns-clause-steps : goal.returns-clause-steps
 returns-clause-steps g c =
     all_steps _ _ _ _ _ _ _ _ _ c.loop-line.invariant.playing c.as_slice-line-items.ensures (omega (arith, c.loop-line-test.false))
+
+pub returns-clause-ended : goal.returns-clause-ended
+returns-clause-ended g c =
+    ap (λ (s : PlayState). s.book)
+    (sym (last_state _ _ _ _ _ _ _ _ _ c.loop-line.invariant.playing c.as_slice-line-items.ensures (omega (arith, c.loop-line-test.false))))

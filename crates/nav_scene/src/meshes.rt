@@ -1,0 +1,83 @@
+//! The parts of a mesh.
+
+ghost use Rattle.std.specs.Prelude.{◌≡◌, ◌++◌, OnOk};
+ghost use Rattle.nav_scene.specs.Scenes.{cell_text, link_text, links_text, mesh_text, polygon_text, spaced_point};
+
+use crate::lines::{write_line, write_point};
+use crate::told::{Told, append_all};
+use mesh_types::{Link, Links, Polygon, TileMesh};
+use nav_base::Point;
+use nav_ground::Cell;
+use nav_text::append_line;
+use std::alloc::AllocError;
+
+/// The line of a free cell: its column, its floor and its area.
+impl Told for Cell {
+    ghost text = { cell_text };
+
+    fn append_to(&self, out: &mut Vec<u8>) -> Result<(), AllocError> {
+        write_line(out, b"cell", &[self.at.x, self.at.z, self.floor, self.area])
+    }
+}
+
+/// A corner of a polygon, behind a space.
+impl Told for Point {
+    ghost text = { spaced_point };
+
+    fn append_to(&self, out: &mut Vec<u8>) -> Result<(), AllocError> {
+        write_point(out, *self)
+    }
+}
+
+/// The line of a polygon: its area, its least and its greatest floor, and its corners in order.
+impl Told for Polygon {
+    ghost text = { polygon_text };
+
+    fn append_to(&self, out: &mut Vec<u8>) -> Result<(), AllocError> {
+        append_line(out, b"poly", &[self.area, self.low, self.high])?;
+        append_all(out, self.corners.as_slice())?;
+        out.extend_from_slice(b"\n")
+    }
+}
+
+/// The line of a link: the polygon that it leaves, over which edge, the polygon that it enters, and the left and the right end of its portal.
+impl Told for Link {
+    ghost text = { link_text };
+
+    fn append_to(&self, out: &mut Vec<u8>) -> Result<(), AllocError> {
+        append_line(
+            out,
+            b"link",
+            &[
+                self.from.tile,
+                self.from.index,
+                self.edge,
+                self.to.tile,
+                self.to.index,
+            ],
+        )?;
+        append_all(out, &[self.portal.left, self.portal.right])?;
+        out.extend_from_slice(b"\n")
+    }
+}
+
+/// The lines of a list of links, in order.
+impl Told for Links {
+    ghost text = { links_text };
+
+    fn append_to(&self, out: &mut Vec<u8>) -> Result<(), AllocError> {
+        append_all(out, self.as_slice())
+    }
+}
+
+/// The lines of a tile's mesh: its own, and then those of its free cells, of its polygons and of the links between them.
+impl Told for TileMesh {
+    ghost text = { mesh_text };
+
+    fn append_to(&self, out: &mut Vec<u8>) -> Result<(), AllocError> {
+        write_line(out, b"mesh", &[self.tile])?;
+        append_all(out, self.free.cells.as_slice())?;
+        append_all(out, self.polys.as_slice())?;
+        self.links.append_to(out)
+    }
+}

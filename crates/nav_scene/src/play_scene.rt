@@ -1,0 +1,44 @@
+//! The scene at the end of a play.
+
+ghost use Rattle.std.specs.Prelude.{IfOk};
+ghost use Rattle.nav_ground.specs.Limits.{IsSetting};
+ghost use Rattle.nav_ground.specs.Fields.{IsField};
+ghost use Rattle.nav_ground.specs.Grounds.{IsBuiltFor, IsSized};
+ghost use Rattle.nav_script.specs.Limits.{IsScript};
+ghost use Rattle.nav_script.specs.declared.script.Way.TheVariants.{Play};
+ghost use Rattle.nav_scene.specs.Scenes.{IsSceneText};
+
+use crate::shown::append_scene;
+use nav_ground::{Field, Setting};
+use nav_play::{PlayText, Played, play_to_end};
+use nav_script::Script;
+use nav_steps::Steps;
+use std::alloc::{AllocError, Global};
+use std::sync::Wait;
+use std::sync::ledger::Ledger;
+
+/// Plays a script over a field, and writes its play text and, behind it, the scene of what its book shows after the last line. Only memory can
+/// be refused.
+pub fn scene<R: Wait, L: Ledger>(
+    rt: &R,
+    alloc: Global,
+    setting: Setting,
+    field: Field,
+    script: &Script,
+    steps: &mut Steps<L>,
+) -> Result<Vec<u8>, AllocError>
+    requires setting { IsSetting setting }
+    requires field { IsField field }
+    requires sized { IsSized setting field }
+    requires script { IsScript Play script.now }
+    requires built { IsBuiltFor setting }
+    ensures { IfOk result (λ text. IsSceneText setting field script.now text.items) }
+{
+    let Played { book, text } = play_to_end(rt, alloc, setting, field, script, steps)?;
+    let PlayText { bytes, totals: _ } = text;
+    let mut bytes = bytes;
+    let written = append_scene(&mut bytes, &book);
+    book.end(rt);
+    written?;
+    Ok(bytes)
+}
