@@ -10,7 +10,7 @@ use Rattle.tri_rows.specs.Bounds.{bound_at, put_at, line_crossing, IsAbout, IsWi
 use Rattle.tri_rows.proofs.Divisions.{times_le, quotient_times, ceiling_times}
 use Rattle.tri_rows.proofs.Heights.{crossing_some, crossing_low}
 use Rattle.tri_rows.proofs.Noted.{by_spot, spot_height}
-use Rattle.tri_rows.proofs.Places.{right_of_column, left_of_end, column_least, end_most}
+use Rattle.tri_rows.proofs.Places.{column_right, right_of_column, left_of_end, end_least, column_least, end_most}
 use Rattle.tri_rows.proofs.Points.{line_spot}
 use Rattle.tri_rows.proofs.Puts.{IsHeightOver, put_wider, put_filled, put_about, wider_then, about_later}
 
@@ -32,6 +32,14 @@ module _ (left right : Mark) (is : IsMark left) (is' : IsMark right) where
 
   before_end : (line : ℕ) → 16 * line * right.spot.n < right.spot.x → line < right.end
   before_end line h = by_spot right is' (λ (m : Mark). line < m.end) (end_most right.spot.x right.spot.n is'.sized.some line h)
+
+  -- there are none where the second is in no later column
+  pub no_lines : right.column ≤ left.column → (bounds : List Bound) → AreAboutCrossings left.spot right.spot bounds
+  no_lines later bounds k x p q beside inside = absurd (omega (arith, later, before_line k p, before_end k q, short))
+    where
+      short : right.end ≤ right.column + 1
+      short = by_spot right is' (λ (m : Mark). m.end ≤ m.column + 1)
+          (end_least right.spot.x right.spot.n is'.sized.some (right.spot.x / (16 * right.spot.n) + 1) (omega (arith, column_right right.spot.x right.spot.n is'.sized.some)))
 
   -- none before the first
   pub none_yet : (line : ℕ) (bounds : List Bound) → line ≡ left.column + 1 → AreAboutLines left.spot right.spot line bounds

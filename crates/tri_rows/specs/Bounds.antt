@@ -71,6 +71,10 @@ abbrev pub AreAboutCrossings : Spot → Spot → List Bound → Type 0
 AreAboutCrossings left right bounds = (line x : ℕ) → left.x < 16 * line * left.n → 16 * line * right.n < right.x → (line ≡ x) ⊎ (line ≡ x + 1) → x < length bounds
     → IsAbout (line_crossing left right line) (bound_at bounds x)
 
+-- the same, whichever spot is left of the other
+abbrev pub AreAboutBetween : Spot → Spot → List Bound → Type 0
+AreAboutBetween a b bounds = AreAboutCrossings a b bounds × AreAboutCrossings b a bounds
+
 -- a mark is that of its spot, whose numbers are within their limits
 pub record IsMark (mark : Mark) : Type 0 where
   pub sized : IsSized mark.spot

@@ -1,10 +1,10 @@
 //! Bounds of heights, gathered in the columns of a row.
-ghost use Rattle.std.specs.Prelude.{◌≡◌, ℕ, ◌+◌, ◌-◌, ◌*◌, ◌<◌, ◌≤◌, List, length, All, Contains};
+ghost use Rattle.std.specs.Prelude.{◌≡◌, ℕ, ◌+◌, ◌-◌, ◌*◌, ◌<◌, ◌≤◌, List, length, All};
 ghost use Rattle.tri_rows.specs.declared.triangle.Tri.{Tri};
 ghost use Rattle.tri_rows.specs.declared.spot.Spot.{Spot};
 ghost use Rattle.tri_rows.specs.declared.spot.Mark.{Mark};
 ghost use Rattle.tri_rows.specs.Spots.{IsSpotOf, IsSized};
-ghost use Rattle.tri_rows.specs.Bounds.{bound_at, put_at, fresh, IsWider, StaysFilled, AreAbout, AreAboutCrossings, IsMark, IsHeight};
+ghost use Rattle.tri_rows.specs.Bounds.{bound_at, put_at, fresh, IsWider, StaysFilled, AreAbout, AreAboutCrossings, AreAboutBetween, IsMark, IsHeight};
 
 use crate::bound::{Bound, FRESH};
 use crate::spot::{Mark, Spot};
@@ -79,6 +79,36 @@ fn heights(left: Spot, right: Spot, line: u32) -> (u32, u32)
     ((height / scale) as u32, height.div_ceil(scale) as u32)
 }
 
+/// Puts the heights where the segment between two spots, whichever of them is left of the other, crosses lines.
+fn put_between(bounds: &mut [Bound], a: &Mark, b: &Mark)
+    requires first { IsMark a.now }
+    requires second { IsMark b.now }
+    requires width { length bounds.old ≤ 1024 }
+    ensures wider { IsWider bounds.old bounds.new }
+    ensures filled { (tri : Tri) (z : ℕ) → IsSpotOf tri z a.now.spot → IsSpotOf tri z b.now.spot → StaysFilled tri z bounds.old bounds.new }
+    ensures about { AreAboutBetween a.now.spot b.now.spot bounds.new }
+{
+    if a.column < b.column {
+        put_crossings(bounds, a, b);
+    } else {
+        put_crossings(bounds, b, a);
+    }
+}
+
+/// Puts the heights where the segments between one spot and others cross lines.
+fn put_from(bounds: &mut [Bound], mark: &Mark, others: &[Mark])
+    requires mark { IsMark mark.now }
+    requires others { All IsMark others.now }
+    requires width { length bounds.old ≤ 1024 }
+    ensures wider { IsWider bounds.old bounds.new }
+    ensures filled { (tri : Tri) (z : ℕ) → IsSpotOf tri z mark.now.spot → All (λ (other : Mark). IsSpotOf tri z other.spot) others.now → StaysFilled tri z bounds.old bounds.new }
+    ensures about { All (λ (other : Mark). AreAboutBetween mark.now.spot other.spot bounds.new) others.now }
+{
+    for other in others {
+        put_between(bounds, mark, other);
+    }
+}
+
 /// Puts all heights of a triangle's part in a row into the columns: those of its spots, and those where segments between them cross lines.
 pub fn gather(bounds: &mut [Bound], marks: &[Mark])
     requires marks { All IsMark marks.now }
@@ -88,22 +118,8 @@ pub fn gather(bounds: &mut [Bound], marks: &[Mark])
     ensures about { All (λ (mark : Mark). AreAbout mark.spot bounds.new) marks.now }
     ensures crossings { All (λ (left : Mark). All (λ (right : Mark). AreAboutCrossings left.spot right.spot bounds.new) marks.now) marks.now }
 {
-    for mark in marks {
-        put_mark(bounds, mark);
-        put_from(bounds, mark, marks);
-    }
-}
-
-/// Puts the heights where the segments from one spot to those right of it cross lines.
-fn put_from(bounds: &mut [Bound], left: &Mark, marks: &[Mark])
-    requires left { IsMark left.now }
-    requires marks { All IsMark marks.now }
-    requires width { length bounds.old ≤ 1024 }
-    ensures wider { IsWider bounds.old bounds.new }
-    ensures filled { (tri : Tri) (z : ℕ) → IsSpotOf tri z left.now.spot → All (λ (mark : Mark). IsSpotOf tri z mark.spot) marks.now → StaysFilled tri z bounds.old bounds.new }
-    ensures crossings { All (λ (right : Mark). AreAboutCrossings left.now.spot right.spot bounds.new) marks.now }
-{
-    for right in marks {
-        put_crossings(bounds, left, right);
+    for i in 0..marks.len() {
+        put_mark(bounds, &marks[i]);
+        put_from(bounds, &marks[i], &marks[..i]);
     }
 }

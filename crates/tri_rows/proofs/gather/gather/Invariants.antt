@@ -7,11 +7,11 @@ use Rattle.tri_rows.specs.Spots.{IsSpotOf}
 use Rattle.tri_rows.specs.Bounds.{IsWider, StaysFilled, AreAbout, AreAboutCrossings}
 use Rattle.tri_rows.proofs.gather.gather.Given as goal
 
--- the marks so far, with those right of them
-abbrev pub invariant-loop-mark : goal.invariant-loop-mark
-invariant-loop-mark l = record {
+-- the marks so far, and each two of them
+abbrev pub invariant-loop-i : goal.invariant-loop-i
+invariant-loop-i l = record {
   wider : IsWider l.initial.bounds l.bounds;
   filled : (tri : Tri) (z : ℕ) → All (λ (mark : Mark). IsSpotOf tri z mark.spot) l.marks → StaysFilled tri z l.initial.bounds l.bounds;
-  about : (i : ℕ) (d : Mark) → i < l.mark-index → AreAbout (slice_index_or l.marks i d).spot l.bounds;
-  crossings : (i : ℕ) (d : Mark) → i < l.mark-index → All (λ (right : Mark). AreAboutCrossings (slice_index_or l.marks i d).spot right.spot l.bounds) l.marks;
+  about : (j : ℕ) (d : Mark) → j < l.i → AreAbout (slice_index_or l.marks j d).spot l.bounds;
+  crossings : (j k : ℕ) (d e : Mark) → j < l.i → k < l.i → AreAboutCrossings (slice_index_or l.marks j d).spot (slice_index_or l.marks k e).spot l.bounds;
 }
