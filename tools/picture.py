@@ -54,7 +54,9 @@ def legend(drawing, top, cell, body, title):
     if drawing.polygons:
         for area in drawing.areas:
             if area:
-                entry(f'<rect class="p" width="16" height="12" fill="{drawing.area_colour(area)}"/>', f"area {area}")
+                # Over the grey of the ground, as in the picture.
+                ground = f'<rect width="16" height="12" fill="{next(iter(shades))}"/>'
+                entry(f'{ground}<rect class="p" width="16" height="12" fill="{drawing.area_colour(area)}"/>', f"area {area}")
     for name, (mark, words) in MARKS.items():
         if f'class="{name}"' in body:
             entry(mark, words)
