@@ -6,7 +6,7 @@ use Rattle.nav_ground.specs.declared.history.Entry.{Entry}
 use Rattle.nav_lane.specs.declared.book.LiveAct.{LiveAct}
 use Rattle.nav_lane.specs.declared.book.LiveDone.{LiveDone}
 use Rattle.nav_lane.specs.Roots.{RootView}
-use Rattle.nav_lane.specs.Acting.{HasActed}
+use Rattle.nav_lane.specs.Acting.{HasActed, HasDone}
 use Rattle.nav_lane.specs.LaneRecords.{entries_made}
 use Rattle.nav_lane.specs.Lanes.{SawOthers}
 use Rattle.nav_lane.specs.LiveBooks.{Does, IsLegal, lane_of}
@@ -22,10 +22,14 @@ saw_others lock old new act done none of number acts =
     let same = unchanged acts.before new.seen none acts.grew in
     record { of = of; number = number; entries = ap (entries_made old.number) same ∙ entries_extended old.number old.seen acts.before acts.extends }
 
--- the same as a record of the act
+-- the same as a record of the act and its answer
+pub has_done : (lock : LockId RootView) (old new : PassView RootView Entry) (act : LiveAct) (done : LiveDone) → lane_of act ≡ None → IsOf lock new → new.number ≡ old.number
+    → Acts (λ (e : Entry). e.lane) lane_of (IsLegal lock.root) (Does lock.root) old act done new → HasDone lock act done old new
+has_done lock old new act done none of number acts = record { saw = saw_others lock old new act done none of number acts; acts = acts }
+
 pub has_acted : (lock : LockId RootView) (old new : PassView RootView Entry) (act : LiveAct) (done : LiveDone) → lane_of act ≡ None → IsOf lock new → new.number ≡ old.number
     → Acts (λ (e : Entry). e.lane) lane_of (IsLegal lock.root) (Does lock.root) old act done new → HasActed lock act old new
-has_acted lock old new act done none of number acts = record { saw = saw_others lock old new act done none of number acts; done = done; acts = acts }
+has_acted lock old new act done none of number acts = record { done = done; has = has_done lock old new act done none of number acts }
 
 pub saw_itself : (lock : LockId RootView) (pass : PassView RootView Entry) → IsOf lock pass → SawOthers lock pass pass
 saw_itself lock pass of = record { of = of; number = refl; entries = refl }

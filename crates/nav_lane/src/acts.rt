@@ -1,31 +1,59 @@
-//! What actors do while they have the turn, but for requests.
+//! What actors do while they have the turn, but for requests; each rings for what others may wait for, once it has given the turn back.
 
-ghost use Rattle.std.specs.Prelude.{IfOk, IfSome};
+ghost use Rattle.std.specs.Prelude.{◌≡◌, IfOk, IfSome};
 ghost use Rattle.turn_lock.specs.Locks.{IsOf};
 ghost use Rattle.nav_desk.specs.Steps.{IsJob};
 ghost use Rattle.nav_lane.specs.declared.book.LiveAct.TheVariants as acts;
-ghost use Rattle.nav_lane.specs.Acting.{HasActed};
+ghost use Rattle.nav_lane.specs.Acting.{HasActed, HasDone, HasTried, claim_done};
 ghost use Rattle.nav_lane.specs.LiveBooks.{IsMade};
 ghost use Rattle.nav_lane.specs.Lanes.{IsToldOf, SawOthers};
 
+use crate::bell::Bell;
 use crate::book::{LiveAct, LiveBook, LiveDone};
-use nav_book::{Job, Published, TileResult};
+use mesh_types::TileMesh;
+use nav_book::{Job, Published, Submitted, TileResult};
+use nav_share::Shared;
 use nav_version::Told;
 use std::alloc::{AllocError, Global};
+use std::marker::Model;
 use std::sync::Wait;
 use turn_lock::{Pass, TurnLock};
+
+/// A job that its actor has claimed. It cannot be dropped: it ends by `submit` or by `put_back`.
+pub(crate) struct Held {
+    job: Job,
+}
+
+impl Model for Held {
+    ghost use Rattle.nav_desk.specs.declared.answers.Job.{Job};
+
+    ghost Value = { Job };
+
+    ghost view = { λ held. held.job };
+}
+
+impl Held {
+    /// The job.
+    pub(crate) fn job(&self) -> &Job
+        ensures { result.now ≡ self.now }
+    {
+        &self.job
+    }
+}
 
 /// Makes the whole history the target.
 pub(crate) fn aim<R: Wait>(
     rt: &R,
     alloc: Global,
     lock: &TurnLock<LiveBook>,
+    bell: &Bell,
     pass: &mut Pass<LiveBook>,
 )
     requires { IsOf lock.now pass.old }
     ensures { HasActed lock.now acts.Aim pass.old pass.new }
 {
     let _done = lock.with(rt, alloc, pass, LiveAct::Aim);
+    bell.tiles_changed();
 }
 
 /// Claims a tile, if one waits.
@@ -34,13 +62,13 @@ pub(crate) fn claim<R: Wait>(
     alloc: Global,
     lock: &TurnLock<LiveBook>,
     pass: &mut Pass<LiveBook>,
-) -> Result<Option<Job>, AllocError>
+) -> Result<Option<Held>, AllocError>
     requires { IsOf lock.now pass.old }
+    ensures done { HasDone lock.now acts.Claim (claim_done result) pass.old pass.new }
     ensures fit { IfOk result (λ job. IfSome job (IsJob lock.now.root.level.setting)) }
-    ensures saw { SawOthers lock.now pass.old pass.new }
 {
     match lock.with(rt, alloc, pass, LiveAct::Claim) {
-        LiveDone::Claimed { job } => Ok(Some(job)),
+        LiveDone::Claimed { job } => Ok(Some(Held { job })),
         LiveDone::NoTile => Ok(None),
         LiveDone::NoMemory => Err(AllocError),
         _ => unreachable!(),
@@ -52,29 +80,45 @@ pub(crate) fn put_back<R: Wait>(
     rt: &R,
     alloc: Global,
     lock: &TurnLock<LiveBook>,
+    bell: &Bell,
     pass: &mut Pass<LiveBook>,
-    job: Job,
+    held: Held,
 )
     requires of { IsOf lock.now pass.old }
-    requires job { IsJob lock.now.root.level.setting job }
-    ensures { HasActed lock.now (acts.PutBack job) pass.old pass.new }
+    requires job { IsJob lock.now.root.level.setting held }
+    ensures { HasActed lock.now (acts.PutBack held) pass.old pass.new }
 {
+    let Held { job } = held;
     let _done = lock.with(rt, alloc, pass, LiveAct::PutBack { job });
+    bell.builds_changed();
+    bell.tiles_changed();
 }
 
-/// Hands a build in.
+/// Hands the build of a job in. One that came too late leaves a tile that can be claimed again.
 pub(crate) fn submit<R: Wait>(
     rt: &R,
     alloc: Global,
     lock: &TurnLock<LiveBook>,
+    bell: &Bell,
     pass: &mut Pass<LiveBook>,
-    made: TileResult,
+    held: Held,
+    mesh: Shared<TileMesh>,
 )
     requires of { IsOf lock.now pass.old }
-    requires made { IsMade lock.now.root made }
-    ensures { HasActed lock.now (acts.Submit made) pass.old pass.new }
+    requires made { IsMade lock.now.root (record { tile = held.tile; shapes = held.shapes; mesh = mesh }) }
+    ensures { HasActed lock.now (acts.Submit (record { tile = held.tile; shapes = held.shapes; mesh = mesh })) pass.old pass.new }
 {
-    let _done = lock.with(rt, alloc, pass, LiveAct::Submit { made });
+    let Held { job } = held;
+    let Job { tile, shapes } = job;
+    let made = TileResult { tile, shapes, mesh };
+    let done = lock.with(rt, alloc, pass, LiveAct::Submit { made });
+    bell.builds_changed();
+    if let LiveDone::Submitted {
+        answer: Submitted::Stale,
+    } = done
+    {
+        bell.tiles_changed();
+    }
 }
 
 /// Publishes the target, and tells the published length; none where a tile still waits for its build.
@@ -85,6 +129,7 @@ pub(crate) fn publish<R: Wait>(
     pass: &mut Pass<LiveBook>,
 ) -> Result<Option<Told>, AllocError>
     requires { IsOf lock.now pass.old }
+    ensures tried { HasTried lock.now pass.old pass.new result }
     ensures told { IfOk result (λ told. IfSome told (IsToldOf lock.now)) }
     ensures saw { SawOthers lock.now pass.old pass.new }
 {

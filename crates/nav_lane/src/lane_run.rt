@@ -4,12 +4,14 @@ ghost use Rattle.std.specs.Prelude.{◌≡◌, [], map, All, IfErr, OnOk};
 ghost use Rattle.turn_lock.specs.Locks.{IsOf};
 ghost use Rattle.nav_ground.specs.Grounds.{IsGround};
 ghost use Rattle.nav_script.specs.declared.line.Line.TheVariants as lines;
+ghost use Rattle.nav_lane.specs.Acting.{HasSettled};
 ghost use Rattle.nav_lane.specs.LaneRecords.{Spoken};
 ghost use Rattle.nav_lane.specs.Lanes.{KeepsLane};
 ghost use Rattle.nav_lane.specs.LaneSteps.{HasRun, IsRunnable};
 ghost use Rattle.nav_lane.specs.Stops.{IsStopped, IsStoppedAt};
 
 use crate::acts::aim;
+use crate::bell::Bell;
 use crate::book::LiveBook;
 use crate::builds::publish_all;
 use crate::lane::{Lane, Stop};
@@ -30,6 +32,7 @@ impl Lane {
         rt: &R,
         alloc: Global,
         lock: &TurnLock<LiveBook>,
+        bell: &Bell,
         level: &Ground,
         gate: &G,
         steps: &mut Steps<L>,
@@ -40,11 +43,22 @@ impl Lane {
         ensures of { IsOf lock.now self.new.pass }
         ensures named { self.new.pass.number ≡ self.old.pass.number }
         ensures ran { OnOk result (HasRun lock.now lines.Settle self.old self.new) }
+        ensures settled { OnOk result (HasSettled lock.now self.old.pass self.new.pass) }
     {
         let actor = Actor::Lane(self.number);
         for _ in rt.forever() {
-            aim(rt, alloc, lock, &mut self.pass);
-            let told = publish_all(rt, alloc, lock, level, &mut self.pass, actor, gate, steps)?;
+            aim(rt, alloc, lock, bell, &mut self.pass);
+            let told = publish_all(
+                rt,
+                alloc,
+                lock,
+                bell,
+                level,
+                &mut self.pass,
+                actor,
+                gate,
+                steps,
+            )?;
             if self.settle_at(told)? {
                 return Ok(());
             }
@@ -58,6 +72,7 @@ impl Lane {
         rt: &R,
         alloc: Global,
         lock: &TurnLock<LiveBook>,
+        bell: &Bell,
         level: &Ground,
         gate: &G,
         line: &Line,
@@ -81,7 +96,7 @@ impl Lane {
                 Ok(())
             }
             Line::Settle => {
-                self.settle(rt, alloc, lock, level, gate, steps)?;
+                self.settle(rt, alloc, lock, bell, level, gate, steps)?;
                 Ok(())
             }
             _ => match self.request_of(line) {
@@ -96,13 +111,13 @@ impl Lane {
         }
     }
 
-    /// Runs all lines of the lane, which has run none before. It ends before its last line for want of memory, or where the history takes no
-    /// more entries; its pass is then still one of the lock.
-    pub fn run_all<R: Wait, G: Gate, L: Ledger>(
+    /// Runs all lines of the lane one after another.
+    fn run_lines<R: Wait, G: Gate, L: Ledger>(
         &mut self,
         rt: &R,
         alloc: Global,
         lock: &TurnLock<LiveBook>,
+        bell: &Bell,
         level: &Ground,
         gate: &G,
         list: &[Line],
@@ -120,8 +135,38 @@ impl Lane {
         ensures full { IfErr result (IsStopped list.now self.new.pass) }
     {
         for line in list {
-            self.run(rt, alloc, lock, level, gate, line, steps)?;
+            self.run(rt, alloc, lock, bell, level, gate, line, steps)?;
         }
         Ok(())
+    }
+
+    /// Runs all lines of the lane, which has run none before. It ends before its last line for want of memory, or where the history takes no
+    /// more entries; its pass is then still one of the lock.
+    pub fn run_all<R: Wait, G: Gate, L: Ledger>(
+        &mut self,
+        rt: &R,
+        alloc: Global,
+        lock: &TurnLock<LiveBook>,
+        bell: &Bell,
+        level: &Ground,
+        gate: &G,
+        list: &[Line],
+        steps: &mut Steps<L>,
+    ) -> Result<(), Stop>
+        requires keeps { KeepsLane lock.now self.old }
+        requires fresh { self.old.spoken ≡ [] }
+        requires level { level.now ≡ lock.now.root.level }
+        requires rules { IsGround level.now }
+        requires lines { All IsRunnable list.now }
+        ensures of { IsOf lock.now self.new.pass }
+        ensures named { self.new.pass.number ≡ self.old.pass.number }
+        ensures keeps_on { OnOk result (KeepsLane lock.now self.new) }
+        ensures each { OnOk result (map (λ (one : Spoken). one.0) self.new.spoken ≡ list.now) }
+        ensures full { IfErr result (IsStopped list.now self.new.pass) }
+    {
+        bell.begin_lane();
+        let end = self.run_lines(rt, alloc, lock, bell, level, gate, list, steps);
+        bell.end_lane();
+        end
     }
 }

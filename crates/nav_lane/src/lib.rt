@@ -6,6 +6,7 @@
 #![tactic(auto)]
 
 mod acts;
+mod bell;
 mod book;
 mod builds;
 mod lane;
@@ -16,6 +17,7 @@ mod lane_start;
 mod said;
 mod worker;
 
+pub use bell::Bell;
 pub use book::{LiveAct, LiveBook, LiveDone, LiveRoot};
 pub use lane::{Lane, Stop};
 pub use said::Said;

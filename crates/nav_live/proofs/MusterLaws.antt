@@ -16,7 +16,7 @@ use Rattle.nav_live.specs.declared.hand.Hand.{Hand}
 use Rattle.nav_live.specs.declared.hand.Task.{Task}
 use Rattle.nav_live.specs.declared.hand.Task.TheVariants.{Lane, Worker}
 use Rattle.nav_live.specs.Dealing.{dealt, lines_of}
-use Rattle.nav_live.specs.Crews.{AreHands, AreMustered, AreNew, CanMuster, IsEyeOf, IsLaneOf, IsNew, IsNewLane, IsReady, IsReadyLane, IsWorkerOf, pass_left}
+use Rattle.nav_live.specs.Crews.{AreHands, AreMustered, AreNew, CanMuster, IsEyeOf, IsLaneOf, IsNew, IsNewLane, IsNumbered, IsReady, IsReadyLane, IsWorkerOf, pass_left}
 
 -- a script deals a list to each of its lanes
 pub length-dealt : (script : Script) → length (dealt script) ≡ script.lanes
@@ -104,6 +104,11 @@ module _ (lock : LockId RootView) where
     new_is_worker number pass (Lane lane lines) new fresh above = absurd (let below = new.0 in omega (arith, below, above))
     new_is_worker number pass (Worker worker) new fresh above = ap (λ p. p.number) (new.1 ∙ fresh)
 
+    -- a worker has its number
+    new_is_numbered : (number : ℕ) (pass : PassView RootView Entry) (task : Task) → IsNew eyes lists number pass task → length lists ≤ number → IsNumbered (length lists) number task
+    new_is_numbered number pass (Lane lane lines) new above = absurd (let below = new.0 in omega (arith, below, above))
+    new_is_numbered number pass (Worker worker) new above = new.2
+
   -- the passes of a new lock are fresh
   fresh_at : (passes : List (PassView RootView Entry)) (k : ℕ) (d : PassView RootView Entry) → k < length passes → slice_get passes k ≡ Some (fresh_pass lock k)
       → get_or passes k d ≡ fresh_pass lock k
@@ -128,6 +133,9 @@ are_mustered lock script passes eyes lists hands can many are run all new =
         workers = λ k d above below. new_is_worker lock eyes lists paired can.each run k (get_or passes k (pass_left (get_or hands k d).task)) (get_or hands k d).task
             (new k (pass_left (get_or hands k d).task) d below) (fresh k (pass_left (get_or hands k d).task) (omega (arith, below, count))) above;
       });
+      numbers = subst (λ many. (k : ℕ) (d : Hand) → many ≤ k → k < length hands → IsNumbered many k (get_or hands k d).task) as_many
+          (λ k d above below. new_is_numbered lock eyes lists paired can.each run k (get_or passes k (pass_left (get_or hands k d).task)) (get_or hands k d).task
+          (new k (pass_left (get_or hands k d).task) d below) above);
       ready = λ k d below. new_is_ready lock eyes lists paired can.each run k (get_or passes k (pass_left (get_or hands k d).task)) (get_or hands k d).task
           (new k (pass_left (get_or hands k d).task) d below) (fresh k (pass_left (get_or hands k d).task) (omega (arith, below, count)));
     }

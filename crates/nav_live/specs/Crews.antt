@@ -99,22 +99,28 @@ pub record IsNewLane (number : ℕ) (list : List Line) (pass : PassView RootView
   pub fresh : lane.spoken ≡ []
   pub keeps : (lock : LockId RootView) → CanStart lock number pass eye → KeepsLane lock lane
 
+-- a worker in this place, behind so many lanes, has the number of workers before it
+abbrev pub IsNumbered : (lanes place : ℕ) → Task → Type 0
+IsNumbered lanes place (tasks.Worker worker) = worker.number + lanes ≡ place
+IsNumbered lanes place (tasks.Lane lane lines) = ⊥
+
 -- a task was made of a pass: a lane's of the eye and the list of its number too, a worker's where there is no list of its number
 abbrev pub IsNew : List EyeView → List (List Line) → ℕ → PassView RootView Entry → Task → Type 0
 IsNew eyes lists number pass (tasks.Lane lane lines) =
     (number < length lists) × ((eye : EyeView) → IsNewLane number (get_or lists number []) pass (get_or eyes number eye) lane lines)
-IsNew eyes lists number pass (tasks.Worker worker) = (length lists ≤ number) × (worker.pass ≡ pass)
+IsNew eyes lists number pass (tasks.Worker worker) = (length lists ≤ number) × (worker.pass ≡ pass) × (worker.number + length lists ≡ number)
 
 -- actors were made of passes, place by place
 abbrev pub AreNew : List EyeView → List (List Line) → List (PassView RootView Entry) → List Hand → Type 0
 AreNew eyes lists passes hands =
     (k : ℕ) (pass : PassView RootView Entry) (d : Hand) → k < length hands → IsNew eyes lists k (get_or passes k pass) (get_or hands k d).task
 
--- all actors of a script, one for each pass of a lock: none has run, and each can
+-- all actors of a script, one for each pass of a lock: none has run, and each can; workers are numbered from 0
 pub record AreMustered (lock : LockId RootView) (script : Script) (hands : List Hand) : Type 0 where
   pub count : length hands ≡ lock.passes
   pub are : AreHands (dealt script) hands
   pub ready : All (λ (hand : Hand). IsReady lock hand.task) hands
+  pub numbers : (k : ℕ) (d : Hand) → script.lanes ≤ k → k < length hands → IsNumbered script.lanes k (get_or hands k d).task
 
 -- how actors have ended together: well where all did; else for want of memory where one met that; else at a full history
 abbrev pub EndsAs : List Hand → End → Type 0

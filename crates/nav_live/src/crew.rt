@@ -8,7 +8,7 @@ ghost use Rattle.nav_live.specs.Crews.{IsDone, IsReady, IsSameTask};
 use crate::hand::{Hand, Task};
 use nav_ground::Ground;
 use nav_io::Gate;
-use nav_lane::{LiveBook, Stop};
+use nav_lane::{Bell, LiveBook, Stop};
 use nav_steps::Steps;
 use std::alloc::Global;
 use std::marker::Brand;
@@ -25,6 +25,7 @@ impl Task {
         rt: &R,
         alloc: Global,
         lock: &TurnLock<LiveBook>,
+        bell: &Bell,
         level: &Ground,
         gate: &G,
         blank: Blank,
@@ -41,10 +42,19 @@ impl Task {
         let mut steps = Steps::<L>::new(blank);
         match self {
             Task::Lane { lane, lines } => {
-                lane.run_all(rt, alloc, lock, level, gate, lines.as_slice(), &mut steps)
+                lane.run_all(
+                    rt,
+                    alloc,
+                    lock,
+                    bell,
+                    level,
+                    gate,
+                    lines.as_slice(),
+                    &mut steps,
+                )
             }
             Task::Worker { worker } => {
-                worker.run(rt, alloc, lock, level, gate, &mut steps)?;
+                worker.run(rt, alloc, lock, bell, level, gate, &mut steps)?;
                 Ok(())
             }
         }
@@ -58,6 +68,7 @@ impl Hand {
         rt: &R,
         alloc: Global,
         lock: &TurnLock<LiveBook>,
+        bell: &Bell,
         level: &Ground,
         gate: &G,
     )
@@ -69,7 +80,7 @@ impl Hand {
     {
         self.end = self
             .task
-            .run::<R, G, Brand>(rt, alloc, lock, level, gate, Blank::new(1));
+            .run::<R, G, Brand>(rt, alloc, lock, bell, level, gate, Blank::new(1));
     }
 }
 
@@ -78,6 +89,7 @@ pub(crate) fn run_all<R: Threads + Wait + Sync, G: Gate + Sync>(
     rt: &R,
     alloc: Global,
     lock: &TurnLock<LiveBook>,
+    bell: &Bell,
     level: &Ground,
     gate: &G,
     hands: &mut [Hand],
@@ -93,6 +105,6 @@ pub(crate) fn run_all<R: Threads + Wait + Sync, G: Gate + Sync>(
         rt,
         hands,
         threads,
-        &|_, hand| hand.run(rt, alloc, lock, level, gate),
+        &|_, hand| hand.run(rt, alloc, lock, bell, level, gate),
     );
 }

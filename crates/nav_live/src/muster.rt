@@ -19,7 +19,7 @@ use crate::crew::run_all;
 use crate::hand::{Crew, Hand, Left, Task};
 use nav_ground::Ground;
 use nav_io::Gate;
-use nav_lane::{Lane, LiveBook, Stop, Worker};
+use nav_lane::{Bell, Lane, LiveBook, Stop, Worker};
 use nav_list::Items;
 use nav_script::{Line, Script};
 use nav_version::Eye;
@@ -207,6 +207,7 @@ impl Crew {
         rt: &R,
         alloc: Global,
         lock: &TurnLock<LiveBook>,
+        bell: &Bell,
         level: &Ground,
         gate: &G,
     ) -> (Left, Result<(), Stop>)
@@ -223,7 +224,7 @@ impl Crew {
             mut hands,
             mut left,
         } = self;
-        run_all(rt, alloc, lock, level, gate, &mut hands);
+        run_all(rt, alloc, lock, bell, level, gate, &mut hands);
         let end = left.take_all(hands);
         (left, end)
     }

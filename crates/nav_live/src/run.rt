@@ -25,7 +25,7 @@ use layer_cut::ground;
 use nav_book::Book;
 use nav_ground::{Field, Ground, Setting};
 use nav_io::Gate;
-use nav_lane::{LiveBook, Stop};
+use nav_lane::{Bell, LiveBook, Stop};
 use nav_list::Items;
 use nav_script::{Line, Script};
 use nav_steps::Steps;
@@ -132,10 +132,11 @@ fn run_crew<R: Threads + Wait + Sync, G: Gate + Sync, L: Ledger>(
     ensures most { HasRisenAtMost (tile_count level.now.setting) steps.old steps.new }
 {
     let mut crew = crew;
+    let bell = Bell::new(script.lanes);
     match TurnLock::new(alloc, LiveBook { book }, script.lanes + script.workers) {
         Ok((lock, passes)) => {
             crew.muster(alloc, script, passes, eyes, lists);
-            let (left, end) = crew.run(rt, alloc, &lock, level, gate);
+            let (left, end) = crew.run(rt, alloc, &lock, &bell, level, gate);
             end_run(rt, alloc, lock, left, end, script, steps)
         }
         Err((live, refused)) => {

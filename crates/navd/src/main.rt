@@ -48,4 +48,6 @@ mod test_plays;
 #[cfg(test)]
 mod test_runs;
 #[cfg(test)]
+mod test_workers;
+#[cfg(test)]
 mod tests;

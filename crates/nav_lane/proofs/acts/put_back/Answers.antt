@@ -1,6 +1,11 @@
-use Rattle.std.proofs.Common.{refl}
+use Rattle.std.proofs.Common.{refl, subst}
+use Rattle.nav_desk.specs.declared.answers.Job.{Job}
+use Rattle.nav_lane.specs.Acting.{HasActed}
+use Rattle.nav_lane.specs.declared.book.LiveAct.TheVariants as acts
 use Rattle.nav_lane.proofs.PassLaws.{has_acted}
 use Rattle.nav_lane.proofs.acts.put_back.Goals as goal
 
 pub returns : goal.returns
-returns g c = has_acted c.args.lock.now c.args.pass.now c.with-done.new.pass _ _ refl c.with-done.ensures.of c.with-done.ensures.number c.with-done.ensures.acts
+returns g c =
+    subst (λ (job : Job). HasActed c.args.lock.now (acts.PutBack job) c.args.pass.now c.with-done.new.pass) c.held.view_is
+    (has_acted c.args.lock.now c.args.pass.now c.with-done.new.pass _ _ refl c.with-done.ensures.of c.with-done.ensures.number c.with-done.ensures.acts)

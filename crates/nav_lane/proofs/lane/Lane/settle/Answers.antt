@@ -1,6 +1,7 @@
 use Rattle.std.proofs.Common.{subst, sym}
 use Rattle.nav_script.specs.declared.line.Line.TheVariants as lines
 use Rattle.nav_lane.specs.declared.lane.Lane.{Lane}
+use Rattle.nav_lane.specs.Acting.{HasSettled}
 use Rattle.nav_lane.specs.Waiting.{HasWaited}
 use Rattle.nav_lane.proofs.LaneLaws.{ran_after_waiting, waited_more, waits_on}
 use Rattle.nav_lane.proofs.lane.Lane.settle.Goals as goal
@@ -8,15 +9,27 @@ use Rattle.nav_lane.proofs.lane.Lane.settle.Goals as goal
 pub returns-then-branch-clause-ran : goal.returns-then-branch-clause-ran
 returns-then-branch-clause-ran g c =
     let between : Lane = record c.loop.self { pass = c.publish_all.new.pass } in
-    let waited = waited_more c.args.lock.now c.args.self.now c.loop.self c.aim.new.pass c.publish_all.new.pass c.loop.invariant c.aim.ensures.saw c.in_ok-told.ensures.saw in
+    let waited = waited_more c.args.lock.now c.args.self.now c.loop.self c.aim.new.pass c.publish_all.new.pass c.loop.invariant c.aim.ensures.has.saw c.in_ok-told.ensures.saw in
     let keeps = waits_on c.args.lock.now c.args.self.now between c.requires.keeps waited in
     let ran = rw c.if-branch.true at (c.in_ok-settle_at.ensures.ran c.args.lock.now keeps c.in_ok-told.ensures.told) in
     ran_after_waiting c.args.lock.now lines.Settle c.args.self.now between c.settle_at.new.self waited ran
 
+pub returns-then-branch-clause-settled : goal.returns-then-branch-clause-settled
+returns-then-branch-clause-settled g c =
+    let settled : HasSettled c.args.lock.now c.args.self.now.pass c.publish_all.new.pass = record {
+      start = c.loop.self.pass;
+      waited = c.loop.invariant.saw;
+      aimed = c.aim.new.pass;
+      aim = c.aim.ensures;
+      told = c.in_ok-told.told;
+      published = c.in_ok-told.ensures.published;
+    } in
+    subst (HasSettled c.args.lock.now c.args.self.now.pass) (sym c.settle_at.ensures.pass) settled
+
 pub loop-preserved : goal.loop-preserved
 loop-preserved g c =
     let between : Lane = record c.loop.self { pass = c.publish_all.new.pass } in
-    let waited = waited_more c.args.lock.now c.args.self.now c.loop.self c.aim.new.pass c.publish_all.new.pass c.loop.invariant c.aim.ensures.saw c.in_ok-told.ensures.saw in
+    let waited = waited_more c.args.lock.now c.args.self.now c.loop.self c.aim.new.pass c.publish_all.new.pass c.loop.invariant c.aim.ensures.has.saw c.in_ok-told.ensures.saw in
     let keeps = waits_on c.args.lock.now c.args.self.now between c.requires.keeps waited in
     let same = rw c.if-branch.false at (c.in_ok-settle_at.ensures.ran c.args.lock.now keeps c.in_ok-told.ensures.told) in
     subst (HasWaited c.args.lock.now c.args.self.now) (sym same) waited

@@ -33,8 +33,11 @@ loop-number-preserved c =
           (let above = w.if-number-script.false in (
             λ more. absurd (omega (arith, more, above)),
             λ more. absurd (omega (arith, more, above)),
-            subst (IsNew c.args.eyes.items c.args.lists.items c.loop-number.number c.in-Some.pass) (sym w.task-is)
-                (omega (arith, above, ap length c.requires.lists, length-dealt c.args.script.now), refl),
+            subst (IsNew c.args.eyes.items c.args.lists.items c.loop-number.number c.in-Some.pass) (sym w.task-is) (
+              omega (arith, above, ap length c.requires.lists, length-dealt c.args.script.now),
+              refl,
+              omega (arith, above, ap length c.requires.lists, length-dealt c.args.script.now),
+            ),
           ))
     ] in (
       ap length c.push_reserved.ensures.items ∙ omega (arith, length-append c.loop-number.self.hands.items (record { task = c.if-number-script.task; end = Ok tt } ∷ []), so_far.0),

@@ -1,7 +1,7 @@
 use Rattle.std.proofs.Common.{◌∙◌, refl, arith, take_all}
 use Rattle.nav_lane.specs.Stops.{IsStopped}
 use Rattle.nav_lane.proofs.LaneLaws.{handed_on, is_stopped, one_line_more}
-use Rattle.nav_lane.proofs.lane.Lane.run_all.Goals as goal
+use Rattle.nav_lane.proofs.lane.Lane.run_lines.Goals as goal
 
 pub loop-line-preserved : goal.loop-line-preserved
 loop-line-preserved g c = record {

@@ -1,7 +1,7 @@
 use Rattle.std.proofs.Common.{◌≡◌, map, take}
 use Rattle.nav_lane.specs.LaneRecords.{Spoken}
 use Rattle.nav_lane.specs.Lanes.{KeepsLane}
-use Rattle.nav_lane.proofs.lane.Lane.run_all.Given as goal
+use Rattle.nav_lane.proofs.lane.Lane.run_lines.Given as goal
 
 -- the lane has run the lines so far, and keeps what it has to and its pass's number
 abbrev pub invariant-loop-line : goal.invariant-loop-line
