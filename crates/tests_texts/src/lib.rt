@@ -16,3 +16,5 @@ mod records;
 mod scripts;
 #[cfg(test)]
 mod texts;
+#[cfg(test)]
+mod triangles;

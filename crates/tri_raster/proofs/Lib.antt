@@ -1,0 +1,7 @@
+pub mod TextLaws
+mod ShadowLaws
+mod LinkLaws
+mod GroupLaws
+mod ActiveLaws
+mod SweepLaws
+pub mod RasterLaws

@@ -1,0 +1,5 @@
+pub mod TriText
+pub mod TriFormat
+pub mod Columns
+pub mod ActiveRows
+pub mod Sweeps
