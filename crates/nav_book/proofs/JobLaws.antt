@@ -12,7 +12,7 @@ use Rattle.nav_desk.specs.declared.answers.Job.{Job}
 use Rattle.nav_desk.specs.BookState.{BookState, IsBook, is_awaited, is_claimed, least_awaited, least_claimable, wanted_at}
 use Rattle.nav_desk.specs.Flags.{flag_of}
 use Rattle.nav_desk.specs.SameShapes.{are_same}
-use Rattle.nav_desk.specs.Steps.{after_claim, after_submit, is_taken, job_of, next_job}
+use Rattle.nav_desk.specs.Steps.{after_claim, after_put_back_all, after_submit, is_taken, job_of, next_job}
 use Rattle.nav_desk.proofs.BookLaws.{shown_after_publish}
 use Rattle.nav_desk.proofs.SameShapes.{same_lists_decide}
 use Rattle.nav_book.specs.Settling.{IsUnclaimed, after_job, after_settle, all_built, awaited_tiles, settling}
@@ -189,7 +189,7 @@ settled_shows book none =
     ∙ built_target (settling book)
 
 -- no tile is claimed once all are put back
-pub unclaimed_by_all : (book : BookState) → IsUnclaimed (settling book)
+pub unclaimed_by_all : (book : BookState) → IsUnclaimed (after_put_back_all book)
 unclaimed_by_all book = record { at = down (length book.claimed) }
   where
     down : (count tile : ℕ) → flag_of (replicate count false) tile ≡ false

@@ -15,6 +15,7 @@ ghost use Rattle.nav_version.specs.Pairs.{eye_of};
 ghost use Rattle.nav_desk.specs.BookState.{IsBook, first_state};
 ghost use Rattle.nav_desk.specs.Steps.{IsJob, next_reply, request_answer, requested, after_request, after_aim, next_job, after_claim, after_put_back, after_put_back_all, submission, after_submit, publication, after_publish};
 ghost use Rattle.nav_book.specs.Results.{IsBuild, published_entries, published_mesh};
+ghost use Rattle.nav_book.specs.Settling.{IsUnclaimed};
 
 use crate::counts::{links, polygons};
 use crate::fresh::{empty, empty_places, patch_of};
@@ -134,6 +135,7 @@ impl Book {
     /// Gives all jobs back: no tile is claimed any more.
     pub fn put_back_all(&mut self)
         ensures back { self.new.state ≡ after_put_back_all self.old.state }
+        ensures free { IsUnclaimed self.new.state }
         ensures pair { self.new.pair ≡ self.old.pair }
     {
         self.desk.put_back_all()

@@ -36,7 +36,7 @@ impl Book {
     }
 
     /// Puts every job back, builds every tile that is awaited for the whole history, with one step each, and publishes the history, whose
-    /// length it gives. Where memory is refused, some of that is done.
+    /// length it gives. No tile is claimed then. Where memory is refused, some of that is done.
     pub fn settle<R: Wait, L: Ledger>(
         &mut self,
         rt: &R,
@@ -49,6 +49,7 @@ impl Book {
         ensures shown { OnOk result (self.new.state.published ≡ length self.old.state.history) }
         ensures whole { OnOk result (self.new.state.whole ≡ self.old.state.whole) }
         ensures history { OnOk result (self.new.state.history ≡ self.old.state.history) }
+        ensures free { OnOk result (IsUnclaimed self.new.state) }
         ensures steps { OnOk result (steps.new ≡ steps.old + length (awaited_tiles (settling self.old.state))) }
         ensures most { HasRisenAtMost (length (awaited_tiles (settling self.old.state))) steps.old steps.new }
         ensures pair { self.new.pair ≡ self.old.pair }
@@ -69,6 +70,7 @@ impl Book {
         requires free { IsUnclaimed self.old.state }
         ensures book { OnOk result (self.new.state ≡ all_built self.old.state) }
         ensures none { OnOk result (awaited_tiles self.new.state ≡ []) }
+        ensures free { OnOk result (IsUnclaimed self.new.state) }
         ensures steps { OnOk result (steps.new ≡ steps.old + length (awaited_tiles self.old.state)) }
         ensures most { HasRisenAtMost (length (awaited_tiles self.old.state)) steps.old steps.new }
         ensures pair { self.new.pair ≡ self.old.pair }

@@ -10,6 +10,7 @@ ghost use Rattle.tile_build.specs.Meshes.{tiles_under};
 ghost use Rattle.nav_book.specs.Results.{IsBuild};
 
 use crate::late_rows::{LATE_AGAIN, LATE_ELSEWHERE, LATE_MORE, LATE_REMOVED};
+use crate::lists::{claimed_list, submitted_under};
 use crate::rows::{all_hold, hold};
 use crate::versions::{both, floors};
 use layer_cut::ground;
@@ -31,15 +32,17 @@ use std::sync::ledger::{Blank, Ledger};
 use std::sync::{Arc, Wait};
 use tile_build::build_tiles;
 
-/// What a table asks for: a block over the column (x, 1), a block there that sets the area 5, or that a number goes.
+/// What a table asks for: a block over the column (x, 1), a block there that sets the area 5, a block over a column (x, z), or that a
+/// number goes.
 #[derive(Clone, Copy)]
 pub(crate) enum Asked {
     Block(u32),
     Area(u32),
+    Column(u32, u32),
     Remove(u32),
 }
 
-fn request_of(asked: Asked) -> Request
+pub(crate) fn request_of(asked: Asked) -> Request
     ensures { IsRequest result }
 {
     match asked {
@@ -59,6 +62,14 @@ fn request_of(asked: Asked) -> Request
             y1: 100,
             z0: 1,
             z1: 1,
+        }),
+        Asked::Column(x, z) => Request::Add(Shape::Block {
+            x0: x.min(1023),
+            x1: x.min(1023),
+            y0: 0,
+            y1: 100,
+            z0: z.min(1023),
+            z1: z.min(1023),
         }),
         Asked::Remove(number) => Request::Remove(number),
     }
@@ -91,7 +102,7 @@ pub(crate) fn flat_field(alloc: Global, width: u32, depth: u32) -> Result<Field,
 
 /// The tiles of a ground: one, two beside each other, or four.
 #[derive(Clone, Copy)]
-enum Layout {
+pub(crate) enum Layout {
     One,
     Two,
     Four,
@@ -243,6 +254,10 @@ pub(crate) enum Step {
     AllBack,
     /// The awaited tile is built, this is asked and aimed at, and then the build is submitted.
     Late(&'static [Asked]),
+    /// A build of a tile under the shapes of these requests is submitted.
+    Built(u32, &'static [Asked]),
+    /// A claim, whose job has the shapes of these requests, in this order.
+    Listed(&'static [Asked]),
     Publish,
     /// All that is awaited is built and published.
     Settle,
@@ -391,6 +406,8 @@ fn act<R: Wait, L: Ledger>(
             Told::Nothing
         }
         Step::Late(between) => submitted_late(book, alloc, between, steps),
+        Step::Built(tile, asked) => submitted_under(book, alloc, tile, asked, steps),
+        Step::Listed(asked) => claimed_list(book, alloc, asked),
         Step::Publish => Told::Published(book.publish(rt, alloc)),
         Step::Settle => Told::Published(settled(rt, book, alloc, steps)),
         _ => seen(book, alloc, step),
@@ -446,7 +463,13 @@ fn wrong_in_play<R: Wait, L: Ledger>(
 }
 
 /// Plays a table with a book of a ground.
-fn play<R: Abort + Wait>(rt: &R, alloc: Global, layout: Layout, name: &str, rows: &[Row]) {
+pub(crate) fn play<R: Abort + Wait>(
+    rt: &R,
+    alloc: Global,
+    layout: Layout,
+    name: &str,
+    rows: &[Row],
+) {
     let wrong = wrong_in_play::<R, Brand>(rt, alloc, layout, rows, Blank::new(1));
     all_hold(rt, name, wrong);
 }

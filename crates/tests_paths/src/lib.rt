@@ -13,6 +13,8 @@ mod corridors;
 #[cfg(test)]
 mod late_rows;
 #[cfg(test)]
+mod lists;
+#[cfg(test)]
 mod places;
 #[cfg(test)]
 mod questions;

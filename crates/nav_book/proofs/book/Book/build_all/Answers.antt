@@ -1,7 +1,7 @@
-use Rattle.std.proofs.Common.{◌∙◌, ap, length, sym, arith}
+use Rattle.std.proofs.Common.{◌∙◌, ap, length, subst, sym, arith}
 use Rattle.nav_desk.specs.declared.answers.Job.{Job}
 use Rattle.nav_desk.specs.Steps.{after_submit}
-use Rattle.nav_book.specs.Settling.{awaited_tiles}
+use Rattle.nav_book.specs.Settling.{IsUnclaimed, awaited_tiles}
 use Rattle.nav_book.proofs.JobLaws.{one_left, turn, turns_end}
 use Rattle.nav_book.proofs.book.Book.build_all.Goals as goal
 
@@ -55,3 +55,8 @@ pub returns-clause-none : goal.returns-clause-none
 returns-clause-none g c =
     let end = turns_end c.loop-job.self.state c.in_ok-job.field-0 c.loop-job.invariant.free c.in_ok-job.ensures.job c.in_default.is in
     ap awaited_tiles (c.in_ok-job.ensures.claimed ∙ end.same) ∙ end.left
+
+pub returns-clause-free : goal.returns-clause-free
+returns-clause-free g c =
+    let end = turns_end c.loop-job.self.state c.in_ok-job.field-0 c.loop-job.invariant.free c.in_ok-job.ensures.job c.in_default.is in
+    subst IsUnclaimed (sym (c.in_ok-job.ensures.claimed ∙ end.same)) c.loop-job.invariant.free

@@ -3,7 +3,7 @@ use Rattle.nav_desk.specs.BookState.{BookState}
 use Rattle.nav_desk.specs.Steps.{after_aim, after_publish}
 use Rattle.nav_steps.specs.Counts.{HasRisenAtMost}
 use Rattle.nav_book.specs.Settling.{IsUnclaimed, all_built, awaited_tiles, settling}
-use Rattle.nav_book.proofs.JobLaws.{settled_shows, unclaimed_by_all}
+use Rattle.nav_book.proofs.JobLaws.{settled_shows}
 use Rattle.nav_book.proofs.Settled.{settled_history, settled_whole}
 use Rattle.nav_book.proofs.book.Book.settle.Goals as goal
 
@@ -13,7 +13,7 @@ due at book m n is risen = subst (λ (b : BookState). HasRisenAtMost (length (aw
 
 pub build_all-requires : goal.build_all-requires
 build_all-requires g c = record {
-  free = subst IsUnclaimed (sym (c.aim-k.ensures.aimed ∙ ap after_aim c.put_back_all.ensures.back)) (unclaimed_by_all c.args.self.now.state);
+  free = subst IsUnclaimed (sym c.aim-k.ensures.aimed) (record { at = c.put_back_all.ensures.free.at });
 }
 
 pub returns-in_err-build_all-clause-most : goal.returns-in_err-build_all-clause-most
@@ -47,3 +47,6 @@ returns-clause-whole g c = ap (λ (b : BookState). b.whole) (returns-clause-book
 
 pub returns-clause-history : goal.returns-clause-history
 returns-clause-history g c = ap (λ (b : BookState). b.history) (returns-clause-book g c) ∙ settled_history c.args.self.now.state
+
+pub returns-clause-free : goal.returns-clause-free
+returns-clause-free g c = subst IsUnclaimed (sym c.in_ok-publish.ensures.published) (record { at = c.in_ok-build_all.ensures.free.at })
