@@ -18,8 +18,8 @@ SCRIPT_LINES = 300000
 SECONDS = 900
 
 
-def header(width, depth, tile, mesh="strips", limit=4, agent="10 4 0"):
-    return f"nav 1\nsize {width} {depth}\ntile {tile}\nagent {agent}\nerror 169\nmesh {mesh}\nlimit {limit}\n"
+def header(width, depth, tile, mesh="strips", limit=4, agent="10 4 0", error=169):
+    return f"nav 1\nsize {width} {depth}\ntile {tile}\nagent {agent}\nerror {error}\nmesh {mesh}\nlimit {limit}\n"
 
 
 def columns(width, depth, spans):
@@ -78,9 +78,17 @@ def zigzag(x, z):
     return f"span {x} {z} 0 40 0\n" if wall else f"span {x} {z} 0 10 63\n"
 
 
+def saw(x, z):
+    """Lanes of two columns between walls of one, all of which go one column to the right and back, row by row: each is a region with four corners a
+    row, all of which an error of 0 keeps."""
+    return f"span {x} {z} 0 40 0\n" if (x - z % 2) % 3 == 2 else f"span {x} {z} 0 10 63\n"
+
+
 SMALL = lambda: field(6, 6, 6)
 BIG = lambda: field(1024, 1024, 4)
 WHOLE = ["add block 0 1023 0 100 0 1023\n", "settle\n", "drop 1\n", "settle\n"]
+SAW = lambda: field(128, 128, 128, saw, mesh="contours", error=0)
+ABOVE = ["add block 0 127 8000 8001 0 127\n", "settle\n", "drop 1\n", "settle\n"]
 FAR = ["path 40 40 10 16280 16280 10\n"]
 
 # what a text is, the word that it is for, its parts, what the first line of the answer must be, and how many lines of how many a script has
@@ -105,6 +113,8 @@ TEXTS = [
     ("a path across 1044484 polygons of one column each", "play",
         lambda: script(field(1024, 1024, 128, checkered), FAR, 8), None, (8, SCRIPT_LINES)),
     ("a path through a field of teeth", "play", lambda: script(field(1024, 1024, 128, zigzag), FAR, 8), None, (8, SCRIPT_LINES)),
+    ("a block above a tile of 128 by 128 whose regions zigzag put up, settled, taken away, settled", "play",
+        lambda: script(SAW(), ABOVE, 4), "entry 1 added", (4, SCRIPT_LINES)),
 ]
 
 
