@@ -3,6 +3,7 @@ use Rattle.std.specs.Prelude.{◌≡◌, ℕ, ◌<◌, nat_lt, Bool, cond, ◌==
 use Rattle.std.specs.List.{list_any, position_or_len}
 use Rattle.nav_ground.specs.declared.cell.Cell.{Cell}
 use Rattle.nav_ground.specs.declared.cell.CellRef.{CellRef}
+use Rattle.nav_ground.specs.Cells.{IsCells}
 use Rattle.mesh_types.specs.declared.strip.Strip.{Strip}
 use Rattle.mesh_types.specs.declared.region.Region.{Region}
 use Rattle.mesh_types.specs.StripMeshes.{some_cell}
@@ -10,6 +11,7 @@ use Rattle.mesh_types.specs.Regions.{is_holding, IsStrip}
 use Rattle.mesh_types.specs.Contours.{is_at}
 use Rattle.cell_table.specs.Table.{neighbour_table}
 use Rattle.contour_walk.specs.declared.table.RegionTable.{RegionTable}
+use Rattle.contour_walk.specs.declared.table.Rim.{Rim}
 
 -- the index of the cell at a place, or how many cells there are
 abbrev pub index_of : List Cell → CellRef → ℕ
@@ -45,3 +47,8 @@ pub record IsFit (strip : Strip) : Type 0 where
 pub record IsTableOf (cells : List Cell) (regions : List Region) (table : RegionTable) : Type 0 where
   pub neighbours : table.neighbours ≡ neighbour_table cells
   pub owners : table.owners ≡ map (owner_of regions) cells
+
+-- what edges are read from: the cells keep the rules of cells, and the tables are those of them and the regions
+pub record IsRim (rim : Rim) : Type 0 where
+  pub cells : IsCells rim.cells.now
+  pub table : IsTableOf rim.cells.now rim.regions.now.regions rim.table.now

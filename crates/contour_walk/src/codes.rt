@@ -9,10 +9,10 @@ ghost use Rattle.nav_ground.specs.declared.cell.CellRef.{CellRef};
 ghost use Rattle.mesh_types.specs.StripMeshes.{corner, is_crossing};
 ghost use Rattle.mesh_types.specs.Regions.{AreRegionsOf};
 ghost use Rattle.mesh_types.specs.Contours.{cell_in, edge_of, code_beyond, region_beyond};
-ghost use Rattle.contour_walk.specs.Tables.{index_of, IsTableOf};
+ghost use Rattle.contour_walk.specs.Tables.{index_of, IsRim, IsTableOf};
 
 use crate::owners::owners;
-use crate::table::RegionTable;
+use crate::table::{RegionTable, Rim};
 use cell_table::neighbour_table;
 use mesh_types::{Code, Regions, UnitEdge};
 use nav_base::Point;
@@ -43,26 +43,18 @@ pub fn region_table(
 }
 
 /// The edge toward a direction of the cell at a place, by the index of that cell.
-pub fn edge(
-    cells: &[Cell],
-    regions: &Regions,
-    table: &RegionTable,
-    index: usize,
-    at: CellRef,
-    dir: u32,
-) -> UnitEdge
-    requires cells { IsCells cells.now }
-    requires table { IsTableOf cells.now regions.now.regions table.now }
-    requires index { index ≡ index_of cells.now at }
+pub fn edge(rim: Rim, index: usize, at: CellRef, dir: u32) -> UnitEdge
+    requires rim { IsRim rim }
+    requires index { index ≡ index_of rim.cells.now at }
     requires x { at.x < 1024 }
     requires z { at.z < 1024 }
     requires dir { dir < 4 }
-    ensures { result ≡ edge_of table.now.window cells.now regions.now dir at }
+    ensures { result ≡ edge_of rim.entry.table.now.window rim.entry.cells.now rim.entry.regions.now dir at }
 {
     UnitEdge {
         from: beginning(dir, at),
         to: beginning((dir + 3) % 4, at),
-        code: code(cells, regions, table, index, dir),
+        code: code(rim, index, dir),
     }
 }
 
@@ -93,56 +85,49 @@ fn corner(x: u32, z: u32) -> Point
 }
 
 /// The code of the edge toward a direction of the cell at a place, by the index of that cell; a wall where there is none.
-fn code(cells: &[Cell], regions: &Regions, table: &RegionTable, index: usize, dir: u32) -> Code
-    requires cells { IsCells cells.now }
-    requires table { IsTableOf cells.now regions.now.regions table.now }
+fn code(rim: Rim, index: usize, dir: u32) -> Code
+    requires rim { IsRim rim }
     requires dir { dir < 4 }
-    ensures { (at : CellRef) → index ≡ index_of cells.now at → result ≡ code_beyond table.now.window cells.now regions.now dir (cell_in cells.now at) }
+    ensures { (at : CellRef) → index ≡ index_of rim.entry.cells.now at → result ≡ code_beyond rim.entry.table.now.window rim.entry.cells.now rim.entry.regions.now dir (cell_in rim.entry.cells.now at) }
 {
+    let cells = rim.cells;
     if index < cells.len() {
-        code_of(cells, regions, table, index, dir)
+        code_of(rim, index, dir)
     } else {
         Code::Wall
     }
 }
 
 /// The code of the edge toward a direction of the cell with an index.
-fn code_of(cells: &[Cell], regions: &Regions, table: &RegionTable, index: usize, dir: u32) -> Code
-    requires cells { IsCells cells.now }
-    requires table { IsTableOf cells.now regions.now.regions table.now }
-    requires index { index < length cells.now }
+fn code_of(rim: Rim, index: usize, dir: u32) -> Code
+    requires rim { IsRim rim }
+    requires index { index < length rim.cells.now }
     requires dir { dir < 4 }
-    ensures { (d : Cell) → result ≡ code_beyond table.now.window cells.now regions.now dir (slice_index_or cells.now index d) }
+    ensures { (d : Cell) → result ≡ code_beyond rim.entry.table.now.window rim.entry.cells.now rim.entry.regions.now dir (slice_index_or rim.entry.cells.now index d) }
 {
-    if is_crossing(&table.window, dir, &cells[index]) {
+    if is_crossing(&rim.table.window, dir, &rim.cells[index]) {
         return Code::Side(dir);
     }
-    match region_beyond(cells, regions, table, index, dir) {
+    match region_beyond(rim, index, dir) {
         Some(region) => Code::Region(region),
         None => Code::Wall,
     }
 }
 
 /// The number of the region of the free cell that a cell names in a direction.
-fn region_beyond(
-    cells: &[Cell],
-    regions: &Regions,
-    table: &RegionTable,
-    index: usize,
-    dir: u32,
-) -> Option<u32>
-    requires cells { IsCells cells.now }
-    requires table { IsTableOf cells.now regions.now.regions table.now }
-    requires index { index < length cells.now }
+fn region_beyond(rim: Rim, index: usize, dir: u32) -> Option<u32>
+    requires rim { IsRim rim }
+    requires index { index < length rim.cells.now }
     requires dir { dir < 4 }
-    ensures { (d : Cell) → result ≡ region_beyond cells.now regions.now dir (slice_index_or cells.now index d) }
+    ensures { (d : Cell) → result ≡ region_beyond rim.entry.cells.now rim.entry.regions.now dir (slice_index_or rim.entry.cells.now index d) }
 {
-    let next = table.neighbours.as_slice()[index][dir as usize] as usize;
+    let cells = rim.cells;
+    let next = rim.table.neighbours.as_slice()[index][dir as usize] as usize;
     if next >= cells.len() {
         return None;
     }
-    let owner = table.owners.as_slice()[next];
-    if (owner as usize) < regions.regions.len() {
+    let owner = rim.table.owners.as_slice()[next];
+    if (owner as usize) < rim.regions.regions.len() {
         Some(owner)
     } else {
         None

@@ -9,12 +9,12 @@ ghost use Rattle.mesh_types.specs.Regions.{AreRegionsOf};
 ghost use Rattle.mesh_types.specs.Contours.{IsContour};
 ghost use Rattle.mesh_types.specs.LinkOrder.{is_point_before};
 ghost use Rattle.mesh_types.specs.Rings.{IsRing};
-ghost use Rattle.contour_walk.specs.Tables.{IsFit, IsTableOf};
+ghost use Rattle.contour_walk.specs.Tables.{IsFit, IsRim, IsTableOf};
 ghost use Rattle.contour_walk.specs.Walk.{edge_at, round, AreUpon};
 
 use crate::codes::region_table;
 use crate::sides::{push_bottoms, push_left_side, push_right_side, push_tops};
-use crate::table::RegionTable;
+use crate::table::{RegionTable, Rim};
 use mesh_types::{Regions, Strip, UnitEdge};
 use nav_base::Point;
 use nav_ground::{Cell, FreeLayer, Setting};
@@ -22,48 +22,34 @@ use nav_list::Items;
 use std::alloc::{AllocError, Global};
 
 /// The walk round a stack of strips, from the left end of its first strip's bottom.
-fn walk(
-    alloc: Global,
-    cells: &[Cell],
-    regions: &Regions,
-    table: &RegionTable,
-    strips: &[Strip],
-) -> Result<Vec<UnitEdge>, AllocError>
-    requires cells { IsCells cells.now }
-    requires table { IsTableOf cells.now regions.now.regions table.now }
+fn walk(alloc: Global, rim: Rim, strips: &[Strip]) -> Result<Vec<UnitEdge>, AllocError>
+    requires rim { IsRim rim }
     requires some { 0 < length strips.now }
     requires fit { All IsFit strips.now }
     requires upon { AreUpon strips.now }
-    ensures { IfOk result (λ edges. edges.items ≡ round (edge_at table.now.window cells.now regions.now) strips.now) }
+    ensures { IfOk result (λ edges. edges.items ≡ round (edge_at rim.entry.table.now.window rim.entry.cells.now rim.entry.regions.now) strips.now) }
 {
     let mut edges = Vec::new(alloc);
-    push_round(&mut edges, cells, regions, table, strips)?;
+    push_round(&mut edges, rim, strips)?;
     Ok(edges)
 }
 
 /// Appends that walk.
-fn push_round(
-    edges: &mut Vec<UnitEdge>,
-    cells: &[Cell],
-    regions: &Regions,
-    table: &RegionTable,
-    strips: &[Strip],
-) -> Result<(), AllocError>
-    requires cells { IsCells cells.now }
-    requires table { IsTableOf cells.now regions.now.regions table.now }
+fn push_round(edges: &mut Vec<UnitEdge>, rim: Rim, strips: &[Strip]) -> Result<(), AllocError>
+    requires rim { IsRim rim }
     requires some { 0 < length strips.now }
     requires fit { All IsFit strips.now }
     requires upon { AreUpon strips.now }
-    ensures { OnOk result (edges.new.items ≡ edges.old.items ++ round (edge_at table.now.window cells.now regions.now) strips.now) }
+    ensures { OnOk result (edges.new.items ≡ edges.old.items ++ round (edge_at rim.entry.table.now.window rim.entry.cells.now rim.entry.regions.now) strips.now) }
 {
     let first = &strips[0];
     let last = &strips[strips.len() - 1];
     let first_end = first.x1 + 1;
     let last_end = last.x1 + 1;
-    push_bottoms(edges, cells, regions, table, first, first.x0, first_end)?;
-    push_right_side(edges, cells, regions, table, strips)?;
-    push_tops(edges, cells, regions, table, last, last.x0, last_end)?;
-    push_left_side(edges, cells, regions, table, strips)
+    push_bottoms(edges, rim, first, first.x0, first_end)?;
+    push_right_side(edges, rim, strips)?;
+    push_tops(edges, rim, last, last.x0, last_end)?;
+    push_left_side(edges, rim, strips)
 }
 
 /// The first place at which an edge begins at the least corner.
@@ -105,8 +91,13 @@ pub fn contour_over(
     ensures ring { IfOk result IsRing }
     ensures few { IfOk result (λ edges. length edges ≤ 4 * length cells.now) }
 {
+    let rim = Rim {
+        cells,
+        regions,
+        table,
+    };
     let strips = regions.regions.as_slice()[id as usize].strips.as_slice();
-    let mut edges = walk(alloc, cells, regions, table, strips)?;
+    let mut edges = walk(alloc, rim, strips)?;
     let least = least_beginning(edges.as_slice());
     turn(edges.as_mut_slice(), least);
     Ok(Items::from_vec(edges))

@@ -1,39 +1,34 @@
 //! The sides of a region: along the bottom and the top of a strip, and up and down its ends.
 
 ghost use Rattle.std.specs.Prelude.{◌≡◌, ◌<◌, ◌≤◌, ◌+◌, ◌++◌, ◌∷◌, [], OnOk, All, length};
-ghost use Rattle.nav_ground.specs.Cells.{IsCells};
 ghost use Rattle.mesh_types.specs.Regions.{IsUpon};
-ghost use Rattle.contour_walk.specs.Tables.{IsFit, IsTableOf};
+ghost use Rattle.contour_walk.specs.Tables.{IsFit, IsRim};
 ghost use Rattle.contour_walk.specs.Walk.{edge_at, bottoms, tops, to_right_end, to_left_end, right_side, left_side, AreUpon};
 
 use crate::codes::edge;
 use crate::lookup::{index_of, place_in};
-use crate::table::RegionTable;
-use mesh_types::{Regions, Strip, UnitEdge};
-use nav_ground::Cell;
+use crate::table::Rim;
+use mesh_types::{Strip, UnitEdge};
 use std::alloc::AllocError;
 
 /// Appends the edges along the bottom of a strip from a column up to another, to the right.
 pub fn push_bottoms(
     edges: &mut Vec<UnitEdge>,
-    cells: &[Cell],
-    regions: &Regions,
-    table: &RegionTable,
+    rim: Rim,
     strip: &Strip,
     first: u32,
     end: u32,
 ) -> Result<(), AllocError>
-    requires cells { IsCells cells.now }
-    requires table { IsTableOf cells.now regions.now.regions table.now }
+    requires rim { IsRim rim }
     requires fit { IsFit strip.now }
     requires columns { (strip.now.x0 ≤ first) × (end ≤ strip.now.x1 + 1) }
-    ensures { OnOk result (edges.new.items ≡ edges.old.items ++ bottoms (edge_at table.now.window cells.now regions.now) strip.now first end) }
+    ensures { OnOk result (edges.new.items ≡ edges.old.items ++ bottoms (edge_at rim.entry.table.now.window rim.entry.cells.now rim.entry.regions.now) strip.now first end) }
 {
     let mut guess = 0;
     for x in first..end {
         let at = place_in(strip, x);
-        let index = index_of(cells, guess, at);
-        edges.push(edge(cells, regions, table, index, at, 3))?;
+        let index = index_of(rim.cells, guess, at);
+        edges.push(edge(rim, index, at, 3))?;
         guess = index.saturating_add(1);
     }
     Ok(())
@@ -42,24 +37,21 @@ pub fn push_bottoms(
 /// Appends the edges along the top of a strip from before a column down to another, to the left.
 pub fn push_tops(
     edges: &mut Vec<UnitEdge>,
-    cells: &[Cell],
-    regions: &Regions,
-    table: &RegionTable,
+    rim: Rim,
     strip: &Strip,
     first: u32,
     end: u32,
 ) -> Result<(), AllocError>
-    requires cells { IsCells cells.now }
-    requires table { IsTableOf cells.now regions.now.regions table.now }
+    requires rim { IsRim rim }
     requires fit { IsFit strip.now }
     requires columns { (strip.now.x0 ≤ first) × (end ≤ strip.now.x1 + 1) }
-    ensures { OnOk result (edges.new.items ≡ edges.old.items ++ tops (edge_at table.now.window cells.now regions.now) strip.now first end) }
+    ensures { OnOk result (edges.new.items ≡ edges.old.items ++ tops (edge_at rim.entry.table.now.window rim.entry.cells.now rim.entry.regions.now) strip.now first end) }
 {
     let mut guess = 0;
     for x in (first..end).rev() {
         let at = place_in(strip, x);
-        let index = index_of(cells, guess, at);
-        edges.push(edge(cells, regions, table, index, at, 1))?;
+        let index = index_of(rim.cells, guess, at);
+        edges.push(edge(rim, index, at, 1))?;
         guess = index.saturating_sub(1);
     }
     Ok(())
@@ -68,88 +60,76 @@ pub fn push_tops(
 /// Appends the edge at the end of a strip, toward x + 1 in direction 2 and toward x - 1 in direction 0.
 fn push_end(
     edges: &mut Vec<UnitEdge>,
-    cells: &[Cell],
-    regions: &Regions,
-    table: &RegionTable,
+    rim: Rim,
     strip: &Strip,
     x: u32,
     dir: u32,
 ) -> Result<(), AllocError>
-    requires cells { IsCells cells.now }
-    requires table { IsTableOf cells.now regions.now.regions table.now }
+    requires rim { IsRim rim }
     requires fit { IsFit strip.now }
     requires column { (strip.now.x0 ≤ x) × (x ≤ strip.now.x1) }
     requires dir { dir < 4 }
-    ensures { OnOk result (edges.new.items ≡ edges.old.items ++ edge_at table.now.window cells.now regions.now dir strip.now x ∷ []) }
+    ensures { OnOk result (edges.new.items ≡ edges.old.items ++ edge_at rim.entry.table.now.window rim.entry.cells.now rim.entry.regions.now dir strip.now x ∷ []) }
 {
     let at = place_in(strip, x);
-    let index = index_of(cells, 0, at);
-    edges.push(edge(cells, regions, table, index, at, dir))?;
+    let index = index_of(rim.cells, 0, at);
+    edges.push(edge(rim, index, at, dir))?;
     Ok(())
 }
 
 /// Appends the edges from the right end of a strip to that of the one above: back along its top, or out along the bottom of that one.
 fn push_to_right_end(
     edges: &mut Vec<UnitEdge>,
-    cells: &[Cell],
-    regions: &Regions,
-    table: &RegionTable,
+    rim: Rim,
     lower: &Strip,
     upper: &Strip,
 ) -> Result<(), AllocError>
-    requires cells { IsCells cells.now }
-    requires table { IsTableOf cells.now regions.now.regions table.now }
+    requires rim { IsRim rim }
     requires lower { IsFit lower.now }
     requires upper { IsFit upper.now }
     requires upon { IsUpon lower.now upper.now }
-    ensures { OnOk result (edges.new.items ≡ edges.old.items ++ to_right_end (edge_at table.now.window cells.now regions.now) lower.now upper.now) }
+    ensures { OnOk result (edges.new.items ≡ edges.old.items ++ to_right_end (edge_at rim.entry.table.now.window rim.entry.cells.now rim.entry.regions.now) lower.now upper.now) }
 {
     let lower_end = lower.x1 + 1;
     let upper_end = upper.x1 + 1;
-    push_tops(edges, cells, regions, table, lower, upper_end, lower_end)?;
-    push_bottoms(edges, cells, regions, table, upper, lower_end, upper_end)
+    push_tops(edges, rim, lower, upper_end, lower_end)?;
+    push_bottoms(edges, rim, upper, lower_end, upper_end)
 }
 
 /// Appends the edges from the left end of a strip to that of the one below: out along the top of that one, or back along its bottom.
 fn push_to_left_end(
     edges: &mut Vec<UnitEdge>,
-    cells: &[Cell],
-    regions: &Regions,
-    table: &RegionTable,
+    rim: Rim,
     lower: &Strip,
     upper: &Strip,
 ) -> Result<(), AllocError>
-    requires cells { IsCells cells.now }
-    requires table { IsTableOf cells.now regions.now.regions table.now }
+    requires rim { IsRim rim }
     requires lower { IsFit lower.now }
     requires upper { IsFit upper.now }
     requires upon { IsUpon lower.now upper.now }
-    ensures { OnOk result (edges.new.items ≡ edges.old.items ++ to_left_end (edge_at table.now.window cells.now regions.now) lower.now upper.now) }
+    ensures { OnOk result (edges.new.items ≡ edges.old.items ++ to_left_end (edge_at rim.entry.table.now.window rim.entry.cells.now rim.entry.regions.now) lower.now upper.now) }
 {
-    push_tops(edges, cells, regions, table, lower, lower.x0, upper.x0)?;
-    push_bottoms(edges, cells, regions, table, upper, upper.x0, lower.x0)
+    push_tops(edges, rim, lower, lower.x0, upper.x0)?;
+    push_bottoms(edges, rim, upper, upper.x0, lower.x0)
 }
 
 /// Appends the right side of a stack of strips, upward: the right end of each strip, and then back along its top or out along the bottom
 /// of the next.
 pub fn push_right_side(
     edges: &mut Vec<UnitEdge>,
-    cells: &[Cell],
-    regions: &Regions,
-    table: &RegionTable,
+    rim: Rim,
     strips: &[Strip],
 ) -> Result<(), AllocError>
-    requires cells { IsCells cells.now }
-    requires table { IsTableOf cells.now regions.now.regions table.now }
+    requires rim { IsRim rim }
     requires fit { All IsFit strips.now }
     requires upon { AreUpon strips.now }
-    ensures { OnOk result (edges.new.items ≡ edges.old.items ++ right_side (edge_at table.now.window cells.now regions.now) strips.now) }
+    ensures { OnOk result (edges.new.items ≡ edges.old.items ++ right_side (edge_at rim.entry.table.now.window rim.entry.cells.now rim.entry.regions.now) strips.now) }
 {
     for k in 0..strips.len() {
         let strip = &strips[k];
-        push_end(edges, cells, regions, table, strip, strip.x1, 2)?;
+        push_end(edges, rim, strip, strip.x1, 2)?;
         if k + 1 < strips.len() {
-            push_to_right_end(edges, cells, regions, table, strip, &strips[k + 1])?;
+            push_to_right_end(edges, rim, strip, &strips[k + 1])?;
         }
     }
     Ok(())
@@ -159,23 +139,20 @@ pub fn push_right_side(
 /// then its left end.
 pub fn push_left_side(
     edges: &mut Vec<UnitEdge>,
-    cells: &[Cell],
-    regions: &Regions,
-    table: &RegionTable,
+    rim: Rim,
     strips: &[Strip],
 ) -> Result<(), AllocError>
-    requires cells { IsCells cells.now }
-    requires table { IsTableOf cells.now regions.now.regions table.now }
+    requires rim { IsRim rim }
     requires fit { All IsFit strips.now }
     requires upon { AreUpon strips.now }
-    ensures { OnOk result (edges.new.items ≡ edges.old.items ++ left_side (edge_at table.now.window cells.now regions.now) strips.now) }
+    ensures { OnOk result (edges.new.items ≡ edges.old.items ++ left_side (edge_at rim.entry.table.now.window rim.entry.cells.now rim.entry.regions.now) strips.now) }
 {
     for k in (0..strips.len()).rev() {
         let strip = &strips[k];
         if k + 1 < strips.len() {
-            push_to_left_end(edges, cells, regions, table, strip, &strips[k + 1])?;
+            push_to_left_end(edges, rim, strip, &strips[k + 1])?;
         }
-        push_end(edges, cells, regions, table, strip, strip.x0, 0)?;
+        push_end(edges, rim, strip, strip.x0, 0)?;
     }
     Ok(())
 }

@@ -5,21 +5,21 @@ use Rattle.contour_walk.proofs.codes.region_beyond.Goals as goal
 
 pub bounds-as_slice-index : goal.bounds-as_slice-index
 bounds-as_slice-index c =
-    omega (arith, ap length (c.as_slice.ensures ∙ c.requires.table.neighbours), table_length c.args.cells.now, c.requires.index)
+    omega (arith, ap length (c.as_slice.ensures ∙ c.requires.rim.table.neighbours), table_length c.args.rim.cells.now, c.requires.index)
 
 pub returns-then-next-cells : goal.returns-then-next-cells
 returns-then-next-cells c = λ d.
-    let read = read_at c.args.cells.now c.as_slice.result.now c.args.index c.args.dir d (c.as_slice.ensures ∙ c.requires.table.neighbours) c.requires.index c.requires.dir in
-    sym (beyond_none c.args.cells.now c.args.regions.now c.args.dir (get_or c.args.cells.now c.args.index d) (omega (arith, read, c.if-next-cells.true)))
+    let read = read_at c.args.rim.cells.now c.as_slice.result.now c.args.index c.args.dir d (c.as_slice.ensures ∙ c.requires.rim.table.neighbours) c.requires.index c.requires.dir in
+    sym (beyond_none c.args.rim.cells.now c.args.rim.regions.now c.args.dir (get_or c.args.rim.cells.now c.args.index d) (omega (arith, read, c.if-next-cells.true)))
 
 pub returns-then-owner-len : goal.returns-then-owner-len
 returns-then-owner-len c = λ d.
-    beyond_some c.args.cells.now c.args.regions.now c.as_slice-2.result.now c.args.dir _ (get_or c.args.cells.now c.args.index d) (c.as_slice-2.ensures ∙ c.requires.table.owners)
-    (read_at c.args.cells.now c.as_slice.result.now c.args.index c.args.dir d (c.as_slice.ensures ∙ c.requires.table.neighbours) c.requires.index c.requires.dir)
+    beyond_some c.args.rim.cells.now c.args.rim.regions.now c.as_slice-2.result.now c.args.dir _ (get_or c.args.rim.cells.now c.args.index d) (c.as_slice-2.ensures ∙ c.requires.rim.table.owners)
+    (read_at c.args.rim.cells.now c.as_slice.result.now c.args.index c.args.dir d (c.as_slice.ensures ∙ c.requires.rim.table.neighbours) c.requires.index c.requires.dir)
     c.if-next-cells.false (omega (arith, c.if-owner-len.true, c.len.ensures))
 
 pub returns-else-owner-len : goal.returns-else-owner-len
 returns-else-owner-len c = λ d.
-    beyond_outside c.args.cells.now c.args.regions.now c.as_slice-2.result.now c.args.dir _ (get_or c.args.cells.now c.args.index d) (c.as_slice-2.ensures ∙ c.requires.table.owners)
-    (read_at c.args.cells.now c.as_slice.result.now c.args.index c.args.dir d (c.as_slice.ensures ∙ c.requires.table.neighbours) c.requires.index c.requires.dir)
+    beyond_outside c.args.rim.cells.now c.args.rim.regions.now c.as_slice-2.result.now c.args.dir _ (get_or c.args.rim.cells.now c.args.index d) (c.as_slice-2.ensures ∙ c.requires.rim.table.owners)
+    (read_at c.args.rim.cells.now c.as_slice.result.now c.args.index c.args.dir d (c.as_slice.ensures ∙ c.requires.rim.table.neighbours) c.requires.index c.requires.dir)
     c.if-next-cells.false (omega (arith, c.if-owner-len.false, c.len.ensures))

@@ -34,7 +34,7 @@ push_to_left_end-requires-clause-upon c =
 
 pub loop-k-preserved : goal.loop-k-preserved
 loop-k-preserved c =
-    let edge = edge_at c.args.table.now.window c.args.cells.now c.args.regions.now in
+    let edge = edge_at c.args.rim.table.now.window c.args.rim.cells.now c.args.rim.regions.now in
     elim c.if-k-strips.branch [
       | then-k-strips+in_ok-push_to_left_end w ↦
           left_pushed edge c.args.strips.now (c.loop-k.k - 1) c.index-strips-k.result c.index-strips-k.is w.index-strips-k-then-k-strips.result

@@ -29,7 +29,7 @@ push_to_right_end-requires-clause-upon c =
 
 pub loop-k-preserved : goal.loop-k-preserved
 loop-k-preserved c =
-    let edge = edge_at c.args.table.now.window c.args.cells.now c.args.regions.now in
+    let edge = edge_at c.args.rim.table.now.window c.args.rim.cells.now c.args.rim.regions.now in
     let strips = c.args.strips.now in
     elim c.if-k-strips.branch [
       | then-k-strips+in_ok-push_to_right_end w ↦

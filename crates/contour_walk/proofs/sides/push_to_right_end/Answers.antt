@@ -8,7 +8,7 @@ use Rattle.contour_walk.proofs.sides.push_to_right_end.Goals as goal
 
 pub returns : goal.returns
 returns c =
-    let edge = edge_at c.args.table.now.window c.args.cells.now c.args.regions.now in
+    let edge = edge_at c.args.rim.table.now.window c.args.rim.cells.now c.args.rim.regions.now in
     let lower : Strip = c.args.lower.now in
     let upper : Strip = c.args.upper.now in
     let over_bottom : List UnitEdge = bottoms edge upper (lower.x1 + 1) (upper.x1 + 1) in

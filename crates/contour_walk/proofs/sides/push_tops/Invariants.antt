@@ -8,4 +8,4 @@ use Rattle.contour_walk.proofs.sides.push_tops.Given as goal
 abbrev pub invariant-loop-x : goal.invariant-loop-x
 invariant-loop-x l =
     (min l.fn.first l.fn.end ≤ l.x)
-    × (l.edges.items ≡ l.initial.edges.items ++ map (edge_at l.table.window l.cells l.regions 1 l.strip) (reverse (range_with_len l.x (l.fn.end - l.x))))
+    × (l.edges.items ≡ l.initial.edges.items ++ map (edge_at l.rim.table.now.window l.rim.cells.now l.rim.regions.now 1 l.strip) (reverse (range_with_len l.x (l.fn.end - l.x))))
