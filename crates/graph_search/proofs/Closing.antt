@@ -2,7 +2,7 @@
 use Rattle.std.proofs.Common.{◌≡◌, ◌≢◌, ℕ, ◌+◌, ◌<◌, ◌≤◌, ◌⊎◌, List, ◌∷◌, length, sym, subst, ap, ◌∙◌, inl, inr, arith}
 use Rattle.std.specs.Prelude.{Contains, All, ◌==◌, if◌then◌else◌}
 use Rattle.std.specs.List.Sorted.{IsPermutation}
-use Rattle.std.specs.declared.cmp.Reverse.{Reverse}
+use Rattle.graph_search.specs.declared.entry.Entry.{Entry}
 use Rattle.std.proofs.lemmas.List.Elements.{All-head, All-tail, All-weaker, All-contains}
 use Rattle.std.proofs.lemmas.List.Sorted.{All-permutation, Contains-permutation}
 use Rattle.graph_search.specs.declared.arcs.Vertex.{Vertex}
@@ -16,16 +16,13 @@ use Rattle.graph_search.specs.Searching.{IsStepTo, IsTree, IsEntry, IsKnown, IsC
 use Rattle.graph_search.proofs.Members.{contains_cases, sum_falls, counted, not_counted}
 use Rattle.graph_search.proofs.Writing.{written_or_kept}
 
-abbrev Entry : Type 0
-Entry = Reverse (ℕ × Vertex)
-
 module _ (vertices : List Vertex) (estimate : Vertex → ℕ) (at : Vertex → Visit) (waiting rest : List Entry) (limit closed key : ℕ) (vertex : Vertex)
     (known : IsKnown vertices estimate at waiting limit closed) (taken : IsPermutation waiting (entry key vertex ∷ rest)) where
   -- another vertex that waited still waits
   still_waits : (k : ℕ) (v : Vertex) → v ≢ vertex → Contains waiting (entry k v) → Contains rest (entry k v)
   still_waits k v differ held =
       elim (contains_cases (entry key vertex) (entry k v) rest (Contains-permutation waiting (entry key vertex ∷ rest) (entry k v) taken held)) [
-        | inl is ↦ absurd (differ (sym (ap (λ (e : Entry). e.0.1) is)))
+        | inl is ↦ absurd (differ (sym (ap (λ (e : Entry). e.vertex) is)))
         | inr later ↦ later
       ]
 
@@ -41,8 +38,8 @@ module _ (vertices : List Vertex) (estimate : Vertex → ℕ) (at : Vertex → V
   known-dropped done = record {
     there = known.there;
     waits = λ v seen unclosed. still_waits ((at v).cost + estimate v) v (λ is. closed_not_open v is unclosed) (known.waits v seen unclosed);
-    entries = of_rest (λ e. IsEntry estimate at e.0.0 e.0.1) known.entries;
-    order = λ v is_closed. of_rest (λ e. (at v).cost + estimate v ≤ e.0.0) (known.order v is_closed);
+    entries = of_rest (λ e. IsEntry estimate at e.key e.vertex) known.entries;
+    order = λ v is_closed. of_rest (λ e. (at v).cost + estimate v ≤ e.key) (known.order v is_closed);
     within = known.within;
     ranks = known.ranks;
   }
@@ -52,15 +49,15 @@ module _ (vertices : List Vertex) (estimate : Vertex → ℕ) (at : Vertex → V
           let same : (at v).rank ≡ (at vertex).rank = ap (λ (u : Vertex). (at u).rank) is in
           omega (arith, done, unclosed, same)
 
-  module _ (least : All (λ (e : Entry). key ≤ e.0.0) waiting) (unclosed : (at vertex).rank ≡ 0) where
+  module _ (least : All (λ (e : Entry). key ≤ e.key) waiting) (unclosed : (at vertex).rank ≡ 0) where
     -- the vertex of the least entry was seen, and the key is its cost and estimate
     pub first_seen : IsSeen (at vertex)
-    first_seen = (of_first (λ e. IsEntry estimate at e.0.0 e.0.1) known.entries).reached
+    first_seen = (of_first (λ e. IsEntry estimate at e.key e.vertex) known.entries).reached
 
     pub first_key : key ≡ (at vertex).cost + estimate vertex
     first_key =
-        let no_less = (of_first (λ e. IsEntry estimate at e.0.0 e.0.1) known.entries).no_less in
-        let own = All-contains (λ (e : Entry). key ≤ e.0.0) waiting (entry ((at vertex).cost + estimate vertex) vertex) least (known.waits vertex first_seen unclosed) in
+        let no_less = (of_first (λ e. IsEntry estimate at e.key e.vertex) known.entries).no_less in
+        let own = All-contains (λ (e : Entry). key ≤ e.key) waiting (entry ((at vertex).cost + estimate vertex) vertex) least (known.waits vertex first_seen unclosed) in
         omega (arith, no_less, own)
 
     module _ (at' : Vertex → Visit) (written : IsWritten at vertex (closed_as (closed + 1) (at vertex)) at') where
@@ -107,7 +104,7 @@ module _ (vertices : List Vertex) (estimate : Vertex → ℕ) (at : Vertex → V
                 let same : (at v).cost + estimate v ≡ (at vertex).cost + estimate vertex = ap (λ (u : Vertex). (at u).cost + estimate u) here.0 in
                 omega (arith, first_key, same, same_cost v)
             | inr kept ↦
-                let less = of_first (λ e. (at v).cost + estimate v ≤ e.0.0) (known.order v (omega (arith, is_closed, kept.1))) in
+                let less = of_first (λ e. (at v).cost + estimate v ≤ e.key) (known.order v (omega (arith, is_closed, kept.1))) in
                 omega (arith, less, same_cost v)
           ]
 
@@ -115,11 +112,11 @@ module _ (vertices : List Vertex) (estimate : Vertex → ℕ) (at : Vertex → V
       known-closed heaviest = record {
         there = λ v seen. known.there v (omega (arith, seen, same_cost v));
         waits = waits';
-        entries = All-weaker (λ e. IsEntry estimate at e.0.0 e.0.1) (λ e. IsEntry estimate at' e.0.0 e.0.1)
-            (λ e held. record { reached = omega (arith, held.reached, same_cost e.0.1); no_less = omega (arith, held.no_less, same_cost e.0.1) })
-            rest (of_rest (λ e. IsEntry estimate at e.0.0 e.0.1) known.entries);
-        order = λ v is_closed. All-weaker (λ (e : Entry). key ≤ e.0.0) (λ e. (at' v).cost + estimate v ≤ e.0.0)
-            (λ e held. omega (arith, held, no_more v is_closed)) rest (of_rest (λ e. key ≤ e.0.0) least);
+        entries = All-weaker (λ e. IsEntry estimate at e.key e.vertex) (λ e. IsEntry estimate at' e.key e.vertex)
+            (λ e held. record { reached = omega (arith, held.reached, same_cost e.vertex); no_less = omega (arith, held.no_less, same_cost e.vertex) })
+            rest (of_rest (λ e. IsEntry estimate at e.key e.vertex) known.entries);
+        order = λ v is_closed. All-weaker (λ (e : Entry). key ≤ e.key) (λ e. (at' v).cost + estimate v ≤ e.key)
+            (λ e held. omega (arith, held, no_more v is_closed)) rest (of_rest (λ e. key ≤ e.key) least);
         within = λ v seen. omega (arith, same_cost v, known.within v (omega (arith, seen, same_cost v)));
         ranks = ranks';
       }

@@ -1,9 +1,11 @@
 pub mod Members
 pub mod Pages
-pub mod Keys
 pub mod Writing
 pub mod Closing
 pub mod Relaxing
 pub mod Stopping
 pub mod WayBack
 pub mod Turns
+mod Slots
+mod Lists
+mod Queues

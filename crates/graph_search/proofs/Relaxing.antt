@@ -2,7 +2,7 @@
 use Rattle.std.proofs.Common.{◌≡◌, ◌≢◌, ℕ, ◌+◌, ◌*◌, ◌<◌, ◌≤◌, ◌⊎◌, List, ◌∷◌, length, refl, sym, subst, ap, ◌∙◌, inl, inr, arith}
 use Rattle.std.specs.Prelude.{Contains, All, ◌==◌, if◌then◌else◌}
 use Rattle.std.specs.List.Sorted.{IsPermutation}
-use Rattle.std.specs.declared.cmp.Reverse.{Reverse}
+use Rattle.graph_search.specs.declared.entry.Entry.{Entry}
 use Rattle.std.proofs.lemmas.Bool.{cases_eq}
 use Rattle.std.proofs.lemmas.Nat.{mul-le}
 use Rattle.std.proofs.lemmas.List.Elements.{All-cons, All-weaker}
@@ -17,9 +17,6 @@ use Rattle.graph_search.specs.Entries.{entry}
 use Rattle.graph_search.specs.Searching.{IsStepTo, IsTree, IsEntry, IsKnown, IsClosing, IsRelaxed, AreRelaxed, AllRelaxed, AreBeingRelaxed, IsFollowing, KeepsRanks, sum_open}
 use Rattle.graph_search.proofs.Members.{contains_first, contains_later, sum_no_more}
 use Rattle.graph_search.proofs.Writing.{written_or_kept, same_or_not}
-
-abbrev Entry : Type 0
-Entry = Reverse (ℕ × Vertex)
 
 -- one arc more was followed
 relaxed-more : (arcs : Vertex → List Arc) (at : Vertex → Visit) (vertex : Vertex) (place : ℕ) → AreRelaxed arcs at vertex place
@@ -149,13 +146,13 @@ module _ (vertices : List Vertex) (arcs : Vertex → List Arc) (estimate : Verte
       known-better = record {
         there = there';
         waits = waits';
-        entries = All-permutation (λ e. IsEntry estimate at' e.0.0 e.0.1) (entry (through + estimate arc.to) arc.to ∷ waiting) waiting' waits
-            (All-cons (λ (e : Entry). IsEntry estimate at' e.0.0 e.0.1) (entry (through + estimate arc.to) arc.to) waiting
+        entries = All-permutation (λ e. IsEntry estimate at' e.key e.vertex) (entry (through + estimate arc.to) arc.to ∷ waiting) waiting' waits
+            (All-cons (λ (e : Entry). IsEntry estimate at' e.key e.vertex) (entry (through + estimate arc.to) arc.to) waiting
             (record { reached = omega (arith, own-cost, within-limit, fits); no_less = omega (arith, own-cost) })
-            (All-weaker (λ e. IsEntry estimate at e.0.0 e.0.1) (λ e. IsEntry estimate at' e.0.0 e.0.1)
+            (All-weaker (λ e. IsEntry estimate at e.key e.vertex) (λ e. IsEntry estimate at' e.key e.vertex)
             (λ e held. record {
-              reached = omega (arith, held.reached, cost_no_more e.0.1);
-              no_less = omega (arith, held.no_less, cost_no_more e.0.1);
+              reached = omega (arith, held.reached, cost_no_more e.vertex);
+              no_less = omega (arith, held.no_less, cost_no_more e.vertex);
             }) waiting known.entries));
         order = order';
         within = within';
@@ -183,14 +180,14 @@ module _ (vertices : List Vertex) (arcs : Vertex → List Arc) (estimate : Verte
                     (known.waits v (subst (λ (u : Visit). IsSeen u) kept.1 seen) (sym (same_rank v) ∙ is_open)))
               ])
 
-          order' : (v : Vertex) → IsClosed (at' v) → All (λ (e : Entry). (at' v).cost + estimate v ≤ e.0.0) waiting'
+          order' : (v : Vertex) → IsClosed (at' v) → All (λ (e : Entry). (at' v).cost + estimate v ≤ e.key) waiting'
           order' v is_closed' =
               let is_closed : IsClosed (at v) = omega (arith, is_closed', same_rank v) in
               let same = kept-cost v is_closed in
-              All-permutation (λ (e : Entry). (at' v).cost + estimate v ≤ e.0.0) (entry (through + estimate arc.to) arc.to ∷ waiting) waiting' waits
-              (All-cons (λ (e : Entry). (at' v).cost + estimate v ≤ e.0.0) (entry (through + estimate arc.to) arc.to) waiting
+              All-permutation (λ (e : Entry). (at' v).cost + estimate v ≤ e.key) (entry (through + estimate arc.to) arc.to ∷ waiting) waiting' waits
+              (All-cons (λ (e : Entry). (at' v).cost + estimate v ≤ e.key) (entry (through + estimate arc.to) arc.to) waiting
               (omega (arith, same, closing.greatest v is_closed, estimate-no_more))
-              (All-weaker (λ (e : Entry). (at v).cost + estimate v ≤ e.0.0) (λ (e : Entry). (at' v).cost + estimate v ≤ e.0.0)
+              (All-weaker (λ (e : Entry). (at v).cost + estimate v ≤ e.key) (λ (e : Entry). (at' v).cost + estimate v ≤ e.key)
               (λ e held. omega (arith, same, held)) waiting (known.order v is_closed)))
 
           within' : (v : Vertex) → IsSeen (at' v) → (at' v).cost ≤ limit
@@ -324,6 +321,12 @@ module _ (vertices : List Vertex) (arcs : Vertex → List Arc) (estimate : Verte
   pub end-member : Contains vertices to
   end-member = subst (Contains vertices) enters (enters-member vertices arcs estimate heaviest searchable vertex member place below)
 
+  -- the estimate falls along the arc by no more than the arc's weight
+  pub estimate-falls : estimate vertex ≤ (arc_of arcs own_step).weight + estimate to
+  estimate-falls =
+      subst (λ (v : Vertex). estimate vertex ≤ (arc_of arcs own_step).weight + estimate v) enters
+      (estimate-no_more vertices arcs estimate heaviest searchable vertex member place below)
+
   -- no sum is too great
   limit-fits : closed * heaviest < 18446744073709551615
   limit-fits = omega (arith, mul-le closed heaviest (length vertices) heaviest few (omega arith), searchable.small vertex member)
@@ -353,11 +356,7 @@ module _ (vertices : List Vertex) (arcs : Vertex → List Arc) (estimate : Verte
 
     -- it leads to a closed vertex, which cost no more
     pub following-closed : IsClosed (at to) → IsFollowing vertices arcs estimate heaviest vertex closed at waiting at waiting (place + 1) 1
-    following-closed is_closed =
-        let falls : estimate vertex ≤ (arc_of arcs own_step).weight + estimate to =
-        subst (λ (v : Vertex). estimate vertex ≤ (arc_of arcs own_step).weight + estimate v) enters
-        (estimate-no_more vertices arcs estimate heaviest searchable vertex member place below) in
-        following-no_less (omega (arith, closing.greatest to is_closed, falls))
+    following-closed is_closed = following-no_less (omega (arith, closing.greatest to is_closed, estimate-falls))
 
     -- or it leads to less
     module _ (at' : Vertex → Visit) (waiting' : List Entry) where

@@ -1,7 +1,7 @@
 -- Where a search stops: no walk is cheaper, or there is none.
 use Rattle.std.proofs.Common.{◌≡◌, ℕ, ◌+◌, ◌≤◌, List, [], ◌∷◌, sym, subst, ap, inl, inr, arith}
 use Rattle.std.specs.Prelude.{Contains, All}
-use Rattle.std.specs.declared.cmp.Reverse.{Reverse}
+use Rattle.graph_search.specs.declared.entry.Entry.{Entry}
 use Rattle.std.proofs.lemmas.Bool.{cases_eq}
 use Rattle.std.proofs.lemmas.List.Elements.{All-contains}
 use Rattle.std.proofs.lemmas.List.Sums.{sum_by-cons}
@@ -14,9 +14,6 @@ use Rattle.graph_search.specs.Visited.{IsSeen, IsClosed}
 use Rattle.graph_search.specs.Entries.{entry}
 use Rattle.graph_search.specs.Searching.{IsKnown, AllRelaxed}
 use Rattle.graph_search.proofs.Members.{contains_none}
-
-abbrev Entry : Type 0
-Entry = Reverse (ℕ × Vertex)
 
 -- what a walk costs, by its first step
 pub cost_of-cons : (arcs : Vertex → List Arc) (step : Step) (steps : List Step) → cost_of arcs (step ∷ steps) ≡ (arc_of arcs step).weight + cost_of arcs steps
@@ -37,7 +34,7 @@ module _ (vertices : List Vertex) (arcs : Vertex → List Arc) (estimate : Verte
 
   module _ (at : Vertex → Visit) (waiting : List Entry) (limit closed : ℕ) (known : IsKnown vertices estimate at waiting limit closed) (relaxed : AllRelaxed arcs at) (to : Vertex) where
     -- where the cost and estimate of a vertex are the least key, no walk to it is cheaper
-    pub none_cheaper : (key : ℕ) → key ≡ (at to).cost + estimate to → All (λ (e : Entry). key ≤ e.0.0) waiting
+    pub none_cheaper : (key : ℕ) → key ≡ (at to).cost + estimate to → All (λ (e : Entry). key ≤ e.key) waiting
         → (steps : List Step) (v : Vertex) (n : ℕ) → IsSeen (at v) → (at v).cost ≤ n → Walks arcs v steps to → (at to).cost ≤ n + cost_of arcs steps
     none_cheaper key is least [] v n seen no_more walk =
         let same : (at v).cost ≡ (at to).cost = ap (λ (u : Vertex). (at u).cost) walk in
@@ -45,7 +42,7 @@ module _ (vertices : List Vertex) (arcs : Vertex → List Arc) (estimate : Verte
     none_cheaper key is least (step ∷ steps) v n seen no_more walk =
         elim (cases_eq (at v).rank 0) [
           | inl unclosed ↦
-              let own = All-contains (λ (e : Entry). key ≤ e.0.0) waiting (entry ((at v).cost + estimate v) v) least (known.waits v seen unclosed) in
+              let own = All-contains (λ (e : Entry). key ≤ e.key) waiting (entry ((at v).cost + estimate v) v) least (known.waits v seen unclosed) in
               let falls = estimate_falls (step ∷ steps) v to (known.there v seen) walk in
               omega (arith, own, falls, is, no_more)
           | inr some ↦

@@ -2,7 +2,7 @@
 use Rattle.std.proofs.Common.{◌≡◌, ◌≢◌, ℕ, ◌+◌, ◌*◌, ◌<◌, ◌≤◌, List, [], ◌∷◌, length, get_or, refl, sym, subst, ap, ◌∙◌, inl, inr, arith}
 use Rattle.std.specs.Prelude.{Contains, All, ◌==◌, if◌then◌else◌, Option, Some, None, IfNone}
 use Rattle.std.specs.List.Sorted.{IsPermutation}
-use Rattle.std.specs.declared.cmp.Reverse.{Reverse}
+use Rattle.graph_search.specs.declared.entry.Entry.{Entry}
 use Rattle.std.proofs.lemmas.Nat.{mul-le}
 use Rattle.std.proofs.lemmas.Bool.{cases_eq}
 use Rattle.std.proofs.lemmas.List.Elements.{All-nil, All-cons}
@@ -22,9 +22,6 @@ use Rattle.graph_search.proofs.Members.{contains_first, sum_falls, counted, not_
 use Rattle.graph_search.proofs.Closing.{first_seen, first_key, known-closed, closing, tree-closed, relaxing, sum_open-closed, known-dropped}
 use Rattle.graph_search.proofs.Relaxing.{sum_open-kept}
 use Rattle.graph_search.proofs.Stopping.{none_cheaper, none_apart}
-
-abbrev Entry : Type 0
-Entry = Reverse (ℕ × Vertex)
 
 -- where an option is no `Some`, what holds of `None` holds
 pub none_left : {X : Type 0} (found : Option X) (P : Type 0) → ((x : X) → found ≡ Some x → ⊥) → IfNone found P → P
@@ -69,9 +66,9 @@ between-begun vertices arcs estimate heaviest start to at waiting key closed mem
   known = record {
     there = λ v seen. subst (Contains vertices) (sym (begun.only v seen)) member;
     waits = λ v seen is_open. Contains-permutation (entry key start ∷ []) waiting (entry ((at v).cost + estimate v) v) waits (own v (begun.only v seen));
-    entries = All-permutation (λ e. IsEntry estimate at e.0.0 e.0.1) (entry key start ∷ []) waiting waits
-        (All-cons (λ (e : Entry). IsEntry estimate at e.0.0 e.0.1) (entry key start) []
-        (record { reached = omega (arith, begun.begins); no_less = omega (arith, begun.begins, is) }) (All-nil (λ (e : Entry). IsEntry estimate at e.0.0 e.0.1)));
+    entries = All-permutation (λ e. IsEntry estimate at e.key e.vertex) (entry key start ∷ []) waiting waits
+        (All-cons (λ (e : Entry). IsEntry estimate at e.key e.vertex) (entry key start) []
+        (record { reached = omega (arith, begun.begins); no_less = omega (arith, begun.begins, is) }) (All-nil (λ (e : Entry). IsEntry estimate at e.key e.vertex)));
     order = λ v is_closed. absurd (omega (arith, is_closed, begun.unclosed v));
     within = λ v seen.
         let same : (at v).cost ≡ (at start).cost = ap (λ (u : Vertex). (at u).cost) (begun.only v seen) in
@@ -123,9 +120,13 @@ module _ (vertices : List Vertex) (arcs : Vertex → List Arc) (estimate : Verte
     pub work-dropped : work vertices arcs at rest < work vertices arcs at waiting
     work-dropped = omega (arith, one_fewer)
 
-    module _ (least : All (λ (e : Entry). key ≤ e.0.0) waiting) (unclosed : (at vertex).rank ≡ 0) where
+    module _ (least : All (λ (e : Entry). key ≤ e.key) waiting) (unclosed : (at vertex).rank ≡ 0) where
       vertex-seen : IsSeen (at vertex)
       vertex-seen = first_seen vertices estimate at waiting rest (closed * heaviest) closed key vertex between.known taken least unclosed
+
+      -- the key is what the vertex costs, and its estimate
+      pub vertex-key : key ≡ (at vertex).cost + estimate vertex
+      vertex-key = first_key vertices estimate at waiting rest (closed * heaviest) closed key vertex between.known taken least unclosed
 
       pub vertex-member : Contains vertices vertex
       vertex-member = between.known.there vertex vertex-seen
@@ -141,7 +142,7 @@ module _ (vertices : List Vertex) (arcs : Vertex → List Arc) (estimate : Verte
           → IsCheapest arcs start to walk × (walk.cost ≤ length vertices * heaviest)
       cheapest is at' written walk found =
           let key_is : key ≡ (at to).cost + estimate to =
-          subst (λ (v : Vertex). key ≡ (at v).cost + estimate v) is (first_key vertices estimate at waiting rest (closed * heaviest) closed key vertex between.known taken least unclosed) in
+          subst (λ (v : Vertex). key ≡ (at v).cost + estimate v) is vertex-key in
           let cost : walk.cost ≡ (at to).cost =
           found.known ∙ ap (λ (v : Vertex). (at' v).cost) (sym is) ∙ ap (λ (u : Visit). u.cost) written.here ∙ ap (λ (v : Vertex). (at v).cost) is in
           let seen : IsSeen (at to) = subst (λ (v : Vertex). IsSeen (at v)) is vertex-seen in

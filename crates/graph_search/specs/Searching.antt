@@ -1,7 +1,7 @@
 -- What a search keeps from step to step: `at` is what it knows of each vertex, and `waiting` are the entries of those still to be closed.
 use Rattle.std.specs.Prelude.{◌≡◌, ◌≢◌, ℕ, ◌+◌, ◌*◌, ◌<◌, ◌≤◌, ◌⊎◌, ◌==◌, if◌then◌else◌, List, length, All, Contains}
 use Rattle.std.specs.List.{sum_by}
-use Rattle.std.specs.declared.cmp.Reverse.{Reverse}
+use Rattle.graph_search.specs.declared.entry.Entry.{Entry}
 use Rattle.graph_search.specs.declared.arcs.Vertex.{Vertex}
 use Rattle.graph_search.specs.declared.arcs.Arc.{Arc}
 use Rattle.graph_search.specs.declared.arcs.Step.{Step}
@@ -35,12 +35,12 @@ pub record IsEntry (estimate : Vertex → ℕ) (at : Vertex → Visit) (key : �
   pub no_less : (at v).cost + estimate v ≤ key
 
 -- every vertex seen and not closed waits with its cost and estimate, no entry has less than a closed vertex, and no cost is above a limit
-pub record IsKnown (vertices : List Vertex) (estimate : Vertex → ℕ) (at : Vertex → Visit) (waiting : List (Reverse (ℕ × Vertex)))
+pub record IsKnown (vertices : List Vertex) (estimate : Vertex → ℕ) (at : Vertex → Visit) (waiting : List Entry)
     (limit closed : ℕ) : Type 0 where
   pub there : (v : Vertex) → IsSeen (at v) → Contains vertices v
   pub waits : (v : Vertex) → IsSeen (at v) → (at v).rank ≡ 0 → Contains waiting (entry ((at v).cost + estimate v) v)
-  pub entries : All (λ (e : Reverse (ℕ × Vertex)). IsEntry estimate at e.0.0 e.0.1) waiting
-  pub order : (v : Vertex) → IsClosed (at v) → All (λ (e : Reverse (ℕ × Vertex)). (at v).cost + estimate v ≤ e.0.0) waiting
+  pub entries : All (λ (e : Entry). IsEntry estimate at e.key e.vertex) waiting
+  pub order : (v : Vertex) → IsClosed (at v) → All (λ (e : Entry). (at v).cost + estimate v ≤ e.key) waiting
   pub within : (v : Vertex) → IsSeen (at v) → (at v).cost ≤ limit
   pub ranks : (v : Vertex) → (at v).rank ≤ closed
 
@@ -74,7 +74,7 @@ pub record KeepsRanks (old new : Vertex → Visit) : Type 0 where
 
 -- the first arcs of a vertex were followed: what holds from then on, and what has changed since something was known before
 pub record IsFollowing (vertices : List Vertex) (arcs : Vertex → List Arc) (estimate : Vertex → ℕ) (heaviest : ℕ) (vertex : Vertex) (closed : ℕ)
-    (before : Vertex → Visit) (waited : List (Reverse (ℕ × Vertex))) (at : Vertex → Visit) (waiting : List (Reverse (ℕ × Vertex))) (count added : ℕ) : Type 0 where
+    (before : Vertex → Visit) (waited : List Entry) (at : Vertex → Visit) (waiting : List Entry) (count added : ℕ) : Type 0 where
   pub known : IsKnown vertices estimate at waiting (closed * heaviest) closed
   pub closing : IsClosing estimate heaviest at (closed * heaviest) vertex
   pub relaxing : AreBeingRelaxed arcs at vertex count

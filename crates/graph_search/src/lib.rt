@@ -6,6 +6,7 @@
 #![tactic(auto)]
 
 mod arcs;
+mod entry;
 mod graph;
 mod search;
 mod visits;

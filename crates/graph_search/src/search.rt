@@ -1,7 +1,6 @@
 //! The search.
 
 ghost use Rattle.std.specs.Prelude.{◌≡◌, ◌≤◌, ◌<◌, ◌+◌, ◌*◌, ◌^◌, ◌∷◌, [], List, length, Contains, IfOk, IfSome, IfNone, OnOk};
-ghost use Rattle.std.specs.BinaryHeap.{heap_items};
 ghost use Rattle.std.specs.List.Sorted.{IsPermutation};
 ghost use Rattle.graph_search.specs.declared.arcs.Vertex.{Vertex};
 ghost use Rattle.graph_search.specs.declared.arcs.Arc.{Arc};
@@ -11,6 +10,7 @@ ghost use Rattle.graph_search.specs.Entries.{entry};
 ghost use Rattle.graph_search.specs.Searching.{IsTree, IsRanked, IsKnown, IsClosing, AllRelaxed, AreBeingRelaxed, IsFollowing, KeepsRanks, IsBegun, IsWalkTo, closed_as};
 
 use crate::arcs::{Step, Vertex, Walk};
+use crate::entry::Entry;
 use crate::graph::Graph;
 use crate::visits::{UNSEEN, Visit, Visits};
 use crate::waiting::Waiting;
@@ -34,16 +34,17 @@ pub fn cheapest_walk<G: Graph>(
 {
     let mut search = Search::begin(alloc, from, graph.estimate(from, graph.spot(from)))?;
     let mut ends = Vec::new(alloc);
-    while let Some((_, vertex)) = search.waiting.pop() {
-        let rank = search.visits.get(vertex).rank;
-        if rank != 0 {
+    while let Some(first) = search.waiting.pop(alloc)? {
+        let vertex = first.vertex;
+        let visit = search.visits.get(vertex);
+        if visit.rank != 0 {
             continue;
         }
-        search.close(alloc, vertex)?;
+        search.close(alloc, vertex, visit)?;
         if vertex == to {
             return Ok(Some(walk_to(alloc, &search.visits, from, to)?));
         }
-        search.relax(alloc, graph, vertex, &mut ends)?;
+        search.relax(alloc, graph, vertex, visit.cost, &mut ends)?;
     }
     Ok(None)
 }
@@ -68,7 +69,7 @@ impl Search {
     /// A search from a vertex, with the estimate of what is left to go from there.
     fn begin(alloc: Global, from: Vertex, estimate: u64) -> Result<Self, AllocError>
         ensures begun { IfOk result (λ search. IsBegun from (visit_at search.visits)) }
-        ensures waiting { IfOk result (λ search. IsPermutation (entry estimate from ∷ []) (heap_items search.waiting.heap)) }
+        ensures waiting { IfOk result (λ search. IsPermutation (entry estimate from ∷ []) search.waiting.entries) }
         ensures closed { IfOk result (λ search. search.closed ≡ 0) }
     {
         let mut visits = Visits::new(alloc);
@@ -79,8 +80,12 @@ impl Search {
             last,
         };
         visits.set(alloc, from, visit)?;
-        let mut waiting = Waiting::new(alloc);
-        waiting.push(estimate, from)?;
+        let mut waiting = Waiting::new(alloc, estimate);
+        let entry = Entry {
+            key: estimate,
+            vertex: from,
+        };
+        waiting.push(alloc, entry)?;
         Ok(Search {
             visits,
             waiting,
@@ -88,52 +93,54 @@ impl Search {
         })
     }
 
-    /// Closes a vertex.
-    fn close(&mut self, alloc: Global, vertex: Vertex) -> Result<(), AllocError>
-        requires { self.old.closed + 1 < 2 ^ 64 }
+    /// Closes a vertex, of which this is known.
+    fn close(&mut self, alloc: Global, vertex: Vertex, visit: Visit) -> Result<(), AllocError>
+        requires room { self.old.closed + 1 < 2 ^ 64 }
+        requires known { visit ≡ visit_at self.old.visits vertex }
         ensures closed { OnOk result (self.new.closed ≡ self.old.closed + 1) }
         ensures written { OnOk result (IsWritten (visit_at self.old.visits) vertex
             (closed_as (self.old.closed + 1) (visit_at self.old.visits vertex)) (visit_at self.new.visits)) }
         ensures waiting { self.new.waiting ≡ self.old.waiting }
     {
         let rank = self.closed + 1;
-        let visit = self.visits.get(vertex);
         self.visits.set(alloc, vertex, Visit { rank, ..visit })?;
         self.closed = rank;
         Ok(())
     }
 
-    /// Follows the arcs of a vertex that was just closed. The ends are room to work in.
+    /// Follows the arcs of a vertex that was just closed, which this costs. The ends are room to work in.
     fn relax<G: Graph>(
         &mut self,
         alloc: Global,
         graph: &G,
         from: Vertex,
+        cost: u64,
         ends: &mut Vec<Vertex>,
     ) -> Result<(), AllocError>
         requires sound { G.is_sound graph.now }
         requires searchable { IsSearchable (G.vertices graph.now) (G.arcs graph.now) (G.estimates graph.now) (G.heaviest graph.now) }
         requires there { Contains (G.vertices graph.now) from }
+        requires cost { cost ≡ (visit_at self.old.visits from).cost }
+        requires last { self.old.waiting.last ≤ cost + G.estimates graph.now from }
         requires few { self.old.closed ≤ length (G.vertices graph.now) }
         requires known { IsKnown (G.vertices graph.now) (G.estimates graph.now) (visit_at self.old.visits)
-            (heap_items self.old.waiting.heap) (self.old.closed * G.heaviest graph.now) self.old.closed }
+            self.old.waiting.entries (self.old.closed * G.heaviest graph.now) self.old.closed }
         requires closing { IsClosing (G.estimates graph.now) (G.heaviest graph.now) (visit_at self.old.visits)
             (self.old.closed * G.heaviest graph.now) from }
         requires relaxing { AreBeingRelaxed (G.arcs graph.now) (visit_at self.old.visits) from 0 }
         ensures known { OnOk result (IsKnown (G.vertices graph.now) (G.estimates graph.now) (visit_at self.new.visits)
-            (heap_items self.new.waiting.heap) (self.old.closed * G.heaviest graph.now) self.old.closed) }
+            self.new.waiting.entries (self.old.closed * G.heaviest graph.now) self.old.closed) }
         ensures relaxed { OnOk result (AllRelaxed (G.arcs graph.now) (visit_at self.new.visits)) }
         ensures tree { OnOk result ((start : Vertex) → IsTree (G.arcs graph.now) start (visit_at self.old.visits)
             → IsTree (G.arcs graph.now) start (visit_at self.new.visits)) }
         ensures ranks { OnOk result (KeepsRanks (visit_at self.old.visits) (visit_at self.new.visits)) }
-        ensures more { OnOk result (length (heap_items self.new.waiting.heap)
-            ≤ length (heap_items self.old.waiting.heap) + length (G.arcs graph.now from)) }
+        ensures more { OnOk result (length self.new.waiting.entries
+            ≤ length self.old.waiting.entries + length (G.arcs graph.now from)) }
         ensures closed { self.new.closed ≡ self.old.closed }
     {
         ends.clear();
         graph.push_ends(from, ends)?;
         let ends = ends.as_slice();
-        let cost = self.visits.get(from).cost;
         let spot = graph.spot(from);
         for (place, to) in ends.iter().enumerate() {
             let origin = Origin { cost, spot };
@@ -158,17 +165,19 @@ impl Search {
         requires place { last.place < length (G.arcs graph.now last.from) }
         requires end { (arc_of (G.arcs graph.now) last).to ≡ to }
         requires cost { origin.cost ≡ (visit_at self.old.visits last.from).cost }
+        requires last { self.old.waiting.last ≤ origin.cost + G.estimates graph.now last.from }
         requires spot { origin.spot ≡ G.spots graph.now last.from }
         requires few { self.old.closed ≤ length (G.vertices graph.now) }
         requires known { IsKnown (G.vertices graph.now) (G.estimates graph.now) (visit_at self.old.visits)
-            (heap_items self.old.waiting.heap) (self.old.closed * G.heaviest graph.now) self.old.closed }
+            self.old.waiting.entries (self.old.closed * G.heaviest graph.now) self.old.closed }
         requires closing { IsClosing (G.estimates graph.now) (G.heaviest graph.now) (visit_at self.old.visits)
             (self.old.closed * G.heaviest graph.now) last.from }
         requires relaxing { AreBeingRelaxed (G.arcs graph.now) (visit_at self.old.visits) last.from last.place }
         ensures followed { OnOk result (IsFollowing (G.vertices graph.now) (G.arcs graph.now) (G.estimates graph.now) (G.heaviest graph.now)
-            last.from self.old.closed (visit_at self.old.visits) (heap_items self.old.waiting.heap)
-            (visit_at self.new.visits) (heap_items self.new.waiting.heap) (last.place + 1) 1) }
+            last.from self.old.closed (visit_at self.old.visits) self.old.waiting.entries
+            (visit_at self.new.visits) self.new.waiting.entries (last.place + 1) 1) }
         ensures closed { self.new.closed ≡ self.old.closed }
+        ensures last { self.new.waiting.last ≡ self.old.waiting.last }
     {
         let known = self.visits.get(to);
         if known.rank != 0 {
@@ -187,7 +196,7 @@ impl Search {
         };
         self.visits.set(alloc, to, better)?;
         let key = through + graph.estimate(to, spot);
-        self.waiting.push(key, to)?;
+        self.waiting.push(alloc, Entry { key, vertex: to })?;
         Ok(())
     }
 }

@@ -1,52 +1,178 @@
-//! The vertices that a search has still to close.
+//! The vertices that a search has still to close: a queue for keys that never fall.
 
-ghost use Rattle.std.specs.BinaryHeap.{IsHeap, heap_items};
-ghost use Rattle.std.proofs.Props.{props};
-ghost use Rattle.graph_search.specs.Entries.{entry_cmp};
+ghost use Rattle.std.specs.Prelude.{◌≡◌, ◌≢◌, ◌≤◌, ◌<◌, ◌∷◌, ◌++◌, [], ℕ, List, All, length, slice_index_or, IfOk, IfSome, IfNone, OnOk, OnErr, vec_len};
+ghost use Rattle.std.specs.List.Sorted.{IsPermutation};
+ghost use Rattle.graph_search.specs.declared.entry.Entry.{Entry};
+ghost use Rattle.graph_search.specs.Entries.{Queue, slot_of, list_at, entries_in, AreSlotted, AreAlike, IsAdded, IsEmptied, IsFilled};
 
-use crate::arcs::Vertex;
+use crate::entry::Entry;
 use std::alloc::{AllocError, Global};
-use std::cmp::Reverse;
-use std::collections::BinaryHeap;
+use std::marker::Model;
+use std::mem;
 
-/// Vertices with keys, of which the one with the least key comes first. A vertex may stand in it more than once.
+/// How many digits a key has to the base 64.
+const DIGITS: usize = 11;
+
+/// How many lists there are for each digit.
+const LISTS: usize = 64;
+
+/// Vertices with keys, of which one with the least key comes first: a radix heap, after Ahuja, Mehlhorn, Orlin and Tarjan. No key may be
+/// less than the one taken last. A vertex may stand in it more than once.
+///
+/// Keys are seen by their digits to the base 64. An entry stands in a list by the highest digit in which its key differs from the last key
+/// taken, and by that digit; so the lists are in order of the keys, and those of the lowest digit hold one key each. Where these are empty,
+/// the first list that is not is dealt out again, now by a lower digit.
 #[derive(Drop)]
 pub(crate) struct Waiting {
-    pub(crate) heap: BinaryHeap<Reverse<(u64, Vertex)>>,
-    ghost ordered: { IsHeap entry_cmp (heap_items heap) } by { Prim.hlevel props },
+    /// The last key that was taken.
+    last: u64,
+    lists: Vec<Vec<Entry>>,
+    /// The lists before this one are empty.
+    first: usize,
+}
+
+impl Model for Waiting {
+    ghost Value = { Queue };
+
+    ghost view = { λ a. record { last = a.last; entries = entries_in a.lists.items } };
+
+    ghost invariant = { λ a. AreSlotted a.last a.first a.lists.items };
 }
 
 impl Waiting {
-    ghost use Rattle.std.specs.Prelude.{◌≡◌, ◌≤◌, ◌∷◌, [], All, IfSome, IfNone, OnOk};
-    ghost use Rattle.std.specs.List.Sorted.{IsPermutation};
-    ghost use Rattle.graph_search.specs.Entries.{entry};
-
-    /// No vertices.
-    pub(crate) fn new(alloc: Global) -> Self
-        ensures { heap_items result.heap ≡ [] }
+    /// No vertices, to which keys come that are not less than the one given.
+    pub(crate) fn new(alloc: Global, last: u64) -> Self
+        ensures { result ≡ record { last = last; entries = [] } }
     {
         Waiting {
-            heap: BinaryHeap::new(alloc),
+            last,
+            lists: Vec::new(alloc),
+            first: 0,
         }
     }
 
     /// Adds a vertex.
-    pub(crate) fn push(&mut self, key: u64, vertex: Vertex) -> Result<(), AllocError>
-        ensures { OnOk result (IsPermutation (entry key vertex ∷ heap_items self.old.heap) (heap_items self.new.heap)) }
+    pub(crate) fn push(&mut self, alloc: Global, entry: Entry) -> Result<(), AllocError>
+        requires { self.old.last ≤ entry.key }
+        ensures added { OnOk result (IsPermutation (entry ∷ self.old.entries) self.new.entries) }
+        ensures last { self.new.last ≡ self.old.last }
     {
-        self.heap.push(Reverse((key, vertex)))?;
+        let slot = slot(self.last, entry.key);
+        self.first = self.first.min(slot);
+        add(alloc, &mut self.lists, slot, entry)
+    }
+
+    /// Adds vertices.
+    fn push_all(&mut self, alloc: Global, entries: &[Entry]) -> Result<(), AllocError>
+        requires { All (λ e. self.old.last ≤ e.key) entries.now }
+        ensures added { OnOk result (IsPermutation (entries.now ++ self.old.entries) self.new.entries) }
+        ensures last { self.new.last ≡ self.old.last }
+    {
+        for entry in entries {
+            self.push(alloc, *entry)?;
+        }
         Ok(())
     }
 
-    /// Takes a vertex with the least key, and gives the key and the vertex; none exactly where there are no vertices.
-    pub(crate) fn pop(&mut self) -> Option<(u64, Vertex)>
-        ensures taken { IfSome result (λ first. IsPermutation (heap_items self.old.heap) (entry first.0 first.1 ∷ heap_items self.new.heap)) }
-        ensures least { IfSome result (λ first. All (λ other. first.0 ≤ other.0.0) (heap_items self.old.heap)) }
-        ensures none { IfNone result (heap_items self.old.heap ≡ []) }
+    /// Takes a vertex with the least key; none exactly where there are no vertices.
+    pub(crate) fn pop(&mut self, alloc: Global) -> Result<Option<Entry>, AllocError>
+        ensures taken { IfOk result (λ found. IfSome found (λ first. IsPermutation self.old.entries (first ∷ self.new.entries))) }
+        ensures least { IfOk result (λ found. IfSome found (λ first. All (λ other. first.key ≤ other.key) self.old.entries)) }
+        ensures last { IfOk result (λ found. IfSome found (λ first. self.new.last ≡ first.key)) }
+        ensures none { IfOk result (λ found. IfNone found (self.old.entries ≡ [])) }
     {
-        match self.heap.pop() {
-            Some(Reverse(first)) => Some(first),
-            None => None,
+        let Some(slot) = filled(self.lists.as_slice(), self.first) else {
+            return Ok(None);
+        };
+        self.first = slot;
+        if slot < LISTS {
+            let entry = take_last(&mut self.lists, slot);
+            self.last = entry.key;
+            return Ok(Some(entry));
+        }
+        let mut list = take_list(alloc, &mut self.lists, slot);
+        let entry = list.swap_remove(least(list.as_slice()));
+        self.last = entry.key;
+        self.push_all(alloc, list.as_slice())?;
+        Ok(Some(entry))
+    }
+}
+
+/// The slot of a key.
+fn slot(last: u64, key: u64) -> usize
+    ensures { result ≡ slot_of 11 last key }
+{
+    let mut before = last;
+    let mut after = key;
+    for digit in 0..DIGITS {
+        if before / 64 == after / 64 {
+            return LISTS * digit + (after % 64) as usize;
+        }
+        before /= 64;
+        after /= 64;
+    }
+    LISTS * DIGITS
+}
+
+/// The first list with entries, from a slot on before which there are none.
+fn filled(lists: &[Vec<Entry>], first: usize) -> Option<usize>
+    ensures some { IfSome result (λ slot. IsFilled lists.now first slot) }
+    ensures none { IfNone result ((k : ℕ) → first ≤ k → list_at lists.now k ≡ []) }
+{
+    let mut slot = first;
+    while slot < lists.len() {
+        if !lists[slot].is_empty() {
+            return Some(slot);
+        }
+        slot += 1;
+    }
+    None
+}
+
+/// Adds an entry at the end of a list.
+fn add(
+    alloc: Global,
+    lists: &mut Vec<Vec<Entry>>,
+    slot: usize,
+    entry: Entry,
+) -> Result<(), AllocError>
+    ensures added { OnOk result (IsAdded lists.old.items slot entry lists.new.items) }
+    ensures kept { OnErr result (AreAlike lists.old.items lists.new.items) }
+{
+    while lists.len() <= slot {
+        lists.push(Vec::new(alloc))?;
+    }
+    lists[slot].push(entry)?;
+    Ok(())
+}
+
+/// Takes the last entry of a list.
+fn take_last(lists: &mut Vec<Vec<Entry>>, slot: usize) -> Entry
+    requires { 0 < length (list_at lists.old.items slot) }
+    ensures { IsAdded lists.new.items slot result lists.old.items }
+{
+    lists[slot].pop().unwrap()
+}
+
+/// Takes out a list.
+fn take_list(alloc: Global, lists: &mut Vec<Vec<Entry>>, slot: usize) -> Vec<Entry>
+    requires { 0 < length (list_at lists.old.items slot) }
+    ensures { IsEmptied lists.old.items slot result.items lists.new.items }
+{
+    mem::replace(&mut lists[slot], Vec::new(alloc))
+}
+
+/// The place of an entry with the least key.
+fn least(entries: &[Entry]) -> usize
+    requires { 0 < length entries.now }
+    ensures there { result < length entries.now }
+    ensures least { (d : Entry) → All (λ e. (slice_index_or entries.now result d).key ≤ e.key) entries.now }
+{
+    let mut found = 0;
+    for place in 1..entries.len() {
+        if entries[place].key < entries[found].key {
+            found = place;
         }
     }
+    found
 }

@@ -1,113 +1,140 @@
-use Rattle.std.proofs.Common.{◌≡◌, ℕ, ◌+◌, ◌*◌, ◌≤◌, ◌∙◌, arith, sym, ap, subst, length}
-use Rattle.std.specs.BinaryHeap.{heap_items}
+use Rattle.std.proofs.Common.{◌≡◌, ℕ, ◌+◌, ◌*◌, ◌≤◌, ◌∙◌, List, ◌∷◌, arith, sym, ap, subst, length}
+use Rattle.std.specs.Prelude.{All, Option, Some, IfSome}
+use Rattle.std.specs.List.Sorted.{IsPermutation}
 use Rattle.std.proofs.lemmas.Result.{IfOk-from_err}
 use Rattle.graph_search.specs.declared.visits.Visit.{Visit}
-use Rattle.graph_search.specs.declared.waiting.Waiting.{Waiting}
+use Rattle.graph_search.specs.declared.entry.Entry.{Entry}
 use Rattle.graph_search.specs.Visited.{visit_at, IsClosed}
+use Rattle.graph_search.specs.Entries.{Queue}
 use Rattle.graph_search.specs.Searching.{IsKnown}
 use Rattle.graph_search.proofs.Writing.{same_if, apart_if_not}
 use Rattle.graph_search.proofs.WayBack.{ranked-tree}
-use Rattle.graph_search.proofs.Turns.{between-begun, work-dropped, between-dropped, closed-fewer, turn-tree, cheapest, vertex-member, turn-few, turn-known, turn-closing, turn-relaxing, work-turned, between-turned, apart, none_left, IsBetween}
+use Rattle.graph_search.proofs.Turns.{between-begun, work-dropped, between-dropped, closed-fewer, turn-tree, cheapest, vertex-key, vertex-member, turn-few, turn-known, turn-closing, turn-relaxing, work-turned, between-turned, apart, none_left, IsBetween}
 use Rattle.graph_search.proofs.search.cheapest_walk.Goals as goal
 
-pub loop-vertex-init : goal.loop-vertex-init
-loop-vertex-init g c =
+-- what is said of the entry that was taken
+taken_of : (found : Option Entry) (first : Entry) (old new : List Entry) → found ≡ Some first → IfSome found (λ e. IsPermutation old (e ∷ new)) → IsPermutation old (first ∷ new)
+taken_of found first old new is held = subst (λ (f : Option Entry). IfSome f (λ e. IsPermutation old (e ∷ new))) is held
+
+least_of : (found : Option Entry) (first : Entry) (old : List Entry) → found ≡ Some first → IfSome found (λ e. All (λ (other : Entry). e.key ≤ other.key) old)
+    → All (λ (other : Entry). first.key ≤ other.key) old
+least_of found first old is held = subst (λ (f : Option Entry). IfSome f (λ e. All (λ (other : Entry). e.key ≤ other.key) old)) is held
+
+last_of : (found : Option Entry) (first : Entry) (last : ℕ) → found ≡ Some first → IfSome found (λ e. last ≡ e.key) → last ≡ first.key
+last_of found first last is held = subst (λ (f : Option Entry). IfSome f (λ e. last ≡ e.key)) is held
+
+pub loop-ends-init : goal.loop-ends-init
+loop-ends-init g c =
     between-begun _ _ _ _ c.args.from c.args.to _ _ c.estimate.result _ c.requires.there c.in_ok-search.ensures.begun c.estimate.ensures c.in_ok-search.ensures.waiting
     c.in_ok-search.ensures.closed
 
-pub loop-vertex-smaller-then-rank-ne0 : goal.loop-vertex-smaller-then-rank-ne0
-loop-vertex-smaller-then-rank-ne0 g c =
-    work-dropped _ _ _ _ c.requires.searchable c.args.from c.args.to _ _ _ c.loop-vertex.invariant c.in-Some.field-0-0 c.in-Some.vertex (heap_items c.pop.new.self.heap)
-    c.in-Some.ensures.taken
+pub loop-ends-smaller-then-visit-ne0 : goal.loop-ends-smaller-then-visit-ne0
+loop-ends-smaller-then-visit-ne0 g c =
+    work-dropped _ _ _ _ c.requires.searchable c.args.from c.args.to _ _ _ c.loop-ends.invariant c.in-Some.first.key c.in-Some.first.vertex c.pop.new.self.entries
+    (taken_of _ _ _ _ c.in-Some.is c.in_ok-first.ensures.taken)
 
-pub loop-vertex-preserved-then-rank-ne0 : goal.loop-vertex-preserved-then-rank-ne0
-loop-vertex-preserved-then-rank-ne0 g c =
-    let rank = ap (λ (u : Visit). u.rank) c.get-rank.ensures in
-    let is_closed : IsClosed (visit_at c.loop-vertex.search.visits c.in-Some.vertex) = omega (arith, rank, c.if-rank-ne0.true) in
-    between-dropped _ _ _ _ c.requires.searchable c.args.from c.args.to _ _ _ c.loop-vertex.invariant c.in-Some.field-0-0 c.in-Some.vertex _ c.in-Some.ensures.taken is_closed
+pub loop-ends-preserved-then-visit-ne0 : goal.loop-ends-preserved-then-visit-ne0
+loop-ends-preserved-then-visit-ne0 g c =
+    let rank = ap (λ (u : Visit). u.rank) c.get-visit.ensures in
+    let is_closed : IsClosed (visit_at c.loop-ends.search.visits c.in-Some.first.vertex) = omega (arith, rank, c.if-visit-ne0.true) in
+    between-dropped _ _ _ _ c.requires.searchable c.args.from c.args.to _ _ _ c.loop-ends.invariant c.in-Some.first.key c.in-Some.first.vertex _ (taken_of _ _ _ _ c.in-Some.is c.in_ok-first.ensures.taken) is_closed
 
-pub close-requires : goal.close-requires
-close-requires g c =
-    let fewer = closed-fewer _ _ _ _ c.requires.searchable c.args.from c.args.to _ _ _ c.loop-vertex.invariant c.in-Some.field-0-0 c.in-Some.vertex _ c.in-Some.ensures.taken
-    c.in-Some.ensures.least (sym (ap (λ (u : Visit). u.rank) c.get-rank.ensures) ∙ c.if-rank-ne0.false) in
+pub close-requires-clause-room : goal.close-requires-clause-room
+close-requires-clause-room g c =
+    let fewer = closed-fewer _ _ _ _ c.requires.searchable c.args.from c.args.to _ _ _ c.loop-ends.invariant c.in-Some.first.key c.in-Some.first.vertex _ (taken_of _ _ _ _ c.in-Some.is c.in_ok-first.ensures.taken)
+    (least_of _ _ _ c.in-Some.is c.in_ok-first.ensures.least) (sym (ap (λ (u : Visit). u.rank) c.get-visit.ensures) ∙ c.if-visit-ne0.false) in
     omega (arith, fewer, c.requires.searchable.few)
 
 pub walk_to-requires-clause-ranked : goal.walk_to-requires-clause-ranked
 walk_to-requires-clause-ranked g c =
     ranked-tree _ _ _
-    (turn-tree _ _ _ _ c.requires.searchable c.args.from c.args.to _ _ _ c.loop-vertex.invariant c.in-Some.field-0-0 c.in-Some.vertex _ c.in-Some.ensures.taken c.in-Some.ensures.least
-    (sym (ap (λ (u : Visit). u.rank) c.get-rank.ensures) ∙ c.if-rank-ne0.false) _ _ c.in_ok-close.ensures.written c.in_ok-close.ensures.closed)
+    (turn-tree _ _ _ _ c.requires.searchable c.args.from c.args.to _ _ _ c.loop-ends.invariant c.in-Some.first.key c.in-Some.first.vertex _ (taken_of _ _ _ _ c.in-Some.is c.in_ok-first.ensures.taken) (least_of _ _ _ c.in-Some.is c.in_ok-first.ensures.least)
+    (sym (ap (λ (u : Visit). u.rank) c.get-visit.ensures) ∙ c.if-visit-ne0.false) _ _ c.in_ok-close.ensures.written c.in_ok-close.ensures.closed)
 
 pub returns-then-eq-clause-found : goal.returns-then-eq-clause-found
 returns-then-eq-clause-found g c =
-    let unclosed = sym (ap (λ (u : Visit). u.rank) c.get-rank.ensures) ∙ c.if-rank-ne0.false in
-    (cheapest _ _ _ _ c.requires.searchable c.args.from c.args.to _ _ _ c.loop-vertex.invariant c.in-Some.field-0-0 c.in-Some.vertex _ c.in-Some.ensures.taken c.in-Some.ensures.least
+    let unclosed = sym (ap (λ (u : Visit). u.rank) c.get-visit.ensures) ∙ c.if-visit-ne0.false in
+    (cheapest _ _ _ _ c.requires.searchable c.args.from c.args.to _ _ _ c.loop-ends.invariant c.in-Some.first.key c.in-Some.first.vertex _ (taken_of _ _ _ _ c.in-Some.is c.in_ok-first.ensures.taken) (least_of _ _ _ c.in-Some.is c.in_ok-first.ensures.least)
     unclosed (same_if _ _ c.if-eq.ensures) _ c.in_ok-close.ensures.written c.in_ok-walk_to.field-0 (c.in_ok-walk_to.ensures (g.G.Graph.arcs c.args.graph.now)
-    (turn-tree _ _ _ _ c.requires.searchable c.args.from c.args.to _ _ _ c.loop-vertex.invariant c.in-Some.field-0-0 c.in-Some.vertex _ c.in-Some.ensures.taken c.in-Some.ensures.least
+    (turn-tree _ _ _ _ c.requires.searchable c.args.from c.args.to _ _ _ c.loop-ends.invariant c.in-Some.first.key c.in-Some.first.vertex _ (taken_of _ _ _ _ c.in-Some.is c.in_ok-first.ensures.taken) (least_of _ _ _ c.in-Some.is c.in_ok-first.ensures.least)
     unclosed _ _ c.in_ok-close.ensures.written c.in_ok-close.ensures.closed))).0
 
 pub returns-then-eq-clause-few : goal.returns-then-eq-clause-few
 returns-then-eq-clause-few g c =
-    let unclosed = sym (ap (λ (u : Visit). u.rank) c.get-rank.ensures) ∙ c.if-rank-ne0.false in
-    (cheapest _ _ _ _ c.requires.searchable c.args.from c.args.to _ _ _ c.loop-vertex.invariant c.in-Some.field-0-0 c.in-Some.vertex _ c.in-Some.ensures.taken c.in-Some.ensures.least
+    let unclosed = sym (ap (λ (u : Visit). u.rank) c.get-visit.ensures) ∙ c.if-visit-ne0.false in
+    (cheapest _ _ _ _ c.requires.searchable c.args.from c.args.to _ _ _ c.loop-ends.invariant c.in-Some.first.key c.in-Some.first.vertex _ (taken_of _ _ _ _ c.in-Some.is c.in_ok-first.ensures.taken) (least_of _ _ _ c.in-Some.is c.in_ok-first.ensures.least)
     unclosed (same_if _ _ c.if-eq.ensures) _ c.in_ok-close.ensures.written c.in_ok-walk_to.field-0 (c.in_ok-walk_to.ensures (g.G.Graph.arcs c.args.graph.now)
-    (turn-tree _ _ _ _ c.requires.searchable c.args.from c.args.to _ _ _ c.loop-vertex.invariant c.in-Some.field-0-0 c.in-Some.vertex _ c.in-Some.ensures.taken c.in-Some.ensures.least
+    (turn-tree _ _ _ _ c.requires.searchable c.args.from c.args.to _ _ _ c.loop-ends.invariant c.in-Some.first.key c.in-Some.first.vertex _ (taken_of _ _ _ _ c.in-Some.is c.in_ok-first.ensures.taken) (least_of _ _ _ c.in-Some.is c.in_ok-first.ensures.least)
     unclosed _ _ c.in_ok-close.ensures.written c.in_ok-close.ensures.closed))).1
 
 pub relax-requires-clause-there : goal.relax-requires-clause-there
 relax-requires-clause-there g c =
-    vertex-member _ _ _ _ c.requires.searchable c.args.from c.args.to _ _ _ c.loop-vertex.invariant c.in-Some.field-0-0 c.in-Some.vertex _ c.in-Some.ensures.taken c.in-Some.ensures.least
-    (sym (ap (λ (u : Visit). u.rank) c.get-rank.ensures) ∙ c.if-rank-ne0.false)
+    vertex-member _ _ _ _ c.requires.searchable c.args.from c.args.to _ _ _ c.loop-ends.invariant c.in-Some.first.key c.in-Some.first.vertex _ (taken_of _ _ _ _ c.in-Some.is c.in_ok-first.ensures.taken) (least_of _ _ _ c.in-Some.is c.in_ok-first.ensures.least)
+    (sym (ap (λ (u : Visit). u.rank) c.get-visit.ensures) ∙ c.if-visit-ne0.false)
+
+pub relax-requires-clause-cost : goal.relax-requires-clause-cost
+relax-requires-clause-cost g c =
+    ap (λ (u : Visit). u.cost) c.get-visit.ensures ∙ sym (ap (λ (u : Visit). u.cost) c.in_ok-close.ensures.written.here)
+
+pub relax-requires-clause-last : goal.relax-requires-clause-last
+relax-requires-clause-last g c =
+    let key = vertex-key _ _ _ _ c.requires.searchable c.args.from c.args.to _ _ _ c.loop-ends.invariant c.in-Some.first.key c.in-Some.first.vertex _
+    (taken_of _ _ _ _ c.in-Some.is c.in_ok-first.ensures.taken) (least_of _ _ _ c.in-Some.is c.in_ok-first.ensures.least)
+    (sym (ap (λ (u : Visit). u.rank) c.get-visit.ensures) ∙ c.if-visit-ne0.false) in
+    let last = last_of _ _ _ c.in-Some.is c.in_ok-first.ensures.last in
+    let kept = ap (λ (waiting : Queue). waiting.last) c.in_ok-close.ensures.waiting in
+    let cost = ap (λ (u : Visit). u.cost) c.get-visit.ensures in
+    omega (arith, key, last, kept, cost)
 
 pub relax-requires-clause-few : goal.relax-requires-clause-few
 relax-requires-clause-few g c =
-    turn-few _ _ _ _ c.requires.searchable c.args.from c.args.to _ _ _ c.loop-vertex.invariant c.in-Some.field-0-0 c.in-Some.vertex _ c.in-Some.ensures.taken c.in-Some.ensures.least
-    (sym (ap (λ (u : Visit). u.rank) c.get-rank.ensures) ∙ c.if-rank-ne0.false) _ _ c.in_ok-close.ensures.written c.in_ok-close.ensures.closed
+    turn-few _ _ _ _ c.requires.searchable c.args.from c.args.to _ _ _ c.loop-ends.invariant c.in-Some.first.key c.in-Some.first.vertex _ (taken_of _ _ _ _ c.in-Some.is c.in_ok-first.ensures.taken) (least_of _ _ _ c.in-Some.is c.in_ok-first.ensures.least)
+    (sym (ap (λ (u : Visit). u.rank) c.get-visit.ensures) ∙ c.if-visit-ne0.false) _ _ c.in_ok-close.ensures.written c.in_ok-close.ensures.closed
 
 pub relax-requires-clause-known : goal.relax-requires-clause-known
 relax-requires-clause-known g c =
     subst
-    (λ (waiting : Waiting). IsKnown (g.G.Graph.vertices c.args.graph.now) (g.G.Graph.estimates c.args.graph.now) (visit_at c.close.new.self.visits) (heap_items waiting.heap)
+    (λ (waiting : Queue). IsKnown (g.G.Graph.vertices c.args.graph.now) (g.G.Graph.estimates c.args.graph.now) (visit_at c.close.new.self.visits) waiting.entries
     (c.close.new.self.closed * g.G.Graph.heaviest c.args.graph.now) c.close.new.self.closed) (sym c.in_ok-close.ensures.waiting)
-    (turn-known _ _ _ _ c.requires.searchable c.args.from c.args.to _ _ _ c.loop-vertex.invariant c.in-Some.field-0-0 c.in-Some.vertex _ c.in-Some.ensures.taken c.in-Some.ensures.least
-    (sym (ap (λ (u : Visit). u.rank) c.get-rank.ensures) ∙ c.if-rank-ne0.false) _ _ c.in_ok-close.ensures.written c.in_ok-close.ensures.closed)
+    (turn-known _ _ _ _ c.requires.searchable c.args.from c.args.to _ _ _ c.loop-ends.invariant c.in-Some.first.key c.in-Some.first.vertex _ (taken_of _ _ _ _ c.in-Some.is c.in_ok-first.ensures.taken) (least_of _ _ _ c.in-Some.is c.in_ok-first.ensures.least)
+    (sym (ap (λ (u : Visit). u.rank) c.get-visit.ensures) ∙ c.if-visit-ne0.false) _ _ c.in_ok-close.ensures.written c.in_ok-close.ensures.closed)
 
 pub relax-requires-clause-closing : goal.relax-requires-clause-closing
 relax-requires-clause-closing g c =
-    turn-closing _ _ _ _ c.requires.searchable c.args.from c.args.to _ _ _ c.loop-vertex.invariant c.in-Some.field-0-0 c.in-Some.vertex _ c.in-Some.ensures.taken c.in-Some.ensures.least
-    (sym (ap (λ (u : Visit). u.rank) c.get-rank.ensures) ∙ c.if-rank-ne0.false) _ _ c.in_ok-close.ensures.written c.in_ok-close.ensures.closed
+    turn-closing _ _ _ _ c.requires.searchable c.args.from c.args.to _ _ _ c.loop-ends.invariant c.in-Some.first.key c.in-Some.first.vertex _ (taken_of _ _ _ _ c.in-Some.is c.in_ok-first.ensures.taken) (least_of _ _ _ c.in-Some.is c.in_ok-first.ensures.least)
+    (sym (ap (λ (u : Visit). u.rank) c.get-visit.ensures) ∙ c.if-visit-ne0.false) _ _ c.in_ok-close.ensures.written c.in_ok-close.ensures.closed
 
 pub relax-requires-clause-relaxing : goal.relax-requires-clause-relaxing
 relax-requires-clause-relaxing g c =
-    turn-relaxing _ _ _ _ c.requires.searchable c.args.from c.args.to _ _ _ c.loop-vertex.invariant c.in-Some.field-0-0 c.in-Some.vertex _ c.in-Some.ensures.taken c.in-Some.ensures.least
-    (sym (ap (λ (u : Visit). u.rank) c.get-rank.ensures) ∙ c.if-rank-ne0.false) _ _ c.in_ok-close.ensures.written c.in_ok-close.ensures.closed
+    turn-relaxing _ _ _ _ c.requires.searchable c.args.from c.args.to _ _ _ c.loop-ends.invariant c.in-Some.first.key c.in-Some.first.vertex _ (taken_of _ _ _ _ c.in-Some.is c.in_ok-first.ensures.taken) (least_of _ _ _ c.in-Some.is c.in_ok-first.ensures.least)
+    (sym (ap (λ (u : Visit). u.rank) c.get-visit.ensures) ∙ c.if-visit-ne0.false) _ _ c.in_ok-close.ensures.written c.in_ok-close.ensures.closed
 
-pub loop-vertex-smaller : goal.loop-vertex-smaller
-loop-vertex-smaller g c =
-    let rest : length (heap_items c.close.new.self.waiting.heap) ≡ length (heap_items c.pop.new.self.heap) =
-    ap (λ (waiting : Waiting). length (heap_items waiting.heap)) c.in_ok-close.ensures.waiting in
-    let more : length (heap_items c.relax.new.self.waiting.heap) ≤ length (heap_items c.close.new.self.waiting.heap) + length (g.G.Graph.arcs c.args.graph.now c.in-Some.vertex) =
+pub loop-ends-smaller : goal.loop-ends-smaller
+loop-ends-smaller g c =
+    let rest : length c.close.new.self.waiting.entries ≡ length c.pop.new.self.entries =
+    ap (λ (waiting : Queue). length waiting.entries) c.in_ok-close.ensures.waiting in
+    let more : length c.relax.new.self.waiting.entries ≤ length c.close.new.self.waiting.entries + length (g.G.Graph.arcs c.args.graph.now c.in-Some.first.vertex) =
     c.in_ok-relax.ensures.more in
-    work-turned _ _ _ _ c.requires.searchable c.args.from c.args.to _ _ _ c.loop-vertex.invariant c.in-Some.field-0-0 c.in-Some.vertex _ c.in-Some.ensures.taken c.in-Some.ensures.least
-    (sym (ap (λ (u : Visit). u.rank) c.get-rank.ensures) ∙ c.if-rank-ne0.false) _ _ c.in_ok-close.ensures.written c.in_ok-close.ensures.closed _ _ c.in_ok-relax.ensures.ranks
+    work-turned _ _ _ _ c.requires.searchable c.args.from c.args.to _ _ _ c.loop-ends.invariant c.in-Some.first.key c.in-Some.first.vertex _ (taken_of _ _ _ _ c.in-Some.is c.in_ok-first.ensures.taken) (least_of _ _ _ c.in-Some.is c.in_ok-first.ensures.least)
+    (sym (ap (λ (u : Visit). u.rank) c.get-visit.ensures) ∙ c.if-visit-ne0.false) _ _ c.in_ok-close.ensures.written c.in_ok-close.ensures.closed _ _ c.in_ok-relax.ensures.ranks
     (omega (arith, more, rest))
 
-pub loop-vertex-preserved : goal.loop-vertex-preserved
-loop-vertex-preserved g c =
+pub loop-ends-preserved : goal.loop-ends-preserved
+loop-ends-preserved g c =
     subst
     (λ (n : ℕ). IsBetween (g.G.Graph.vertices c.args.graph.now) (g.G.Graph.arcs c.args.graph.now) (g.G.Graph.estimates c.args.graph.now) (g.G.Graph.heaviest c.args.graph.now) c.args.from
-    c.args.to (visit_at c.relax.new.self.visits) (heap_items c.relax.new.self.waiting.heap) n) (sym c.relax.ensures.closed)
-    (between-turned _ _ _ _ c.requires.searchable c.args.from c.args.to _ _ _ c.loop-vertex.invariant c.in-Some.field-0-0 c.in-Some.vertex _ c.in-Some.ensures.taken c.in-Some.ensures.least
-    (sym (ap (λ (u : Visit). u.rank) c.get-rank.ensures) ∙ c.if-rank-ne0.false) _ _ c.in_ok-close.ensures.written c.in_ok-close.ensures.closed _ _ c.in_ok-relax.ensures.ranks
+    c.args.to (visit_at c.relax.new.self.visits) c.relax.new.self.waiting.entries n) (sym c.relax.ensures.closed)
+    (between-turned _ _ _ _ c.requires.searchable c.args.from c.args.to _ _ _ c.loop-ends.invariant c.in-Some.first.key c.in-Some.first.vertex _ (taken_of _ _ _ _ c.in-Some.is c.in_ok-first.ensures.taken) (least_of _ _ _ c.in-Some.is c.in_ok-first.ensures.least)
+    (sym (ap (λ (u : Visit). u.rank) c.get-visit.ensures) ∙ c.if-visit-ne0.false) _ _ c.in_ok-close.ensures.written c.in_ok-close.ensures.closed _ _ c.in_ok-relax.ensures.ranks
     (apart_if_not _ _ c.if-eq.ensures)
     (c.in_ok-relax.ensures.tree c.args.from
-    (turn-tree _ _ _ _ c.requires.searchable c.args.from c.args.to _ _ _ c.loop-vertex.invariant c.in-Some.field-0-0 c.in-Some.vertex _ c.in-Some.ensures.taken c.in-Some.ensures.least
-    (sym (ap (λ (u : Visit). u.rank) c.get-rank.ensures) ∙ c.if-rank-ne0.false) _ _ c.in_ok-close.ensures.written c.in_ok-close.ensures.closed))
+    (turn-tree _ _ _ _ c.requires.searchable c.args.from c.args.to _ _ _ c.loop-ends.invariant c.in-Some.first.key c.in-Some.first.vertex _ (taken_of _ _ _ _ c.in-Some.is c.in_ok-first.ensures.taken) (least_of _ _ _ c.in-Some.is c.in_ok-first.ensures.least)
+    (sym (ap (λ (u : Visit). u.rank) c.get-visit.ensures) ∙ c.if-visit-ne0.false) _ _ c.in_ok-close.ensures.written c.in_ok-close.ensures.closed))
     c.in_ok-relax.ensures.known c.in_ok-relax.ensures.relaxed)
 
 pub returns-clause-none : goal.returns-clause-none
 returns-clause-none g c =
-    apart _ _ _ _ c.requires.searchable c.args.from c.args.to _ _ _ c.loop-vertex.invariant (none_left c.pop.result _ c.in_default.not-Some c.pop.ensures.none)
+    apart _ _ _ _ c.requires.searchable c.args.from c.args.to _ _ _ c.loop-ends.invariant (none_left c.in_ok-first.field-0 _ c.in_default.not-Some c.in_ok-first.ensures.none)
 
 pub returns-in_err-search-clause-found : goal.returns-in_err-search-clause-found
 returns-in_err-search-clause-found g c = IfOk-from_err c.from_residual.result _ c.from_residual.ensures.0
@@ -144,3 +171,12 @@ returns-in_err-relax-clause-few g c = IfOk-from_err c.from_residual-in_err-relax
 
 pub returns-in_err-relax-clause-none : goal.returns-in_err-relax-clause-none
 returns-in_err-relax-clause-none g c = IfOk-from_err c.from_residual-in_err-relax.result _ c.from_residual-in_err-relax.ensures.0
+
+pub returns-in_err-first-clause-found : goal.returns-in_err-first-clause-found
+returns-in_err-first-clause-found g c = IfOk-from_err c.from_residual-in_err-first.result _ c.from_residual-in_err-first.ensures.0
+
+pub returns-in_err-first-clause-few : goal.returns-in_err-first-clause-few
+returns-in_err-first-clause-few g c = IfOk-from_err c.from_residual-in_err-first.result _ c.from_residual-in_err-first.ensures.0
+
+pub returns-in_err-first-clause-none : goal.returns-in_err-first-clause-none
+returns-in_err-first-clause-none g c = IfOk-from_err c.from_residual-in_err-first.result _ c.from_residual-in_err-first.ensures.0

@@ -1,12 +1,11 @@
 use Rattle.std.proofs.Common.{◌≡◌, ℕ, ◌+◌, ◌∷◌, arith, ap, subst}
-use Rattle.std.specs.BinaryHeap.{heap_items}
 use Rattle.std.specs.List.Sorted.{IsPermutation}
 use Rattle.std.proofs.lemmas.Result.{IfOk-from_err}
 use Rattle.graph_search.specs.declared.visits.Visit.{Visit}
 use Rattle.graph_search.specs.Walks.{arc_of}
 use Rattle.graph_search.specs.Visited.{visit_at, IsWritten}
 use Rattle.graph_search.specs.Entries.{entry}
-use Rattle.graph_search.proofs.Relaxing.{end-member, key-fits, following-no_less, following-closed, following-better}
+use Rattle.graph_search.proofs.Relaxing.{end-member, estimate-falls, key-fits, following-no_less, following-closed, following-better}
 use Rattle.graph_search.proofs.search.Search.follow.Goals as goal
 
 pub returns-then-known-ne0-clause-followed : goal.returns-then-known-ne0-clause-followed
@@ -41,18 +40,24 @@ overflow_add-key g c =
     _ _ c.requires.known c.requires.closing c.requires.relaxing in
     omega (arith, fits, c.requires.cost, c.weight.ensures, c.estimate.ensures)
 
+pub push-requires : goal.push-requires
+push-requires g c =
+    let falls = estimate-falls _ _ _ _ c.requires.searchable c.args.last.from c.requires.there c.args.last.place c.requires.place c.args.to c.requires.end c.args.self.now.closed
+    c.requires.few in
+    omega (arith, falls, c.requires.last, c.weight.ensures, c.estimate.ensures)
+
 pub returns-clause-followed : goal.returns-clause-followed
 returns-clause-followed g c =
     let arcs = g.G.Graph.arcs c.args.graph.now in
     let at = visit_at c.args.self.now.visits in
-    let waiting = heap_items c.args.self.now.waiting.heap in
+    let waiting = c.args.self.now.waiting.entries in
     let known = ap (λ (u : Visit). u.cost) c.get-known.ensures in
     let through : c.args.origin.cost + c.weight.result ≡ (at c.args.last.from).cost + (arc_of arcs c.args.last).weight = λ i. c.requires.cost i + c.weight.ensures i in
     following-better _ _ _ _ c.requires.searchable c.args.last.from c.requires.there c.args.last.place c.requires.place c.args.to c.requires.end c.args.self.now.closed c.requires.few
     _ _ c.requires.known c.requires.closing c.requires.relaxing _ _ (omega (arith, known, through, c.if-known-through.false))
     (subst (λ (n : ℕ). IsWritten at c.args.to (record { cost = n; rank = 0; last = c.args.last }) (visit_at c.set.new.self)) through c.in_ok-set.ensures)
-    (subst (λ (n : ℕ). IsPermutation (entry (n + g.G.Graph.estimates c.args.graph.now c.args.to) c.args.to ∷ waiting) (heap_items c.push.new.self.heap)) through
-    (subst (λ (k : ℕ). IsPermutation (entry (c.args.origin.cost + c.weight.result + k) c.args.to ∷ waiting) (heap_items c.push.new.self.heap)) c.estimate.ensures c.in_ok-push.ensures))
+    (subst (λ (n : ℕ). IsPermutation (entry (n + g.G.Graph.estimates c.args.graph.now c.args.to) c.args.to ∷ waiting) c.push.new.self.entries) through
+    (subst (λ (k : ℕ). IsPermutation (entry (c.args.origin.cost + c.weight.result + k) c.args.to ∷ waiting) c.push.new.self.entries) c.estimate.ensures c.in_ok-push.ensures.added))
 
 pub returns-in_err-set-clause-followed : goal.returns-in_err-set-clause-followed
 returns-in_err-set-clause-followed g c = IfOk-from_err c.from_residual.result _ c.from_residual.ensures.0

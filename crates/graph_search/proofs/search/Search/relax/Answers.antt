@@ -64,6 +64,7 @@ pub loop-place-preserved : goal.loop-place-preserved
 loop-place-preserved g c = record {
   following = following-then _ _ _ _ _ _ _ _ _ _ _ _ _ c.loop-place.invariant.following (rw c.loop-place.invariant.closed at c.in_ok-follow.ensures.followed);
   closed = c.in_ok-follow.ensures.closed ∙ c.loop-place.invariant.closed;
+  last = c.follow.ensures.last ∙ c.loop-place.invariant.last;
 }
 
 pub returns-clause-relaxed : goal.returns-clause-relaxed
