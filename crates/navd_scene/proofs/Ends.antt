@@ -1,6 +1,6 @@
 -- How a run ends.
-use Rattle.std.proofs.Common.{◌≡◌, ℕ, ◌+◌, List, subst, sym, ◌∙◌, refl, inl, inr}
-use Rattle.std.specs.Prelude.{Option, Result, Err}
+use Rattle.std.proofs.Common.{◌≡◌, ℕ, ◌+◌, List, subst, sym, refl, inl, inr}
+use Rattle.std.specs.Prelude.{Option}
 use Rattle.std.specs.Io.KnownBytes.{Appends}
 use Rattle.nav_io.specs.Causes.{GivesAll, TookMany}
 use Rattle.nav_record.specs.Texts.{too_long_text}

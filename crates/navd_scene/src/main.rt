@@ -10,34 +10,36 @@ mod course;
 use crate::course::{finish, run};
 use nav_io::{StdSink, StdSource};
 use nav_run::Status;
+use std::alloc::AllocError;
 use std::marker::Brand;
 use std::process::ExitCode;
 use std::sync::ledger::Blank;
 use std::{env, io};
 
-/// Whether the program was given no words.
-fn has_no_words(rt: &HostRuntime) -> bool {
+/// Whether words stand behind the program's name. One that is no text is a word too. Only memory can be refused.
+fn has_words(rt: &HostRuntime) -> Result<bool, AllocError> {
     match env::args(rt) {
         Ok(mut all) => {
             all.next();
-            all.next().is_none()
+            Ok(all.next().is_some())
         }
-        Err(_) => false,
+        Err(error) if error.kind() == io::ErrorKind::InvalidData => Ok(true),
+        Err(_) => Err(AllocError),
     }
 }
 
 fn main(rt: HostRuntime) -> ExitCode {
     let mut sink = StdSink::new(io::writer(&rt));
-    let status = if has_no_words(&rt) {
-        run::<_, _, _, Brand>(
+    let status = match has_words(&rt) {
+        Ok(false) => run::<_, _, _, Brand>(
             &rt,
             rt.alloc(),
             &mut StdSource::new(rt.reader()),
             &mut sink,
             Blank::new(1),
-        )
-    } else {
-        finish(&mut sink, b"fault usage\n", Status::Usage)
+        ),
+        Ok(true) => finish(&mut sink, b"fault usage\n", Status::Usage),
+        Err(_) => Status::OutOfMemory,
     };
     ExitCode::from(status.number())
 }
