@@ -74,7 +74,7 @@ class Pictures(unittest.TestCase):
                     self.assertEqual(found[0, index][3], wanted)
 
     def test_every_polygon_of_the_scene(self):
-        for name in ("storeroom", "bridge", "detour"):
+        for name in ("storeroom", "bridge", "detour", "mud", "pillars"):
             play = scenes.Play(example(name))
             for length in play.lengths():
                 with self.subTest(name=name, length=length):
