@@ -10,6 +10,7 @@
 //! Rim entries and corners are in whole cells, portals in sixteenths of a cell.
 #![tactic(auto)]
 
+mod border;
 mod join;
 mod meetings;
 mod new_tiles;

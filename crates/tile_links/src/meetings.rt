@@ -7,28 +7,27 @@ ghost use Rattle.mesh_types.specs.BorderLinks.{are_meeting, pair_at, meetings, b
 ghost use Rattle.tile_links.specs.Across.{IsNamed, IsWithinField};
 ghost use Rattle.tile_links.specs.Loose.{run_at};
 
+use crate::border::Border;
 use crate::portals::border_link;
-use mesh_types::{LevelPair, Link, RimEdge, Run, TileMesh};
+use mesh_types::{LevelPair, Link, RimEdge, Run};
 use std::alloc::AllocError;
 
-/// Appends the link from an entry of tile `a` on a side to an entry of tile `b` across along the run of positions where they meet that begins
-/// at a place of the entry, if one does.
+/// Appends the link from an entry of a tile on its side of the border to an entry of the tile across along the run of positions where they meet
+/// that begins at a place of the entry, if one does.
 pub fn push_run_link(
     links: &mut Vec<Link>,
-    a: &TileMesh,
-    b: &TileMesh,
-    side: u32,
+    border: Border,
     entry: &RimEdge,
     other: &RimEdge,
     place: usize,
 ) -> Result<(), AllocError>
-    requires entry { IsNamed a.now entry.now }
+    requires entry { IsNamed border.tile.now entry.now }
     requires there { place < length entry.now.pairs }
-    ensures { OnOk result (links.new.items ≡ links.old.items ++ map (border_link a.now b.now side entry.now other.now)
+    ensures { OnOk result (links.new.items ≡ links.old.items ++ map (border_link border.entry.tile.now border.entry.across.now border.entry.side entry.now other.now)
         (cons_option (run_at entry.now other.now place) [])) }
 {
     if let Some(run) = run_from(entry, other, place) {
-        links.push(border_link(a, b, side, entry, other, run))?;
+        links.push(border_link(border, entry, other, run))?;
     }
     Ok(())
 }

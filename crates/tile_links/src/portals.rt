@@ -5,34 +5,33 @@ ghost use Rattle.nav_base.specs.Convex.{corner_at};
 ghost use Rattle.mesh_types.specs.BorderLinks.{border_link, line_of, scaled, side_portal};
 ghost use Rattle.tile_links.specs.Across.{IsNamed, IsOnField};
 
-use mesh_types::{Link, PolyRef, Polygon, Portal, RimEdge, Run, TileMesh};
+use crate::border::Border;
+use mesh_types::{Link, PolyRef, Polygon, Portal, RimEdge, Run};
 use nav_base::Point;
 
-/// The link from an entry of tile `a` on a side to an entry of tile `b` across, along a run of the first one's positions.
-pub fn border_link(
-    a: &TileMesh,
-    b: &TileMesh,
-    side: u32,
-    entry: &RimEdge,
-    other: &RimEdge,
-    run: Run,
-) -> Link
-    requires entry { IsNamed a.now entry.now }
+/// The link from an entry of a tile on its side of the border to an entry of the tile across, along a run of the first one's positions.
+pub fn border_link(border: Border, entry: &RimEdge, other: &RimEdge, run: Run) -> Link
+    requires entry { IsNamed border.tile.now entry.now }
     requires run { (run.first ≤ run.last) × (entry.now.first + run.last < 1024) }
-    ensures { result ≡ border_link a.now b.now side entry.now other.now run }
+    ensures { result ≡ border_link border.entry.tile.now border.entry.across.now border.entry.side entry.now other.now run }
 {
-    let line = line_of(side, a.polys.as_slice(), entry);
+    let line = line_of(border.side, border.tile.polys.as_slice(), entry);
     Link {
         from: PolyRef {
-            tile: a.tile,
+            tile: border.tile.tile,
             index: entry.poly,
         },
         edge: entry.edge,
         to: PolyRef {
-            tile: b.tile,
+            tile: border.across.tile,
             index: other.poly,
         },
-        portal: side_portal(side, line, entry.first + run.first, entry.first + run.last),
+        portal: side_portal(
+            border.side,
+            line,
+            entry.first + run.first,
+            entry.first + run.last,
+        ),
     }
 }
 

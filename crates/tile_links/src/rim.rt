@@ -7,6 +7,7 @@ ghost use Rattle.tile_links.specs.Across.{AreAcross, IsNamed};
 ghost use Rattle.tile_links.specs.RimPlaces.{ArePlaces, entry_of};
 ghost use Rattle.tile_links.specs.Loose.{loose_links, placed_links, place_links, HasGained};
 
+use crate::border::Border;
 use crate::meetings::push_run_link;
 use crate::place::Place;
 use crate::places::{places_at, side_places};
@@ -49,27 +50,30 @@ pub fn push_links(
     let across = places.as_slice();
     for entry in a.rim.as_slice() {
         if entry.side == side {
-            push_entry_links(links, a, b, side, entry, across)?;
+            let border = Border {
+                tile: a,
+                across: b,
+                side,
+            };
+            push_entry_links(links, border, entry, across)?;
         }
     }
     Ok(())
 }
 
-/// Appends the links from an entry of tile `a` on a side, by the places of tile `b` on the opposite side.
+/// Appends the links from an entry of a tile on its side of the border, by the places of the tile across on the opposite side.
 fn push_entry_links(
     links: &mut Vec<Link>,
-    a: &TileMesh,
-    b: &TileMesh,
-    side: u32,
+    border: Border,
     entry: &RimEdge,
     places: &[Place],
 ) -> Result<(), AllocError>
-    requires entry { IsNamed a.now entry.now }
-    requires places { ArePlaces (opposite side) b.now.rim places.now }
-    ensures { OnOk result (links.new.items ≡ links.old.items ++ placed_links a.now b.now side places.now entry.now) }
+    requires entry { IsNamed border.tile.now entry.now }
+    requires places { ArePlaces (opposite border.side) border.across.now.rim places.now }
+    ensures { OnOk result (links.new.items ≡ links.old.items ++ placed_links border.entry.tile.now border.entry.across.now border.entry.side places.now entry.now) }
 {
     for place in 0..entry.pairs.len() {
-        push_place_links(links, a, b, side, entry, places, place)?;
+        push_place_links(links, border, entry, places, place)?;
     }
     Ok(())
 }
@@ -77,23 +81,21 @@ fn push_entry_links(
 /// Appends the links from an entry along the runs that begin at one of its places.
 fn push_place_links(
     links: &mut Vec<Link>,
-    a: &TileMesh,
-    b: &TileMesh,
-    side: u32,
+    border: Border,
     entry: &RimEdge,
     places: &[Place],
     place: usize,
 ) -> Result<(), AllocError>
-    requires entry { IsNamed a.now entry.now }
-    requires places { ArePlaces (opposite side) b.now.rim places.now }
+    requires entry { IsNamed border.tile.now entry.now }
+    requires places { ArePlaces (opposite border.side) border.across.now.rim places.now }
     requires there { place < length entry.now.pairs }
-    ensures { OnOk result (links.new.items ≡ links.old.items ++ place_links a.now b.now side entry.now places.now place) }
+    ensures { OnOk result (links.new.items ≡ links.old.items ++ place_links border.entry.tile.now border.entry.across.now border.entry.side entry.now places.now place) }
 {
     let level = entry.pairs.as_slice()[place].other;
     let across = places_at(places, entry.first + place as u32, level);
     for found in across {
-        let other = entry_at(b.rim.as_slice(), found.entry);
-        push_run_link(links, a, b, side, entry, other, place)?;
+        let other = entry_at(border.across.rim.as_slice(), found.entry);
+        push_run_link(links, border, entry, other, place)?;
     }
     Ok(())
 }

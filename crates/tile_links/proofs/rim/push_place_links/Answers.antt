@@ -19,7 +19,7 @@ pub entry_at-other-requires : goal.entry_at-other-requires
 entry_at-other-requires c =
     let entry = c.args.entry.now in
     let place = c.args.place in
-    let within = found_within (opposite c.args.side) c.args.b.now.rim c.args.places.now c.places_at-across.result.now (entry.first + place)
+    let within = found_within (opposite c.args.border.side) c.args.border.across.now.rim c.args.places.now c.places_at-across.result.now (entry.first + place)
     (pair_of entry place).other c.loop-found.found-index blank c.requires.places
     (c.places_at-across.ensures
     ∙ ap (λ (pairs : List LevelPair). filter (is_at_place (entry.first + place) (get_or pairs place some_pair).other) c.args.places.now) c.as_slice.ensures)
@@ -28,9 +28,9 @@ entry_at-other-requires c =
 
 pub loop-found-preserved : goal.loop-found-preserved
 loop-found-preserved c =
-    let a = c.args.a.now in
-    let b = c.args.b.now in
-    let side = c.args.side in
+    let a = c.args.border.tile.now in
+    let b = c.args.border.across.now in
+    let side = c.args.border.side in
     let entry = c.args.entry.now in
     let place = c.args.place in
     let across = c.places_at-across.result.now in
