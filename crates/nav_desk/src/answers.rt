@@ -10,10 +10,12 @@ pub struct HistoryFull {
     pub len: u32,
 }
 
-/// A tile to be built, and the shapes that touch it at the target, in order of their numbers.
+/// A tile to be built, and the shapes to build it under.
 #[derive(Drop)]
 pub struct Job {
+    /// By rows from the corner (0, 0), from 0.
     pub tile: TileNo,
+    /// Those that touch the tile at the target, in order of their numbers.
     pub shapes: Items<Shape>,
 }
 

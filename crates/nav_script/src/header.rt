@@ -9,10 +9,12 @@ pub const LANES: usize = 16;
 /// How many workers a script can have.
 const WORKERS: u32 = 8;
 
-/// What the `script` line says: how many lanes and workers there are.
+/// What the `script` line says.
 #[derive(Clone, Copy)]
 pub struct Header {
+    /// How many lanes there are, 1 to 16.
     pub lanes: u32,
+    /// How many workers there are, 1 to 8.
     pub workers: u32,
 }
 

@@ -21,7 +21,9 @@ use std::alloc::Global;
 /// A field text that was read.
 #[derive(Drop)]
 pub struct FieldText {
+    /// What the lines before the spans say.
     pub setting: Setting,
+    /// As wide and as deep as the setting says.
     pub field: Field,
     /// How many bytes the text has.
     pub used: usize,
