@@ -1,5 +1,5 @@
 -- Texts that are written part by part.
-use Rattle.std.proofs.Common.{◌≡◌, ℕ, ◌+◌, ◌<◌, ◌≤◌, List, [], ◌++◌, length, drop, get_or, ap, ◌∙◌, sym, append_assoc, append-nil}
+use Rattle.std.proofs.Common.{◌≡◌, ℕ, ◌+◌, ◌<◌, ◌≤◌, List, [], ◌∷◌, ◌++◌, length, drop, get_or, ap, ◌∙◌, sym, append_assoc, append-nil}
 use Rattle.std.specs.List.{enumerate_from, flat_map}
 use Rattle.std.proofs.lemmas.List.{at_drop_all, at_drop_more}
 use Rattle.nav_ground.specs.declared.history.Entry.{Entry}
@@ -36,6 +36,19 @@ module _ {A : Type 0} (xs : List A) (i : ℕ) (before whole : List ℕ) where
 
   pub all_counted : (f : ℕ × A → List ℕ) (n : ℕ) → before ++ flat_map f (enumerate_from n (drop i xs)) ≡ whole → length xs ≤ i → before ≡ whole
   all_counted f n left end = sym (append-nil before) ∙ sym (at_drop_all (λ ys. before ++ flat_map f (enumerate_from n ys)) xs i end) ∙ left
+
+-- the text of one element more that was taken off the front of a list, where elements are counted
+pub next_counted : {A : Type 0} (x : A) (rest all : List A) (n : ℕ) (before whole : List ℕ) (f : ℕ × A → List ℕ) (after : List ℕ) → all ≡ x ∷ rest
+    → before ++ flat_map f (enumerate_from n all) ≡ whole → after ≡ before ++ f (n, x) → after ++ flat_map f (enumerate_from (n + 1) rest) ≡ whole
+next_counted x rest all n before whole f after is left here =
+    part_written before after (f (n, x)) (flat_map f (enumerate_from (n + 1) rest)) whole
+    (sym (ap (λ ys. before ++ flat_map f (enumerate_from n ys)) is) ∙ left) here
+
+-- and of all, once none is left
+pub last_counted : {A : Type 0} (rest : List A) (n : ℕ) (before whole : List ℕ) (f : ℕ × A → List ℕ) → rest ≡ []
+    → before ++ flat_map f (enumerate_from n rest) ≡ whole → before ≡ whole
+last_counted rest n before whole f none left =
+    sym (append-nil before) ∙ sym (ap (λ ys. before ++ flat_map f (enumerate_from n ys)) none) ∙ left
 
 -- the parts of a live text, where the whole history is published
 pub live_written : (state : BookState) (lanes : List (List Spoken)) (none first second third last : List ℕ) (n m polygons links : ℕ) (entries : List Entry)

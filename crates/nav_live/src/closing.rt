@@ -28,12 +28,12 @@ pub(crate) fn finish<R: Wait, L: Ledger>(
     alloc: Global,
     book: &mut Book,
     eyes: &mut [Eye],
-    lanes: &[Items<(Line, Said)>],
+    lanes: Vec<Items<(Line, Said)>>,
     steps: &mut Steps<L>,
 ) -> Result<Vec<u8>, AllocError>
     requires pairs { All (λ (eye : EyeView). eye.pair ≡ book.old.pair) eyes.old }
-    requires few { length lanes.now < 2 ^ 32 }
-    ensures text { IfOk result (λ text. text.items ≡ live_text book.old.state.whole book.old.state.history lanes.now) }
+    requires few { length lanes.items < 2 ^ 32 }
+    ensures text { IfOk result (λ text. text.items ≡ live_text book.old.state.whole book.old.state.history lanes.items) }
     // What each eye had seen or learnt of is a beginning of the whole history.
     ensures seen { OnOk result (All (λ (eye : EyeView). IsPrefix eye.seen book.old.state.history) eyes.old) }
     ensures most { HasRisenAtMost (tile_count book.old.state.whole.setting) steps.old steps.new }

@@ -173,7 +173,7 @@ fn end_run<R: Wait, L: Ledger>(
     } = left;
     let LiveBook { mut book } = lock.close(passes);
     let text = match end {
-        Ok(()) => finish(rt, alloc, &mut book, &mut eyes, &spoken, steps),
+        Ok(()) => finish(rt, alloc, &mut book, &mut eyes, spoken, steps),
         Err(stop) => match stop {
             Stop::NoMemory => Err(AllocError),
             Stop::HistoryFull => unreachable!(),

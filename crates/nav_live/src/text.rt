@@ -16,15 +16,16 @@ use nav_script::Line;
 use std::alloc::{AllocError, Global};
 
 /// The live text of a book whose whole history is published, and of what the lines of its lanes were answered, the lanes in the order of
-/// their numbers: the history, then each lane, then the counts of the published mesh.
+/// their numbers: the history, then each lane, then the counts of the published mesh. What the lines of a lane were answered is given back once
+/// it is written.
 pub(crate) fn write_live(
     alloc: Global,
     book: &Book,
-    lanes: &[Items<(Line, Said)>],
+    lanes: Vec<Items<(Line, Said)>>,
 ) -> Result<Vec<u8>, AllocError>
     requires shown { book.now.state.published ≡ length book.now.state.history }
-    requires few { length lanes.now < 2 ^ 32 }
-    ensures { IfOk result (λ text. text.items ≡ live_text book.now.state.whole book.now.state.history lanes.now) }
+    requires few { length lanes.items < 2 ^ 32 }
+    ensures { IfOk result (λ text. text.items ≡ live_text book.now.state.whole book.now.state.history lanes.items) }
 {
     let mut text = Vec::new(alloc);
     write_history(&mut text, book.length())?;
@@ -47,12 +48,15 @@ fn write_entries(text: &mut Vec<u8>, entries: &[Entry]) -> Result<(), AllocError
 }
 
 /// Appends the lines of all lanes.
-fn write_lanes(text: &mut Vec<u8>, lanes: &[Items<(Line, Said)>]) -> Result<(), AllocError>
-    requires { length lanes.now < 2 ^ 32 }
-    ensures { OnOk result (text.new.items ≡ text.old.items ++ flat_map spoken_text (enumerate_from 0 lanes.now)) }
+fn write_lanes(text: &mut Vec<u8>, lanes: Vec<Items<(Line, Said)>>) -> Result<(), AllocError>
+    requires { length lanes.items < 2 ^ 32 }
+    ensures { OnOk result (text.new.items ≡ text.old.items ++ flat_map spoken_text (enumerate_from 0 lanes.items)) }
 {
-    for (i, spoken) in lanes.iter().enumerate() {
-        write_spoken(text, i as u32, spoken.as_slice())?;
+    let mut rest = lanes.into_iter();
+    let mut lane = 0;
+    while let Some(spoken) = rest.next() {
+        write_spoken(text, lane, spoken.as_slice())?;
+        lane += 1;
     }
     Ok(())
 }

@@ -14,7 +14,7 @@ catch_up-requires g c = subst (λ (pair : Book). All (λ (eye : EyeView). eye.pa
 pub returns-clause-text : goal.returns-clause-text
 returns-clause-text g c =
     subst (λ whole_text. IfOk c.write_live.result (λ text. text.items ≡ whole_text))
-    (λ i. live_text (c.in_ok-settle.ensures.whole i) (c.in_ok-settle.ensures.history i) c.args.lanes.now) c.write_live.ensures
+    (λ i. live_text (c.in_ok-settle.ensures.whole i) (c.in_ok-settle.ensures.history i) c.args.lanes.items) c.write_live.ensures
 
 pub returns-clause-seen : goal.returns-clause-seen
 returns-clause-seen g c =

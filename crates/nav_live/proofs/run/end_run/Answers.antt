@@ -1,4 +1,4 @@
-use Rattle.std.proofs.Common.{◌∙◌, ap, subst, sym, Vec}
+use Rattle.std.proofs.Common.{◌∙◌, ap, refl, subst, sym, Vec}
 use Rattle.std.specs.Prelude.{Err, IfOk, ℕ}
 use Rattle.nav_live.specs.LiveRecord.{LiveRecord}
 use Rattle.nav_live.proofs.FullLaws.{never_full}
@@ -22,9 +22,9 @@ returns-clause-text g c =
     elim c.match-end.branch [
       | in-Ok w ↦ subst (λ r. IfOk r (λ text. LiveRecord c.args.lock.root.level c.args.script.now text.items)) (sym w.text-is)
           (record_of (λ text. text.items) w.finish-text.result c.args.lock c.args.script.now c.args.left c.close-book.result.book w.deref_mut.result.now
-          w.deref.result.now (has_left c.args.end w.in-Ok.is c.requires.well)
+          c.args.left.spoken.items (has_left c.args.end w.in-Ok.is c.requires.well)
           (is_closed c.args.lock c.args.left.passes.items c.close-book.result.book.state.history c.close-book.ensures.legal
-          c.close-book.ensures.extends c.close-book.ensures.made) c.close-book.ensures.root w.deref_mut.ensures.value w.deref.ensures.value
+          c.close-book.ensures.extends c.close-book.ensures.made) c.close-book.ensures.root w.deref_mut.ensures.value refl
           w.finish-text.ensures.text w.finish-text.ensures.seen)
       | in-Err+in-NoMemory w ↦ subst (λ r. IfOk r (λ text. LiveRecord c.args.lock.root.level c.args.script.now text.items)) (sym w.text-is) tt
     ]

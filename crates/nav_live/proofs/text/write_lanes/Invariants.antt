@@ -1,8 +1,15 @@
-use Rattle.std.proofs.Common.{◌≡◌, ◌++◌, drop}
+use Rattle.std.proofs.Common.{◌≡◌, ◌+◌, ◌++◌, length}
 use Rattle.std.specs.List.{enumerate_from, flat_map}
+use Rattle.std.specs.Vec.Iter.{into_iter_items, into_iter_len}
 use Rattle.nav_live.specs.LiveRecord.{spoken_text}
 use Rattle.nav_live.proofs.text.write_lanes.Given as goal
 
--- what is written so far and the lines of the lanes left are the whole
-abbrev pub invariant-loop-i : goal.invariant-loop-i
-invariant-loop-i l = l.text.items ++ flat_map spoken_text (enumerate_from l.i (drop l.i l.lanes)) ≡ l.fn.text.items ++ flat_map spoken_text (enumerate_from 0 l.lanes)
+-- what is written so far and the lines of the lanes left are the whole; so many lanes were written
+abbrev pub invariant-loop-spoken : goal.invariant-loop-spoken
+invariant-loop-spoken l = record {
+  whole : l.text.items ++ flat_map spoken_text (enumerate_from l.lane (into_iter_items l.rest)) ≡ l.fn.text.items ++ flat_map spoken_text (enumerate_from 0 l.fn.lanes.items);
+  count : l.lane + length (into_iter_items l.rest) ≡ length l.fn.lanes.items;
+}
+
+abbrev pub decreases-loop-spoken : goal.decreases-loop-spoken
+decreases-loop-spoken l = into_iter_len l.rest

@@ -7,6 +7,6 @@ write_entries-requires c = omega (arith, ap length c.entries.ensures.entries, c.
 
 pub returns : goal.returns
 returns c =
-    live_written c.args.book.now.state c.args.lanes.now _ _ _ _ _ _ _ _ _ _ c.new-text.ensures.items c.requires.shown c.length.ensures c.length-2.ensures c.entries.ensures.entries
+    live_written c.args.book.now.state c.args.lanes.items _ _ _ _ _ _ _ _ _ _ c.new-text.ensures.items c.requires.shown c.length.ensures c.length-2.ensures c.entries.ensures.entries
     c.mesh_counts-polygons.ensures.polygons c.mesh_counts-polygons.ensures.links c.in_ok-write_history.ensures.ok c.in_ok-write_entries.ensures
     c.in_ok-write_lanes.ensures c.in_ok-write_final.ensures.ok
