@@ -15,7 +15,8 @@ use Rattle.nav_run.specs.Courses.{HasRun}
 use Rattle.nav_run.specs.Endings.{HasEnded}
 use Rattle.nav_run.specs.Inputs.{IsInputFor, IsRunText, input_limit}
 use Rattle.nav_run.specs.Outcomes.{IsDue, HasTold, HasBroken, HasDone}
-use Rattle.nav_run.specs.Words.{IsForm, IsReadForm, IsWayForm, IsGen}
+use Rattle.nav_run.specs.Triangles.{HasToldMany}
+use Rattle.nav_run.specs.Words.{IsForm, IsReadForm, IsRasterForm, IsWayForm, IsGen, word_for}
 
 -- an input with a text of its run is in the grammar
 input_for : (way : Way) (bytes text : List ℕ) → IsRunText way bytes text → IsInputFor way bytes
@@ -44,13 +45,25 @@ same_input words way other input known form there same fits =
 
 -- one word is no form of three
 pub one_form : (words : List (String Global)) (Goal : Type 0) → IsReadForm words → IsGen words → Goal
-one_form [] Goal reads gen = absurd reads.form
+one_form [] Goal (inl runs) gen = absurd runs.form
+one_form [] Goal (inr raster) gen = absurd raster
 one_form (word ∷ []) Goal reads gen = absurd gen.form
-one_form (word ∷ other ∷ more) Goal reads gen = absurd reads.form
+one_form (word ∷ other ∷ more) Goal (inl runs) gen = absurd runs.form
+one_form (word ∷ other ∷ more) Goal (inr raster) gen = absurd raster
 
 -- the words ask for an input to be read, as they ask for a way to run one
 pub reads_for : (words : List (String Global)) (way : Way) → IsWayForm way words → IsReadForm words
-reads_for words way form = record { way = way; form = form }
+reads_for words way form = inl (record { way = way; form = form })
+
+-- the word `raster` is no other
+other_word : (way : Way) → codes "raster" ≡ word_for way → ⊥
+other_word Play same = let first : get_or (codes "raster") 0 0 ≡ get_or (codes "play") 0 0 = ap (λ xs. get_or xs 0 0) same in omega (arith, first)
+other_word Live same = let first : get_or (codes "raster") 0 0 ≡ get_or (codes "live") 0 0 = ap (λ xs. get_or xs 0 0) same in omega (arith, first)
+
+pub one_word : (words : List (String Global)) (way : Way) (Goal : Type 0) → IsWayForm way words → IsRasterForm words → Goal
+one_word [] way Goal runs raster = absurd runs
+one_word (word ∷ []) way Goal runs raster = absurd (other_word way (sym raster ∙ runs))
+one_word (word ∷ other ∷ more) way Goal runs raster = absurd runs
 
 -- a text that was read to its end within the limit is no longer
 pub not_more : (before after : Option (List ℕ)) (bytes : List ℕ) (Goal : Type 0) → GivesAll before after bytes → length bytes ≤ input_limit
@@ -86,6 +99,9 @@ module _ (words : List (String Global)) (before after : Option (List ℕ)) (read
   pub run_ok : (status : Status) → Run status → status ≡ statuses.Ok → HasDone words before after held_before held_after
   run_ok status run is = subst Run is run
 
+  pub run_too_many : (status : Status) → Run status → status ≡ statuses.TooManySpans → HasToldMany words before after held_before held_after
+  run_too_many status run is = subst Run is run
+
   pub run_bad_text : (status : Status) → Run status → status ≡ statuses.BadText → HasTold words before after held_before held_after
   run_bad_text status run is = subst Run is run
 
@@ -112,9 +128,14 @@ module _ (words : List (String Global)) (before after : Option (List ℕ)) (read
   pub run_no_form : (status : Status) → Run status → (¬ IsForm words) → (status ≡ statuses.Usage) ⊎ (status ≡ statuses.WriteFault)
   run_no_form statuses.Ok run none = absurd (none (elim run [
     | inl answered ↦ inl (reads_for words answered.due.way answered.due.form)
-    | inr summed ↦ inr (record { number = summed.due.number; size = summed.due.size; form = summed.due.form })
+    | inr (inl summed) ↦ inr (record { number = summed.due.number; size = summed.due.size; form = summed.due.form })
+    | inr (inr rastered) ↦ inl (inr rastered.due.read.form)
   ]))
-  run_no_form statuses.BadText run none = absurd (none (inl (reads_for words run.due.way run.due.form)))
+  run_no_form statuses.BadText run none = absurd (none (elim run [
+    | inl told ↦ inl (reads_for words told.due.way told.due.form)
+    | inr level ↦ inl (inr level.due.read.form)
+  ]))
+  run_no_form statuses.TooManySpans run none = absurd (none (inl (inr run.due.read.form)))
   run_no_form statuses.Usage run none = inl refl
   run_no_form statuses.ReadFault run none = absurd (none (inl run.0))
   run_no_form statuses.WriteFault run none = inr refl
@@ -127,9 +148,14 @@ module _ (words : List (String Global)) (before after : Option (List ℕ)) (read
       → (status ≡ statuses.TooLong) ⊎ (status ≡ statuses.OutOfMemory)
   run_more statuses.Ok run form more calm quiet = elim run [
     | inl answered ↦ not_more before after answered.due.input _ answered.due.read answered.due.short more
-    | inr summed ↦ one_form words _ form (record { number = summed.due.number; size = summed.due.size; form = summed.due.form })
+    | inr (inl summed) ↦ one_form words _ form (record { number = summed.due.number; size = summed.due.size; form = summed.due.form })
+    | inr (inr rastered) ↦ not_more before after rastered.due.input _ rastered.due.read.read rastered.due.read.short more
   ]
-  run_more statuses.BadText run form more calm quiet = not_more before after run.due.input _ run.due.read run.due.short more
+  run_more statuses.BadText run form more calm quiet = elim run [
+    | inl told ↦ not_more before after told.due.input _ told.due.read told.due.short more
+    | inr level ↦ not_more before after level.due.input _ level.due.read.read level.due.read.short more
+  ]
+  run_more statuses.TooManySpans run form more calm quiet = not_more before after run.due.input _ run.due.read.read run.due.read.short more
   run_more statuses.Usage run form more calm quiet = absurd (run.0 (inl form))
   run_more statuses.ReadFault run form more calm quiet = absurd (calm run.1)
   run_more statuses.WriteFault run form more calm quiet = absurd (quiet run.0)
@@ -140,7 +166,11 @@ module _ (words : List (String Global)) (before after : Option (List ℕ)) (read
   pub run_made : (status : Status) → Run status → IsGen words → (¬ Rose writes_before writes_after)
       → (status ≡ statuses.Ok) ⊎ (status ≡ statuses.OutOfMemory)
   run_made statuses.Ok run gen quiet = inl refl
-  run_made statuses.BadText run gen quiet = one_form words _ (reads_for words run.due.way run.due.form) gen
+  run_made statuses.BadText run gen quiet = elim run [
+    | inl told ↦ one_form words _ (reads_for words told.due.way told.due.form) gen
+    | inr level ↦ one_form words _ (inr level.due.read.form) gen
+  ]
+  run_made statuses.TooManySpans run gen quiet = one_form words _ (inr run.due.read.form) gen
   run_made statuses.Usage run gen quiet = absurd (run.0 (inr gen))
   run_made statuses.ReadFault run gen quiet = one_form words _ run.0 gen
   run_made statuses.WriteFault run gen quiet = absurd (quiet run.0)
@@ -156,9 +186,14 @@ pub run_complete : (words : List (String Global)) (before after : Option (List �
     → (status ≡ statuses.Ok) ⊎ (status ≡ statuses.OutOfMemory))
 run_complete words None after rb ra hb ha wb wa status run = tt
 run_complete words (Some input) after rb ra hb ha wb wa statuses.Ok run = λ way form fits short calm quiet. inl refl
-run_complete words (Some input) after rb ra hb ha wb wa statuses.BadText run = λ way form fits short calm quiet.
-    let same = GivesAll-known (Some input) after run.due.input run.due.read in
-    absurd (run.no_input (same_input words way run.due.way input run.due.input form run.due.form (sym same) fits))
+run_complete words (Some input) after rb ra hb ha wb wa statuses.BadText run = λ way form fits short calm quiet. elim run [
+  | inl told ↦
+      let same = GivesAll-known (Some input) after told.due.input told.due.read in
+      absurd (told.no_input (same_input words way told.due.way input told.due.input form told.due.form (sym same) fits))
+  | inr level ↦ one_word words way _ form level.due.read.form
+]
+run_complete words (Some input) after rb ra hb ha wb wa statuses.TooManySpans run = λ way form fits short calm quiet.
+    one_word words way _ form run.due.read.form
 run_complete words (Some input) after rb ra hb ha wb wa statuses.Usage run = λ way form fits short calm quiet.
     absurd (run.0 (inl (reads_for words way form)))
 run_complete words (Some input) after rb ra hb ha wb wa statuses.ReadFault run = λ way form fits short calm quiet. absurd (calm run.1)
@@ -179,9 +214,12 @@ run_wrong words (Some input) after rb ra hb ha wb wa statuses.Ok run = λ way fo
       let due = answered.due in
       absurd (no_input (same_input words due.way way due.input input due.form form (GivesAll-known (Some input) after due.input due.read)
       (input_for due.way due.input answered.text due.ran)))
-  | inr summed ↦
+  | inr (inl summed) ↦
       one_form words _ (reads_for words way form) (record { number = summed.due.number; size = summed.due.size; form = summed.due.form })
+  | inr (inr rastered) ↦ one_word words way _ form rastered.due.read.form
 ]
+run_wrong words (Some input) after rb ra hb ha wb wa statuses.TooManySpans run = λ way form no_input short calm quiet.
+    one_word words way _ form run.due.read.form
 run_wrong words (Some input) after rb ra hb ha wb wa statuses.BadText run = λ way form no_input short calm quiet. inl refl
 run_wrong words (Some input) after rb ra hb ha wb wa statuses.Usage run = λ way form no_input short calm quiet.
     absurd (run.0 (inl (reads_for words way form)))

@@ -3,3 +3,5 @@ pub mod AnswerLaws
 pub mod CourseLaws
 pub mod TopLaws
 pub mod MadeLaws
+pub mod RasterRuns
+pub mod TriangleLaws

@@ -70,8 +70,8 @@ unfolding fault_due
 refused_run way before after rb ra hb ha wb wa input bytes written text status gave short same as_text tells none ended words form =
     let I : List ℕ → Type 0 = λ xs. IsInputFor way xs in
     let due : IsFaultDue words before after written = fault_due words way before after input bytes written text form gave short same as_text tells in
-    wrote words before after rb ra hb ha wb wa written statuses.BadText status ended (inr (inr (inr (inr due))))
-    (λ there. record { text = written; due = due; no_input = λ fits. none (subst I (sym same) fits); written = there })
+    wrote words before after rb ra hb ha wb wa written statuses.BadText status ended (inr (inr (inr (inr (inl due)))))
+    (λ there. inl (record { text = written; due = due; no_input = λ fits. none (subst I (sym same) fits); written = there }))
 
 -- a run that read too many bytes
 pub long_run : (way : Way) (before after : Option (List ℕ)) (reads_before reads_after : ℕ) (held_before held_after : Option (List ℕ))
@@ -112,7 +112,7 @@ summed_run words before rb ra hb ha wb wa number size written text status form s
     let due : IsSummaryDue words before before written =
     record { number = number; size = size; form = form; unread = refl; summary = subst T (sym as_text) summary } in
     wrote words before before rb ra hb ha wb wa written statuses.Ok status ended (inr (inl due))
-    (λ there. inr (record { text = written; due = due; written = there }))
+    (λ there. inr (inl (record { text = written; due = due; written = there })))
 
 -- the words are a form, as they ask for a way to run an input; and as they ask for a made input
 pub is_read_form : (words : List (String Global)) (way : Way) → IsWayForm way words → IsForm words

@@ -8,6 +8,7 @@ use Rattle.nav_run.specs.declared.status.Status.{Status}
 use Rattle.nav_run.specs.declared.status.Status.TheVariants as statuses
 use Rattle.nav_run.specs.Inputs.{input_limit}
 use Rattle.nav_run.specs.Outcomes.{HasDone, HasTold, HasBroken}
+use Rattle.nav_run.specs.Triangles.{HasToldMany}
 use Rattle.nav_run.specs.Words.{IsForm, IsReadForm}
 
 -- what a run on these words has done, once it ended with this status
@@ -27,3 +28,5 @@ HasRun words before after reads_before reads_after held_before held_after writes
     IsReadForm words × TookMany before after (input_limit + 1) × Appends held_before held_after too_long_text
 HasRun words before after reads_before reads_after held_before held_after writes_before writes_after statuses.OutOfMemory =
     IsForm words × Keeps held_before held_after
+HasRun words before after reads_before reads_after held_before held_after writes_before writes_after statuses.TooManySpans =
+    HasToldMany words before after held_before held_after

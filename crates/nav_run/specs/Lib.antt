@@ -4,6 +4,7 @@ pub mod Inputs
 pub mod Readings
 pub mod Answers
 pub mod Made
+pub mod Triangles
 pub mod Outcomes
 pub mod Endings
 pub mod StepCounts

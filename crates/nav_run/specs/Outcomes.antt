@@ -8,6 +8,7 @@ use Rattle.nav_script.specs.declared.script.Way.{Way}
 use Rattle.nav_text.specs.declared.fault.TextFault.{TextFault}
 use Rattle.nav_run.specs.Inputs.{IsInputFor, IsRunText, IsFault, input_limit}
 use Rattle.nav_run.specs.Made.{IsMadeSummary}
+use Rattle.nav_run.specs.Triangles.{IsLevelDue, HasRastered, HasToldLevel}
 use Rattle.nav_run.specs.Words.{IsForm, IsGenForm, IsReadForm, IsWayForm}
 
 -- the words ask for an input to be run some way, the whole of it was read, and this text is one of it for that way: a play text for the word
@@ -40,13 +41,14 @@ pub record IsSummaryDue (words : List (String Global)) (before after : Option (L
   pub summary : IsMadeSummary number size text
 
 -- the text is what the run owed its sink: after words in no form the usage line, with nothing read; after the word `play` or `live` the line
--- that says that too many bytes were read, or a text or the fault of the whole input; after `gen NUMBER SIZE` the summary, with nothing read
+-- that says that too many bytes were read, or a text or the fault of the whole input; after the word `raster` that line, or the field of the whole
+-- input, its fault, or that it has too many spans; after `gen NUMBER SIZE` the summary, with nothing read
 abbrev pub IsDue : List (String Global) → Option (List ℕ) → Option (List ℕ) → List ℕ → Type 0
 IsDue words before after text =
     ((¬ IsForm words) × (after ≡ before) × (text ≡ usage_text))
     ⊎ (IsSummaryDue words before after text
     ⊎ ((IsReadForm words × TookMany before after (input_limit + 1) × (text ≡ too_long_text))
-    ⊎ (IsTextDue words before after text ⊎ IsFaultDue words before after text)))
+    ⊎ (IsTextDue words before after text ⊎ (IsFaultDue words before after text ⊎ IsLevelDue words before after text))))
 
 -- an input was run: all of its text was written, to the sink that held what it held
 pub record HasAnswered (words : List (String Global)) (before after held_before held_after : Option (List ℕ)) : Type 0 where
@@ -60,17 +62,24 @@ pub record HasSummed (words : List (String Global)) (before after held_before he
   pub due : IsSummaryDue words before after text
   pub written : Appends held_before held_after text
 
--- what the words ask for was written: a text of what was read, or the summary of a made input
+-- what the words ask for was written: a text of what was read, the summary of a made input, or the field of triangles
 abbrev pub HasDone : List (String Global) → (before after held_before held_after : Option (List ℕ)) → Type 0
 HasDone words before after held_before held_after =
-    HasAnswered words before after held_before held_after ⊎ HasSummed words before after held_before held_after
+    HasAnswered words before after held_before held_after
+    ⊎ (HasSummed words before after held_before held_after ⊎ HasRastered words before after held_before held_after)
 
 -- the line of the fault of what was read was written, and what was read is no input for the way to run it
-pub record HasTold (words : List (String Global)) (before after held_before held_after : Option (List ℕ)) : Type 0 where
+pub record HasToldInput (words : List (String Global)) (before after held_before held_after : Option (List ℕ)) : Type 0 where
   pub text : List ℕ
   pub due : IsFaultDue words before after text
   pub no_input : ¬ IsInputFor due.way due.input
   pub written : Appends held_before held_after text
+
+-- the line of the fault of what was read was written, and what was read is not what the words ask for: no input for the way to run it, or no
+-- triangle text
+abbrev pub HasTold : List (String Global) → (before after held_before held_after : Option (List ℕ)) → Type 0
+HasTold words before after held_before held_after =
+    HasToldInput words before after held_before held_after ⊎ HasToldLevel words before after held_before held_after
 
 -- a part of what was due was written, and not all of it
 pub record HasBroken (words : List (String Global)) (before after held_before held_after : Option (List ℕ)) : Type 0 where

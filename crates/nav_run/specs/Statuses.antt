@@ -12,3 +12,4 @@ status_number statuses.ReadFault = 3
 status_number statuses.WriteFault = 4
 status_number statuses.TooLong = 5
 status_number statuses.OutOfMemory = 6
+status_number statuses.TooManySpans = 7

@@ -5,7 +5,7 @@ use Rattle.nav_gen.specs.MadeField.{IsMadeSize}
 use Rattle.nav_script.specs.declared.script.Way.{Way}
 use Rattle.nav_script.specs.declared.script.Way.TheVariants.{Play, Live}
 use Rattle.nav_run.specs.declared.words.Form.{Form}
-use Rattle.nav_run.specs.declared.words.Form.TheVariants.{Read, Gen}
+use Rattle.nav_run.specs.declared.words.Form.TheVariants.{Read, Gen, Raster}
 
 -- the word that asks for an input to be read and run this way
 abbrev pub word_for : Way → List ℕ
@@ -18,10 +18,20 @@ IsWayForm way [] = ⊥
 IsWayForm way (word ∷ []) = string_bytes word ≡ word_for way
 IsWayForm way (word ∷ other ∷ more) = ⊥
 
--- the words ask for an input to be read: they are the form `play` or the form `live`
-pub record IsReadForm (words : List (String Global)) : Type 0 where
+-- the words ask for an input to be run: they are the form `play` or the form `live`
+pub record IsRunForm (words : List (String Global)) : Type 0 where
   pub way : Way
   pub form : IsWayForm way words
+
+-- the words are the form `raster`: its one word
+abbrev pub IsRasterForm : List (String Global) → Type 0
+IsRasterForm [] = ⊥
+IsRasterForm (word ∷ []) = string_bytes word ≡ codes "raster"
+IsRasterForm (word ∷ other ∷ more) = ⊥
+
+-- the words ask for an input to be read: they are the form `play`, the form `live` or the form `raster`
+abbrev pub IsReadForm : List (String Global) → Type 0
+IsReadForm words = IsRunForm words ⊎ IsRasterForm words
 
 -- two texts spell a number of 32 bits and a size that inputs are made in
 pub record AreMadeWords (number size : ℕ) (first second : List ℕ) : Type 0 where
@@ -53,16 +63,19 @@ IsForm words = IsReadForm words ⊎ IsGen words
 abbrev pub AskFor : List (String Global) → Option Form → Type 0
 AskFor words (Some (Read way)) = IsWayForm way words
 AskFor words (Some (Gen number size)) = IsGenForm number size words
+AskFor words (Some Raster) = IsRasterForm words
 AskFor words None = ¬ IsForm words
 
 -- what a text that is the one word asks for, or that it asks for nothing
 abbrev pub AskAlone : List ℕ → Option Form → Type 0
 AskAlone word (Some (Read way)) = word ≡ word_for way
 AskAlone word (Some (Gen number size)) = ⊥
-AskAlone word None = (way : Way) → ¬ (word ≡ word_for way)
+AskAlone word (Some Raster) = word ≡ codes "raster"
+AskAlone word None = ((way : Way) → ¬ (word ≡ word_for way)) × (¬ (word ≡ codes "raster"))
 
 -- what two texts behind `gen` ask for, or that they ask for nothing
 abbrev pub AskBehindGen : (first second : List ℕ) → Option Form → Type 0
 AskBehindGen first second (Some (Read way)) = ⊥
 AskBehindGen first second (Some (Gen number size)) = AreMadeWords number size first second
+AskBehindGen first second (Some Raster) = ⊥
 AskBehindGen first second None = (number size : ℕ) → ¬ AreMadeWords number size first second

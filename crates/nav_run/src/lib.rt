@@ -9,6 +9,7 @@ mod input;
 mod made;
 mod status;
 mod top;
+mod triangles;
 mod words;
 
 pub use input::{Input, InputRefusal, read_input};

@@ -20,10 +20,12 @@ pub enum Status {
     TooLong,
     /// Memory was refused. Nothing was written.
     OutOfMemory,
+    /// The triangles that were read give more than 2000000 spans. The line `fault too many spans` was written.
+    TooManySpans,
 }
 
 impl Status {
-    /// The number of the status, 0 to 6.
+    /// The number of the status, 0 to 7.
     pub fn number(self) -> u8
         ensures { result ≡ status_number self }
     {
@@ -35,6 +37,7 @@ impl Status {
             Status::WriteFault => 4,
             Status::TooLong => 5,
             Status::OutOfMemory => 6,
+            Status::TooManySpans => 7,
         }
     }
 }

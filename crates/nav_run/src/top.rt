@@ -8,7 +8,8 @@ ghost use Rattle.nav_record.specs.Texts.{usage_text, too_long_text};
 ghost use Rattle.nav_script.specs.declared.script.Way.{Way};
 ghost use Rattle.nav_run.specs.Inputs.{IsInputFor, input_limit};
 ghost use Rattle.nav_run.specs.Outcomes.{HasDone, HasTold, HasBroken};
-ghost use Rattle.nav_run.specs.Words.{IsForm, IsGen, IsReadForm, IsWayForm};
+ghost use Rattle.nav_run.specs.Words.{IsForm, IsGen, IsRasterForm, IsReadForm, IsWayForm};
+ghost use Rattle.nav_run.specs.Triangles.{IsLevel, HasFewSpans, HasTooManySpans, HasToldMany};
 ghost use Rattle.nav_run.specs.Endings.{HasEnded};
 ghost use Rattle.nav_run.specs.Courses.{HasRun};
 ghost use Rattle.nav_run.specs.StepCounts.{HasRunStepped};
@@ -16,6 +17,7 @@ ghost use Rattle.nav_run.specs.StepCounts.{HasRunStepped};
 use crate::answer::{Answer, answer_to};
 use crate::made::summarize;
 use crate::status::Status;
+use crate::triangles::{Rastered, answer_to_triangles};
 use crate::words::{Form, form_of};
 use nav_io::{FreeGate, Gate, ReadRefusal, Sink, Source, read_all, write_all};
 use nav_script::Way;
@@ -28,8 +30,8 @@ use std::thread::Threads;
 /// How many bytes an input may have.
 const MOST: usize = 67108864;
 
-/// Runs the program on the words behind its name, and writes one text to the sink: for `play` and `live` of the whole input that it reads from
-/// the source; for `gen NUMBER SIZE` of the input that these determine, with nothing read.
+/// Runs the program on the words behind its name, and writes one text to the sink: for `play`, `live` and `raster` of the whole input that it reads
+/// from the source; for `gen NUMBER SIZE` of the input that these determine, with nothing read.
 ///
 /// For the word `play` the text is a play text of the input: for each line of its script in order what the history and the published
 /// mesh answer, then how far the play came. What stands after a question is right in the mesh that is published then: the floors of the free
@@ -48,12 +50,16 @@ const MOST: usize = 67108864;
 /// before it. The last line counts the polygons and links of the mesh with the obstacles that all entries leave. `live` waits for its threads: that
 /// it returns is not promised.
 ///
+/// For the word `raster` the input is a triangle text, and the text written is the field text of its triangles: the header's bytes as they were
+/// read, a line for each span of the field, and `end`. The spans are exactly those of the clipped triangles: in each column the groups of what
+/// the triangles leave there. Where they are more than 2000000, the line `fault too many spans` is written.
+///
 /// For `gen` the made input is played as one that is read, and the text is the summary of that: what was made, how many bytes and lines the
 /// input has, how far the play came, how many path questions were answered in which way, what the paths cost together, and how large
 /// the last mesh is.
 ///
-/// The text is made whole before its first byte is written. Refusals go in the order Usage, ReadFault, TooLong, BadText;
-/// WriteFault comes in place of any status whose text could not be written, and OutOfMemory only before the first write.
+/// The text is made whole before its first byte is written. Refusals go in the order Usage, ReadFault, TooLong, BadText,
+/// TooManySpans; WriteFault comes in place of any status whose text could not be written, and OutOfMemory only before the first write.
 pub fn navd<R: Threads + Wait + Sync, S: Source, K: Sink, G: Gate + Sync, L: Ledger>(
     rt: &R,
     alloc: Global,
@@ -77,6 +83,8 @@ pub fn navd<R: Threads + Wait + Sync, S: Source, K: Sink, G: Gate + Sync, L: Led
         × HasBroken words.now (S.left source.old) (S.left source.new) (K.held sink.old) (K.held sink.new) }
     ensures too_long { result ≡ Status.TooLong → IsReadForm words.now
         × TookMany (S.left source.old) (S.left source.new) (input_limit + 1) × Appends (K.held sink.old) (K.held sink.new) too_long_text }
+    ensures too_many { result ≡ Status.TooManySpans
+        → HasToldMany words.now (S.left source.old) (S.left source.new) (K.held sink.old) (K.held sink.new) }
     ensures no_memory { result ≡ Status.OutOfMemory → Keeps (K.held sink.old) (K.held sink.new) }
 
     // What comes where nothing fails but memory.
@@ -92,6 +100,15 @@ pub fn navd<R: Threads + Wait + Sync, S: Source, K: Sink, G: Gate + Sync, L: Led
         → (¬ IsInputFor way input) → length input ≤ input_limit
         → (¬ Rose (S.faults source.old) (S.faults source.new)) → (¬ Rose (K.faults sink.old) (K.faults sink.new))
         → (result ≡ Status.BadText) ⊎ (result ≡ Status.OutOfMemory)) }
+    ensures raster_complete { IfSome (S.left source.old) (λ input. IsRasterForm words.now → HasFewSpans input → length input ≤ input_limit
+        → (¬ Rose (S.faults source.old) (S.faults source.new)) → (¬ Rose (K.faults sink.old) (K.faults sink.new))
+        → (result ≡ Status.Ok) ⊎ (result ≡ Status.OutOfMemory)) }
+    ensures raster_wrong { IfSome (S.left source.old) (λ input. IsRasterForm words.now → (¬ IsLevel input) → length input ≤ input_limit
+        → (¬ Rose (S.faults source.old) (S.faults source.new)) → (¬ Rose (K.faults sink.old) (K.faults sink.new))
+        → (result ≡ Status.BadText) ⊎ (result ≡ Status.OutOfMemory)) }
+    ensures raster_many { IfSome (S.left source.old) (λ input. IsRasterForm words.now → HasTooManySpans input → length input ≤ input_limit
+        → (¬ Rose (S.faults source.old) (S.faults source.new)) → (¬ Rose (K.faults sink.old) (K.faults sink.new))
+        → (result ≡ Status.TooManySpans) ⊎ (result ≡ Status.OutOfMemory)) }
     ensures made { IsGen words.now → (¬ Rose (K.faults sink.old) (K.faults sink.new))
         → (result ≡ Status.Ok) ⊎ (result ≡ Status.OutOfMemory) }
 
@@ -124,6 +141,7 @@ fn respond<R: Threads + Wait + Sync, S: Source, K: Sink, G: Gate + Sync, L: Ledg
 {
     match form_of(words) {
         Some(Form::Read { way }) => respond_to_input(rt, alloc, way, source, sink, gate, steps),
+        Some(Form::Raster) => respond_to_triangles(alloc, source, sink),
         Some(Form::Gen { number, size }) => match summarize(rt, alloc, number, size, steps) {
             Ok(text) => finish(sink, text.as_slice(), Status::Ok),
             Err(_) => Status::OutOfMemory,
@@ -159,6 +177,27 @@ fn respond_to_input<R: Threads + Wait + Sync, S: Source, K: Sink, G: Gate + Sync
         Answer::Text(text) => finish(sink, text.as_slice(), Status::Ok),
         Answer::Fault(text) => finish(sink, text.as_slice(), Status::BadText),
         Answer::OutOfMemory => Status::OutOfMemory,
+    }
+}
+
+/// Reads the whole input from the source, and answers it with the text of the field of its triangles.
+fn respond_to_triangles<S: Source, K: Sink>(alloc: Global, source: &mut S, sink: &mut K) -> Status
+    ensures run { (words : List (String Global)) → IsRasterForm words
+        → HasRun words (S.left source.old) (S.left source.new) (S.faults source.old) (S.faults source.new)
+        (K.held sink.old) (K.held sink.new) (K.faults sink.old) (K.faults sink.new) result }
+    ensures took { TookAtMost (S.left source.old) (S.left source.new) (input_limit + 1) }
+{
+    let input = match read_all(alloc, source, MOST) {
+        Ok(input) => input,
+        Err(ReadRefusal::ReadFault) => return Status::ReadFault,
+        Err(ReadRefusal::TooLong) => return finish(sink, b"fault too long\n", Status::TooLong),
+        Err(ReadRefusal::OutOfMemory) => return Status::OutOfMemory,
+    };
+    match answer_to_triangles(alloc, input.as_slice()) {
+        Rastered::Text(text) => finish(sink, text.as_slice(), Status::Ok),
+        Rastered::Fault(text) => finish(sink, text.as_slice(), Status::BadText),
+        Rastered::TooManySpans => finish(sink, b"fault too many spans\n", Status::TooManySpans),
+        Rastered::OutOfMemory => Status::OutOfMemory,
     }
 }
 
@@ -199,6 +238,8 @@ pub fn run<R: Threads + Wait + Sync, S: Source, K: Sink, L: Ledger>(
         × HasBroken words.now (S.left source.old) (S.left source.new) (K.held sink.old) (K.held sink.new) }
     ensures too_long { result ≡ Status.TooLong → IsReadForm words.now
         × TookMany (S.left source.old) (S.left source.new) (input_limit + 1) × Appends (K.held sink.old) (K.held sink.new) too_long_text }
+    ensures too_many { result ≡ Status.TooManySpans
+        → HasToldMany words.now (S.left source.old) (S.left source.new) (K.held sink.old) (K.held sink.new) }
     ensures no_memory { result ≡ Status.OutOfMemory → Keeps (K.held sink.old) (K.held sink.new) }
 
     // What comes where nothing fails but memory.
@@ -214,6 +255,15 @@ pub fn run<R: Threads + Wait + Sync, S: Source, K: Sink, L: Ledger>(
         → (¬ IsInputFor way input) → length input ≤ input_limit
         → (¬ Rose (S.faults source.old) (S.faults source.new)) → (¬ Rose (K.faults sink.old) (K.faults sink.new))
         → (result ≡ Status.BadText) ⊎ (result ≡ Status.OutOfMemory)) }
+    ensures raster_complete { IfSome (S.left source.old) (λ input. IsRasterForm words.now → HasFewSpans input → length input ≤ input_limit
+        → (¬ Rose (S.faults source.old) (S.faults source.new)) → (¬ Rose (K.faults sink.old) (K.faults sink.new))
+        → (result ≡ Status.Ok) ⊎ (result ≡ Status.OutOfMemory)) }
+    ensures raster_wrong { IfSome (S.left source.old) (λ input. IsRasterForm words.now → (¬ IsLevel input) → length input ≤ input_limit
+        → (¬ Rose (S.faults source.old) (S.faults source.new)) → (¬ Rose (K.faults sink.old) (K.faults sink.new))
+        → (result ≡ Status.BadText) ⊎ (result ≡ Status.OutOfMemory)) }
+    ensures raster_many { IfSome (S.left source.old) (λ input. IsRasterForm words.now → HasTooManySpans input → length input ≤ input_limit
+        → (¬ Rose (S.faults source.old) (S.faults source.new)) → (¬ Rose (K.faults sink.old) (K.faults sink.new))
+        → (result ≡ Status.TooManySpans) ⊎ (result ≡ Status.OutOfMemory)) }
     ensures made { IsGen words.now → (¬ Rose (K.faults sink.old) (K.faults sink.new))
         → (result ≡ Status.Ok) ⊎ (result ≡ Status.OutOfMemory) }
 

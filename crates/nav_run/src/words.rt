@@ -12,6 +12,8 @@ pub(crate) enum Form {
     Read { way: Way },
     /// `gen NUMBER SIZE`: the play of a made input.
     Gen { number: u32, size: u32 },
+    /// `raster`: the field of triangles that are read.
+    Raster,
 }
 
 /// The form that the words are in, if they are in one.
@@ -25,13 +27,14 @@ pub(crate) fn form_of(words: &[String]) -> Option<Form>
     }
 }
 
-/// The form of the one word `play` or `live`.
+/// The form of the one word `play`, `live` or `raster`.
 fn read_form(word: &str) -> Option<Form>
     ensures { AskAlone word.now result }
 {
     match word {
         "play" => Some(Form::Read { way: Way::Play }),
         "live" => Some(Form::Read { way: Way::Live }),
+        "raster" => Some(Form::Raster),
         _ => None,
     }
 }

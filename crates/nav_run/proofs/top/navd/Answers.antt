@@ -1,4 +1,5 @@
-use Rattle.nav_run.proofs.CourseLaws.{run_ok, run_bad_text, run_usage, run_read_fault, run_write_fault, run_too_long, run_no_memory, run_no_form, run_more, run_complete, run_wrong, run_made}
+use Rattle.nav_run.proofs.RasterRuns.{run_raster, run_no_level, run_many}
+use Rattle.nav_run.proofs.CourseLaws.{run_too_many, run_ok, run_bad_text, run_usage, run_read_fault, run_write_fault, run_too_long, run_no_memory, run_no_form, run_more, run_complete, run_wrong, run_made}
 use Rattle.nav_run.proofs.top.navd.Goals as goal
 
 pub returns-clause-ok : goal.returns-clause-ok
@@ -45,3 +46,15 @@ returns-clause-unread g c = c.respond.ensures.unread
 
 pub returns-clause-steps : goal.returns-clause-steps
 returns-clause-steps g c = c.respond.ensures.steps
+
+pub returns-clause-too_many : goal.returns-clause-too_many
+returns-clause-too_many g c = run_too_many _ _ _ _ _ _ _ _ _ _ c.respond.ensures.run
+
+pub returns-clause-raster_complete : goal.returns-clause-raster_complete
+returns-clause-raster_complete g c = run_raster _ _ _ _ _ _ _ _ _ _ c.respond.ensures.run
+
+pub returns-clause-raster_wrong : goal.returns-clause-raster_wrong
+returns-clause-raster_wrong g c = run_no_level _ _ _ _ _ _ _ _ _ _ c.respond.ensures.run
+
+pub returns-clause-raster_many : goal.returns-clause-raster_many
+returns-clause-raster_many g c = run_many _ _ _ _ _ _ _ _ _ _ c.respond.ensures.run

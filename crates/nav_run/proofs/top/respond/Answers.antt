@@ -1,7 +1,8 @@
-use Rattle.std.proofs.Common.{refl, inl}
+use Rattle.std.proofs.Common.{refl, inl, inr}
 use Rattle.std.proofs.KnownBytes.{Keeps-refl}
 use Rattle.nav_run.proofs.CourseLaws.{reads_for}
 use Rattle.nav_run.proofs.TopLaws.{way_form_of, gen_form_of, is_gen_form, summed_run, formless_run, took_none, gen_stepped}
+use Rattle.nav_run.proofs.RasterRuns.{raster_form_of}
 use Rattle.nav_run.proofs.top.respond.Goals as goal
 
 pub returns-in-Some-Read-clause-run : goal.returns-in-Some-Read-clause-run
@@ -59,3 +60,17 @@ returns-in-None-clause-unread g c other = refl
 
 pub returns-in-None-clause-steps : goal.returns-in-None-clause-steps
 returns-in-None-clause-steps g c = inl refl
+
+pub returns-in-Some-Raster-clause-run : goal.returns-in-Some-Raster-clause-run
+returns-in-Some-Raster-clause-run g c =
+    c.respond_to_triangles.ensures.run _ (raster_form_of _ _ c.in-Some-Raster.ensures c.in-Some-Raster.field-0-is)
+
+pub returns-in-Some-Raster-clause-took : goal.returns-in-Some-Raster-clause-took
+returns-in-Some-Raster-clause-took g c = c.respond_to_triangles.ensures.took
+
+pub returns-in-Some-Raster-clause-unread : goal.returns-in-Some-Raster-clause-unread
+returns-in-Some-Raster-clause-unread g c other =
+    absurd (other (inr (raster_form_of _ _ c.in-Some-Raster.ensures c.in-Some-Raster.field-0-is)))
+
+pub returns-in-Some-Raster-clause-steps : goal.returns-in-Some-Raster-clause-steps
+returns-in-Some-Raster-clause-steps g c = inl refl

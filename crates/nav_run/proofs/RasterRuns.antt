@@ -1,0 +1,171 @@
+-- Runs on the word `raster`.
+use Rattle.std.proofs.Common.{◌≡◌, ℕ, ◌+◌, ◌≤◌, ◌⊎◌, List, length, subst, sym, refl, inl, inr}
+use Rattle.std.specs.Prelude.{Option, Some, None, IfSome, String}
+use Rattle.std.specs.declared.alloc.Global.{Global}
+use Rattle.nav_ground.specs.declared.setting.Setting.{Setting}
+use Rattle.nav_ground.specs.declared.field.Field.{Field}
+use Rattle.nav_io.specs.Causes.{Rose, GivesAll, TookMany}
+use Rattle.nav_io.proofs.Laws.{GivesAll-known}
+use Rattle.nav_record.specs.Texts.{too_long_text}
+use Rattle.tri_rows.specs.declared.triangle.Tri.{Tri}
+use Rattle.tri_rows.specs.Rasters.{IsRaster, HasManySpans}
+use Rattle.tri_raster.specs.TriText.{IsTriText}
+use Rattle.tri_raster.proofs.RasterLaws.{many_or_few}
+use Rattle.nav_run.specs.declared.status.Status.{Status}
+use Rattle.nav_run.specs.declared.status.Status.TheVariants as statuses
+use Rattle.nav_run.specs.declared.words.Form.{Form}
+use Rattle.nav_run.specs.declared.words.Form.TheVariants.{Raster}
+use Rattle.nav_run.specs.Courses.{HasRun}
+use Rattle.nav_run.specs.Endings.{HasEnded}
+use Rattle.nav_run.specs.Inputs.{input_limit}
+use Rattle.nav_run.specs.Triangles.{IsLevel, IsLevelOf, HasFewSpans, HasTooManySpans, IsRasterText, IsOverfull, TellsTriFault, too_many_text, HasReadLevel, IsFieldDue, IsTriFaultDue, IsManyDue}
+use Rattle.nav_run.specs.Words.{AskFor, IsReadForm, IsRasterForm}
+use Rattle.nav_run.proofs.CourseLaws.{wrote, one_form, one_word, too_many}
+
+-- the words are `raster`, as they ask for it
+pub raster_form_of : (words : List (String Global)) (form : Form) → AskFor words (Some form) → form ≡ Raster → IsRasterForm words
+raster_form_of words form asked is = let A : Form → Type 0 = λ f. AskFor words (Some f) in subst A is asked
+
+module _ (before after : Option (List ℕ)) (rb ra : ℕ) (hb ha : Option (List ℕ)) (wb wa : ℕ) (input bytes written text : List ℕ) (status : Status)
+    (gave : GivesAll before after input) (short : length input ≤ input_limit) (same : bytes ≡ input) (as_text : written ≡ text)
+    (words : List (String Global)) (form : IsRasterForm words) where
+  read : HasReadLevel words before after input
+  read = record { form = form; read = gave; short = short }
+
+  -- a run that was to write the field of what was read
+  pub rastered_run : IsRasterText bytes text → HasEnded hb ha wb wa written statuses.Ok status → HasRun words before after rb ra hb ha wb wa status
+  rastered_run raster ended =
+      let B : List ℕ → Type 0 = λ xs. IsRasterText xs text in
+      let due : IsFieldDue words before after written =
+      record { input = input; read = read; raster = subst (IsRasterText input) (sym as_text) (subst B same raster) } in
+      wrote words before after rb ra hb ha wb wa written statuses.Ok status ended (inr (inr (inr (inr (inr (inl due))))))
+      (λ there. inr (inr (record { text = written; due = due; written = there })))
+
+  -- a run that was to write the fault of what was read
+  pub told_run : TellsTriFault bytes text → HasEnded hb ha wb wa written statuses.BadText status → HasRun words before after rb ra hb ha wb wa status
+  told_run tells ended =
+      let B : List ℕ → Type 0 = λ xs. TellsTriFault xs text in
+      let due : IsTriFaultDue words before after written =
+      record { input = input; read = read; tells = subst (TellsTriFault input) (sym as_text) (subst B same tells) } in
+      wrote words before after rb ra hb ha wb wa written statuses.BadText status ended (inr (inr (inr (inr (inr (inr (inl due)))))))
+      (λ there. inr (record { text = written; due = due; written = there }))
+
+-- a run that was to tell of too many spans
+pub many_run : (before after : Option (List ℕ)) (rb ra : ℕ) (hb ha : Option (List ℕ)) (wb wa : ℕ) (input bytes : List ℕ) (status : Status)
+    → GivesAll before after input → length input ≤ input_limit → bytes ≡ input → IsOverfull bytes
+    → HasEnded hb ha wb wa too_many_text statuses.TooManySpans status → (words : List (String Global)) → IsRasterForm words
+    → HasRun words before after rb ra hb ha wb wa status
+many_run before after rb ra hb ha wb wa input bytes status gave short same over ended words form =
+    let read : HasReadLevel words before after input = record { form = form; read = gave; short = short } in
+    let due : IsManyDue words before after too_many_text = record { input = input; read = read; over = subst IsOverfull same over; told = refl } in
+    wrote words before after rb ra hb ha wb wa too_many_text statuses.TooManySpans status ended (inr (inr (inr (inr (inr (inr (inr due)))))))
+    (λ there. record { text = too_many_text; due = due; written = there })
+
+-- a run that read too many bytes
+pub long_level_run : (before after : Option (List ℕ)) (rb ra : ℕ) (hb ha : Option (List ℕ)) (wb wa : ℕ) (status : Status)
+    → TookMany before after (input_limit + 1) → HasEnded hb ha wb wa too_long_text statuses.TooLong status
+    → (words : List (String Global)) → IsRasterForm words → HasRun words before after rb ra hb ha wb wa status
+long_level_run before after rb ra hb ha wb wa status many ended words form =
+    let reads : IsReadForm words = inr form in
+    wrote words before after rb ra hb ha wb wa too_long_text statuses.TooLong status ended (inr (inr (inl (reads, many, refl)))) (λ there. (reads, many, there))
+
+-- what is read one way only has not both too many spans and few
+clash : (bytes : List ℕ) (setting other : Setting) (header count : ℕ) (tris others : List Tri) (field : Field) → IsLevelOf bytes setting header tris
+    → IsTriText bytes other count others → HasManySpans setting tris → IsRaster other others field → length field.spans ≤ 2000000 → ⊥
+clash bytes setting other header count tris others field level there many raster few =
+    let same = level.only other count others there in
+    let S : Setting → Type 0 = λ s. IsRaster s others field in
+    let T : List Tri → Type 0 = λ ts. IsRaster setting ts field in
+    many_or_few setting tris field many (subst T same.2 (subst S same.0 raster)) few
+
+clash_other : (bytes : List ℕ) (setting other : Setting) (header count : ℕ) (tris others : List Tri) (field : Field) → IsLevelOf bytes setting header tris
+    → IsTriText bytes other count others → IsRaster setting tris field → length field.spans ≤ 2000000 → HasManySpans other others → ⊥
+clash_other bytes setting other header count tris others field level there raster few many =
+    let same = level.only other count others there in
+    let S : Setting → Type 0 = λ s. HasManySpans s others in
+    let T : List Tri → Type 0 = λ ts. HasManySpans setting ts in
+    many_or_few setting tris field (subst T same.2 (subst S same.0 many)) raster few
+
+-- a triangle text with few spans
+pub run_raster : (words : List (String Global)) (before after : Option (List ℕ)) (rb ra : ℕ) (hb ha : Option (List ℕ)) (wb wa : ℕ) (status : Status)
+    → HasRun words before after rb ra hb ha wb wa status
+    → IfSome before (λ input. IsRasterForm words → HasFewSpans input → length input ≤ input_limit → (¬ Rose rb ra) → (¬ Rose wb wa)
+    → (status ≡ statuses.Ok) ⊎ (status ≡ statuses.OutOfMemory))
+run_raster words None after rb ra hb ha wb wa status run = tt
+run_raster words (Some input) after rb ra hb ha wb wa statuses.Ok run = λ form fits short calm quiet. inl refl
+run_raster words (Some input) after rb ra hb ha wb wa statuses.BadText run = λ form fits short calm quiet. elim run [
+  | inl told ↦ one_word words told.due.way _ told.due.form form
+  | inr level ↦
+      let same : level.due.input ≡ input = GivesAll-known (Some input) after level.due.input level.due.read.read in
+      let here : IsLevel input = record { setting = fits.setting; header = fits.header; tris = fits.tris; there = fits.there } in
+      absurd (level.due.tells.no_level (subst IsLevel (sym same) here))
+]
+run_raster words (Some input) after rb ra hb ha wb wa statuses.Usage run = λ form fits short calm quiet. absurd (run.0 (inl (inr form)))
+run_raster words (Some input) after rb ra hb ha wb wa statuses.ReadFault run = λ form fits short calm quiet. absurd (calm run.1)
+run_raster words (Some input) after rb ra hb ha wb wa statuses.WriteFault run = λ form fits short calm quiet. absurd (quiet run.0)
+run_raster words (Some input) after rb ra hb ha wb wa statuses.TooLong run = λ form fits short calm quiet. too_many input after _ run.1 short
+run_raster words (Some input) after rb ra hb ha wb wa statuses.OutOfMemory run = λ form fits short calm quiet. inr refl
+run_raster words (Some input) after rb ra hb ha wb wa statuses.TooManySpans run = λ form fits short calm quiet.
+    let over = run.due.over in
+    let same : run.due.input ≡ input = GivesAll-known (Some input) after run.due.input run.due.read.read in
+    let L : List ℕ → Type 0 = λ xs. IsLevelOf xs over.setting over.header over.tris in
+    absurd (clash input over.setting fits.setting over.header fits.header over.tris fits.tris fits.field (subst L same over.level) fits.there over.many
+    fits.raster fits.few)
+
+-- no triangle text
+pub run_no_level : (words : List (String Global)) (before after : Option (List ℕ)) (rb ra : ℕ) (hb ha : Option (List ℕ)) (wb wa : ℕ) (status : Status)
+    → HasRun words before after rb ra hb ha wb wa status
+    → IfSome before (λ input. IsRasterForm words → (¬ IsLevel input) → length input ≤ input_limit → (¬ Rose rb ra) → (¬ Rose wb wa)
+    → (status ≡ statuses.BadText) ⊎ (status ≡ statuses.OutOfMemory))
+run_no_level words None after rb ra hb ha wb wa status run = tt
+run_no_level words (Some input) after rb ra hb ha wb wa statuses.Ok run = λ form none short calm quiet. elim run [
+  | inl answered ↦ one_word words answered.due.way _ answered.due.form form
+  | inr (inl summed) ↦ one_form words _ (inr form) (record { number = summed.due.number; size = summed.due.size; form = summed.due.form })
+  | inr (inr rastered) ↦
+      let raster = rastered.due.raster in
+      let same : rastered.due.input ≡ input = GivesAll-known (Some input) after rastered.due.input rastered.due.read.read in
+      let here : IsLevel rastered.due.input =
+      record { setting = raster.setting; header = raster.header; tris = raster.tris; there = raster.level.there } in
+      absurd (none (subst IsLevel same here))
+]
+run_no_level words (Some input) after rb ra hb ha wb wa statuses.BadText run = λ form none short calm quiet. inl refl
+run_no_level words (Some input) after rb ra hb ha wb wa statuses.Usage run = λ form none short calm quiet. absurd (run.0 (inl (inr form)))
+run_no_level words (Some input) after rb ra hb ha wb wa statuses.ReadFault run = λ form none short calm quiet. absurd (calm run.1)
+run_no_level words (Some input) after rb ra hb ha wb wa statuses.WriteFault run = λ form none short calm quiet. absurd (quiet run.0)
+run_no_level words (Some input) after rb ra hb ha wb wa statuses.TooLong run = λ form none short calm quiet. too_many input after _ run.1 short
+run_no_level words (Some input) after rb ra hb ha wb wa statuses.OutOfMemory run = λ form none short calm quiet. inr refl
+run_no_level words (Some input) after rb ra hb ha wb wa statuses.TooManySpans run = λ form none short calm quiet.
+    let over = run.due.over in
+    let same : run.due.input ≡ input = GivesAll-known (Some input) after run.due.input run.due.read.read in
+    let here : IsLevel run.due.input = record { setting = over.setting; header = over.header; tris = over.tris; there = over.level.there } in
+    absurd (none (subst IsLevel same here))
+
+-- a triangle text with too many spans
+pub run_many : (words : List (String Global)) (before after : Option (List ℕ)) (rb ra : ℕ) (hb ha : Option (List ℕ)) (wb wa : ℕ) (status : Status)
+    → HasRun words before after rb ra hb ha wb wa status
+    → IfSome before (λ input. IsRasterForm words → HasTooManySpans input → length input ≤ input_limit → (¬ Rose rb ra) → (¬ Rose wb wa)
+    → (status ≡ statuses.TooManySpans) ⊎ (status ≡ statuses.OutOfMemory))
+run_many words None after rb ra hb ha wb wa status run = tt
+run_many words (Some input) after rb ra hb ha wb wa statuses.Ok run = λ form over short calm quiet. elim run [
+  | inl answered ↦ one_word words answered.due.way _ answered.due.form form
+  | inr (inl summed) ↦ one_form words _ (inr form) (record { number = summed.due.number; size = summed.due.size; form = summed.due.form })
+  | inr (inr rastered) ↦
+      let raster = rastered.due.raster in
+      let same : rastered.due.input ≡ input = GivesAll-known (Some input) after rastered.due.input rastered.due.read.read in
+      let L : List ℕ → Type 0 = λ xs. IsLevelOf xs raster.setting raster.header raster.tris in
+      absurd (clash_other input raster.setting over.setting raster.header over.header raster.tris over.tris raster.field (subst L same raster.level) over.there
+      raster.raster raster.few over.many)
+]
+run_many words (Some input) after rb ra hb ha wb wa statuses.BadText run = λ form over short calm quiet. elim run [
+  | inl told ↦ one_word words told.due.way _ told.due.form form
+  | inr level ↦
+      let same : level.due.input ≡ input = GivesAll-known (Some input) after level.due.input level.due.read.read in
+      let here : IsLevel input = record { setting = over.setting; header = over.header; tris = over.tris; there = over.there } in
+      absurd (level.due.tells.no_level (subst IsLevel (sym same) here))
+]
+run_many words (Some input) after rb ra hb ha wb wa statuses.Usage run = λ form over short calm quiet. absurd (run.0 (inl (inr form)))
+run_many words (Some input) after rb ra hb ha wb wa statuses.ReadFault run = λ form over short calm quiet. absurd (calm run.1)
+run_many words (Some input) after rb ra hb ha wb wa statuses.WriteFault run = λ form over short calm quiet. absurd (quiet run.0)
+run_many words (Some input) after rb ra hb ha wb wa statuses.TooLong run = λ form over short calm quiet. too_many input after _ run.1 short
+run_many words (Some input) after rb ra hb ha wb wa statuses.OutOfMemory run = λ form over short calm quiet. inr refl
+run_many words (Some input) after rb ra hb ha wb wa statuses.TooManySpans run = λ form over short calm quiet. inl refl

@@ -1,0 +1,118 @@
+-- The answer to a triangle text, and that the text of its field is a field text.
+use Rattle.std.proofs.Common.{◌≡◌, ℕ, ◌+◌, ◌<◌, ◌≤◌, List, get_or, [], ◌∷◌, ◌++◌, length, map, take, ap, subst, sym, ◌∙◌, refl, arith}
+use Rattle.std.specs.Prelude.{codes, Result, Ok, Err}
+use Rattle.std.proofs.lemmas.List.{take_at, take_all, append_assoc, length-append, flat_map_more, map_more}
+use Rattle.nav_ground.specs.declared.setting.Setting.{Setting}
+use Rattle.nav_ground.specs.declared.field.Span.{Span}
+use Rattle.nav_ground.specs.Fields.{IsField}
+use Rattle.nav_text.specs.declared.fault.TextFault.{TextFault}
+use Rattle.nav_text.specs.Lines.{text_of, ended}
+use Rattle.span_text.specs.FieldText.{IsHeaderText, IsFieldText, field_lines, all_header_lines, span_text}
+use Rattle.span_text.specs.declared.field.FieldRefusal.{FieldRefusal}
+use Rattle.span_text.specs.declared.field.FieldRefusal.TheVariants as refusals
+use Rattle.tri_rows.specs.declared.triangle.Tri.{Tri}
+use Rattle.tri_raster.specs.declared.text.TriText.{TriText}
+use Rattle.tri_raster.specs.TriText.{IsTriText}
+use Rattle.tri_raster.specs.TriFormat.{Gives, IsTextFault}
+use Rattle.tri_raster.proofs.RasterLaws.{raster_field}
+use Rattle.nav_run.specs.declared.triangles.Rastered.{Rastered}
+use Rattle.nav_run.specs.declared.triangles.Rastered.TheVariants.{Text, Fault, TooManySpans, OutOfMemory}
+use Rattle.nav_run.specs.Triangles.{IsLevel, IsLevelOf, IsTriLineOf, IsRastered, IsRasterText, field_text}
+
+-- what is read is read one way only
+pub read_alone : (bytes : List ℕ) (result : Result TriText FieldRefusal) (text : TriText)
+    → ((other : Setting) (count : ℕ) (others : List Tri) → IsTriText bytes other count others → Gives other count others result)
+    → result ≡ Ok text → IsTriText bytes text.setting text.header text.tris → IsLevelOf bytes text.setting text.header text.tris
+read_alone bytes result text only is there = record { there = there; only = alone }
+  where
+    alone : (other : Setting) (count : ℕ) (others : List Tri) → IsTriText bytes other count others
+        → (other ≡ text.setting) × (count ≡ text.header) × (others ≡ text.tris)
+    alone other count others known =
+        let G : Result TriText FieldRefusal → Type 0 = λ r. Gives other count others r in
+        let given : Gives other count others (Ok text) = subst G is (only other count others known) in
+        (sym given.0, sym given.1, sym given.2)
+
+-- the header is the front of the text
+pub header_within : (bytes : List ℕ) (setting : Setting) (header : ℕ) (tris : List Tri) → IsTriText bytes setting header tris → header ≤ length bytes
+header_within bytes setting header tris there =
+    omega (arith, there.used, ap (λ (xs : List ℕ). length xs) there.begins.parts, length-append there.front there.back)
+
+-- the lines of spans, one after the other
+
+abbrev pub no_span : Span
+no_span = record { x = 0; z = 0; bottom = 0; top = 0; area = 0 }
+
+pub spans_more : (header : List ℕ) (spans : List Span) (i : ℕ) (text new : List ℕ) → i < length spans
+    → text ≡ header ++ text_of (map span_text (take i spans)) → new ≡ text ++ ended (span_text (get_or spans i no_span))
+    → new ≡ header ++ text_of (map span_text (take (i + 1) spans))
+spans_more header spans i text new less so_far is =
+    is
+    ∙ ap (λ (xs : List ℕ). xs ++ ended (span_text (get_or spans i no_span))) so_far
+    ∙ flat_map_more ended header (map span_text (take i spans)) (span_text (get_or spans i no_span))
+    ∙ ap (λ (those : List (List ℕ)). header ++ text_of those) (sym (map_more span_text spans i no_span less))
+
+pub spans_all : (header : List ℕ) (spans : List Span) (i : ℕ) (text new : List ℕ) → length spans ≤ i
+    → text ≡ header ++ text_of (map span_text (take i spans)) → new ≡ text ++ ended (codes "end") → new ≡ field_text header spans
+spans_all header spans i text new end so_far is =
+    is
+    ∙ ap (λ (xs : List ℕ). xs ++ ended (codes "end")) (so_far ∙ ap (λ (some : List Span). header ++ text_of (map span_text some)) (take_all i spans end))
+    ∙ flat_map_more ended header (map span_text spans) (codes "end")
+
+-- the text of the field of triangles is a field text of their setting and that field, which keeps the rules of fields
+
+pub text_of_two : (xs ys : List (List ℕ)) → text_of (xs ++ ys) ≡ text_of xs ++ text_of ys
+text_of_two [] ys = refl
+text_of_two (x ∷ xs) ys = ap (λ (t : List ℕ). ended x ++ t) (text_of_two xs ys) ∙ sym (append_assoc (ended x) (text_of xs) (text_of ys))
+
+pub raster_text_reads : (bytes text : List ℕ) (raster : IsRasterText bytes text) → IsFieldText text raster.setting raster.field × IsField raster.field
+raster_text_reads bytes text raster = (
+  record {
+    costs = header.costs;
+    rise = header.rise;
+    table = header.table;
+    clear = header.clear;
+    width = raster.raster.width;
+    depth = raster.raster.depth;
+    spelled = raster.spelled ∙ ap (λ (front : List ℕ). field_text front spans) front ∙ whole;
+  },
+  raster_field raster.setting raster.tris raster.field there.begins.limits there.limits.each raster.raster raster.few,
+)
+  where
+    spans : List Span
+    spans = raster.field.spans
+
+    there : IsTriText bytes raster.setting raster.header raster.tris
+    there = raster.level.there
+
+    header : IsHeaderText there.front raster.setting
+    header = there.begins.spelled
+
+    those : List (List ℕ)
+    those = all_header_lines raster.setting header.costs
+
+    behind : List (List ℕ)
+    behind = map span_text spans ++ codes "end" ∷ []
+
+    front : take raster.header bytes ≡ text_of those
+    front = ap (λ (xs : List ℕ). take raster.header xs) there.begins.parts ∙ take_at there.front there.back raster.header (sym there.used) ∙ header.spelled
+
+    whole : text_of those ++ text_of behind ≡ text_of (field_lines raster.setting header.costs spans)
+    whole =
+        sym (text_of_two those behind)
+        ∙ ap (λ (all : List (List ℕ)). text_of all) (sym (append_assoc those (map span_text spans) (codes "end" ∷ [])))
+
+-- a line that tells a fault of bytes that are no triangle text is a right answer
+pub tri_line_right : (bytes : List ℕ) (fault : TextFault) (answer : Rastered) → IsTextFault bytes fault → (IsLevel bytes → ⊥) → IsTriLineOf fault answer
+    → IsRastered bytes answer
+tri_line_right bytes fault (Text text) wrong none told = absurd told
+tri_line_right bytes fault (Fault text) wrong none told = record { fault = fault; wrong = wrong; told = told; no_level = none }
+tri_line_right bytes fault TooManySpans wrong none told = absurd told
+tri_line_right bytes fault OutOfMemory wrong none told = tt
+
+-- a triangle text gives no fault
+pub no_tri_fault : (bytes : List ℕ) (result : Result TriText FieldRefusal) (fault : TextFault)
+    → ((other : Setting) (count : ℕ) (others : List Tri) → IsTriText bytes other count others → Gives other count others result)
+    → result ≡ Err (refusals.Fault fault) → IsLevel bytes → ⊥
+no_tri_fault bytes result fault only is level =
+    let G : Result TriText FieldRefusal → Type 0 = λ r. Gives level.setting level.header level.tris r in
+    subst G is (only level.setting level.header level.tris level.there)
