@@ -77,8 +77,8 @@ ends_more before ends made row i d to below so is more =
 -- the rows of the tests
 abbrev pub small_rows : List (List Pair)
 small_rows =
-    ((3, 9) ∷ (1, 4) ∷ []) ∷ ((3, 4) ∷ (1, 7) ∷ []) ∷ ((2, 0) ∷ (2, 3) ∷ []) ∷ ((4, 2) ∷ (4, 1) ∷ []) ∷ ((5, 0) ∷ (5, 6) ∷ []) ∷ ((6, 0) ∷ (5, 0) ∷ [])
-    ∷ ((4, 0) ∷ (6, 0) ∷ []) ∷ ((8, 5) ∷ (8, 9) ∷ []) ∷ ((7, 5) ∷ (0, 1) ∷ []) ∷ ((9, 0) ∷ (9, 0) ∷ []) ∷ []
+    ((3, 90) ∷ (1, 40) ∷ []) ∷ ((3, 40) ∷ (1, 70) ∷ []) ∷ ((2, 0) ∷ (2, 30) ∷ []) ∷ ((4, 20) ∷ (4, 10) ∷ []) ∷ ((5, 0) ∷ (5, 60) ∷ []) ∷ ((6, 0) ∷ (5, 0) ∷ [])
+    ∷ ((4, 0) ∷ (6, 0) ∷ []) ∷ ((8, 50) ∷ (8, 90) ∷ []) ∷ ((7, 50) ∷ (0, 10) ∷ []) ∷ ((9, 0) ∷ (9, 0) ∷ []) ∷ []
 
 pub small-searchable : IsSearchable ten_vertices (row_arcs small_rows) none_left 100
 small-searchable = rows-searchable small_rows refl

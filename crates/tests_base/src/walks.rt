@@ -83,17 +83,17 @@ fn push_row(row: &[(u32, u32)], ends: &mut Vec<Vertex>) -> Result<(), AllocError
 
 /// From 0 to 3 by two arcs, and by one that weighs more; two arcs from 3 to 4, of which the second weighs less; a ring of arcs of weight
 /// 0 through 4, 5 and 6; loops of weight 0 and of more; and vertices that no arc leads to, 2 and 9 with loops alone, 7 and 8 with an arc
-/// to 0.
+/// to 0. Costs lie below 64 and above, so that what waits is dealt out by two digits.
 static ROWS: [[(u32, u32); 2]; 10] = [
-    [(3, 9), (1, 4)],
-    [(3, 4), (1, 7)],
-    [(2, 0), (2, 3)],
-    [(4, 2), (4, 1)],
-    [(5, 0), (5, 6)],
+    [(3, 90), (1, 40)],
+    [(3, 40), (1, 70)],
+    [(2, 0), (2, 30)],
+    [(4, 20), (4, 10)],
+    [(5, 0), (5, 60)],
     [(6, 0), (5, 0)],
     [(4, 0), (6, 0)],
-    [(8, 5), (8, 9)],
-    [(7, 5), (0, 1)],
+    [(8, 50), (8, 90)],
+    [(7, 50), (0, 10)],
     [(9, 0), (9, 0)],
 ];
 
@@ -117,13 +117,13 @@ fn cheapest_cost(alloc: Global, from: u32, to: u32) -> Result<Option<u64>, Alloc
 /// Two places, and what a cheapest walk from the first to the second costs.
 static COSTS: [(u32, u32, Option<u64>); 11] = [
     (0, 0, Some(0)),
-    (0, 1, Some(4)),
-    (0, 3, Some(8)),
-    (0, 4, Some(9)),
-    (0, 6, Some(9)),
+    (0, 1, Some(40)),
+    (0, 3, Some(80)),
+    (0, 4, Some(90)),
+    (0, 6, Some(90)),
     (6, 5, Some(0)),
-    (7, 3, Some(14)),
-    (8, 6, Some(10)),
+    (7, 3, Some(140)),
+    (8, 6, Some(100)),
     (3, 0, None),
     (0, 7, None),
     (2, 4, None),
