@@ -4,20 +4,20 @@ use Rattle.std.specs.Prelude.{codes, Result, Ok, Err}
 use Rattle.std.proofs.lemmas.List.{take_at, take_all, append_assoc, length-append, flat_map_more, map_more}
 use Rattle.nav_ground.specs.declared.setting.Setting.{Setting}
 use Rattle.nav_ground.specs.declared.field.Span.{Span}
-use Rattle.nav_ground.specs.Fields.{IsField}
+use Rattle.nav_ground.specs.declared.field.Field.{Field}
 use Rattle.nav_text.specs.declared.fault.TextFault.{TextFault}
 use Rattle.nav_text.specs.Lines.{text_of, ended}
 use Rattle.span_text.specs.FieldText.{IsHeaderText, IsFieldText, field_lines, all_header_lines, span_text}
 use Rattle.span_text.specs.declared.field.FieldRefusal.{FieldRefusal}
 use Rattle.span_text.specs.declared.field.FieldRefusal.TheVariants as refusals
 use Rattle.tri_rows.specs.declared.triangle.Tri.{Tri}
+use Rattle.tri_rows.specs.Rasters.{IsRaster}
 use Rattle.tri_raster.specs.declared.text.TriText.{TriText}
 use Rattle.tri_raster.specs.TriText.{IsTriText}
 use Rattle.tri_raster.specs.TriFormat.{Gives, IsTextFault}
-use Rattle.tri_raster.proofs.RasterLaws.{raster_field}
 use Rattle.nav_run.specs.declared.triangles.Rastered.{Rastered}
 use Rattle.nav_run.specs.declared.triangles.Rastered.TheVariants.{Text, Fault, TooManySpans, OutOfMemory}
-use Rattle.nav_run.specs.Triangles.{IsLevel, IsLevelOf, IsTriLineOf, IsRastered, IsRasterText, field_text}
+use Rattle.nav_run.specs.Triangles.{IsLevel, IsLevelOf, IsTriLineOf, IsRastered, field_text}
 
 -- what is read is read one way only
 pub read_alone : (bytes : List ℕ) (result : Result TriText FieldRefusal) (text : TriText)
@@ -58,45 +58,41 @@ spans_all header spans i text new end so_far is =
     ∙ ap (λ (xs : List ℕ). xs ++ ended (codes "end")) (so_far ∙ ap (λ (some : List Span). header ++ text_of (map span_text some)) (take_all i spans end))
     ∙ flat_map_more ended header (map span_text spans) (codes "end")
 
--- the text of the field of triangles is a field text of their setting and that field, which keeps the rules of fields
+-- the text of the field of triangles is a field text of their setting and that field
 
 pub text_of_two : (xs ys : List (List ℕ)) → text_of (xs ++ ys) ≡ text_of xs ++ text_of ys
 text_of_two [] ys = refl
 text_of_two (x ∷ xs) ys = ap (λ (t : List ℕ). ended x ++ t) (text_of_two xs ys) ∙ sym (append_assoc (ended x) (text_of xs) (text_of ys))
 
-pub raster_text_reads : (bytes text : List ℕ) (raster : IsRasterText bytes text) → IsFieldText text raster.setting raster.field × IsField raster.field
-raster_text_reads bytes text raster = (
-  record {
-    costs = header.costs;
-    rise = header.rise;
-    table = header.table;
-    clear = header.clear;
-    width = raster.raster.width;
-    depth = raster.raster.depth;
-    spelled = raster.spelled ∙ ap (λ (front : List ℕ). field_text front spans) front ∙ whole;
-  },
-  raster_field raster.setting raster.tris raster.field there.begins.limits there.limits.each raster.raster raster.few,
-)
+pub raster_text_reads : (bytes text : List ℕ) (setting : Setting) (header : ℕ) (tris : List Tri) (field : Field) → IsTriText bytes setting header tris
+    → IsRaster setting tris field → text ≡ field_text (take header bytes) field.spans → IsFieldText text setting field
+raster_text_reads bytes text setting header tris field there raster spelled =
+    record {
+      costs = lines.costs;
+      rise = lines.rise;
+      table = lines.table;
+      clear = lines.clear;
+      width = raster.width;
+      depth = raster.depth;
+      spelled = spelled ∙ ap (λ (xs : List ℕ). field_text xs spans) front ∙ whole;
+    }
   where
     spans : List Span
-    spans = raster.field.spans
+    spans = field.spans
 
-    there : IsTriText bytes raster.setting raster.header raster.tris
-    there = raster.level.there
-
-    header : IsHeaderText there.front raster.setting
-    header = there.begins.spelled
+    lines : IsHeaderText there.front setting
+    lines = there.begins.spelled
 
     those : List (List ℕ)
-    those = all_header_lines raster.setting header.costs
+    those = all_header_lines setting lines.costs
 
     behind : List (List ℕ)
     behind = map span_text spans ++ codes "end" ∷ []
 
-    front : take raster.header bytes ≡ text_of those
-    front = ap (λ (xs : List ℕ). take raster.header xs) there.begins.parts ∙ take_at there.front there.back raster.header (sym there.used) ∙ header.spelled
+    front : take header bytes ≡ text_of those
+    front = ap (λ (xs : List ℕ). take header xs) there.begins.parts ∙ take_at there.front there.back header (sym there.used) ∙ lines.spelled
 
-    whole : text_of those ++ text_of behind ≡ text_of (field_lines raster.setting header.costs spans)
+    whole : text_of those ++ text_of behind ≡ text_of (field_lines setting lines.costs spans)
     whole =
         sym (text_of_two those behind)
         ∙ ap (λ (all : List (List ℕ)). text_of all) (sym (append_assoc those (map span_text spans) (codes "end" ∷ [])))

@@ -9,7 +9,7 @@ use Rattle.nav_io.specs.Causes.{GivesAll}
 use Rattle.nav_record.specs.Texts.{fault_text}
 use Rattle.nav_text.specs.declared.fault.TextFault.{TextFault}
 use Rattle.nav_text.specs.Lines.{text_of}
-use Rattle.span_text.specs.FieldText.{span_text}
+use Rattle.span_text.specs.FieldText.{IsFieldText, span_text}
 use Rattle.tri_rows.specs.declared.triangle.Tri.{Tri}
 use Rattle.tri_rows.specs.Rasters.{IsRaster, HasManySpans}
 use Rattle.tri_raster.specs.TriText.{IsTriText}
@@ -53,7 +53,8 @@ pub record HasTooManySpans (bytes : List ℕ) : Type 0 where
 abbrev pub field_text : List ℕ → List Span → List ℕ
 field_text header spans = header ++ text_of (map span_text spans ++ codes "end" ∷ [])
 
--- the text is that of the field of the triangles: the header's bytes as they were read, its spans, and `end`
+-- the text is that of the field of the triangles: the header's bytes as they were read, its spans, and `end`. It is a field text of their setting
+-- and that field
 pub record IsRasterText (bytes text : List ℕ) : Type 0 where
   pub setting : Setting
   pub header : ℕ
@@ -63,6 +64,7 @@ pub record IsRasterText (bytes text : List ℕ) : Type 0 where
   pub raster : IsRaster setting tris field
   pub few : length field.spans ≤ 2000000
   pub spelled : text ≡ field_text (take header bytes) field.spans
+  pub reads : IsFieldText text setting field
 
 -- the triangles give too many spans, whichever way the text is read, which is one
 pub record IsOverfull (bytes : List ℕ) : Type 0 where

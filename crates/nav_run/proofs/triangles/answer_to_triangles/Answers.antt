@@ -1,9 +1,9 @@
-use Rattle.std.proofs.Common.{List, Err, take, ap, subst, ◌∙◌}
+use Rattle.std.proofs.Common.{List, Err, take, ap, subst, ◌≡◌, ◌∙◌}
 use Rattle.nav_ground.specs.declared.field.Span.{Span}
 use Rattle.tri_rows.specs.declared.triangle.Tri.{Tri}
 use Rattle.tri_rows.specs.Rasters.{IsRaster, HasManySpans}
 use Rattle.nav_run.specs.Triangles.{field_text}
-use Rattle.nav_run.proofs.TriangleLaws.{read_alone, tri_line_right, no_tri_fault}
+use Rattle.nav_run.proofs.TriangleLaws.{read_alone, raster_text_reads, tri_line_right, no_tri_fault}
 use Rattle.nav_run.proofs.triangles.answer_to_triangles.Goals as goal
 
 pub returns-in-Err-Fault : goal.returns-in-Err-Fault
@@ -29,16 +29,19 @@ returns-in-Ok-spelled c =
     let text = c.in-Ok.text in
     let field = c.in-Ok-raster.field in
     let R : List Tri → Type 0 = λ tris. IsRaster text.setting tris field in
+    let raster : IsRaster text.setting text.tris field = subst R c.as_slice.ensures c.in-Ok-raster.ensures.field in
+    let spelled : c.in-Ok-spelled.text.items ≡ field_text (take text.header c.args.bytes.now) field.spans =
+    c.in-Ok-spelled.ensures
+    ∙ ap (λ xs. field_text xs c.as_slice-2.result.now) c.split_at.ensures.front
+    ∙ ap (λ (spans : List Span). field_text (take text.header c.args.bytes.now) spans) c.as_slice-2.ensures in
     record {
       setting = text.setting;
       header = text.header;
       tris = text.tris;
       level = read_alone c.args.bytes.now c.read_triangles.result text c.read_triangles.ensures.only c.in-Ok.is c.in-Ok.ensures.found;
       field = field;
-      raster = subst R c.as_slice.ensures c.in-Ok-raster.ensures.field;
+      raster = raster;
       few = c.in-Ok-raster.ensures.rules.few;
-      spelled =
-          c.in-Ok-spelled.ensures
-          ∙ ap (λ xs. field_text xs c.as_slice-2.result.now) c.split_at.ensures.front
-          ∙ ap (λ (spans : List Span). field_text (take text.header c.args.bytes.now) spans) c.as_slice-2.ensures;
+      spelled = spelled;
+      reads = raster_text_reads c.args.bytes.now c.in-Ok-spelled.text.items text.setting text.header text.tris field c.in-Ok.ensures.found raster spelled;
     }
