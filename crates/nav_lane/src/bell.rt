@@ -69,7 +69,7 @@ pub struct Bell {
     /// Rung where a tile may have come to be claimed: after an aim, a job that was given back and a build that came too late; and where a lane
     /// ends. Workers sleep on it.
     tiles: Signal,
-    /// Rung after each build that was handed in, and each job that was given back. Lanes sleep on it.
+    /// Rung after each build that was handed in, each job that was given back, and each end of a lane. Lanes sleep on it.
     builds: Signal,
     /// How many lanes have not begun.
     ahead: AtomicU64,
@@ -94,10 +94,12 @@ impl Bell {
         self.ahead.fetch_sub(1, Ordering::SeqCst);
     }
 
-    /// A lane ends, with all its lines or before.
+    /// A lane ends, with all its lines or before. Where it had aimed and ends before it could claim, a lane that waits for builds claims in its
+    /// place.
     pub(crate) fn end_lane(&self) {
         self.running.fetch_sub(1, Ordering::SeqCst);
         self.tiles.ring();
+        self.builds.ring();
     }
 
     /// A tile may have come to be claimed.
@@ -119,8 +121,8 @@ impl Bell {
         self.tiles.heard()
     }
 
-    /// A lane sleeps until a build was handed in or a job given back since it noted this. Another actor has claimed a tile then, and it is
-    /// running: so it comes.
+    /// A lane sleeps until a build was handed in, a job given back, or a lane ended since it noted this. Who has claimed the tile that is awaited
+    /// rings when it hands it in or gives it back; who has aimed at it and not claimed it yet goes on to claim it, or ends.
     pub(crate) fn wait_for_builds<R: Wait>(&self, rt: &R, heard: u64) {
         self.builds.wait(rt, heard);
     }

@@ -85,3 +85,4 @@ HasRun before after reads_before reads_after held_before held_after writes_befor
 HasRun before after reads_before reads_after held_before held_after writes_before writes_after statuses.TooLong =
     TookMany before after (input_limit + 1) × Appends held_before held_after too_long_text
 HasRun before after reads_before reads_after held_before held_after writes_before writes_after statuses.OutOfMemory = Keeps held_before held_after
+HasRun before after reads_before reads_after held_before held_after writes_before writes_after statuses.TooManySpans = ⊥
