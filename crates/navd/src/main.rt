@@ -46,6 +46,8 @@ mod test_lives;
 #[cfg(test)]
 mod test_plays;
 #[cfg(test)]
+mod test_rasters;
+#[cfg(test)]
 mod test_runs;
 #[cfg(test)]
 mod test_workers;
