@@ -1,12 +1,10 @@
 //! The spots that a triangle's part in a row of columns is spanned by.
-ghost use Rattle.std.specs.Prelude.{◌≡◌, ℕ, ◌+◌, ◌++◌, ◌<◌, ◌≤◌, map};
-ghost use Rattle.arrayvec.specs.ArrayVec.{array_vec_len};
+ghost use Rattle.std.specs.Prelude.{◌≡◌, ℕ, ◌+◌, ◌++◌, ◌<◌, ◌≤◌, map, take, length};
 ghost use Rattle.tri_rows.specs.Triangles.{IsTriangle, IsCorner};
 ghost use Rattle.tri_rows.specs.Spots.{IsSized, mark_of, spot_of, crossing, corner_spots, edge_spots, row_spots};
 
 use crate::spot::{Mark, Spot};
 use crate::triangle::{Corner3, Tri};
-use arrayvec::ArrayVec;
 
 /// The most spots of a row: three corners, and the crossings of three edges with two lines.
 pub const MOST: usize = 9;
@@ -43,13 +41,14 @@ fn crossing(from: Corner3, to: Corner3, line: u32) -> Spot
     }
 }
 
-/// Adds a corner that lies in row `z`, its border included.
-fn push_corner(marks: &mut ArrayVec<Mark, MOST>, corner: Corner3, z: u32)
-    requires room { array_vec_len marks.old < 9 }
+/// Puts a corner that lies in row `z`, its border included, behind the first `count` marks. Answers how many there are then.
+fn push_corner(marks: &mut [Mark], count: usize, corner: Corner3, z: u32) -> usize
+    requires room { count < length marks.old }
     requires corner { IsCorner corner }
     requires row { z < 1024 }
-    ensures items { marks.new.items ≡ marks.old.items ++ map mark_of (corner_spots corner z) }
-    ensures len { array_vec_len marks.new ≤ array_vec_len marks.old + 1 }
+    ensures items { take result marks.new ≡ take count marks.old ++ map mark_of (corner_spots corner z) }
+    ensures most { result ≤ count + 1 }
+    ensures room { length marks.new ≡ length marks.old }
 {
     if 16 * z <= corner.z && corner.z <= 16 * z + 16 {
         let spot = Spot {
@@ -57,40 +56,49 @@ fn push_corner(marks: &mut ArrayVec<Mark, MOST>, corner: Corner3, z: u32)
             x: corner.x,
             y: corner.y,
         };
-        marks.push(mark(spot));
+        marks[count] = mark(spot);
+        return count + 1;
     }
+    count
 }
 
-/// Adds the spot where an edge crosses a line, if its ends lie on both sides of it.
-fn push_edge(marks: &mut ArrayVec<Mark, MOST>, a: Corner3, b: Corner3, line: u32)
-    requires room { array_vec_len marks.old < 9 }
+/// Puts the spot where an edge crosses a line, if its ends lie on both sides of it, behind the first `count` marks. Answers how many there are then.
+fn push_edge(marks: &mut [Mark], count: usize, a: Corner3, b: Corner3, line: u32) -> usize
+    requires room { count < length marks.old }
     requires first { IsCorner a }
     requires second { IsCorner b }
-    ensures items { marks.new.items ≡ marks.old.items ++ map mark_of (edge_spots a b line) }
-    ensures len { array_vec_len marks.new ≤ array_vec_len marks.old + 1 }
+    ensures items { take result marks.new ≡ take count marks.old ++ map mark_of (edge_spots a b line) }
+    ensures most { result ≤ count + 1 }
+    ensures room { length marks.new ≡ length marks.old }
 {
     if a.z < line && line < b.z {
-        marks.push(mark(crossing(a, b, line)));
-    } else if b.z < line && line < a.z {
-        marks.push(mark(crossing(b, a, line)));
+        marks[count] = mark(crossing(a, b, line));
+        return count + 1;
     }
+    if b.z < line && line < a.z {
+        marks[count] = mark(crossing(b, a, line));
+        return count + 1;
+    }
+    count
 }
 
 /// The corners of a triangle in row `z`, and where its edges cross the row's two lines: what lies of the triangle in the row is spanned by these.
-pub fn row_marks(tri: &Tri, z: u32) -> ArrayVec<Mark, MOST>
+/// They become the first of `marks`; answers how many there are.
+pub fn row_marks(tri: &Tri, z: u32, marks: &mut [Mark]) -> usize
     requires triangle { IsTriangle tri.now }
     requires row { z < 1024 }
-    ensures { result.items ≡ map mark_of (row_spots tri.now z) }
+    requires room { 9 ≤ length marks.old }
+    ensures items { take result marks.new ≡ map mark_of (row_spots tri.now z) }
+    ensures room { result ≤ length marks.new }
 {
-    let mut marks = ArrayVec::new();
-    push_corner(&mut marks, tri.a, z);
-    push_corner(&mut marks, tri.b, z);
-    push_corner(&mut marks, tri.c, z);
-    push_edge(&mut marks, tri.a, tri.b, 16 * z);
-    push_edge(&mut marks, tri.b, tri.c, 16 * z);
-    push_edge(&mut marks, tri.c, tri.a, 16 * z);
-    push_edge(&mut marks, tri.a, tri.b, 16 * z + 16);
-    push_edge(&mut marks, tri.b, tri.c, 16 * z + 16);
-    push_edge(&mut marks, tri.c, tri.a, 16 * z + 16);
-    marks
+    let Tri { a, b, c, .. } = *tri;
+    let count = push_corner(marks, 0, a, z);
+    let count = push_corner(marks, count, b, z);
+    let count = push_corner(marks, count, c, z);
+    let count = push_edge(marks, count, a, b, 16 * z);
+    let count = push_edge(marks, count, b, c, 16 * z);
+    let count = push_edge(marks, count, c, a, 16 * z);
+    let count = push_edge(marks, count, a, b, 16 * z + 16);
+    let count = push_edge(marks, count, b, c, 16 * z + 16);
+    push_edge(marks, count, c, a, 16 * z + 16)
 }

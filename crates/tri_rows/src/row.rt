@@ -5,9 +5,9 @@ ghost use Rattle.tri_rows.specs.Rows.{MeetsRow, AreRowShadows, shadow_of, hits_o
 
 use crate::bound::{Bound, Hits};
 use crate::gather::{clear, gather};
-use crate::marks::row_marks;
+use crate::marks::{MOST, row_marks};
 use crate::shadow::Shadow;
-use crate::spot::Mark;
+use crate::spot::{Mark, NO_MARK};
 use crate::triangle::Tri;
 
 /// The shadow that a triangle leaves in a column with these bounds.
@@ -46,8 +46,9 @@ pub fn row_shadows(tri: &Tri, z: u32, bounds: &mut [Bound]) -> Hits
     ensures shadows { AreRowShadows tri.now z bounds.new result }
     ensures width { length bounds.new ≡ length bounds.old }
 {
-    let marks = row_marks(tri, z);
-    let marks = marks.as_slice();
+    let mut marks = [NO_MARK; MOST];
+    let count = row_marks(tri, z, &mut marks);
+    let marks = &marks[..count];
     let hits = hits(marks, bounds.len() as u32);
     clear(bounds, hits.first, hits.end);
     gather(bounds, marks);

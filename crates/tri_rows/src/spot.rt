@@ -1,7 +1,7 @@
 //! Points of a triangle, as whole numbers.
 
 /// A point of a triangle times a whole number.
-#[derive(Clone, Copy, Default)]
+#[derive(Clone, Copy)]
 pub struct Spot {
     /// The whole number, at least 1.
     pub n: u32,
@@ -12,7 +12,7 @@ pub struct Spot {
 }
 
 /// A spot, and the whole numbers that it lies between.
-#[derive(Clone, Copy, Default)]
+#[derive(Clone, Copy)]
 pub struct Mark {
     pub spot: Spot,
     /// The column that the spot lies in; where it lies on a line between two columns, the right one.
@@ -24,3 +24,12 @@ pub struct Mark {
     /// The least whole height that is not below it.
     pub high: u32,
 }
+
+/// What stands in a place that has no mark yet.
+pub const NO_MARK: Mark = Mark {
+    spot: Spot { n: 1, x: 0, y: 0 },
+    column: 0,
+    end: 0,
+    low: 0,
+    high: 0,
+};

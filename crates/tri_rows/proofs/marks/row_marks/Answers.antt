@@ -1,16 +1,15 @@
-use Rattle.std.proofs.Common.{◌*◌, ◌+◌, []}
+use Rattle.std.proofs.Common.{◌*◌, ◌+◌, [], refl}
 use Rattle.tri_rows.specs.Spots.{corner_spots, edge_spots, row_spots}
 use Rattle.tri_rows.proofs.Parts.{and_then}
 use Rattle.tri_rows.proofs.marks.row_marks.Goals as goal
 
--- src/marks.rt:80:1
-pub returns : goal.returns
+pub returns-clause-items : goal.returns-clause-items
 unfolding row_spots
-returns c =
+returns-clause-items c =
     let tri = c.args.tri.now in
     let z = c.args.z in
     and_then _ (edge_spots tri.c tri.a (16 * z + 16)) _ _ (and_then _ (edge_spots tri.b tri.c (16 * z + 16)) _ _ (and_then _ (edge_spots tri.a tri.b (16 * z + 16)) _ _
     (and_then _ (edge_spots tri.c tri.a (16 * z)) _ _ (and_then _ (edge_spots tri.b tri.c (16 * z)) _ _ (and_then _ (edge_spots tri.a tri.b (16 * z)) _ _
-    (and_then _ (corner_spots tri.c z) _ _ (and_then _ (corner_spots tri.b z) _ _ (and_then [] (corner_spots tri.a z) _ _ c.new-marks.ensures c.push_corner.ensures.items) c.push_corner-2.ensures.items)
-    c.push_corner-3.ensures.items) c.push_edge.ensures.items) c.push_edge-2.ensures.items) c.push_edge-3.ensures.items)
-    c.push_edge-4.ensures.items) c.push_edge-5.ensures.items) c.push_edge-6.ensures.items
+    (and_then _ (corner_spots tri.c z) _ _ (and_then _ (corner_spots tri.b z) _ _ (and_then [] (corner_spots tri.a z) _ _ refl c.push_corner-count.ensures.items) c.push_corner-count-2.ensures.items)
+    c.push_corner-count-3.ensures.items) c.push_edge-count.ensures.items) c.push_edge-count-2.ensures.items) c.push_edge-count-3.ensures.items)
+    c.push_edge-count-4.ensures.items) c.push_edge-count-5.ensures.items) c.push_edge.ensures.items

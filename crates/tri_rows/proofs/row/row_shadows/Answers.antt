@@ -10,7 +10,7 @@ use Rattle.tri_rows.proofs.row.row_shadows.Goals as goal
 
 -- src/row.rt:53:5
 pub gather-requires-clause-marks : goal.gather-requires-clause-marks
-gather-requires-clause-marks c = subst (All IsMark) (sym (c.as_slice-marks.ensures.value ∙ c.row_marks-marks.ensures)) (are_marks c.args.tri.now c.args.z c.requires.triangle)
+gather-requires-clause-marks c = subst (All IsMark) (sym (c.row_marks-count.ensures.items)) (are_marks c.args.tri.now c.args.z c.requires.triangle)
 
 -- src/row.rt:41:1
 pub returns-clause-shadows : goal.returns-clause-shadows
@@ -18,7 +18,7 @@ returns-clause-shadows c =
     let tri = c.args.tri.now in
     let z = c.args.z in
     let new = c.gather.new.bounds in
-    let marks = c.as_slice-marks.ensures.value ∙ c.row_marks-marks.ensures in
+    let marks = c.row_marks-count.ensures.items in
     let same = c.gather.ensures.wider.same ∙ c.clear.ensures.same in
     let hits = c.hits-hits.ensures ∙ ap (λ (ms : List Mark). hits_of ms (length c.args.bounds.now)) marks ∙ ap (hits_of (map mark_of (row_spots tri z))) (sym same) in
     subst (AreRowShadows tri z new) (sym hits)
