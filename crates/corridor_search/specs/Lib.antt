@@ -1,1 +1,2 @@
 pub mod MeshGraphs
+pub mod Islands

@@ -7,6 +7,7 @@ ghost use Rattle.mesh_types.specs.Corridors.{IsCheapest};
 ghost use Rattle.graph_search.specs.declared.arcs.Step.{Step};
 ghost use Rattle.corridor_search.specs.MeshGraphs.{IsThere, IsApart, IsOver, link_of};
 
+use crate::islands::is_cut_off;
 use crate::mesh_graph::{MeshGraph, link_at, vertex_at};
 use crate::weights::{extent_at, middle};
 use graph_search::{Step, cheapest_walk};
@@ -31,6 +32,9 @@ pub fn cheapest(
     ensures none { IfOk result (λ answer. IfNone answer (IsApart mesh.now from to)) }
     ensures few { IfOk result (λ answer. IfSome answer (λ corridor. corridor.cost < 2 ^ 45)) }
 {
+    if is_cut_off(alloc, mesh, from, to)? {
+        return Ok(None);
+    }
     let goal = middle(extent_at(mesh, to));
     let graph = MeshGraph { mesh, goal };
     match cheapest_walk(alloc, &graph, vertex_at(from), vertex_at(to))? {

@@ -5,6 +5,7 @@
 #![tactic(auto)]
 
 mod corridors;
+mod islands;
 mod mesh_graph;
 mod weights;
 

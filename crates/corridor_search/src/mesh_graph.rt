@@ -51,7 +51,7 @@ fn outer(mesh: &Mesh, at: PolyRef) -> &[Link]
 }
 
 /// The polygons that those links enter.
-fn entered_inside(mesh: &Mesh, at: PolyRef) -> &[PolyRef]
+pub(crate) fn entered_inside(mesh: &Mesh, at: PolyRef) -> &[PolyRef]
     ensures { result.now ≡ map entered_by (inner_links mesh.now at) }
 {
     match mesh.tiles.get(at.tile as usize) {
@@ -61,7 +61,7 @@ fn entered_inside(mesh: &Mesh, at: PolyRef) -> &[PolyRef]
 }
 
 /// The polygons that the links over the border enter.
-fn entered_outside(mesh: &Mesh, at: PolyRef) -> &[PolyRef]
+pub(crate) fn entered_outside(mesh: &Mesh, at: PolyRef) -> &[PolyRef]
     ensures { result.now ≡ map entered_by (outer_links mesh.now at) }
 {
     match mesh.cross.get(at.tile as usize) {
