@@ -23,7 +23,7 @@ pub(crate) fn is_cut_off(
     requires { IsSound mesh.now }
     ensures { IfOk result (λ apart. apart ≡ true → IsApart mesh.now from to) }
 {
-    let island = island_of(alloc, mesh, to)?;
+    let island = island_of(alloc, mesh, from, to)?;
     let island = island.as_slice();
     if island.len() > MOST || !has(island, to) || has(island, from) {
         return Ok(false);
@@ -31,13 +31,21 @@ pub(crate) fn is_cut_off(
     Ok(is_left_alone(mesh, island))
 }
 
-/// The polygons that links lead to from one; where they are many, some of them, more than `MOST`.
-fn island_of(alloc: Global, mesh: &Mesh, to: PolyRef) -> Result<Vec<PolyRef>, AllocError> {
+/// The polygons that links lead to from the goal, the nearest first; some of them where they are more than `MOST`, or where the start is met.
+fn island_of(
+    alloc: Global,
+    mesh: &Mesh,
+    from: PolyRef,
+    to: PolyRef,
+) -> Result<Vec<PolyRef>, AllocError> {
     let mut island = Vec::new(alloc);
     island.push(to)?;
     let mut place = 0;
     while place < MOST && place < island.len() && island.len() <= MOST {
         let at = island[place];
+        if at == from {
+            break;
+        }
         add(&mut island, entered_inside(mesh, at))?;
         add(&mut island, entered_outside(mesh, at))?;
         place += 1;
