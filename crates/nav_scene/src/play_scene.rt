@@ -1,11 +1,13 @@
 //! The scene at the end of a play.
 
-ghost use Rattle.std.specs.Prelude.{IfOk};
+ghost use Rattle.std.specs.Prelude.{◌≡◌, ◌+◌, IfOk, OnOk};
 ghost use Rattle.nav_ground.specs.Limits.{IsSetting};
 ghost use Rattle.nav_ground.specs.Fields.{IsField};
 ghost use Rattle.nav_ground.specs.Grounds.{IsBuiltFor, IsSized};
+ghost use Rattle.nav_play.specs.Work.{builds_of};
 ghost use Rattle.nav_script.specs.Limits.{IsScript};
 ghost use Rattle.nav_script.specs.declared.script.Way.TheVariants.{Play};
+ghost use Rattle.nav_steps.specs.Counts.{HasRisenAtMost};
 ghost use Rattle.nav_scene.specs.Scenes.{IsSceneText};
 
 use crate::shown::append_scene;
@@ -17,8 +19,8 @@ use std::alloc::{AllocError, Global};
 use std::sync::Wait;
 use std::sync::ledger::Ledger;
 
-/// Plays a script over a field, and writes its play text and, behind it, the scene of what its book shows after the last line. Only memory can
-/// be refused.
+/// Plays a script over a field, and writes its play text and, behind it, the scene of what its book shows after the last line. Steps are taken
+/// for the play alone. Only memory can be refused.
 pub fn scene<R: Wait, L: Ledger>(
     rt: &R,
     alloc: Global,
@@ -32,7 +34,9 @@ pub fn scene<R: Wait, L: Ledger>(
     requires sized { IsSized setting field }
     requires script { IsScript Play script.now }
     requires built { IsBuiltFor setting }
-    ensures { IfOk result (λ text. IsSceneText setting field script.now text.items) }
+    ensures text { IfOk result (λ text. IsSceneText setting field script.now text.items) }
+    ensures steps { OnOk result (steps.new ≡ steps.old + builds_of setting field script.now) }
+    ensures most { HasRisenAtMost (builds_of setting field script.now) steps.old steps.new }
 {
     let Played { book, text } = play_to_end(rt, alloc, setting, field, script, steps)?;
     let PlayText { bytes, totals: _ } = text;

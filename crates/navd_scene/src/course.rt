@@ -1,11 +1,14 @@
 //! The course of a run: what is read, what is due then, and how it ends.
 
-ghost use Rattle.std.specs.Prelude.{◌≡◌, ◌<◌, ◌≤◌, length, IfOk};
+ghost use Rattle.std.specs.Prelude.{◌≡◌, ◌+◌, ◌<◌, ◌≤◌, ◌⊎◌, length, IfOk, IfSome};
+ghost use Rattle.std.specs.Io.KnownBytes.{Appends, Keeps};
+ghost use Rattle.nav_io.specs.Causes.{Rose, TookMany, TookAtMost, HasMore};
+ghost use Rattle.nav_record.specs.Texts.{too_long_text};
 ghost use Rattle.nav_run.specs.Inputs.{IsInputFor, IsRunnable, input_limit};
 ghost use Rattle.nav_run.specs.Endings.{HasEnded};
 ghost use Rattle.nav_scene.specs.Scenes.{IsSceneText};
 ghost use Rattle.nav_script.specs.declared.script.Way.TheVariants.{Play};
-ghost use Rattle.navd_scene.specs.Drawn.{HasRun, IsLineOf, IsRight, IsSceneUnless};
+ghost use Rattle.navd_scene.specs.Drawn.{HasBroken, HasDrawn, HasRun, HasTold, IsLineOf, IsRight, IsSceneUnless};
 
 use nav_io::{ReadRefusal, Sink, Source, read_all, write_all};
 use nav_record::write_fault;
@@ -33,6 +36,9 @@ pub(crate) enum Due {
 
 /// Reads the whole input from the source, plays it, and writes its play text and the scene of the mesh that is published after the last line; or
 /// the line of its fault. The text is made whole before its first byte is written. It counts tiles with a counter of its own.
+///
+/// Refusals go in the order ReadFault, TooLong, BadText; WriteFault comes in place of any status whose text could not be written, and OutOfMemory
+/// only before the first write.
 pub(crate) fn run<R: Wait, S: Source, K: Sink, L: Ledger>(
     rt: &R,
     alloc: Global,
@@ -43,8 +49,50 @@ pub(crate) fn run<R: Wait, S: Source, K: Sink, L: Ledger>(
     requires name { blank.name ≡ L.name }
     requires parts { blank.parts ≡ L.parts }
     requires some { 0 < blank.parts }
-    ensures { HasRun (S.left source.old) (S.left source.new) (S.faults source.old) (S.faults source.new)
+    // The play text of what was read with the scene behind it, whole, to the sink that held what it held.
+    ensures ok { result ≡ Status.Ok → HasDrawn (S.left source.old) (S.left source.new) (K.held sink.old) (K.held sink.new) }
+
+    // Each refusal has its cause, and the sink holds what is due.
+    ensures bad_text { result ≡ Status.BadText → HasTold (S.left source.old) (S.left source.new) (K.held sink.old) (K.held sink.new) }
+    ensures usage { ¬ (result ≡ Status.Usage) }
+    ensures read_fault { result ≡ Status.ReadFault
+        → Rose (S.faults source.old) (S.faults source.new) × Keeps (K.held sink.old) (K.held sink.new) }
+    ensures write_fault { result ≡ Status.WriteFault → Rose (K.faults sink.old) (K.faults sink.new)
+        × HasBroken (S.left source.old) (S.left source.new) (K.held sink.old) (K.held sink.new) }
+    ensures too_long { result ≡ Status.TooLong
+        → TookMany (S.left source.old) (S.left source.new) (input_limit + 1) × Appends (K.held sink.old) (K.held sink.new) too_long_text }
+    ensures too_many { ¬ (result ≡ Status.TooManySpans) }
+    ensures no_memory { result ≡ Status.OutOfMemory → Keeps (K.held sink.old) (K.held sink.new) }
+
+    // What comes where nothing fails but memory.
+    ensures more { HasMore (S.left source.old) input_limit
+        → (¬ Rose (S.faults source.old) (S.faults source.new)) → (¬ Rose (K.faults sink.old) (K.faults sink.new))
+        → (result ≡ Status.TooLong) ⊎ (result ≡ Status.OutOfMemory) }
+    ensures complete { IfSome (S.left source.old) (λ input. IsInputFor Play input → length input ≤ input_limit
+        → (¬ Rose (S.faults source.old) (S.faults source.new)) → (¬ Rose (K.faults sink.old) (K.faults sink.new))
+        → (result ≡ Status.Ok) ⊎ (result ≡ Status.OutOfMemory)) }
+    ensures wrong { IfSome (S.left source.old) (λ input. (¬ IsInputFor Play input) → length input ≤ input_limit
+        → (¬ Rose (S.faults source.old) (S.faults source.new)) → (¬ Rose (K.faults sink.old) (K.faults sink.new))
+        → (result ≡ Status.BadText) ⊎ (result ≡ Status.OutOfMemory)) }
+
+    // At most the bytes of the longest input and one more are gone from the source.
+    ensures took { TookAtMost (S.left source.old) (S.left source.new) (input_limit + 1) }
+{
+    let mut steps = Steps::<L>::new(blank);
+    respond(rt, alloc, source, sink, &mut steps)
+}
+
+/// Reads the whole input, and writes what is due after it.
+fn respond<R: Wait, S: Source, K: Sink, L: Ledger>(
+    rt: &R,
+    alloc: Global,
+    source: &mut S,
+    sink: &mut K,
+    steps: &mut Steps<L>,
+) -> Status
+    ensures run { HasRun (S.left source.old) (S.left source.new) (S.faults source.old) (S.faults source.new)
         (K.held sink.old) (K.held sink.new) (K.faults sink.old) (K.faults sink.new) result }
+    ensures took { TookAtMost (S.left source.old) (S.left source.new) (input_limit + 1) }
 {
     let input = match read_all(alloc, source, MOST) {
         Ok(input) => input,
@@ -52,8 +100,7 @@ pub(crate) fn run<R: Wait, S: Source, K: Sink, L: Ledger>(
         Err(ReadRefusal::TooLong) => return finish(sink, b"fault too long\n", Status::TooLong),
         Err(ReadRefusal::OutOfMemory) => return Status::OutOfMemory,
     };
-    let mut steps = Steps::<L>::new(blank);
-    match due_for(rt, alloc, input.as_slice(), &mut steps) {
+    match due_for(rt, alloc, input.as_slice(), steps) {
         Due::Scene(text) => finish(sink, text.as_slice(), Status::Ok),
         Due::Fault(text) => finish(sink, text.as_slice(), Status::BadText),
         Due::OutOfMemory => Status::OutOfMemory,
