@@ -1,8 +1,31 @@
 -- Texts that are written part by part.
-use Rattle.std.proofs.Common.{◌≡◌, ℕ, ◌+◌, ◌<◌, ◌≤◌, List, ◌++◌, length, drop, get_or, ap, ◌∙◌, sym, append_assoc, append-nil, arith}
+use Rattle.std.proofs.Common.{◌≡◌, ℕ, ◌+◌, ◌<◌, ◌≤◌, List, [], ◌++◌, length, drop, get_or, ap, ◌∙◌, sym, append_assoc, append-nil, arith, Ok, Err}
+use Rattle.std.specs.Prelude.{Result, is_ok, if◌then◌else◌, vec_len}
+use Rattle.std.specs.declared.alloc.Global.{Global}
+use Rattle.std.specs.declared.vec.Vec.{Vec}
 use Rattle.std.specs.List.{enumerate_from, flat_map, range_with_len}
-use Rattle.std.proofs.lemmas.List.{at_drop_all, at_drop_more}
+use Rattle.std.proofs.lemmas.List.{at_drop_all, at_drop_more, take-append-drop}
 use Rattle.std.proofs.lemmas.List.FromFn.{get_or-range_with_len, length-range_with_len}
+use Rattle.nav_text.specs.Appends.{Appends}
+use Rattle.nav_scene.specs.Scenes.{StandsInFront}
+
+-- nothing is written
+pub stands_same : (before after : List ℕ) → after ≡ before → StandsInFront before after
+stands_same before after same = ([], same ∙ sym (append-nil before))
+
+-- what is written behind what is written
+pub stands_further : (a b c : List ℕ) → StandsInFront a b → StandsInFront b c → StandsInFront a c
+stands_further a b c (first, b_is) (second, c_is) = (first ++ second, c_is ∙ ap (λ xs. xs ++ second) b_is ∙ append_assoc a first second)
+
+-- what a call says that appends to a vector
+pub stands_told : {T E : Type 0} (old new : Vec ℕ Global) (result : Result T E) (text : List ℕ) → Appends old new result text → StandsInFront old.items new.items
+stands_told old new (Ok x) text appends = (text, appends.ok)
+stands_told old new (Err e) text appends =
+    (drop (vec_len old) new.items, sym (take-append-drop (vec_len old) new.items) ∙ ap (λ xs. xs ++ drop (vec_len old) new.items) appends.err)
+
+pub stands_grown : {T E : Type 0} (old new : List ℕ) (result : Result T E) (text : List ℕ) → new ≡ (if is_ok result then old ++ text else old) → StandsInFront old new
+stands_grown old new (Ok x) text items = (text, items)
+stands_grown old new (Err e) text items = stands_same old new items
 
 -- one part more is written, and the rest is left
 pub part_written : (before after part rest whole : List ℕ) → before ++ (part ++ rest) ≡ whole → after ≡ before ++ part → after ++ rest ≡ whole

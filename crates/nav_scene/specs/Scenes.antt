@@ -20,6 +20,10 @@ use Rattle.nav_record.specs.Texts.{entry_text, point_text}
 use Rattle.nav_script.specs.declared.script.Script.{Script}
 use Rattle.nav_text.specs.Forms.{line_text}
 
+-- the bytes from before still stand, and what was appended is behind them
+abbrev pub StandsInFront : List ℕ → List ℕ → Type 0
+StandsInFront before after = (rest : List ℕ) × (after ≡ before ++ rest)
+
 -- a line of a word and numbers
 abbrev pub line_of : List ℕ → List ℕ → List ℕ
 line_of word numbers = line_text word numbers ++ codes "\n"

@@ -3,7 +3,7 @@
 ghost use Rattle.std.specs.Prelude.{◌≡◌, ◌<◌, ◌^◌, ◌++◌, OnOk, length};
 ghost use Rattle.nav_ground.specs.Limits.{IsSetting};
 ghost use Rattle.nav_ground.specs.Tiling.{tile_count};
-ghost use Rattle.nav_scene.specs.Scenes.{entries_text, tile_text, tiles_text, window_text};
+ghost use Rattle.nav_scene.specs.Scenes.{StandsInFront, entries_text, tile_text, tiles_text, window_text};
 
 use crate::told::append_all;
 use nav_base::Point;
@@ -15,7 +15,8 @@ use std::alloc::AllocError;
 /// Appends a line for each entry, with its number, from 1.
 pub(crate) fn append_entries(out: &mut Vec<u8>, entries: &[Entry]) -> Result<(), AllocError>
     requires { length entries.now < 2 ^ 32 }
-    ensures { OnOk result (out.new.items ≡ out.old.items ++ entries_text entries.now) }
+    ensures ok { OnOk result (out.new.items ≡ out.old.items ++ entries_text entries.now) }
+    ensures front { StandsInFront out.old.items out.new.items }
 {
     for (place, entry) in entries.iter().enumerate() {
         write_entry(out, place as u32 + 1, entry)?;
@@ -26,7 +27,8 @@ pub(crate) fn append_entries(out: &mut Vec<u8>, entries: &[Entry]) -> Result<(),
 /// Appends the line of each tile, in order.
 pub(crate) fn append_tiles(out: &mut Vec<u8>, setting: &Setting) -> Result<(), AllocError>
     requires { IsSetting setting.now }
-    ensures { OnOk result (out.new.items ≡ out.old.items ++ tiles_text setting.now) }
+    ensures ok { OnOk result (out.new.items ≡ out.old.items ++ tiles_text setting.now) }
+    ensures front { StandsInFront out.old.items out.new.items }
 {
     for tile in 0..tiles(setting) {
         append_tile(out, setting, tile)?;
@@ -38,7 +40,8 @@ pub(crate) fn append_tiles(out: &mut Vec<u8>, setting: &Setting) -> Result<(), A
 fn append_tile(out: &mut Vec<u8>, setting: &Setting, tile: TileNo) -> Result<(), AllocError>
     requires setting { IsSetting setting.now }
     requires there { tile < tile_count setting.now }
-    ensures { OnOk result (out.new.items ≡ out.old.items ++ tile_text setting.now tile) }
+    ensures ok { OnOk result (out.new.items ≡ out.old.items ++ tile_text setting.now tile) }
+    ensures front { StandsInFront out.old.items out.new.items }
 {
     append_line(out, b"tile", &[tile])?;
     append_window(out, &tile_bounds(setting, tile))?;
@@ -47,7 +50,8 @@ fn append_tile(out: &mut Vec<u8>, setting: &Setting, tile: TileNo) -> Result<(),
 
 /// Appends the first column of a window along x and along z, and its last ones.
 fn append_window(out: &mut Vec<u8>, window: &Window) -> Result<(), AllocError>
-    ensures { OnOk result (out.new.items ≡ out.old.items ++ window_text window.now) }
+    ensures ok { OnOk result (out.new.items ≡ out.old.items ++ window_text window.now) }
+    ensures front { StandsInFront out.old.items out.new.items }
 {
     let first = Point {
         x: window.x0,

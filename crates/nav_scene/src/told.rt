@@ -2,6 +2,7 @@
 
 ghost use Rattle.std.specs.Prelude.{◌≡◌, ◌++◌, OnOk};
 ghost use Rattle.std.specs.List.{flat_map};
+ghost use Rattle.nav_scene.specs.Scenes.{StandsInFront};
 
 use nav_share::Shared;
 use std::alloc::AllocError;
@@ -15,12 +16,14 @@ pub(crate) trait Told {
 
     /// Appends what a scene tells of the thing.
     fn append_to(&self, out: &mut Vec<u8>) -> Result<(), AllocError>
-        ensures { OnOk result (out.new.items ≡ out.old.items ++ text self.now) };
+        ensures ok { OnOk result (out.new.items ≡ out.old.items ++ text self.now) }
+        ensures front { StandsInFront out.old.items out.new.items };
 }
 
 /// Appends what a scene tells of things, in order.
 pub(crate) fn append_all<T: Told>(out: &mut Vec<u8>, things: &[T]) -> Result<(), AllocError>
-    ensures { OnOk result (out.new.items ≡ out.old.items ++ flat_map T.text things.now) }
+    ensures ok { OnOk result (out.new.items ≡ out.old.items ++ flat_map T.text things.now) }
+    ensures front { StandsInFront out.old.items out.new.items }
 {
     for thing in things {
         thing.append_to(out)?;
