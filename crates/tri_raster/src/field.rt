@@ -23,8 +23,9 @@ pub fn raster(alloc: Global, setting: &Setting, tris: &[Tri]) -> Result<Field, R
     requires setting { IsSetting setting.now }
     requires triangles { All IsTriangle tris.now }
 
-    // The spans are those of the exact clipped triangles, and no others; they keep the rules of a field.
+    // The spans are those of the exact clipped triangles, and no others; there is one such field, and it keeps the rules of a field.
     ensures field { IfOk result (λ field. IsRaster setting.now tris.now field) }
+    ensures one { IfOk result (λ field. (other : Field) → IsRaster setting.now tris.now other → other ≡ field) }
     ensures rules { IfOk result IsField }
     ensures sized { IfOk result (IsSized setting.now) }
 

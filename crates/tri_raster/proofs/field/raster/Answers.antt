@@ -1,7 +1,7 @@
 use Rattle.std.proofs.Common.{◌≡◌, Err, ap, ◌∙◌, sym}
 use Rattle.std.proofs.lemmas.Result.{err_from_is_err_and}
 use Rattle.tri_raster.specs.declared.refusal.RasterRefusal.TheVariants as refusals
-use Rattle.tri_raster.proofs.RasterLaws.{many_or_few, raster_field}
+use Rattle.tri_raster.proofs.RasterLaws.{one_raster, many_or_few, raster_field}
 use Rattle.tri_raster.proofs.SweepLaws.{all_rows, not_many}
 use Rattle.tri_raster.proofs.field.raster.Goals as goal
 
@@ -16,3 +16,7 @@ pub returns-clause-rules : goal.returns-clause-rules
 returns-clause-rules c =
     raster_field c.args.setting.now c.args.tris.now _ c.requires.setting c.requires.triangles
     (all_rows c.args.setting.now c.args.tris.now c.in_ok-spans.spans c.in_ok-spans.ensures) c.in_ok-spans.ensures.few
+
+pub returns-clause-one : goal.returns-clause-one
+returns-clause-one c other raster =
+    one_raster c.args.setting.now c.args.tris.now other _ raster (all_rows c.args.setting.now c.args.tris.now c.in_ok-spans.spans c.in_ok-spans.ensures)
