@@ -1,5 +1,5 @@
 -- Each step keeps the rule of published versions.
-use Rattle.std.proofs.Common.{◌≡◌, ◌≢◌, ℕ, List, [], ◌∷◌, ◌++◌, set, fold, Option, Some, None, sym, refl, ap, ◌∙◌, subst, ⊎_elim}
+use Rattle.std.proofs.Common.{◌≡◌, ◌≢◌, ◌≤◌, ℕ, List, [], ◌∷◌, ◌++◌, length, set, fold, Option, Some, None, sym, refl, ap, ◌∙◌, subst, ⊎_elim, arith, length-append}
 use Rattle.std.proofs.lemmas.List.Sums.{fold-append}
 use mathlib.Core.Option.{some, some-ne-none}
 use lib.ListN.{get_elem?}
@@ -18,6 +18,13 @@ still_so : (last next : Shown) (one : Option Shown) → GoesOn last next → IsS
 still_so last next None goes so = tt
 still_so last next (Some once) goes so =
     record { same = so.same ∙ goes.same; begins = IsPrefix-trans once.told.entries last.told.entries next.told.entries so.begins goes.begins }
+
+-- what any one knows has at most as many entries as what is shown
+pub known_at_most : (shown once : Shown) (known : List (Option Shown)) (seat : ℕ) → Stands shown known → get_elem? known seat ≡ some (Some once)
+    → length once.told.entries ≤ length shown.told.entries
+known_at_most shown once known seat stands is =
+    let begins = (stands.each seat (Some once) is).begins in
+    omega (arith, ap length begins.1, length-append once.told.entries begins.0)
 
 module _ (shown : Shown) (known : List (Option Shown)) where
   -- the rule after what one knows was changed

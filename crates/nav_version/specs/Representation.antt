@@ -10,7 +10,7 @@ abbrev pub press_view : press.Inside → PressView
 press_view inside = let shown = inside.stage in press_of inside.history.pair (arc_value shown.version.ground) shown.told.entries
 
 abbrev pub IsPressKept : press.Inside → Type 0
-IsPressKept inside = IsKept inside.stage.told inside.history
+IsPressKept inside = IsKept inside.stage.told inside.history inside.ahead
 
 -- an eye's ground is that of the version that its reader knows
 abbrev pub eye_view : eye.Inside → EyeView

@@ -1,5 +1,5 @@
 -- The rule of published versions, which holds between any two steps, and its four kinds of step.
-use Rattle.std.specs.Prelude.{◌≡◌, ◌<◌, ℕ, false, List, [], Option, Some, None, IfSome, length}
+use Rattle.std.specs.Prelude.{◌≡◌, ◌<◌, ℕ, false, List, [], ◌++◌, Option, Some, None, IfSome, length}
 use Rattle.std.specs.Option.{option_map}
 use Rattle.std.specs.Arc.{arc_value}
 use mathlib.Core.Option.{some}
@@ -7,6 +7,7 @@ use mathlib.Core.List.{IsPrefix}
 use lib.ListN.{get_elem?}
 use Rattle.logbook.specs.Pages.{Book}
 use Rattle.nav_base.specs.declared.answers.Question.{Question}
+use Rattle.nav_ground.specs.declared.history.Entry.{Entry}
 use Rattle.nav_ground.specs.declared.history.Ground.{Ground}
 use Rattle.nav_ground.specs.declared.setting.MeshKind.TheVariants.{Strips}
 use Rattle.mesh_types.specs.declared.answers.Answer.{Answer}
@@ -71,11 +72,12 @@ pub record Stands (shown : Shown) (known : List (Option Shown)) : Type 0 where
   pub is : IsShown shown
   pub each : (seat : ℕ) (one : Option Shown) → get_elem? known seat ≡ some one → IsSo shown one
 
--- what the press keeps: the list that is shown is of the history's pair, and begins the history, which is longer only where a publishing was
--- refused once the history had grown
-pub record IsKept (told history : ToldView) : Type 0 where
+-- what the press keeps: the list that is shown is of the history's pair, and begins the history. It is the whole history, but for those entries
+-- with which the history is ahead
+pub record IsKept (told history : ToldView) (ahead : Option (List Entry)) : Type 0 where
   pub pair : told.pair ≡ history.pair
   pub begins : IsPrefix told.entries history.entries
+  pub whole : IfSome ahead (λ more. history.entries ≡ told.entries ++ more)
 
 -- publish: the next version is shown, and the press knows it
 abbrev pub Publishes : Option Shown → Shown → Shown → Option Shown → Type 0

@@ -43,13 +43,6 @@ impl History {
         }
     }
 
-    /// Its length.
-    pub(crate) fn length(&self) -> u64
-        ensures { result ≡ length self.now.entries }
-    {
-        self.length
-    }
-
     // Adds an entry, and says whether it did: it did not where the list has become longer, as only the holder of the word can make it.
     fn push(&mut self, entry: &Entry) -> bool
         requires room { length self.old.entries < 2 ^ 62 }

@@ -1,6 +1,6 @@
 //! The press, which publishes versions.
 
-ghost use Rattle.std.specs.Prelude.{◌≡◌, ◌++◌, [], IfOk, IfErr, OnOk, OnErr, MatchBool, length, replicate};
+ghost use Rattle.std.specs.Prelude.{◌≡◌, ◌<◌, ◌↔◌, ◌++◌, [], IfOk, IfErr, OnOk, OnErr, IsTrue, MatchBool, length, drop, replicate, slice_index_or};
 ghost use Rattle.std.specs.Arc.{arc_value};
 ghost use Rattle.nav_version.specs.Pairs.{IsPatch, Shows, first_eye};
 ghost use Rattle.nav_version.specs.VersionRule.{IsShown};
@@ -14,7 +14,8 @@ use crate::shown::Shown;
 use crate::stage::Stage;
 use crate::told::Told;
 use crate::version::Version;
-use nav_ground::Entry;
+use nav_ground::{Entry, Reply, Request};
+use nav_list::{Duplicate, Items};
 use nav_share::Shared;
 use std::alloc::{AllocError, Global};
 use std::marker::Model;
@@ -26,6 +27,9 @@ use std::sync::Wait;
 pub struct Press {
     stage: Stage,
     history: History,
+    /// The entries that the history has beyond those that are shown: none, but after a publishing that was refused once the history had grown.
+    /// Nothing where others had added to the history, which nobody can.
+    ahead: Option<Items<Entry>>,
 }
 
 impl Model for Press {
@@ -79,6 +83,55 @@ fn first_of(alloc: Global, version: Version, history: &mut History) -> Result<Sh
     Ok(Shown { version, told })
 }
 
+// The entries with which the history is ahead once these were added to it: none where they are shown.
+fn left_ahead(alloc: Global, is_shown: bool, more: Items<Entry>) -> Items<Entry>
+    ensures { MatchBool is_shown (result ≡ []) (result ≡ more) }
+{
+    if is_shown { Items::new(alloc) } else { more }
+}
+
+// Whether a list of entries begins with these.
+fn begins(entries: &[Entry], first: &[Entry]) -> bool
+    ensures { IsTrue result → entries.now ≡ first.now ++ drop (length first.now) entries.now }
+{
+    for (i, entry) in first.iter().enumerate() {
+        if !is_at(entries, i, entry) {
+            return false;
+        }
+    }
+    true
+}
+
+// Whether an entry stands in a place.
+fn is_at(entries: &[Entry], place: usize, entry: &Entry) -> bool
+    ensures { IsTrue result → (place < length entries.now) × (slice_index_or entries.now place entry.now ≡ entry.now) }
+{
+    place < entries.len() && is_same(&entries[place], entry)
+}
+
+// Whether two entries are the same.
+fn is_same(a: &Entry, b: &Entry) -> bool
+    ensures { IsTrue result → a.now ≡ b.now }
+{
+    a.lane == b.lane && is_same_request(&a.request, &b.request) && is_same_reply(&a.reply, &b.reply)
+}
+
+fn is_same_request(a: &Request, b: &Request) -> bool
+    ensures { IsTrue result ↔ (a.now ≡ b.now) }
+{
+    match (a, b) {
+        (Request::Add(a), Request::Add(b)) => a == b,
+        (Request::Remove(a), Request::Remove(b)) => a == b,
+        _ => false,
+    }
+}
+
+fn is_same_reply(a: &Reply, b: &Reply) -> bool
+    ensures { IsTrue result ↔ (a.now ≡ b.now) }
+{
+    a == b
+}
+
 impl Press {
     fn showing<R: Wait>(
         rt: &R,
@@ -93,7 +146,11 @@ impl Press {
         let mut history = History::new();
         let first = first_of(alloc, version, &mut history)?;
         let stage = Stage::begin(rt, alloc, first, readers)?;
-        Ok(Press { stage, history })
+        Ok(Press {
+            stage,
+            history,
+            ahead: Some(Items::new(alloc)),
+        })
     }
 
     fn eyes(&mut self, alloc: Global, readers: u32) -> Result<Vec<Eye>, AllocError>
@@ -119,8 +176,8 @@ impl Press {
     /// read the version from before the last publishing. Where memory is refused, the published version is as before, and the patch comes
     /// back.
     ///
-    /// All that takes memory comes before the history grows, but for a count of owners that has reached its end. If that is met, this and
-    /// each later publishing is refused.
+    /// All that takes memory comes before the history grows, but for a count of owners that has reached its end. If that is met, a later
+    /// publishing goes on from there where its entries begin with those of this one; with other entries it is refused.
     pub fn publish<R: Wait>(
         &mut self,
         rt: &R,
@@ -137,23 +194,37 @@ impl Press {
             Ok(next) => next,
             Err(refused) => return Err((patch, refused)),
         };
-        if !self.show(rt, next, patch.entries.as_slice()) {
+        let more = match patch.entries.duplicate(alloc) {
+            Ok(more) => more,
+            Err(refused) => return Err((patch, refused)),
+        };
+        if !self.show(rt, alloc, next, more) {
             return Err((patch, AllocError));
         }
         Ok(self.told())
     }
 
     // Shows the next version, at one step, and says whether it did.
-    fn show<R: Wait>(&mut self, rt: &R, next: Shared<Version>, more: &[Entry]) -> bool
+    fn show<R: Wait>(
+        &mut self,
+        rt: &R,
+        alloc: Global,
+        next: Shared<Version>,
+        more: Items<Entry>,
+    ) -> bool
         requires rules { IsVersion next }
         requires ground { arc_value next.ground ≡ self.old.ground }
-        requires entries { next.entries ≡ self.old.entries ++ more.now }
+        requires entries { next.entries ≡ self.old.entries ++ more }
         ensures { MatchBool result (self.new ≡ record self.old { entries = next.entries }) (self.new ≡ self.old) }
     {
-        if self.history.length() != self.length() as u64 {
+        let Some(ahead) = self.ahead.take() else {
+            return false;
+        };
+        if !begins(more.as_slice(), ahead.as_slice()) {
+            self.ahead = Some(ahead);
             return false;
         }
-        if !self.history.add(more) {
+        if !self.history.add(&more.as_slice()[ahead.len()..]) {
             return false;
         }
         let told = self.history.told();
@@ -161,7 +232,9 @@ impl Press {
             version: next,
             told,
         };
-        self.stage.show(rt, next)
+        let shown = self.stage.show(rt, next);
+        self.ahead = Some(left_ahead(alloc, shown, more));
+        shown
     }
 
     /// How many entries the published version has.
@@ -188,7 +261,11 @@ impl Press {
 
     /// Ends the press. It waits for eyes that are reading; from then on no eye answers any more.
     pub fn end<R: Wait>(self, rt: &R) {
-        let Press { stage, history: _ } = self;
+        let Press {
+            stage,
+            history: _,
+            ahead: _,
+        } = self;
         stage.end(rt);
     }
 }
