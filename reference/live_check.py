@@ -79,7 +79,7 @@ def random_input(rng):
     """The lines of a level, how many workers there are, and the lines of each lane."""
     size = rng.choice([24, 40])
     head = level(size, rng.choice([8, 16, 48]), rng)
-    lanes = [lane(size, rng.randrange(1, 40), rng) for _ in range(rng.randrange(1, 7))]
+    lanes = [lane(size, rng.randrange(1, 40), rng) for _ in range(rng.randrange(1, 17))]
     return head, rng.randrange(1, 9), lanes
 
 

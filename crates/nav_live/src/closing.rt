@@ -6,6 +6,7 @@ ghost use mathlib.Core.List.{IsPrefix};
 ghost use Rattle.nav_ground.specs.Tiling.{tile_count};
 ghost use Rattle.nav_version.specs.Pairs.{EyeView};
 ghost use Rattle.nav_book.specs.Results.{published_entries};
+ghost use Rattle.nav_book.specs.Settling.{IsUnclaimed};
 ghost use Rattle.nav_steps.specs.Counts.{HasRisenAtMost};
 ghost use Rattle.nav_live.specs.LiveRecord.{live_text};
 
@@ -36,6 +37,8 @@ pub(crate) fn finish<R: Wait, L: Ledger>(
     ensures text { IfOk result (λ text. text.items ≡ live_text book.old.state.whole book.old.state.history lanes.items) }
     // What each eye had seen or learnt of is a beginning of the whole history.
     ensures seen { OnOk result (All (λ (eye : EyeView). IsPrefix eye.seen book.old.state.history) eyes.old) }
+    // No job that an actor left is still claimed.
+    ensures free { OnOk result (IsUnclaimed book.new.state) }
     ensures most { HasRisenAtMost (tile_count book.old.state.whole.setting) steps.old steps.new }
 {
     let _ = book.settle(rt, alloc, steps)?;

@@ -22,6 +22,9 @@ returns-clause-seen g c =
     (subst (λ (list : List Entry). All (λ (eye : EyeView). IsPrefix eye.seen list) c.args.eyes.now)
     (all_published c.settle.new.self.state c.args.book.now.state.history c.in_ok-settle.ensures.history c.in_ok-settle.ensures.shown) c.in_ok-catch_up.ensures)
 
+pub returns-clause-free : goal.returns-clause-free
+returns-clause-free g c = in_any_case _ c.in_ok-settle.ensures.free
+
 pub returns-in_err-settle-clause-most : goal.returns-in_err-settle-clause-most
 returns-in_err-settle-clause-most g c = once_each c.args.book.now.state _ _ c.settle.ensures.most
 
