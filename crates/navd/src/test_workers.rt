@@ -215,9 +215,11 @@ fn shares<R: Abort + Threads + Wait + Sync>(rt: &R, alloc: Global) {
     assert!(rt; ran.status.number() == 0);
     let Shared(watch) = gate;
     assert!(rt; watch.late.load(Ordering::SeqCst) == 0);
-    let built = watch.lane.count(Stage::BeforeBuild)
-        + watch.first.count(Stage::BeforeBuild)
-        + watch.second.count(Stage::BeforeBuild);
+    let built = watch
+        .lane
+        .count(Stage::BeforeBuild)
+        .saturating_add(watch.first.count(Stage::BeforeBuild))
+        .saturating_add(watch.second.count(Stage::BeforeBuild));
     assert!(rt; built == 4);
     assert!(rt; watch.lane.count(Stage::BeforeSubmit) == watch.lane.count(Stage::BeforeBuild));
 }
