@@ -29,8 +29,9 @@ pub(crate) fn leaps(alloc: Global, mesh: &Mesh, jumps: &[Jump]) -> Result<Vec<Le
 {
     let mut leaps = Vec::new(alloc);
     for (number, jump) in jumps.iter().enumerate() {
-        if let Some(leap) = joined(mesh, number as u32, *jump) {
-            leaps.push(leap)?;
+        match joined(mesh, number as u32, *jump) {
+            Some(leap) => leaps.push(leap)?,
+            None => {}
         }
     }
     leaps.sort_unstable_by(|a, b| leap_number(a).cmp(&leap_number(b)));
