@@ -4,7 +4,7 @@ use Rattle.off_links.specs.declared.leaps.Leap.{Leap}
 use Rattle.off_links.specs.Leaps.{leap_number}
 use Rattle.off_links.proofs.Gathering.{AreGathered, gathered_none, gathered_more, gathered_less, gathered_all}
 use Rattle.off_links.proofs.leaps.leaps.Goals as goal
-use Rattle.off_links.proofs.leaps.leaps.Goals.{in-Some+in_ok-push, in-None}
+use Rattle.off_links.proofs.leaps.leaps.Goals.{in-Some+in_ok-push-in-Some, in-None}
 
 pub loop-number-init : goal.loop-number-init
 loop-number-init c =
@@ -17,9 +17,9 @@ loop-number-preserved c =
     let number = c.loop-number.number in
     let leaps = c.loop-number.leaps.items in
     elim c.match-joined.branch [
-      | in-Some+in_ok-push w ↦
+      | in-Some+in_ok-push-in-Some w ↦
           let is = rw w.in-Some.is at c.joined.ensures.joined in
-          subst (AreGathered mesh jumps (number + 1)) (sym (ap (λ (v : Vec Leap Global). v.items) w.leaps-is ∙ w.in_ok-push.ensures.items))
+          subst (AreGathered mesh jumps (number + 1)) (sym (ap (λ (v : Vec Leap Global). v.items) w.leaps-is ∙ w.in_ok-push-in-Some.ensures.items))
           (gathered_more mesh jumps number leaps w.in-Some.leap c.loop-number-test.true is c.loop-number.invariant)
       | in-None w ↦
           let none = rw w.in-None.is at c.joined.ensures.none in
