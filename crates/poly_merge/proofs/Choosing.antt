@@ -145,12 +145,12 @@ module _ (corners : List Point) (pieces : List Piece) where
   -- the admissible of candidates
   pub admissible_each : (merges : List Merge) → All (IsCandidate pieces) merges → All (IsChoice corners pieces) (admissible_of corners pieces merges)
   admissible_each merges each =
-      All-weaker (λ m. IsCandidate pieces m × (is_admissible corners pieces m ≡ true)) (IsChoice corners pieces) (λ m is. record { candidate = is.0; admissible = is.1; })
+      All-weaker (λ m. IsCandidate pieces m × (is_admissible corners pieces m ≡ true)) (IsChoice corners pieces) (λ m is. record { candidate = is.0; admissible = is.1 })
       (admissible_of corners pieces merges) (filter-passes (is_admissible corners pieces) (IsCandidate pieces) merges each)
 
   pub between_candidates : (first second : ℕ) → first < second → second < length pieces → All (IsCandidate pieces) (merges_between pieces first second)
   between_candidates first second before there =
-      between_all pieces first second (IsCandidate pieces) (λ edge facing below found. record { first = before; second = there; edge = below; found = found; })
+      between_all pieces first second (IsCandidate pieces) (λ edge facing below found. record { first = before; second = there; edge = below; found = found })
 
   pub from_candidates : (first : ℕ) → All (IsCandidate pieces) (merges_from pieces first)
   from_candidates first =

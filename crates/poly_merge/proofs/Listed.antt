@@ -84,9 +84,9 @@ pub all_range : (start count : ℕ) → All (λ i. (start ≤ i) × (i < start +
 all_range start count =
     All-from_get_or (λ i. (start ≤ i) × (i < start + count)) (range_with_len start count) 0
     (λ i there.
-        let size = length-range_with_len start count in
-        let same = get_or-range_with_len start count i 0 (omega (arith, there, size)) in
-        (omega (arith, same), omega (arith, there, same, size)))
+    let size = length-range_with_len start count in
+    let same = get_or-range_with_len start count i 0 (omega (arith, there, size)) in
+    (omega (arith, same), omega (arith, there, same, size)))
 
 -- what holds of all that each gives holds of what all give
 pub all_gathered : {X Y : Type 0} (P : Y → Type 0) (f : X → List Y) (xs : List X) → All (λ x. All P (f x)) xs → All P (flat_map f xs)

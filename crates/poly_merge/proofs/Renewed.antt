@@ -1,6 +1,7 @@
 -- The merges that may be made after one was: those of other pieces, and those of the united one.
 use Rattle.std.proofs.Common.{◌≡◌, ◌≢◌, ℕ, suc, ◌+◌, ◌-◌, ◌<◌, ◌≤◌, ◌⊎◌, Bool, true, false, List, [], ◌∷◌, ◌++◌, length, get_or, map, All, Option, refl, sym, ap, subst, ◌∙◌, inl, inr, arith}
-use Rattle.std.specs.Prelude.{None, Some, Contains, nat_le, nat_lt, ◌==◌, ◌&&◌, ◌||◌, slice_set, if◌then◌else◌}
+use Rattle.std.specs.Prelude.{None, Some, IfSome, Contains, nat_le, nat_lt, ◌==◌, ◌&&◌, ◌||◌, slice_set, if◌then◌else◌}
+use Rattle.std.specs.Option.{option_map}
 use Rattle.std.specs.List.{filter_map, find, range_with_len, remove}
 use Rattle.std.proofs.Math.ListN.{length-set}
 use Rattle.std.proofs.lemmas.Bool.{cases_eq, cases_lt}
@@ -11,11 +12,12 @@ use Rattle.std.proofs.lemmas.List.Elements.{All-append, All-weaker, Contains-app
 use Rattle.nav_base.specs.declared.point.Point.{Point}
 use Rattle.nav_base.specs.Convex.{corner_at}
 use Rattle.mesh_types.specs.declared.outline.Piece.{Piece}
-use Rattle.mesh_types.specs.Merging.{Merge, is_admissible, is_convex, is_facing, joined, merges_from, past_edge, places_at, union_of}
-use Rattle.mesh_types.proofs.MergeLaws.{length-joined}
-use Rattle.poly_merge.specs.Seen.{AreChoices, IsCandidate, IsChoice, admissible_of, after_removal, left_over, merges_onto, merges_with}
+use Rattle.mesh_types.specs.Merging.{IsPieceOf, Merge, best_merge, is_admissible, is_convex, is_facing, joined, merges_from, merges_of, past_edge, places_at, union_of}
+use Rattle.mesh_types.proofs.MergeLaws.{best_merge-admissible, joined-pieces, length-joined}
+use Rattle.poly_merge.specs.declared.edge.Merge as code
+use Rattle.poly_merge.specs.Seen.{AreChoices, IsCandidate, IsChoice, IsMergeOf, admissible_of, after_removal, left_over, merges_onto, merges_with, seen}
 use Rattle.poly_merge.proofs.Listed.{all_found, contains_found, kept_if_passes}
-use Rattle.poly_merge.proofs.Choosing.{admissible_each, from_candidates, from_has, onto_candidates, onto_has}
+use Rattle.poly_merge.proofs.Choosing.{admissible_each, all_choices, from_candidates, from_has, onto_candidates, onto_has}
 
 -- ---- places after one was taken out
 
@@ -66,16 +68,15 @@ swapped f s a b is = grind (arith, nat_tests)
 
 -- ---- the same two pieces in two lists
 
-mk : ℕ → ℕ → ℕ → ℕ → Merge
+abbrev mk : ℕ → ℕ → ℕ → ℕ → Merge
 mk first second edge facing = record { first = first; second = second; edge = edge; facing = facing }
 
 module _ (corners : List Point) where
-  fits : List ℕ → ℕ → List ℕ → ℕ → Bool
+  abbrev fits : List ℕ → ℕ → List ℕ → ℕ → Bool
   fits p edge q facing = nat_le (length (past_edge p edge ++ past_edge q facing)) 6 && is_convex (map (corner_at corners) (past_edge p edge ++ past_edge q facing))
 
   same_choice : (ps qs : List Piece) (f s f' s' e g : ℕ) → places_at ps f ≡ places_at qs f' → places_at ps s ≡ places_at qs s' → f' < s' → s' < length qs
       → IsChoice corners ps (mk f s e g) → IsChoice corners qs (mk f' s' e g)
-  unfolding mk, fits
   same_choice ps qs f s f' s' e g first second before there is = record {
     candidate = record {
       first = before;
@@ -126,7 +127,6 @@ module _ (corners : List Point) (pieces : List Piece) (made : Merge) (before : m
 
   -- a merge of other pieces may still be made
   each_left : (m n : Merge) → IsChoice corners pieces m → left_over made m ≡ Some n → IsChoice corners (joined pieces made) n
-  unfolding mk
   each_left m n is left = by_test ((m.first == made.first || m.second == made.first) || (m.first == made.second || m.second == made.second)) refl left
     where
       moved : Merge
@@ -157,7 +157,6 @@ module _ (corners : List Point) (pieces : List Piece) (made : Merge) (before : m
   -- a merge of pieces that were not made could be made before
   all_left : (merges : List Merge) → AreChoices corners pieces merges → (n : Merge) → IsChoice corners (joined pieces made) n → n.first ≢ made.first → n.second ≢ made.first
       → Contains (filter_map (left_over made) merges) n
-  unfolding mk
   all_left merges are n is not_first not_second =
       let f = place_back n.first (omega (arith, is.candidate.first, is.candidate.second)) not_first in
       let s = place_back n.second is.candidate.second not_second in
@@ -201,3 +200,46 @@ module _ (corners : List Point) (pieces : List Piece) (made : Merge) (before : m
 
       with_new : (n : Merge) → IsChoice corners after n → Contains (merges_with after made.first) n → Contains (left ++ new) n
       with_new n is held = Contains-append_right left new n (kept_if_passes (is_admissible corners after) (merges_with after made.first) n is.admissible held)
+
+-- ---- lists as a loop holds them
+
+-- the merges that may be made, found in lists that are equal
+pub first_choices : (corners corners' : List Point) (pieces pieces' : List Piece) (choices : List Merge) → corners' ≡ corners → pieces' ≡ pieces
+    → choices ≡ admissible_of corners' pieces' (merges_of pieces') → AreChoices corners pieces choices
+first_choices corners corners' pieces pieces' choices same same' is =
+    subst (AreChoices corners pieces) (sym (is ∙ (λ i. admissible_of (same i) (same' i) (merges_of (same' i))))) (all_choices corners pieces)
+
+pub choices_in : (corners corners' : List Point) (pieces pieces' : List Piece) (merges merges' : List code.Merge) → corners' ≡ corners → pieces' ≡ pieces → merges' ≡ merges
+    → AreChoices corners pieces (map seen merges) → AreChoices corners' pieces' (map seen merges')
+choices_in corners corners' pieces pieces' merges merges' same same' same'' are =
+    subst (λ (cs : List Point). AreChoices cs pieces' (map seen merges')) (sym same)
+    (subst (λ (ps : List Piece). AreChoices corners ps (map seen merges')) (sym same') (subst (λ (ms : List code.Merge). AreChoices corners pieces (map seen ms)) (sym same'') are))
+
+pub next_choices : (corners corners' : List Point) (pieces after after' : List Piece) (next : code.Merge) (merges merges' : List code.Merge) (choices : List Merge)
+    → corners' ≡ corners → after' ≡ after → merges' ≡ merges → after ≡ joined pieces (seen next) → IsMergeOf pieces next → AreChoices corners pieces (map seen merges)
+    → choices ≡ filter_map (left_over (seen next)) (map seen merges') ++ admissible_of corners' after' (merges_with after' next.first) → AreChoices corners after choices
+next_choices corners corners' pieces after after' next merges merges' choices same same' same'' made there are is =
+    let joins : after' ≡ joined pieces (seen next) = same' ∙ made in
+    subst (λ (ps : List Piece). AreChoices corners ps choices) (sym made)
+    (subst (AreChoices corners (joined pieces (seen next)))
+    (sym (is ∙ (λ i. filter_map (left_over (seen next)) (map seen (same'' i)) ++ admissible_of (same i) (joins i) (merges_with (joins i) next.first))))
+    (renewed corners pieces (seen next) there.first there.second (map seen merges) are))
+
+-- the merge that a round makes
+pub record IsNext (corners : List Point) (pieces : List Piece) (next : code.Merge) : Type 0 where
+  pub best : best_merge corners pieces ≡ Some (seen next)
+  pub there : IsMergeOf pieces next
+
+pub next_is : (corners corners' : List Point) (pieces pieces' : List Piece) (found : Option code.Merge) (next : code.Merge) → corners' ≡ corners → pieces' ≡ pieces
+    → option_map seen found ≡ best_merge corners' pieces' → IfSome found (IsMergeOf pieces') → found ≡ Some next → IsNext corners pieces next
+next_is corners corners' pieces pieces' found next same same' value there is = record {
+  best = (λ i. best_merge (sym same i) (sym same' i)) ∙ sym value ∙ ap (option_map seen) is;
+  there = subst (λ (ps : List Piece). IsMergeOf ps next) same' (subst (λ (o : Option code.Merge). IfSome o (IsMergeOf pieces')) is there);
+}
+
+-- the pieces after it
+pub next_pieces : (corners : List Point) (pieces after : List Piece) (next : code.Merge) → IsNext corners pieces next → after ≡ joined pieces (seen next) → All (IsPieceOf corners) pieces
+    → All (IsPieceOf corners) after
+next_pieces corners pieces after next is made are =
+    subst (All (IsPieceOf corners)) (sym made)
+    (joined-pieces corners pieces (seen next) are (omega (arith, is.there.first, is.there.second)) is.there.second (best_merge-admissible corners pieces (seen next) is.best))
