@@ -115,8 +115,8 @@ fn is_flat(
     requires there { id < length regions.now.regions }
     ensures { IfOk result (λ found. found ≡ true → None ≡ region_part table.now.window error cells.now regions.now id) }
 {
-    let edges = contour_over(alloc, cells, regions, table, id)?;
-    match simplify(alloc, edges.as_slice(), error)? {
+    let rim = contour_over(alloc, cells, regions, table, id)?;
+    match simplify(alloc, rim.as_slice(), error)? {
         Simplified::Flat => Ok(true),
         Simplified::Outline(_) => Ok(false),
     }
