@@ -24,10 +24,13 @@ pub enum RayAnswer {
 /// A path: the polygon in which it begins, what its corridor costs, the links of the corridor in order, and where it turns.
 #[derive(PartialEq, Eq, Drop)]
 pub struct PathFound {
+    /// The polygon that the beginning is located in.
     pub first: PolyRef,
+    /// The sum of the weights of the links; below 2^45.
     pub cost: u64,
+    /// The links of the corridor, in order; none where the path ends in the polygon in which it begins.
     pub links: Items<Link>,
-    /// Each turn names the portal of a link by the link's place, from 0.
+    /// The corners, in sixteenths of a cell; each names the portal of a link by the link's place, from 0.
     pub turns: Items<Corner>,
 }
 

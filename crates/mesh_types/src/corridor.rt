@@ -7,7 +7,9 @@ use std::alloc::{AllocError, Global};
 /// A walk from one polygon to another that no other walk undercuts: its cost, and its links in order.
 #[derive(Drop)]
 pub struct Corridor {
+    /// The sum of the weights of the links.
     pub cost: u64,
+    /// Each link leaves the polygon that the one before it enters.
     pub links: Items<Link>,
 }
 

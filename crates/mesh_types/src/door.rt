@@ -8,7 +8,9 @@ use nav_list::Items;
 /// What a region adds to the mesh of its tile: its outline, and the pieces into which that is cut, each a polygon of the tile.
 #[derive(Drop)]
 pub struct Part {
+    /// In whole cells.
     pub outline: Outline,
+    /// By places of the outline, from 0.
     pub pieces: Items<Piece>,
 }
 

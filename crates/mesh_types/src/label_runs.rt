@@ -9,7 +9,9 @@ use std::alloc::{AllocError, Global};
 /// A maximal run of successive places that have one label, from the first to the last.
 #[derive(Clone, Copy, PartialEq, Eq)]
 pub struct Run {
+    /// The place of the first, from 0.
     pub first: u32,
+    /// The place of the last, which is of the run.
     pub last: u32,
     pub label: u32,
 }

@@ -16,8 +16,11 @@ use std::alloc::{AllocError, Global};
 /// The tiles of a ground, in order, and for each of them the links that leave it for the tiles across its sides.
 #[derive(Drop)]
 pub struct Mesh {
+    /// Width and depth in columns, the tile's size, the agent, the costs of areas.
     pub setting: Setting,
+    /// By tile number.
     pub tiles: Items<Shared<TileMesh>>,
+    /// By tile number: the links that leave the tile's polygons over its borders.
     pub cross: Items<Shared<Links>>,
 }
 

@@ -8,7 +8,9 @@ use nav_list::Items;
 /// edge that begins there.
 #[derive(PartialEq, Eq, Drop)]
 pub struct Outline {
+    /// In whole cells; the region's cells lie on the left of each edge.
     pub corners: Items<Point>,
+    /// As many as corners: what lies over the edge from this corner to the next.
     pub codes: Items<Code>,
 }
 
@@ -23,6 +25,7 @@ pub enum Simplified {
 /// Three places of an outline, counterclockwise.
 #[derive(Clone, Copy, PartialEq, Eq)]
 pub struct Triangle {
+    /// Each a place of the outline's corners, from 0.
     pub a: u32,
     pub b: u32,
     pub c: u32,
@@ -31,5 +34,6 @@ pub struct Triangle {
 /// A strictly convex part of an outline: the places of its 3 to 6 corners, counterclockwise.
 #[derive(Drop)]
 pub struct Piece {
+    /// Places of the outline's corners, from 0.
     pub corners: Items<u32>,
 }

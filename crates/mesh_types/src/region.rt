@@ -7,12 +7,14 @@ use nav_list::Items;
 /// A maximal chain of strips of one area, row by row, each joined to the next. Its strips stand in rising order of their rows.
 #[derive(Drop)]
 pub struct Region {
+    /// By rising row.
     pub strips: Items<Strip>,
 }
 
 /// The regions of a tile, numbered from 0 in the order of their first strips.
 #[derive(Drop)]
 pub struct Regions {
+    /// By number.
     pub regions: Items<Region>,
 }
 
@@ -30,7 +32,10 @@ pub enum Code {
 /// One edge of one cell at a region's rim, in whole cells, directed so that the cell lies on its left.
 #[derive(Clone, Copy)]
 pub struct UnitEdge {
+    /// Where it begins.
     pub from: Point,
+    /// Where it ends, one cell on.
     pub to: Point,
+    /// What lies on its right.
     pub code: Code,
 }

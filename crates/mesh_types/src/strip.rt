@@ -6,12 +6,15 @@ use std::alloc::{AllocError, Global};
 /// A maximal run of free cells of one area in one row, with successive x, each connected to the next.
 #[derive(Drop)]
 pub struct Strip {
+    /// The row, in cells.
     pub z: u32,
-    /// The first and the last column.
+    /// The first column, in cells.
     pub x0: u32,
+    /// The last column, which is of the strip.
     pub x1: u32,
-    /// The level of each cell, from the first column on.
+    /// The level of each cell in its column, counted from the bottom, 0; from the first column on.
     pub levels: Items<u32>,
+    /// The area of its cells, 1 to 63.
     pub area: u32,
 }
 
