@@ -17,8 +17,8 @@ use crate::waiting::Waiting;
 use std::alloc::{AllocError, Global};
 
 /// A walk from one vertex to another that no other such walk undercuts; none exactly where no walk joins the two. Only memory can be
-/// refused. Vertices are closed in the order of their least cost and estimate together, up to the goal's; each arc of a closed vertex is
-/// looked at once.
+/// refused. Its steps are fewer than the vertices. Vertices are closed in the order of their least cost and estimate together, up to the
+/// goal's; each arc of a closed vertex is looked at once.
 pub fn cheapest_walk<G: Graph>(
     alloc: Global,
     graph: &G,
@@ -30,6 +30,7 @@ pub fn cheapest_walk<G: Graph>(
     requires there { Contains (G.vertices graph.now) from }
     ensures found { IfOk result (λ answer. IfSome answer (λ walk. IsCheapest (G.arcs graph.now) from to walk)) }
     ensures few { IfOk result (λ answer. IfSome answer (λ walk. walk.cost ≤ length (G.vertices graph.now) * G.heaviest graph.now)) }
+    ensures short { IfOk result (λ answer. IfSome answer (λ walk. length walk.steps.items < length (G.vertices graph.now))) }
     ensures none { IfOk result (λ answer. IfNone answer (IsApart (G.arcs graph.now) from to)) }
 {
     let mut search = Search::begin(alloc, from, graph.estimate(from, graph.spot(from)))?;
@@ -205,8 +206,9 @@ impl Search {
 fn walk_to(alloc: Global, visits: &Visits, start: Vertex, to: Vertex) -> Result<Walk, AllocError>
     requires ranked { IsRanked start (visit_at visits.now) }
     requires closed { IsClosed (visit_at visits.now to) }
-    ensures { IfOk result (λ walk. (arcs : Vertex → List Arc) → IsTree arcs start (visit_at visits.now)
+    ensures walk { IfOk result (λ walk. (arcs : Vertex → List Arc) → IsTree arcs start (visit_at visits.now)
         → IsWalkTo arcs (visit_at visits.now) start to walk) }
+    ensures short { IfOk result (λ walk. length walk.steps.items < (visit_at visits.now to).rank) }
 {
     let mut steps = Vec::new(alloc);
     let mut vertex = to;

@@ -2,6 +2,7 @@ use Rattle.std.proofs.Common.{◌≡◌, ℕ, ◌+◌, ◌*◌, ◌≤◌, ◌�
 use Rattle.std.specs.Prelude.{All, Option, Some, IfSome}
 use Rattle.std.specs.List.Sorted.{IsPermutation}
 use Rattle.std.proofs.lemmas.Result.{IfOk-from_err}
+use Rattle.graph_search.specs.declared.arcs.Vertex.{Vertex}
 use Rattle.graph_search.specs.declared.visits.Visit.{Visit}
 use Rattle.graph_search.specs.declared.entry.Entry.{Entry}
 use Rattle.graph_search.specs.Visited.{visit_at, IsClosed}
@@ -55,7 +56,7 @@ pub returns-then-eq-clause-found : goal.returns-then-eq-clause-found
 returns-then-eq-clause-found g c =
     let unclosed = sym (ap (λ (u : Visit). u.rank) c.get-visit.ensures) ∙ c.if-visit-ne0.false in
     (cheapest _ _ _ _ c.requires.searchable c.args.from c.args.to _ _ _ c.loop-ends.invariant c.in-Some.first.key c.in-Some.first.vertex _ (taken_of _ _ _ _ c.in-Some.is c.in_ok-first.ensures.taken) (least_of _ _ _ c.in-Some.is c.in_ok-first.ensures.least)
-    unclosed (same_if _ _ c.if-eq.ensures) _ c.in_ok-close.ensures.written c.in_ok-walk_to.field-0 (c.in_ok-walk_to.ensures (g.G.Graph.arcs c.args.graph.now)
+    unclosed (same_if _ _ c.if-eq.ensures) _ c.in_ok-close.ensures.written c.in_ok-walk_to.field-0 (c.in_ok-walk_to.ensures.walk (g.G.Graph.arcs c.args.graph.now)
     (turn-tree _ _ _ _ c.requires.searchable c.args.from c.args.to _ _ _ c.loop-ends.invariant c.in-Some.first.key c.in-Some.first.vertex _ (taken_of _ _ _ _ c.in-Some.is c.in_ok-first.ensures.taken) (least_of _ _ _ c.in-Some.is c.in_ok-first.ensures.least)
     unclosed _ _ c.in_ok-close.ensures.written c.in_ok-close.ensures.closed))).0
 
@@ -63,9 +64,17 @@ pub returns-then-eq-clause-few : goal.returns-then-eq-clause-few
 returns-then-eq-clause-few g c =
     let unclosed = sym (ap (λ (u : Visit). u.rank) c.get-visit.ensures) ∙ c.if-visit-ne0.false in
     (cheapest _ _ _ _ c.requires.searchable c.args.from c.args.to _ _ _ c.loop-ends.invariant c.in-Some.first.key c.in-Some.first.vertex _ (taken_of _ _ _ _ c.in-Some.is c.in_ok-first.ensures.taken) (least_of _ _ _ c.in-Some.is c.in_ok-first.ensures.least)
-    unclosed (same_if _ _ c.if-eq.ensures) _ c.in_ok-close.ensures.written c.in_ok-walk_to.field-0 (c.in_ok-walk_to.ensures (g.G.Graph.arcs c.args.graph.now)
+    unclosed (same_if _ _ c.if-eq.ensures) _ c.in_ok-close.ensures.written c.in_ok-walk_to.field-0 (c.in_ok-walk_to.ensures.walk (g.G.Graph.arcs c.args.graph.now)
     (turn-tree _ _ _ _ c.requires.searchable c.args.from c.args.to _ _ _ c.loop-ends.invariant c.in-Some.first.key c.in-Some.first.vertex _ (taken_of _ _ _ _ c.in-Some.is c.in_ok-first.ensures.taken) (least_of _ _ _ c.in-Some.is c.in_ok-first.ensures.least)
     unclosed _ _ c.in_ok-close.ensures.written c.in_ok-close.ensures.closed))).1
+
+pub returns-then-eq-clause-short : goal.returns-then-eq-clause-short
+returns-then-eq-clause-short g c =
+    let unclosed = sym (ap (λ (u : Visit). u.rank) c.get-visit.ensures) ∙ c.if-visit-ne0.false in
+    let few = closed-fewer _ _ _ _ c.requires.searchable c.args.from c.args.to _ _ _ c.loop-ends.invariant c.in-Some.first.key c.in-Some.first.vertex _ (taken_of _ _ _ _ c.in-Some.is c.in_ok-first.ensures.taken)
+    (least_of _ _ _ c.in-Some.is c.in_ok-first.ensures.least) unclosed in
+    let rank = ap (λ (v : Vertex). (visit_at c.close.new.self.visits v).rank) (sym (same_if _ _ c.if-eq.ensures)) ∙ ap (λ (u : Visit). u.rank) c.in_ok-close.ensures.written.here in
+    omega (arith, few, rank, c.in_ok-walk_to.ensures.short)
 
 pub relax-requires-clause-there : goal.relax-requires-clause-there
 relax-requires-clause-there g c =
@@ -180,3 +189,18 @@ returns-in_err-first-clause-few g c = IfOk-from_err c.from_residual-in_err-first
 
 pub returns-in_err-first-clause-none : goal.returns-in_err-first-clause-none
 returns-in_err-first-clause-none g c = IfOk-from_err c.from_residual-in_err-first.result _ c.from_residual-in_err-first.ensures.0
+
+pub returns-in_err-search-clause-short : goal.returns-in_err-search-clause-short
+returns-in_err-search-clause-short g c = IfOk-from_err c.from_residual.result _ c.from_residual.ensures.0
+
+pub returns-in_err-close-clause-short : goal.returns-in_err-close-clause-short
+returns-in_err-close-clause-short g c = IfOk-from_err c.from_residual-in_err-close.result _ c.from_residual-in_err-close.ensures.0
+
+pub returns-in_err-walk_to-clause-short : goal.returns-in_err-walk_to-clause-short
+returns-in_err-walk_to-clause-short g c = IfOk-from_err c.from_residual-in_err-walk_to.result _ c.from_residual-in_err-walk_to.ensures.0
+
+pub returns-in_err-relax-clause-short : goal.returns-in_err-relax-clause-short
+returns-in_err-relax-clause-short g c = IfOk-from_err c.from_residual-in_err-relax.result _ c.from_residual-in_err-relax.ensures.0
+
+pub returns-in_err-first-clause-short : goal.returns-in_err-first-clause-short
+returns-in_err-first-clause-short g c = IfOk-from_err c.from_residual-in_err-first.result _ c.from_residual-in_err-first.ensures.0
