@@ -6,6 +6,7 @@ pub mod Relaxing
 pub mod Stopping
 pub mod WayBack
 pub mod Turns
+pub mod Moves
 mod Slots
 mod Lists
 mod Queues
