@@ -12,6 +12,7 @@ pub mod MeshLinks
 pub mod WalkChains
 pub mod RayLaws
 pub mod RightLaws
+pub mod HopLaws
 pub mod Totals
 pub mod OneTile
 pub mod GroundCells

@@ -1,5 +1,5 @@
 -- The portals of a walk are a chain, from each point that the first polygon holds to each that the last one holds.
-use Rattle.std.proofs.Common.{◌≡◌, ◌≢◌, ℕ, zero, suc, ◌+◌, ◌-◌, ◌<◌, Bool, true, false, List, [], ◌∷◌, length, get_or, refl, sym, ap, subst, ◌∙◌, arith}
+use Rattle.std.proofs.Common.{◌≡◌, ◌≢◌, ℕ, zero, suc, ◌+◌, ◌-◌, ◌<◌, Bool, true, false, List, [], ◌∷◌, ◌++◌, length, get_or, refl, sym, ap, subst, ◌∙◌, arith}
 use Rattle.std.specs.Prelude.{All, nat_lt, ◌==◌, if◌then◌else◌}
 use Rattle.std.proofs.lemmas.Bool.{eqb-true, eqb-false, ltb-true, ltb-false}
 use Rattle.std.proofs.lemmas.List.{get_or-map, length-map}
@@ -50,6 +50,12 @@ walk_last mesh from [] to walk m there = absurd (omega (arith, there))
 walk_last mesh from (link ∷ []) to walk zero there = walk.2
 walk_last mesh from (link ∷ other ∷ links) to walk zero there = absurd (omega (arith, there))
 walk_last mesh from (link ∷ links) to walk (suc m) there = walk_last mesh link.to links to walk.2 m (omega (arith, there))
+
+-- a walk goes on by a link that leaves the polygon that it leads to
+pub walk_push : (mesh : Mesh) (from : PolyRef) (links : List Link) (at : PolyRef) (link : Link) → WalksTo mesh from links at → IsLinkOf mesh link → link.from ≡ at
+    → WalksTo mesh from (links ++ link ∷ []) link.to
+walk_push mesh from [] at link walk is leaves = (is, leaves ∙ sym walk, refl)
+walk_push mesh from (first ∷ links) at link walk is leaves = (walk.0, walk.1, walk_push mesh first.to links at link walk.2 is leaves)
 
 -- ---- the chain
 

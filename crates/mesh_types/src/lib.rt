@@ -9,11 +9,13 @@
 #![tactic(auto)]
 
 mod answers;
+mod asked;
 mod corner;
 mod corners;
 mod corridor;
 mod door;
 mod extent;
+mod hops;
 mod label_runs;
 mod link_list;
 mod link_order;
@@ -27,11 +29,13 @@ mod strip;
 mod tile;
 
 pub use answers::{Answer, PathFound, RayAnswer};
+pub use asked::Asked;
 pub use corner::{Corner, Side};
 pub use corners::Corners;
 pub use corridor::Corridor;
 pub use door::{Door, Part};
 pub use extent::Extent;
+pub use hops::{HopAnswer, HopFound, HopStep, Jump};
 pub use label_runs::{Run, runs};
 pub use link_list::Links;
 pub use link_order::order_links;
