@@ -1,9 +1,8 @@
 -- A sound mesh is a graph that may be searched.
-use Rattle.std.proofs.Common.{◌≡◌, ◌<◌, ◌≤◌, ◌+◌, ◌++◌, List, [], ◌∷◌, length, map, get_or, refl, sym, subst, ap, ◌∙◌, arith}
+use Rattle.std.proofs.Common.{◌≡◌, ◌<◌, ◌≤◌, ◌+◌, List, [], ◌∷◌, length, map, get_or, refl, sym, subst, ap, ◌∙◌, arith}
 use Rattle.std.specs.Prelude.{All, Contains, Some}
 use Rattle.std.proofs.lemmas.Nat.{mul-le}
 use Rattle.std.proofs.lemmas.List.Elements.{All-map, Contains-get_or}
-use Rattle.std.proofs.lemmas.List.{map-append}
 use Rattle.nav_base.specs.declared.point.Point.{Point}
 use Rattle.mesh_types.specs.declared.links.PolyRef.{PolyRef}
 use Rattle.mesh_types.specs.declared.links.Link.{Link}
@@ -17,7 +16,7 @@ use Rattle.graph_search.specs.declared.arcs.Vertex.{Vertex}
 use Rattle.graph_search.specs.declared.arcs.Arc.{Arc}
 use Rattle.graph_search.specs.declared.arcs.Step.{Step}
 use Rattle.graph_search.specs.Walks.{arc_of, ends_of, IsSearchable}
-use Rattle.corridor_search.specs.MeshGraphs.{IsThere, IsSearched, vertex_of, polygon_of, vertices_of, inner_links, outer_links, links_from, arc_over, arcs_from, no_link, link_of, end_of, weight_from, estimate_from, estimates_of}
+use Rattle.corridor_search.specs.MeshGraphs.{IsThere, IsSearched, vertex_of, polygon_of, vertices_of, links_from, arc_over, arcs_from, no_link, link_of, end_of, weight_from, estimate_from, estimates_of}
 use Rattle.corridor_search.proofs.Sound.{leads}
 use Rattle.corridor_search.proofs.MeshWalks.{step-there, arc-over-link}
 use Rattle.corridor_search.proofs.Vertices.{vertices-count, there-contains}
@@ -30,8 +29,8 @@ enters-there mesh at link sound held =
     record { polygon = through.enters; is = through.is_entered }
 
 -- the ends of the arcs that leave a polygon are those of its links
-pub ends-are : (mesh : Mesh) (at : PolyRef) → map end_of (inner_links mesh at) ++ map end_of (outer_links mesh at) ≡ ends_of (arcs_from mesh (vertex_of at))
-ends-are mesh at = sym (map-append end_of (inner_links mesh at) (outer_links mesh at)) ∙ each (links_from mesh at)
+pub ends-are : (mesh : Mesh) (at : PolyRef) → map end_of (links_from mesh at) ≡ ends_of (arcs_from mesh (vertex_of at))
+ends-are mesh at = each (links_from mesh at)
   where
     each : (links : List Link) → map end_of links ≡ ends_of (map (arc_over mesh) links)
     each [] = refl

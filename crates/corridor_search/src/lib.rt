@@ -2,6 +2,8 @@
 //!
 //! A link costs the distance between the middles of its two polygons, in sixteenths of a cell and rounded up, at least 1, times the cost of
 //! the area that it enters. The search goes toward the goal first: it adds to what a walk costs so far the distance that is left.
+//!
+//! What a search of one's own needs of the links stands here too: the vertices of polygons, the link that a step takes, what it weighs.
 #![tactic(auto)]
 
 mod corridors;
@@ -10,3 +12,5 @@ mod mesh_graph;
 mod weights;
 
 pub use corridors::cheapest;
+pub use mesh_graph::{link_at, link_weight, past_links, polygon_at, push_link_ends, vertex_at};
+pub use weights::extent_at;

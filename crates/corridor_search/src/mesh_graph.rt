@@ -1,8 +1,11 @@
 //! The mesh as a graph.
 
-ghost use Rattle.std.specs.Prelude.{◌≡◌, ◌++◌, ◌<◌, OnOk, map, length};
+ghost use Rattle.std.specs.Prelude.{◌≡◌, ◌++◌, ◌+◌, ◌<◌, OnOk, IfSome, IfNone, map, length, Contains};
+ghost use Rattle.nav_ground.specs.Limits.{IsSetting};
 ghost use Rattle.mesh_types.specs.LinkIndex.{entered_by};
-ghost use Rattle.corridor_search.specs.MeshGraphs.{vertex_of, polygon_of, inner_links, outer_links, links_from, link_of};
+ghost use Rattle.mesh_types.specs.Soundness.{IsSound};
+ghost use Rattle.graph_search.specs.Walks.{arc_of};
+ghost use Rattle.corridor_search.specs.MeshGraphs.{vertex_of, vertices_of, polygon_of, inner_links, outer_links, links_from, link_of, end_of, arcs_from, extents_of};
 
 use crate::weights::{distance, extent_at, middle, weight};
 use graph_search::{Graph, Step, Vertex};
@@ -11,7 +14,7 @@ use nav_base::Point;
 use std::alloc::AllocError;
 
 /// The vertex of a polygon: a block for each tile.
-pub(crate) fn vertex_at(at: PolyRef) -> Vertex
+pub fn vertex_at(at: PolyRef) -> Vertex
     ensures { result ≡ vertex_of at }
 {
     Vertex {
@@ -21,7 +24,7 @@ pub(crate) fn vertex_at(at: PolyRef) -> Vertex
 }
 
 /// The polygon of a vertex.
-fn reference(vertex: Vertex) -> PolyRef
+pub fn polygon_at(vertex: Vertex) -> PolyRef
     ensures { result ≡ polygon_of vertex }
 {
     PolyRef {
@@ -71,17 +74,58 @@ pub(crate) fn entered_outside(mesh: &Mesh, at: PolyRef) -> &[PolyRef]
 }
 
 /// The link that a step takes.
-pub(crate) fn link_at(mesh: &Mesh, step: Step) -> Link
+pub fn link_at(mesh: &Mesh, step: Step) -> Link
     requires { step.place < length (links_from mesh.now (polygon_of step.from)) }
     ensures { result ≡ link_of mesh.now step }
 {
-    let at = reference(step.from);
+    let at = polygon_at(step.from);
     let inside = inner(mesh, at);
     if step.place < inside.len() {
         inside[step.place]
     } else {
         outer(mesh, at)[step.place - inside.len()]
     }
+}
+
+/// How far the place of a step is past all links that leave its polygon; none where it is that of a link.
+pub fn past_links(mesh: &Mesh, step: Step) -> Option<usize>
+    ensures link { IfNone result (step.place < length (links_from mesh.now (polygon_of step.from))) }
+    ensures past { IfSome result (λ past. step.place ≡ length (links_from mesh.now (polygon_of step.from)) + past) }
+{
+    let at = polygon_at(step.from);
+    let inside = entered_inside(mesh, at).len();
+    let outside = entered_outside(mesh, at).len();
+    if step.place < inside {
+        return None;
+    }
+    let past = step.place - inside;
+    if past < outside {
+        return None;
+    }
+    Some(past - outside)
+}
+
+/// Appends the vertices of the polygons that the links which leave a polygon enter, in order of the links.
+pub fn push_link_ends(mesh: &Mesh, at: PolyRef, ends: &mut Vec<Vertex>) -> Result<(), AllocError>
+    ensures { OnOk result (ends.new.items ≡ ends.old.items ++ map end_of (links_from mesh.now at)) }
+{
+    push_vertices(entered_inside(mesh, at), ends)?;
+    push_vertices(entered_outside(mesh, at), ends)
+}
+
+/// What the link of a step weighs, which enters a given vertex: from the extents of the polygons that it leaves and enters.
+pub fn link_weight(mesh: &Mesh, step: Step, to: Vertex, left: Extent, entered: Extent) -> u64
+    requires sound { IsSound mesh.now }
+    requires setting { IsSetting mesh.now.setting }
+    requires there { Contains (vertices_of mesh.now) step.from }
+    requires place { step.place < length (arcs_from mesh.now step.from) }
+    requires end { (arc_of (arcs_from mesh.now) step).to ≡ to }
+    requires left { left ≡ extents_of mesh.now step.from }
+    requires entered { entered ≡ extents_of mesh.now to }
+    ensures { result ≡ (arc_of (arcs_from mesh.now) step).weight }
+{
+    let _ = (step, to);
+    weight(&mesh.setting, middle(left), entered)
 }
 
 /// A mesh that is searched for walks to a goal.
@@ -112,18 +156,15 @@ impl Graph for MeshGraph<'_> {
     ghost heaviest = { λ _. 2897000 };
 
     fn push_ends(&self, from: Vertex, ends: &mut Vec<Vertex>) -> Result<(), AllocError> {
-        let at = reference(from);
-        push_vertices(entered_inside(self.mesh, at), ends)?;
-        push_vertices(entered_outside(self.mesh, at), ends)
+        push_link_ends(self.mesh, polygon_at(from), ends)
     }
 
     fn spot(&self, of: Vertex) -> Extent {
-        extent_at(self.mesh, reference(of))
+        extent_at(self.mesh, polygon_at(of))
     }
 
     fn weight(&self, step: Step, to: Vertex, left: Extent, entered: Extent) -> u64 {
-        let _ = (step, to);
-        weight(&self.mesh.setting, middle(left), entered)
+        link_weight(self.mesh, step, to, left, entered)
     }
 
     fn estimate(&self, from: Vertex, spot: Extent) -> u64 {

@@ -20,7 +20,7 @@ const NOWHERE: Extent = Extent {
 };
 
 /// The extent of the polygon that a reference names.
-pub(crate) fn extent_at(mesh: &Mesh, at: PolyRef) -> Extent
+pub fn extent_at(mesh: &Mesh, at: PolyRef) -> Extent
     ensures { result ≡ extent_at mesh.now at }
 {
     match mesh.tiles.get(at.tile as usize) {

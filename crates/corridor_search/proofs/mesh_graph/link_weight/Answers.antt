@@ -8,27 +8,27 @@ use Rattle.corridor_search.specs.MeshGraphs.{polygon_of, middle_of}
 use Rattle.corridor_search.proofs.Vertices.{contains-there}
 use Rattle.corridor_search.proofs.Searchable.{step-enters}
 use Rattle.corridor_search.proofs.Extents.{extent-rules, weight-by-extents}
-use Rattle.corridor_search.proofs.mesh_graph.MeshGraphGraph.weight.Goals as goal
+use Rattle.corridor_search.proofs.mesh_graph.link_weight.Goals as goal
 
 pub middle-requires : goal.middle-requires
 middle-requires c =
-    (extent-rules c.args.self.now.mesh.now (polygon_of c.args.step.from) c.args.left c.requires.sound.sound
-    (contains-there c.args.self.now.mesh.now c.args.step.from c.requires.there) c.requires.left).box
+    (extent-rules c.args.mesh.now (polygon_of c.args.step.from) c.args.left c.requires.sound
+    (contains-there c.args.mesh.now c.args.step.from c.requires.there) c.requires.left).box
 
 pub weight-requires-clause-to : goal.weight-requires-clause-to
 weight-requires-clause-to c =
-    (extent-rules c.args.self.now.mesh.now (polygon_of c.args.to) c.args.entered c.requires.sound.sound
-    (step-enters c.args.self.now.mesh.now c.args.step c.args.to c.requires.sound.sound c.requires.place c.requires.end) c.requires.entered).box
+    (extent-rules c.args.mesh.now (polygon_of c.args.to) c.args.entered c.requires.sound
+    (step-enters c.args.mesh.now c.args.step c.args.to c.requires.sound c.requires.place c.requires.end) c.requires.entered).box
 
 pub weight-requires-clause-area : goal.weight-requires-clause-area
 weight-requires-clause-area c =
-    (extent-rules c.args.self.now.mesh.now (polygon_of c.args.to) c.args.entered c.requires.sound.sound
-    (step-enters c.args.self.now.mesh.now c.args.step c.args.to c.requires.sound.sound c.requires.place c.requires.end) c.requires.entered).area
+    (extent-rules c.args.mesh.now (polygon_of c.args.to) c.args.entered c.requires.sound
+    (step-enters c.args.mesh.now c.args.step c.args.to c.requires.sound c.requires.place c.requires.end) c.requires.entered).area
 
 pub returns : goal.returns
 returns c =
-    let mesh = c.args.self.now.mesh.now in
+    let mesh = c.args.mesh.now in
     c.weight.ensures
     ∙ ap (λ (p : Point). max 1 (ceil_sqrt_of (square_of (from_to p (middle_of c.args.entered)))) * slice_index mesh.setting.costs c.args.entered.area) c.middle.ensures.value
-    ∙ weight-by-extents mesh c.args.step c.args.to c.args.left c.args.entered c.requires.sound.sound
+    ∙ weight-by-extents mesh c.args.step c.args.to c.args.left c.args.entered c.requires.sound
     (contains-there mesh c.args.step.from c.requires.there) c.requires.place c.requires.end c.requires.left c.requires.entered
