@@ -1,5 +1,5 @@
 -- What is right for the question for a hop walk is determined: its kind, its first polygon and its cost. Without jumps they are those of a path.
-use Rattle.std.proofs.Common.{◌≡◌, ℕ, ◌+◌, ◌≤◌, List, [], ◌∷◌, map, refl, sym, subst, ◌∙◌, arith}
+use Rattle.std.proofs.Common.{◌≡◌, ℕ, List, [], ◌∷◌, map, refl, sym, subst, arith}
 use Rattle.std.proofs.lemmas.List.Sums.{sum_by-cons}
 use Rattle.std.proofs.lemmas.Option.{slice_get_within}
 use Rattle.nav_base.specs.declared.point.Point.{Point}
@@ -16,7 +16,7 @@ use Rattle.mesh_types.specs.declared.links.Link.{Link}
 use Rattle.mesh_types.specs.declared.links.PolyRef.{PolyRef}
 use Rattle.mesh_types.specs.declared.mesh.Mesh.{Mesh}
 use Rattle.mesh_types.specs.Corridors.{weight_of, WalksTo, cost_of}
-use Rattle.mesh_types.specs.Hops.{entered, HopsTo, step_weight, hop_cost, HasNoHop, IsHop, IsHopRight, AreAlikeHops, IsAsPath}
+use Rattle.mesh_types.specs.Hops.{HopsTo, step_weight, hop_cost, HasNoHop, IsHop, IsHopRight, AreAlikeHops, IsAsPath}
 use Rattle.mesh_types.specs.Right.{HasNoPath, IsPath, IsRightPath}
 use Rattle.mesh_types.proofs.RightLaws.{one_located}
 

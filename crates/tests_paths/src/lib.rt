@@ -11,6 +11,8 @@ mod chains;
 #[cfg(test)]
 mod corridors;
 #[cfg(test)]
+mod hops;
+#[cfg(test)]
 mod late_rows;
 #[cfg(test)]
 mod lists;

@@ -75,7 +75,7 @@ static CELLS: [Cell; 5] = [
     },
 ];
 
-const SETTING: Setting = Setting {
+pub(crate) const SETTING: Setting = Setting {
     width: 3,
     depth: 4,
     tile: 4,
@@ -102,7 +102,7 @@ fn tile(alloc: Global) -> Result<TileMesh, AllocError>
     strip_mesh(alloc, &free, &SETTING)
 }
 
-fn mesh(alloc: Global) -> Result<Mesh, AllocError>
+pub(crate) fn mesh(alloc: Global) -> Result<Mesh, AllocError>
     ensures sound { IfOk result IsSound }
     ensures setting { IfOk result (λ mesh. mesh.setting ≡ SETTING) }
 {

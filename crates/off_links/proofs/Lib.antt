@@ -1,0 +1,9 @@
+mod Tests
+mod Leaving
+mod Polygons
+mod Gathering
+mod Arcs
+mod Searched
+mod Weights
+mod HopWalks
+mod Stretches

@@ -1,0 +1,4 @@
+pub mod Leaps
+pub mod HopGraphs
+pub mod Questions
+pub mod Pulling
