@@ -1,2 +1,5 @@
 pub mod Walks
 pub mod Unions
+pub mod Listed
+pub mod Choosing
+pub mod Renewed

@@ -67,7 +67,7 @@ admissible-few b corners pieces m points same few is =
     at_most n few = grind (arith, nat_tests)
 
 -- what a search along a range finds is in the range
-find-below : (p : ℕ → Bool) (start count i : ℕ) → find p (range_with_len start count) ≡ Some i → i < start + count
+pub find-below : (p : ℕ → Bool) (start count i : ℕ) → find p (range_with_len start count) ≡ Some i → i < start + count
 find-below p start zero i is = absurd (cc)
 find-below p start (suc count) i is = cases (p start) is (λ e. find-below p (start + 1) count i e)
   where

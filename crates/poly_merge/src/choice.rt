@@ -1,148 +1,80 @@
 //! The merge that comes next.
 
-ghost use Rattle.std.specs.Prelude.{◌≡◌, ◌<◌, ◌≤◌, ◌*◌, ◌+◌, [], true, All, IfSome, length, unsigned_abs, if◌then◌else◌};
-ghost use Rattle.std.specs.List.{cons_option};
-ghost use Rattle.std.specs.Option.{option_map, option_map_or};
+ghost use Rattle.std.specs.Prelude.{◌≡◌, ◌≤◌, ◌*◌, All, IfSome, map, unsigned_abs};
+ghost use Rattle.std.specs.Option.{option_map};
 ghost use Rattle.nav_base.specs.Point.{HasCoordinates, from_to};
 ghost use Rattle.nav_base.specs.Deviation.{square_of};
 ghost use Rattle.mesh_types.specs.Choices.{or_later};
-ghost use Rattle.mesh_types.specs.Merging.{IsPieceOf, best_merge, is_admissible, is_longer, merge_over, merges_between, merges_from, places_at, shared_length};
-ghost use Rattle.poly_merge.specs.Seen.{IsMergeOf, IsSmall, best_with, seen};
+ghost use Rattle.mesh_types.specs.Merging.{IsPieceOf, best_merge, shared_length};
+ghost use Rattle.poly_merge.specs.Seen.{AreChoices, IsMergeOf, comes_before, place_cmp, seen};
 
-use crate::edge::{Merge, edge_end, facing, places_at};
-use crate::union::is_admissible;
+use crate::edge::{Merge, edge_end, places_at};
 use mesh_types::Piece;
 use nav_base::Point;
+use std::cmp::Ordering;
 
-/// The admissible merge over the longest edge, and of equally long ones the first; none where there is none.
-pub(crate) fn best_merge(corners: &[Point], pieces: &[Piece]) -> Option<Merge>
+/// The admissible merge over the longest edge, and of equally long ones the first; none where there is none. It is looked for among all
+/// admissible merges, which may stand in any order.
+pub(crate) fn best_merge(corners: &[Point], pieces: &[Piece], choices: &[Merge]) -> Option<Merge>
     requires coordinates { All HasCoordinates corners.now }
     requires pieces { All (IsPieceOf corners.now) pieces.now }
+    requires choices { AreChoices corners.now pieces.now (map seen choices.now) }
     ensures value { option_map seen result ≡ best_merge corners.now pieces.now }
     ensures there { IfSome result (IsMergeOf pieces.now) }
 {
     let mut best = None;
-    for first in 0..pieces.len() {
-        best = best_from(corners, pieces, first, best);
+    for choice in choices {
+        best = first_of(corners, pieces, best, *choice);
     }
     best
 }
 
-/// The best merge so far, or a better one of a piece with those behind it.
-fn best_from(
-    corners: &[Point],
-    pieces: &[Piece],
-    first: usize,
-    best: Option<Merge>,
-) -> Option<Merge>
-    requires coordinates { All HasCoordinates corners.now }
-    requires pieces { All (IsPieceOf corners.now) pieces.now }
-    requires first { first < length pieces.now }
-    requires best { IfSome best (IsMergeOf pieces.now) }
-    ensures value { option_map seen result
-        ≡ best_with corners.now pieces.now (option_map seen best) (merges_from pieces.now first) }
-    ensures there { IfSome result (IsMergeOf pieces.now) }
-{
-    let mut best = best;
-    for second in first + 1..pieces.len() {
-        best = best_between(corners, pieces, first, second, best);
-    }
-    best
-}
-
-/// The best merge so far, or a better one of two pieces.
-fn best_between(
-    corners: &[Point],
-    pieces: &[Piece],
-    first: usize,
-    second: usize,
-    best: Option<Merge>,
-) -> Option<Merge>
-    requires coordinates { All HasCoordinates corners.now }
-    requires pieces { All (IsPieceOf corners.now) pieces.now }
-    requires first { first < second }
-    requires second { second < length pieces.now }
-    requires best { IfSome best (IsMergeOf pieces.now) }
-    ensures value { option_map seen result
-        ≡ best_with corners.now pieces.now (option_map seen best) (merges_between pieces.now first second) }
-    ensures there { IfSome result (IsMergeOf pieces.now) }
-{
-    let places = places_at(pieces, first);
-    if places.len() + places_at(pieces, second).len() > 8 {
-        return best;
-    }
-    let mut best = best;
-    for edge in 0..places.len() {
-        best = best_over(corners, pieces, first, second, edge, best);
-    }
-    best
-}
-
-/// The best merge so far, or a better one of two pieces over an edge of the first.
-fn best_over(
-    corners: &[Point],
-    pieces: &[Piece],
-    first: usize,
-    second: usize,
-    edge: usize,
-    best: Option<Merge>,
-) -> Option<Merge>
-    requires coordinates { All HasCoordinates corners.now }
-    requires pieces { All (IsPieceOf corners.now) pieces.now }
-    requires first { first < second }
-    requires second { second < length pieces.now }
-    requires edge { edge < length (places_at pieces.now first) }
-    requires few { length (places_at pieces.now first) + length (places_at pieces.now second) ≤ 8 }
-    requires best { IfSome best (IsMergeOf pieces.now) }
-    ensures value { option_map seen result
-        ≡ best_with corners.now pieces.now (option_map seen best) (cons_option (merge_over pieces.now first second edge) []) }
-    ensures there { IfSome result (IsMergeOf pieces.now) }
-{
-    let Some(facing) = facing(places_at(pieces, first), edge, places_at(pieces, second)) else {
-        return best;
-    };
-    let merge = Merge {
-        first,
-        second,
-        edge,
-        facing,
-    };
-    or_later(corners, pieces, best, merge)
-}
-
-/// The best merge so far, or a later one where that is admissible and over a longer edge.
-fn or_later(corners: &[Point], pieces: &[Piece], best: Option<Merge>, merge: Merge) -> Option<Merge>
+/// The merge that comes next so far, or another one where that comes before it.
+fn first_of(corners: &[Point], pieces: &[Piece], best: Option<Merge>, merge: Merge) -> Option<Merge>
     requires coordinates { All HasCoordinates corners.now }
     requires pieces { All (IsPieceOf corners.now) pieces.now }
     requires best { IfSome best (IsMergeOf pieces.now) }
     requires merge { IsMergeOf pieces.now merge }
-    requires few { IsSmall pieces.now merge }
-    ensures value { option_map seen result
-        ≡ (if is_admissible corners.now pieces.now (seen merge)
-        then or_later (is_longer corners.now pieces.now) (option_map seen best) (seen merge) else option_map seen best) }
+    ensures value { option_map seen result ≡ or_later (comes_before corners.now pieces.now) (option_map seen best) (seen merge) }
     ensures there { IfSome result (IsMergeOf pieces.now) }
-{
-    if is_longer(corners, pieces, merge, best) && is_admissible(corners, pieces, merge) {
-        Some(merge)
-    } else {
-        best
-    }
-}
-
-/// Whether a merge is over a longer edge than the best so far, or the first.
-fn is_longer(corners: &[Point], pieces: &[Piece], merge: Merge, best: Option<Merge>) -> bool
-    requires coordinates { All HasCoordinates corners.now }
-    requires pieces { All (IsPieceOf corners.now) pieces.now }
-    requires best { IfSome best (IsMergeOf pieces.now) }
-    requires merge { IsMergeOf pieces.now merge }
-    ensures { result ≡ option_map_or (is_longer corners.now pieces.now (seen merge)) (option_map seen best) true }
 {
     match best {
         Some(best) => {
-            shared_length(corners, pieces, merge) > shared_length(corners, pieces, best)
+            if comes_before(corners, pieces, merge, best) {
+                Some(merge)
+            } else {
+                Some(best)
+            }
         }
-        None => true,
+        None => Some(merge),
     }
+}
+
+/// Whether a merge is over a longer edge than another, or over one as long and of earlier pieces.
+fn comes_before(corners: &[Point], pieces: &[Piece], merge: Merge, other: Merge) -> bool
+    requires coordinates { All HasCoordinates corners.now }
+    requires pieces { All (IsPieceOf corners.now) pieces.now }
+    requires merge { IsMergeOf pieces.now merge }
+    requires other { IsMergeOf pieces.now other }
+    ensures { result ≡ comes_before corners.now pieces.now (seen merge) (seen other) }
+{
+    shared_length(corners, pieces, other)
+        .cmp(&shared_length(corners, pieces, merge))
+        .then(place_order(merge, other))
+        .is_lt()
+}
+
+/// Which of two merges stands first: by the first piece, then by the second, then by the edge of the first.
+fn place_order(merge: Merge, other: Merge) -> Ordering
+    ensures { result ≡ place_cmp (seen merge) (seen other) }
+{
+    let pieces = merge.first.cmp(&other.first);
+    pieces.then(
+        merge
+            .second
+            .cmp(&other.second)
+            .then(merge.edge.cmp(&other.edge)),
+    )
 }
 
 /// The square of the length of the edge over which two pieces are merged, in squares of the unit of the points.

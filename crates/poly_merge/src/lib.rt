@@ -7,6 +7,7 @@
 #![tactic(auto)]
 
 mod choice;
+mod choices;
 mod edge;
 mod join;
 mod merging;

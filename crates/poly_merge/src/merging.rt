@@ -5,6 +5,7 @@ ghost use Rattle.mesh_types.specs.Ears.{AreEarsOf, CanBeCut, outline_area};
 ghost use Rattle.mesh_types.specs.Merging.{IsPieceOf, areas_of, best_merge, merged};
 
 use crate::choice::best_merge;
+use crate::choices::{all_choices, choices_after};
 use crate::join::{join, triangular};
 use mesh_types::{Outline, Piece, Triangle};
 use nav_list::Items;
@@ -30,8 +31,10 @@ pub fn merge(
 {
     let corners = outline.corners.as_slice();
     let mut pieces = triangular(alloc, triangles.as_slice())?;
-    while let Some(next) = best_merge(corners, pieces.as_slice()) {
+    let mut choices = all_choices(alloc, corners, pieces.as_slice())?;
+    while let Some(next) = best_merge(corners, pieces.as_slice(), choices.as_slice()) {
         join(alloc, &mut pieces, next)?;
+        choices = choices_after(alloc, corners, pieces.as_slice(), choices.as_slice(), next)?;
     }
     Ok(Items::from_vec(pieces))
 }

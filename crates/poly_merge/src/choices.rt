@@ -1,0 +1,216 @@
+//! The merges that may be made: all admissible ones, kept from merge to merge.
+
+ghost use Rattle.std.specs.Prelude.{◌≡◌, ◌<◌, ◌≤◌, ◌+◌, ◌++◌, [], All, IfOk, OnOk, length, map};
+ghost use Rattle.std.specs.List.{cons_option, filter_map, flat_map, range_with_len};
+ghost use Rattle.std.specs.Option.{option_map};
+ghost use Rattle.nav_base.specs.Point.{HasCoordinates};
+ghost use Rattle.mesh_types.specs.Merging.{IsPieceOf, merge_over, merges_between, merges_from, merges_of, places_at};
+ghost use Rattle.poly_merge.specs.Seen.{admissible_of, after_removal, is_of, left_over, merges_onto, merges_with, seen};
+
+use crate::edge::{Merge, facing, places_at};
+use crate::union::is_admissible;
+use mesh_types::Piece;
+use nav_base::Point;
+use std::alloc::{AllocError, Global};
+
+/// All admissible merges of pieces.
+pub(crate) fn all_choices(
+    alloc: Global,
+    corners: &[Point],
+    pieces: &[Piece],
+) -> Result<Vec<Merge>, AllocError>
+    requires coordinates { All HasCoordinates corners.now }
+    requires pieces { All (IsPieceOf corners.now) pieces.now }
+    ensures { IfOk result (λ choices. map seen choices.items ≡ admissible_of corners.now pieces.now (merges_of pieces.now)) }
+{
+    let mut choices = Vec::new(alloc);
+    for first in 0..pieces.len() {
+        push_from(&mut choices, corners, pieces, first)?;
+    }
+    Ok(choices)
+}
+
+/// The admissible merges of pieces of which one was just made by a merge: those that were before it and are of other pieces, and then those
+/// of the united piece.
+pub(crate) fn choices_after(
+    alloc: Global,
+    corners: &[Point],
+    pieces: &[Piece],
+    before: &[Merge],
+    made: Merge,
+) -> Result<Vec<Merge>, AllocError>
+    requires coordinates { All HasCoordinates corners.now }
+    requires pieces { All (IsPieceOf corners.now) pieces.now }
+    requires made { made.first < length pieces.now }
+    ensures { IfOk result (λ choices. map seen choices.items ≡ filter_map (left_over (seen made)) (map seen before.now)
+        ++ admissible_of corners.now pieces.now (merges_with pieces.now made.first)) }
+{
+    let mut choices = choices_left(alloc, before, made)?;
+    push_with(&mut choices, corners, pieces, made.first)?;
+    Ok(choices)
+}
+
+/// Of the merges before one, those that are not of its pieces, as merges of the pieces after it.
+fn choices_left(alloc: Global, before: &[Merge], made: Merge) -> Result<Vec<Merge>, AllocError>
+    ensures { IfOk result (λ choices. map seen choices.items ≡ filter_map (left_over (seen made)) (map seen before.now)) }
+{
+    let mut choices = Vec::with_capacity(alloc, before.len())?;
+    for choice in before {
+        push_left(&mut choices, *choice, made)?;
+    }
+    Ok(choices)
+}
+
+/// Appends a merge, as a merge of the pieces after another one was made, if it is not of the same pieces.
+fn push_left(choices: &mut Vec<Merge>, choice: Merge, made: Merge) -> Result<(), AllocError>
+    ensures { OnOk result (map seen choices.new.items
+        ≡ map seen choices.old.items ++ cons_option (left_over (seen made) (seen choice)) []) }
+{
+    let Some(left) = left_over(choice, made) else {
+        return Ok(());
+    };
+    choices.push(left)?;
+    Ok(())
+}
+
+/// A merge as one of the pieces after another one was made; none where that was of one of its pieces.
+fn left_over(choice: Merge, made: Merge) -> Option<Merge>
+    ensures { option_map seen result ≡ left_over (seen made) (seen choice) }
+{
+    if is_of(choice, made.first) || is_of(choice, made.second) {
+        return None;
+    }
+    Some(Merge {
+        first: after_removal(choice.first, made.second),
+        second: after_removal(choice.second, made.second),
+        edge: choice.edge,
+        facing: choice.facing,
+    })
+}
+
+/// Whether the piece at an index is one of the two of a merge.
+fn is_of(merge: Merge, index: usize) -> bool
+    ensures { result ≡ is_of (seen merge) index }
+{
+    merge.first == index || merge.second == index
+}
+
+/// Where an element of a list stands once another one was taken out.
+fn after_removal(index: usize, removed: usize) -> usize
+    ensures { result ≡ after_removal index removed }
+{
+    if removed < index { index - 1 } else { index }
+}
+
+/// Appends the admissible merges of a piece with all others.
+fn push_with(
+    choices: &mut Vec<Merge>,
+    corners: &[Point],
+    pieces: &[Piece],
+    index: usize,
+) -> Result<(), AllocError>
+    requires coordinates { All HasCoordinates corners.now }
+    requires pieces { All (IsPieceOf corners.now) pieces.now }
+    requires there { index < length pieces.now }
+    ensures { OnOk result (map seen choices.new.items
+        ≡ map seen choices.old.items ++ admissible_of corners.now pieces.now (merges_with pieces.now index)) }
+{
+    push_onto(choices, corners, pieces, index)?;
+    push_from(choices, corners, pieces, index)
+}
+
+/// Appends the admissible merges of a piece with those before it.
+fn push_onto(
+    choices: &mut Vec<Merge>,
+    corners: &[Point],
+    pieces: &[Piece],
+    second: usize,
+) -> Result<(), AllocError>
+    requires coordinates { All HasCoordinates corners.now }
+    requires pieces { All (IsPieceOf corners.now) pieces.now }
+    requires there { second < length pieces.now }
+    ensures { OnOk result (map seen choices.new.items ≡ map seen choices.old.items
+        ++ admissible_of corners.now pieces.now (merges_onto pieces.now second)) }
+{
+    for first in 0..second {
+        push_between(choices, corners, pieces, first, second)?;
+    }
+    Ok(())
+}
+
+/// Appends the admissible merges of a piece with those behind it.
+fn push_from(
+    choices: &mut Vec<Merge>,
+    corners: &[Point],
+    pieces: &[Piece],
+    first: usize,
+) -> Result<(), AllocError>
+    requires coordinates { All HasCoordinates corners.now }
+    requires pieces { All (IsPieceOf corners.now) pieces.now }
+    requires there { first < length pieces.now }
+    ensures { OnOk result (map seen choices.new.items
+        ≡ map seen choices.old.items ++ admissible_of corners.now pieces.now (merges_from pieces.now first)) }
+{
+    for second in first + 1..pieces.len() {
+        push_between(choices, corners, pieces, first, second)?;
+    }
+    Ok(())
+}
+
+/// Appends the admissible merges of two pieces.
+fn push_between(
+    choices: &mut Vec<Merge>,
+    corners: &[Point],
+    pieces: &[Piece],
+    first: usize,
+    second: usize,
+) -> Result<(), AllocError>
+    requires coordinates { All HasCoordinates corners.now }
+    requires pieces { All (IsPieceOf corners.now) pieces.now }
+    requires first { first < second }
+    requires second { second < length pieces.now }
+    ensures { OnOk result (map seen choices.new.items
+        ≡ map seen choices.old.items ++ admissible_of corners.now pieces.now (merges_between pieces.now first second)) }
+{
+    let edges = places_at(pieces, first).len();
+    if edges + places_at(pieces, second).len() > 8 {
+        return Ok(());
+    }
+    for edge in 0..edges {
+        push_over(choices, corners, pieces, first, second, edge)?;
+    }
+    Ok(())
+}
+
+/// Appends the merge of two pieces over an edge of the first, if it is admissible.
+fn push_over(
+    choices: &mut Vec<Merge>,
+    corners: &[Point],
+    pieces: &[Piece],
+    first: usize,
+    second: usize,
+    edge: usize,
+) -> Result<(), AllocError>
+    requires coordinates { All HasCoordinates corners.now }
+    requires pieces { All (IsPieceOf corners.now) pieces.now }
+    requires first { first < second }
+    requires second { second < length pieces.now }
+    requires edge { edge < length (places_at pieces.now first) }
+    requires few { length (places_at pieces.now first) + length (places_at pieces.now second) ≤ 8 }
+    ensures { OnOk result (map seen choices.new.items ≡ map seen choices.old.items
+        ++ admissible_of corners.now pieces.now (cons_option (merge_over pieces.now first second edge) [])) }
+{
+    let Some(facing) = facing(places_at(pieces, first), edge, places_at(pieces, second)) else {
+        return Ok(());
+    };
+    let merge = Merge {
+        first,
+        second,
+        edge,
+        facing,
+    };
+    if is_admissible(corners, pieces, merge) {
+        choices.push(merge)?;
+    }
+    Ok(())
+}
