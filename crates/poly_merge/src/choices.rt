@@ -13,6 +13,9 @@ use mesh_types::Piece;
 use nav_base::Point;
 use std::alloc::{AllocError, Global};
 
+/// How many edges two pieces may have that are united: the six of a piece, and those that they share.
+const EDGES_OF_TWO: usize = 8;
+
 /// All admissible merges of pieces.
 pub(crate) fn all_choices(
     alloc: Global,
@@ -173,7 +176,7 @@ fn push_between(
         ≡ map seen choices.old.items ++ admissible_of corners.now pieces.now (merges_between pieces.now first second)) }
 {
     let edges = places_at(pieces, first).len();
-    if edges + places_at(pieces, second).len() > 8 {
+    if edges + places_at(pieces, second).len() > EDGES_OF_TWO {
         return Ok(());
     }
     for edge in 0..edges {

@@ -8,13 +8,13 @@ use Rattle.poly_merge.proofs.Unions.{none-admissible}
 use Rattle.poly_merge.proofs.Walks.{filter_map-gathered, gather-more}
 use Rattle.poly_merge.proofs.choices.push_between.Goals as goal
 
-pub returns-then-edges-places_at-gt8 : goal.returns-then-edges-places_at-gt8
-returns-then-edges-places_at-gt8 c =
+pub returns-then-edges-places_at-gt-EDGES_OF_TWO : goal.returns-then-edges-places_at-gt-EDGES_OF_TWO
+returns-then-edges-places_at-gt-EDGES_OF_TWO c =
     sym (append-nil (map seen c.args.choices.now.items))
     ∙ ap (λ ms. map seen c.args.choices.now.items ++ ms)
     (sym (filter_none (is_admissible c.args.corners.now c.args.pieces.now) (merges_between c.args.pieces.now c.args.first c.args.second)
     (none-admissible c.args.corners.now c.args.pieces.now c.args.first c.args.second
-    (omega (arith, c.if-edges-places_at-gt8.true, ap length c.places_at-edges.ensures, ap length c.places_at.ensures)))))
+    (omega (arith, c.if-edges-places_at-gt-EDGES_OF_TWO.true, ap length c.places_at-edges.ensures, ap length c.places_at.ensures)))))
 
 pub loop-edge-preserved : goal.loop-edge-preserved
 loop-edge-preserved c =

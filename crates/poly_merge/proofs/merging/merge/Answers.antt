@@ -8,7 +8,7 @@ use Rattle.mesh_types.proofs.AreaLaws.{ears_of-area}
 use Rattle.mesh_types.proofs.UnionAreas.{area-union, areas-joined, areas-triangles, piece-some}
 use Rattle.mesh_types.proofs.MergeLaws.{length-joined, merge_all-none, merge_all-some, merged-begun, triangles-pieces}
 use Rattle.poly_merge.specs.Seen.{seen}
-use Rattle.poly_merge.proofs.Renewed.{IsNext, choices_in, first_choices, next_choices, next_is, next_pieces}
+use Rattle.poly_merge.proofs.Renewed.{choices_in, first_choices, next_choices, next_is, next_pieces}
 use Rattle.poly_merge.proofs.merging.merge.Goals as goal
 use Rattle.poly_merge.proofs.merging.merge.Goals.{After-as_slice-2}
 
