@@ -1,6 +1,6 @@
 //! The parts of a tile's regions: their outlines, cut into pieces.
 
-ghost use Rattle.std.specs.Prelude.{◌≡◌, ◌<◌, [], IfOk, IfSome, All, length, unwrap_or};
+ghost use Rattle.std.specs.Prelude.{◌≡◌, ◌<◌, [], true, None, IfOk, IfSome, All, length, unwrap_or};
 ghost use Rattle.nav_ground.specs.Cells.{IsCells};
 ghost use Rattle.mesh_types.specs.Regions.{AreRegionsOf};
 ghost use Rattle.mesh_types.specs.Simplified.{IsOutline};
@@ -12,7 +12,7 @@ ghost use Rattle.contour_mesh.specs.Parts.{IsCutPart};
 use contour_simplify::simplify;
 use contour_walk::{RegionTable, contour_over};
 use ear_cut::{EarRefusal, ears};
-use mesh_types::{Outline, Part, Regions, Simplified};
+use mesh_types::{Outline, Part, Region, Regions, Simplified};
 use nav_ground::Cell;
 use nav_list::Items;
 use poly_merge::merge;
@@ -33,6 +33,10 @@ pub fn parts(
     ensures value { IfOk result (λ parts. parts ≡ parts_of table.now.window error cells.now regions.now) }
     ensures each { IfOk result (λ parts. IfSome parts (All IsCutPart)) }
 {
+    let flat = has_small_flat(alloc, cells, regions, table, error)?;
+    if flat {
+        return Ok(None);
+    }
     let mut parts = Vec::new(alloc);
     for id in 0..regions.regions.len() as u32 {
         let Some(part) = region_part(alloc, cells, regions, table, error, id)? else {
@@ -41,6 +45,81 @@ pub fn parts(
         parts.push(part)?;
     }
     Ok(Some(Items::from_vec(parts)))
+}
+
+/// Whether some region of one or two cells has no outline. Where a region of a tile has none, one of these has none nearly always; so they
+/// are looked at before any outline is cut.
+fn has_small_flat(
+    alloc: Global,
+    cells: &[Cell],
+    regions: &Regions,
+    table: &RegionTable,
+    error: u32,
+) -> Result<bool, AllocError>
+    requires cells { IsCells cells.now }
+    requires regions { AreRegionsOf cells.now regions.now }
+    requires table { IsTableOf cells.now regions.now.regions table.now }
+    ensures { IfOk result (λ found. found ≡ true → None ≡ parts_of table.now.window error cells.now regions.now) }
+{
+    for id in 0..regions.regions.len() as u32 {
+        let found = is_small_flat(alloc, cells, regions, table, error, id)?;
+        if found {
+            return Ok(true);
+        }
+    }
+    Ok(false)
+}
+
+/// Whether the region with a number has one or two cells and no outline.
+fn is_small_flat(
+    alloc: Global,
+    cells: &[Cell],
+    regions: &Regions,
+    table: &RegionTable,
+    error: u32,
+    id: u32,
+) -> Result<bool, AllocError>
+    requires cells { IsCells cells.now }
+    requires regions { AreRegionsOf cells.now regions.now }
+    requires table { IsTableOf cells.now regions.now.regions table.now }
+    requires there { id < length regions.now.regions }
+    ensures { IfOk result (λ found. found ≡ true → None ≡ region_part table.now.window error cells.now regions.now id) }
+{
+    if !is_small(&regions.regions.as_slice()[id as usize]) {
+        return Ok(false);
+    }
+    is_flat(alloc, cells, regions, table, error, id)
+}
+
+/// Whether a region has one or two cells.
+fn is_small(region: &Region) -> bool {
+    match region.strips.as_slice() {
+        [strip] => strip.levels.len() <= 2,
+        [first, second] => first.levels.len() == 1 && second.levels.len() == 1,
+        _ => false,
+    }
+}
+
+/// Whether the region with a number has no outline.
+fn is_flat(
+    alloc: Global,
+    cells: &[Cell],
+    regions: &Regions,
+    table: &RegionTable,
+    error: u32,
+    id: u32,
+) -> Result<bool, AllocError>
+    requires cells { IsCells cells.now }
+    requires regions { AreRegionsOf cells.now regions.now }
+    requires table { IsTableOf cells.now regions.now.regions table.now }
+    requires there { id < length regions.now.regions }
+    ensures { IfOk result (λ found. found ≡ true → None ≡ region_part table.now.window error cells.now regions.now id) }
+{
+    let rim = contour_over(alloc, cells, regions, table, id)?;
+    match simplify(alloc, rim.as_slice(), error)? {
+        Simplified::Flat => Ok(true),
+        Simplified::Outline(_) => Ok(false),
+    }
 }
 
 /// The part of the region with a number; none where it has no outline, or one that cannot be cut.

@@ -1,6 +1,5 @@
-use Rattle.std.proofs.Common.{◌≡◌, ◌≤◌, ◌∙◌, List, length, map, ap, arith, refl, sym}
+use Rattle.std.proofs.Common.{◌∙◌, length, ap, arith, refl}
 use Rattle.std.proofs.lemmas.List.{length-map}
-use Rattle.nav_ground.specs.declared.cell.Cell.{Cell}
 use Rattle.mesh_types.specs.ContourMeshes.{doors_of, facet_polygon, facets_of}
 use Rattle.contour_mesh.proofs.MeshLaws.{mesh_of_parts}
 use Rattle.contour_mesh.proofs.build.mesh.Goals as goal

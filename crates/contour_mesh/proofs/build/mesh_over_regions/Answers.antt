@@ -1,4 +1,4 @@
-use Rattle.std.proofs.Common.{◌≡◌, ◌∙◌, List, Option, Some, ap, refl, subst, sym}
+use Rattle.std.proofs.Common.{◌∙◌, List, Option, Some, ap, refl, subst, sym}
 use Rattle.std.specs.Prelude.{All, IfSome}
 use Rattle.mesh_types.specs.declared.door.Part.{Part}
 use Rattle.mesh_types.specs.Regions.{AreRegionsOf}

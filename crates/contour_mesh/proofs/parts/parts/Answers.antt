@@ -16,6 +16,9 @@ overflow_cast-id-end c =
       c.requires.cells.few,
     )
 
+pub returns-then-flat-clause-value : goal.returns-then-flat-clause-value
+returns-then-flat-clause-value c = c.in_ok-flat.ensures c.if-flat.true
+
 pub returns-in_default-clause-value : goal.returns-in_default-clause-value
 returns-in_default-clause-value c =
     parts_stop c.args.table.now.window c.args.error c.args.cells.now c.args.regions.now c.loop-id.id (omega (arith, c.loop-id-test.true, c.len-id-end.ensures))
