@@ -1,3 +1,4 @@
+pub mod Bounds
 pub mod Flags
 pub mod SameShapes
 pub mod LiveTable

@@ -9,6 +9,7 @@ ghost use Rattle.nav_desk.specs.BookState.{IsBook, first_state, least_awaited};
 ghost use Rattle.nav_desk.specs.Steps.{IsJob, next_reply, next_job, request_answer, requested, after_request, after_aim, after_claim, after_put_back, after_put_back_all, after_submit, after_publish, submission};
 
 use crate::answers::{HistoryFull, Job, Published, Submitted};
+use crate::bounded::Bounded;
 use crate::least_set::LeastSet;
 use crate::live::{Live, answer, take_over};
 use crate::marks::{look_again, mark_changed};
@@ -31,7 +32,7 @@ pub struct Desk {
     target: u32,
     published: u32,
     /// The shapes that are alive at the target.
-    aimed: Vec<Shape>,
+    aimed: Vec<Bounded>,
     stored: Vec<Items<Shape>>,
     /// The tiles that a shape touches which came or went since the target.
     dirty: LeastSet,
@@ -267,7 +268,7 @@ impl Desk {
 struct Room {
     entries: Vec<Entry>,
     live: Vec<Live>,
-    aimed: Vec<Shape>,
+    aimed: Vec<Bounded>,
 }
 
 /// The room for a whole history and for so many live obstacles, with nothing in it.

@@ -8,6 +8,7 @@
 #![tactic(auto)]
 
 mod answers;
+mod bounded;
 mod desk;
 mod least_set;
 mod live;

@@ -6,20 +6,21 @@ ghost use Rattle.nav_ground.specs.Limits.{IsShape};
 ghost use Rattle.std.specs.List.{list_any};
 ghost use Rattle.nav_desk.specs.LiveTable.{is_row_of, rows_without, rows_after, reply_among, shapes_in, IsChangedBy, IsRising};
 
-use nav_ground::{Reply, Request, Shape};
+use crate::bounded::Bounded;
+use nav_ground::{Reply, Request};
 
 /// An obstacle that is alive: the number of the entry that added it, and its shape.
 #[derive(Clone, Copy)]
 pub struct Live {
     pub number: u32,
-    pub shape: Shape,
+    pub shape: Bounded,
 }
 
 /// What a request is answered, and the shape that came or went by it, if one did.
 #[derive(Clone, Copy)]
 pub(crate) struct Answered {
     pub(crate) reply: Reply,
-    pub(crate) changed: Option<Shape>,
+    pub(crate) changed: Option<Bounded>,
 }
 
 /// Answers the request of the entry with a number, and keeps the table.
@@ -37,17 +38,17 @@ pub(crate) fn answer(live: &mut Vec<Live>, limit: u32, number: u32, request: Req
     ensures room_after { vec_capacity live.new ≡ vec_capacity live.old }
 {
     match request {
-        Request::Add(shape) => add(live, limit, Live { number, shape }),
+        Request::Add(shape) => add(live, limit, number, Bounded::new(shape)),
         Request::Remove(other) => remove(live, other),
     }
 }
 
-fn add(live: &mut Vec<Live>, limit: u32, row: Live) -> Answered
+fn add(live: &mut Vec<Live>, limit: u32, number: u32, shape: Bounded) -> Answered
     requires few { length live.old.items ≤ limit }
     requires room { limit ≤ vec_capacity live.old }
-    requires shape { IsShape row.shape }
-    ensures reply { result.reply ≡ (if length live.old.items == limit then Reply.Full limit else Reply.Added row.number) }
-    ensures table { live.new.items ≡ (if length live.old.items == limit then live.old.items else live.old.items ++ row ∷ []) }
+    requires shape { IsShape shape }
+    ensures reply { result.reply ≡ (if length live.old.items == limit then Reply.Full limit else Reply.Added number) }
+    ensures table { live.new.items ≡ (if length live.old.items == limit then live.old.items else live.old.items ++ record { number = number; shape = shape } ∷ []) }
     ensures changed { IsChangedBy result.changed live.old.items live.new.items }
     ensures shape_after { IfSome result.changed IsShape }
     ensures few_after { length live.new.items ≤ limit }
@@ -59,10 +60,10 @@ fn add(live: &mut Vec<Live>, limit: u32, row: Live) -> Answered
             changed: None,
         };
     }
-    live.push_reserved(row);
+    live.push_reserved(Live { number, shape });
     Answered {
-        reply: Reply::Added { number: row.number },
-        changed: Some(row.shape),
+        reply: Reply::Added { number },
+        changed: Some(shape),
     }
 }
 
@@ -92,7 +93,7 @@ fn remove(live: &mut Vec<Live>, number: u32) -> Answered
 }
 
 /// Takes over the shapes of a table.
-pub(crate) fn take_over(live: &[Live], aimed: &mut Vec<Shape>)
+pub(crate) fn take_over(live: &[Live], aimed: &mut Vec<Bounded>)
     requires { length live.now ≤ vec_capacity aimed.old }
     ensures shapes { aimed.new.items ≡ shapes_in live.now }
     ensures room { vec_capacity aimed.new ≡ vec_capacity aimed.old }

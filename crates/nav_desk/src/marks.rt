@@ -8,15 +8,16 @@ ghost use Rattle.nav_ground.specs.Touching.{is_touching};
 ghost use Rattle.nav_desk.specs.Awaiting.{awaits};
 ghost use Rattle.nav_desk.specs.Flags.{flag_of};
 
+use crate::bounded::Bounded;
 use crate::least_set::LeastSet;
 use crate::reach::{TileRange, places, tiles_along};
 use crate::touching::is_touching_list;
 use crate::waiting::WaitingTiles;
-use nav_ground::{Setting, Shape, TileNo, bounds};
+use nav_ground::{Setting, Shape, TileNo};
 use nav_list::Items;
 
 /// Marks the tiles that a shape touches, if one has come or gone.
-pub(crate) fn mark_changed(setting: &Setting, dirty: &mut LeastSet, changed: Option<Shape>)
+pub(crate) fn mark_changed(setting: &Setting, dirty: &mut LeastSet, changed: Option<Bounded>)
     requires setting { IsSetting setting.now }
     requires shape { IfSome changed IsShape }
     requires tiles { length dirty.old ≡ tile_count setting.now }
@@ -31,7 +32,7 @@ pub(crate) fn mark_changed(setting: &Setting, dirty: &mut LeastSet, changed: Opt
 }
 
 /// Marks the tiles that a shape touches.
-fn mark(setting: &Setting, dirty: &mut LeastSet, shape: &Shape)
+fn mark(setting: &Setting, dirty: &mut LeastSet, shape: &Bounded)
     requires setting { IsSetting setting.now }
     requires shape { IsShape shape.now }
     requires tiles { length dirty.old ≡ tile_count setting.now }
@@ -41,7 +42,7 @@ fn mark(setting: &Setting, dirty: &mut LeastSet, shape: &Shape)
 {
     let columns = tiles_along(setting.width, setting.tile);
     let rows = tiles_along(setting.depth, setting.tile);
-    let window = bounds(shape);
+    let window = shape.bounds();
     let across = places(window.x0, window.x1, setting.tile, columns);
     let along = places(window.z0, window.z1, setting.tile, rows);
     mark_rows(dirty, columns, along, across);
@@ -80,13 +81,12 @@ fn mark_run(dirty: &mut LeastSet, start: u32, across: TileRange)
 /// Looks again at each marked tile, whether it is awaited, and takes the marks away; one step where no tile is marked.
 pub(crate) fn look_again(
     setting: &Setting,
-    aimed: &[Shape],
+    aimed: &[Bounded],
     stored: &[Items<Shape>],
     dirty: &mut LeastSet,
     waiting: &mut WaitingTiles,
 )
     requires setting { IsSetting setting.now }
-    requires shapes { All IsShape aimed.now }
     requires lists { length stored.now ≡ tile_count setting.now }
     requires marks { length dirty.old ≡ tile_count setting.now }
     requires flags { length waiting.old.awaited ≡ tile_count setting.now }
@@ -107,13 +107,12 @@ pub(crate) fn look_again(
 /// Looks again at a tile, whether it is awaited.
 fn look_at(
     setting: &Setting,
-    aimed: &[Shape],
+    aimed: &[Bounded],
     stored: &[Items<Shape>],
     tile: TileNo,
     waiting: &mut WaitingTiles,
 )
     requires setting { IsSetting setting.now }
-    requires shapes { All IsShape aimed.now }
     requires there { tile < tile_count setting.now }
     requires lists { length stored.now ≡ tile_count setting.now }
     requires flags { length waiting.old.awaited ≡ tile_count setting.now }

@@ -1,12 +1,13 @@
 //! The shapes that touch a tile.
 
-ghost use Rattle.std.specs.Prelude.{◌≡◌, ◌↔◌, ◌<◌, IsTrue, IfOk, All, length, slice_index_or};
-ghost use Rattle.nav_ground.specs.Limits.{IsSetting, IsShape};
+ghost use Rattle.std.specs.Prelude.{◌≡◌, ◌↔◌, ◌<◌, IsTrue, IfOk, length, slice_index_or};
+ghost use Rattle.nav_ground.specs.Limits.{IsSetting};
 ghost use Rattle.nav_ground.specs.Tiling.{tile_count};
 ghost use Rattle.nav_ground.specs.Touching.{touching_shapes};
 ghost use Rattle.nav_desk.specs.SameShapes.{are_same};
 
-use nav_ground::{Setting, Shape, TileNo, touches};
+use crate::bounded::Bounded;
+use nav_ground::{Setting, Shape, TileNo, tile_bounds};
 use nav_list::Items;
 use std::alloc::{AllocError, Global};
 
@@ -15,17 +16,17 @@ pub(crate) fn touching_list(
     alloc: Global,
     setting: &Setting,
     tile: TileNo,
-    shapes: &[Shape],
+    shapes: &[Bounded],
 ) -> Result<Items<Shape>, AllocError>
     requires setting { IsSetting setting.now }
     requires there { tile < tile_count setting.now }
-    requires shapes { All IsShape shapes.now }
     ensures { IfOk result (λ list. list ≡ touching_shapes setting.now tile shapes.now) }
 {
+    let columns = tile_bounds(setting, tile);
     let mut list = Vec::new(alloc);
     for shape in shapes {
-        if touches(setting, tile, shape) {
-            list.push(*shape)?;
+        if shape.meets(columns) {
+            list.push(*shape.get())?;
         }
     }
     Ok(Items::from_vec(list))
@@ -35,19 +36,19 @@ pub(crate) fn touching_list(
 pub(crate) fn is_touching_list(
     setting: &Setting,
     tile: TileNo,
-    shapes: &[Shape],
+    shapes: &[Bounded],
     list: &[Shape],
 ) -> bool
     requires setting { IsSetting setting.now }
     requires there { tile < tile_count setting.now }
-    requires shapes { All IsShape shapes.now }
     ensures test { result ≡ are_same list.now (touching_shapes setting.now tile shapes.now) }
     ensures own { IsTrue result ↔ (list.now ≡ touching_shapes setting.now tile shapes.now) }
 {
+    let columns = tile_bounds(setting, tile);
     let mut place = 0;
     for shape in shapes {
-        if touches(setting, tile, shape) {
-            if !is_at(list, place, shape) {
+        if shape.meets(columns) {
+            if !is_at(list, place, shape.get()) {
                 return false;
             }
             place += 1;

@@ -17,8 +17,8 @@ pub returns-clause-marked : goal.returns-clause-marked
 returns-clause-marked c = λ tile there is.
     let setting : Setting = c.args.setting.now in
     let some = some_columns (tiles_in_row setting) (tile_rows setting) tile there in
-    let x = subst (λ (w : Window). IsMet w.x0 w.x1 (tile % tiles_in_row setting) setting.tile) (sym c.bounds-window.ensures.value) (met_across setting tile c.args.shape.now c.requires.setting is) in
-    let z = subst (λ (w : Window). IsMet w.z0 w.z1 (tile / tiles_in_row setting) setting.tile) (sym c.bounds-window.ensures.value) (met_along setting tile c.args.shape.now c.requires.setting is) in
+    let x = subst (λ (w : Window). IsMet w.x0 w.x1 (tile % tiles_in_row setting) setting.tile) (sym c.bounds-window.ensures) (met_across setting tile c.args.shape.now c.requires.setting is) in
+    let z = subst (λ (w : Window). IsMet w.z0 w.z1 (tile / tiles_in_row setting) setting.tile) (sym c.bounds-window.ensures) (met_along setting tile c.args.shape.now c.requires.setting is) in
     let x_begins = x.begins in
     let x_ends = x.ends in
     let z_begins = z.begins in

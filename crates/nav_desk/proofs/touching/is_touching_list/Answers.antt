@@ -5,32 +5,35 @@ use Rattle.nav_ground.specs.declared.shape.Shape.{Shape}
 use Rattle.nav_ground.specs.Touching.{is_touching, touching_shapes}
 use Rattle.nav_desk.specs.SameShapes.{are_same}
 use Rattle.nav_desk.proofs.SameShapes.{test_decides}
-use Rattle.nav_desk.proofs.Touched.{stops, goes_on, passes_by, same_end}
+use Rattle.nav_desk.proofs.Touched.{met, stops, goes_on, passes_by, same_end}
 use Rattle.nav_desk.proofs.touching.is_touching_list.Goals as goal
-use Rattle.nav_desk.proofs.touching.is_touching_list.Goals.{then-touches+else-not-is_at, else-touches}
+use Rattle.nav_desk.proofs.touching.is_touching_list.Goals.{then-meets+else-not-is_at, else-meets}
 
 pub returns-then-not-is_at-clause-test : goal.returns-then-not-is_at-clause-test
 returns-then-not-is_at-clause-test c =
-    stops (is_touching c.args.setting.now c.args.tile) c.args.shapes.now c.args.list.now c.loop-shape.shape-index c.loop-shape.place _ _ c.loop-shape-test.true
-    (sym c.touches.ensures.test ∙ c.if-touches.true) (λ next. both_ways _ c.if-not-is_at.true (c.is_at.ensures.1 next)) c.loop-shape.invariant.rest
+    let stands = rw c.get.ensures at c.is_at.ensures in
+    stops (is_touching c.args.setting.now c.args.tile) c.args.shapes.now c.args.list.now c.loop-shape.shape-index c.loop-shape.place c.shape-item.result _ c.loop-shape-test.true
+    c.shape-item.is (met c.args.setting.now c.args.tile c.shape-item.result _ _ c.meets.ensures c.tile_bounds-columns.ensures ∙ c.if-meets.true)
+    (λ next. both_ways _ c.if-not-is_at.true (stands.1 next)) c.loop-shape.invariant.rest
 
 pub loop-shape-preserved : goal.loop-shape-preserved
-loop-shape-preserved c = elim c.if-touches.branch [
-  | then-touches+else-not-is_at w ↦
-      let next = w.is_at.ensures.0 w.if-not-is_at.false in
+loop-shape-preserved c = elim c.if-meets.branch [
+  | then-meets+else-not-is_at w ↦
+      let stands = rw w.get.ensures at w.is_at.ensures in
+      let next = stands.0 w.if-not-is_at.false in
       record {
         within = omega (arith, w.place-is, next.0);
         rest = subst (λ (n : ℕ). are_same (drop n c.args.list.now) (touching_shapes c.args.setting.now c.args.tile (drop (c.loop-shape.shape-index + 1) c.args.shapes.now)) ≡ are_same c.args.list.now (touching_shapes c.args.setting.now c.args.tile c.args.shapes.now))
             (sym w.place-is)
-            (goes_on (is_touching c.args.setting.now c.args.tile) c.args.shapes.now c.args.list.now c.loop-shape.shape-index c.loop-shape.place _ _ c.loop-shape-test.true
-            (sym c.touches.ensures.test ∙ w.if-touches.true) next c.loop-shape.invariant.rest);
+            (goes_on (is_touching c.args.setting.now c.args.tile) c.args.shapes.now c.args.list.now c.loop-shape.shape-index c.loop-shape.place c.shape-item.result _ c.loop-shape-test.true
+            c.shape-item.is (met c.args.setting.now c.args.tile c.shape-item.result _ _ c.meets.ensures c.tile_bounds-columns.ensures ∙ w.if-meets.true) next c.loop-shape.invariant.rest);
       }
-  | else-touches w ↦ record {
+  | else-meets w ↦ record {
     within = omega (arith, w.place-is, c.loop-shape.invariant.within);
     rest = subst (λ (n : ℕ). are_same (drop n c.args.list.now) (touching_shapes c.args.setting.now c.args.tile (drop (c.loop-shape.shape-index + 1) c.args.shapes.now)) ≡ are_same c.args.list.now (touching_shapes c.args.setting.now c.args.tile c.args.shapes.now))
         (sym w.place-is)
-        (passes_by (is_touching c.args.setting.now c.args.tile) c.args.shapes.now c.args.list.now c.loop-shape.shape-index c.loop-shape.place _ _ c.loop-shape-test.true
-        (sym c.touches.ensures.test ∙ w.if-touches.false) c.loop-shape.invariant.rest);
+        (passes_by (is_touching c.args.setting.now c.args.tile) c.args.shapes.now c.args.list.now c.loop-shape.shape-index c.loop-shape.place c.shape-item.result _ c.loop-shape-test.true
+        c.shape-item.is (met c.args.setting.now c.args.tile c.shape-item.result _ _ c.meets.ensures c.tile_bounds-columns.ensures ∙ w.if-meets.false) c.loop-shape.invariant.rest);
   }
 ]
 

@@ -3,15 +3,9 @@ use Rattle.std.specs.Arc.{arc_value}
 use Rattle.nav_ground.specs.Touching.{touching_shapes}
 use Rattle.nav_desk.specs.Flags.{flag_of}
 use Rattle.nav_desk.specs.LiveTable.{shapes_in}
-use Rattle.nav_desk.proofs.Histories.{table_limits}
 use Rattle.nav_desk.proofs.Keeping.{is_book, looked_at}
 use Rattle.nav_desk.proofs.Tables.{table_shapes}
 use Rattle.nav_desk.proofs.desk.Desk.aim.Goals as goal
-
-pub look_again-requires-clause-shapes : goal.look_again-requires-clause-shapes
-look_again-requires-clause-shapes c =
-    let taken = rw c.as_slice.ensures.value at c.take_over.ensures.shapes in
-    rw (c.as_slice-2.ensures.value, taken) (table_limits c.self.inside.entries.items c.self.inside.live.items c.self.invariant.history.requests c.self.invariant.table)
 
 pub invariant_of-self : goal.invariant_of-self
 invariant_of-self c =

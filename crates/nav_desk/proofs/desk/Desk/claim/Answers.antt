@@ -3,16 +3,13 @@ use Rattle.std.proofs.lemmas.List.{length-set}
 use Rattle.nav_desk.specs.BookState.{is_claimable}
 use Rattle.nav_desk.specs.Representation.{state_of}
 use Rattle.nav_desk.specs.Waiting.{Waiting}
-use Rattle.nav_desk.proofs.Keeping.{aimed_limits, is_book, job_fits, kept_claims, least_ready_is, no_job, none_claimed, one_claimed, one_job}
+use Rattle.nav_desk.proofs.Keeping.{is_book, job_fits, kept_claims, least_ready_is, no_job, none_claimed, one_claimed, one_job}
 use Rattle.nav_desk.proofs.Leasts.{least_passes}
 use Rattle.nav_desk.proofs.desk.Desk.claim.Goals as goal
 
 pub touching_list-requires-clause-there : goal.touching_list-requires-clause-there
 touching_list-requires-clause-there c =
     rw c.deref.ensures (least_passes _ c.in-Some.tile (is_claimable (state_of c.self.inside)) (sym (c.in-Some.ensures.least ∙ least_ready_is c.self.inside c.self.invariant))).0
-
-pub touching_list-requires-clause-shapes : goal.touching_list-requires-clause-shapes
-touching_list-requires-clause-shapes c = rw c.as_slice.ensures.value (aimed_limits c.self.inside c.self.invariant)
 
 pub set_claimed-requires : goal.set_claimed-requires
 set_claimed-requires c =

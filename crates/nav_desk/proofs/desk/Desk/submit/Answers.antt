@@ -11,11 +11,8 @@ use Rattle.nav_desk.specs.Representation.{state_of}
 use Rattle.nav_desk.specs.SameShapes.{are_same}
 use Rattle.nav_desk.specs.Steps.{is_taken}
 use Rattle.nav_desk.specs.Waiting.{Waiting}
-use Rattle.nav_desk.proofs.Keeping.{aimed_limits, awaited_after, is_book, is_taken_is, kept_claims}
+use Rattle.nav_desk.proofs.Keeping.{awaited_after, is_book, is_taken_is, kept_claims}
 use Rattle.nav_desk.proofs.desk.Desk.submit.Goals as goal
-
-pub is_touching_list-requires-clause-shapes : goal.is_touching_list-requires-clause-shapes
-is_touching_list-requires-clause-shapes c = rw c.as_slice.ensures.value (aimed_limits c.self.inside c.self.invariant)
 
 -- the tile is there, it is awaited, and the list is its own
 there_is : (c : goal.After-set_awaited) → c.args.tile < tile_count (arc_value c.self.inside.level).setting
