@@ -1,10 +1,11 @@
 -- What a lane keeps when it has run one line more.
-use Rattle.std.proofs.Common.{◌≡◌, ◌∙◌, refl, sym, ap, subst, ℕ, ◌+◌, ◌<◌, ◌≤◌, List, [], ◌∷◌, ◌++◌, length, map, take, get_or, cond, Some, true, arith}
+use Rattle.std.proofs.Common.{◌≡◌, ◌∙◌, refl, sym, ap, subst, ℕ, ◌+◌, ◌<◌, ◌≤◌, List, [], ◌∷◌, ◌++◌, length, take, get_or, cond, Some, true, append-nil, arith}
 use Rattle.std.specs.Prelude.{Result, Ok, Err, IfErr, IsErrAnd}
 use Rattle.std.proofs.lemmas.Grind.{take_at_read}
 use Rattle.std.proofs.lemmas.List.{map-append}
+use Rattle.std.proofs.lemmas.List.Concat.{flat_map-append}
 use Rattle.std.proofs.lemmas.List.Elements.{All-nil}
-use Rattle.std.proofs.lemmas.List.Sums.{count_by_more_yes, sum_by-take-drop}
+use Rattle.std.proofs.lemmas.List.Sums.{count_by_more_yes, fold-append, sum_by-take-drop}
 use Rattle.std.specs.Option.{option_map}
 use mathlib.Core.List.{IsPrefix}
 use Rattle.turn_lock.specs.Growth.{Extends}
@@ -29,66 +30,81 @@ use Rattle.nav_lane.specs.declared.book.LiveAct.TheVariants as acts
 use Rattle.nav_lane.specs.declared.book.LiveDone.TheVariants as dones
 use Rattle.nav_lane.specs.declared.said.Said.{Said}
 use Rattle.nav_lane.specs.declared.said.Said.TheVariants.{Replied, Answered, Settled}
-use Rattle.nav_lane.specs.LaneRecords.{Spoken, AreAnswers, AreEntries, adds_of, IsSaid, entries_made, entry_said, length_told, request_of}
+use Rattle.nav_lane.specs.LaneRecords.{Spoken, AreAnswers, AreEntries, adds_of, adds_with, IsSaid, entries_made, entry_said, length_told, number_after, request_of}
 use Rattle.nav_lane.specs.LiveBooks.{Does, IsLegal, lane_of}
-use Rattle.nav_lane.specs.Lanes.{CanStart, KeepsLane, NotesLines, SawOthers}
-use Rattle.nav_lane.specs.LaneSteps.{HasRun, IsAnsweredLast}
+use Rattle.nav_lane.specs.Lanes.{BelongsTo, CanStart, KeepsLane, NotesLines, SawOthers}
+use Rattle.nav_lane.specs.LaneSteps.{HasNoted, HasRun, HasRunAll}
+use Rattle.nav_lane.specs.LaneTexts.{said_text, told_text}
 use Rattle.nav_lane.specs.Stops.{FindsFull, IsStopped, IsStoppedAt}
 use Rattle.nav_lane.specs.Waiting.{HasWaited}
-use Rattle.nav_lane.proofs.AnswerLaws.{IsPrefix-length, answers_and, answers_later, covers_more, rising_more}
+use Rattle.nav_lane.proofs.AnswerLaws.{IsPrefix-length, answers_and, answers_later, covers_more, last_number_and, rising_more}
 use Rattle.nav_lane.proofs.PassLaws.{saw_then}
 use Rattle.nav_lane.proofs.EntryLaws.{entries_extended, entries_of_no_request, entries_of_request}
 use Rattle.nav_lane.proofs.RecordLaws.{length-entries_made}
 
--- a line was noted: it stands behind the others, and what the lane knows of its lines follows
-pub record IsNoted (line : Line) (said : Said) (before after : Lane) : Type 0 where
-  pub spoken : after.spoken ≡ before.spoken ++ (line, said) ∷ []
-  pub notes : NotesLines after
-  pub number : after.number ≡ before.number
+-- what is written with one line more
+told_text_and : (spoken : List Spoken) (one : Spoken) → told_text (spoken ++ one ∷ []) ≡ told_text spoken ++ said_text one.1
+told_text_and spoken one =
+    flat_map-append (λ (one : Spoken). said_text one.1) spoken (one ∷ []) ∙ ap (λ last. told_text spoken ++ last) (append-nil (said_text one.1))
 
-pub ran_ask : (lock : LockId RootView) (before after : Lane) (question : Question) (k : ℕ) (answer : Answer)
-    → KeepsLane lock before → IsNoted (lines.Ask question) (Answered k answer) before after → after.pass ≡ before.pass
+-- a line more that was noted
+pub noted_more : (spoken : List Spoken) (line : Line) (said : Said) (before after : Lane) → NotesLines spoken before → HasNoted line said before after
+    → NotesLines (spoken ++ (line, said) ∷ []) after
+noted_more spoken line said before after notes noted =
+    let one : Spoken = (line, said) in
+    record {
+      text = noted.text ∙ ap (λ text. text ++ said_text said) notes.text ∙ sym (told_text_and spoken one);
+      adds = noted.adds ∙ ap (λ adds. adds_with adds one) notes.adds ∙ sym (fold-append adds_with [] spoken (one ∷ []));
+      last = noted.last ∙ ap (λ last. number_after last said) notes.last ∙ sym (last_number_and spoken one);
+    }
+
+pub ran_ask : (lock : LockId RootView) (spoken : List Spoken) (before after : Lane) (question : Question) (k : ℕ) (answer : Answer)
+    → KeepsLane lock spoken before → HasNoted (lines.Ask question) (Answered k answer) before after → after.number ≡ before.number → after.pass ≡ before.pass
     → HasLooked before.eye after.eye → k ≡ length after.eye.seen → IsRight (build_of before.eye.ground after.eye.seen k) question answer
-    → HasRun lock (lines.Ask question) before after
-ran_ask lock before after question k answer keeps noted same looked long right =
+    → HasRun lock (lines.Ask question) spoken after
+ran_ask lock spoken before after question k answer keeps noted number same looked long right =
     let one : Spoken = (lines.Ask question, Answered k answer) in
-    let right' : IsRight (build_of lock.root.level after.eye.seen k) question answer = subst (λ g. IsRight (build_of g after.eye.seen k) question answer) keeps.ground right in
+    let right' : IsRight (build_of lock.root.level after.eye.seen k) question answer = subst (λ g. IsRight (build_of g after.eye.seen k) question answer) keeps.own.ground right in
     let told : (n : ℕ) → length_told (Answered k answer) ≡ Some n → length before.eye.seen ≤ n =
     λ n is. (let seen = IsPrefix-length before.eye.seen after.eye.seen looked.seen in let same : k ≡ n = cc is in omega (arith, seen, long, same)) in
     record {
+      said = Answered k answer;
       keeps = record {
-        of = subst (IsOf lock) (sym same) keeps.of;
-        number = noted.number ∙ keeps.number ∙ ap (λ p. p.number) (sym same);
-        pair = looked.pair ∙ keeps.pair;
-        ground = looked.ground ∙ keeps.ground;
-        entries = rw (same, noted.spoken) (entries_of_no_request before.pass.seen before.pass.number before.spoken one refl keeps.entries);
-        answers = rw (noted.spoken) (answers_and lock.root.level after.eye.seen before.spoken one (answers_later lock.root.level before.eye.seen after.eye.seen before.spoken looked.seen keeps.answers) (omega (arith, long), right'));
-        settled = rw (noted.spoken) (covers_more before.spoken one keeps.settled (λ n is. absurd (cc is)));
-        rising = rw (noted.spoken) (rising_more lock.root.level before.eye.seen before.spoken one keeps.answers keeps.rising told);
-        notes = noted.notes;
+        own = record {
+          of = subst (IsOf lock) (sym same) keeps.own.of;
+          number = number ∙ keeps.own.number ∙ ap (λ p. p.number) (sym same);
+          pair = looked.pair ∙ keeps.own.pair;
+          ground = looked.ground ∙ keeps.own.ground;
+        };
+        entries = rw same (entries_of_no_request before.pass.seen before.pass.number spoken one refl keeps.entries);
+        answers = answers_and lock.root.level after.eye.seen spoken one (answers_later lock.root.level before.eye.seen after.eye.seen spoken looked.seen keeps.answers) (omega (arith, long), right');
+        settled = covers_more spoken one keeps.settled (λ n is. absurd (cc is));
+        rising = rising_more lock.root.level before.eye.seen spoken one keeps.answers keeps.rising told;
+        notes = noted_more spoken (lines.Ask question) (Answered k answer) before after keeps.notes noted;
       };
-      answered = record { said = Answered k answer; last = noted.spoken };
     }
 
-pub ran_settle : (lock : LockId RootView) (before after : Lane) (k : ℕ)
-    → KeepsLane lock before → IsNoted lines.Settle (Settled k) before after → after.pass ≡ before.pass
+pub ran_settle : (lock : LockId RootView) (spoken : List Spoken) (before after : Lane) (k : ℕ)
+    → KeepsLane lock spoken before → HasNoted lines.Settle (Settled k) before after → after.number ≡ before.number → after.pass ≡ before.pass
     → after.eye.pair ≡ before.eye.pair → after.eye.ground ≡ before.eye.ground → IsPrefix before.eye.seen after.eye.seen → k ≤ length after.eye.seen
-    → before.last ≤ k → length before.eye.seen ≤ k → HasRun lock lines.Settle before after
-ran_settle lock before after k keeps noted same pair level own within covers above =
+    → before.last ≤ k → length before.eye.seen ≤ k → HasRun lock lines.Settle spoken after
+ran_settle lock spoken before after k keeps noted number same pair level seen within covers above =
     let one : Spoken = (lines.Settle, Settled k) in
     record {
+      said = Settled k;
       keeps = record {
-        of = subst (IsOf lock) (sym same) keeps.of;
-        number = noted.number ∙ keeps.number ∙ ap (λ p. p.number) (sym same);
-        pair = pair ∙ keeps.pair;
-        ground = level ∙ keeps.ground;
-        entries = rw (same, noted.spoken) (entries_of_no_request before.pass.seen before.pass.number before.spoken one refl keeps.entries);
-        answers = rw (noted.spoken) (answers_and lock.root.level after.eye.seen before.spoken one (answers_later lock.root.level before.eye.seen after.eye.seen before.spoken own keeps.answers) within);
-        settled = rw (noted.spoken) (covers_more before.spoken one keeps.settled (λ n is. let same' : k ≡ n = cc is in omega (arith, covers, same', keeps.notes.last)));
-        rising = rw (noted.spoken) (rising_more lock.root.level before.eye.seen before.spoken one keeps.answers keeps.rising (λ n is. let same' : k ≡ n = cc is in omega (arith, above, same')));
-        notes = noted.notes;
+        own = record {
+          of = subst (IsOf lock) (sym same) keeps.own.of;
+          number = number ∙ keeps.own.number ∙ ap (λ p. p.number) (sym same);
+          pair = pair ∙ keeps.own.pair;
+          ground = level ∙ keeps.own.ground;
+        };
+        entries = rw same (entries_of_no_request before.pass.seen before.pass.number spoken one refl keeps.entries);
+        answers = answers_and lock.root.level after.eye.seen spoken one (answers_later lock.root.level before.eye.seen after.eye.seen spoken seen keeps.answers) within;
+        settled = covers_more spoken one keeps.settled (λ n is. let same' : k ≡ n = cc is in omega (arith, covers, same', keeps.notes.last));
+        rising = rising_more lock.root.level before.eye.seen spoken one keeps.answers keeps.rising (λ n is. let same' : k ≡ n = cc is in omega (arith, above, same'));
+        notes = noted_more spoken lines.Settle (Settled k) before after keeps.notes noted;
       };
-      answered = record { said = Settled k; last = noted.spoken };
     }
 
 -- what an answered request of a lane did to the history that its pass has seen
@@ -142,52 +158,54 @@ finds_full lock before pass line request len of number turn makes =
       full = sym turn.did.1 ∙ turn.did.2;
     }
 
-pub ran_request : (lock : LockId RootView) (before after : Lane) (line : Line) (request : Request) (k : ℕ) (reply : Reply)
-    → KeepsLane lock before → IsNoted line (Replied k reply) before after → after.eye ≡ before.eye
-    → HasAsked lock before after request k reply → request_of before.adds line ≡ Some request → HasRun lock line before after
-ran_request lock before after line request k reply keeps noted same asked makes =
+pub ran_request : (lock : LockId RootView) (spoken : List Spoken) (before after : Lane) (line : Line) (request : Request) (k : ℕ) (reply : Reply)
+    → KeepsLane lock spoken before → HasNoted line (Replied k reply) before after → after.number ≡ before.number → after.eye ≡ before.eye
+    → HasAsked lock before after request k reply → request_of before.adds line ≡ Some request → HasRun lock line spoken after
+ran_request lock spoken before after line request k reply keeps noted number same asked makes =
     let fits : IsSaid lock.root.level after.eye.seen line (Replied k reply) = (asking lock.root.level after.eye.seen before.adds line request makes).1 k reply in
     let one : Spoken = (line, Replied k reply) in
     let e : Entry = record { lane = before.number; request = request; reply = reply } in
-    let found : AreEntries asked.found before.number before.spoken =
-    subst (λ n. AreEntries asked.found n before.spoken) (sym keeps.number) (entries_extended before.pass.number before.pass.seen asked.found asked.extends ∙ keeps.entries) in
+    let found : AreEntries asked.found before.number spoken =
+    subst (λ n. AreEntries asked.found n spoken) (sym keeps.own.number) (entries_extended before.pass.number before.pass.seen asked.found asked.extends ∙ keeps.entries) in
     let count : k ≡ length (asked.found ++ e ∷ []) = asked.told ∙ ap length asked.left in
-    let made : request_of (adds_of before.spoken) line ≡ Some request = ap (λ adds. request_of adds line) (sym keeps.notes.adds) ∙ makes in
-    let says : entry_said before.number (adds_of before.spoken) line (Replied k reply) ≡ Some (length (asked.found ++ e ∷ []), e) =
+    let made : request_of (adds_of spoken) line ≡ Some request = ap (λ adds. request_of adds line) (sym keeps.notes.adds) ∙ makes in
+    let says : entry_said before.number (adds_of spoken) line (Replied k reply) ≡ Some (length (asked.found ++ e ∷ []), e) =
     ap (option_map (λ (asks : Request). (k, record { lane = before.number; request = asks; reply = reply }))) made ∙ ap (λ n. Some (n, e)) count in
-    let more : AreEntries (asked.found ++ e ∷ []) before.number (before.spoken ++ one ∷ []) = entries_of_request asked.found e before.spoken one says found in
-    let own : after.pass.number ≡ before.number = asked.number ∙ sym keeps.number in
+    let more : AreEntries (asked.found ++ e ∷ []) before.number (spoken ++ one ∷ []) = entries_of_request asked.found e spoken one says found in
+    let own : after.pass.number ≡ before.number = asked.number ∙ sym keeps.own.number in
     record {
+      said = Replied k reply;
       keeps = record {
-        of = asked.of;
-        number = noted.number ∙ sym own;
-        pair = ap (λ v. v.pair) same ∙ keeps.pair;
-        ground = ap (λ v. v.ground) same ∙ keeps.ground;
-        entries = rw (asked.left, own, noted.spoken) more;
-        answers = rw (noted.spoken) (answers_and lock.root.level after.eye.seen before.spoken one (subst (λ v. AreAnswers lock.root.level v.seen before.spoken) (sym same) keeps.answers) fits);
-        settled = rw (noted.spoken) (covers_more before.spoken one keeps.settled (λ n is. absurd (cc is)));
-        rising = rw (noted.spoken) (rising_more lock.root.level before.eye.seen before.spoken one keeps.answers keeps.rising (λ n is. absurd (cc is)));
-        notes = noted.notes;
+        own = record {
+          of = asked.of;
+          number = number ∙ sym own;
+          pair = ap (λ v. v.pair) same ∙ keeps.own.pair;
+          ground = ap (λ v. v.ground) same ∙ keeps.own.ground;
+        };
+        entries = rw (asked.left, own) more;
+        answers = answers_and lock.root.level after.eye.seen spoken one (subst (λ v. AreAnswers lock.root.level v.seen spoken) (sym same) keeps.answers) fits;
+        settled = covers_more spoken one keeps.settled (λ n is. absurd (cc is));
+        rising = rising_more lock.root.level before.eye.seen spoken one keeps.answers keeps.rising (λ n is. absurd (cc is));
+        notes = noted_more spoken line (Replied k reply) before after keeps.notes noted;
       };
-      answered = record { said = Replied k reply; last = noted.spoken };
     }
 
 -- the same where the eye after the line is that after a call
-pub ran_ask_by : (lock : LockId RootView) (before after : Lane) (eye : EyeView) (question : Question) (k : ℕ) (answer : Answer)
-    → KeepsLane lock before → IsNoted (lines.Ask question) (Answered k answer) before after → after.pass ≡ before.pass → after.eye ≡ eye
+pub ran_ask_by : (lock : LockId RootView) (spoken : List Spoken) (before after : Lane) (eye : EyeView) (question : Question) (k : ℕ) (answer : Answer)
+    → KeepsLane lock spoken before → HasNoted (lines.Ask question) (Answered k answer) before after → after.number ≡ before.number → after.pass ≡ before.pass → after.eye ≡ eye
     → HasLooked before.eye eye → k ≡ length eye.seen → IsRight (build_of before.eye.ground eye.seen k) question answer
-    → HasRun lock (lines.Ask question) before after
-ran_ask_by lock before after eye question k answer keeps noted same is looked long right =
-    ran_ask lock before after question k answer keeps noted same (subst (HasLooked before.eye) (sym is) looked) (long ∙ ap (λ e. length e.seen) (sym is))
+    → HasRun lock (lines.Ask question) spoken after
+ran_ask_by lock spoken before after eye question k answer keeps noted number same is looked long right =
+    ran_ask lock spoken before after question k answer keeps noted number same (subst (HasLooked before.eye) (sym is) looked) (long ∙ ap (λ e. length e.seen) (sym is))
     (subst (λ e. IsRight (build_of before.eye.ground e.seen k) question answer) (sym is) right)
 
-pub ran_settle_by : (lock : LockId RootView) (before after : Lane) (eye : EyeView) (told : List Entry) (k : ℕ)
-    → KeepsLane lock before → IsNoted lines.Settle (Settled k) before after → after.pass ≡ before.pass → after.eye ≡ eye
+pub ran_settle_by : (lock : LockId RootView) (spoken : List Spoken) (before after : Lane) (eye : EyeView) (told : List Entry) (k : ℕ)
+    → KeepsLane lock spoken before → HasNoted lines.Settle (Settled k) before after → after.number ≡ before.number → after.pass ≡ before.pass → after.eye ≡ eye
     → eye ≡ after_learning before.eye told → IsPrefix before.eye.seen eye.seen → IsPrefix told eye.seen → k ≡ length told
-    → before.last ≤ k → length before.eye.seen ≤ k → HasRun lock lines.Settle before after
-ran_settle_by lock before after eye told k keeps noted same is learnt own more long covers above =
+    → before.last ≤ k → length before.eye.seen ≤ k → HasRun lock lines.Settle spoken after
+ran_settle_by lock spoken before after eye told k keeps noted number same is learnt own more long covers above =
     let within : k ≤ length after.eye.seen = omega (arith, long, IsPrefix-length told eye.seen more, ap (λ e. length e.seen) is) in
-    ran_settle lock before after k keeps noted same (ap (λ e. e.pair) (is ∙ learnt)) (ap (λ e. e.ground) (is ∙ learnt))
+    ran_settle lock spoken before after k keeps noted number same (ap (λ e. e.pair) (is ∙ learnt)) (ap (λ e. e.ground) (is ∙ learnt))
     (subst (λ e. IsPrefix before.eye.seen e.seen) (sym is) own) within covers above
 
 -- two acts more
@@ -198,60 +216,60 @@ waited_more lock before between pass then waited first second = record {
   rest = ap (λ (l : Lane). record l { pass = then }) waited.rest;
 }
 
--- a lane that has waited keeps what it kept
-pub waits_on : (lock : LockId RootView) (before after : Lane) → KeepsLane lock before → HasWaited lock before after → KeepsLane lock after
-waits_on lock before after keeps waited =
+-- a lane that has waited belongs to its lock, and keeps what it kept
+pub waits_there : (lock : LockId RootView) (before after : Lane) → BelongsTo lock before → HasWaited lock before after → BelongsTo lock after
+waits_there lock before after own waited =
+    subst (BelongsTo lock) (sym waited.rest)
+    (record { of = waited.saw.of; number = own.number ∙ sym waited.saw.number; pair = own.pair; ground = own.ground })
+
+pub waits_on : (lock : LockId RootView) (spoken : List Spoken) (before after : Lane) → KeepsLane lock spoken before → HasWaited lock before after → KeepsLane lock spoken after
+waits_on lock spoken before after keeps waited =
     let pass = after.pass in
-    let entries : AreEntries pass.seen pass.number before.spoken =
-    subst (λ n. AreEntries pass.seen n before.spoken) (sym waited.saw.number) (waited.saw.entries ∙ keeps.entries) in
-    subst (KeepsLane lock) (sym waited.rest) (record {
-      of = waited.saw.of;
-      number = keeps.number ∙ sym waited.saw.number;
-      pair = keeps.pair;
-      ground = keeps.ground;
+    let entries : AreEntries pass.seen pass.number spoken =
+    subst (λ n. AreEntries pass.seen n spoken) (sym waited.saw.number) (waited.saw.entries ∙ keeps.entries) in
+    subst (KeepsLane lock spoken) (sym waited.rest) (record {
+      own = record { of = waited.saw.of; number = keeps.own.number ∙ sym waited.saw.number; pair = keeps.own.pair; ground = keeps.own.ground };
       entries = entries;
       answers = keeps.answers;
       settled = keeps.settled;
       rising = keeps.rising;
-      notes = record { adds = keeps.notes.adds; last = keeps.notes.last };
+      notes = record { text = keeps.notes.text; adds = keeps.notes.adds; last = keeps.notes.last };
     })
 
--- a line that was run after waiting was run
-pub ran_after_waiting : (lock : LockId RootView) (line : Line) (before between after : Lane) → HasWaited lock before between → HasRun lock line between after → HasRun lock line before after
-ran_after_waiting lock line before between after waited ran =
-    record { keeps = ran.keeps; answered = record { said = ran.answered.said; last = ran.answered.last ∙ ap (λ (l : Lane). l.spoken ++ (line, ran.answered.said) ∷ []) waited.rest } }
+-- a lane that has run no line keeps what it has to
+pub starts : (lock : LockId RootView) (lane : Lane) → CanStart lock lane.number lane.pass lane.eye → lane.text.items ≡ [] → lane.adds ≡ [] → lane.last ≡ 0
+    → KeepsLane lock [] lane
+starts lock lane can unwritten nothing zero' = record {
+  own = record { of = can.of; number = can.named; pair = can.pair; ground = can.level };
+  entries = rw can.nothing refl;
+  answers = All-nil (λ (one : Spoken). IsSaid lock.root.level lane.eye.seen one.0 one.1);
+  settled = λ place k line is. absurd (cc is);
+  rising = λ i j d lt there. absurd (omega (arith, there));
+  notes = record { text = unwritten; adds = nothing; last = zero' };
+}
 
 -- one line more of a list of them
-pub one_line_more : (line : Line) (those : List Line) (i : ℕ) (d : Line) (before after : List Spoken) → i < length those → line ≡ get_or those i d
-    → map (λ (one : Spoken). one.0) before ≡ take i those → IsAnsweredLast line before after → map (λ (one : Spoken). one.0) after ≡ take (i + 1) those
-one_line_more line those i d before after there is so_far one =
-    ap (map (λ (one : Spoken). one.0)) one.last
-    ∙ map-append (λ (one : Spoken). one.0) before ((line, one.said) ∷ [])
-    ∙ ap (λ front. front ++ line ∷ []) so_far
-    ∙ ap (λ (last : Line). take i those ++ last ∷ []) is
-    ∙ sym (take_at_read those i d there).1
-
--- a lane that has run no line keeps what it has to
-pub starts : (lock : LockId RootView) (lane : Lane) → CanStart lock lane.number lane.pass lane.eye → lane.spoken ≡ [] → lane.adds ≡ [] → lane.last ≡ 0 → KeepsLane lock lane
-starts lock lane can none nothing zero' = record {
-  of = can.of;
-  number = can.named;
-  pair = can.pair;
-  ground = can.level;
-  entries = rw (can.nothing, none) refl;
-  answers = rw none (All-nil (λ (one : Spoken). IsSaid lock.root.level lane.eye.seen one.0 one.1));
-  settled = rw none (λ place k line is. absurd (cc is));
-  rising = rw none (λ i j d lt there. absurd (omega (arith, there)));
-  notes = record { adds = rw none nothing; last = rw none zero' };
-}
+pub one_line_more : (lock : LockId RootView) (line : Line) (those : List Line) (i : ℕ) (d : Line) (before after : Lane) → i < length those → line ≡ get_or those i d
+    → HasRunAll lock (take i those) before → ((spoken : List Spoken) → KeepsLane lock spoken before → HasRun lock line spoken after)
+    → HasRunAll lock (take (i + 1) those) after
+one_line_more lock line those i d before after there is so_far runs =
+    let ran = runs so_far.spoken so_far.keeps in
+    record {
+      spoken = so_far.spoken ++ (line, ran.said) ∷ [];
+      keeps = ran.keeps;
+      each =
+          map-append (λ (one : Spoken). one.0) so_far.spoken ((line, ran.said) ∷ [])
+          ∙ ap (λ front. front ++ line ∷ []) so_far.each
+          ∙ ap (λ (last : Line). take i those ++ last ∷ []) is
+          ∙ sym (take_at_read those i d there).1;
+    }
 
 -- a line of a list that found the history full has kept its lane from making all its requests
 pub is_stopped : (lock : LockId RootView) (those : List Line) (i : ℕ) (line d : Line) (before : Lane) (after : PassView RootView Entry) (stop : Stop)
-    → i < length those → line ≡ get_or those i d → KeepsLane lock before → map (λ (one : Spoken). one.0) before.spoken ≡ take i those
-    → IsStoppedAt lock line before.pass after stop → IsStopped those after stop
-is_stopped lock those i line d before after NoMemory there is keeps so_far stops = tt
-is_stopped lock those i line d before after HistoryFull there is keeps so_far stops =
-    let own = ap (λ n. length (entries_made n after.seen)) stops.saw.number ∙ ap length stops.saw.entries ∙ length-entries_made lock (take i those) before keeps so_far in
+    → i < length those → line ≡ get_or those i d → HasRunAll lock (take i those) before → IsStoppedAt lock line before.pass after stop → IsStopped those after stop
+is_stopped lock those i line d before after NoMemory there is so_far stops = tt
+is_stopped lock those i line d before after HistoryFull there is so_far stops =
+    let own = ap (λ n. length (entries_made n after.seen)) stops.saw.number ∙ ap length stops.saw.entries ∙ length-entries_made lock (take i those) before so_far in
     let one_more = count_by_more_yes is_request those i d there (ap is_request (sym is) ∙ stops.asks) in
     let all = sum_by-take-drop (λ line. cond (is_request line) 1 0) those (i + 1) in
     record { full = stops.full; fewer = omega (arith, own, one_more, all) }

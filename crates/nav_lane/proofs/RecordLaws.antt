@@ -17,17 +17,18 @@ use Rattle.nav_lane.specs.declared.said.Said.{Said}
 use Rattle.nav_lane.specs.declared.said.Said.TheVariants.{Replied, Answered, Settled}
 use Rattle.nav_lane.specs.LaneRecords.{Spoken, AreAnswers, IsLane, IsSaid, adds_with, entries_from, entries_made, entry_said}
 use Rattle.nav_lane.specs.Lanes.{KeepsLane}
+use Rattle.nav_lane.specs.LaneSteps.{HasRunAll}
 use Rattle.nav_lane.proofs.AnswerLaws.{answers_later}
 use Rattle.nav_lane.proofs.EntryLaws.{entries_extended}
 
 -- where the one history goes on from what the lane's pass and its eye have seen, the lane's lines say what they may
-pub lane_record : (lock : LockId RootView) (history : List Entry) (list : List Line) (lane : lanes.Lane) → KeepsLane lock lane
+pub lane_record : (lock : LockId RootView) (history : List Entry) (list : List Line) (spoken : List Spoken) (lane : lanes.Lane) → KeepsLane lock spoken lane
     → Extends (λ (entry : Entry). entry.lane) lane.pass.number lane.pass.seen history → IsPrefix lane.eye.seen history
-    → map (λ (one : Spoken). one.0) lane.spoken ≡ list → IsLane lock.root.level history lane.pass.number list lane.spoken
-lane_record lock history list lane keeps extends seen each = record {
+    → map (λ (one : Spoken). one.0) spoken ≡ list → IsLane lock.root.level history lane.pass.number list spoken
+lane_record lock history list spoken lane keeps extends seen each = record {
   each = each;
   entries = entries_extended lane.pass.number lane.pass.seen history extends ∙ keeps.entries;
-  answers = answers_later lock.root.level lane.eye.seen history lane.spoken seen keeps.answers;
+  answers = answers_later lock.root.level lane.eye.seen history spoken seen keeps.answers;
   settled = keeps.settled;
   rising = keeps.rising;
 }
@@ -63,10 +64,10 @@ length-entries_from whole history lane adds (one ∷ more) are =
     ∙ sym (sum_by-cons (λ (line : Line). cond (is_request line) 1 0) one.0 (map (λ (one : Spoken). one.0) more))
 
 -- a lane's pass has seen as many entries of its own as requests are among the lines that the lane has run
-pub length-entries_made : (lock : LockId RootView) (list : List Line) (lane : lanes.Lane) → KeepsLane lock lane → map (λ (one : Spoken). one.0) lane.spoken ≡ list
+pub length-entries_made : (lock : LockId RootView) (list : List Line) (lane : lanes.Lane) → HasRunAll lock list lane
     → length (entries_made lane.pass.number lane.pass.seen) ≡ count_by is_request list
-length-entries_made lock list lane keeps each =
-    ap length keeps.entries ∙ length-entries_from lock.root.level lane.eye.seen lane.pass.number [] lane.spoken keeps.answers ∙ ap (count_by is_request) each
+length-entries_made lock list lane ran =
+    ap length ran.keeps.entries ∙ length-entries_from lock.root.level lane.eye.seen lane.pass.number [] ran.spoken ran.keeps.answers ∙ ap (count_by is_request) ran.each
 
 -- numbers do not matter to how many entries a lane made
 count_made : (lane n : ℕ) (history : List Entry)

@@ -2,7 +2,7 @@
 --
 -- These say what each act may be answered with and what it leaves of the list of entries. The lock's list does not tell which of two acts was made
 -- that both add no entry; that a claimed job is handed in or given back stands on the type of such a job, and the rest on tests.
-use Rattle.std.specs.Prelude.{◌≡◌, ℕ, Bool, true, false, ⊤, ◌⊎◌, Option, Some, None, Result, Ok, Err}
+use Rattle.std.specs.Prelude.{ℕ, Bool, true, false, ⊤, ◌⊎◌, Option, Some, None, Result, Ok, Err}
 use Rattle.std.specs.declared.alloc.AllocError.{AllocError}
 use Rattle.turn_lock.specs.Locks.{Acts, LockId, PassView}
 use Rattle.nav_ground.specs.declared.history.Entry.{Entry}

@@ -1,5 +1,5 @@
 -- What a lane runs, and what it keeps of it.
-use Rattle.std.specs.Prelude.{◌≡◌, ⊤, List, [], ◌∷◌, ◌++◌}
+use Rattle.std.specs.Prelude.{◌≡◌, ⊤, List, [], ◌∷◌, ◌++◌, map}
 use Rattle.turn_lock.specs.Locks.{LockId}
 use Rattle.nav_ground.specs.Limits.{IsShape}
 use Rattle.nav_query.specs.Questions.{IsAnswerable}
@@ -8,7 +8,8 @@ use Rattle.nav_script.specs.declared.line.Line.TheVariants.{Ask, Add, Remove, Un
 use Rattle.nav_lane.specs.Roots.{RootView}
 use Rattle.nav_lane.specs.declared.lane.Lane as lanes
 use Rattle.nav_lane.specs.declared.said.Said.{Said}
-use Rattle.nav_lane.specs.LaneRecords.{Spoken}
+use Rattle.nav_lane.specs.LaneRecords.{Spoken, adds_with, number_after}
+use Rattle.nav_lane.specs.LaneTexts.{said_text}
 use Rattle.nav_lane.specs.Lanes.{KeepsLane}
 
 -- a lane can run a request, a question or a `settle`, with its numbers within their limits
@@ -20,12 +21,19 @@ IsRunnable (Undo j) = ⊤
 IsRunnable Settle = ⊤
 IsRunnable _ = ⊥
 
--- a line was answered: it stands behind those before, with what it was answered
-pub record IsAnsweredLast (line : Line) (before after : List Spoken) : Type 0 where
-  pub said : Said
-  pub last : after ≡ before ++ (line, said) ∷ []
+-- a line was noted: its answer is written behind those before, and what later lines need of it is kept
+pub record HasNoted (line : Line) (said : Said) (before after : lanes.Lane) : Type 0 where
+  pub text : after.text.items ≡ before.text.items ++ said_text said
+  pub adds : after.adds ≡ adds_with before.adds (line, said)
+  pub last : after.last ≡ number_after before.last said
 
--- a lane has run a line more
-pub record HasRun (lock : LockId RootView) (line : Line) (before after : lanes.Lane) : Type 0 where
-  pub keeps : KeepsLane lock after
-  pub answered : IsAnsweredLast line before.spoken after.spoken
+-- a lane that had run lines with these answers has run a line more
+pub record HasRun (lock : LockId RootView) (line : Line) (spoken : List Spoken) (after : lanes.Lane) : Type 0 where
+  pub said : Said
+  pub keeps : KeepsLane lock (spoken ++ (line, said) ∷ []) after
+
+-- a lane has run these lines and no others
+pub record HasRunAll (lock : LockId RootView) (list : List Line) (lane : lanes.Lane) : Type 0 where
+  pub spoken : List Spoken
+  pub keeps : KeepsLane lock spoken lane
+  pub each : map (λ (one : Spoken). one.0) spoken ≡ list

@@ -1,12 +1,13 @@
 -- What lanes and workers keep between two of their steps.
-use Rattle.std.specs.Prelude.{◌≡◌, ℕ, []}
+use Rattle.std.specs.Prelude.{◌≡◌, ℕ, List, []}
 use Rattle.turn_lock.specs.Locks.{LockId, PassView, IsOf}
 use Rattle.nav_ground.specs.declared.history.Entry.{Entry}
 use Rattle.nav_version.specs.Lists.{ToldView}
 use Rattle.nav_version.specs.Pairs.{EyeView}
 use Rattle.nav_lane.specs.Roots.{RootView}
 use Rattle.nav_lane.specs.declared.lane.Lane.{Lane}
-use Rattle.nav_lane.specs.LaneRecords.{AreAnswers, AreEntries, CoverEntries, NeverFall, adds_of, entries_made, last_number}
+use Rattle.nav_lane.specs.LaneRecords.{Spoken, AreAnswers, AreEntries, CoverEntries, NeverFall, adds_of, entries_made, last_number}
+use Rattle.nav_lane.specs.LaneTexts.{told_text}
 
 -- a pass has acted without asking: it is of the lock, has its number, and has seen no further entry of its own
 pub record SawOthers (lock : LockId RootView) (before after : PassView RootView Entry) : Type 0 where
@@ -18,24 +19,29 @@ pub record SawOthers (lock : LockId RootView) (before after : PassView RootView 
 abbrev pub IsToldOf : LockId RootView → ToldView → Type 0
 IsToldOf lock told = told.pair ≡ lock.root.pair
 
--- a lane knows what its add lines added, and the number of its last entry
-pub record NotesLines (lane : Lane) : Type 0 where
-  pub adds : lane.adds ≡ adds_of lane.spoken
-  pub last : lane.last ≡ last_number lane.spoken
-
--- a lane: its pass is of the lock, and its eye of the pair and the ground of the lock's book. The entries that its pass has seen of it are those
--- that its lines say they left; each of its questions is answered right in the version of the length that its line names, which is a beginning of
--- what its eye has seen; and it has noted its lines
-pub record KeepsLane (lock : LockId RootView) (lane : Lane) : Type 0 where
+-- a lane belongs to a lock: its pass is of the lock and has the lane's number, and its eye is of the pair and the ground of the lock's book
+pub record BelongsTo (lock : LockId RootView) (lane : Lane) : Type 0 where
   pub of : IsOf lock lane.pass
   pub number : lane.number ≡ lane.pass.number
   pub pair : lane.eye.pair ≡ lock.root.pair
   pub ground : lane.eye.ground ≡ lock.root.level
-  pub entries : AreEntries lane.pass.seen lane.pass.number lane.spoken
-  pub answers : AreAnswers lock.root.level lane.eye.seen lane.spoken
-  pub settled : CoverEntries lane.spoken
-  pub rising : NeverFall lane.spoken
-  pub notes : NotesLines lane
+
+-- a lane that was answered so has written the answers; it knows what its add lines added, and the number of its last entry
+pub record NotesLines (spoken : List Spoken) (lane : Lane) : Type 0 where
+  pub text : lane.text.items ≡ told_text spoken
+  pub adds : lane.adds ≡ adds_of spoken
+  pub last : lane.last ≡ last_number spoken
+
+-- a lane of a lock has run these lines, with these answers. The entries that its pass has seen of it are those that the lines say they left; each
+-- of its questions is answered right in the version of the length that its line names, which is a beginning of what its eye has seen; and it has
+-- noted its lines
+pub record KeepsLane (lock : LockId RootView) (spoken : List Spoken) (lane : Lane) : Type 0 where
+  pub own : BelongsTo lock lane
+  pub entries : AreEntries lane.pass.seen lane.pass.number spoken
+  pub answers : AreAnswers lock.root.level lane.eye.seen spoken
+  pub settled : CoverEntries spoken
+  pub rising : NeverFall spoken
+  pub notes : NotesLines spoken lane
 
 -- a lane can start with a pass of the lock that has this number and has seen nothing, and an eye of the pair and the ground of its book
 pub record CanStart (lock : LockId RootView) (number : ℕ) (pass : PassView RootView Entry) (eye : EyeView) : Type 0 where

@@ -1,4 +1,5 @@
 pub mod LaneRecords
+pub mod LaneTexts
 pub mod Roots
 pub mod LiveBooks
 pub mod Lanes

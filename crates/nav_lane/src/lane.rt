@@ -1,9 +1,7 @@
 //! A lane.
 
 use crate::book::LiveBook;
-use crate::said::Said;
 use nav_list::Items;
-use nav_script::Line;
 use nav_version::Eye;
 use std::alloc::AllocError;
 use turn_lock::Pass;
@@ -16,8 +14,8 @@ pub struct Lane {
     pub pass: Pass<LiveBook>,
     /// Reads the published versions for it.
     pub eye: Eye,
-    /// The lines that it has run, in order, with what they were answered.
-    pub spoken: Items<(Line, Said)>,
+    /// What is written of the lines that it has run, in order: each line's answer, written when it was given.
+    pub text: Vec<u8>,
     /// What its add lines added, in order: the number of the obstacle, or 0 where an add line added nothing.
     pub adds: Items<u32>,
     /// The number of its last entry, from 1; 0 before its first.

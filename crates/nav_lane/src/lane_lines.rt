@@ -1,13 +1,13 @@
 //! The lines of a lane.
 
-ghost use Rattle.std.specs.Prelude.{◌≡◌, ◌≤◌, ◌↔◌, Some, length, IsTrue, IfOk, IfErr, OnOk, MatchBool};
+ghost use Rattle.std.specs.Prelude.{◌≡◌, ◌≤◌, ◌↔◌, List, Some, length, IsTrue, IfOk, IfErr, OnOk, MatchBool};
 ghost use Rattle.turn_lock.specs.Locks.{LockId, IsOf};
 ghost use Rattle.nav_ground.specs.History.{IsRequest};
 ghost use Rattle.nav_query.specs.Questions.{IsAnswerable};
 ghost use Rattle.nav_script.specs.declared.line.Line.TheVariants as lines;
 ghost use Rattle.nav_lane.specs.Roots.{RootView};
-ghost use Rattle.nav_lane.specs.LaneRecords.{request_of};
-ghost use Rattle.nav_lane.specs.Lanes.{IsToldOf, KeepsLane, NotesLines};
+ghost use Rattle.nav_lane.specs.LaneRecords.{Spoken, request_of};
+ghost use Rattle.nav_lane.specs.Lanes.{BelongsTo, IsToldOf, KeepsLane};
 ghost use Rattle.nav_lane.specs.LaneSteps.{HasRun};
 ghost use Rattle.nav_lane.specs.Stops.{IsStoppedAt};
 
@@ -26,12 +26,12 @@ impl Lane {
     /// Puts a question to the published version, which goes on from all that the lane has seen. It takes no turn and does not wait.
     pub(crate) fn ask(&mut self, alloc: Global, question: Question) -> Result<(), AllocError>
         requires question { IsAnswerable question }
-        requires notes { NotesLines self.old }
-        ensures ran { (lock : LockId RootView) → KeepsLane lock self.old → OnOk result (HasRun lock (lines.Ask question) self.old self.new) }
+        ensures ran { (lock : LockId RootView) (spoken : List Spoken) → KeepsLane lock spoken self.old
+            → OnOk result (HasRun lock (lines.Ask question) spoken self.new) }
         ensures pass { self.new.pass ≡ self.old.pass }
     {
         let (k, answer) = self.eye.ask(alloc, &question)?;
-        self.note(Line::Ask(question), Said::Answered { k, answer })?;
+        self.note(&Line::Ask(question), &Said::Answered { k, answer })?;
         Ok(())
     }
 
@@ -44,12 +44,12 @@ impl Lane {
         line: Line,
         request: Request,
     ) -> Result<(), Stop>
-        requires keeps { KeepsLane lock.now self.old }
+        requires own { BelongsTo lock.now self.old }
         requires request { request_of self.old.adds line ≡ Some request }
         requires limits { IsRequest request }
         ensures of { IsOf lock.now self.new.pass }
         ensures named { self.new.pass.number ≡ self.old.pass.number }
-        ensures ran { OnOk result (HasRun lock.now line self.old self.new) }
+        ensures ran { (spoken : List Spoken) → KeepsLane lock.now spoken self.old → OnOk result (HasRun lock.now line spoken self.new) }
         ensures full { IfErr result (IsStoppedAt lock.now line self.old.pass self.new.pass) }
     {
         let act = LiveAct::Ask {
@@ -58,7 +58,7 @@ impl Lane {
         };
         match lock.with(rt, alloc, &mut self.pass, act) {
             LiveDone::Asked { number, reply } => {
-                self.note(line, Said::Replied { number, reply })?;
+                self.note(&line, &Said::Replied { number, reply })?;
                 Ok(())
             }
             LiveDone::HistoryFull { .. } => Err(Stop::HistoryFull),
@@ -76,9 +76,9 @@ impl Lane {
     /// Ends a `settle` where the published length covers the lane's entries and all that its eye has seen; says whether it did.
     pub(crate) fn settle_at(&mut self, told: Told) -> Result<bool, AllocError>
         requires pair { told.pair ≡ self.old.eye.pair }
-        requires notes { NotesLines self.old }
-        ensures ran { (lock : LockId RootView) → KeepsLane lock self.old → IsToldOf lock told
-            → IfOk result (λ done. MatchBool done (HasRun lock lines.Settle self.old self.new) (self.new ≡ self.old)) }
+        ensures ran { IfOk result (λ done. MatchBool done
+            ((lock : LockId RootView) (spoken : List Spoken) → KeepsLane lock spoken self.old → IsToldOf lock told → HasRun lock lines.Settle spoken self.new)
+            (self.new ≡ self.old)) }
         ensures pass { self.new.pass ≡ self.old.pass }
     {
         let k = told.length();
@@ -86,7 +86,7 @@ impl Lane {
             return Ok(false);
         }
         self.eye.learn(told);
-        self.note(Line::Settle, Said::Settled { k })?;
+        self.note(&Line::Settle, &Said::Settled { k })?;
         Ok(true)
     }
 }

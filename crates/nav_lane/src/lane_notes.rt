@@ -1,12 +1,12 @@
 //! What a lane keeps of the lines that it has run.
 
-ghost use Rattle.std.specs.Prelude.{◌≡◌, ◌-◌, if◌then◌else◌, [], ◌∷◌, ◌++◌, slice_get, unwrap_or, OnOk};
+ghost use Rattle.std.specs.Prelude.{◌≡◌, ◌-◌, if◌then◌else◌, slice_get, unwrap_or, OnOk};
 ghost use Rattle.nav_ground.specs.History.{is_added};
 ghost use Rattle.nav_lane.specs.LaneRecords.{added_by, number_after, request_of};
-ghost use Rattle.nav_lane.specs.Lanes.{NotesLines};
+ghost use Rattle.nav_lane.specs.LaneSteps.{HasNoted};
 
 use crate::lane::Lane;
-use crate::said::Said;
+use crate::said::{Said, write_said};
 use nav_ground::{Reply, Request};
 use nav_script::Line;
 use std::alloc::AllocError;
@@ -62,21 +62,17 @@ impl Lane {
             .unwrap_or(0)
     }
 
-    /// Keeps what a line was answered. After want of memory a part of it may be kept.
-    #[tactic(auto, using(crate::proofs::AnswerLaws::last_number_and))]
-    pub(crate) fn note(&mut self, line: Line, said: Said) -> Result<(), AllocError>
-        requires { NotesLines self.old }
-        ensures spoken { OnOk result (self.new.spoken ≡ self.old.spoken ++ (line, said) ∷ []) }
-        ensures notes { OnOk result (NotesLines self.new) }
+    /// Writes what a line was answered, and keeps what later lines need of it. After want of memory a part of it may be kept.
+    pub(crate) fn note(&mut self, line: &Line, said: &Said) -> Result<(), AllocError>
+        ensures noted { OnOk result (HasNoted line.now said.now self.old self.new) }
         ensures number { self.new.number ≡ self.old.number }
         ensures pass { self.new.pass ≡ self.old.pass }
         ensures eye { self.new.eye ≡ self.old.eye }
     {
-        if let Some(number) = added(&line, &said) {
+        if let Some(number) = added(line, said) {
             self.adds.push(number)?;
         }
-        self.last = last_after(self.last, &said);
-        self.spoken.push((line, said))?;
-        Ok(())
+        self.last = last_after(self.last, said);
+        write_said(&mut self.text, said)
     }
 }

@@ -1,13 +1,13 @@
 //! A lane from its first line to its last.
 
-ghost use Rattle.std.specs.Prelude.{◌≡◌, [], map, All, IfErr, OnOk};
+ghost use Rattle.std.specs.Prelude.{◌≡◌, List, [], All, IfErr, OnOk};
 ghost use Rattle.turn_lock.specs.Locks.{IsOf};
 ghost use Rattle.nav_ground.specs.Grounds.{IsGround};
 ghost use Rattle.nav_script.specs.declared.line.Line.TheVariants as lines;
 ghost use Rattle.nav_lane.specs.Acting.{HasSettled};
 ghost use Rattle.nav_lane.specs.LaneRecords.{Spoken};
-ghost use Rattle.nav_lane.specs.Lanes.{KeepsLane};
-ghost use Rattle.nav_lane.specs.LaneSteps.{HasRun, IsRunnable};
+ghost use Rattle.nav_lane.specs.Lanes.{BelongsTo, KeepsLane};
+ghost use Rattle.nav_lane.specs.LaneSteps.{HasRun, HasRunAll, IsRunnable};
 ghost use Rattle.nav_lane.specs.Stops.{IsStopped, IsStoppedAt};
 
 use crate::acts::aim;
@@ -37,12 +37,12 @@ impl Lane {
         gate: &G,
         steps: &mut Steps<L>,
     ) -> Result<(), AllocError>
-        requires keeps { KeepsLane lock.now self.old }
+        requires own { BelongsTo lock.now self.old }
         requires level { level.now ≡ lock.now.root.level }
         requires rules { IsGround level.now }
         ensures of { IsOf lock.now self.new.pass }
         ensures named { self.new.pass.number ≡ self.old.pass.number }
-        ensures ran { OnOk result (HasRun lock.now lines.Settle self.old self.new) }
+        ensures ran { (spoken : List Spoken) → KeepsLane lock.now spoken self.old → OnOk result (HasRun lock.now lines.Settle spoken self.new) }
         ensures settled { OnOk result (HasSettled lock.now self.old.pass self.new.pass) }
     {
         let actor = Actor::Lane(self.number);
@@ -78,13 +78,13 @@ impl Lane {
         line: &Line,
         steps: &mut Steps<L>,
     ) -> Result<(), Stop>
-        requires keeps { KeepsLane lock.now self.old }
+        requires own { BelongsTo lock.now self.old }
         requires level { level.now ≡ lock.now.root.level }
         requires rules { IsGround level.now }
         requires line { IsRunnable line.now }
         ensures of { IsOf lock.now self.new.pass }
         ensures named { self.new.pass.number ≡ self.old.pass.number }
-        ensures ran { OnOk result (HasRun lock.now line.now self.old self.new) }
+        ensures ran { (spoken : List Spoken) → KeepsLane lock.now spoken self.old → OnOk result (HasRun lock.now line.now spoken self.new) }
         ensures full { IfErr result (IsStoppedAt lock.now line.now self.old.pass self.new.pass) }
     {
         let actor = Actor::Lane(self.number);
@@ -123,15 +123,13 @@ impl Lane {
         list: &[Line],
         steps: &mut Steps<L>,
     ) -> Result<(), Stop>
-        requires keeps { KeepsLane lock.now self.old }
-        requires fresh { self.old.spoken ≡ [] }
+        requires keeps { KeepsLane lock.now [] self.old }
         requires level { level.now ≡ lock.now.root.level }
         requires rules { IsGround level.now }
         requires lines { All IsRunnable list.now }
         ensures of { IsOf lock.now self.new.pass }
         ensures named { self.new.pass.number ≡ self.old.pass.number }
-        ensures keeps_on { OnOk result (KeepsLane lock.now self.new) }
-        ensures each { OnOk result (map (λ (one : Spoken). one.0) self.new.spoken ≡ list.now) }
+        ensures ran { OnOk result (HasRunAll lock.now list.now self.new) }
         ensures full { IfErr result (IsStopped list.now self.new.pass) }
     {
         for line in list {
@@ -153,15 +151,13 @@ impl Lane {
         list: &[Line],
         steps: &mut Steps<L>,
     ) -> Result<(), Stop>
-        requires keeps { KeepsLane lock.now self.old }
-        requires fresh { self.old.spoken ≡ [] }
+        requires keeps { KeepsLane lock.now [] self.old }
         requires level { level.now ≡ lock.now.root.level }
         requires rules { IsGround level.now }
         requires lines { All IsRunnable list.now }
         ensures of { IsOf lock.now self.new.pass }
         ensures named { self.new.pass.number ≡ self.old.pass.number }
-        ensures keeps_on { OnOk result (KeepsLane lock.now self.new) }
-        ensures each { OnOk result (map (λ (one : Spoken). one.0) self.new.spoken ≡ list.now) }
+        ensures ran { OnOk result (HasRunAll lock.now list.now self.new) }
         ensures full { IfErr result (IsStopped list.now self.new.pass) }
     {
         bell.begin_lane();

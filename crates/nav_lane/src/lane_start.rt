@@ -16,8 +16,8 @@ impl Lane {
     /// The lane of a pass that has seen nothing, with an eye, before it runs its first line.
     #[tactic(auto, using(crate::proofs::LaneLaws::starts))]
     pub fn new(alloc: Global, number: u32, pass: Pass<LiveBook>, eye: Eye) -> Lane
-        ensures keeps { (lock : LockId RootView) → CanStart lock number pass eye → KeepsLane lock result }
-        ensures fresh { result.spoken ≡ [] }
+        ensures keeps { (lock : LockId RootView) → CanStart lock number pass eye → KeepsLane lock [] result }
+        ensures text { result.text.items ≡ [] }
         ensures pass { result.pass ≡ pass }
         ensures eye { result.eye ≡ eye }
     {
@@ -25,7 +25,7 @@ impl Lane {
             number,
             pass,
             eye,
-            spoken: Items::new(alloc),
+            text: Vec::new(alloc),
             adds: Items::new(alloc),
             last: 0,
         }

@@ -2,7 +2,8 @@
 //!
 //! The book stands under a turn lock: `LiveBook` is the lock's value. Each act on it is one step of the book's definition, with that step's
 //! answer; requests alone add entries to the history, each under the lane that makes it. A `Lane` makes its requests in order, answers its
-//! questions from published versions, without the lock, and keeps what each line was answered; `specs/LaneRecords.antt` says what that may be.
+//! questions from published versions, without the lock, and writes what each line was answered when it is answered; `specs/LaneRecords.antt` says what
+//! that may be, and `specs/LaneTexts.antt` how it is written.
 #![tactic(auto)]
 
 mod acts;

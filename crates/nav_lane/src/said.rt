@@ -1,7 +1,12 @@
-//! What the lines of a live script are answered.
+//! What the lines of live scripts are answered, and how that is written.
+
+ghost use Rattle.std.specs.Prelude.{◌≡◌, ◌++◌, OnOk};
+ghost use Rattle.nav_lane.specs.LaneTexts.{said_text};
 
 use mesh_types::Answer;
 use nav_ground::Reply;
+use nav_record::{StepAnswer, write_answer, write_reply, write_step};
+use std::alloc::AllocError;
 
 /// What a line of a lane is answered. Lengths count entries of the history.
 #[derive(Drop)]
@@ -12,4 +17,15 @@ pub enum Said {
     Answered { k: u32, answer: Answer },
     /// The first `k` entries are published, and with them all that the lane had asked for.
     Settled { k: u32 },
+}
+
+/// Appends the lines of what a line was answered.
+pub(crate) fn write_said(text: &mut Vec<u8>, said: &Said) -> Result<(), AllocError>
+    ensures { OnOk result (text.new.items ≡ text.old.items ++ said_text said.now) }
+{
+    match said {
+        Said::Replied { number, reply } => write_reply(text, *number, reply),
+        Said::Answered { k, answer } => write_answer(text, *k, answer),
+        Said::Settled { k } => write_step(text, &StepAnswer::Settled { k: *k }),
+    }
 }

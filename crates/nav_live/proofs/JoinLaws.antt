@@ -14,6 +14,7 @@ use Rattle.nav_script.specs.declared.script.Script.{Script}
 use Rattle.nav_version.specs.Pairs.{EyeView}
 use Rattle.nav_lane.specs.declared.lane.Lane.{Lane}
 use Rattle.nav_lane.specs.LaneRecords.{Spoken, IsLane}
+use Rattle.nav_lane.specs.LaneTexts.{told_text}
 use Rattle.nav_lane.specs.Roots.{RootView}
 use Rattle.nav_lane.proofs.EntryLaws.{entries_extended}
 use Rattle.nav_lane.proofs.RecordLaws.{lane_record}
@@ -25,8 +26,8 @@ use Rattle.nav_live.specs.LiveRecord.{LiveRecord, live_text}
 
 -- the lanes have ended, the lock was closed with their passes and with others that made no entry, and what each lane's eye has seen is a beginning
 -- of the history
-pub record IsJoined (lock : LockId RootView) (script : Script) (lanes : List Lane) (idle : List (PassView RootView Entry)) (history : List Entry) : Type 0 where
-  pub ended : HaveEnded lock script lanes
+pub record IsJoined (lock : LockId RootView) (script : Script) (told : List (List Spoken)) (lanes : List Lane) (idle : List (PassView RootView Entry)) (history : List Entry) : Type 0 where
+  pub ended : HaveEnded lock script told lanes
   pub none : All MadeNone idle
   pub closed : IsClosed lock (map (λ (lane : Lane). lane.pass) lanes ++ idle) history
   pub seen : All (λ (lane : Lane). IsPrefix lane.eye.seen history) lanes
@@ -62,12 +63,13 @@ all_of_lanes lock lanes passes history closed kinds k d there =
     ]
 
 -- what is known of the lane in a place
-in_place : (lock : LockId RootView) (script : Script) (lanes : List Lane) (idle : List (PassView RootView Entry)) (history : List Entry) (place : ℕ) (lane : Lane)
-    → IsJoined lock script lanes idle history → place < length lanes → slice_get lanes place ≡ Some lane → get_or lanes place lane ≡ lane
-    → IsLane lock.root.level history place (lines_of place script.lines) (get_or (map (λ (l : Lane). l.spoken) lanes) place [])
-in_place lock script lanes idle history place lane joined there at is =
+in_place : (lock : LockId RootView) (script : Script) (told : List (List Spoken)) (lanes : List Lane) (idle : List (PassView RootView Entry)) (history : List Entry) (place : ℕ)
+    (lane : Lane) → IsJoined lock script told lanes idle history → place < length lanes → slice_get lanes place ≡ Some lane → get_or lanes place lane ≡ lane
+    → IsLane lock.root.level history place (lines_of place script.lines) (get_or told place [])
+in_place lock script told lanes idle history place lane joined there at is =
     let passes : List (PassView RootView Entry) = map (λ (l : Lane). l.pass) lanes in
-    let ended : HasEnded lock script place lane = joined.ended.each place lane at in
+    let spoken : List Spoken = get_or told place [] in
+    let ended : HasEnded lock script place spoken lane = joined.ended.each place lane at in
     let many : length passes ≡ length lanes = length-map lanes (λ (l : Lane). l.pass) in
     let within : place < length (passes ++ idle) = omega (arith, there, many, length-append passes idle) in
     let own : get_or (passes ++ idle) place lane.pass ≡ lane.pass =
@@ -77,57 +79,54 @@ in_place lock script lanes idle history place lane joined there at is =
     let extends : Extends (λ (entry : Entry). entry.lane) lane.pass.number lane.pass.seen history =
     subst (λ (pass : PassView RootView Entry). Extends (λ (entry : Entry). entry.lane) pass.number pass.seen history) own (joined.closed.extends place lane.pass within) in
     let seen : IsPrefix lane.eye.seen history = subst (λ (l : Lane). IsPrefix l.eye.seen history) is (joined.seen place lane there) in
-    let spoken : get_or (map (λ (l : Lane). l.spoken) lanes) place [] ≡ lane.spoken =
-    get_or-map (λ (l : Lane). l.spoken) lanes place lane [] there ∙ ap (λ (l : Lane). l.spoken) is in
-    subst (λ (said : List Spoken). IsLane lock.root.level history place (lines_of place script.lines) said) (sym spoken)
-    (subst (λ (n : ℕ). IsLane lock.root.level history n (lines_of place script.lines) lane.spoken) (sym ended.keeps.number ∙ ended.number)
-    (lane_record lock history (lines_of place script.lines) lane ended.keeps extends seen ended.each))
+    subst (λ (n : ℕ). IsLane lock.root.level history n (lines_of place script.lines) spoken) (sym ended.keeps.own.number ∙ ended.number)
+    (lane_record lock history (lines_of place script.lines) spoken lane ended.keeps extends seen ended.each)
 
-each_lane : (lock : LockId RootView) (script : Script) (lanes : List Lane) (idle : List (PassView RootView Entry)) (history : List Entry) (place : ℕ)
-    → IsJoined lock script lanes idle history → place < script.lanes
-    → IsLane lock.root.level history place (lines_of place script.lines) (get_or (map (λ (l : Lane). l.spoken) lanes) place [])
-each_lane lock script lanes idle history place joined below =
+each_lane : (lock : LockId RootView) (script : Script) (told : List (List Spoken)) (lanes : List Lane) (idle : List (PassView RootView Entry)) (history : List Entry) (place : ℕ)
+    → IsJoined lock script told lanes idle history → place < script.lanes
+    → IsLane lock.root.level history place (lines_of place script.lines) (get_or told place [])
+each_lane lock script told lanes idle history place joined below =
     elim (slice_get_cases lanes place).1 [
-      | inl at ↦ in_place lock script lanes idle history place at.0 joined at.1 at.2 at.3
+      | inl at ↦ in_place lock script told lanes idle history place at.0 joined at.1 at.2 at.3
       | inr past ↦ absurd (omega (arith, past.0, below, joined.ended.count))
     ]
 
 -- each pass is that of a lane of the script, or has made no entry
-kinds_of_passes : (lock : LockId RootView) (script : Script) (lanes : List Lane) (idle : List (PassView RootView Entry)) (history : List Entry)
-    → IsJoined lock script lanes idle history
+kinds_of_passes : (lock : LockId RootView) (script : Script) (told : List (List Spoken)) (lanes : List Lane) (idle : List (PassView RootView Entry)) (history : List Entry)
+    → IsJoined lock script told lanes idle history
     → All (λ (pass : PassView RootView Entry). (pass.number < script.lanes) ⊎ MadeNone pass) (map (λ (lane : Lane). lane.pass) lanes ++ idle)
-kinds_of_passes lock script lanes idle history joined =
+kinds_of_passes lock script told lanes idle history joined =
     let P : PassView RootView Entry → Type 0 = λ pass. (pass.number < script.lanes) ⊎ MadeNone pass in
     All-append P (map (λ (lane : Lane). lane.pass) lanes) idle
     (All-map P (λ (lane : Lane). lane.pass) lanes
     (λ k d there.
-    let ended : HasEnded lock script k (get_or lanes k d) = joined.ended.each k (get_or lanes k d) (slice_get-get_or lanes k d there) in
-    inl (omega (arith, ended.number, ended.keeps.number, there, joined.ended.count))))
+    let ended : HasEnded lock script k (get_or told k []) (get_or lanes k d) = joined.ended.each k (get_or lanes k d) (slice_get-get_or lanes k d there) in
+    inl (omega (arith, ended.number, ended.keeps.own.number, there, joined.ended.count))))
     (All-weaker MadeNone P (λ pass none. inr none) idle joined.none)
 
 -- a run that was joined so, and the text of what its lanes were answered, are a run of the live script
-pub live_record : (lock : LockId RootView) (script : Script) (lanes : List Lane) (idle : List (PassView RootView Entry)) (history : List Entry) (text : List ℕ)
-    → IsJoined lock script lanes idle history → text ≡ live_text lock.root.level history (map (λ (lane : Lane). lane.spoken) lanes)
+pub live_record : (lock : LockId RootView) (script : Script) (told : List (List Spoken)) (lanes : List Lane) (idle : List (PassView RootView Entry)) (history : List Entry)
+    (text : List ℕ) → IsJoined lock script told lanes idle history → text ≡ live_text lock.root.level history (map told_text told)
     → LiveRecord lock.root.level script text
-live_record lock script lanes idle history text joined written = record {
+live_record lock script told lanes idle history text joined written = record {
   history = history;
-  lanes = map (λ (lane : Lane). lane.spoken) lanes;
+  lanes = told;
   replied = joined.closed.legal;
-  count = length-map lanes (λ (lane : Lane). lane.spoken) ∙ joined.ended.count;
-  each = λ lane below. each_lane lock script lanes idle history lane joined below;
+  count = joined.ended.answered;
+  each = λ lane below. each_lane lock script told lanes idle history lane joined below;
   others = all_of_lanes lock script.lanes (map (λ (lane : Lane). lane.pass) lanes ++ idle) history joined.closed
-      (kinds_of_passes lock script lanes idle history joined);
+      (kinds_of_passes lock script told lanes idle history joined);
   written = written;
 }
 
 -- the same by what the actors leave
 pub left_record : (lock : LockId RootView) (script : Script) (left : Left) (whole : Ground) (history : List Entry) (text : List ℕ) → HaveLeft lock script left
     → IsClosed lock left.passes.items history → All (λ (eye : EyeView). IsPrefix eye.seen history) left.eyes.items → whole ≡ lock.root.level
-    → text ≡ live_text whole history left.spoken.items → LiveRecord whole script text
+    → text ≡ live_text whole history left.texts.items → LiveRecord whole script text
 left_record lock script left whole history text have closed seen same written =
     let lanes : List Lane = have.lanes in
     subst (λ (level : Ground). LiveRecord level script text) (sym same)
-    (live_record lock script lanes have.idle history text
+    (live_record lock script have.told lanes have.idle history text
     (record {
       ended = have.ended;
       none = have.none;
@@ -136,4 +135,4 @@ left_record lock script left whole history text have closed seen same written =
           (subst (λ (eyes : List EyeView). All (λ (eye : EyeView). IsPrefix eye.seen history) eyes) have.eyes seen k d.eye
           (omega (arith, there, length-map lanes (λ (lane : Lane). lane.eye))));
     })
-    (written ∙ ap (λ (level : Ground). live_text level history left.spoken.items) same ∙ ap (live_text lock.root.level history) have.spoken))
+    (written ∙ ap (λ (level : Ground). live_text level history left.texts.items) same ∙ ap (live_text lock.root.level history) have.texts))

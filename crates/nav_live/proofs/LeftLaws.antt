@@ -16,6 +16,7 @@ use Rattle.nav_lane.specs.Roots.{RootView}
 use Rattle.nav_lane.specs.declared.lane.Lane as lanes
 use Rattle.nav_lane.specs.declared.lane.Stop.TheVariants.{NoMemory, HistoryFull}
 use Rattle.nav_lane.specs.LaneRecords.{Spoken, entries_made}
+use Rattle.nav_lane.specs.LaneTexts.{told_text}
 use Rattle.nav_lane.specs.Lanes.{KeepsLane}
 use Rattle.nav_lane.specs.Stops.{HasMetFull}
 use Rattle.nav_lane.proofs.RecordLaws.{length-entries_made}
@@ -25,7 +26,7 @@ use Rattle.nav_live.specs.declared.hand.Task.{Task}
 use Rattle.nav_live.specs.declared.hand.Task.TheVariants.{Lane, Worker}
 use Rattle.nav_live.specs.Dealing.{dealt, lines_of, requests_of}
 use Rattle.nav_live.specs.Joined.{HasEnded, MadeNone}
-use Rattle.nav_live.specs.Crews.{AreHands, End, EndsAs, HasEndedLane, HaveLeft, HaveMetFull, IsDone, IsLaneOf, IsSameTask, IsWorkerOf, eye_left, pass_left, spoken_left}
+use Rattle.nav_live.specs.Crews.{AreHands, End, EndsAs, HasEndedLane, HaveLeft, HaveMetFull, IsDone, IsLaneOf, IsSameTask, IsWorkerOf, eye_left, pass_left, text_left}
 use Rattle.nav_live.proofs.MusterLaws.{get_or-dealt, length-dealt}
 
 -- some element has what the element at this place has
@@ -119,19 +120,35 @@ all_left lock lists hands passes ran left = record {
     there k below = omega (arith, below, ran.count, ap length left, length-map hands (λ (hand : Hand). pass_left hand.task))
 
 -- what a lane that ended well was
-record IsLeftBy (lock : LockId RootView) (number : ℕ) (list : List Line) (lane : lanes.Lane) : Type 0 where
-  keeps : KeepsLane lock lane
+record IsLeftBy (lock : LockId RootView) (number : ℕ) (list : List Line) (spoken : List Spoken) (lane : lanes.Lane) : Type 0 where
+  keeps : KeepsLane lock spoken lane
   number_is : lane.pass.number ≡ number
-  each : map (λ (one : Spoken). one.0) lane.spoken ≡ list
+  each : map (λ (one : Spoken). one.0) spoken ≡ list
+
+-- what a task was whose lane ended well
+record IsLeft (lock : LockId RootView) (number : ℕ) (list : List Line) (task : Task) : Type 0 where
+  lane : lanes.Lane
+  spoken : List Spoken
+  is : IsLeftBy lock number list spoken lane
+  pass : pass_left task ≡ lane.pass
+  eye : eye_left task ≡ Some lane.eye
+  text : text_left task ≡ Some (told_text spoken)
 
 lane_of : (lock : LockId RootView) (number : ℕ) (list : List Line) (task : Task) (end : End) → IsLaneOf number list task → IsDone lock task end → end ≡ Ok tt
-    → (lane : lanes.Lane) × IsLeftBy lock number list lane × (pass_left task ≡ lane.pass) × (eye_left task ≡ Some lane.eye) × (spoken_left task ≡ Some lane.spoken)
-lane_of lock number list (Lane lane lines) (Ok did) is done well = (lane, record { keeps = done.keeps; number_is = is.0; each = done.each ∙ is.1 }, refl, refl, refl)
+    → IsLeft lock number list task
+lane_of lock number list (Lane lane lines) (Ok did) is done well = record {
+  lane = lane;
+  spoken = done.ran.spoken;
+  is = record { keeps = done.ran.keeps; number_is = is.0; each = done.ran.each ∙ is.1 };
+  pass = refl;
+  eye = refl;
+  text = ap Some done.ran.keeps.notes.text;
+}
 lane_of lock number list (Lane lane lines) (Err stop) is done well = absurd (cc well)
 lane_of lock number list (Worker worker) end is done well = absurd is
 
 worker_of : (number : ℕ) (lock : LockId RootView) (task : Task) (end : End) → IsWorkerOf number task → IsDone lock task end
-    → MadeNone (pass_left task) × (eye_left task ≡ None) × (spoken_left task ≡ None)
+    → MadeNone (pass_left task) × (eye_left task ≡ None) × (text_left task ≡ None)
 worker_of number lock (Worker worker) end is done = (done.made, refl, refl)
 worker_of number lock (Lane lane lines) end is done = absurd is
 
@@ -139,11 +156,11 @@ worker_of number lock (Lane lane lines) end is done = absurd is
 record AreLeftByWorkers (hands : List Hand) : Type 0 where
   none : All MadeNone (map (λ (hand : Hand). pass_left hand.task) hands)
   eyes : filter_map (λ (hand : Hand). eye_left hand.task) hands ≡ []
-  spoken : filter_map (λ (hand : Hand). spoken_left hand.task) hands ≡ []
+  texts : filter_map (λ (hand : Hand). text_left hand.task) hands ≡ []
 
 left_by_workers : (lock : LockId RootView) (number : ℕ) (hands : List Hand) → ((k : ℕ) (d : Hand) → k < length hands → IsWorkerOf (number + k) (get_or hands k d).task)
     → All (λ (hand : Hand). IsDone lock hand.task hand.end) hands → AreLeftByWorkers hands
-left_by_workers lock number [] are done = record { none = All-nil MadeNone; eyes = refl; spoken = refl }
+left_by_workers lock number [] are done = record { none = All-nil MadeNone; eyes = refl; texts = refl }
 left_by_workers lock number (hand ∷ rest) are done =
     let P : Hand → Type 0 = λ hand. IsDone lock hand.task hand.end in
     let own = worker_of (number + 0) lock hand.task hand.end (are 0 hand (omega arith)) (All-head P hand rest done) in
@@ -152,19 +169,21 @@ left_by_workers lock number (hand ∷ rest) are done =
     record {
       none = All-cons MadeNone (pass_left hand.task) (map (λ (hand : Hand). pass_left hand.task) rest) own.0 more.none;
       eyes = ap (λ o. cons_option o (filter_map (λ (hand : Hand). eye_left hand.task) rest)) own.1 ∙ more.eyes;
-      spoken = ap (λ o. cons_option o (filter_map (λ (hand : Hand). spoken_left hand.task) rest)) own.2 ∙ more.spoken;
+      texts = ap (λ o. cons_option o (filter_map (λ (hand : Hand). text_left hand.task) rest)) own.2 ∙ more.texts;
     }
 
 -- lanes and then workers leave what each lane leaves, and passes that made no entry
 record AreLeftBy (lock : LockId RootView) (number : ℕ) (lists : List (List Line)) (hands : List Hand) : Type 0 where
   those : List lanes.Lane
+  told : List (List Spoken)
   idle : List (PassView RootView Entry)
   count : length those ≡ length lists
-  each : (k : ℕ) (lane : lanes.Lane) → slice_get those k ≡ Some lane → IsLeftBy lock (number + k) (get_or lists k []) lane
+  answered : length told ≡ length lists
+  each : (k : ℕ) (lane : lanes.Lane) → slice_get those k ≡ Some lane → IsLeftBy lock (number + k) (get_or lists k []) (get_or told k []) lane
   none : All MadeNone idle
   passes : map (λ (hand : Hand). pass_left hand.task) hands ≡ map (λ (lane : lanes.Lane). lane.pass) those ++ idle
   eyes : filter_map (λ (hand : Hand). eye_left hand.task) hands ≡ map (λ (lane : lanes.Lane). lane.eye) those
-  spoken : filter_map (λ (hand : Hand). spoken_left hand.task) hands ≡ map (λ (lane : lanes.Lane). lane.spoken) those
+  texts : filter_map (λ (hand : Hand). text_left hand.task) hands ≡ map told_text told
 
 left_by : (lock : LockId RootView) (number : ℕ) (lists : List (List Line)) (hands : List Hand) → length lists ≤ length hands
     → ((k : ℕ) (d : Hand) → k < length lists → IsLaneOf (number + k) (get_or lists k []) (get_or hands k d).task)
@@ -174,13 +193,15 @@ left_by lock number [] hands few run build done well =
     let left = left_by_workers lock number hands (λ k d below. build k d (omega arith) below) done in
     record {
       those = [];
+      told = [];
       idle = map (λ (hand : Hand). pass_left hand.task) hands;
       count = refl;
+      answered = refl;
       each = λ k lane is. absurd (cc is);
       none = left.none;
       passes = refl;
       eyes = left.eyes;
-      spoken = left.spoken;
+      texts = left.texts;
     }
 left_by lock number (list ∷ more) [] few run build done well = absurd (omega (arith, few))
 left_by lock number (list ∷ more) (hand ∷ rest) few run build done well =
@@ -192,28 +213,30 @@ left_by lock number (list ∷ more) (hand ∷ rest) few run build done well =
     (λ k d above below. subst (λ n. IsWorkerOf n (get_or rest k d).task) (omega arith) (build (suc k) d (omega (arith, above)) (omega (arith, below))))
     (All-tail P hand rest done) (All-tail Q hand rest well) in
     record {
-      those = own.0 ∷ left.those;
+      those = own.lane ∷ left.those;
+      told = own.spoken ∷ left.told;
       idle = left.idle;
       count = ap suc left.count;
-      each = by_place own.0 own.1 left.those left.each;
+      answered = ap suc left.answered;
+      each = by_place own.lane own.spoken own.is left.those left.told left.each;
       none = left.none;
-      passes = (λ i. own.2 i ∷ left.passes i);
-      eyes = ap (λ o. cons_option o (filter_map (λ (hand : Hand). eye_left hand.task) rest)) own.3 ∙ ap (λ eyes. own.0.eye ∷ eyes) left.eyes;
-      spoken = ap (λ o. cons_option o (filter_map (λ (hand : Hand). spoken_left hand.task) rest)) own.4 ∙ ap (λ spoken. own.0.spoken ∷ spoken) left.spoken;
+      passes = (λ i. own.pass i ∷ left.passes i);
+      eyes = ap (λ o. cons_option o (filter_map (λ (hand : Hand). eye_left hand.task) rest)) own.eye ∙ ap (λ eyes. own.lane.eye ∷ eyes) left.eyes;
+      texts = ap (λ o. cons_option o (filter_map (λ (hand : Hand). text_left hand.task) rest)) own.text ∙ ap (λ texts. told_text own.spoken ∷ texts) left.texts;
     }
   where
-    by_place : (first : lanes.Lane) → IsLeftBy lock (number + 0) list first → (those : List lanes.Lane)
-        → ((k : ℕ) (lane : lanes.Lane) → slice_get those k ≡ Some lane → IsLeftBy lock (number + 1 + k) (get_or more k []) lane)
-        → (k : ℕ) (lane : lanes.Lane) → slice_get (first ∷ those) k ≡ Some lane → IsLeftBy lock (number + k) (get_or (list ∷ more) k []) lane
-    by_place first own those each zero lane is = let same : first ≡ lane = cc is in subst (IsLeftBy lock (number + 0) list) same own
-    by_place first own those each (suc k) lane is = subst (λ n. IsLeftBy lock n (get_or more k []) lane) (omega arith) (each k lane is)
+    by_place : (first : lanes.Lane) (spoken : List Spoken) → IsLeftBy lock (number + 0) list spoken first → (those : List lanes.Lane) (told : List (List Spoken))
+        → ((k : ℕ) (lane : lanes.Lane) → slice_get those k ≡ Some lane → IsLeftBy lock (number + 1 + k) (get_or more k []) (get_or told k []) lane)
+        → (k : ℕ) (lane : lanes.Lane) → slice_get (first ∷ those) k ≡ Some lane → IsLeftBy lock (number + k) (get_or (list ∷ more) k []) (get_or (spoken ∷ told) k []) lane
+    by_place first spoken own those told each zero lane is = let same : first ≡ lane = cc is in subst (IsLeftBy lock (number + 0) list spoken) same own
+    by_place first spoken own those told each (suc k) lane is = subst (λ n. IsLeftBy lock n (get_or more k []) (get_or told k []) lane) (omega arith) (each k lane is)
 
 -- what the actors of a script leave where all ended well
 pub have_left : (lock : LockId RootView) (script : Script) (hands : List Hand) (left : Left) (end : End) → HaveRun lock (dealt script) hands → EndsAs hands end
     → left.passes.items ≡ map (λ (hand : Hand). pass_left hand.task) hands → left.eyes.items ≡ filter_map (λ (hand : Hand). eye_left hand.task) hands
-    → left.spoken.items ≡ filter_map (λ (hand : Hand). spoken_left hand.task) hands → OnOk end (HaveLeft lock script left)
-have_left lock script hands left (Err stop) ran ends passes eyes spoken = tt
-have_left lock script hands left (Ok did) ran ends passes eyes spoken =
+    → left.texts.items ≡ filter_map (λ (hand : Hand). text_left hand.task) hands → OnOk end (HaveLeft lock script left)
+have_left lock script hands left (Err stop) ran ends passes eyes texts = tt
+have_left lock script hands left (Ok did) ran ends passes eyes texts =
     let lists = dealt script in
     let are = ran.are in
     let by = left_by lock 0 lists hands are.few
@@ -221,21 +244,27 @@ have_left lock script hands left (Ok did) ran ends passes eyes spoken =
     (λ k d above below. subst (λ n. IsWorkerOf n (get_or hands k d).task) (omega arith) (are.workers k d above below)) ran.done ends in
     record {
       lanes = by.those;
+      told = by.told;
       idle = by.idle;
-      ended = record { count = by.count ∙ length-dealt script; each = λ place lane is. ended by.those by.count place lane is (subst (λ n. IsLeftBy lock n (get_or lists place []) lane) (omega arith) (by.each place lane is)) };
+      ended = record {
+        count = by.count ∙ length-dealt script;
+        answered = by.answered ∙ length-dealt script;
+        each = λ place lane is. ended by.those by.count place (get_or by.told place []) lane is
+            (subst (λ n. IsLeftBy lock n (get_or lists place []) (get_or by.told place []) lane) (omega arith) (by.each place lane is));
+      };
       none = by.none;
       passes = passes ∙ by.passes;
       eyes = eyes ∙ by.eyes;
-      spoken = spoken ∙ by.spoken;
+      texts = texts ∙ by.texts;
     }
   where
-    ended : (those : List lanes.Lane) → length those ≡ length (dealt script) → (place : ℕ) (lane : lanes.Lane) → slice_get those place ≡ Some lane
-        → IsLeftBy lock place (get_or (dealt script) place []) lane → HasEnded lock script place lane
-    ended those count place lane is left' =
+    ended : (those : List lanes.Lane) → length those ≡ length (dealt script) → (place : ℕ) (spoken : List Spoken) (lane : lanes.Lane) → slice_get those place ≡ Some lane
+        → IsLeftBy lock place (get_or (dealt script) place []) spoken lane → HasEnded lock script place spoken lane
+    ended those count place spoken lane is left' =
         let there : place < length those = slice_get_within those place lane is in
         record {
           keeps = left'.keeps;
-          number = left'.keeps.number ∙ left'.number_is;
+          number = left'.keeps.own.number ∙ left'.number_is;
           each = left'.each ∙ get_or-dealt script place (omega (arith, there, count, length-dealt script));
         }
 
@@ -251,7 +280,7 @@ asks_most lock script k (Lane own lines) end done not lane worker' = elim (cases
   where
     by_end : (end : End) → HasEndedLane lock lines own end → end ≢ Err NoMemory → lines ≡ lines_of k script.lines
         → length (entries_made own.pass.number own.pass.seen) ≤ requests_of k script.lines
-    by_end (Ok did) done not is = omega (arith, length-entries_made lock lines own done.keeps done.each, ap (count_by is_request) is)
+    by_end (Ok did) done not is = omega (arith, length-entries_made lock lines own done.ran, ap (count_by is_request) is)
     by_end (Err NoMemory) done not is = absurd (not refl)
     by_end (Err HistoryFull) done not is = let fewer = done.full.fewer in omega (arith, fewer, ap (count_by is_request) is)
 

@@ -78,7 +78,7 @@ module _ (lock : LockId RootView) where
         pair = of.pair;
         level = of.level;
       } in
-      record { keeps = new.keeps lock can; fresh = new.fresh; lines = subst (All IsRunnable) (sym new.dealt) run }
+      record { keeps = new.keeps lock can; lines = subst (All IsRunnable) (sym new.dealt) run }
 
   module _ (eyes : List EyeView) (lists : List (List Line)) (many : length eyes ≡ length lists) (each : All (IsEyeOf lock) eyes) (run : All (All IsRunnable) lists) where
     -- a new task of a fresh pass can be done

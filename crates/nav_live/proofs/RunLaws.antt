@@ -1,10 +1,9 @@
 -- How a book, its lock and its actors come to the record of a run.
-use Rattle.std.proofs.Common.{◌≡◌, ◌∙◌, refl, sym, ap, subst, ℕ, ◌+◌, List, [], get_or, map, replicate, All, Any}
+use Rattle.std.proofs.Common.{◌≡◌, ◌∙◌, refl, sym, ap, subst, ℕ, ◌+◌, List, [], get_or, replicate, All, Any}
 use Rattle.std.specs.Prelude.{Result, Ok, Err, IfOk, OnOk}
 use Rattle.std.proofs.lemmas.List.Elements.{All-map, All-replicate}
 use Rattle.std.proofs.lemmas.Option.{slice_get-get_or}
 use mathlib.Core.List.{IsPrefix}
-use Rattle.logbook.specs.Pages.{Book}
 use Rattle.turn_lock.specs.Growth.{Extends}
 use Rattle.turn_lock.specs.Locks.{LockId, PassView, AreFresh}
 use Rattle.nav_ground.specs.declared.history.Entry.{Entry}
@@ -13,7 +12,6 @@ use Rattle.nav_script.specs.declared.script.Script.{Script}
 use Rattle.nav_version.specs.Pairs.{EyeView, eye_of}
 use Rattle.nav_book.specs.Views.{BookView}
 use Rattle.nav_lane.specs.declared.lane.Lane.{Lane}
-use Rattle.nav_lane.specs.LaneRecords.{Spoken}
 use Rattle.nav_lane.specs.LiveBooks.{IsLegal, root_of}
 use Rattle.nav_lane.specs.Roots.{RootView}
 use Rattle.nav_live.specs.declared.hand.Left.{Left}
@@ -53,18 +51,18 @@ pairs_left lock script left book eyes have root are =
     subst (All (λ (eye : EyeView). eye.pair ≡ book.pair)) (sym (are ∙ have.eyes))
     (All-map (λ (eye : EyeView). eye.pair ≡ book.pair) (λ (lane : Lane). lane.eye) have.lanes
     (λ k d there.
-    (have.ended.each k (get_or have.lanes k d) (slice_get-get_or have.lanes k d there)).keeps.pair ∙ sym (ap (λ (r : RootView). r.pair) root)))
+    (have.ended.each k (get_or have.lanes k d) (slice_get-get_or have.lanes k d there)).keeps.own.pair ∙ sym (ap (λ (r : RootView). r.pair) root)))
 
 -- a text of what the lanes leave, written once their eyes have seen the whole history, is one of the run
 pub record_of : {T E : Type 0} (items : T → List ℕ) (result : Result T E) (lock : LockId RootView) (script : Script) (left : Left) (book : BookView)
-    (eyes : List EyeView) (spoken : List (List Spoken)) → HaveLeft lock script left → IsClosed lock left.passes.items book.state.history
-    → root_of book ≡ lock.root → eyes ≡ left.eyes.items → spoken ≡ left.spoken.items
-    → IfOk result (λ text. items text ≡ live_text book.state.whole book.state.history spoken)
+    (eyes : List EyeView) (texts : List (List ℕ)) → HaveLeft lock script left → IsClosed lock left.passes.items book.state.history
+    → root_of book ≡ lock.root → eyes ≡ left.eyes.items → texts ≡ left.texts.items
+    → IfOk result (λ text. items text ≡ live_text book.state.whole book.state.history texts)
     → OnOk result (All (λ (eye : EyeView). IsPrefix eye.seen book.state.history) eyes)
     → IfOk result (λ text. LiveRecord lock.root.level script (items text))
-record_of items (Ok text) lock script left book eyes spoken have closed root seers said written seen =
+record_of items (Ok text) lock script left book eyes texts have closed root seers said written seen =
     left_record lock script left lock.root.level book.state.history (items text) have closed
     (subst (All (λ (eye : EyeView). IsPrefix eye.seen book.state.history)) seers seen) refl
     (written ∙ ap (live_text book.state.whole book.state.history) said
-    ∙ ap (λ (whole : Ground). live_text whole book.state.history left.spoken.items) (ap (λ (r : RootView). r.level) root))
-record_of items (Err refused) lock script left book eyes spoken have closed root seers said written seen = tt
+    ∙ ap (λ (whole : Ground). live_text whole book.state.history left.texts.items) (ap (λ (r : RootView). r.level) root))
+record_of items (Err refused) lock script left book eyes texts have closed root seers said written seen = tt

@@ -10,8 +10,9 @@ use Rattle.nav_lane.specs.declared.lane.Lane.{Lane}
 use Rattle.nav_lane.specs.declared.lane.Stop.{Stop}
 use Rattle.nav_lane.specs.declared.lane.Stop.TheVariants.{NoMemory, HistoryFull}
 use Rattle.nav_lane.specs.LaneRecords.{Spoken}
+use Rattle.nav_lane.specs.LaneTexts.{told_text}
 use Rattle.nav_lane.specs.Lanes.{CanStart, KeepsLane}
-use Rattle.nav_lane.specs.LaneSteps.{IsRunnable}
+use Rattle.nav_lane.specs.LaneSteps.{HasRunAll, IsRunnable}
 use Rattle.nav_lane.specs.Stops.{HasMetFull, IsStopped}
 use Rattle.nav_live.specs.declared.hand.Crew.{Crew}
 use Rattle.nav_live.specs.declared.hand.Hand.{Hand}
@@ -27,8 +28,7 @@ End = Result (Unit {0}) Stop
 
 -- a lane can run all its lines, and has run none
 pub record IsReadyLane (lock : LockId RootView) (lane : Lane) (list : List Line) : Type 0 where
-  pub keeps : KeepsLane lock lane
-  pub fresh : lane.spoken ≡ []
+  pub keeps : KeepsLane lock [] lane
   pub lines : All IsRunnable list
 
 -- a worker's pass has seen nothing
@@ -51,8 +51,7 @@ IsSameTask (tasks.Worker before) (tasks.Lane after same) = ⊥
 -- a lane has run: where it ended well it has run all its lines, and where it stopped at a full history it has met that
 pub record HasEndedLane (lock : LockId RootView) (list : List Line) (lane : Lane) (end : End) : Type 0 where
   pub of : IsOf lock lane.pass
-  pub keeps : OnOk end (KeepsLane lock lane)
-  pub each : OnOk end (map (λ (one : Spoken). one.0) lane.spoken ≡ list)
+  pub ran : OnOk end (HasRunAll lock list lane)
   pub full : IfErr end (IsStopped list lane.pass)
 
 -- a worker has run: it has made no entry, and met no full history
@@ -96,8 +95,7 @@ pub record CanMuster (lock : LockId RootView) (script : Script) (passes : List (
 pub record IsNewLane (number : ℕ) (list : List Line) (pass : PassView RootView Entry) (eye : EyeView) (lane : Lane) (lines : List Line) : Type 0 where
   pub made : lane.pass ≡ pass
   pub dealt : lines ≡ list
-  pub fresh : lane.spoken ≡ []
-  pub keeps : (lock : LockId RootView) → CanStart lock number pass eye → KeepsLane lock lane
+  pub keeps : (lock : LockId RootView) → CanStart lock number pass eye → KeepsLane lock [] lane
 
 -- a worker in this place, behind so many lanes, has the number of workers before it
 abbrev pub IsNumbered : (lanes place : ℕ) → Task → Type 0
@@ -136,7 +134,7 @@ worse (Err HistoryFull) (Ok done) = Err HistoryFull
 worse (Err HistoryFull) (Err NoMemory) = Err NoMemory
 worse (Err HistoryFull) (Err HistoryFull) = Err HistoryFull
 
--- what an actor leaves: its pass; and a lane its eye, and its lines with what they were answered
+-- what an actor leaves: its pass; and a lane its eye, and what is written of its lines
 abbrev pub pass_left : Task → PassView RootView Entry
 pass_left (tasks.Lane lane list) = lane.pass
 pass_left (tasks.Worker worker) = worker.pass
@@ -145,21 +143,21 @@ abbrev pub eye_left : Task → Option EyeView
 eye_left (tasks.Lane lane list) = Some lane.eye
 eye_left (tasks.Worker worker) = None
 
-abbrev pub spoken_left : Task → Option (List Spoken)
-spoken_left (tasks.Lane lane list) = Some lane.spoken
-spoken_left (tasks.Worker worker) = None
+abbrev pub text_left : Task → Option (List ℕ)
+text_left (tasks.Lane lane list) = Some lane.text.items
+text_left (tasks.Worker worker) = None
 
 -- there is room for what so many more actors leave
 pub record HasRoom (count : ℕ) (left : Left) : Type 0 where
   pub passes : vec_len left.passes + count ≤ vec_capacity left.passes
   pub eyes : vec_len left.eyes + count ≤ vec_capacity left.eyes
-  pub spoken : vec_len left.spoken + count ≤ vec_capacity left.spoken
+  pub texts : vec_len left.texts + count ≤ vec_capacity left.texts
 
 -- nothing is left yet, and there is room for what so many actors leave
 pub record IsSpare (count : ℕ) (left : Left) : Type 0 where
   pub passes : left.passes.items ≡ []
   pub eyes : left.eyes.items ≡ []
-  pub spoken : left.spoken.items ≡ []
+  pub texts : left.texts.items ≡ []
   pub room : HasRoom count left
 
 -- there is room for so many actors and for what they leave
@@ -171,12 +169,13 @@ pub record IsSpareCrew (count : ℕ) (crew : Crew) : Type 0 where
 -- what the actors of a script leave where all ended well: each lane has run its lines, and the passes of workers have made no entry
 pub record HaveLeft (lock : LockId RootView) (script : Script) (left : Left) : Type 0 where
   pub lanes : List Lane
+  pub told : List (List Spoken)
   pub idle : List (PassView RootView Entry)
-  pub ended : HaveEnded lock script lanes
+  pub ended : HaveEnded lock script told lanes
   pub none : All MadeNone idle
   pub passes : left.passes.items ≡ map (λ (lane : Lane). lane.pass) lanes ++ idle
   pub eyes : left.eyes.items ≡ map (λ (lane : Lane). lane.eye) lanes
-  pub spoken : left.spoken.items ≡ map (λ (lane : Lane). lane.spoken) lanes
+  pub texts : left.texts.items ≡ map told_text told
 
 -- the passes of a script's actors of which some lane met a full history, and to none of which memory was refused
 pub record HaveMetFull (script : Script) (passes : List (PassView RootView Entry)) : Type 0 where

@@ -11,16 +11,17 @@ use Rattle.nav_lane.specs.LiveBooks.{IsLegal}
 use Rattle.nav_lane.specs.Roots.{RootView}
 use Rattle.nav_live.specs.Dealing.{lines_of, requests_of}
 
--- a lane that stands in a place has the number of the place, and has run all lines that a script deals to that number
-pub record HasEnded (lock : LockId RootView) (script : Script) (place : ℕ) (lane : Lane) : Type 0 where
-  pub keeps : KeepsLane lock lane
+-- a lane that stands in a place has the number of the place, and has run all lines that a script deals to that number, with these answers
+pub record HasEnded (lock : LockId RootView) (script : Script) (place : ℕ) (spoken : List Spoken) (lane : Lane) : Type 0 where
+  pub keeps : KeepsLane lock spoken lane
   pub number : lane.number ≡ place
-  pub each : map (λ (one : Spoken). one.0) lane.spoken ≡ lines_of place script.lines
+  pub each : map (λ (one : Spoken). one.0) spoken ≡ lines_of place script.lines
 
--- all lanes of a script have run all their lines, and stand in the order of their numbers
-pub record HaveEnded (lock : LockId RootView) (script : Script) (lanes : List Lane) : Type 0 where
+-- all lanes of a script have run all their lines, each with its answers, and stand in the order of their numbers
+pub record HaveEnded (lock : LockId RootView) (script : Script) (told : List (List Spoken)) (lanes : List Lane) : Type 0 where
   pub count : length lanes ≡ script.lanes
-  pub each : (place : ℕ) (lane : Lane) → slice_get lanes place ≡ Some lane → HasEnded lock script place lane
+  pub answered : length told ≡ script.lanes
+  pub each : (place : ℕ) (lane : Lane) → slice_get lanes place ≡ Some lane → HasEnded lock script place (get_or told place []) lane
 
 -- a pass has made no entry
 pub record MadeNone (pass : PassView RootView Entry) : Type 0 where

@@ -13,9 +13,7 @@ ghost use Rattle.nav_live.specs.LiveRecord.{live_text};
 use crate::text::write_live;
 use nav_base::Question;
 use nav_book::Book;
-use nav_lane::Said;
 use nav_list::Items;
-use nav_script::Line;
 use nav_steps::Steps;
 use nav_version::Eye;
 use std::alloc::{AllocError, Global};
@@ -23,13 +21,13 @@ use std::sync::Wait;
 use std::sync::ledger::Ledger;
 
 /// Builds and publishes the whole history, with one step at most for each tile, shows it to the eyes of the lanes, and gives the live text of
-/// it and of what the lanes' lines were answered.
+/// it and of what the lanes have written.
 pub(crate) fn finish<R: Wait, L: Ledger>(
     rt: &R,
     alloc: Global,
     book: &mut Book,
     eyes: &mut [Eye],
-    lanes: Vec<Items<(Line, Said)>>,
+    lanes: Vec<Items<u8>>,
     steps: &mut Steps<L>,
 ) -> Result<Vec<u8>, AllocError>
     requires pairs { All (λ (eye : EyeView). eye.pair ≡ book.old.pair) eyes.old }

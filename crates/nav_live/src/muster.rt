@@ -12,7 +12,7 @@ ghost use Rattle.nav_lane.specs.Roots.{RootView};
 ghost use Rattle.nav_lane.specs.declared.lane.Stop.TheVariants as stops;
 ghost use Rattle.nav_lane.specs.LaneSteps.{IsRunnable};
 ghost use Rattle.nav_live.specs.declared.hand.Hand.{Hand};
-ghost use Rattle.nav_live.specs.Crews.{AreMustered, CanMuster, EndsAs, HasRoom, HaveLeft, HaveMetFull, IsNew, IsSpare, IsSpareCrew, eye_left, pass_left, spoken_left, worse};
+ghost use Rattle.nav_live.specs.Crews.{AreMustered, CanMuster, EndsAs, HasRoom, HaveLeft, HaveMetFull, IsNew, IsSpare, IsSpareCrew, eye_left, pass_left, text_left, worse};
 ghost use Rattle.nav_live.specs.Dealing.{dealt};
 
 use crate::crew::run_all;
@@ -49,7 +49,7 @@ impl Left {
         requires { HasRoom 1 self.old }
         ensures passes { self.new.passes.items ≡ self.old.passes.items ++ pass_left task ∷ [] }
         ensures eyes { self.new.eyes.items ≡ self.old.eyes.items ++ cons_option (eye_left task) [] }
-        ensures spoken { self.new.spoken.items ≡ self.old.spoken.items ++ cons_option (spoken_left task) [] }
+        ensures texts { self.new.texts.items ≡ self.old.texts.items ++ cons_option (text_left task) [] }
         ensures room { (count : ℕ) → HasRoom (count + 1) self.old → HasRoom count self.new }
     {
         match task {
@@ -61,13 +61,13 @@ impl Left {
                     number: _,
                     pass,
                     eye,
-                    spoken,
+                    text,
                     adds: _,
                     last: _,
                 } = lane;
                 self.passes.push_reserved(pass);
                 self.eyes.push_reserved(eye);
-                self.spoken.push_reserved(spoken);
+                self.texts.push_reserved(Items::from_vec(text));
             }
             Task::Worker { worker } => {
                 let Worker { number: _, pass } = worker;
@@ -81,7 +81,7 @@ impl Left {
         requires { IsSpare (length hands.items) self.old }
         ensures passes { self.new.passes.items ≡ map (λ (hand : Hand). pass_left hand.task) hands.items }
         ensures eyes { self.new.eyes.items ≡ filter_map (λ (hand : Hand). eye_left hand.task) hands.items }
-        ensures spoken { self.new.spoken.items ≡ filter_map (λ (hand : Hand). spoken_left hand.task) hands.items }
+        ensures texts { self.new.texts.items ≡ filter_map (λ (hand : Hand). text_left hand.task) hands.items }
         ensures end { EndsAs hands.items result }
     {
         let mut hands = hands.into_iter();
@@ -129,7 +129,7 @@ impl Crew {
         ensures { IfOk result (IsSpareCrew count) }
     {
         let eyes = Vec::with_capacity(alloc, count)?;
-        let spoken = Vec::with_capacity(alloc, count)?;
+        let texts = Vec::with_capacity(alloc, count)?;
         let passes = Vec::with_capacity(alloc, count)?;
         match Vec::with_capacity(alloc, count) {
             Ok(hands) => Ok(Crew {
@@ -137,7 +137,7 @@ impl Crew {
                 left: Left {
                     passes,
                     eyes,
-                    spoken,
+                    texts,
                 },
             }),
             Err(refused) => {
@@ -155,7 +155,7 @@ impl Crew {
         let Left {
             passes,
             eyes: _,
-            spoken: _,
+            texts: _,
         } = left;
         hands.destroy_empty();
         passes.destroy_empty();

@@ -169,11 +169,11 @@ fn end_run<R: Wait, L: Ledger>(
     let Left {
         passes,
         mut eyes,
-        spoken,
+        texts,
     } = left;
     let LiveBook { mut book } = lock.close(passes);
     let text = match end {
-        Ok(()) => finish(rt, alloc, &mut book, &mut eyes, spoken, steps),
+        Ok(()) => finish(rt, alloc, &mut book, &mut eyes, texts, steps),
         Err(stop) => match stop {
             Stop::NoMemory => Err(AllocError),
             Stop::HistoryFull => unreachable!(),

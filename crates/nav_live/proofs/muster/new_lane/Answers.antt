@@ -11,7 +11,6 @@ returns-clause-new c all dealt eyes lists =
       λ d. record {
         made = c.new.ensures.pass;
         dealt = sym (list.is []);
-        fresh = c.new.ensures.fresh;
         keeps = λ lock can. c.new.ensures.keeps lock (subst (CanStart lock c.args.number c.args.pass) (eye.is d) can);
       },
     )

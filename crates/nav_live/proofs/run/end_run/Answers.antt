@@ -1,5 +1,5 @@
-use Rattle.std.proofs.Common.{◌∙◌, ap, refl, subst, sym, Vec}
-use Rattle.std.specs.Prelude.{Err, IfOk, ℕ}
+use Rattle.std.proofs.Common.{◌∙◌, ap, refl, subst, sym}
+use Rattle.std.specs.Prelude.{Err, IfOk}
 use Rattle.nav_live.specs.LiveRecord.{LiveRecord}
 use Rattle.nav_live.proofs.FullLaws.{never_full}
 use Rattle.nav_live.proofs.RunLaws.{has_left, is_closed, pairs_left, record_of}
@@ -22,7 +22,7 @@ returns-clause-text g c =
     elim c.match-end.branch [
       | in-Ok w ↦ subst (λ r. IfOk r (λ text. LiveRecord c.args.lock.root.level c.args.script.now text.items)) (sym w.text-is)
           (record_of (λ text. text.items) w.finish-text.result c.args.lock c.args.script.now c.args.left c.close-book.result.book w.deref_mut.result.now
-          c.args.left.spoken.items (has_left c.args.end w.in-Ok.is c.requires.well)
+          c.args.left.texts.items (has_left c.args.end w.in-Ok.is c.requires.well)
           (is_closed c.args.lock c.args.left.passes.items c.close-book.result.book.state.history c.close-book.ensures.legal
           c.close-book.ensures.extends c.close-book.ensures.made) c.close-book.ensures.root w.deref_mut.ensures.value refl
           w.finish-text.ensures.text w.finish-text.ensures.seen)

@@ -1,18 +1,16 @@
 use Rattle.std.proofs.Common.{subst, sym}
-use Rattle.nav_script.specs.declared.line.Line.TheVariants as lines
 use Rattle.nav_lane.specs.declared.lane.Lane.{Lane}
 use Rattle.nav_lane.specs.Acting.{HasSettled}
 use Rattle.nav_lane.specs.Waiting.{HasWaited}
-use Rattle.nav_lane.proofs.LaneLaws.{ran_after_waiting, waited_more, waits_on}
+use Rattle.nav_lane.proofs.LaneLaws.{waited_more, waits_on}
 use Rattle.nav_lane.proofs.lane.Lane.settle.Goals as goal
 
 pub returns-then-branch-clause-ran : goal.returns-then-branch-clause-ran
 returns-then-branch-clause-ran g c =
     let between : Lane = record c.loop.self { pass = c.publish_all.new.pass } in
     let waited = waited_more c.args.lock.now c.args.self.now c.loop.self c.aim.new.pass c.publish_all.new.pass c.loop.invariant c.aim.ensures.has.saw c.in_ok-told.ensures.saw in
-    let keeps = waits_on c.args.lock.now c.args.self.now between c.requires.keeps waited in
-    let ran = rw c.if-branch.true at (c.in_ok-settle_at.ensures.ran c.args.lock.now keeps c.in_ok-told.ensures.told) in
-    ran_after_waiting c.args.lock.now lines.Settle c.args.self.now between c.settle_at.new.self waited ran
+    let ran = rw c.if-branch.true at c.in_ok-settle_at.ensures.ran in
+    λ spoken keeps. ran c.args.lock.now spoken (waits_on c.args.lock.now spoken c.args.self.now between keeps waited) c.in_ok-told.ensures.told
 
 pub returns-then-branch-clause-settled : goal.returns-then-branch-clause-settled
 returns-then-branch-clause-settled g c =
@@ -28,8 +26,6 @@ returns-then-branch-clause-settled g c =
 
 pub loop-preserved : goal.loop-preserved
 loop-preserved g c =
-    let between : Lane = record c.loop.self { pass = c.publish_all.new.pass } in
     let waited = waited_more c.args.lock.now c.args.self.now c.loop.self c.aim.new.pass c.publish_all.new.pass c.loop.invariant c.aim.ensures.has.saw c.in_ok-told.ensures.saw in
-    let keeps = waits_on c.args.lock.now c.args.self.now between c.requires.keeps waited in
-    let same = rw c.if-branch.false at (c.in_ok-settle_at.ensures.ran c.args.lock.now keeps c.in_ok-told.ensures.told) in
+    let same = rw c.if-branch.false at c.in_ok-settle_at.ensures.ran in
     subst (HasWaited c.args.lock.now c.args.self.now) (sym same) waited

@@ -20,7 +20,7 @@ returns-clause-all g c =
 pub returns-clause-well : goal.returns-clause-well
 returns-clause-well g c script must =
     have_left c.args.lock.now script _ c.take_all-end.new.self c.take_all-end.result (ran g c script must) c.take_all-end.ensures.end
-    c.take_all-end.ensures.passes c.take_all-end.ensures.eyes c.take_all-end.ensures.spoken
+    c.take_all-end.ensures.passes c.take_all-end.ensures.eyes c.take_all-end.ensures.texts
 
 pub returns-clause-full : goal.returns-clause-full
 returns-clause-full g c script must is =

@@ -1,7 +1,7 @@
 use Rattle.std.proofs.Common.{length, ap, sym, ◌∙◌, subst, arith}
 use Rattle.std.specs.Vec.Iter.{into_iter_items}
 use Rattle.nav_live.specs.declared.hand.Hand.{Hand}
-use Rattle.nav_live.specs.Crews.{HasRoom, eye_left, pass_left, spoken_left}
+use Rattle.nav_live.specs.Crews.{HasRoom, eye_left, pass_left, text_left}
 use Rattle.nav_live.proofs.EndLaws.{ends_last, ends_next, filter_map_next, map_next, none_left}
 use Rattle.nav_live.proofs.hand.Left.take_all.Goals as goal
 
@@ -15,7 +15,7 @@ loop-hand-preserved c =
     let whole = c.loop-hand.invariant in (
       map_next (λ (one : Hand). pass_left one.task) hand rest before all c.loop-hand.self.passes.items c.take.new.self.passes.items is c.take.ensures.passes whole.0,
       filter_map_next (λ (one : Hand). eye_left one.task) hand rest before all c.loop-hand.self.eyes.items c.take.new.self.eyes.items is c.take.ensures.eyes whole.1,
-      filter_map_next (λ (one : Hand). spoken_left one.task) hand rest before all c.loop-hand.self.spoken.items c.take.new.self.spoken.items is c.take.ensures.spoken whole.2,
+      filter_map_next (λ (one : Hand). text_left one.task) hand rest before all c.loop-hand.self.texts.items c.take.new.self.texts.items is c.take.ensures.texts whole.2,
       ends_next hand rest before all c.loop-hand.end c.worse-end.result is c.worse-end.ensures whole.3,
       c.take.ensures.room (length rest) (subst (λ n. HasRoom n c.loop-hand.self) (omega (arith, ap length is)) whole.4),
     )
