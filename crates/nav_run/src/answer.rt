@@ -1,8 +1,13 @@
 //! The answer to an input: a text of its run, or the line of its fault.
 
-ghost use Rattle.std.specs.Prelude.{◌≡◌, ◌≤◌, length, IfOk};
+ghost use Rattle.std.specs.Prelude.{◌≡◌, ◌≤◌, length, IfOk, Err};
+ghost use Rattle.nav_ground.specs.declared.setting.Setting.{Setting};
+ghost use Rattle.nav_ground.specs.declared.field.Field.{Field};
+ghost use Rattle.nav_script.specs.declared.script.Script.{Script};
+ghost use Rattle.nav_text.specs.declared.fault.TextFault.{TextFault};
 ghost use Rattle.nav_steps.specs.Counts.{HasRisenAtMost};
-ghost use Rattle.nav_run.specs.Inputs.{IsInputFor, IsRunnable, IsTextOf, input_limit};
+ghost use Rattle.nav_run.specs.Inputs.{IsFault, IsInput, IsInputFor, IsRunnable, IsTextOf, input_limit};
+ghost use Rattle.nav_run.specs.Readings.{IsReadAs};
 ghost use Rattle.nav_run.specs.Answers.{IsLineOf, IsRight, IsTextUnless};
 ghost use Rattle.nav_run.specs.StepCounts.{HasStepped, builds_for};
 
@@ -29,21 +34,21 @@ pub(crate) enum Answer {
     OutOfMemory,
 }
 
-/// Reads an input and runs its script this way, or writes the line of its fault.
+/// Reads an input and runs its script this way, or writes the line of its fault. The bytes are let go once they are read.
 pub(crate) fn answer_to<R: Threads + Wait + Sync, G: Gate + Sync, L: Ledger>(
     rt: &R,
     alloc: Global,
     way: Way,
-    bytes: &[u8],
+    bytes: Vec<u8>,
     gate: &G,
     steps: &mut Steps<L>,
 ) -> Answer
-    requires { length bytes.now ≤ input_limit }
-    ensures right { IsRight way bytes.now result }
-    ensures complete { IsInputFor way bytes.now → IsTextUnless result }
-    ensures steps { HasStepped way bytes.now steps.old steps.new }
+    requires { length bytes.items ≤ input_limit }
+    ensures right { IsRight way bytes.items result }
+    ensures complete { IsInputFor way bytes.items → IsTextUnless result }
+    ensures steps { HasStepped way bytes.items steps.old steps.new }
 {
-    let input = match read_input(alloc, way, bytes) {
+    let input = match read_whole(alloc, way, bytes) {
         Ok(input) => input,
         Err(InputRefusal::Fault(fault)) => return told(alloc, &fault),
         Err(InputRefusal::OutOfMemory) => return Answer::OutOfMemory,
@@ -52,6 +57,17 @@ pub(crate) fn answer_to<R: Threads + Wait + Sync, G: Gate + Sync, L: Ledger>(
         Ok(text) => Answer::Text(text),
         Err(_) => Answer::OutOfMemory,
     }
+}
+
+/// Reads an input, and lets its bytes go.
+fn read_whole(alloc: Global, way: Way, bytes: Vec<u8>) -> Result<Input, InputRefusal>
+    requires { length bytes.items ≤ input_limit }
+    ensures found { IfOk result (λ input. IsInput way bytes.items input.setting input.field input.script) }
+    ensures only { (setting : Setting) (field : Field) (script : Script) → IsInput way bytes.items setting field script
+        → IsReadAs setting field script result }
+    ensures fault { (fault : TextFault) → result ≡ Err (InputRefusal.Fault fault) → IsFault way bytes.items fault }
+{
+    read_input(alloc, way, bytes.as_slice())
 }
 
 /// Runs the script of an input this way over its field.

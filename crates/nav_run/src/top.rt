@@ -173,7 +173,7 @@ fn respond_to_input<R: Threads + Wait + Sync, S: Source, K: Sink, G: Gate + Sync
         Err(ReadRefusal::TooLong) => return finish(sink, b"fault too long\n", Status::TooLong),
         Err(ReadRefusal::OutOfMemory) => return Status::OutOfMemory,
     };
-    match answer_to(rt, alloc, way, input.as_slice(), gate, steps) {
+    match answer_to(rt, alloc, way, input, gate, steps) {
         Answer::Text(text) => finish(sink, text.as_slice(), Status::Ok),
         Answer::Fault(text) => finish(sink, text.as_slice(), Status::BadText),
         Answer::OutOfMemory => Status::OutOfMemory,

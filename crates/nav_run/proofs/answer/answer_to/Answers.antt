@@ -6,12 +6,12 @@ use Rattle.nav_run.proofs.answer.answer_to.Goals as goal
 
 pub returns-in-Err-Fault-clause-right : goal.returns-in-Err-Fault-clause-right
 returns-in-Err-Fault-clause-right g c =
-    line_right _ _ _ _ (c.read_input.ensures.fault _ (c.in-Err-Fault.is ∙ ap (λ r. Err r) c.in-Err-Fault.field-0-is))
+    line_right _ _ _ _ (c.read_whole.ensures.fault _ (c.in-Err-Fault.is ∙ ap (λ r. Err r) c.in-Err-Fault.field-0-is))
     (subst (λ f. IsLineOf f c.told.result) c.in-Err-Fault.fault-is c.told.ensures)
 
 pub returns-in-Err-Fault-clause-complete : goal.returns-in-Err-Fault-clause-complete
 returns-in-Err-Fault-clause-complete g c input =
-    absurd (no_fault _ _ _ _ c.read_input.ensures.only (c.in-Err-Fault.is ∙ ap (λ r. Err r) c.in-Err-Fault.field-0-is) input)
+    absurd (no_fault _ _ _ _ c.read_whole.ensures.only (c.in-Err-Fault.is ∙ ap (λ r. Err r) c.in-Err-Fault.field-0-is) input)
 
 pub text_of-requires-clause-runnable : goal.text_of-requires-clause-runnable
 text_of-requires-clause-runnable g c lifetimes within = runnable_of _ _ _ _ _ c.in-Ok.ensures.found

@@ -17,16 +17,16 @@ returns-in-Err-OutOfMemory-clause-run g c words form = (is_read_form words _ for
 
 pub returns-in-Text-clause-run : goal.returns-in-Text-clause-run
 returns-in-Text-clause-run g c =
-    answered_run _ _ _ _ _ _ _ _ _ _ _ _ _ _ c.in-Ok.ensures.ok c.in-Ok.ensures.short c.as_slice.ensures.value c.as_slice-in-Text.ensures.value
+    answered_run _ _ _ _ _ _ _ _ _ _ _ _ _ _ c.in-Ok.ensures.ok c.in-Ok.ensures.short refl c.as_slice.ensures.value
     c.in-Text.ensures.right c.finish-in-Text.ensures.ended
 
 pub returns-in-Fault-clause-run : goal.returns-in-Fault-clause-run
 returns-in-Fault-clause-run g c =
-    refused_run _ _ _ _ _ _ _ _ _ _ _ _ _ _ c.in-Ok.ensures.ok c.in-Ok.ensures.short c.as_slice.ensures.value c.as_slice-in-Fault.ensures.value
+    refused_run _ _ _ _ _ _ _ _ _ _ _ _ _ _ c.in-Ok.ensures.ok c.in-Ok.ensures.short refl c.as_slice-in-Fault.ensures.value
     c.in-Fault.ensures.right c.in-Fault.ensures.complete c.finish-in-Fault.ensures.ended
 
-pub returns-clause-run : goal.returns-clause-run
-returns-clause-run g c words form = (is_read_form words _ form, Keeps-refl _)
+pub returns-in-OutOfMemory-clause-run : goal.returns-in-OutOfMemory-clause-run
+returns-in-OutOfMemory-clause-run g c words form = (is_read_form words _ form, Keeps-refl _)
 
 pub returns-in-Err-ReadFault-clause-took : goal.returns-in-Err-ReadFault-clause-took
 returns-in-Err-ReadFault-clause-took g c =
@@ -45,8 +45,8 @@ returns-in-Text-clause-took g c = took_all _ _ _ c.in-Ok.ensures.ok c.in-Ok.ensu
 pub returns-in-Fault-clause-took : goal.returns-in-Fault-clause-took
 returns-in-Fault-clause-took g c = took_all _ _ _ c.in-Ok.ensures.ok c.in-Ok.ensures.short
 
-pub returns-clause-took : goal.returns-clause-took
-returns-clause-took g c = took_all _ _ _ c.in-Ok.ensures.ok c.in-Ok.ensures.short
+pub returns-in-OutOfMemory-clause-took : goal.returns-in-OutOfMemory-clause-took
+returns-in-OutOfMemory-clause-took g c = took_all _ _ _ c.in-Ok.ensures.ok c.in-Ok.ensures.short
 
 pub returns-in-Err-ReadFault-clause-steps : goal.returns-in-Err-ReadFault-clause-steps
 returns-in-Err-ReadFault-clause-steps g c words form = inl refl
@@ -59,12 +59,12 @@ returns-in-Err-OutOfMemory-clause-steps g c words form = inl refl
 
 pub returns-in-Text-clause-steps : goal.returns-in-Text-clause-steps
 returns-in-Text-clause-steps g c =
-    read_stepped _ _ _ _ _ _ _ c.in-Ok.ensures.ok c.in-Ok.ensures.short c.as_slice.ensures.value c.answer_to.ensures.steps
+    read_stepped _ _ _ _ _ _ _ c.in-Ok.ensures.ok c.in-Ok.ensures.short refl c.answer_to.ensures.steps
 
 pub returns-in-Fault-clause-steps : goal.returns-in-Fault-clause-steps
 returns-in-Fault-clause-steps g c =
-    read_stepped _ _ _ _ _ _ _ c.in-Ok.ensures.ok c.in-Ok.ensures.short c.as_slice.ensures.value c.answer_to.ensures.steps
+    read_stepped _ _ _ _ _ _ _ c.in-Ok.ensures.ok c.in-Ok.ensures.short refl c.answer_to.ensures.steps
 
-pub returns-clause-steps : goal.returns-clause-steps
-returns-clause-steps g c =
-    read_stepped _ _ _ _ _ _ _ c.in-Ok.ensures.ok c.in-Ok.ensures.short c.as_slice.ensures.value c.answer_to.ensures.steps
+pub returns-in-OutOfMemory-clause-steps : goal.returns-in-OutOfMemory-clause-steps
+returns-in-OutOfMemory-clause-steps g c =
+    read_stepped _ _ _ _ _ _ _ c.in-Ok.ensures.ok c.in-Ok.ensures.short refl c.answer_to.ensures.steps
