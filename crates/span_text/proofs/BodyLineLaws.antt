@@ -111,7 +111,7 @@ span_limits width depth span good =
     )
 
 span_says : (width depth before count : ℕ) (last : Option Span) (line numbers : List ℕ) → count ≢ 2000000 → numbers_of (codes "span") 5 line ≡ Some numbers
-    → Says width depth before count last line (span_in width depth last numbers)
+    → Says width depth before count last line (span_in width depth last (span_of numbers))
 span_says width depth before count last line numbers room is =
     let form = numbers_take (codes "span") 5 line numbers is in
     cond_both (not (is_span width depth (span_of numbers))) (Fails Range) (span_after last (span_of numbers)) (Says width depth before count last line) (λ bad. tt)

@@ -5,3 +5,4 @@ pub mod FoundLaws
 pub mod OnlyLaws
 pub mod FieldLaws
 pub mod FrontLaws
+pub mod NextLineLaws

@@ -41,8 +41,9 @@ span_after (Some last) span =
     if is_column_before span last then lines.Fails Order
     else (if is_column_of span last && nat_lt span.bottom last.top then lines.Fails Overlap else lines.Spans span)
 
-abbrev pub span_in : ℕ → ℕ → Option Span → List ℕ → BodyLine
-span_in width depth last numbers = if not (is_span width depth (span_of numbers)) then lines.Fails Range else span_after last (span_of numbers)
+-- the same where its numbers may be past their limits
+abbrev pub span_in : ℕ → ℕ → Option Span → Span → BodyLine
+span_in width depth last span = if not (is_span width depth span) then lines.Fails Range else span_after last span
 
 -- a line that is no span: `end`, or a cost where no span stands before
 unfoldable pub other_line : ℕ → ℕ → List ℕ → BodyLine
@@ -52,7 +53,7 @@ other_line before count line =
 
 abbrev pub span_or_other : ℕ → ℕ → ℕ → List Span → List ℕ → Option (List ℕ) → BodyLine
 span_or_other width depth before spans line None = other_line before (length spans) line
-span_or_other width depth before spans line (Some numbers) = span_in width depth (slice_get spans (length spans - 1)) numbers
+span_or_other width depth before spans line (Some numbers) = span_in width depth (slice_get spans (length spans - 1)) (span_of numbers)
 
 -- a line behind the header, after spans, where `before` is the area of the last cost, 0 at first
 unfoldable pub body_line : ℕ → ℕ → ℕ → List Span → List ℕ → BodyLine

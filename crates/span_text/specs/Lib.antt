@@ -1,5 +1,6 @@
 pub mod FieldText
 pub mod Header
 pub mod Body
+pub mod NextLine
 pub mod FieldFormat
 pub mod Outcome

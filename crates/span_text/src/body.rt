@@ -1,12 +1,15 @@
 //! The lines behind the header: costs, spans and the end.
-ghost use Rattle.std.specs.Prelude.{◌≡◌, ◌≤◌, Some, codes, length};
+ghost use Rattle.std.specs.Prelude.{◌≡◌, ℕ, ◌≤◌, ◌++◌, ◌∷◌, [], Some, MatchOption, IfSome, codes, decimal, length};
 ghost use Rattle.span_text.specs.Body.{cost_in, span_of, is_span, is_column_before, is_column_of, span_after, span_in, other_line, body_line, header_line, Fits};
+ghost use Rattle.span_text.specs.NextLine.{IsHeld, SaysFirst, span_or_many};
 ghost use Rattle.nav_text.specs.Forms.{numbers_of};
+ghost use Rattle.span_text.specs.FieldText.{span_text};
+ghost use Rattle.nav_text.specs.Lines.{lines};
 ghost use Rattle.std.specs.Option.{option_copied};
 
 use crate::header::is_in;
 use nav_ground::Span;
-use nav_text::{FaultKind, has_word, numbers_of};
+use nav_text::{FaultKind, first_line, has_word, number_after, numbers_of};
 
 /// The most spans that a field can have.
 pub const MAX_SPANS: usize = 2000000;
@@ -23,6 +26,70 @@ pub enum BodyLine {
     Fails(FaultKind),
 }
 
+/// What the first line of a text is, which stands behind the header and after some spans, and the text after it. None where no line feed is
+/// left. A span's line is read in one pass over its bytes.
+pub fn next_line<'a>(
+    width: u32,
+    depth: u32,
+    before: u32,
+    spans: &[Span],
+    text: &'a [u8],
+) -> Option<(BodyLine, &'a [u8])>
+    requires { length spans.now ≤ MAX_SPANS }
+    ensures value { MatchOption result (lines text.now ≡ [])
+        (λ x. SaysFirst width depth before spans.now text.now x.0 x.1.now) }
+    ensures fits { IfSome result (λ x. Fits before (length spans.now) x.0) }
+{
+    if let Some((span, rest)) = span_line(text) {
+        return Some((span_or_many(width, depth, spans, span), rest));
+    }
+    let (line, rest) = first_line(text)?;
+    Some((body_line(width, depth, before, spans, line), rest))
+}
+
+/// The span whose line a text begins with, and the text after it. None where it begins with no line of this form.
+fn span_line(text: &[u8]) -> Option<(Span, &[u8])>
+    ensures text { IfSome result (λ x. text.now ≡ span_text x.0 ++ 10 ∷ x.1.now) }
+    ensures held { IfSome result (λ x. IsHeld x.0) }
+{
+    let (x, rest) = number_after(b"span", text)?;
+    let (z, rest) = next_number(rest)?;
+    let (bottom, rest) = next_number(rest)?;
+    let (top, rest) = next_number(rest)?;
+    let (area, rest) = next_number(rest)?;
+    let span = Span {
+        x,
+        z,
+        bottom,
+        top,
+        area,
+    };
+    let (feed, after) = rest.split_first()?;
+    if *feed != b'\n' {
+        return None;
+    }
+    Some((span, after))
+}
+
+/// The number behind one space at the front, and the bytes after it.
+fn next_number(bytes: &[u8]) -> Option<(u32, &[u8])>
+    ensures { IfSome result (λ x. bytes.now ≡ 32 ∷ (decimal x.0 ++ x.1.now)) }
+{
+    number_after(b"", bytes)
+}
+
+/// The line of a span, after some spans.
+fn span_or_many(width: u32, depth: u32, spans: &[Span], span: Span) -> BodyLine
+    requires { length spans.now ≤ MAX_SPANS }
+    ensures value { result ≡ span_or_many width depth spans.now span }
+    ensures fits { (before : ℕ) → Fits before (length spans.now) result }
+{
+    if spans.len() == MAX_SPANS {
+        return BodyLine::Fails(FaultKind::TooMany);
+    }
+    span_in(width, depth, spans.last().copied(), span)
+}
+
 /// A line behind the header, after some spans. `before` is the area of the last cost, 0 at first.
 #[tactic(auto, unfolding(crate::specs::Body::body_line))]
 pub fn body_line(width: u32, depth: u32, before: u32, spans: &[Span], line: &[u8]) -> BodyLine
@@ -35,7 +102,7 @@ pub fn body_line(width: u32, depth: u32, before: u32, spans: &[Span], line: &[u8
         return BodyLine::Fails(FaultKind::TooMany);
     }
     match numbers_of::<5>(b"span", line) {
-        Some(numbers) => span_in(width, depth, spans.last().copied(), &numbers),
+        Some(numbers) => span_in(width, depth, spans.last().copied(), span_of(&numbers)),
         None => other_line(before, spans.len(), line),
     }
 }
@@ -84,17 +151,23 @@ pub fn header_line(before: u32, line: &[u8]) -> BodyLine
     cost_line(before, line)
 }
 
-/// The span of five numbers after the last span.
-fn span_in(width: u32, depth: u32, last: Option<Span>, numbers: &[u32; 5]) -> BodyLine
-    ensures { result ≡ span_in width depth last numbers.now }
+/// The span that five numbers say.
+fn span_of(numbers: &[u32; 5]) -> Span
+    ensures { result ≡ span_of numbers.now }
 {
-    let span = Span {
+    Span {
         x: numbers[0],
         z: numbers[1],
         bottom: numbers[2],
         top: numbers[3],
         area: numbers[4],
-    };
+    }
+}
+
+/// A span after the last one, whose numbers may be past their limits.
+fn span_in(width: u32, depth: u32, last: Option<Span>, span: Span) -> BodyLine
+    ensures { result ≡ span_in width depth last span }
+{
     if !is_span(width, depth, &span) {
         return BodyLine::Fails(FaultKind::Range);
     }

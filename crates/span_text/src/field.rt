@@ -11,11 +11,11 @@ ghost use Rattle.span_text.specs.FieldText.{IsFieldText};
 ghost use Rattle.span_text.specs.FieldFormat.{field_of, field_format, AtNav, AtBody};
 ghost use Rattle.span_text.specs.Outcome.{IsRead, Gives, text_with};
 
-use crate::body::{BodyLine, body_line};
+use crate::body::{BodyLine, next_line};
 use crate::front::read_front;
 use nav_ground::{Field, Setting, Span};
 use nav_list::Items;
-use nav_text::{FaultKind, TextFault, first_line};
+use nav_text::{FaultKind, TextFault};
 use std::alloc::Global;
 
 /// A field text that was read.
@@ -72,8 +72,14 @@ fn read_body(
     let mut before = 0;
     let mut count = 7;
     let mut rest = body;
-    while let Some((line, after)) = first_line(rest) {
-        match body_line(setting.width, setting.depth, before, spans.as_slice(), line) {
+    while let Some((said, after)) = next_line(
+        setting.width,
+        setting.depth,
+        before,
+        spans.as_slice(),
+        rest,
+    ) {
+        match said {
             BodyLine::Cost { area, cost } => {
                 setting.costs[area as usize] = cost;
                 before = area;

@@ -1,37 +1,36 @@
-use Rattle.std.proofs.Common.{◌≡◌, ◌<◌, ◌++◌, ◌∷◌, [], length, arith}
+use Rattle.std.proofs.Common.{◌≡◌, ◌<◌, ◌≤◌, ◌++◌, ◌∷◌, [], ◌∙◌, length, subst, arith}
 use Rattle.std.proofs.lemmas.Grind.{common_steps}
-use Rattle.span_text.specs.declared.body.BodyLine.TheVariants.{Cost, Spans, End, Fails}
-use Rattle.span_text.specs.Body.{body_line}
+use Rattle.span_text.specs.Body.{Fits}
 use Rattle.span_text.proofs.BodyLaws.{HasRead_cost, HasRead_span, read_end_line, read_bad_line, read_no_line}
 use Rattle.span_text.proofs.field.read_body.Goals.{in-Cost, in-Spans+else-is_err}
 use Rattle.span_text.proofs.field.read_body.Goals as goal
 
 pub returns-in-End : goal.returns-in-End
 returns-in-End c =
-    let is : body_line c.loop-line.setting.width c.loop-line.setting.depth c.loop-line.before c.loop-line.spans.items c.in-Some.line.now ≡ End = cc in
-    let told = read_end_line _ _ _ _ _ _ _ _ c.loop-line.invariant c.in-Some.ensures.lines c.in-Some.ensures.text is in
+    let first = rw c.as_slice.ensures.value at c.in-Some.ensures.value in
+    let told = read_end_line _ _ _ _ _ _ _ _ c.loop-said.invariant first.first first.spelled (first.says ∙ c.in-End.is) in
     rw c.field_text.ensures (told.0, told.1, omega arith)
 
 pub returns-in-Fails : goal.returns-in-Fails
 returns-in-Fails c =
-    let is : body_line c.loop-line.setting.width c.loop-line.setting.depth c.loop-line.before c.loop-line.spans.items c.in-Some.line.now ≡ Fails c.in-Fails.kind = cc in
-    rw c.new-fault.ensures (read_bad_line _ _ _ _ _ _ _ c.in-Some.after.now _ c.loop-line.invariant c.in-Some.ensures.lines is)
+    let first = rw c.as_slice.ensures.value at c.in-Some.ensures.value in
+    rw c.new-fault.ensures (read_bad_line _ _ _ _ _ _ _ c.in-Some.after.now _ c.loop-said.invariant first.first (first.says ∙ c.in-Fails.is))
 
-pub loop-line-preserved : goal.loop-line-preserved
-loop-line-preserved c =
-    elim c.match-body_line.branch [
+pub loop-said-preserved : goal.loop-said-preserved
+loop-said-preserved c =
+    let first = rw c.as_slice.ensures.value at c.in-Some.ensures.value in
+    let fits : Fits c.loop-said.before (length c.loop-said.spans.items) c.in-Some.said = rw (← c.as_slice.ensures.value) c.in-Some.ensures.fits in
+    elim c.match-said.branch [
       | in-Cost w ↦
-          let is : body_line c.loop-line.setting.width c.loop-line.setting.depth c.loop-line.before c.loop-line.spans.items c.in-Some.line.now ≡ Cost w.in-Cost.area w.in-Cost.cost = cc in
-          let fits = w.in-Cost.ensures.fits in
+          let further : (c.loop-said.before < w.in-Cost.area) × (w.in-Cost.area ≤ 63) = subst (Fits c.loop-said.before (length c.loop-said.spans.items)) w.in-Cost.is fits in
           rw (w.setting-is, w.spans-is, w.before-is)
-          (HasRead_cost _ _ _ _ _ _ _ _ _ _ c.loop-line.invariant c.in-Some.ensures.lines c.in-Some.ensures.text is fits.0 fits.1)
+          (HasRead_cost _ _ _ _ _ _ _ _ _ _ c.loop-said.invariant first.first first.spelled (first.says ∙ w.in-Cost.is) further.0 further.1)
       | in-Spans+else-is_err w ↦
-          let is : body_line c.loop-line.setting.width c.loop-line.setting.depth c.loop-line.before c.loop-line.spans.items c.in-Some.line.now ≡ Spans w.in-Spans.span = cc in
-          let room : length c.loop-line.spans.items < 2000000 = rw (← c.as_slice.ensures.value) w.in-Spans.ensures.fits in
-          let items : w.push.new.self.items ≡ c.loop-line.spans.items ++ w.in-Spans.span ∷ [] = grind (arith, common_steps) in
+          let room : length c.loop-said.spans.items < 2000000 = subst (Fits c.loop-said.before (length c.loop-said.spans.items)) w.in-Spans.is fits in
+          let items : w.push.new.self.items ≡ c.loop-said.spans.items ++ w.in-Spans.span ∷ [] = grind (arith, common_steps) in
           rw (w.setting-is, w.spans-is, w.before-is, items)
-          (HasRead_span _ _ _ _ _ _ _ _ _ c.loop-line.invariant c.in-Some.ensures.lines c.in-Some.ensures.text is room)
+          (HasRead_span _ _ _ _ _ _ _ _ _ c.loop-said.invariant first.first first.spelled (first.says ∙ w.in-Spans.is) room)
     ]
 
 pub returns : goal.returns
-returns c = rw c.new.ensures (read_no_line _ _ _ _ _ _ c.loop-line.invariant c.in_default.ensures.lines)
+returns c = rw c.new.ensures (read_no_line _ _ _ _ _ _ c.loop-said.invariant c.in_default.ensures.value)
