@@ -11,3 +11,4 @@ pub mod PlaceOrder
 pub mod FoundLinks
 pub mod RimTables
 pub mod TilesFit
+pub mod NearTiles

@@ -1,5 +1,5 @@
 -- Tiles with new ones in place: they are one for each tile, and away from the new ones the links over borders stay.
-use Rattle.std.proofs.Common.{◌≡◌, ℕ, ◌+◌, ◌<◌, ◌≤◌, Bool, true, false, List, [], ◌++◌, length, map, get_or, ap, ◌∙◌, sym, refl, subst, arith, tests, ⊎_elim, Ok, Err, Result, Option, Some, None}
+use Rattle.std.proofs.Common.{◌≡◌, ℕ, ◌<◌, ◌≤◌, Bool, true, false, List, [], ◌++◌, length, map, get_or, ap, ◌∙◌, sym, refl, subst, arith, tests, ⊎_elim, Ok, Err, Result, Option, Some, None}
 use Rattle.std.specs.Prelude.{slice_get, ◌==◌, is_some, unwrap_or, option_and_then}
 use Rattle.std.specs.List.{find}
 use Rattle.std.specs.List.Sorted.{IsBinarySearchResult, IsSearchInRange}

@@ -2,3 +2,4 @@ pub mod Across
 pub mod RimPlaces
 pub mod Loose
 pub mod NewTiles
+pub mod NearTiles

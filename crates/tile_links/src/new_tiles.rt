@@ -1,6 +1,6 @@
 //! Tiles replaced in a mesh.
 
-ghost use Rattle.std.specs.Prelude.{◌≡◌, ◌≤◌, ◌<◌, ◌++◌, ◌∷◌, [], ℕ, IfOk, IfErr, OnOk, OnErr, length, map, get_or, false, List};
+ghost use Rattle.std.specs.Prelude.{◌≡◌, ◌≤◌, ◌<◌, ◌++◌, ◌∷◌, [], ℕ, IfOk, IfErr, OnOk, OnErr, All, length, map, get_or, slice_index_or, false, true, List};
 ghost use Rattle.std.specs.Option.{option_copied};
 ghost use Rattle.nav_ground.specs.Limits.{IsSetting};
 ghost use Rattle.nav_ground.specs.Tiling.{tile_count};
@@ -8,11 +8,12 @@ ghost use Rattle.mesh_types.specs.declared.links.Link.{Link};
 ghost use Rattle.mesh_types.specs.declared.tile.TileMesh.{TileMesh};
 ghost use Rattle.mesh_types.specs.Soundness.{AreTiles, IsSound, polygon_count};
 ghost use Rattle.mesh_types.specs.WholeMesh.{mesh_of};
-ghost use Rattle.tile_links.specs.NewTiles.{AreNew, AreRising, IsWhole, tiles_after};
+ghost use Rattle.tile_links.specs.NewTiles.{AreNew, AreRising, IsWhole, New, is_near_new, tiles_after};
+ghost use Rattle.tile_links.specs.NearTiles.{IsMarked, IsMarkedAcross};
 
 use crate::join::{across, shared_cross_links};
 use mesh_types::{Links, Mesh, TileMesh};
-use nav_ground::{Setting, TileNo};
+use nav_ground::{Setting, TileNo, tiles};
 use nav_list::Items;
 use nav_share::Shared;
 use std::alloc::{AllocError, Global};
@@ -124,85 +125,104 @@ fn cross_after(
 ) -> Result<Vec<Shared<Links>>, AllocError>
     requires setting { IsSetting setting.now }
     requires tiles { AreTiles setting.now tiles.now }
-    requires rising { AreRising news.now }
+    requires news { All (λ (new : New). new.0 < tile_count setting.now) news.now }
     requires beside { length cross.now ≡ length tiles.now }
-    requires kept { (t : ℕ) (d : List Link) (e : TileMesh) → t < length tiles.now
-        → Rattle.tile_links.specs.NewTiles.is_near_new setting.now news.now t ≡ false
+    requires kept { (t : ℕ) (d : List Link) (e : TileMesh) → t < length tiles.now → is_near_new setting.now news.now t ≡ false
         → get_or cross.now t d ≡ Rattle.mesh_types.specs.WholeMesh.cross_links setting.now tiles.now (get_or tiles.now t e) }
     ensures { IfOk result (λ after. after.items ≡ map (Rattle.mesh_types.specs.WholeMesh.cross_links setting.now tiles.now) tiles.now) }
 {
+    let near = near_new(alloc, setting, news)?;
     let mut after = Vec::with_capacity(alloc, tiles.len())?;
     for place in 0..tiles.len() {
-        after.push(links_after(alloc, setting, cross, tiles, news, place)?)?;
+        after.push(links_after(alloc, setting, cross, tiles, near.as_slice(), place)?)?;
     }
     Ok(after)
 }
 
-/// The links that leave the tile at a place, given those that left the tiles before the new ones came.
+/// The links that leave the tile at a place, given those that left the tiles before the new ones came, and which tiles are near a new one.
 fn links_after(
     alloc: Global,
     setting: &Setting,
     cross: &[Shared<Links>],
     tiles: &[Shared<TileMesh>],
-    news: &[(TileNo, Shared<TileMesh>)],
+    near: &[bool],
     place: usize,
 ) -> Result<Shared<Links>, AllocError>
     requires setting { IsSetting setting.now }
     requires tiles { AreTiles setting.now tiles.now }
-    requires rising { AreRising news.now }
     requires beside { length cross.now ≡ length tiles.now }
-    requires kept { (t : ℕ) (d : List Link) (e : TileMesh) → t < length tiles.now
-        → Rattle.tile_links.specs.NewTiles.is_near_new setting.now news.now t ≡ false
-        → get_or cross.now t d ≡ Rattle.mesh_types.specs.WholeMesh.cross_links setting.now tiles.now (get_or tiles.now t e) }
+    requires near { length near.now ≡ length tiles.now }
     requires there { place < length tiles.now }
+    requires kept { (d : List Link) (e : TileMesh) → slice_index_or near.now place false ≡ false
+        → get_or cross.now place d ≡ Rattle.mesh_types.specs.WholeMesh.cross_links setting.now tiles.now (get_or tiles.now place e) }
     ensures { (e : TileMesh) → IfOk result (λ links. links
         ≡ Rattle.mesh_types.specs.WholeMesh.cross_links setting.now tiles.now (get_or tiles.now place e)) }
 {
-    if is_near_new(setting, news, place as u32) {
+    if near[place] {
         Ok(shared_cross_links(alloc, setting, tiles, tiles[place].get())?)
     } else {
         Ok(cross[place].share()?)
     }
 }
 
-/// Whether a tile or one across a side of it is replaced.
-fn is_near_new(setting: &Setting, news: &[(TileNo, Shared<TileMesh>)], tile: TileNo) -> bool
-    requires setting { IsSetting setting.now }
-    requires there { tile < tile_count setting.now }
-    requires rising { AreRising news.now }
-    ensures { result ≡ Rattle.tile_links.specs.NewTiles.is_near_new setting.now news.now tile }
-{
-    is_new(news, tile)
-        || is_new_across(setting, news, tile, 0)
-        || is_new_across(setting, news, tile, 1)
-        || is_new_across(setting, news, tile, 2)
-        || is_new_across(setting, news, tile, 3)
-}
-
-/// Whether the tile across a side of a tile is replaced.
-fn is_new_across(
+/// For each tile whether it is replaced, or one across a side of it is.
+fn near_new(
+    alloc: Global,
     setting: &Setting,
     news: &[(TileNo, Shared<TileMesh>)],
-    tile: TileNo,
-    side: u32,
-) -> bool
+) -> Result<Vec<bool>, AllocError>
     requires setting { IsSetting setting.now }
-    requires there { tile < tile_count setting.now }
-    requires rising { AreRising news.now }
-    ensures { result ≡ Rattle.tile_links.specs.NewTiles.is_new_across setting.now news.now tile side }
+    requires news { All (λ (new : New). new.0 < tile_count setting.now) news.now }
+    ensures places { IfOk result (λ near. length near.items ≡ tile_count setting.now) }
+    ensures others { IfOk result (λ near. (tile : ℕ) → tile < tile_count setting.now → slice_index_or near.items tile false ≡ false
+        → is_near_new setting.now news.now tile ≡ false) }
 {
-    match across(setting, tile, side) {
-        Some(other) => is_new(news, other),
-        None => false,
+    let mut near = vec![in alloc; false; tiles(setting) as usize]?;
+    mark_all(near.as_mut_slice(), setting, news);
+    Ok(near)
+}
+
+/// Marks the tiles that are replaced, and those across their sides.
+fn mark_all(near: &mut [bool], setting: &Setting, news: &[(TileNo, Shared<TileMesh>)])
+    requires setting { IsSetting setting.now }
+    requires news { All (λ (new : New). new.0 < tile_count setting.now) news.now }
+    requires places { length near.old ≡ tile_count setting.now }
+    ensures places_after { length near.new ≡ length near.old }
+    ensures marked { All (λ (new : New). IsMarked setting.now near.new new.0) news.now }
+{
+    for new in news {
+        mark_near(near, setting, new.0);
     }
 }
 
-/// Whether a tile is replaced.
-fn is_new(news: &[(TileNo, Shared<TileMesh>)], number: TileNo) -> bool
-    requires { AreRising news.now }
-    ensures { result ≡ Rattle.tile_links.specs.NewTiles.is_new news.now number }
+/// Marks a tile and those across its sides.
+fn mark_near(near: &mut [bool], setting: &Setting, tile: TileNo)
+    requires setting { IsSetting setting.now }
+    requires there { tile < tile_count setting.now }
+    requires places { length near.old ≡ tile_count setting.now }
+    ensures places_after { length near.new ≡ length near.old }
+    ensures kept { (other : ℕ) → slice_index_or near.old other false ≡ true → slice_index_or near.new other false ≡ true }
+    ensures marked { IsMarked setting.now near.new tile }
 {
-    new_tile(news, number).is_some()
+    near[tile as usize] = true;
+    for side in 0..4 {
+        mark_across(near, setting, tile, side);
+    }
+}
+
+/// Marks the tile across a side of a tile, if there is one.
+fn mark_across(near: &mut [bool], setting: &Setting, tile: TileNo, side: u32)
+    requires setting { IsSetting setting.now }
+    requires there { tile < tile_count setting.now }
+    requires side { side < 4 }
+    requires places { length near.old ≡ tile_count setting.now }
+    ensures places_after { length near.new ≡ length near.old }
+    ensures kept { (other : ℕ) → slice_index_or near.old other false ≡ true → slice_index_or near.new other false ≡ true }
+    ensures marked { IsMarkedAcross setting.now near.new tile side }
+{
+    if let Some(other) = across(setting, tile, side) {
+        near[other as usize] = true;
+    }
 }
 
 /// The new tile mesh with a number, if there is one.

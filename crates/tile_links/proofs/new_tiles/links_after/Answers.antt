@@ -1,9 +1,5 @@
-use Rattle.std.proofs.Common.{arith}
 use Rattle.tile_links.proofs.TilesFit.{tile_fit, tile_few}
 use Rattle.tile_links.proofs.new_tiles.links_after.Goals as goal
-
-pub is_near_new-requires-clause-there : goal.is_near_new-requires-clause-there
-is_near_new-requires-clause-there c = omega (arith, c.requires.there, c.requires.tiles.each)
 
 pub shared_cross_links-requires-clause-tile : goal.shared_cross_links-requires-clause-tile
 shared_cross_links-requires-clause-tile c =
