@@ -19,8 +19,8 @@ use Rattle.graph_search.proofs.Members.{contains_cases, contains_first, contains
 use Rattle.graph_search.proofs.Moves.{MovesTo, cheapest-moves, none-move, steps-made}
 use Rattle.corridor_search.specs.MeshGraphs.{vertex_of, polygon_of, vertices_of, links_from}
 use Rattle.corridor_search.proofs.Lists.{kept_element, kept_passes, kept_if_passes}
-use Rattle.corridor_search.proofs.Searchable.{vertices-few}
 use Rattle.corridor_search.proofs.Sound.{leads, leaves-listed}
+use Rattle.corridor_search.proofs.Vertices.{vertices-count}
 use Rattle.off_links.specs.declared.leaps.Leap.{Leap}
 use Rattle.off_links.specs.declared.search.Hops.{Hops}
 use Rattle.off_links.specs.Leaps.{IsLeap, leaves}
@@ -104,7 +104,7 @@ module _ (mesh : Mesh) (jumps : List Jump) (leaps : List Leap) (rules : IsHopped
         least = λ others other. subst (λ (n : ℕ). n ≤ hop_cost mesh jumps others) (sym cost) (made.least others (hops_moves others from to other));
         few =
             let count = ap (λ (taken : List HopStep). length taken) steps in
-            omega (arith, count, length-map walk.steps.items (hop_step mesh leaps), short, vertices-few mesh rules.sound);
+            omega (arith, count, length-map walk.steps.items (hop_step mesh leaps), short, vertices-count 0 mesh.tiles);
       }
 
   -- where no walk joins two vertices, no hop walk joins their polygons

@@ -8,7 +8,7 @@ use Rattle.mesh_types.specs.declared.hops.HopStep.{HopStep}
 use Rattle.mesh_types.specs.declared.hops.HopStep.TheVariants as hops
 use Rattle.mesh_types.specs.declared.mesh.Mesh.{Mesh}
 use Rattle.mesh_types.specs.Hops.{entered, step_weight, HopsTo, hop_cost}
-use Rattle.mesh_types.specs.Soundness.{IsSound}
+use Rattle.mesh_types.specs.Soundness.{IsSound, polygon_count}
 use Rattle.graph_search.specs.declared.arcs.Vertex.{Vertex}
 use Rattle.graph_search.specs.declared.arcs.Arc.{Arc}
 use Rattle.graph_search.specs.declared.arcs.Step.{Step}
@@ -65,12 +65,12 @@ pub record IsHopped (mesh : Mesh) (jumps : List Jump) (leaps : List Leap) : Type
   pub setting : IsSetting mesh.setting
   pub leaps_are : AreLeaps mesh jumps leaps
 
--- a hop walk that no hop walk undercuts, with its cost
+-- a hop walk that no hop walk undercuts, with its cost, and with fewer steps than there are polygons
 pub record IsCheapestHops (mesh : Mesh) (jumps : List Jump) (from to : PolyRef) (found : Hops) : Type 0 where
   pub walks : HopsTo mesh jumps from found.steps to
   pub cost : found.cost ≡ hop_cost mesh jumps found.steps
   pub least : (steps : List HopStep) → HopsTo mesh jumps from steps to → found.cost ≤ hop_cost mesh jumps steps
-  pub few : length found.steps < 8000000
+  pub few : length found.steps < polygon_count mesh.tiles
 
 -- no hop walk joins two polygons
 abbrev pub HasNoHops : Mesh → List Jump → PolyRef → PolyRef → Type 0

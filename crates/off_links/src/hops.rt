@@ -7,7 +7,7 @@ ghost use Rattle.mesh_types.specs.declared.hops.HopAnswer.{HopAnswer};
 ghost use Rattle.mesh_types.specs.Hops.{AreAlikeHops, IsAsPath};
 ghost use Rattle.mesh_types.specs.Right.{IsRightPath};
 ghost use Rattle.mesh_types.specs.Soundness.{IsSound};
-ghost use Rattle.off_links.specs.Questions.{CanHop, IsRightHop};
+ghost use Rattle.off_links.specs.Questions.{CanHop, HasFewSteps, IsRightHop};
 
 use crate::pulling::turns;
 use crate::question::HopQuestion;
@@ -29,16 +29,20 @@ pub fn hop(alloc: Global, mesh: &Mesh, question: &HopQuestion) -> Result<HopAnsw
     // Without jumps they are those of a right answer to the question for a path.
     ensures no_jumps { IfOk result (λ answer. question.now.jumps ≡ [] → (path : Answer)
         → IsRightPath mesh.now question.now.from question.now.from_y question.now.to question.now.to_y path → IsAsPath answer path) }
+
+    // Circles that cost nothing make some right answers long; the one that is given has fewer steps than the mesh has polygons.
+    ensures short { IfOk result (λ answer. HasFewSteps mesh.now answer) }
 {
     right_hop(alloc, mesh, question)
 }
 
-/// The same, with no more said of it than that it is right.
+/// The same, with no more said of it than that it is right and short.
 fn right_hop(alloc: Global, mesh: &Mesh, question: &HopQuestion) -> Result<HopAnswer, AllocError>
     requires sound { IsSound mesh.now }
     requires setting { IsSetting mesh.now.setting }
     requires question { CanHop question.now }
-    ensures { IfOk result (λ answer. IsRightHop question.now mesh.now answer) }
+    ensures right { IfOk result (λ answer. IsRightHop question.now mesh.now answer) }
+    ensures short { IfOk result (λ answer. HasFewSteps mesh.now answer) }
 {
     let Some(first) = locate(mesh, question.from, question.from_y) else {
         return Ok(HopAnswer::NoStart);

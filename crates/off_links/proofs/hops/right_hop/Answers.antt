@@ -1,4 +1,4 @@
-use Rattle.std.proofs.Common.{◌<◌, List, [], length, refl, sym, subst}
+use Rattle.std.proofs.Common.{List, [], length, ap, refl, sym, subst, arith}
 use Rattle.mesh_types.specs.declared.hops.Jump.{Jump}
 use Rattle.mesh_types.specs.declared.hops.HopStep.{HopStep}
 use Rattle.mesh_types.specs.Hops.{AreTautIn, HopsTo, stretches_from}
@@ -7,11 +7,11 @@ use Rattle.off_links.specs.HopGraphs.{HasNoHops, IsCheapestHops}
 use Rattle.off_links.proofs.Polygons.{located_there}
 use Rattle.off_links.proofs.hops.right_hop.Goals as goal
 
-pub returns-in_default : goal.returns-in_default
-returns-in_default c = c.in_default.ensures.none.0 refl
+pub returns-in_default-clause-right : goal.returns-in_default-clause-right
+returns-in_default-clause-right c = c.in_default.ensures.none.0 refl
 
-pub returns-in_default-locate : goal.returns-in_default-locate
-returns-in_default-locate c = record {
+pub returns-in_default-locate-clause-right : goal.returns-in_default-locate-clause-right
+returns-in_default-locate-clause-right c = record {
   first = c.in-Some.first;
   start = c.in-Some.ensures.located;
   no_goal = c.in_default-locate.ensures.none.0 refl;
@@ -24,8 +24,8 @@ pub cheapest_hops-requires-clause-from : goal.cheapest_hops-requires-clause-from
 cheapest_hops-requires-clause-from c =
     located_there c.args.mesh.now c.args.question.now.from c.args.question.now.from_y c.in-Some.first c.in-Some.ensures.located
 
-pub returns-in_default-2 : goal.returns-in_default-2
-returns-in_default-2 c =
+pub returns-in_default-2-clause-right : goal.returns-in_default-2-clause-right
+returns-in_default-2-clause-right c =
     let none = rw c.in_default-2.is at c.in_ok-hops.ensures.none in
     record {
       first = c.in-Some.first;
@@ -47,10 +47,11 @@ turns-requires-clause-walks c =
 pub turns-requires-clause-few : goal.turns-requires-clause-few
 turns-requires-clause-few c =
     let found = rw c.in-Some-2.is at c.in_ok-hops.ensures.found in
-    subst (λ (steps : List HopStep). length steps < 8000000) (sym c.as_slice.ensures) found.few
+    let steps = ap (λ (steps : List HopStep). length steps) c.as_slice.ensures in
+    omega (arith, steps, found.few, c.requires.sound.tiles.few)
 
-pub returns : goal.returns
-returns c =
+pub returns-clause-right : goal.returns-clause-right
+returns-clause-right c =
     let question = c.args.question.now in
     let found =
     subst (λ (jumps : List Jump). IsCheapestHops c.args.mesh.now jumps c.in-Some.first c.in-Some-locate.last c.in-Some-2.hops) c.as_slice-jumps.ensures
@@ -65,3 +66,8 @@ returns c =
       taut = subst (λ (steps : List HopStep). AreTautIn (stretches_from question.jumps question.to question.from 0 [] steps) c.in_ok-turns.turns) c.as_slice.ensures
           c.in_ok-turns.ensures;
     }
+
+pub returns-clause-short : goal.returns-clause-short
+returns-clause-short c =
+    let found = rw c.in-Some-2.is at c.in_ok-hops.ensures.found in
+    found.few
