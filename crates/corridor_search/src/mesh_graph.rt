@@ -113,7 +113,9 @@ pub fn push_link_ends(mesh: &Mesh, at: PolyRef, ends: &mut Vec<Vertex>) -> Resul
     push_vertices(entered_outside(mesh, at), ends)
 }
 
-/// What the link of a step weighs, which enters a given vertex: from the extents of the polygons that it leaves and enters.
+/// What the link of a step weighs, which enters a given vertex: from the extents of the polygons that it leaves and enters, the distance of
+/// their middles in sixteenths of a cell, rounded up and at least 1, times the cost of the area that is entered. The step and the vertex say
+/// which link it is, in what is asked and promised; the extents are all that is read.
 pub fn link_weight(mesh: &Mesh, step: Step, to: Vertex, left: Extent, entered: Extent) -> u64
     requires sound { IsSound mesh.now }
     requires setting { IsSetting mesh.now.setting }

@@ -19,7 +19,7 @@ const NOWHERE: Extent = Extent {
     area: 0,
 };
 
-/// The extent of the polygon that a reference names.
+/// The extent of the polygon that a reference names, in whole cells; where there is no such polygon, a box of no size at (0, 0), of area 0.
 pub fn extent_at(mesh: &Mesh, at: PolyRef) -> Extent
     ensures { result ≡ extent_at mesh.now at }
 {
