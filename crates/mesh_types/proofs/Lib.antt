@@ -17,6 +17,8 @@ pub mod Totals
 pub mod OneTile
 pub mod GroundCells
 pub mod RunTotals
+pub mod MaximalRuns
+pub mod Opposites
 pub mod SquareLaws
 pub mod ChoiceLaws
 pub mod EarLaws
@@ -26,6 +28,7 @@ pub mod UnionAreas
 pub mod RingLaws
 pub mod SidePlaces
 pub mod LinkTotals
+pub mod Listings
 pub mod PieceTotals
 pub mod RegionTotals
 pub mod DoorTotals

@@ -1,13 +1,13 @@
 -- Links put in order: they are the same links, how often each is there decides their order, and links of one tile stand by polygon.
 use Rattle.std.proofs.Common.{◌≡◌, ℕ, zero, suc, ◌+◌, ◌<◌, ◌≤◌, Bool, true, false, cond, List, [], ◌∷◌, length, get_or, ap, ◌∙◌, sym, refl, arith, inl, inr}
-use Rattle.std.specs.Prelude.{All, if◌then◌else◌, nat_lt}
+use Rattle.std.specs.Prelude.{All, Contains, if◌then◌else◌, nat_lt}
 use Rattle.std.specs.List.{count_by, flat_map}
 use Rattle.std.specs.Ordering.{is_lt, nat_cmp, ordering_then}
 use Rattle.std.specs.declared.cmp.Ordering.{Ordering}
 use Rattle.std.specs.declared.cmp.Ordering.TheVariants.{Less, Equal, Greater}
 use Rattle.std.specs.Cmp.{nat_cmp_is}
 use Rattle.std.proofs.lemmas.Bool.{both_ways, cases_lt}
-use Rattle.std.proofs.lemmas.List.Elements.{All-head, All-tail, All-cons, All-nil, All-weaker}
+use Rattle.std.proofs.lemmas.List.Elements.{All-head, All-tail, All-cons, All-nil, All-weaker, Contains-append_cases, Contains-append_left, Contains-append_right}
 use Rattle.std.proofs.lemmas.List.Sums.{sum_by-cons, sum_by-append}
 use Rattle.mesh_types.specs.declared.links.PolyRef.{PolyRef}
 use Rattle.mesh_types.specs.declared.links.Link.{Link}
@@ -79,6 +79,31 @@ pub ordered_links-rise : (links : List Link) → Rises before (ordered_links lin
 unfolding ordered_links
 ordered_links-rise [] = tt
 ordered_links-rise (link ∷ links) = put_rises link (ordered_links links) (ordered_links-rise links)
+
+put_held : (p : Link) (link : Link) (links : List Link) → Contains (link ∷ links) p → Contains (put_link link links) p
+put_held p link [] held = held
+put_held p link (other ∷ links) held =
+    by_case (before link other) refl (put_held p link links)
+  where
+    by_case : (b : Bool) → before link other ≡ b → (Contains (link ∷ links) p → Contains (put_link link links) p) → Contains (put_link link (other ∷ links)) p
+    by_case true is further = rw is held
+    by_case false is further =
+        rw is (elim (Contains-append_cases (link ∷ other ∷ []) links p held) [
+          | inl (zero, there, same) ↦ Contains-append_right (other ∷ []) (put_link link links) p (further (0, omega arith, same))
+          | inl (suc zero, there, same) ↦ (0, omega arith, same)
+          | inl (suc (suc k), there, same) ↦ absurd (omega (arith, there))
+          | inr rest ↦ Contains-append_right (other ∷ []) (put_link link links) p (further (Contains-append_right (link ∷ []) links p rest))
+        ])
+
+-- a link stands among links put in order where it stands among them
+pub Contains-ordered_links : (link : Link) (links : List Link) → Contains links link → Contains (ordered_links links) link
+unfolding ordered_links
+Contains-ordered_links link [] held = held
+Contains-ordered_links link (other ∷ links) held =
+    put_held link other (ordered_links links) (elim (Contains-append_cases (other ∷ []) links link held) [
+      | inl first ↦ Contains-append_left (other ∷ []) (ordered_links links) link first
+      | inr rest ↦ Contains-append_right (other ∷ []) (ordered_links links) link (Contains-ordered_links link links rest)
+    ])
 
 -- how often each link is there decides the order
 pub ordered_links-same : (xs ys : List Link) → ((p : Link → Bool) → count_by p xs ≡ count_by p ys) → ordered_links xs ≡ ordered_links ys

@@ -27,7 +27,7 @@ All-found {Y = Y} h P (x ∷ xs) each =
     by_case None is rest = rest
     by_case (Some y) is rest = All-cons P y (filter_map h xs) (each 0 x (omega arith) y is) rest
 
-label_is : (label : ℕ) (o : Option ℕ) → has_label label o ≡ true → o ≡ Some label
+pub label_is : (label : ℕ) (o : Option ℕ) → has_label label o ≡ true → o ≡ Some label
 label_is label None h = absurd cc
 label_is label (Some own) h = ap (λ (n : ℕ). Some n) (eqb-true own label h)
 
@@ -51,7 +51,7 @@ begun labels place label there is =
       ];
     }
 
-run_is : (labels : List (Option ℕ)) (place : ℕ) (run : Run) → place < length labels → (o : Option ℕ) → get_or labels place None ≡ o
+pub run_is : (labels : List (Option ℕ)) (place : ℕ) (run : Run) → place < length labels → (o : Option ℕ) → get_or labels place None ≡ o
     → run_with labels place o ≡ Some run → IsRunOf labels run
 run_is labels place run there None at is = absurd cc
 run_is labels place run there (Some label) at is =

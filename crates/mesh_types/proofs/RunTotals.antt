@@ -28,7 +28,7 @@ begins_alone labels place label passes k is before =
     ∙ ap not (eq-eqb label label refl))
     passes
 
-found_run : (labels : List (Option ℕ)) (place : ℕ) (o : Option ℕ) (run : Run) → run_with labels place o ≡ Some run
+pub found_run : (labels : List (Option ℕ)) (place : ℕ) (o : Option ℕ) (run : Run) → run_with labels place o ≡ Some run
     → (run.first ≡ place) × BeginsAlone labels run
 found_run labels place None run is = absurd cc
 found_run labels place (Some label) run is =

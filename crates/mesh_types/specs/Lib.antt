@@ -25,3 +25,5 @@ pub mod Ears
 pub mod Merging
 pub mod Contours
 pub mod ContourMeshes
+pub mod StripCover
+pub mod Passages

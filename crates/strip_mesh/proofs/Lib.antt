@@ -12,3 +12,8 @@ pub mod FitLaws
 pub mod CellTotals
 pub mod RimTotals
 pub mod LinkTotals
+pub mod ColumnLaws
+pub mod CoverLaws
+pub mod ConnectionLaws
+pub mod CrossingLaws
+pub mod StripTiles

@@ -30,28 +30,28 @@ named_below : (from : Cell) (to : CellRef) → is_naming 3 from to ≡ true → 
 named_below from to named = both_equal (to.x) (from.at.x) (to.z + 1) (from.at.z) (and_parts (is_toward 3 from.at to) _ named).0
 
 -- where a cell of another row is that a cell of one names
-seen_left : (own other : List Cell) → IsRow own → IsRow other → (k j : ℕ) → k < length own → j < length other
+pub seen_left : (own other : List Cell) → IsRow own → IsRow other → (k j : ℕ) → k < length own → j < length other
     → is_naming 0 (get_or own k some_cell) (get_or other j some_cell).at ≡ true
     → ((first_of other).at.x + j + 1 ≡ (first_of own).at.x + k) × ((first_of other).at.z ≡ (first_of own).at.z)
 seen_left own other row row' k j k-in j-in named =
     let e = named_left (get_or own k some_cell) (get_or other j some_cell).at named in
     (omega (arith, e.0, row.x k some_cell k-in, row'.x j some_cell j-in), omega (arith, e.1, row.z k some_cell k-in, row'.z j some_cell j-in))
 
-seen_above : (own other : List Cell) → IsRow own → IsRow other → (k j : ℕ) → k < length own → j < length other
+pub seen_above : (own other : List Cell) → IsRow own → IsRow other → (k j : ℕ) → k < length own → j < length other
     → is_naming 1 (get_or own k some_cell) (get_or other j some_cell).at ≡ true
     → ((first_of other).at.x + j ≡ (first_of own).at.x + k) × ((first_of other).at.z ≡ (first_of own).at.z + 1)
 seen_above own other row row' k j k-in j-in named =
     let e = named_above (get_or own k some_cell) (get_or other j some_cell).at named in
     (omega (arith, e.0, row.x k some_cell k-in, row'.x j some_cell j-in), omega (arith, e.1, row.z k some_cell k-in, row'.z j some_cell j-in))
 
-seen_right : (own other : List Cell) → IsRow own → IsRow other → (k j : ℕ) → k < length own → j < length other
+pub seen_right : (own other : List Cell) → IsRow own → IsRow other → (k j : ℕ) → k < length own → j < length other
     → is_naming 2 (get_or own k some_cell) (get_or other j some_cell).at ≡ true
     → ((first_of other).at.x + j ≡ (first_of own).at.x + k + 1) × ((first_of other).at.z ≡ (first_of own).at.z)
 seen_right own other row row' k j k-in j-in named =
     let e = named_right (get_or own k some_cell) (get_or other j some_cell).at named in
     (omega (arith, e.0, row.x k some_cell k-in, row'.x j some_cell j-in), omega (arith, e.1, row.z k some_cell k-in, row'.z j some_cell j-in))
 
-seen_below : (own other : List Cell) → IsRow own → IsRow other → (k j : ℕ) → k < length own → j < length other
+pub seen_below : (own other : List Cell) → IsRow own → IsRow other → (k j : ℕ) → k < length own → j < length other
     → is_naming 3 (get_or own k some_cell) (get_or other j some_cell).at ≡ true
     → ((first_of other).at.x + j ≡ (first_of own).at.x + k) × ((first_of other).at.z + 1 ≡ (first_of own).at.z)
 seen_below own other row row' k j k-in j-in named =
@@ -59,7 +59,7 @@ seen_below own other row row' k j k-in j-in named =
     (omega (arith, e.0, row.x k some_cell k-in, row'.x j some_cell j-in), omega (arith, e.1, row.z k some_cell k-in, row'.z j some_cell j-in))
 
 -- where a part of a strip meets the strip beyond
-placed : (cells : List Cell) → IsCut cells → (edge s label first last : ℕ) → s < length (strip_runs cells) → edge < 4 → first ≤ last
+pub placed : (cells : List Cell) → IsCut cells → (edge s label first last : ℕ) → s < length (strip_runs cells) → edge < 4 → first ≤ last
     → last < length (get_or (strip_runs cells) s [])
     → IsBeyond (strip_runs cells) s (outside_of edge) label (get_or (get_or (strip_runs cells) s []) first some_cell)
     → IsBeyond (strip_runs cells) s (outside_of edge) label (get_or (get_or (strip_runs cells) s []) last some_cell)
@@ -89,7 +89,7 @@ placed cells cut (suc (suc (suc zero))) s label first last there small order ins
     let row' = row_is cells cut label f.there in
     let first-in : first < length (get_or (strip_runs cells) s []) = omega (arith, order, inside) in
     let a = seen_left _ _ row row' first f.place first-in f.inside f.named in
-    let back = own_named_back cells cut s label first f.place there f.there first-in f.inside f.named in
+    let back = own_named_back cells cut 0 s label first f.place (omega arith) there f.there first-in f.inside f.named in
     let meet = own_ends_meet cells cut label s f.place first f.there there (λ e. f.apart (sym e)) f.inside first-in back in
     (meet.1, (a.1, omega (arith, a.0, meet.0)))
 placed cells cut (suc (suc (suc (suc edge)))) s label first last there small order inside f l = absurd (omega (arith, small))

@@ -10,29 +10,29 @@ use Rattle.nav_base.proofs.Signs.{product-not_negative, product-positive}
 use Rattle.mesh_types.specs.Soundness.{LiesAlong, along}
 use Rattle.mesh_types.specs.StripMeshes.{sixteenths}
 
-abbrev point : ℤ → ℤ → Point
+abbrev pub point : ℤ → ℤ → Point
 point x z = record { x = x; z = z }
 
 -- the corners of a rectangle, as terms over its sides x, X, z, Z
-abbrev q₀ : Place
+abbrev pub q₀ : Place
 q₀ = record { x = at 0; z = at 2 }
 
-abbrev q₁ : Place
+abbrev pub q₁ : Place
 q₁ = record { x = at 1; z = at 2 }
 
-abbrev q₂ : Place
+abbrev pub q₂ : Place
 q₂ = record { x = at 1; z = at 3 }
 
-abbrev q₃ : Place
+abbrev pub q₃ : Place
 q₃ = record { x = at 0; z = at 3 }
 
 abbrev area : Term
 area = product (difference (at 1) (at 0)) (difference (at 3) (at 2))
 
-positive_difference : (a b : ℤ) → a <ℤ b → pos 0 <ℤ (b -ℤ a)
+pub positive_difference : (a b : ℤ) → a <ℤ b → pos 0 <ℤ (b -ℤ a)
 positive_difference a b h = omega (arith, ints)
 
-not_negative_difference : (a b : ℤ) → a ≤ℤ b → pos 0 ≤ℤ (b -ℤ a)
+pub not_negative_difference : (a b : ℤ) → a ≤ℤ b → pos 0 ≤ℤ (b -ℤ a)
 not_negative_difference a b h = omega (arith, ints)
 
 -- a rectangle listed counterclockwise is strictly convex
@@ -188,10 +188,10 @@ way_z x u v f t ordered =
       before = subst (λ (n : ℤ). along (point x u) (point x v) (point x t) ≤ℤ n) end (subst (λ (n : ℤ). n ≤ℤ ((v -ℤ u) *ℤ (v -ℤ u))) to ordered.before);
     }
 
-sixteen_le : (a b : ℕ) → a ≤ b → pos (16 * a) ≤ℤ pos (16 * b)
+pub sixteen_le : (a b : ℕ) → a ≤ b → pos (16 * a) ≤ℤ pos (16 * b)
 sixteen_le a b h = omega (arith, ints)
 
-sixteen_lt : (a b : ℕ) → a < b → pos (16 * a) <ℤ pos (16 * b)
+pub sixteen_lt : (a b : ℕ) → a < b → pos (16 * a) <ℤ pos (16 * b)
 sixteen_lt a b h = omega (arith, ints)
 
 -- ways toward x + 1, z + 1, x - 1 and z - 1, in whole cells

@@ -27,7 +27,7 @@ use Rattle.strip_mesh.proofs.RimLaws.{part_at_side}
 use Rattle.strip_mesh.proofs.RowLaws.{IsRow, row_is, own_all}
 
 -- the labels of a strip's cells for an edge of it along a side
-abbrev crossings : Window → ℕ → List Cell → List (Option ℕ)
+abbrev pub crossings : Window → ℕ → List Cell → List (Option ℕ)
 crossings window edge own = map (λ (cell : Cell). label_if (is_crossing window (outside_of edge) cell)) own
 
 -- an entry for a part of a strip has no more than the part's cells
@@ -103,7 +103,7 @@ few_positions window cells side cut =
     omega (arith, within, sum_by-one cells)
 
 -- positions rise by one along a part of a strip beside a side
-positions_rise : (edge : ℕ) (window : Window) (own : List Cell) (first k : ℕ) → edge < 4 → IsRow own
+pub positions_rise : (edge : ℕ) (window : Window) (own : List Cell) (first k : ℕ) → edge < 4 → IsRow own
     → All (λ (cell : Cell). IsInWindow window cell.at.x cell.at.z) own → first + k < length own
     → is_at_side window (outside_of edge) (get_or own first some_cell).at ≡ true → is_at_side window (outside_of edge) (get_or own (first + k) some_cell).at ≡ true
     → position_of (outside_of edge) (get_or own (first + k) some_cell).at ≡ position_of (outside_of edge) (get_or own first some_cell).at + k

@@ -9,7 +9,7 @@ use Rattle.std.proofs.lemmas.List.Folds.{Any-from_list_any}
 use Rattle.std.proofs.lemmas.List.Quantifiers.{position-Some}
 use Rattle.std.proofs.lemmas.Option.{option_and_then_some}
 use Rattle.nav_ground.specs.declared.cell.Cell.{Cell}
-use Rattle.nav_ground.specs.Cells.{IsCell, IsCells, IsCut, is_naming}
+use Rattle.nav_ground.specs.Cells.{IsCell, IsCells, IsCut, is_naming, opposite}
 use Rattle.mesh_types.specs.StripMeshes.{some_cell, first_of, strip_runs, strip_beyond, holds_named}
 use Rattle.mono_regions.specs.Indices.{cell_at, index_runs, AreIndices}
 use Rattle.mono_regions.proofs.RunLaws.{runs_are, runs_indices}
@@ -25,17 +25,17 @@ pub record IsRow (own : List Cell) : Type 0 where
 pub count_same : (cells : List Cell) → length (strip_runs cells) ≡ length (index_runs cells)
 count_same cells = ap length (runs_are cells) ∙ length-map (index_runs cells) (map (cell_at cells))
 
-own_is : (cells : List Cell) (s : ℕ) → s < length (strip_runs cells) → get_or (strip_runs cells) s [] ≡ map (cell_at cells) (get_or (index_runs cells) s [])
+pub own_is : (cells : List Cell) (s : ℕ) → s < length (strip_runs cells) → get_or (strip_runs cells) s [] ≡ map (cell_at cells) (get_or (index_runs cells) s [])
 own_is cells s there =
     ap (λ rs. get_or rs s []) (runs_are cells) ∙ get_or-map (map (cell_at cells)) (index_runs cells) s [] [] (omega (arith, there, count_same cells))
 
-indices_are : (cells : List Cell) → IsCells cells → (s : ℕ) → s < length (strip_runs cells) → AreIndices cells (get_or (index_runs cells) s [])
+pub indices_are : (cells : List Cell) → IsCells cells → (s : ℕ) → s < length (strip_runs cells) → AreIndices cells (get_or (index_runs cells) s [])
 indices_are cells rules' s there = runs_indices cells rules' s [] (omega (arith, there, count_same cells))
 
-own_length : (cells : List Cell) (s : ℕ) → s < length (strip_runs cells) → length (get_or (strip_runs cells) s []) ≡ length (get_or (index_runs cells) s [])
+pub own_length : (cells : List Cell) (s : ℕ) → s < length (strip_runs cells) → length (get_or (strip_runs cells) s []) ≡ length (get_or (index_runs cells) s [])
 own_length cells s there = ap length (own_is cells s there) ∙ length-map (get_or (index_runs cells) s []) (cell_at cells)
 
-own_cell : (cells : List Cell) (s k : ℕ) (d : Cell) → s < length (strip_runs cells) → k < length (get_or (strip_runs cells) s [])
+pub own_cell : (cells : List Cell) (s k : ℕ) (d : Cell) → s < length (strip_runs cells) → k < length (get_or (strip_runs cells) s [])
     → get_or (get_or (strip_runs cells) s []) k d ≡ cell_at cells (get_or (get_or (index_runs cells) s []) k 0)
 own_cell cells s k d there inside =
     ap (λ own. get_or own k d) (own_is cells s there)
@@ -111,11 +111,11 @@ own_ends_meet cells cut s t k j s-in t-in apart k-in j-in named =
     (omega (arith, meet.0, own_length cells s s-in), meet.1)
 
 -- cells of strips name each other back
-pub own_named_back : (cells : List Cell) → IsCut cells → (s t k j : ℕ) → s < length (strip_runs cells) → t < length (strip_runs cells)
+pub own_named_back : (cells : List Cell) → IsCut cells → (dir s t k j : ℕ) → dir < 4 → s < length (strip_runs cells) → t < length (strip_runs cells)
     → k < length (get_or (strip_runs cells) s []) → j < length (get_or (strip_runs cells) t [])
-    → is_naming 0 (get_or (get_or (strip_runs cells) s []) k some_cell) (get_or (get_or (strip_runs cells) t []) j some_cell).at ≡ true
-    → is_naming 2 (get_or (get_or (strip_runs cells) t []) j some_cell) (get_or (get_or (strip_runs cells) s []) k some_cell).at ≡ true
-own_named_back cells cut s t k j s-in t-in k-in j-in named =
+    → is_naming dir (get_or (get_or (strip_runs cells) s []) k some_cell) (get_or (get_or (strip_runs cells) t []) j some_cell).at ≡ true
+    → is_naming (opposite dir) (get_or (get_or (strip_runs cells) t []) j some_cell) (get_or (get_or (strip_runs cells) s []) k some_cell).at ≡ true
+own_named_back cells cut dir s t k j small s-in t-in k-in j-in named =
     let P : Cell → Type 0 = λ c. (k' : ℕ) × (k' < length cells) × (get_or cells k' c ≡ c) in
     let a : Cell = get_or (get_or (strip_runs cells) s []) k some_cell in
     let b : Cell = get_or (get_or (strip_runs cells) t []) j some_cell in
@@ -123,4 +123,4 @@ own_named_back cells cut s t k j s-in t-in k-in j-in named =
     let i' = get_or (get_or (index_runs cells) t []) j 0 in
     let has = Contains-get_or cells i some_cell ((indices_are cells cut.rules s s-in).each k 0 (omega (arith, k-in, own_length cells s s-in))) in
     let has' = Contains-get_or cells i' some_cell ((indices_are cells cut.rules t t-in).each j 0 (omega (arith, j-in, own_length cells t t-in))) in
-    cut.named_back 0 a b (omega arith) (subst P (sym (own_cell cells s k some_cell s-in k-in)) has) (subst P (sym (own_cell cells t j some_cell t-in j-in)) has') named
+    cut.named_back dir a b small (subst P (sym (own_cell cells s k some_cell s-in k-in)) has) (subst P (sym (own_cell cells t j some_cell t-in j-in)) has') named

@@ -3,7 +3,9 @@
 ghost use Rattle.std.specs.Prelude.{◌≡◌, IfOk, map};
 ghost use Rattle.nav_ground.specs.Limits.{IsSetting};
 ghost use Rattle.nav_ground.specs.Cells.{IsCut, IsInTile};
+ghost use Rattle.mesh_types.specs.Passages.{AreTwoWay, LinksConnected, ListsCrossings};
 ghost use Rattle.mesh_types.specs.Soundness.{IsFit};
+ghost use Rattle.mesh_types.specs.StripCover.{CoversCells};
 ghost use Rattle.mesh_types.specs.StripMeshes.{strip_polygon, strip_links, strip_rim, strip_mesh_of};
 ghost use Rattle.strip_mesh.specs.Indexed.{AreIndexed, runs_in};
 
@@ -28,6 +30,10 @@ pub fn strip_mesh(
     requires tile { IsInTile setting.now free.now.tile free.now.cells }
     ensures value { IfOk result (λ tile. tile ≡ strip_mesh_of setting.now free.now) }
     ensures fit { IfOk result (IsFit setting.now) }
+    ensures cover { IfOk result CoversCells }
+    ensures linked { IfOk result LinksConnected }
+    ensures back { IfOk result (λ tile. AreTwoWay tile.links) }
+    ensures listed { IfOk result (ListsCrossings setting.now) }
 {
     let free = free.duplicate(alloc)?;
     let mesh = mesh(alloc, free, setting)?;
@@ -45,6 +51,10 @@ pub fn strip_mesh_over(
     requires tile { IsInTile setting.now free.tile free.cells }
     ensures value { IfOk result (λ tile. tile ≡ strip_mesh_of setting.now free) }
     ensures fit { IfOk result (IsFit setting.now) }
+    ensures cover { IfOk result CoversCells }
+    ensures linked { IfOk result LinksConnected }
+    ensures back { IfOk result (λ tile. AreTwoWay tile.links) }
+    ensures listed { IfOk result (ListsCrossings setting.now) }
 {
     let mesh = mesh(alloc, free, setting)?;
     Ok(mesh)

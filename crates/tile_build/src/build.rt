@@ -7,7 +7,9 @@ ghost use Rattle.nav_ground.specs.Limits.{IsSetting, IsShape};
 ghost use Rattle.nav_ground.specs.Touching.{touching_shapes};
 ghost use Rattle.mesh_types.specs.Builds.{tile_mesh_of};
 ghost use Rattle.mesh_types.specs.ContourMeshes.{contour_mesh_of, mesh_of_free};
+ghost use Rattle.mesh_types.specs.Passages.{AreTwoWay, LinksConnected, ListsCrossings};
 ghost use Rattle.mesh_types.specs.Soundness.{IsFit};
+ghost use Rattle.mesh_types.specs.StripCover.{CoversCells, IsOfStrips};
 ghost use Rattle.mesh_types.specs.StripMeshes.{strip_mesh_of};
 
 use contour_mesh::{ContourMesh, contour_mesh_over};
@@ -35,6 +37,10 @@ pub fn build_tile<L: Ledger>(
     ensures value { IfOk result (λ tile. tile ≡ tile_mesh_of setting.now layer.now shapes.now) }
     ensures local { IfOk result (λ tile. tile ≡ tile_mesh_of setting.now layer.now (touching_shapes setting.now layer.now.tile shapes.now)) }
     ensures fit { IfOk result (IsFit setting.now) }
+    ensures cover { IfOk result (λ tile. IsOfStrips setting.now tile → CoversCells tile) }
+    ensures linked { IfOk result (λ tile. IsOfStrips setting.now tile → LinksConnected tile) }
+    ensures back { IfOk result (λ tile. IsOfStrips setting.now tile → AreTwoWay tile.links) }
+    ensures listed { IfOk result (λ tile. IsOfStrips setting.now tile → ListsCrossings setting.now tile) }
     ensures step { steps.new ≡ steps.old + 1 }
 {
     steps.tick();

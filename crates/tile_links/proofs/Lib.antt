@@ -12,3 +12,4 @@ pub mod FoundLinks
 pub mod RimTables
 pub mod TilesFit
 pub mod NearTiles
+pub mod TwoWayMeshes

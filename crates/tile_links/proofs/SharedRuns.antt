@@ -49,7 +49,7 @@ other_pair x None label meet = absurd (never (are_meeting x None) (meets_none x)
     never false is meets = cc
 other_pair x (Some pair) label meet = (pair, refl)
 
-met_of_both : (a b : RimEdge) (place label : ℕ) → has_label label (get_or (meetings a b) place None) ≡ true → IsOfBoth a b place
+pub met_of_both : (a b : RimEdge) (place label : ℕ) → has_label label (get_or (meetings a b) place None) ≡ true → IsOfBoth a b place
 met_of_both a b place label meet = elim (cases_lt place (length a.pairs)) [
   | inl there ↦
       let found = other_pair (pair_at a (a.first + place)) (pair_at b (a.first + place)) label (sym (ap (has_label label) (meeting_at a b place there)) ∙ meet) in

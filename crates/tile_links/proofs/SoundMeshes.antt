@@ -30,7 +30,7 @@ use Rattle.tile_links.proofs.SharedRuns.{IsShared, runs_shared}
 use Rattle.tile_links.proofs.BorderPortals.{AreOn, portal_out, portal_in, one_line, fixed_on_side, side_line}
 
 -- the line of an entry is its side of the tile
-line_is : (setting : Setting) (tile : TileMesh) (entry : RimEdge) (side : ℕ) → (rim : IsRimOf setting tile entry) → entry.side ≡ side
+pub line_is : (setting : Setting) (tile : TileMesh) (entry : RimEdge) (side : ℕ) → (rim : IsRimOf setting tile entry) → entry.side ≡ side
     → line_of side tile.polys entry ≡ side_line (tile_window setting tile.tile) side
 line_is setting tile entry side rim on =
     ap (λ (found : Option Polygon). option_map_or (λ (polygon : Polygon). fixed_of side (corner_at polygon.corners entry.edge)) found (pos 0)) rim.is_there
@@ -116,7 +116,7 @@ loose_sound setting mesh a b side limits fit fit' at there there' =
     (runs_of (meetings entry other)) (runs_shared entry other)))
 
 -- an element that is there
-element : {X : Type 0} (xs : List X) (i : ℕ) → i < length xs → (x : X) × (x ≡ get_or xs i x)
+pub element : {X : Type 0} (xs : List X) (i : ℕ) → i < length xs → (x : X) × (x ≡ get_or xs i x)
 element [] i there = absurd (omega (arith, there))
 element (x ∷ xs) zero there = (x, refl)
 element (x ∷ xs) (suc i) there = element xs i (omega (arith, there))

@@ -1,8 +1,10 @@
 //! Tiles joined into one mesh.
 
-ghost use Rattle.std.specs.Prelude.{◌≡◌, ◌≤◌, ◌<◌, ◌++◌, IfOk, OnOk, length, map};
+ghost use Rattle.std.specs.Prelude.{◌≡◌, ◌≤◌, ◌<◌, ◌++◌, All, IfOk, OnOk, length, map};
 ghost use Rattle.nav_ground.specs.Limits.{IsSetting};
 ghost use Rattle.nav_ground.specs.Tiling.{tile_count};
+ghost use Rattle.mesh_types.specs.declared.tile.TileMesh.{TileMesh};
+ghost use Rattle.mesh_types.specs.Passages.{AreTwoWay, IsTwoWay};
 ghost use Rattle.mesh_types.specs.Soundness.{AreTiles, IsFit, IsSound};
 ghost use Rattle.mesh_types.specs.WholeMesh.{tile_across, cross_links, mesh_of};
 ghost use Rattle.tile_links.specs.Loose.{loose_over, HasGained};
@@ -20,6 +22,7 @@ pub fn whole(alloc: Global, setting: &Setting, tiles: Vec<TileMesh>) -> Result<M
     requires tiles { AreTiles setting.now tiles.items }
     ensures mesh { IfOk result (λ mesh. mesh ≡ mesh_of setting.now tiles.items) }
     ensures sound { IfOk result IsSound }
+    ensures back { All (λ (tile : TileMesh). AreTwoWay tile.links) tiles.items → IfOk result IsTwoWay }
 {
     let tiles = shared(alloc, tiles)?;
     joined(alloc, setting, tiles)
@@ -35,6 +38,7 @@ pub fn joined(
     requires tiles { AreTiles setting.now tiles }
     ensures mesh { IfOk result (λ mesh. mesh ≡ mesh_of setting.now tiles) }
     ensures sound { IfOk result IsSound }
+    ensures back { All (λ (tile : TileMesh). AreTwoWay tile.links) tiles → IfOk result IsTwoWay }
 {
     let cross = all_cross_links(alloc, setting, tiles.as_slice())?;
     Ok(Mesh {

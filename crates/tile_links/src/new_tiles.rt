@@ -6,6 +6,7 @@ ghost use Rattle.nav_ground.specs.Limits.{IsSetting};
 ghost use Rattle.nav_ground.specs.Tiling.{tile_count};
 ghost use Rattle.mesh_types.specs.declared.links.Link.{Link};
 ghost use Rattle.mesh_types.specs.declared.tile.TileMesh.{TileMesh};
+ghost use Rattle.mesh_types.specs.Passages.{AreTwoWay, IsTwoWay};
 ghost use Rattle.mesh_types.specs.Soundness.{AreTiles, IsSound, polygon_count};
 ghost use Rattle.mesh_types.specs.WholeMesh.{mesh_of};
 ghost use Rattle.tile_links.specs.NewTiles.{AreNew, AreRising, IsWhole, New, is_near_new, tiles_after};
@@ -32,6 +33,7 @@ pub fn replace(
     requires few { polygon_count (tiles_after news.items mesh.old.tiles) ≤ 8000000 }
     ensures mesh { OnOk result (mesh.new ≡ mesh_of mesh.old.setting (tiles_after news.items mesh.old.tiles)) }
     ensures sound { OnOk result (IsSound mesh.new) }
+    ensures back { All (λ (tile : TileMesh). AreTwoWay tile.links) (tiles_after news.items mesh.old.tiles) → OnOk result (IsTwoWay mesh.new) }
     ensures unchanged { OnErr result (mesh.new ≡ mesh.old) }
     ensures returned { IfErr result (λ refused. refused.0 ≡ news) }
 {
@@ -56,6 +58,7 @@ pub fn replaced(
     requires few { polygon_count (tiles_after news.now mesh.now.tiles) ≤ 8000000 }
     ensures mesh { IfOk result (λ made. made ≡ mesh_of mesh.now.setting (tiles_after news.now mesh.now.tiles)) }
     ensures sound { IfOk result IsSound }
+    ensures back { All (λ (tile : TileMesh). AreTwoWay tile.links) (tiles_after news.now mesh.now.tiles) → IfOk result IsTwoWay }
 {
     let tiles = tiles_after(alloc, mesh.tiles.as_slice(), news)?;
     let cross = cross_after(

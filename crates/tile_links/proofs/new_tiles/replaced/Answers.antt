@@ -2,11 +2,13 @@ use Rattle.std.proofs.Common.{◌≡◌, ◌∙◌, ap, sym, subst, List, length
 use Rattle.std.proofs.lemmas.List.{length-map}
 use Rattle.mesh_types.specs.declared.mesh.Mesh.{Mesh}
 use Rattle.mesh_types.specs.declared.tile.TileMesh.{TileMesh}
+use Rattle.mesh_types.specs.Passages.{IsTwoWay}
 use Rattle.mesh_types.specs.Soundness.{AreTiles, IsSound}
 use Rattle.mesh_types.specs.WholeMesh.{cross_links, mesh_of}
 use Rattle.tile_links.specs.NewTiles.{tile_after, tiles_after}
 use Rattle.tile_links.proofs.ReplacedTiles.{AreTiles-after, links_kept, links_of_whole}
 use Rattle.tile_links.proofs.SoundMeshes.{IsSound-mesh_of}
+use Rattle.tile_links.proofs.TwoWayMeshes.{two_way}
 use Rattle.tile_links.proofs.new_tiles.replaced.Goals as goal
 
 -- the tiles with the new ones in place
@@ -53,3 +55,9 @@ returns-clause-sound c =
     subst IsSound (sym (made c))
     (IsSound-mesh_of c.args.mesh.now.setting (tiles_after c.args.news.now c.args.mesh.now.tiles) c.requires.setting
     (AreTiles-after c.args.mesh.now.setting c.args.news.now c.args.mesh.now.tiles c.requires.news c.requires.mesh.tiles c.requires.few))
+
+pub returns-clause-back : goal.returns-clause-back
+returns-clause-back c inner =
+    subst IsTwoWay (sym (made c))
+    (two_way c.args.mesh.now.setting (tiles_after c.args.news.now c.args.mesh.now.tiles) c.requires.setting
+    (AreTiles-after c.args.mesh.now.setting c.args.news.now c.args.mesh.now.tiles c.requires.news c.requires.mesh.tiles c.requires.few) inner)
