@@ -17,6 +17,7 @@ pub mod Taut
 pub mod Floors
 pub mod Rays
 pub mod Right
+pub mod Stretches
 pub mod Hops
 pub mod Rings
 pub mod Simplified

@@ -9,7 +9,8 @@ use Rattle.mesh_types.specs.declared.links.PolyRef.{PolyRef}
 use Rattle.mesh_types.specs.declared.mesh.Mesh.{Mesh}
 use Rattle.mesh_types.proofs.RightLaws.{one_located}
 use Rattle.mesh_types.specs.declared.hops.Jump.{Jump}
-use Rattle.mesh_types.specs.Hops.{IsJoined, jump_at}
+use Rattle.mesh_types.specs.Hops.{IsJoined}
+use Rattle.mesh_types.specs.Stretches.{jump_at}
 use Rattle.off_links.specs.declared.leaps.Leap.{Leap}
 use Rattle.off_links.specs.Leaps.{IsLeapOf, IsLeap, AreLeaps, AreInOrder}
 

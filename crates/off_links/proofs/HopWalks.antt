@@ -10,7 +10,8 @@ use Rattle.mesh_types.specs.declared.mesh.Mesh.{Mesh}
 use Rattle.mesh_types.specs.declared.hops.Jump.{Jump}
 use Rattle.mesh_types.specs.declared.hops.HopStep.{HopStep}
 use Rattle.mesh_types.specs.declared.hops.HopStep.TheVariants as hops
-use Rattle.mesh_types.specs.Hops.{IsJoined, IsJumpFrom, IsStepFrom, HopsTo, entered, hop_cost, some_jump, jump_at}
+use Rattle.mesh_types.specs.Hops.{IsJoined, IsJumpFrom, IsStepFrom, HopsTo, entered, hop_cost}
+use Rattle.mesh_types.specs.Stretches.{some_jump, jump_at}
 use Rattle.graph_search.specs.declared.arcs.Vertex.{Vertex}
 use Rattle.graph_search.specs.declared.arcs.Step.{Step}
 use Rattle.graph_search.specs.declared.arcs.Walk.{Walk}

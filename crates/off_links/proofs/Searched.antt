@@ -10,7 +10,8 @@ use Rattle.mesh_types.specs.declared.mesh.Mesh.{Mesh}
 use Rattle.mesh_types.specs.Corridors.{weight_of}
 use Rattle.mesh_types.specs.declared.hops.Jump.{Jump}
 use Rattle.mesh_types.specs.declared.hops.HopStep.{HopStep}
-use Rattle.mesh_types.specs.Hops.{jump_at, some_jump, step_weight}
+use Rattle.mesh_types.specs.Hops.{step_weight}
+use Rattle.mesh_types.specs.Stretches.{jump_at, some_jump}
 use Rattle.graph_search.specs.declared.arcs.Vertex.{Vertex}
 use Rattle.graph_search.specs.declared.arcs.Arc.{Arc}
 use Rattle.graph_search.specs.Walks.{IsSearchable}

@@ -20,7 +20,8 @@ use Rattle.mesh_types.proofs.WalkChains.{walk_push}
 use Rattle.mesh_types.specs.declared.hops.Jump.{Jump}
 use Rattle.mesh_types.specs.declared.hops.HopStep.{HopStep}
 use Rattle.mesh_types.specs.declared.hops.HopStep.TheVariants as hops
-use Rattle.mesh_types.specs.Hops.{HopsTo, AreTautIn, stretches_from, counted_from, jump_at, some_jump}
+use Rattle.mesh_types.specs.Hops.{HopsTo}
+use Rattle.mesh_types.specs.Stretches.{AreTautIn, stretches_from, counted_from, jump_at, some_jump}
 use Rattle.funnel_path.specs.Coordinates.{HasEndCoordinates, HasChainCoordinates}
 use Rattle.off_links.specs.Pulling.{IsPulled}
 use Rattle.std.proofs.lemmas.Option.{get_or_from_slice_get, slice_get_within}

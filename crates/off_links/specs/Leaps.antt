@@ -5,7 +5,8 @@ use Rattle.nav_base.specs.Point.{HasCoordinates}
 use Rattle.mesh_types.specs.declared.links.PolyRef.{PolyRef}
 use Rattle.mesh_types.specs.declared.hops.Jump.{Jump}
 use Rattle.mesh_types.specs.declared.mesh.Mesh.{Mesh}
-use Rattle.mesh_types.specs.Hops.{IsJoined, jump_at}
+use Rattle.mesh_types.specs.Hops.{IsJoined}
+use Rattle.mesh_types.specs.Stretches.{jump_at}
 use Rattle.off_links.specs.declared.leaps.Leap.{Leap}
 
 -- both points of a jump have coordinates

@@ -5,7 +5,7 @@ use Rattle.mesh_types.specs.declared.corner.Corner.{Corner}
 use Rattle.mesh_types.specs.declared.links.PolyRef.{PolyRef}
 use Rattle.mesh_types.specs.declared.links.Portal.{Portal}
 use Rattle.mesh_types.specs.declared.mesh.Mesh.{Mesh}
-use Rattle.mesh_types.specs.Hops.{counted_from}
+use Rattle.mesh_types.specs.Stretches.{counted_from}
 use Rattle.mesh_types.specs.Located.{IsLocated}
 use Rattle.mesh_types.specs.Taut.{IsTaut}
 use Rattle.off_links.specs.declared.question.HopQuestion.{HopQuestion}

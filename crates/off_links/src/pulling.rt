@@ -5,7 +5,8 @@ ghost use Rattle.nav_base.specs.Point.{HasCoordinates};
 ghost use Rattle.funnel_path.specs.Coordinates.{HasChainCoordinates};
 ghost use Rattle.mesh_types.specs.declared.corner.Corner.{Corner};
 ghost use Rattle.mesh_types.specs.Chains.{IsChain};
-ghost use Rattle.mesh_types.specs.Hops.{HopsTo, AreTautIn, stretches_from, counted_from};
+ghost use Rattle.mesh_types.specs.Hops.{HopsTo};
+ghost use Rattle.mesh_types.specs.Stretches.{AreTautIn, stretches_from, counted_from};
 ghost use Rattle.mesh_types.specs.Soundness.{IsSound};
 ghost use Rattle.off_links.specs.Pulling.{IsPulled, IsWithin};
 ghost use Rattle.off_links.specs.Leaps.{AreJumps};
@@ -101,7 +102,7 @@ fn push_counted(turns: &mut Vec<Corner>, corners: &[Corner], first: u32) -> Resu
 /// A corner whose portal is counted from a place.
 fn counted_from(corner: Corner, first: u32) -> Corner
     requires { corner.portal + first < 8000000 }
-    ensures { result ≡ Rattle.mesh_types.specs.Hops.counted_from first corner }
+    ensures { result ≡ Rattle.mesh_types.specs.Stretches.counted_from first corner }
 {
     Corner {
         portal: corner.portal + first,

@@ -1,7 +1,8 @@
 use Rattle.std.proofs.Common.{List, [], length, ap, refl, sym, subst, arith}
 use Rattle.mesh_types.specs.declared.hops.Jump.{Jump}
 use Rattle.mesh_types.specs.declared.hops.HopStep.{HopStep}
-use Rattle.mesh_types.specs.Hops.{AreTautIn, HopsTo, stretches_from}
+use Rattle.mesh_types.specs.Hops.{HopsTo}
+use Rattle.mesh_types.specs.Stretches.{AreTautIn, stretches_from}
 use Rattle.off_links.specs.Leaps.{AreJumps}
 use Rattle.off_links.specs.HopGraphs.{HasNoHops, IsCheapestHops}
 use Rattle.off_links.proofs.Polygons.{located_there}

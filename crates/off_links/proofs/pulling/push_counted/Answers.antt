@@ -1,7 +1,7 @@
 use Rattle.std.proofs.Common.{◌++◌, ◌∙◌, List, map, ap}
 use Rattle.std.proofs.lemmas.List.{take_all}
 use Rattle.mesh_types.specs.declared.corner.Corner.{Corner}
-use Rattle.mesh_types.specs.Hops.{counted_from}
+use Rattle.mesh_types.specs.Stretches.{counted_from}
 use Rattle.off_links.proofs.pulling.push_counted.Goals as goal
 
 pub returns : goal.returns

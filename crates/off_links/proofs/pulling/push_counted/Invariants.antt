@@ -1,5 +1,5 @@
 use Rattle.std.proofs.Common.{◌≡◌, ◌++◌, map, take}
-use Rattle.mesh_types.specs.Hops.{counted_from}
+use Rattle.mesh_types.specs.Stretches.{counted_from}
 use Rattle.off_links.proofs.pulling.push_counted.Given as goal
 
 -- the corners so far, counted from the place

@@ -4,7 +4,7 @@ use Rattle.mesh_types.specs.declared.corner.Corner.{Corner}
 use Rattle.mesh_types.specs.declared.links.Portal.{Portal}
 use Rattle.mesh_types.specs.declared.hops.Jump.{Jump}
 use Rattle.mesh_types.specs.declared.hops.HopStep.{HopStep}
-use Rattle.mesh_types.specs.Hops.{AreTautIn, stretches_from}
+use Rattle.mesh_types.specs.Stretches.{AreTautIn, stretches_from}
 use Rattle.mesh_types.proofs.MeshLinks.{held_in}
 use Rattle.off_links.specs.Pulling.{IsPulled}
 use Rattle.off_links.proofs.Stretches.{IsPulling, rest_at, pulling_as, pulling_begun, pulling_link, jump_there, jump_ready, jump_done, goal_ready, pulling_done}
