@@ -39,6 +39,9 @@ static ROUND: [Jump; 3] = [
     jump!(40, 24, 8, 8, 0),
 ];
 
+/// As many as a question may have.
+static MANY: [Jump; 256] = [jump!(8, 8, 8, 56, 7); 256];
+
 /// No polygon holds its first point.
 static UNJOINED: [Jump; 1] = [jump!(999, 8, 8, 56, 1)];
 
@@ -46,6 +49,8 @@ static UNJOINED: [Jump; 1] = [jump!(999, 8, 8, 56, 1)];
 enum Wanted {
     /// The cost, the steps and the turns.
     Found(u64, usize, usize),
+    /// The cost alone, where walks of several lengths cost the same.
+    Costs(u64),
     NoStart,
     NoGoal,
     NoPath,
@@ -71,7 +76,7 @@ macro_rules! row {
 }
 
 /// The link between the two polygons of the first rows costs twice the distance of their middles, (16, 8) and (32, 24), which is 23 rounded up.
-const ROWS: [Row; 11] = [
+const ROWS: [Row; 12] = [
     row!(8, 8, 40, 24, &[], Wanted::Found(46, 1, 0)),
     row!(8, 8, 8, 56, &[], Wanted::NoPath),
     row!(8, 8, 8, 56, &ACROSS, Wanted::Found(7, 1, 0)),
@@ -79,8 +84,9 @@ const ROWS: [Row; 11] = [
     row!(8, 56, 8, 8, &ACROSS, Wanted::NoPath),
     row!(8, 8, 8, 56, &COSTLY, Wanted::Found(4294967295, 1, 0)),
     row!(8, 8, 8, 56, &UNJOINED, Wanted::NoPath),
-    row!(8, 8, 8, 8, &ROUND, Wanted::Found(0, 0, 0)),
-    row!(8, 8, 40, 24, &ROUND, Wanted::Found(0, 1, 0)),
+    row!(8, 8, 8, 56, &MANY, Wanted::Found(7, 1, 0)),
+    row!(8, 8, 8, 8, &ROUND, Wanted::Costs(0)),
+    row!(8, 8, 40, 24, &ROUND, Wanted::Costs(0)),
     row!(999, 8, 999, 8, &ACROSS, Wanted::NoStart),
     row!(8, 8, 999, 8, &ACROSS, Wanted::NoGoal),
 ];
@@ -113,6 +119,10 @@ fn is_wanted(answer: &HopAnswer, wanted: Wanted) -> bool {
             HopAnswer::Found(found) => {
                 found.cost == cost && found.steps.len() == steps && found.turns.len() == turns
             }
+            _ => false,
+        },
+        Wanted::Costs(cost) => match answer {
+            HopAnswer::Found(found) => found.cost == cost,
             _ => false,
         },
         Wanted::NoStart => matches!(answer, HopAnswer::NoStart),
