@@ -27,8 +27,11 @@ pub enum HopStep {
 /// A walk over links and jumps: the polygon in which it begins, what it costs, its steps in order, and where it turns.
 #[derive(PartialEq, Eq, Drop)]
 pub struct HopFound {
+    /// The polygon that the beginning is located in.
     pub first: PolyRef,
+    /// The sum of the weights of the links and the costs of the jumps.
     pub cost: u64,
+    /// Each step leaves the polygon that the one before it enters; none where the walk ends in the polygon in which it begins.
     pub steps: Items<HopStep>,
     /// Each turn names the portal of a link by the link's place among all steps, from 0.
     pub turns: Items<Corner>,
