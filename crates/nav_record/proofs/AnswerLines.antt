@@ -22,11 +22,11 @@ use Rattle.nav_record.specs.Texts.{floor_text, floors_text, poly_text, point_tex
 use Rattle.nav_record.proofs.OneLineLaws.{is_line-decimal, is_line-append}
 
 -- one line
-one : {text : List ℕ} → IsOneLine text → HasLines text 1
+pub one : {text : List ℕ} → IsOneLine text → HasLines text 1
 one (line, is, plain) = (line ∷ [], is ∙ sym (append-nil (ended line)), and_from _ _ plain refl, refl)
 
 -- the lines of two texts
-both : {front back : List ℕ} {n m : ℕ} (count : ℕ) → HasLines front n → HasLines back m → n + m ≡ count → HasLines (front ++ back) count
+pub both : {front back : List ℕ} {n m : ℕ} (count : ℕ) → HasLines front n → HasLines back m → n + m ≡ count → HasLines (front ++ back) count
 both {front} {back} {n} {m} count (those, is, plain, long) (more, equal, well, far) sum = (
   those ++ more,
   ap (λ t. t ++ back) is ∙ ap (λ t. text_of those ++ t) equal ∙ sym (flat_map-append ended those more),
@@ -35,7 +35,7 @@ both {front} {back} {n} {m} count (those, is, plain, long) (more, equal, well, f
 )
 
 -- a line for each element
-each : {X : Type 0} (f : X → List ℕ) → ((x : X) → IsOneLine (f x)) → (xs : List X) → HasLines (flat_map f xs) (length xs)
+pub each : {X : Type 0} (f : X → List ℕ) → ((x : X) → IsOneLine (f x)) → (xs : List X) → HasLines (flat_map f xs) (length xs)
 each f line [] = ([], refl, refl, refl)
 each f line (x ∷ xs) = both (length (x ∷ xs)) (one (line x)) (each f line xs) (omega arith)
 
@@ -45,22 +45,22 @@ signed_plain (pos n) = is_line-decimal n
 signed_plain (negsuc n) = is_line-append (45 ∷ []) (decimal (suc n)) refl (is_line-decimal (suc n))
 
 -- a text without a line feed
-abbrev Plain : Type 0
+abbrev pub Plain : Type 0
 Plain = (text : List ℕ) × (is_line text ≡ true)
 
 -- a text and another behind it
-abbrev then : Plain → (more : List ℕ) → is_line more ≡ true → Plain
+abbrev pub then : Plain → (more : List ℕ) → is_line more ≡ true → Plain
 then (text, plain) more well = (text ++ more, is_line-append text more plain well)
 
 -- a text, a space and another text
-abbrev spaced : Plain → (more : List ℕ) → is_line more ≡ true → Plain
+abbrev pub spaced : Plain → (more : List ℕ) → is_line more ≡ true → Plain
 spaced front more well = then (then front (codes " ") refl) more well
 
 -- a text and a line feed
-line_of : (line : Plain) → IsOneLine (line.0 ++ codes "\n")
+pub line_of : (line : Plain) → IsOneLine (line.0 ++ codes "\n")
 line_of (text, plain) = (text, refl, plain)
 
-poly_plain : (at : PolyRef) → is_line (poly_text at) ≡ true
+pub poly_plain : (at : PolyRef) → is_line (poly_text at) ≡ true
 poly_plain at = (spaced (decimal at.tile, is_line-decimal at.tile) (decimal at.index) (is_line-decimal at.index)).1
 
 point_plain : (p : Point) → is_line (point_text p) ≡ true
@@ -77,7 +77,7 @@ floors_plain (floor ∷ more) =
     is_line-append (floor_text floor) (flat_map floor_text more) (spaced y (decimal floor.area) (is_line-decimal floor.area)).1 (floors_plain more)
 
 -- a word and a number
-abbrev named : (word : List ℕ) → is_line word ≡ true → ℕ → Plain
+abbrev pub named : (word : List ℕ) → is_line word ≡ true → ℕ → Plain
 named word plain k = then (word, plain) (decimal k) (is_line-decimal k)
 
 floors_line : (k : ℕ) (floors : List FloorAt) → IsOneLine (floors_text k floors)
@@ -85,13 +85,13 @@ floors_line k floors =
     let front = spaced (named (codes "floors ") refl k) (decimal (length floors)) (is_line-decimal (length floors)) in
     line_of (then front (flat_map floor_text floors) (floors_plain floors))
 
-link_line : (link : Link) → IsOneLine (link_text link)
+pub link_line : (link : Link) → IsOneLine (link_text link)
 link_line link =
     let to = then (codes "link ", refl) (poly_text link.to) (poly_plain link.to) in
     let left = spaced to (point_text link.portal.left) (point_plain link.portal.left) in
     line_of (spaced left (point_text link.portal.right) (point_plain link.portal.right))
 
-turn_line : (turn : Corner) → IsOneLine (turn_text turn)
+pub turn_line : (turn : Corner) → IsOneLine (turn_text turn)
 turn_line turn =
     let at = then (codes "turn ", refl) (point_text turn.at) (point_plain turn.at) in
     line_of (spaced (spaced at (side_text turn.side) (side_plain turn.side)) (decimal turn.portal) (is_line-decimal turn.portal))

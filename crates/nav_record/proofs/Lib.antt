@@ -1,3 +1,4 @@
 pub mod OneLineLaws
 pub mod AppendLaws
 pub mod AnswerLines
+pub mod HopLines

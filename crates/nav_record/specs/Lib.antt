@@ -1,3 +1,4 @@
 pub mod Appending
 pub mod OneLine
 pub mod Texts
+pub mod HopTexts

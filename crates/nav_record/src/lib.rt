@@ -2,7 +2,7 @@
 //!
 //! Each function appends the whole lines of one answer to the bytes that are written so far, exactly as its definition in `specs/`
 //! spells them, or appends nothing where memory is refused. Where the vector has the room for all of them, it succeeds. All is one line but a
-//! path, which has one more for each link and each turn.
+//! path or a hop walk, which has one more for each step and each turn.
 #![tactic(auto)]
 
 mod answer;
@@ -11,6 +11,7 @@ mod done;
 mod entry;
 mod fault;
 mod floors;
+mod hops;
 mod live;
 mod paths;
 mod reply;
@@ -21,6 +22,7 @@ pub use answer::write_answer;
 pub use done::write_done;
 pub use entry::write_entry;
 pub use fault::write_fault;
+pub use hops::write_hop;
 pub use live::{write_final, write_history, write_lane};
 pub use reply::write_reply;
 pub use step::{StepAnswer, write_step};

@@ -44,7 +44,8 @@ fn append_links(out: &mut Vec<u8>, links: &[Link]) -> Result<(), AllocError>
     Ok(())
 }
 
-fn append_link(out: &mut Vec<u8>, link: &Link) -> Result<(), AllocError>
+/// Appends the line of a link.
+pub(crate) fn append_link(out: &mut Vec<u8>, link: &Link) -> Result<(), AllocError>
     ensures { Appends out.old out.new result (link_text link.now) }
 {
     append_parts(
@@ -60,7 +61,7 @@ fn append_link(out: &mut Vec<u8>, link: &Link) -> Result<(), AllocError>
 }
 
 /// Appends a line for each turn: where it is, at which end of which portal.
-fn append_turns(out: &mut Vec<u8>, turns: &[Corner]) -> Result<(), AllocError>
+pub(crate) fn append_turns(out: &mut Vec<u8>, turns: &[Corner]) -> Result<(), AllocError>
     ensures { Appends out.old out.new result (flat_map turn_text turns.now) }
 {
     for turn in turns {

@@ -5,7 +5,7 @@ use Rattle.std.proofs.lemmas.List.{length-set, get_or-set_same, get_or-set_other
 use Rattle.std.proofs.lemmas.List.Sums.{fold_push, sum_by_push, count_by-le-length}
 use Rattle.nav_script.specs.declared.line.Line.{Line}
 use Rattle.nav_script.specs.declared.line.Line.TheVariants.{Lane}
-use Rattle.nav_script.specs.Lanes.{next_lane, lane_after, is_add, is_request, adds_from, adds_in, NamesLaneBelow, IsCounted}
+use Rattle.nav_script.specs.Lanes.{next_lane, lane_after, is_add, is_jump, is_request, adds_from, adds_in, NamesLaneBelow, IsCounted}
 
 one_more : (a b c d : ℕ) → b ≡ c + d → a + b ≡ (a + c) + d
 one_more a b c d e = omega arith
@@ -49,9 +49,11 @@ each_more b adds lane k within =
     ]
 
 -- with one more line, the counts are those of one more line
-pub counted_more : (lines : List Line) (lane : ℕ) (adds : List ℕ) (requests : ℕ) (line : Line) → IsCounted lines lane adds requests → NamesLaneBelow 16 line
+pub counted_more : (lines : List Line) (lane : ℕ) (adds : List ℕ) (requests jumps : ℕ) (line : Line) → IsCounted lines lane adds requests jumps
+    → NamesLaneBelow 16 line
     → IsCounted (lines ++ line ∷ []) (next_lane lane line) (set adds lane (get_or adds lane 0 + cond (is_add line) 1 0)) (requests + cond (is_request line) 1 0)
-counted_more lines lane adds requests line counted named =
+    (jumps + cond (is_jump line) 1 0)
+counted_more lines lane adds requests jumps line counted named =
     let here : lane ≡ lane_after lines = counted.here in
     let places : length adds ≡ 16 = counted.places in
     let below : lane < 16 = counted.below in record {
@@ -63,12 +65,14 @@ counted_more lines lane adds requests line counted named =
           ∙ (ap (λ l. adds_in k lines + cond (is_add line && eqb l k) 1 0) here
           ∙ sym (adds_push k 0 lines line)));
       asked = ap (λ n. n + cond (is_request line) 1 0) counted.asked ∙ sym (sum_by_push (λ l. cond (is_request l) 1 0) lines line);
+      declared = ap (λ n. n + cond (is_jump line) 1 0) counted.declared ∙ sym (sum_by_push (λ l. cond (is_jump l) 1 0) lines line);
     }
 
 -- the counts are at most the number of lines
-pub counted_few : (lines : List Line) (lane : ℕ) (adds : List ℕ) (requests : ℕ) → IsCounted lines lane adds requests
-    → (get_or adds lane 0 ≤ length lines) × (requests ≤ length lines)
-counted_few lines lane adds requests counted = (
+pub counted_few : (lines : List Line) (lane : ℕ) (adds : List ℕ) (requests jumps : ℕ) → IsCounted lines lane adds requests jumps
+    → (get_or adds lane 0 ≤ length lines) × (requests ≤ length lines) × (jumps ≤ length lines)
+counted_few lines lane adds requests jumps counted = (
   subst (λ n. n ≤ length lines) (sym (counted.each lane counted.below)) (adds_at_most lane 0 lines),
   subst (λ n. n ≤ length lines) (sym counted.asked) (count_by-le-length is_request lines),
+  subst (λ n. n ≤ length lines) (sym counted.declared) (count_by-le-length is_jump lines),
 )

@@ -14,8 +14,9 @@ use Rattle.nav_script.specs.declared.script.Way.{Way}
 use Rattle.nav_script.specs.declared.script.Way.TheVariants.{Play, Live}
 use Rattle.nav_script.specs.Spelling.{line_of}
 use Rattle.nav_script.specs.Lanes.{NamesLaneBelow}
-use Rattle.nav_script.specs.Limits.{IsPlace, IsLine}
-use Rattle.nav_script.specs.Forms.{LineRead, in_limits, below_count, floor_line, is_place, is_standing, point_at, path_line, ray_line, is_range, is_block, is_cylinder, block_line, cylinder_line, area_block_line, area_cylinder_line, drop_line, form, first_of_them, question_forms, question_line, request_forms, request_line, area_forms, area_line, lane_forms, lane_line, worker_forms, worker_line, played_line, line_read}
+use Rattle.nav_script.specs.Limits.{AreEnds, IsPlace, IsLine}
+use Rattle.nav_script.specs.Forms.{LineRead, in_limits, below_count, floor_line, is_place, is_standing, point_at, path_line, ray_line, is_range, is_block, is_cylinder, block_line, cylinder_line, area_block_line, area_cylinder_line, drop_line, form, first_of_them, question_forms, question_line, request_forms, request_line, area_forms, area_line, lane_forms, lane_line}
+use Rattle.nav_script.specs.PlayedForms.{worker_forms, worker_line, jump_line, hop_line, hop_forms, jump_or_hop, played_line, line_read}
 
 -- the lists of a length, one element after another
 some_more : (P : List ℕ → Type 0) (n : List ℕ) (k : ℕ) → ((x : ℕ) (more : List ℕ) → length more ≡ k → P (x ∷ more)) → length n ≡ suc k → P n
@@ -38,6 +39,9 @@ five P each n =
 
 six : (P : List ℕ → Type 0) → ((a b c d e f : ℕ) → P (a ∷ b ∷ c ∷ d ∷ e ∷ f ∷ [])) → (n : List ℕ) → length n ≡ 6 → P n
 six P each n = some_more P n 5 (λ a more. five (λ l. P (a ∷ l)) (each a) more)
+
+seven : (P : List ℕ → Type 0) → ((a b c d e f g : ℕ) → P (a ∷ b ∷ c ∷ d ∷ e ∷ f ∷ g ∷ [])) → (n : List ℕ) → length n ≡ 7 → P n
+seven P each n = some_more P n 6 (λ a more. six (λ l. P (a ∷ l)) (each a) more)
 
 -- the line that is read stands after these lines, and the bytes are its spelling
 abbrev pub Fits : Way → (lanes workers adds : ℕ) → List ℕ → Line → Type 0
@@ -96,11 +100,18 @@ standing_limits x z y h =
     let parts = and_parts (is_place x z) (nat_le y 8191) h in (place_limits x z parts.0, leb-true y 8191 parts.1)
 
 path_limits : (x z y to_x to_z to_y : ℕ) → is_standing x z y && is_standing to_x to_z to_y ≡ true
-    → IsPlace (point_at x z) × (y ≤ 8191) × IsPlace (point_at to_x to_z) × (to_y ≤ 8191)
+    → AreEnds (point_at x z) y (point_at to_x to_z) to_y
 path_limits x z y to_x to_z to_y h =
     let parts = and_parts (is_standing x z y) (is_standing to_x to_z to_y) h in
     let from = standing_limits x z y parts.0 in
     let to = standing_limits to_x to_z to_y parts.1 in (from.0, from.1, to.0, to.1)
+
+jump_limits : (x z y to_x to_z to_y cost : ℕ) → (is_standing x z y && is_standing to_x to_z to_y) && is_range 1 cost 1000000 ≡ true
+    → AreEnds (point_at x z) y (point_at to_x to_z) to_y × (1 ≤ cost) × (cost ≤ 1000000)
+jump_limits x z y to_x to_z to_y cost h =
+    let parts = and_parts (is_standing x z y && is_standing to_x to_z to_y) (is_range 1 cost 1000000) h in
+    let costs = and_parts (nat_le 1 cost) (nat_le cost 1000000) parts.1 in
+    (path_limits x z y to_x to_z to_y parts.0, leb-true 1 cost costs.0, leb-true cost 1000000 costs.1)
 
 ray_limits : (x z y to_x to_z : ℕ) → is_standing x z y && is_place to_x to_z ≡ true
     → IsPlace (point_at x z) × (y ≤ 8191) × IsPlace (point_at to_x to_z)
@@ -302,9 +313,28 @@ worker_right lanes workers adds text =
       ),
     )
 
+hop_right : (lanes workers adds : ℕ) (text : List ℕ)
+    → (read : LineRead) → jump_or_hop text ≡ Some read → IsRight Play lanes workers adds text read
+unfolding jump_or_hop
+hop_right lanes workers adds text =
+    let Q : LineRead → Type 0 = IsRight Play lanes workers adds text in
+    let R : List ℕ → (List ℕ → LineRead) → List ℕ → Type 0 = Gives Play lanes workers adds text in
+    let right = limits_right Play lanes workers adds text in
+    first_is Q (hop_forms text) (
+      form_is Q (codes "jump") 7 jump_line text
+          (seven (R (codes "jump") jump_line) (λ x z y to_x to_z to_y cost fit spelled. right _ _ spelled (λ h. (refl, jump_limits x z y to_x to_z to_y cost h)))),
+      (
+        form_is Q (codes "hop") 6 hop_line text
+            (six (R (codes "hop") hop_line) (λ x z y to_x to_z to_y fit spelled. right _ _ spelled (λ h. (refl, path_limits x z y to_x to_z to_y h)))),
+        tt,
+      ),
+    )
+
 pub played_right : (way : Way) (lanes workers adds : ℕ) (text : List ℕ)
     → (read : LineRead) → played_line way workers text ≡ Some read → IsRight way lanes workers adds text read
-played_right Play lanes workers adds text read e = worker_right lanes workers adds text read e
+played_right Play lanes workers adds text read e =
+    first_is (IsRight Play lanes workers adds text) (worker_line workers text ∷ jump_or_hop text ∷ [])
+    (worker_right lanes workers adds text, (hop_right lanes workers adds text, tt)) read e
 played_right Live lanes workers adds text read e = absurd cc
 
 known : (o : Option LineRead) (line : Line) → unwrap_or o (Err kinds.Line) ≡ Ok line → o ≡ Some (Ok line)

@@ -13,8 +13,9 @@ use Rattle.nav_script.specs.declared.script.Script.{Script}
 use Rattle.nav_script.specs.declared.script.ScriptRefusal.{ScriptRefusal}
 use Rattle.nav_script.specs.declared.script.ScriptRefusal.TheVariants as refusals
 use Rattle.nav_script.specs.Lanes.{adds_before}
-use Rattle.nav_script.specs.Forms.{LineRead, line_read}
-use Rattle.nav_script.specs.Reading.{Place, AtScript, AtLines, header_read, lacks_room, header_verdict, verdict_of, line_verdict, value_at, script_format, value_of, IsReading}
+use Rattle.nav_script.specs.Forms.{LineRead}
+use Rattle.nav_script.specs.PlayedForms.{line_read}
+use Rattle.nav_script.specs.Reading.{Place, AtScript, AtLines, header_read, lacks_room, lacks_jumps, header_verdict, verdict_of, line_verdict, value_at, script_format, value_of, IsReading}
 
 -- after these lines, reading the rest gives what reading the whole text gives
 pub record Keeps (way : Way) (lanes workers first : ℕ) (text rest : List ℕ) (before : List Line) : Type 0 where
@@ -44,11 +45,15 @@ pub verdict_room : (way : Way) (lanes workers : ℕ) (before : List Line) (line 
     → line_verdict way (AtLines lanes workers before) line ≡ Refuses kinds.TooManyLines
 verdict_room way lanes workers before line full room = cond-false _ _ _ full ∙ cond-true _ _ _ room
 
+pub verdict_jumps : (way : Way) (lanes workers : ℕ) (before : List Line) (line : List ℕ) → leb 300000 (length before) ≡ false → lacks_room way before line ≡ false
+    → lacks_jumps before line ≡ true → line_verdict way (AtLines lanes workers before) line ≡ Refuses kinds.TooManyJumps
+verdict_jumps way lanes workers before line full room jumps = cond-false _ _ _ full ∙ (cond-false _ _ _ room ∙ cond-true _ _ _ jumps)
+
 pub verdict_read : (way : Way) (lanes workers : ℕ) (before : List Line) (line : List ℕ) (told : LineRead) → leb 300000 (length before) ≡ false → lacks_room way before line ≡ false
-    → told ≡ line_read way lanes workers (adds_before before) line
+    → lacks_jumps before line ≡ false → told ≡ line_read way lanes workers (adds_before before) line
     → line_verdict way (AtLines lanes workers before) line ≡ verdict_of lanes workers before told
-verdict_read way lanes workers before line told full room e =
-    cond-false _ _ _ full ∙ (cond-false _ _ _ room ∙ ap (verdict_of lanes workers before) (sym e))
+verdict_read way lanes workers before line told full room jumps e =
+    cond-false _ _ _ full ∙ (cond-false _ _ _ room ∙ (cond-false _ _ _ jumps ∙ ap (verdict_of lanes workers before) (sym e)))
 
 -- a line that fails gives its fault
 pub fails_next : (way : Way) (lanes workers first : ℕ) (text rest : List ℕ) (before : List Line) (line : List ℕ) (more : List (List ℕ)) (kind : FaultKind) (count : ℕ) (refusal : ScriptRefusal)

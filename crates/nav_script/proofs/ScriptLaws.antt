@@ -12,7 +12,7 @@ use Rattle.nav_text.specs.declared.fault.TextFault.{TextFault}
 use Rattle.nav_text.specs.declared.fault.FaultKind.{FaultKind}
 use Rattle.nav_text.specs.declared.fault.FaultKind.TheVariants as kinds
 use Rattle.nav_text.specs.Lines.{lines, text_of, is_ended, is_line}
-use Rattle.nav_text.specs.Forms.{numbers_of, line_text}
+use Rattle.nav_text.specs.Forms.{numbers_of, has_word, line_text}
 use Rattle.nav_text.specs.Reading.{Verdict, Goes, Ends, Refuses, read, Leads}
 use Rattle.nav_text.proofs.FormLaws.{numbers_take, numbers_again, is_line-line_text}
 use Rattle.nav_text.proofs.LineLaws.{lines_again}
@@ -26,12 +26,13 @@ use Rattle.nav_script.specs.declared.script.Script.{Script}
 use Rattle.nav_script.specs.declared.script.ScriptRefusal.{ScriptRefusal}
 use Rattle.nav_script.specs.declared.script.ScriptRefusal.TheVariants as refusals
 use Rattle.nav_script.specs.Spelling.{line_of, script_lines, script_text}
-use Rattle.nav_script.specs.Lanes.{lane_after, adds_before, is_request}
+use Rattle.nav_script.specs.Lanes.{lane_after, adds_before, is_jump, is_request}
 use Rattle.nav_script.specs.Limits.{IsLine, IsScript, IsScriptText}
-use Rattle.nav_script.specs.Forms.{LineRead, line_read}
-use Rattle.nav_script.specs.Reading.{Place, AtScript, AtLines, in_counts, header_read, begins_request, lacks_room, header_verdict, verdict_of, line_verdict, value_at, script_format, one_later, IsFirstFaultFrom, value_of, IsReading, Gives}
+use Rattle.nav_script.specs.Forms.{LineRead}
+use Rattle.nav_script.specs.PlayedForms.{line_read}
+use Rattle.nav_script.specs.Reading.{Place, AtScript, AtLines, in_counts, header_read, begins_request, lacks_room, lacks_jumps, header_verdict, verdict_of, line_verdict, value_at, script_format, one_later, IsFirstFaultFrom, value_of, IsReading, Gives}
 use Rattle.nav_script.proofs.LineLaws.{line_right, two}
-use Rattle.nav_script.proofs.SpellingLaws.{begins_spelled, line_again, line_plain}
+use Rattle.nav_script.proofs.SpellingLaws.{begins_spelled, jump_spelled, line_again, line_plain}
 use Rattle.nav_script.proofs.LaneLaws.{adds_at_most}
 use Rattle.nav_text.proofs.TextLaws.{text_ended, whole_text}
 
@@ -88,25 +89,31 @@ record LineTold (way : Way) (lanes workers : ℕ) (before : List Line) (text : L
   line : Line
   few : length before < 300000
   room : lacks_room way before text ≡ false
+  jumps : lacks_jumps before text ≡ false
   told : line_read way lanes workers (adds_before before) text ≡ Ok line
   place : next ≡ AtLines lanes workers (before ++ line ∷ [])
 
 line_told : (way : Way) (lanes workers : ℕ) (before : List Line) (text : List ℕ) (next : Place)
     → line_verdict way (AtLines lanes workers before) text ≡ Goes next → LineTold way lanes workers before text next
 line_told way lanes workers before text next e =
-    split (leb 300000 (length before)) refl (lacks_room way before text) refl (line_read way lanes workers (adds_before before) text) refl e
+    split (leb 300000 (length before)) refl (lacks_room way before text) refl (lacks_jumps before text) refl
+    (line_read way lanes workers (adds_before before) text) refl e
   where
     split : (full : Bool) → leb 300000 (length before) ≡ full → (out : Bool) → lacks_room way before text ≡ out
+        → (last : Bool) → lacks_jumps before text ≡ last
         → (told : LineRead) → line_read way lanes workers (adds_before before) text ≡ told
-        → cond full (Refuses kinds.TooManyLines) (cond out (Refuses kinds.TooManyLines) (verdict_of lanes workers before told)) ≡ Goes next
+        → cond full (Refuses kinds.TooManyLines) (cond out (Refuses kinds.TooManyLines)
+        (cond last (Refuses kinds.TooManyJumps) (verdict_of lanes workers before told))) ≡ Goes next
         → LineTold way lanes workers before text next
-    split true full out room told is e = absurd cc
-    split false full true room told is e = absurd cc
-    split false full false room (Err kind) is e = absurd cc
-    split false full false room (Ok line) is e = record {
+    split true full out room last jumps told is e = absurd cc
+    split false full true room last jumps told is e = absurd cc
+    split false full false room true jumps told is e = absurd cc
+    split false full false room false jumps (Err kind) is e = absurd cc
+    split false full false room false jumps (Ok line) is e = record {
       line = line;
       few = grind (arith, nat_tests);
       room = room;
+      jumps = jumps;
       told = is;
       place = sym (goes_to e);
     }
@@ -120,29 +127,44 @@ get_seam : (front : List Line) (line : Line) (back : List Line) → slice_get (f
 get_seam [] line back = refl
 get_seam (x ∷ front) line back = get_seam front line back
 
+-- where lines of a kind are at most so many, and one more that is of the kind was not refused, there is room for it
+one_more_fits : (most count : ℕ) (is : Bool) → leb most count && is ≡ false → count ≤ most → count + cond is 1 0 ≤ most
+one_more_fits most count true free few = grind (arith, nat_tests)
+one_more_fits most count false free few = omega arith
+
+-- and where there is room for it and for more behind it, it is not refused
+is_not_last : (most count behind : ℕ) (is : Bool) → count + cond is 1 0 + behind ≤ most → leb most count && is ≡ false
+is_not_last most count behind true few = grind (arith, nat_tests)
+is_not_last most count behind false few = and_right (leb most count) false refl
+
 -- a script that runs live has room for a request that is not refused
 room_left : (way : Way) (before : List Line) (text : List ℕ) (line : Line) → lacks_room way before text ≡ false → text ≡ line_of line
     → way ≡ Live → count_by is_request before ≤ history_limit → count_by is_request before + cond (is_request line) 1 0 ≤ history_limit
 room_left Play before text line room spelled live most = absurd cc
 room_left Live before text line room spelled live most =
     let begins : begins_request text ≡ is_request line = ap begins_request spelled ∙ begins_spelled line in
-    split (is_request line) (subst (λ b. leb history_limit (count_by is_request before) && b ≡ false) begins room)
-  where
-    split : (b : Bool) → leb history_limit (count_by is_request before) && b ≡ false → count_by is_request before + cond b 1 0 ≤ history_limit
-    split true h = grind (arith, nat_tests)
-    split false h = omega arith
+    one_more_fits history_limit (count_by is_request before) (is_request line)
+    (subst (λ b. leb history_limit (count_by is_request before) && b ≡ false) begins room) most
+
+-- and any script has room for a jump that is not refused
+jumps_left : (before : List Line) (text : List ℕ) (line : Line) → lacks_jumps before text ≡ false → text ≡ line_of line → count_by is_jump before ≤ 256
+    → count_by is_jump before + cond (is_jump line) 1 0 ≤ 256
+jumps_left before text line room spelled most =
+    let begins : has_word (codes "jump") text ≡ is_jump line = ap (has_word (codes "jump")) spelled ∙ jump_spelled line in
+    one_more_fits 256 (count_by is_jump before) (is_jump line) (subst (λ b. leb 256 (count_by is_jump before) && b ≡ false) begins room) most
 
 -- a script with one more line that may stand there is a script
 script_more : (way : Way) (lanes workers : ℕ) (before : List Line) (text : List ℕ) (line : Line) → IsScript way (script_at lanes workers before)
-    → length before < 300000 → lacks_room way before text ≡ false → text ≡ line_of line → IsLine way lanes workers (adds_before before) line
-    → IsScript way (script_at lanes workers (before ++ line ∷ []))
-script_more way lanes workers before text line is few room spelled fits = record {
+    → length before < 300000 → lacks_room way before text ≡ false → lacks_jumps before text ≡ false → text ≡ line_of line
+    → IsLine way lanes workers (adds_before before) line → IsScript way (script_at lanes workers (before ++ line ∷ []))
+script_more way lanes workers before text line is few room jumps spelled fits = record {
   lanes_least = is.lanes_least;
   lanes_most = is.lanes_most;
   workers_least = is.workers_least;
   workers_most = is.workers_most;
   few = omega (arith, length_push before line);
   requests = λ live. rw (sum_by_push (λ l. cond (is_request l) 1 0) before line) (room_left way before text line room spelled live (is.requests live));
+  jumps = rw (sum_by_push (λ l. cond (is_jump l) 1 0) before line) (jumps_left before text line jumps spelled is.jumps);
   each = each;
 }
   where
@@ -175,6 +197,7 @@ kept_more way ended AtScript next before line none e =
       workers_most = told.workers_most;
       few = omega arith;
       requests = λ live. omega arith;
+      jumps = omega arith;
       each = λ k at e. absurd cc;
     } in
     subst (λ p. Kept way p (before ++ line ∷ [])) (sym told.place) (ap₂ (λ ls l. ls ++ l ∷ []) none told.spelled, empty)
@@ -183,7 +206,7 @@ kept_more way ended (AtLines lanes workers those) next before line kept e =
     let right = line_right way lanes workers (adds_before those) line told.line told.told in
     subst (λ p. Kept way p (before ++ line ∷ [])) (sym told.place) (
       ap₂ (λ ls l. ls ++ l ∷ []) kept.0 right.0 ∙ onto_spelled lanes workers those told.line,
-      script_more way lanes workers those line told.line kept.1 told.few told.room right.0 right.1,
+      script_more way lanes workers those line told.line kept.1 told.few told.room told.jumps right.0 right.1,
     )
   where
     map_push : (those : List Line) (line : Line) → map line_of those ++ line_of line ∷ [] ≡ map line_of (those ++ line ∷ [])
@@ -202,14 +225,16 @@ never_ends way AtScript line script e = split (header_read line) e
     split (Ok header) e = cc
     split (Err kind) e = cc
 never_ends way (AtLines lanes workers before) line script e =
-    split (leb 300000 (length before)) (lacks_room way before line) (line_read way lanes workers (adds_before before) line) e
+    split (leb 300000 (length before)) (lacks_room way before line) (lacks_jumps before line) (line_read way lanes workers (adds_before before) line) e
   where
-    split : (full out : Bool) (told : LineRead)
-        → cond full (Refuses kinds.TooManyLines) (cond out (Refuses kinds.TooManyLines) (verdict_of lanes workers before told)) ≡ Ends script → ⊥
-    split true out told e = cc
-    split false true told e = cc
-    split false false (Ok line) e = cc
-    split false false (Err kind) e = cc
+    split : (full out last : Bool) (told : LineRead)
+        → cond full (Refuses kinds.TooManyLines) (cond out (Refuses kinds.TooManyLines)
+        (cond last (Refuses kinds.TooManyJumps) (verdict_of lanes workers before told))) ≡ Ends script → ⊥
+    split true out last told e = cc
+    split false true last told e = cc
+    split false false true told e = cc
+    split false false false (Ok line) e = cc
+    split false false false (Err kind) e = cc
 
 ends_last : (way : Way) (ended : Bool) (place : Place) (rest : List (List ℕ)) (script : Script) (more : ℕ) → EndsAt (script_format way ended) place rest script more
     → (rest ≡ []) × (value_at ended place ≡ Some script)
@@ -240,10 +265,11 @@ header_again lanes workers lanes_least lanes_most workers_least workers_most =
     ap (λ o. header_verdict (in_counts o)) (numbers_again (codes "script") (lanes ∷ workers ∷ []) (omega arith, (omega arith, tt)))
     ∙ ap header_verdict (cond-true _ _ _ fits)
 
-requests_at : (before : List Line) (line : Line) (more : List Line)
-    → count_by is_request (before ++ line ∷ more) ≡ count_by is_request before + cond (is_request line) 1 0 + count_by is_request more
-requests_at before line more =
-    let count : Line → ℕ = λ l. cond (is_request l) 1 0 in
+-- how many lines of a kind there are, counted before a line, at it and behind it
+count_at : (is : Line → Bool) (before : List Line) (line : Line) (more : List Line)
+    → count_by is (before ++ line ∷ more) ≡ count_by is before + cond (is line) 1 0 + count_by is more
+count_at is before line more =
+    let count : Line → ℕ = λ l. cond (is l) 1 0 in
     ap (sum_by count) (sym (append_assoc before (line ∷ []) more))
     ∙ (sum_by-append count (before ++ line ∷ []) more ∙ ap (λ n. n + sum_by count more) (sum_by_push count before line))
 
@@ -253,12 +279,17 @@ room_again : (way : Way) (before : List Line) (line : Line) (more : List Line) �
 room_again Play before line more most = refl
 room_again Live before line more most =
     let enough : count_by is_request before + cond (is_request line) 1 0 + count_by is_request more ≤ history_limit =
-    subst (λ n. n ≤ history_limit) (requests_at before line more) (most refl) in
-    ap (λ b. leb history_limit (count_by is_request before) && b) (begins_spelled line) ∙ split (is_request line) enough
-  where
-    split : (b : Bool) → count_by is_request before + cond b 1 0 + count_by is_request more ≤ history_limit → leb history_limit (count_by is_request before) && b ≡ false
-    split true h = grind (arith, nat_tests)
-    split false h = and_right (leb history_limit (count_by is_request before)) false refl
+    subst (λ n. n ≤ history_limit) (count_at is_request before line more) (most refl) in
+    ap (λ b. leb history_limit (count_by is_request before) && b) (begins_spelled line)
+    ∙ is_not_last history_limit (count_by is_request before) (count_by is_request more) (is_request line) enough
+
+-- a jump of a script is not one too many
+jumps_again : (before : List Line) (line : Line) (more : List Line) → count_by is_jump (before ++ line ∷ more) ≤ 256 → lacks_jumps before (line_of line) ≡ false
+jumps_again before line more most =
+    let enough : count_by is_jump before + cond (is_jump line) 1 0 + count_by is_jump more ≤ 256 =
+    subst (λ n. n ≤ 256) (count_at is_jump before line more) most in
+    ap (λ b. leb 256 (count_by is_jump before) && b) (jump_spelled line)
+    ∙ is_not_last 256 (count_by is_jump before) (count_by is_jump more) (is_jump line) enough
 
 verdict_again : (way : Way) (lanes workers : ℕ) (before : List Line) (line : Line) (more : List Line) → IsScript way (script_at lanes workers (before ++ line ∷ more))
     → (line_verdict way (AtLines lanes workers before) (line_of line) ≡ Goes (AtLines lanes workers (before ++ line ∷ []))) × (is_line (line_of line) ≡ true)
@@ -270,7 +301,8 @@ verdict_again way lanes workers before line more is =
     let counted : adds_before before < 2 ^ 32 = let most = is.few in omega (arith, adds_at_most (lane_after before) 0 before) in (
       cond-false _ _ _ full
           ∙ (cond-false _ _ _ (room_again way before line more is.requests)
-          ∙ ap (verdict_of lanes workers before) (line_again way lanes workers (adds_before before) line is.lanes_most is.workers_most counted fits)),
+          ∙ (cond-false _ _ _ (jumps_again before line more is.jumps)
+          ∙ ap (verdict_of lanes workers before) (line_again way lanes workers (adds_before before) line is.lanes_most is.workers_most counted fits))),
       line_plain way lanes workers (adds_before before) line is.lanes_most is.workers_most counted fits,
     )
 

@@ -12,16 +12,18 @@ use Rattle.nav_ground.specs.declared.shape.Shape.TheVariants.{Block, Cylinder, A
 use Rattle.nav_ground.specs.Limits.{IsArea, IsBox, IsRound, IsShape}
 use Rattle.nav_text.specs.declared.fault.FaultKind.TheVariants as kinds
 use Rattle.nav_text.specs.Lines.{is_line}
-use Rattle.nav_text.specs.Forms.{numbers_of, number_after, line_text, AreNumbers}
+use Rattle.nav_text.specs.Forms.{numbers_of, number_after, has_word, line_text, AreNumbers}
 use Rattle.nav_text.proofs.FormLaws.{fields_of_again, number_after_at, is_line-line_text}
+use Rattle.mesh_types.specs.declared.hops.Jump as jumps
 use Rattle.nav_script.specs.declared.line.Line.{Line}
-use Rattle.nav_script.specs.declared.line.Line.TheVariants.{Lane, Ask, Add, Remove, Undo, Settle, Aim, Claim, Back, Submit, Publish}
+use Rattle.nav_script.specs.declared.line.Line.TheVariants.{Lane, Ask, Add, Remove, Undo, Settle, Aim, Claim, Back, Submit, Publish, Jump, Hop}
 use Rattle.nav_script.specs.declared.script.Way.{Way}
 use Rattle.nav_script.specs.declared.script.Way.TheVariants.{Play, Live}
-use Rattle.nav_script.specs.Spelling.{question_spelling, shape_spelling, line_of}
-use Rattle.nav_script.specs.Lanes.{is_request}
-use Rattle.nav_script.specs.Limits.{IsPlace, IsLine, IsQuestion}
-use Rattle.nav_script.specs.Forms.{LineRead, is_place, is_standing, point_at, is_range, drop_line, question_line, request_line, area_line, lane_line, worker_line, line_read}
+use Rattle.nav_script.specs.Spelling.{ends_of, question_spelling, shape_spelling, line_of}
+use Rattle.nav_script.specs.Lanes.{is_jump, is_request}
+use Rattle.nav_script.specs.Limits.{AreEnds, IsJump, IsPlace, IsLine, IsQuestion}
+use Rattle.nav_script.specs.Forms.{LineRead, is_place, is_standing, point_at, is_range, drop_line, question_line, request_line, area_line, lane_line}
+use Rattle.nav_script.specs.PlayedForms.{worker_line, jump_or_hop, line_read}
 use Rattle.nav_script.specs.Reading.{begins_request}
 
 -- a line begins with the word of a request exactly where it is one
@@ -42,6 +44,29 @@ begins_spelled (Claim worker) = refl
 begins_spelled (Back worker) = refl
 begins_spelled (Submit worker) = refl
 begins_spelled Publish = refl
+begins_spelled (Jump jump) = refl
+begins_spelled (Hop from from_y to to_y) = refl
+
+-- a line's first word is `jump` exactly where it declares one
+pub jump_spelled : (line : Line) → has_word (codes "jump") (line_of line) ≡ is_jump line
+jump_spelled (Lane lane) = refl
+jump_spelled (Ask (Floor x z)) = refl
+jump_spelled (Ask (Path from from_y to to_y)) = refl
+jump_spelled (Ask (Ray from from_y to)) = refl
+jump_spelled (Add (Block x0 x1 y0 y1 z0 z1)) = refl
+jump_spelled (Add (Cylinder cx cz r y0 y1)) = refl
+jump_spelled (Add (AreaBlock area x0 x1 y0 y1 z0 z1)) = refl
+jump_spelled (Add (AreaCylinder area cx cz r y0 y1)) = refl
+jump_spelled (Remove number) = refl
+jump_spelled (Undo back) = refl
+jump_spelled Settle = refl
+jump_spelled Aim = refl
+jump_spelled (Claim worker) = refl
+jump_spelled (Back worker) = refl
+jump_spelled (Submit worker) = refl
+jump_spelled Publish = refl
+jump_spelled (Jump jump) = refl
+jump_spelled (Hop from from_y to to_y) = refl
 
 small : (n most : ℕ) → most < 4294967296 → n ≤ most → n < 2 ^ 32
 small n most fits le = omega arith
@@ -221,6 +246,48 @@ publish_again : (lanes workers adds : ℕ) → line_read Play lanes workers adds
 unfolding question_line request_line area_line lane_line worker_line numbers_of number_after
 publish_again lanes workers adds = rw (fields_of_again [] tt) refl
 
+jump_numbers : (lanes workers adds x z y to_x to_z to_y cost : ℕ)
+    → x ≤ 16384 → z ≤ 16384 → y ≤ 8191 → to_x ≤ 16384 → to_z ≤ 16384 → to_y ≤ 8191 → 1 ≤ cost → cost ≤ 1000000
+    → line_read Play lanes workers adds (line_text (codes "jump") (x ∷ z ∷ y ∷ to_x ∷ to_z ∷ to_y ∷ cost ∷ []))
+    ≡ Ok (Jump (record { from = point_at x z; from_y = y; to = point_at to_x to_z; to_y = to_y; cost = cost }))
+unfolding question_line request_line area_line lane_line worker_line jump_or_hop numbers_of number_after
+jump_numbers lanes workers adds x z y to_x to_z to_y cost hx hz hy htx htz hty least most =
+    let fit : AreNumbers (x ∷ z ∷ y ∷ to_x ∷ to_z ∷ to_y ∷ cost ∷ []) =
+    (omega arith, (omega arith, (omega arith, (omega arith, (omega arith, (omega arith, (omega arith, tt))))))) in
+    rw (
+      fields_of_again (x ∷ z ∷ y ∷ to_x ∷ to_z ∷ to_y ∷ cost ∷ []) fit,
+      standing_true x z y hx hz hy,
+      standing_true to_x to_z to_y htx htz hty,
+      range_true 1 cost 1000000 least most,
+    ) refl
+
+jump_again : (lanes workers adds : ℕ) (jump : jumps.Jump) → IsJump jump → line_read Play lanes workers adds (line_of (Jump jump)) ≡ Ok (Jump jump)
+jump_again lanes workers adds jump is =
+    let f = is.0.0 in
+    let t = is.0.2 in
+    jump_numbers lanes workers adds (nat_abs jump.from.x) (nat_abs jump.from.z) jump.from_y (nat_abs jump.to.x) (nat_abs jump.to.z) jump.to_y jump.cost
+    (size_most jump.from.x 16384 f.x_least f.x_most) (size_most jump.from.z 16384 f.z_least f.z_most) is.0.1
+    (size_most jump.to.x 16384 t.x_least t.x_most) (size_most jump.to.z 16384 t.z_least t.z_most) is.0.3 is.1 is.2
+    ∙ ap₂ (λ a b. let l : LineRead = Ok (Jump (record { from = a; from_y = jump.from_y; to = b; to_y = jump.to_y; cost = jump.cost })) in l) (point_is jump.from f) (point_is jump.to t)
+
+hop_numbers : (lanes workers adds x z y to_x to_z to_y : ℕ) → x ≤ 16384 → z ≤ 16384 → y ≤ 8191 → to_x ≤ 16384 → to_z ≤ 16384 → to_y ≤ 8191
+    → line_read Play lanes workers adds (line_text (codes "hop") (x ∷ z ∷ y ∷ to_x ∷ to_z ∷ to_y ∷ []))
+    ≡ Ok (Hop (point_at x z) y (point_at to_x to_z) to_y)
+unfolding question_line request_line area_line lane_line worker_line jump_or_hop numbers_of number_after
+hop_numbers lanes workers adds x z y to_x to_z to_y hx hz hy htx htz hty =
+    let fit : AreNumbers (x ∷ z ∷ y ∷ to_x ∷ to_z ∷ to_y ∷ []) = (omega arith, (omega arith, (omega arith, (omega arith, (omega arith, (omega arith, tt)))))) in
+    rw (fields_of_again (x ∷ z ∷ y ∷ to_x ∷ to_z ∷ to_y ∷ []) fit, standing_true x z y hx hz hy, standing_true to_x to_z to_y htx htz hty) refl
+
+hop_again : (lanes workers adds : ℕ) (from : Point) (from_y : ℕ) (to : Point) (to_y : ℕ) → AreEnds from from_y to to_y
+    → line_read Play lanes workers adds (line_of (Hop from from_y to to_y)) ≡ Ok (Hop from from_y to to_y)
+hop_again lanes workers adds from from_y to to_y is =
+    let f = is.0 in
+    let t = is.2 in
+    hop_numbers lanes workers adds (nat_abs from.x) (nat_abs from.z) from_y (nat_abs to.x) (nat_abs to.z) to_y
+    (size_most from.x 16384 f.x_least f.x_most) (size_most from.z 16384 f.z_least f.z_most) is.1
+    (size_most to.x 16384 t.x_least t.x_most) (size_most to.z 16384 t.z_least t.z_most) is.3
+    ∙ ap₂ (λ a b. let l : LineRead = Ok (Hop a from_y b to_y) in l) (point_is from f) (point_is to t)
+
 -- A line that may stand there, spelled, is read as that line.
 pub line_again : (way : Way) (lanes workers adds : ℕ) (line : Line) → lanes ≤ 16 → workers ≤ 8 → adds < 2 ^ 32 → IsLine way lanes workers adds line
     → line_read way lanes workers adds (line_of line) ≡ Ok line
@@ -245,10 +312,14 @@ line_again Play lanes workers adds (Submit worker) few crew counted is = submit_
 line_again Live lanes workers adds (Submit worker) few crew counted is = let no : Live ≡ Play = is.0 in absurd cc
 line_again Play lanes workers adds Publish few crew counted is = publish_again lanes workers adds
 line_again Live lanes workers adds Publish few crew counted is = absurd cc
+line_again Play lanes workers adds (Jump jump) few crew counted is = jump_again lanes workers adds jump is.1
+line_again Live lanes workers adds (Jump jump) few crew counted is = let no : Live ≡ Play = is.0 in absurd cc
+line_again Play lanes workers adds (Hop from from_y to to_y) few crew counted is = hop_again lanes workers adds from from_y to to_y is.1
+line_again Live lanes workers adds (Hop from from_y to to_y) few crew counted is = let no : Live ≡ Play = is.0 in absurd cc
 
-plain_question : (question : Question) → IsQuestion question → is_line (question_spelling question) ≡ true
-plain_question (Floor x z) is = is_line-line_text (codes "floor") (x ∷ z ∷ []) refl (omega arith, (omega arith, tt))
-plain_question (Path from from_y to to_y) is =
+-- the numbers of two points with their heights
+numbers_of_ends : (from : Point) (from_y : ℕ) (to : Point) (to_y : ℕ) → AreEnds from from_y to to_y → AreNumbers (ends_of from from_y to to_y)
+numbers_of_ends from from_y to to_y is =
     let f = is.0 in
     let t = is.2 in
     let x = size_most from.x 16384 f.x_least f.x_most in
@@ -256,9 +327,19 @@ plain_question (Path from from_y to to_y) is =
     let to_x = size_most to.x 16384 t.x_least t.x_most in
     let to_z = size_most to.z 16384 t.z_least t.z_most in
     let y : from_y ≤ 8191 = is.1 in
-    let to_height : to_y ≤ 8191 = is.3 in
-    is_line-line_text (codes "path") (nat_abs from.x ∷ nat_abs from.z ∷ from_y ∷ nat_abs to.x ∷ nat_abs to.z ∷ to_y ∷ []) refl
-    (omega arith, (omega arith, (omega arith, (omega arith, (omega arith, (omega arith, tt))))))
+    let to_height : to_y ≤ 8191 = is.3 in (omega arith, (omega arith, (omega arith, (omega arith, (omega arith, (omega arith, tt))))))
+
+plain_jump : (jump : jumps.Jump) → IsJump jump → is_line (line_of (Jump jump)) ≡ true
+plain_jump jump is =
+    let most : jump.cost ≤ 1000000 = is.2 in
+    let (x, (z, (y, (to_x, (to_z, (to_y, _)))))) = numbers_of_ends jump.from jump.from_y jump.to jump.to_y is.0 in
+    is_line-line_text (codes "jump") (ends_of jump.from jump.from_y jump.to jump.to_y ++ jump.cost ∷ []) refl
+    (x, (z, (y, (to_x, (to_z, (to_y, (omega arith, tt)))))))
+
+plain_question : (question : Question) → IsQuestion question → is_line (question_spelling question) ≡ true
+plain_question (Floor x z) is = is_line-line_text (codes "floor") (x ∷ z ∷ []) refl (omega arith, (omega arith, tt))
+plain_question (Path from from_y to to_y) is =
+    is_line-line_text (codes "path") (ends_of from from_y to to_y) refl (numbers_of_ends from from_y to to_y is)
 plain_question (Ray from from_y to) is =
     let f = is.0 in
     let t = is.2 in
@@ -304,3 +385,6 @@ line_plain way lanes workers adds (Claim worker) few crew counted is = is_line-l
 line_plain way lanes workers adds (Back worker) few crew counted is = is_line-line_text (codes "back") (worker ∷ []) refl (omega arith, tt)
 line_plain way lanes workers adds (Submit worker) few crew counted is = is_line-line_text (codes "submit") (worker ∷ []) refl (omega arith, tt)
 line_plain way lanes workers adds Publish few crew counted is = refl
+line_plain way lanes workers adds (Jump jump) few crew counted is = plain_jump jump is.1
+line_plain way lanes workers adds (Hop from from_y to to_y) few crew counted is =
+    is_line-line_text (codes "hop") (ends_of from from_y to to_y) refl (numbers_of_ends from from_y to to_y is.1)

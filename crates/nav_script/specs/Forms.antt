@@ -1,5 +1,5 @@
 -- What a line of a script says, or what is wrong with it, its form first, then its numbers.
-use Rattle.std.specs.Prelude.{ℕ, Bool, nat_lt, nat_le, ◌==◌, ◌&&◌, if◌then◌else◌, List, [], ◌∷◌, slice_index, codes, pos, Option, Some, None, option_and_then, Result, Ok, Err, unwrap_or}
+use Rattle.std.specs.Prelude.{ℕ, Bool, nat_lt, nat_le, ◌==◌, ◌&&◌, if◌then◌else◌, List, [], ◌∷◌, slice_index, codes, pos, Option, Some, None, option_and_then, Result, Ok, Err}
 use Rattle.std.specs.Option.{option_map}
 use Rattle.nav_base.specs.declared.point.Point.{Point}
 use Rattle.nav_base.specs.declared.answers.Question.TheVariants.{Floor, Path, Ray}
@@ -8,9 +8,7 @@ use Rattle.nav_text.specs.declared.fault.FaultKind.{FaultKind}
 use Rattle.nav_text.specs.declared.fault.FaultKind.TheVariants as kinds
 use Rattle.nav_text.specs.Forms.{numbers_of, number_after}
 use Rattle.nav_script.specs.declared.line.Line.{Line}
-use Rattle.nav_script.specs.declared.line.Line.TheVariants.{Lane, Ask, Add, Remove, Undo, Settle, Aim, Claim, Back, Submit, Publish}
-use Rattle.nav_script.specs.declared.script.Way.{Way}
-use Rattle.nav_script.specs.declared.script.Way.TheVariants.{Play, Live}
+use Rattle.nav_script.specs.declared.line.Line.TheVariants.{Lane, Ask, Add, Remove, Undo, Settle}
 
 -- what is read of a line: the line, or the kind of its fault
 abbrev pub LineRead : Type 0
@@ -38,10 +36,14 @@ is_standing x z y = is_place x z && nat_le y 8191
 abbrev pub point_at : ℕ → ℕ → Point
 point_at x z = record { x = pos x; z = pos z }
 
+-- the limits of two such points, each with its height
+abbrev pub are_standing : List ℕ → Bool
+are_standing n = is_standing (slice_index n 0) (slice_index n 1) (slice_index n 2) && is_standing (slice_index n 3) (slice_index n 4) (slice_index n 5)
+
 abbrev pub path_line : List ℕ → LineRead
 path_line n =
     in_limits
-    (is_standing (slice_index n 0) (slice_index n 1) (slice_index n 2) && is_standing (slice_index n 3) (slice_index n 4) (slice_index n 5))
+    (are_standing n)
     (Ask (Path (point_at (slice_index n 0) (slice_index n 1)) (slice_index n 2) (point_at (slice_index n 3) (slice_index n 4)) (slice_index n 5)))
 
 abbrev pub ray_line : List ℕ → LineRead
@@ -135,28 +137,3 @@ lane_forms lanes line =
 
 unfoldable pub lane_line : ℕ → List ℕ → Option LineRead
 lane_line lanes line = first_of_them (lane_forms lanes line)
-
--- the forms of a line that leads workers, of which there are so many
-abbrev pub worker_forms : ℕ → List ℕ → List (Option LineRead)
-worker_forms workers line =
-    form (codes "claim") 1 (λ n. below_count (slice_index n 0) workers (Claim (slice_index n 0))) line
-    ∷ form (codes "submit") 1 (λ n. below_count (slice_index n 0) workers (Submit (slice_index n 0))) line
-    ∷ form (codes "back") 1 (λ n. below_count (slice_index n 0) workers (Back (slice_index n 0))) line
-    ∷ form (codes "aim") 0 (λ n. Ok Aim) line
-    ∷ form (codes "publish") 0 (λ n. Ok Publish) line
-    ∷ []
-
-unfoldable pub worker_line : ℕ → List ℕ → Option LineRead
-worker_line workers line = first_of_them (worker_forms workers line)
-
--- such a line is of no form where the script runs live
-abbrev pub played_line : Way → ℕ → List ℕ → Option LineRead
-played_line Play workers line = worker_line workers line
-played_line Live workers line = None
-
--- what a line of a script says; of no form, it is wrong as a line
-abbrev pub line_read : Way → (lanes workers adds : ℕ) → List ℕ → LineRead
-line_read way lanes workers adds line =
-    unwrap_or
-    (first_of_them (question_line line ∷ request_line adds line ∷ area_line line ∷ lane_line lanes line ∷ played_line way workers line ∷ []))
-    (Err kinds.Line)

@@ -1,7 +1,7 @@
--- The lanes of a script: which lane a line belongs to, and how many requests and adds stand before it.
+-- The lanes of a script: which lane a line belongs to, and how many requests, adds and jumps stand before it.
 use Rattle.std.specs.Prelude.{◌≡◌, ℕ, ◌+◌, ◌<◌, Bool, true, false, ◌==◌, ◌&&◌, if◌then◌else◌, List, [], ◌∷◌, length, get_or, fold, count_by, ⊤}
 use Rattle.nav_script.specs.declared.line.Line.{Line}
-use Rattle.nav_script.specs.declared.line.Line.TheVariants.{Lane, Add, Remove, Undo}
+use Rattle.nav_script.specs.declared.line.Line.TheVariants.{Lane, Add, Remove, Undo, Jump}
 
 -- the lane of the line after a line
 abbrev pub next_lane : ℕ → Line → ℕ
@@ -24,6 +24,11 @@ is_request (Remove number) = true
 is_request (Undo back) = true
 is_request _ = false
 
+-- a line that declares a jump
+abbrev pub is_jump : Line → Bool
+is_jump (Jump jump) = true
+is_jump _ = false
+
 -- how many adds of a lane are among these lines, the first of which belongs to the lane `current`
 abbrev pub adds_from : (lane current : ℕ) → List Line → ℕ
 adds_from lane current [] = 0
@@ -43,10 +48,11 @@ abbrev pub NamesLaneBelow : ℕ → Line → Type 0
 NamesLaneBelow count (Lane lane) = lane < count
 NamesLaneBelow count _ = ⊤
 
--- the lane of the next line, the adds of each of 16 lanes and the number of requests are those of these lines
-pub record IsCounted (lines : List Line) (lane : ℕ) (adds : List ℕ) (requests : ℕ) : Type 0 where
+-- the lane of the next line, the adds of each of 16 lanes and the numbers of requests and jumps are those of these lines
+pub record IsCounted (lines : List Line) (lane : ℕ) (adds : List ℕ) (requests jumps : ℕ) : Type 0 where
   pub here : lane ≡ lane_after lines
   pub below : lane < 16
   pub places : length adds ≡ 16
   pub each : (k : ℕ) → k < 16 → get_or adds k 0 ≡ adds_in k lines
   pub asked : requests ≡ count_by is_request lines
+  pub declared : jumps ≡ count_by is_jump lines

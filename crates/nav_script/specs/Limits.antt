@@ -5,12 +5,13 @@ use Rattle.nav_base.specs.declared.answers.Question.{Question}
 use Rattle.nav_base.specs.declared.answers.Question.TheVariants.{Floor, Path, Ray}
 use Rattle.nav_ground.specs.History.{history_limit}
 use Rattle.nav_ground.specs.Limits.{IsShape}
+use Rattle.mesh_types.specs.declared.hops.Jump as jumps
 use Rattle.nav_script.specs.declared.line.Line.{Line}
-use Rattle.nav_script.specs.declared.line.Line.TheVariants.{Lane, Ask, Add, Remove, Undo, Settle, Aim, Claim, Back, Submit, Publish}
+use Rattle.nav_script.specs.declared.line.Line.TheVariants.{Lane, Ask, Add, Remove, Undo, Settle, Aim, Claim, Back, Submit, Publish, Jump, Hop}
 use Rattle.nav_script.specs.declared.script.Way.{Way}
 use Rattle.nav_script.specs.declared.script.Way.TheVariants.{Play, Live}
 use Rattle.nav_script.specs.declared.script.Script.{Script}
-use Rattle.nav_script.specs.Lanes.{adds_before, is_request}
+use Rattle.nav_script.specs.Lanes.{adds_before, is_request, is_jump}
 use Rattle.nav_script.specs.Spelling.{script_text}
 
 -- a point that a question may name: x and z are 0 to 16384 sixteenths of a cell
@@ -20,14 +21,23 @@ pub record IsPlace (point : Point) : Type 0 where
   pub z_least : pos 0 ≤ℤ point.z
   pub z_most : point.z ≤ℤ pos 16384
 
+-- two such points, each with a height of at most 8191
+abbrev pub AreEnds : Point → ℕ → Point → ℕ → Type 0
+AreEnds from from_y to to_y = IsPlace from × (from_y ≤ 8191) × IsPlace to × (to_y ≤ 8191)
+
+-- a jump between two such points, which costs 1 to 1000000
+abbrev pub IsJump : jumps.Jump → Type 0
+IsJump jump = AreEnds jump.from jump.from_y jump.to jump.to_y × (1 ≤ jump.cost) × (jump.cost ≤ 1000000)
+
 -- a question names a column of at most 1023, or points, and heights of at most 8191
 abbrev pub IsQuestion : Question → Type 0
 IsQuestion (Floor x z) = (x ≤ 1023) × (z ≤ 1023)
-IsQuestion (Path from from_y to to_y) = IsPlace from × (from_y ≤ 8191) × IsPlace to × (to_y ≤ 8191)
+IsQuestion (Path from from_y to to_y) = AreEnds from from_y to to_y
 IsQuestion (Ray from from_y to) = IsPlace from × (from_y ≤ 8191) × IsPlace to
 
 -- a line may stand where so many adds of its lane stand before it: its numbers are in their limits, lanes and workers are below
--- their counts, a `drop` names one of those adds, counted from 1, and the lines that lead workers are played only
+-- their counts, a `drop` names one of those adds, counted from 1, and the lines that lead workers, declare jumps or ask for hop walks are
+-- played only
 abbrev pub IsLine : Way → (lanes workers adds : ℕ) → Line → Type 0
 IsLine way lanes workers adds (Lane lane) = lane < lanes
 IsLine way lanes workers adds (Ask question) = IsQuestion question
@@ -40,9 +50,11 @@ IsLine way lanes workers adds (Claim worker) = (way ≡ Play) × (worker < worke
 IsLine way lanes workers adds (Back worker) = (way ≡ Play) × (worker < workers)
 IsLine way lanes workers adds (Submit worker) = (way ≡ Play) × (worker < workers)
 IsLine way lanes workers adds Publish = way ≡ Play
+IsLine way lanes workers adds (Jump jump) = (way ≡ Play) × IsJump jump
+IsLine way lanes workers adds (Hop from from_y to to_y) = (way ≡ Play) × AreEnds from from_y to to_y
 
 -- a script for a way to run it: 1 to 16 lanes, 1 to 8 workers, at most 300000 lines, each of which may stand after the lines
--- before it, and where it runs live at most as many requests as a history has entries
+-- before it, at most 256 jumps, and where it runs live at most as many requests as a history has entries
 pub record IsScript (way : Way) (script : Script) : Type 0 where
   pub lanes_least : 1 ≤ script.lanes
   pub lanes_most : script.lanes ≤ 16
@@ -50,6 +62,7 @@ pub record IsScript (way : Way) (script : Script) : Type 0 where
   pub workers_most : script.workers ≤ 8
   pub few : length script.lines ≤ 300000
   pub requests : way ≡ Live → count_by is_request script.lines ≤ history_limit
+  pub jumps : count_by is_jump script.lines ≤ 256
   pub each : (k : ℕ) (line : Line) → slice_get script.lines k ≡ Some line
       → IsLine way script.lanes script.workers (adds_before (take k script.lines)) line
 

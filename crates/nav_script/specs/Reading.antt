@@ -14,8 +14,9 @@ use Rattle.nav_script.specs.declared.script.Way.TheVariants.{Play, Live}
 use Rattle.nav_script.specs.declared.script.Script.{Script}
 use Rattle.nav_script.specs.declared.script.ScriptRefusal.{ScriptRefusal}
 use Rattle.nav_script.specs.declared.script.ScriptRefusal.TheVariants as refusals
-use Rattle.nav_script.specs.Lanes.{adds_before, is_request}
-use Rattle.nav_script.specs.Forms.{LineRead, line_read}
+use Rattle.nav_script.specs.Lanes.{adds_before, is_request, is_jump}
+use Rattle.nav_script.specs.Forms.{LineRead}
+use Rattle.nav_script.specs.PlayedForms.{line_read}
 
 -- what the lines before have said
 pub data Place : Type 0 where
@@ -42,6 +43,10 @@ abbrev pub lacks_room : Way → List Line → List ℕ → Bool
 lacks_room Play before line = false
 lacks_room Live before line = nat_le history_limit (count_by is_request before) && begins_request line
 
+-- a script has 256 jumps, and the line is one more: its first word is `jump`
+abbrev pub lacks_jumps : List Line → List ℕ → Bool
+lacks_jumps before line = nat_le 256 (count_by is_jump before) && has_word (codes "jump") line
+
 abbrev pub header_verdict : Result Header FaultKind → Verdict Place Script
 header_verdict (Ok header) = Goes (AtLines header.lanes header.workers [])
 header_verdict (Err kind) = Refuses kind
@@ -50,14 +55,15 @@ abbrev pub verdict_of : (lanes workers : ℕ) → List Line → LineRead → Ver
 verdict_of lanes workers before (Ok line) = Goes (AtLines lanes workers (before ++ line ∷ []))
 verdict_of lanes workers before (Err kind) = Refuses kind
 
--- what a line is: after 300000 lines, or where there is no room for one more request, it is one too many,
--- and else what is read of it decides
+-- what a line is: after 300000 lines, or where there is no room for one more request, it is one too many; else, where there is none for one more
+-- jump, it is a jump too many; and else what is read of it decides
 abbrev pub line_verdict : Way → Place → List ℕ → Verdict Place Script
 line_verdict way AtScript line = header_verdict (header_read line)
 line_verdict way (AtLines lanes workers before) line =
     if nat_le 300000 (length before) then Refuses kinds.TooManyLines
     else (if lacks_room way before line then Refuses kinds.TooManyLines
-    else verdict_of lanes workers before (line_read way lanes workers (adds_before before) line))
+    else (if lacks_jumps before line then Refuses kinds.TooManyJumps
+    else verdict_of lanes workers before (line_read way lanes workers (adds_before before) line)))
 
 -- the script, where the text may end there: after its `script` line, and with every line ended
 abbrev pub value_at : Bool → Place → Option Script

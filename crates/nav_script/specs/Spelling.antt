@@ -1,5 +1,6 @@
 -- How a script is spelled: first its lanes and workers, then a line of words and numbers for each of its lines.
 use Rattle.std.specs.Prelude.{ℕ, List, [], ◌∷◌, ◌++◌, map, codes, nat_abs}
+use Rattle.nav_base.specs.declared.point.Point.{Point}
 use Rattle.nav_base.specs.declared.answers.Question.{Question}
 use Rattle.nav_base.specs.declared.answers.Question.TheVariants.{Floor, Path, Ray}
 use Rattle.nav_ground.specs.declared.shape.Shape.{Shape}
@@ -7,14 +8,17 @@ use Rattle.nav_ground.specs.declared.shape.Shape.TheVariants.{Block, Cylinder, A
 use Rattle.nav_text.specs.Lines.{text_of}
 use Rattle.nav_text.specs.Forms.{line_text}
 use Rattle.nav_script.specs.declared.line.Line.{Line}
-use Rattle.nav_script.specs.declared.line.Line.TheVariants.{Lane, Ask, Add, Remove, Undo, Settle, Aim, Claim, Back, Submit, Publish}
+use Rattle.nav_script.specs.declared.line.Line.TheVariants.{Lane, Ask, Add, Remove, Undo, Settle, Aim, Claim, Back, Submit, Publish, Jump, Hop}
 use Rattle.nav_script.specs.declared.script.Script.{Script}
+
+-- two points with their heights: of each x and z, then the height
+abbrev pub ends_of : Point → ℕ → Point → ℕ → List ℕ
+ends_of from from_y to to_y = nat_abs from.x ∷ nat_abs from.z ∷ from_y ∷ nat_abs to.x ∷ nat_abs to.z ∷ to_y ∷ []
 
 -- a question: its word, and for each point x and z, then the height if it has one
 abbrev pub question_spelling : Question → List ℕ
 question_spelling (Floor x z) = line_text (codes "floor") (x ∷ z ∷ [])
-question_spelling (Path from from_y to to_y) =
-    line_text (codes "path") (nat_abs from.x ∷ nat_abs from.z ∷ from_y ∷ nat_abs to.x ∷ nat_abs to.z ∷ to_y ∷ [])
+question_spelling (Path from from_y to to_y) = line_text (codes "path") (ends_of from from_y to to_y)
 question_spelling (Ray from from_y to) =
     line_text (codes "ray") (nat_abs from.x ∷ nat_abs from.z ∷ from_y ∷ nat_abs to.x ∷ nat_abs to.z ∷ [])
 
@@ -40,6 +44,8 @@ line_of (Claim worker) = line_text (codes "claim") (worker ∷ [])
 line_of (Back worker) = line_text (codes "back") (worker ∷ [])
 line_of (Submit worker) = line_text (codes "submit") (worker ∷ [])
 line_of Publish = codes "publish"
+line_of (Jump jump) = line_text (codes "jump") (ends_of jump.from jump.from_y jump.to jump.to_y ++ jump.cost ∷ [])
+line_of (Hop from from_y to to_y) = line_text (codes "hop") (ends_of from from_y to to_y)
 
 -- the lines of a script's text
 abbrev pub script_lines : Script → List (List ℕ)

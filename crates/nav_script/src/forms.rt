@@ -1,11 +1,13 @@
 //! The forms of a script's lines.
-ghost use Rattle.std.specs.Prelude.{◌≡◌, IfOk};
+ghost use Rattle.std.specs.Prelude.{◌≡◌, ◌≤◌, IfOk};
 ghost use Rattle.nav_script.specs.Lanes.{NamesLaneBelow};
-ghost use Rattle.nav_script.specs.Forms.{line_read};
+ghost use Rattle.nav_script.specs.Forms;
+ghost use Rattle.nav_script.specs.PlayedForms.{line_read};
 
 use crate::header::Header;
 use crate::line::Line;
 use crate::script::Way;
+use mesh_types::Jump;
 use nav_base::{Point, Question};
 use nav_ground::Shape;
 use nav_text::{FaultKind, number_after, numbers_of};
@@ -21,6 +23,8 @@ const LAST_SIXTEENTH: u32 = 16384;
 const LAST_CENTRE: u32 = 2048;
 /// The greatest radius of a cylinder, in cells.
 const LARGEST_RADIUS: u32 = 1023;
+/// The greatest cost of a jump.
+const COSTLIEST_JUMP: u32 = 1000000;
 /// The greatest area that an obstacle can set.
 const GREATEST_AREA: u32 = 63;
 
@@ -56,6 +60,17 @@ fn is_standing(x: u32, z: u32, y: u32) -> bool
     is_place(x, z) && y <= HIGHEST
 }
 
+fn point_at(x: u32, z: u32) -> Point
+    requires x { x ≤ 16384 }
+    requires z { z ≤ 16384 }
+    ensures { result ≡ Rattle.nav_script.specs.Forms.point_at x z }
+{
+    Point {
+        x: x as i32,
+        z: z as i32,
+    }
+}
+
 fn is_range(low: u32, high: u32, most: u32) -> bool
     ensures { result ≡ Rattle.nav_script.specs.Forms.is_range low high most }
 {
@@ -80,15 +95,9 @@ fn path_line(n: [u32; 6]) -> Result<Line, FaultKind>
         return Err(FaultKind::Range);
     }
     Ok(Line::Ask(Question::Path {
-        from: Point {
-            x: x as i32,
-            z: z as i32,
-        },
+        from: point_at(x, z),
         from_y,
-        to: Point {
-            x: to_x as i32,
-            z: to_z as i32,
-        },
+        to: point_at(to_x, to_z),
         to_y,
     }))
 }
@@ -101,15 +110,9 @@ fn ray_line(n: [u32; 5]) -> Result<Line, FaultKind>
         return Err(FaultKind::Range);
     }
     Ok(Line::Ask(Question::Ray {
-        from: Point {
-            x: x as i32,
-            z: z as i32,
-        },
+        from: point_at(x, z),
         from_y,
-        to: Point {
-            x: to_x as i32,
-            z: to_z as i32,
-        },
+        to: point_at(to_x, to_z),
     }))
 }
 
@@ -189,6 +192,40 @@ fn area_cylinder_line(area: u32, n: [u32; 5]) -> Result<Line, FaultKind>
     )
 }
 
+fn jump_line(n: [u32; 7]) -> Result<Line, FaultKind>
+    ensures { result ≡ Rattle.nav_script.specs.PlayedForms.jump_line n }
+{
+    let [x, z, from_y, to_x, to_z, to_y, cost] = n;
+    if !(is_standing(x, z, from_y)
+        && is_standing(to_x, to_z, to_y)
+        && is_range(1, cost, COSTLIEST_JUMP))
+    {
+        return Err(FaultKind::Range);
+    }
+    Ok(Line::Jump(Jump {
+        from: point_at(x, z),
+        from_y,
+        to: point_at(to_x, to_z),
+        to_y,
+        cost,
+    }))
+}
+
+fn hop_line(n: [u32; 6]) -> Result<Line, FaultKind>
+    ensures { result ≡ Rattle.nav_script.specs.PlayedForms.hop_line n }
+{
+    let [x, z, y, to_x, to_z, to_y] = n;
+    if !(is_standing(x, z, y) && is_standing(to_x, to_z, to_y)) {
+        return Err(FaultKind::Range);
+    }
+    Ok(Line::Hop {
+        from: point_at(x, z),
+        from_y: y,
+        to: point_at(to_x, to_z),
+        to_y,
+    })
+}
+
 fn drop_line(adds: u32, back: u32) -> Result<Line, FaultKind>
     ensures { result ≡ Rattle.nav_script.specs.Forms.drop_line adds back }
 {
@@ -255,9 +292,9 @@ fn lane_line(lanes: u32, line: &[u8]) -> Option<Result<Line, FaultKind>>
     Some(below_count(n[0], lanes, Line::Lane(n[0])))
 }
 
-#[tactic(auto, unfolding(crate::specs::Forms::worker_line))]
+#[tactic(auto, unfolding(crate::specs::PlayedForms::worker_line))]
 fn worker_line(workers: u32, line: &[u8]) -> Option<Result<Line, FaultKind>>
-    ensures { result ≡ Rattle.nav_script.specs.Forms.worker_line workers line.now }
+    ensures { result ≡ Rattle.nav_script.specs.PlayedForms.worker_line workers line.now }
 {
     if let Some(n) = numbers_of::<1>(b"claim", line) {
         return Some(below_count(n[0], workers, Line::Claim(n[0])));
@@ -277,11 +314,27 @@ fn worker_line(workers: u32, line: &[u8]) -> Option<Result<Line, FaultKind>>
     None
 }
 
+#[tactic(auto, unfolding(crate::specs::PlayedForms::jump_or_hop))]
+fn jump_or_hop(line: &[u8]) -> Option<Result<Line, FaultKind>>
+    ensures { result ≡ Rattle.nav_script.specs.PlayedForms.jump_or_hop line.now }
+{
+    if let Some(n) = numbers_of::<7>(b"jump", line) {
+        return Some(jump_line(n));
+    }
+    let n = numbers_of::<6>(b"hop", line)?;
+    Some(hop_line(n))
+}
+
 fn played_line(way: Way, workers: u32, line: &[u8]) -> Option<Result<Line, FaultKind>>
-    ensures { result ≡ Rattle.nav_script.specs.Forms.played_line way workers line.now }
+    ensures { result ≡ Rattle.nav_script.specs.PlayedForms.played_line way workers line.now }
 {
     match way {
-        Way::Play => worker_line(workers, line),
+        Way::Play => {
+            if let Some(read) = worker_line(workers, line) {
+                return Some(read);
+            }
+            jump_or_hop(line)
+        }
         Way::Live => None,
     }
 }

@@ -1,6 +1,7 @@
 //! The lines of a script.
 
-use nav_base::Question;
+use mesh_types::Jump;
+use nav_base::{Point, Question};
 use nav_ground::Shape;
 
 /// A line of a script. Its lane is the one that the last `Lane` line before it names, and 0 where there is none.
@@ -28,4 +29,15 @@ pub enum Line {
     Submit(u32),
     /// The version that was aimed at is published.
     Publish,
+    /// A jump that the `Hop` lines after it may use. Jumps are numbered from 0 in the order of their lines; there are at most 256, each at a
+    /// cost of 1 to 1000000.
+    Jump(Jump),
+    /// The question for a cheapest walk over links and the jumps of the lines before. Points are in sixteenths of a cell and not negative,
+    /// heights in height units.
+    Hop {
+        from: Point,
+        from_y: u32,
+        to: Point,
+        to_y: u32,
+    },
 }

@@ -1,7 +1,7 @@
 //! The lines of a script that were read so far, with what the line after them has to know.
 ghost use Rattle.std.specs.Prelude.{◌≡◌, ◌<◌, ◌++◌, [], ◌∷◌, length, nat_le, OnOk, OnErr};
-ghost use Rattle.nav_script.specs.Lanes.{adds_before, is_add, is_request, next_lane, NamesLaneBelow};
-ghost use Rattle.nav_script.specs.Reading.{begins_request, lacks_room};
+ghost use Rattle.nav_script.specs.Lanes.{adds_before, is_add, is_jump, is_request, next_lane, NamesLaneBelow};
+ghost use Rattle.nav_script.specs.Reading.{begins_request, lacks_jumps, lacks_room};
 
 use crate::header::LANES;
 use crate::line::Line;
@@ -14,14 +14,18 @@ use std::marker::Model;
 
 /// How many lines may follow the `script` line.
 pub const SCRIPT_LINES: usize = 300000;
+/// How many of them may declare jumps.
+const JUMPS: u32 = 256;
 
-/// The lines so far. Contracts see the list of them; the lane of the next line, the adds of each lane and the number of requests are kept beside it.
+/// The lines so far. Contracts see the list of them; the lane of the next line, the adds of each lane and the numbers of requests and
+/// jumps are kept beside it.
 #[derive(Drop)]
 pub struct Progress {
     lines: Vec<Line>,
     lane: u32,
     adds: [u32; LANES],
     requests: u32,
+    jumps: u32,
 }
 
 impl Model for Progress {
@@ -33,7 +37,7 @@ impl Model for Progress {
 
     ghost view = { λ a. a.lines.items };
 
-    ghost invariant = { λ a. IsCounted a.lines.items a.lane a.adds a.requests };
+    ghost invariant = { λ a. IsCounted a.lines.items a.lane a.adds a.requests a.jumps };
 }
 
 fn is_add(line: &Line) -> bool
@@ -46,6 +50,12 @@ fn is_request(line: &Line) -> bool
     ensures { result ≡ is_request line.now }
 {
     matches!(line, Line::Add(_) | Line::Remove(_) | Line::Undo(_))
+}
+
+fn is_jump(line: &Line) -> bool
+    ensures { result ≡ is_jump line.now }
+{
+    matches!(line, Line::Jump(_))
 }
 
 /// The lane of the line after a line of a lane.
@@ -75,6 +85,7 @@ impl Progress {
             lane: 0,
             adds: [0; LANES],
             requests: 0,
+            jumps: 0,
         }
     }
 
@@ -101,6 +112,13 @@ impl Progress {
         }
     }
 
+    /// Whether a line begins as one that declares a jump, and there is no room for one more.
+    pub fn lacks_jumps(&self, line: &[u8]) -> bool
+        ensures { result ≡ lacks_jumps self.now line.now }
+    {
+        self.jumps >= JUMPS && has_word(b"jump", line)
+    }
+
     /// How many adds of the next line's lane there are.
     pub fn adds_here(&self) -> u32
         ensures { result ≡ adds_before self.now }
@@ -118,6 +136,7 @@ impl Progress {
         self.lines.push(line)?;
         self.adds[self.lane as usize] += u32::from(is_add(&line));
         self.requests += u32::from(is_request(&line));
+        self.jumps += u32::from(is_jump(&line));
         self.lane = next_lane(self.lane, &line);
         Ok(())
     }

@@ -69,6 +69,9 @@ fn next_line(way: Way, header: Header, progress: &Progress, line: &[u8]) -> Resu
     if progress.lacks_room(way, line) {
         return Err(FaultKind::TooManyLines);
     }
+    if progress.lacks_jumps(line) {
+        return Err(FaultKind::TooManyJumps);
+    }
     read_line(way, header, progress.adds_here(), line)
 }
 

@@ -8,7 +8,7 @@ use nav_list::Items;
 use nav_text::TextFault;
 use std::alloc::AllocError;
 
-/// How a script is run. `aim`, `publish`, `claim`, `back` and `submit` are lines of a script to be played only.
+/// How a script is run. `aim`, `publish`, `claim`, `back`, `submit`, `jump` and `hop` are lines of a script to be played only.
 #[derive(Clone, Copy)]
 pub enum Way {
     /// Its lines are played one after another.

@@ -2,7 +2,7 @@
 use Rattle.std.specs.Prelude.{ℕ}
 use Rattle.nav_text.specs.declared.fault.TextFault.{TextFault}
 use Rattle.nav_text.specs.declared.fault.FaultKind.{FaultKind}
-use Rattle.nav_text.specs.declared.fault.FaultKind.TheVariants.{Form, Range, Order, Overlap, Climb, TooMany, Unfinished, Line, Lane, BeforeAdd, TooManyLines, TooManyTriangles}
+use Rattle.nav_text.specs.declared.fault.FaultKind.TheVariants.{Form, Range, Order, Overlap, Climb, TooMany, Unfinished, Line, Lane, BeforeAdd, TooManyLines, TooManyJumps, TooManyTriangles}
 
 -- the number of a kind
 abbrev pub kind_number : FaultKind → ℕ
@@ -17,6 +17,7 @@ kind_number Line = 8
 kind_number Lane = 9
 kind_number BeforeAdd = 10
 kind_number TooManyLines = 11
+kind_number TooManyJumps = 12
 kind_number TooManyTriangles = 13
 
 -- the fault of a kind at a line

@@ -3,7 +3,7 @@ ghost use Rattle.std.specs.Prelude.{◌≡◌};
 ghost use Rattle.nav_text.specs.Faults.{kind_number, fault_at};
 
 /// What is wrong with a line. Where several tests fail on one line, the kind is that of the first in the order Unfinished,
-/// TooMany, TooManyTriangles or TooManyLines, Form or Line, Range, Lane, Climb, Order, Overlap, BeforeAdd.
+/// TooMany, TooManyTriangles or TooManyLines, TooManyJumps, Form or Line, Range, Lane, Climb, Order, Overlap, BeforeAdd.
 #[derive(Clone, Copy, PartialEq, Eq, Debug)]
 pub enum FaultKind {
     /// A line of the field, or the `script` line, is not of a form that is allowed at its place.
@@ -28,6 +28,8 @@ pub enum FaultKind {
     BeforeAdd,
     /// More lines after `script` than are allowed.
     TooManyLines,
+    /// A line whose first word is `jump`, after 256 `jump` lines.
+    TooManyJumps,
     /// A line whose first word is `tri`, after 100000 triangles.
     TooManyTriangles,
 }
@@ -49,6 +51,7 @@ impl FaultKind {
             FaultKind::Lane => 9,
             FaultKind::BeforeAdd => 10,
             FaultKind::TooManyLines => 11,
+            FaultKind::TooManyJumps => 12,
             FaultKind::TooManyTriangles => 13,
         }
     }

@@ -76,4 +76,5 @@ fn reads_numbers_of_lines(rt: HostRuntime) {
     check_numbers(&rt, &SIZE_LINES);
     same(&rt, numbers_of(b"end", b"end"), Some([]));
     same(&rt, TextFault::new(7, FaultKind::TooManyLines).kind, 11);
+    same(&rt, TextFault::new(7, FaultKind::TooManyJumps).kind, 12);
 }

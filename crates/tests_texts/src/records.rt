@@ -1,13 +1,15 @@
 //! Every form of line once, beside its text written by hand.
 
 use crate::texts::check;
-use mesh_types::{Answer, Corner, Link, PathFound, PolyRef, Portal, Side};
+use mesh_types::{
+    Answer, Corner, HopAnswer, HopFound, HopStep, Link, PathFound, PolyRef, Portal, Side,
+};
 use nav_base::{FloorAt, Point};
 use nav_ground::{Entry, Reply, Request, Shape};
 use nav_list::Items;
 use nav_record::{
     StepAnswer, write_answer, write_done, write_entry, write_fault, write_final, write_history,
-    write_lane, write_reply, write_step,
+    write_hop, write_lane, write_reply, write_step,
 };
 use nav_text::{FaultKind, TextFault};
 use std::alloc::Global;
@@ -281,4 +283,38 @@ fn writes_a_path(rt: HostRuntime) {
     let wanted =
         "path 12 18446744073709551615 0 1 1 2\nlink 3 4 16 32 48 64\nturn 16 32 L 0\nturn 48 64 R 0\n";
     check_answer(&rt, alloc, 12, Answer::Path(found), wanted);
+}
+
+/// The answer to the question for a hop walk in a line is written as these lines.
+fn check_hop(rt: &impl Abort, alloc: Global, line: u32, answer: HopAnswer, wanted: &str) {
+    let mut out = Vec::new(alloc);
+    write_hop(&mut out, line, &answer).expect(rt, "memory");
+    check_text(rt, out.as_slice(), wanted);
+}
+
+const STEPS_OF_A_HOP: [HopStep; 2] = [
+    HopStep::Jump {
+        number: 255,
+        to: PolyRef { tile: 5, index: 6 },
+    },
+    HopStep::Link(LINK),
+];
+
+#[test]
+fn writes_hops(rt: HostRuntime) {
+    let alloc = rt.alloc();
+    check_hop(&rt, alloc, 3, HopAnswer::NoStart, "nostart 3\n");
+    check_hop(&rt, alloc, 3, HopAnswer::NoGoal, "nogoal 3\n");
+    check_hop(&rt, alloc, 3, HopAnswer::NoPath, "nopath 3\n");
+    let steps = Vec::from_array(alloc, STEPS_OF_A_HOP).expect(&rt, "memory");
+    let turns = Vec::from_array(alloc, TURNS).expect(&rt, "memory");
+    let found = HopFound {
+        first: FIRST,
+        cost: 18446744073709551615,
+        steps: Items::from_vec(steps),
+        turns: Items::from_vec(turns),
+    };
+    let wanted = "hop 12 18446744073709551615 0 1 2 2\njump 255 5 6\nlink 3 4 16 32 48 64\n\
+        turn 16 32 L 0\nturn 48 64 R 0\n";
+    check_hop(&rt, alloc, 12, HopAnswer::Found(found), wanted);
 }

@@ -1,6 +1,7 @@
 //! Each line form once good and once with each fault that it can have, and the faults of whole texts.
 
 use crate::texts::{append, check};
+use mesh_types::Jump;
 use nav_base::{Point, Question};
 use nav_ground::Shape;
 use nav_script::{Line, ScriptRefusal, Way, read_script};
@@ -39,7 +40,7 @@ const TO: Point = Point { x: 7, z: 16384 };
 type Third = (&'static str, Way, Told);
 
 /// A line of each form, and what it says.
-static RIGHT_LINES: [Third; 16] = [
+static RIGHT_LINES: [Third; 19] = [
     (
         "floor 1023 0",
         Way::Play,
@@ -143,6 +144,47 @@ static RIGHT_LINES: [Third; 16] = [
     ("back 0", Way::Play, Told::Last(2, Line::Back(0))),
     ("submit 1", Way::Play, Told::Last(2, Line::Submit(1))),
     ("publish", Way::Play, Told::Last(2, Line::Publish)),
+    (
+        "jump 16384 0 8191 7 16384 0 1000000",
+        Way::Play,
+        Told::Last(
+            2,
+            Line::Jump(Jump {
+                from: FROM,
+                from_y: 8191,
+                to: TO,
+                to_y: 0,
+                cost: 1000000,
+            }),
+        ),
+    ),
+    (
+        "jump 7 16384 0 7 16384 8191 1",
+        Way::Play,
+        Told::Last(
+            2,
+            Line::Jump(Jump {
+                from: TO,
+                from_y: 0,
+                to: TO,
+                to_y: 8191,
+                cost: 1,
+            }),
+        ),
+    ),
+    (
+        "hop 16384 0 8191 7 16384 0",
+        Way::Play,
+        Told::Last(
+            2,
+            Line::Hop {
+                from: FROM,
+                from_y: 8191,
+                to: TO,
+                to_y: 0,
+            },
+        ),
+    ),
 ];
 
 /// Reads scripts with these third lines, and a text behind each.
@@ -163,7 +205,7 @@ fn reads_right_lines(rt: HostRuntime) {
 }
 
 /// Lines with each fault that they can have.
-static WRONG_LINES: [Third; 76] = [
+static WRONG_LINES: [Third; 90] = [
     ("floor 0 1024", Way::Play, Told::Fault(47, 2)),
     ("floor 1024 0", Way::Live, Told::Fault(47, 2)),
     ("floor 0", Way::Play, Told::Fault(47, 8)),
@@ -283,6 +325,20 @@ static WRONG_LINES: [Third; 76] = [
     ("publish", Way::Live, Told::Fault(47, 8)),
     ("aims", Way::Play, Told::Fault(47, 8)),
     ("jump", Way::Play, Told::Fault(47, 8)),
+    ("jump 0 0 0 0 0 0", Way::Play, Told::Fault(47, 8)),
+    ("jump 0 0 0 0 0 0 1", Way::Live, Told::Fault(47, 8)),
+    ("jump 16385 0 0 0 0 0 1", Way::Play, Told::Fault(47, 2)),
+    ("jump 0 0 8192 0 0 0 1", Way::Play, Told::Fault(47, 2)),
+    ("jump 0 0 0 0 16385 0 1", Way::Play, Told::Fault(47, 2)),
+    ("jump 0 0 0 0 0 8192 1", Way::Play, Told::Fault(47, 2)),
+    ("jump 0 0 0 0 0 0 0", Way::Play, Told::Fault(47, 2)),
+    ("jump 0 0 0 0 0 0 1000001", Way::Play, Told::Fault(47, 2)),
+    ("hop 0 0 0 0 0", Way::Play, Told::Fault(47, 8)),
+    ("hop 0 0 0 0 0 0", Way::Live, Told::Fault(47, 8)),
+    ("hop 0 16385 0 0 0 0", Way::Play, Told::Fault(47, 2)),
+    ("hop 0 0 8192 0 0 0", Way::Play, Told::Fault(47, 2)),
+    ("hop 0 0 0 16385 0 0", Way::Play, Told::Fault(47, 2)),
+    ("hop 0 0 0 0 0 8192", Way::Play, Told::Fault(47, 2)),
     ("", Way::Play, Told::Fault(47, 8)),
 ];
 
@@ -344,7 +400,7 @@ fn reads_texts(rt: HostRuntime) {
 }
 
 /// A line, how often it stands, the way it runs, the line behind it, and what is read.
-static LONG_TEXTS: [(&str, u32, Way, &str, Told); 10] = [
+static LONG_TEXTS: [(&str, u32, Way, &str, Told); 15] = [
     (
         "settle\n",
         299999,
@@ -414,6 +470,41 @@ static LONG_TEXTS: [(&str, u32, Way, &str, Told); 10] = [
         Way::Play,
         "remove 1\n",
         Told::Last(262145, Line::Remove(1)),
+    ),
+    (
+        "jump 0 0 0 0 0 0 1\n",
+        255,
+        Way::Play,
+        "jump\n",
+        Told::Fault(301, 8),
+    ),
+    (
+        "jump 0 0 0 0 0 0 1\n",
+        256,
+        Way::Play,
+        "settle\n",
+        Told::Last(257, Line::Settle),
+    ),
+    (
+        "jump 0 0 0 0 0 0 1\n",
+        257,
+        Way::Play,
+        "settle\n",
+        Told::Fault(302, 12),
+    ),
+    (
+        "jump 0 0 0 0 0 0 1\n",
+        256,
+        Way::Play,
+        "jump\n",
+        Told::Fault(302, 12),
+    ),
+    (
+        "jump 0 0 0 0 0 0 1\n",
+        256,
+        Way::Play,
+        "jumps\n",
+        Told::Fault(302, 8),
     ),
 ];
 

@@ -13,7 +13,7 @@ at_most_one false = omega arith
 
 pub overflow_add-self : goal.overflow_add-self
 overflow_add-self c =
-    let few = counted_few _ _ _ _ c.self.invariant in
+    let few = counted_few _ _ _ _ _ c.self.invariant in
     let all = ap length c.self.view_is in
     rw c.from.ensures (omega (arith, at_most_one c.is_add.result, all))
 
@@ -24,8 +24,11 @@ invariant_of-self-2 c =
       c.next_lane-self-inside.ensures,
       c.from.ensures,
       c.from-2.ensures,
+      c.from-3.ensures,
       as_number c.is_add.result,
       as_number c.is_request.result,
+      as_number c.is_jump.result,
       c.is_add.ensures,
       c.is_request.ensures,
-    ) (counted_more _ _ _ _ c.args.line c.self.invariant c.requires.lane)
+      c.is_jump.ensures,
+    ) (counted_more _ _ _ _ _ c.args.line c.self.invariant c.requires.lane)

@@ -1,0 +1,93 @@
+//! Answers to questions for hop walks.
+ghost use Rattle.std.specs.Prelude.{◌≡◌, ◌+◌, ◌≤◌, ◌++◌, length, IsOk, OnOk, OnErr, vec_len, vec_capacity};
+ghost use Rattle.std.specs.List.{flat_map};
+ghost use Rattle.nav_text.specs.Appends.{Appends};
+ghost use Rattle.nav_record.specs.HopTexts.{found_text, hop_line_count, hop_line_text, hop_step_text, hop_text};
+ghost use Rattle.nav_record.specs.OneLine.{HasLines};
+
+use crate::append::{Field, append_parts};
+use crate::paths::{append_link, append_turns};
+use mesh_types::{HopAnswer, HopFound, HopStep};
+use std::alloc::AllocError;
+
+/// Appends the lines of an answer; `k` is the length of the version that was read. A hop walk has a line of its own, one for each link or jump
+/// and one for each turn; every other answer is one line. Points are in sixteenths of a cell.
+#[tactic(auto, using(crate::proofs::HopLines::hop_lines))]
+pub fn write_hop(out: &mut Vec<u8>, k: u32, answer: &HopAnswer) -> Result<(), AllocError>
+    ensures ok { OnOk result (out.new.items ≡ out.old.items ++ hop_text k answer.now) }
+    ensures err { OnErr result (out.new.items ≡ out.old.items) }
+    ensures room { vec_len out.old + length (hop_text k answer.now) ≤ vec_capacity out.old → IsOk result }
+    // The text is whole lines: one, and for a hop walk one more for each step and each turn.
+    ensures lines { HasLines (hop_text k answer.now) (hop_line_count answer.now) }
+{
+    let len = out.len();
+    let written = append_hop(out, k, answer);
+    if written.is_err() {
+        out.truncate(len);
+    }
+    written
+}
+
+/// The same, but where memory is refused a part of the lines may stand at the end.
+fn append_hop(out: &mut Vec<u8>, k: u32, answer: &HopAnswer) -> Result<(), AllocError>
+    ensures { Appends out.old out.new result (hop_text k answer.now) }
+{
+    match answer {
+        HopAnswer::Found(found) => append_found(out, k, found),
+        HopAnswer::NoStart => append_parts(out, b"nostart", &[Field::Number(k)], b"\n"),
+        HopAnswer::NoGoal => append_parts(out, b"nogoal", &[Field::Number(k)], b"\n"),
+        HopAnswer::NoPath => append_parts(out, b"nopath", &[Field::Number(k)], b"\n"),
+    }
+}
+
+/// Appends the lines of a hop walk: its own, then one for each step, then one for each turn.
+fn append_found(out: &mut Vec<u8>, k: u32, found: &HopFound) -> Result<(), AllocError>
+    ensures { Appends out.old out.new result (found_text k found.now) }
+{
+    append_hop_line(out, k, found)?;
+    append_steps(out, found.steps.as_slice())?;
+    append_turns(out, found.turns.as_slice())
+}
+
+/// Appends the line of a hop walk: its cost, the polygon in which it begins, and how many steps and turns it has.
+fn append_hop_line(out: &mut Vec<u8>, k: u32, found: &HopFound) -> Result<(), AllocError>
+    ensures { Appends out.old out.new result (hop_line_text k found.now) }
+{
+    append_parts(
+        out,
+        b"hop",
+        &[
+            Field::Number(k),
+            Field::Cost(found.cost),
+            Field::Polygon(found.first),
+            Field::Count(found.steps.len()),
+            Field::Count(found.turns.len()),
+        ],
+        b"\n",
+    )
+}
+
+/// Appends a line for each step.
+fn append_steps(out: &mut Vec<u8>, steps: &[HopStep]) -> Result<(), AllocError>
+    ensures { Appends out.old out.new result (flat_map hop_step_text steps.now) }
+{
+    for step in steps {
+        append_hop_step(out, step)?;
+    }
+    Ok(())
+}
+
+/// Appends the line of a link, or that of a jump: its number and the polygon that it enters.
+fn append_hop_step(out: &mut Vec<u8>, step: &HopStep) -> Result<(), AllocError>
+    ensures { Appends out.old out.new result (hop_step_text step.now) }
+{
+    match step {
+        HopStep::Link(link) => append_link(out, link),
+        HopStep::Jump { number, to } => append_parts(
+            out,
+            b"jump",
+            &[Field::Number(*number), Field::Polygon(*to)],
+            b"\n",
+        ),
+    }
+}

@@ -1,0 +1,59 @@
+-- The forms of lines that stand only in a script to be played, and what any line says.
+use Rattle.std.specs.Prelude.{ℕ, ◌&&◌, List, [], ◌∷◌, slice_index, codes, Option, None, Ok, Err, unwrap_or}
+use Rattle.nav_text.specs.declared.fault.FaultKind.TheVariants as kinds
+use Rattle.nav_script.specs.declared.line.Line.TheVariants.{Aim, Claim, Back, Submit, Publish, Jump, Hop}
+use Rattle.nav_script.specs.declared.script.Way.{Way}
+use Rattle.nav_script.specs.declared.script.Way.TheVariants.{Play, Live}
+use Rattle.nav_script.specs.Forms.{LineRead, in_limits, below_count, point_at, are_standing, is_range, form, first_of_them, question_line, request_line, area_line, lane_line}
+
+-- the forms of a line that leads workers, of which there are so many
+abbrev pub worker_forms : ℕ → List ℕ → List (Option LineRead)
+worker_forms workers line =
+    form (codes "claim") 1 (λ n. below_count (slice_index n 0) workers (Claim (slice_index n 0))) line
+    ∷ form (codes "submit") 1 (λ n. below_count (slice_index n 0) workers (Submit (slice_index n 0))) line
+    ∷ form (codes "back") 1 (λ n. below_count (slice_index n 0) workers (Back (slice_index n 0))) line
+    ∷ form (codes "aim") 0 (λ n. Ok Aim) line
+    ∷ form (codes "publish") 0 (λ n. Ok Publish) line
+    ∷ []
+
+unfoldable pub worker_line : ℕ → List ℕ → Option LineRead
+worker_line workers line = first_of_them (worker_forms workers line)
+
+-- a jump: its two points with their heights, and its cost from 1 to 1000000
+abbrev pub jump_line : List ℕ → LineRead
+jump_line n =
+    in_limits
+    (are_standing n && is_range 1 (slice_index n 6) 1000000)
+    (Jump (record {
+      from = point_at (slice_index n 0) (slice_index n 1);
+      from_y = slice_index n 2;
+      to = point_at (slice_index n 3) (slice_index n 4);
+      to_y = slice_index n 5;
+      cost = slice_index n 6;
+    }))
+
+-- the question for a hop walk, with the numbers of one for a path
+abbrev pub hop_line : List ℕ → LineRead
+hop_line n =
+    in_limits
+    (are_standing n)
+    (Hop (point_at (slice_index n 0) (slice_index n 1)) (slice_index n 2) (point_at (slice_index n 3) (slice_index n 4)) (slice_index n 5))
+
+abbrev pub hop_forms : List ℕ → List (Option LineRead)
+hop_forms line = form (codes "jump") 7 jump_line line ∷ form (codes "hop") 6 hop_line line ∷ []
+
+-- a line that declares a jump or asks for a hop walk
+unfoldable pub jump_or_hop : List ℕ → Option LineRead
+jump_or_hop line = first_of_them (hop_forms line)
+
+-- such lines are of no form where the script runs live
+abbrev pub played_line : Way → ℕ → List ℕ → Option LineRead
+played_line Play workers line = first_of_them (worker_line workers line ∷ jump_or_hop line ∷ [])
+played_line Live workers line = None
+
+-- what a line of a script says; of no form, it is wrong as a line
+abbrev pub line_read : Way → (lanes workers adds : ℕ) → List ℕ → LineRead
+line_read way lanes workers adds line =
+    unwrap_or
+    (first_of_them (question_line line ∷ request_line adds line ∷ area_line line ∷ lane_line lanes line ∷ played_line way workers line ∷ []))
+    (Err kinds.Line)
