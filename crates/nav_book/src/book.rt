@@ -20,11 +20,12 @@ ghost use Rattle.nav_book.specs.Settling.{IsUnclaimed};
 use crate::counts::{links, polygons};
 use crate::fresh::{empty, empty_places, patch_of};
 use crate::result::TileResult;
-use mesh_types::{Answer, Mesh, TileMesh};
+use mesh_types::{Answer, Asked, Mesh, TileMesh};
 use nav_base::Question;
 use nav_desk::{Desk, HistoryFull, Job, Published, Submitted};
 use nav_ground::{Entry, Ground, Reply, Request};
 use nav_list::Items;
+use nav_query::Asking;
 use nav_share::Shared;
 use nav_version::{Entries, Eye, Press, Told, Version, pair};
 use std::alloc::{AllocError, Global};
@@ -204,7 +205,25 @@ impl Book {
         ensures right { IfOk result (λ told. IsRight (published_mesh self.now.state) question.now told.1) }
         ensures low_cost { IfOk result (λ told. HasLowCost told.1) }
     {
-        let answer = nav_query::answer(alloc, self.mesh(), question)?;
+        self.ask_by(
+            alloc,
+            &Asking {
+                question: *question,
+            },
+        )
+    }
+
+    /// The published length, and an answer to a question of any kind that is right in the mesh as it was last published.
+    pub fn ask_by<Q: Asked>(
+        &self,
+        alloc: Global,
+        question: &Q,
+    ) -> Result<(u32, Q::Answer), AllocError>
+        requires question { Q.can_ask question.now }
+        ensures published { IfOk result (λ told. told.0 ≡ self.now.state.published) }
+        ensures right { IfOk result (λ told. Q.is_right question.now (published_mesh self.now.state) told.1) }
+    {
+        let answer = question.ask(alloc, self.mesh())?;
         Ok((self.desk.published(), answer))
     }
 

@@ -5,6 +5,9 @@ use Rattle.nav_base.specs.declared.answers.Question.TheVariants as questions
 use Rattle.nav_base.specs.Point.{HasCoordinates}
 use Rattle.mesh_types.specs.declared.answers.Answer.{Answer}
 use Rattle.mesh_types.specs.declared.answers.Answer.TheVariants.{Floors, Path, NoStart, NoGoal, NoPath, Reached, Wall}
+use Rattle.mesh_types.specs.declared.mesh.Mesh.{Mesh}
+use Rattle.mesh_types.specs.Right.{IsRight}
+use Rattle.nav_query.specs.declared.questions.Asking.{Asking}
 
 -- floors are asked of any column, paths and rays between points with coordinates
 abbrev pub IsAnswerable : Question → Type 0
@@ -21,3 +24,11 @@ HasLowCost NoGoal = ⊤
 HasLowCost NoPath = ⊤
 HasLowCost (Reached at) = ⊤
 HasLowCost (Wall a b num den) = ⊤
+
+-- such a question, asked as one that carries how it is answered: it can be asked where it is answered, and an answer is right where it is right in
+-- the mesh and costs little
+abbrev pub CanAsk : Asking → Type 0
+CanAsk asking = IsAnswerable asking.question
+
+abbrev pub IsRightAsked : Asking → Mesh → Answer → Type 0
+IsRightAsked asking mesh answer = IsRight mesh asking.question answer × HasLowCost answer

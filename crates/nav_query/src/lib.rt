@@ -5,6 +5,8 @@
 //! and a taut line through its portals; for a straight walk, that no polygon holds the start, the polygon in which the walk reaches the point, or
 //! the wall at which it ends. The parts are those of `mesh_locate`, `corridor_search`, `funnel_path` and `ray_walk`.
 //!
+//! `Asking` is such a question as one that carries how it is answered, for what takes questions of any kind.
+//!
 //! Columns are in whole cells, points in sixteenths of a cell, heights in the unit of the floors.
 #![tactic(auto)]
 
@@ -12,6 +14,8 @@ mod answering;
 mod columns;
 mod floors;
 mod paths;
+mod questions;
 mod rays;
 
 pub use answering::answer;
+pub use questions::Asking;

@@ -1,7 +1,8 @@
-use Rattle.nav_book.proofs.GroundTiles.{IsSetting-of_build}
+use Rattle.std.proofs.lemmas.Result.{IfOk-weaker}
 use Rattle.nav_book.proofs.book.Book.ask.Goals as goal
 
-pub answer-requires-clause-setting : goal.answer-requires-clause-setting
-answer-requires-clause-setting c =
-    let state = c.args.self.now.state in
-    IsSetting-of_build state.whole state.history state.published c.mesh.result.now c.mesh.ensures.rules.level c.mesh.ensures.value
+pub returns-clause-right : goal.returns-clause-right
+returns-clause-right c = IfOk-weaker c.ask_by.result _ _ (λ told is. is.0) c.ask_by.ensures.right
+
+pub returns-clause-low_cost : goal.returns-clause-low_cost
+returns-clause-low_cost c = IfOk-weaker c.ask_by.result _ _ (λ told is. is.1) c.ask_by.ensures.right
