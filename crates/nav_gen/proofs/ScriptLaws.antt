@@ -1,5 +1,5 @@
 -- The made script is one to be played.
-use Rattle.std.proofs.Common.{◌≡◌, ℕ, zero, suc, ◌+◌, ◌-◌, ◌*◌, ◌%◌, ◌<◌, ◌≤◌, Bool, true, false, cond, ◌&&◌, eqb, nat_lt, List, [], ◌∷◌, ◌++◌, length, take, fold, map, flat_map, Some, codes, refl, sym, ap, ◌∙◌, subst, subst₂, arith}
+use Rattle.std.proofs.Common.{◌≡◌, ℕ, zero, suc, ◌+◌, ◌-◌, ◌*◌, ◌%◌, ◌<◌, ◌≤◌, Bool, true, false, cond, ◌&&◌, eqb, nat_lt, List, [], ◌∷◌, ◌++◌, length, take, fold, map, flat_map, count_by, Some, codes, refl, sym, ap, ◌∙◌, subst, subst₂, arith}
 use Rattle.std.specs.Prelude.{⊤}
 use Rattle.std.specs.List.{slice_get, range_with_len}
 use Rattle.std.proofs.Math.Nat.{mod-lt}
@@ -10,7 +10,7 @@ use Rattle.nav_text.proofs.Inversions.{some_is}
 use Rattle.nav_script.specs.declared.line.Line.{Line}
 use Rattle.nav_script.specs.declared.line.Line.TheVariants.{Ask, Add, Undo, Claim, Submit, Publish}
 use Rattle.nav_script.specs.declared.script.Way.TheVariants.{Play}
-use Rattle.nav_script.specs.Lanes.{next_lane, lane_after, is_add, adds_from, adds_before}
+use Rattle.nav_script.specs.Lanes.{next_lane, lane_after, is_add, is_jump, adds_from, adds_before}
 use Rattle.nav_script.specs.Limits.{IsPlace, IsQuestion, IsLine, IsScript}
 use Rattle.nav_script.specs.Spelling.{line_of}
 use Rattle.nav_gen.specs.Draws.{draw, state_after}
@@ -165,6 +165,11 @@ pub length-made_rounds : (state size : ℕ) → length (made_rounds state size) 
 unfolding made_rounds made_round made_builds
 length-made_rounds state size = refl
 
+-- none of its lines declares a jump
+no_jumps : (state size : ℕ) → count_by is_jump (made_rounds state size) ≡ 0
+unfolding made_rounds made_round made_builds
+no_jumps state size = refl
+
 pub script_rules : (number size : ℕ) → IsMadeSize size → IsScript Play (made_script number size)
 script_rules number size fits =
     let state = state_after number (size * size) in
@@ -175,6 +180,7 @@ script_rules number size fits =
       workers_most = omega arith;
       few = omega (arith, length-made_rounds state size);
       requests = λ live. absurd cc;
+      jumps = omega (arith, no_jumps state size);
       each = λ k line e.
           let at = next_at 0 those k line (made_next state size fits) e in
           let lane : lane_after (take k those) ≡ 0 = at.1 in

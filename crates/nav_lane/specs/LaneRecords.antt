@@ -77,7 +77,7 @@ IsReplied (Replied number reply) = ⊤
 IsReplied (Answered k answer) = ⊥
 IsReplied (Settled k) = ⊥
 
--- what a line may be answered; lines that lead workers, or name lanes, are none that a lane runs
+-- what a line may be answered; lines that lead workers, declare jumps, ask for hop walks or name lanes are none that a lane runs
 abbrev pub IsSaid : Ground → List Entry → Line → Said → Type 0
 IsSaid whole history (Ask question) said = IsAnswered whole history question said
 IsSaid whole history (Add shape) said = IsReplied said

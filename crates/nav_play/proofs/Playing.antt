@@ -1,5 +1,7 @@
 -- A play under way on its ground, with the steps that it took.
-use Rattle.std.proofs.Common.{◌≡◌, ℕ, ◌+◌, ◌<◌, ◌≤◌, Option, None, List, [], ◌++◌, length, replicate, get_or, drop, ap, ◌∙◌, sym, subst, refl, arith}
+use Rattle.std.proofs.Common.{◌≡◌, ℕ, ◌+◌, ◌<◌, ◌≤◌, Option, None, List, [], ◌++◌, length, replicate, get_or, drop, cond, count_by, ap, ◌∙◌, sym, subst, refl, arith}
+use Rattle.std.proofs.lemmas.List.Sums.{sum_by-cons}
+use Rattle.mesh_types.specs.declared.hops.Jump.{Jump}
 use Rattle.nav_ground.specs.declared.history.Ground.{Ground}
 use Rattle.nav_desk.specs.BookState.{BookState}
 use Rattle.nav_desk.specs.BookState as books
@@ -9,6 +11,7 @@ use Rattle.nav_book.specs.declared.result.TileResult.{TileResult}
 use Rattle.nav_record.specs.declared.totals.Totals.{Totals}
 use Rattle.nav_record.specs.Texts.{done_text}
 use Rattle.nav_script.specs.declared.line.Line.{Line}
+use Rattle.nav_script.specs.Lanes.{is_jump}
 use Rattle.nav_script.specs.declared.script.Script.{Script}
 use Rattle.nav_steps.specs.Counts.{HasRisenAtMost}
 use Rattle.nav_play.specs.PlayRecord.{PlayState, AddsSome, IsSaid, IsTextFrom, opening_state, state_after, state_after_all}
@@ -19,10 +22,10 @@ use Rattle.nav_play.specs.Players.{jobs_of_held}
 use Rattle.nav_play.proofs.Held.{jobs_begun}
 use Rattle.nav_play.proofs.Runs.{IsUnderWay, begun, ended, goes_on, next_line, no_jobs, no_line, same_end, same_jobs}
 use Rattle.nav_play.proofs.Tallying.{IsTallied, counts, tally_begun, tally_goes_on}
-use Rattle.nav_play.proofs.Wholes.{lanes_stay, whole_stays, workers_stay}
+use Rattle.nav_play.proofs.Wholes.{jumps_grow, lanes_stay, whole_stays, workers_stay}
 
 -- the play is under way with its text and its totals, leads to the end, is still on its ground, and the steps of the lines that are left
--- make up those that are due
+-- make up those that are due, as do their jumps
 pub record IsPlaying (first : PlayState) (lines : List Line) (done : ℕ) (state : PlayState) (text : List ℕ) (totals : Totals) (before after : ℕ) : Type 0 where
   pub way : IsUnderWay IsSaid first lines done state text
   pub tallied : IsTallied first lines done state totals
@@ -30,6 +33,7 @@ pub record IsPlaying (first : PlayState) (lines : List Line) (done : ℕ) (state
   pub whole : state.book.whole ≡ first.book.whole
   pub lanes : length state.adds ≡ length first.adds
   pub workers : length state.held ≡ length first.held
+  pub jumps : length state.jumps + count_by is_jump (drop done lines) ≡ length first.jumps + count_by is_jump lines
   pub steps : after + jobs_from state (drop done lines) ≡ before + jobs_from first lines
   pub least : before ≤ after
 
@@ -43,6 +47,7 @@ no_line_played first lines state text totals before after same empty none steps 
   whole = ap (λ (s : PlayState). s.book.whole) same;
   lanes = ap (λ (s : PlayState). length s.adds) same;
   workers = ap (λ (s : PlayState). length s.held) same;
+  jumps = ap (λ (s : PlayState). length s.jumps + count_by is_jump lines) same;
   steps = let jobs = ap (λ (s : PlayState). jobs_from s lines) same in omega (arith, steps, jobs);
   least = omega (arith, steps);
 }
@@ -67,6 +72,10 @@ one_line_played first lines items done state next text more totals counted befor
       whole = ap (λ (s : PlayState). s.book.whole) next_is ∙ whole_stays state this ∙ playing.whole;
       lanes = ap (λ (s : PlayState). length s.adds) next_is ∙ lanes_stay state this ∙ playing.lanes;
       workers = ap (λ (s : PlayState). length s.held) next_is ∙ workers_stay state this ∙ playing.workers;
+      jumps =
+          let more = ap (λ (s : PlayState). length s.jumps) next_is ∙ jumps_grow state this in
+          let parts = ap (count_by is_jump) left ∙ sum_by-cons (λ l. cond (is_jump l) 1 0) this (drop (done + 1) lines) in
+          omega (arith, more, parts, playing.jumps);
       steps = omega (arith, steps, playing.steps, same_jobs lines done state next this left next_is);
       least = omega (arith, steps, playing.least);
     }
@@ -143,12 +152,13 @@ are_totals first lines items done state text totals told before after playing sa
     })
 
 -- the state at the beginning
-pub begun_state : (script : Script) (book : BookState) (whole : Ground) (adds : List (List ℕ)) (workers : List (Option TileResult))
-    → book ≡ books.first_state whole → adds ≡ replicate script.lanes [] → workers ≡ replicate script.workers None
-    → ◌≡◌ {A = PlayState} (record { book = book; lane = 0; adds = adds; held = jobs_of_held workers }) (opening_state whole script.lanes script.workers)
-begun_state script book whole adds workers begins lanes none = λ i. record {
+pub begun_state : (script : Script) (book : BookState) (whole : Ground) (adds : List (List ℕ)) (workers : List (Option TileResult)) (jumps : List Jump)
+    → book ≡ books.first_state whole → adds ≡ replicate script.lanes [] → workers ≡ replicate script.workers None → jumps ≡ []
+    → ◌≡◌ {A = PlayState} (record { book = book; lane = 0; adds = adds; held = jobs_of_held workers; jumps = jumps }) (opening_state whole script.lanes script.workers)
+begun_state script book whole adds workers jumps begins lanes none bare = λ i. record {
   book = begins i;
   lane = 0;
   adds = lanes i;
   held = jobs_begun workers script.workers none i;
+  jumps = bare i;
 }

@@ -1,5 +1,5 @@
--- That no line changes the ground, the number of lanes or the number of workers.
-use Rattle.std.proofs.Common.{◌≡◌, Bool, true, false, ℕ, Option, Some, None, refl}
+-- That no line changes the ground, the number of lanes or the number of workers, and that a `jump` line adds one jump.
+use Rattle.std.proofs.Common.{◌≡◌, Bool, true, false, cond, ℕ, ◌+◌, [], ◌∷◌, Option, Some, None, refl, length-append}
 use Rattle.std.specs.Prelude.{if◌then◌else◌, length}
 use Rattle.std.proofs.lemmas.List.{length-replicate, length-set}
 use Rattle.nav_ground.specs.declared.history.Request.{Request}
@@ -7,10 +7,12 @@ use Rattle.nav_desk.specs.declared.answers.Job.{Job}
 use Rattle.nav_desk.specs.BookState.{BookState}
 use Rattle.nav_desk.specs.Steps.{after_request, is_full, requested}
 use Rattle.nav_script.specs.declared.line.Line.{Line}
-use Rattle.nav_script.specs.declared.line.Line.TheVariants.{Add, Remove, Undo, Settle, Claim, Back, Submit}
+use Rattle.nav_script.specs.declared.line.Line.TheVariants.{Add, Remove, Undo, Settle, Claim, Back, Submit, Jump}
+use Rattle.nav_script.specs.Lanes.{is_jump}
 use Rattle.nav_play.specs.Jobs.{book_after_back, book_after_claim, book_after_submit}
 use Rattle.nav_play.specs.PlayRecord.{PlayState, held_by, state_after}
 use Rattle.nav_book.proofs.Settled.{settled_whole}
+use Rattle.nav_play.proofs.Lists.{none_more}
 
 requested_whole : (book : BookState) (lane : ℕ) (request : Request) → (requested book lane request).whole ≡ book.whole
 requested_whole book lane request = by_case (is_full book)
@@ -51,3 +53,7 @@ workers_stay state (Claim worker) = length-set state.held worker _
 workers_stay state (Back worker) = length-set state.held worker None
 workers_stay state (Submit worker) = length-set state.held worker None
 workers_stay state _ = refl
+
+pub jumps_grow : (state : PlayState) (line : Line) → length (state_after state line).jumps ≡ length state.jumps + cond (is_jump line) 1 0
+jumps_grow state (Jump jump) = length-append state.jumps (jump ∷ [])
+jumps_grow state _ = none_more _

@@ -1,4 +1,5 @@
 pub mod Jobs
+pub mod Answering
 pub mod PlayRecord
 pub mod PlayTotals
 pub mod Tallies

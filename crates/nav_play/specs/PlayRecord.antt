@@ -1,6 +1,5 @@
 -- What a play of a script may write: line by line the answers of the book, and then how far the play came.
 use Rattle.std.specs.Prelude.{◌≡◌, ℕ, ◌-◌, List, [], ◌∷◌, ◌++◌, length, replicate, fold, slice_get, slice_set, get_or, unwrap_or, Option, None, Result, Ok, Err}
-use Rattle.nav_base.specs.declared.answers.Question.{Question}
 use Rattle.nav_ground.specs.declared.setting.Setting.{Setting}
 use Rattle.nav_ground.specs.declared.field.Field.{Field}
 use Rattle.nav_ground.specs.declared.history.Ground.{Ground}
@@ -8,38 +7,39 @@ use Rattle.nav_ground.specs.declared.history.Reply.{Reply}
 use Rattle.nav_ground.specs.declared.history.Reply.TheVariants.{Added, Removed, Full, Dead}
 use Rattle.nav_ground.specs.declared.history.Request.{Request}
 use Rattle.nav_ground.specs.declared.history.Request.TheVariants as requests
-use Rattle.mesh_types.specs.declared.answers.Answer.{Answer}
-use Rattle.mesh_types.specs.Right.{IsRight}
+use Rattle.mesh_types.specs.declared.hops.Jump as jumps
 use Rattle.nav_desk.specs.declared.answers.HistoryFull.{HistoryFull}
 use Rattle.nav_desk.specs.declared.answers.Job.{Job}
 use Rattle.nav_desk.specs.BookState.{BookState}
 use Rattle.nav_desk.specs.BookState as books
 use Rattle.nav_desk.specs.Steps.{after_aim, after_publish, publication, request_answer, requested}
 use Rattle.nav_book.specs.Openings.{ground_of}
-use Rattle.nav_book.specs.Results.{published_mesh}
 use Rattle.nav_book.specs.Settling.{after_settle}
 use Rattle.nav_record.specs.declared.step.StepAnswer.TheVariants as answers
-use Rattle.nav_record.specs.Texts.{reply_text, step_text, answer_text, done_text}
+use Rattle.nav_record.specs.Texts.{reply_text, step_text, done_text}
 use Rattle.nav_script.specs.declared.line.Line.{Line}
-use Rattle.nav_script.specs.declared.line.Line.TheVariants.{Lane, Ask, Add, Remove, Undo, Settle, Aim, Claim, Back, Submit, Publish}
+use Rattle.nav_script.specs.declared.line.Line.TheVariants.{Lane, Ask, Add, Remove, Undo, Settle, Aim, Claim, Back, Submit, Publish, Jump, Hop}
 use Rattle.nav_script.specs.declared.script.Script.{Script}
+use Rattle.nav_play.specs.Answering.{IsAnswered, IsHopAnswered}
 use Rattle.nav_play.specs.Jobs.{claim_said, held_after_claim, book_after_claim, back_said, book_after_back, submit_said, book_after_submit, publication_said}
 
 -- what stands between two lines: the book, the lane of the next request, for each lane the numbers that its add lines got, 0 where
--- nothing was added, and for each worker the job of the tile that it holds, if it holds one
+-- nothing was added, for each worker the job of the tile that it holds, if it holds one, and the jumps that were declared, in order
 pub record PlayState : Type 0 where
   pub book : BookState
   pub lane : ℕ
   pub adds : List (List ℕ)
   pub held : List (Option Job)
+  pub jumps : List jumps.Jump
 
--- a play begins with no history, in lane 0, and its workers hold nothing
+-- a play begins with no history, in lane 0, its workers hold nothing, and no jump is declared
 abbrev pub opening_state : Ground → ℕ → ℕ → PlayState
 opening_state whole lanes workers = record {
   book = books.first_state whole;
   lane = 0;
   adds = replicate lanes [];
   held = replicate workers None;
+  jumps = [];
 }
 
 -- what is written after a request that is answered so: the number of its entry and its reply, or that the history is full
@@ -83,12 +83,6 @@ drop_request state j = requests.Remove (number_in state.adds state.lane j)
 abbrev pub held_by : PlayState → ℕ → Option Job
 held_by state worker = get_or state.held worker None
 
--- what may be written after a question: an answer that is right in the published mesh, with the length that it was asked at
-pub record IsAnswered (book : BookState) (question : Question) (text : List ℕ) : Type 0 where
-  pub answer : Answer
-  pub right : IsRight (published_mesh book) question answer
-  pub written : text ≡ answer_text book.published answer
-
 -- what may be written after a line; only questions leave a choice
 abbrev pub IsSaid : PlayState → Line → List ℕ → Type 0
 IsSaid state (Lane lane) text = text ≡ []
@@ -102,6 +96,8 @@ IsSaid state (Claim worker) text = text ≡ step_text (claim_said state.book wor
 IsSaid state (Back worker) text = text ≡ step_text (back_said worker (held_by state worker))
 IsSaid state (Submit worker) text = text ≡ step_text (submit_said state.book worker (held_by state worker))
 IsSaid state Publish text = text ≡ step_text (publication_said (publication state.book))
+IsSaid state (Jump jump) text = text ≡ []
+IsSaid state (Hop from from_y to to_y) text = IsHopAnswered state.book state.jumps from from_y to to_y text
 
 -- the state after a line; a `settle` puts back the jobs of the tiles that workers hold with all others, so that no worker holds a tile
 abbrev pub state_after : PlayState → Line → PlayState
@@ -128,6 +124,8 @@ state_after state (Submit worker) = record state {
   held = slice_set state.held worker None;
 }
 state_after state Publish = record state { book = after_publish state.book }
+state_after state (Jump jump) = record state { jumps = state.jumps ++ jump ∷ [] }
+state_after state (Hop from from_y to to_y) = state
 
 -- the state after lines, one after another
 abbrev pub state_after_all : PlayState → List Line → PlayState

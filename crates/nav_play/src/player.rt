@@ -1,7 +1,9 @@
 //! A play under way.
 
 ghost use Rattle.std.specs.Prelude.{◌≡◌, ℕ, ◌+◌, ◌<◌, ◌++◌, IfOk, IsOkAnd, OnOk, length};
+ghost use Rattle.nav_base.specs.Point.{HasCoordinates};
 ghost use Rattle.nav_ground.specs.History.{IsRequest};
+ghost use Rattle.nav_ground.specs.Limits.{IsShape};
 ghost use Rattle.nav_play.specs.PlayRecord.{IsTextFrom, number_added, number_got, state_after_all};
 ghost use Rattle.nav_play.specs.PlayTotals.{AreTotalsFrom};
 ghost use Rattle.nav_play.specs.Players.{HasBegun, HasPlayed, HasRequested, IsPlayable, IsSteady, player_state};
@@ -11,6 +13,7 @@ ghost use Rattle.nav_query.specs.Questions.{IsAnswerable};
 ghost use Rattle.nav_record.specs.Texts.{step_text};
 ghost use Rattle.nav_script.specs.Limits.{IsScript};
 ghost use Rattle.nav_script.specs.declared.script.Way.TheVariants.{Play};
+ghost use Rattle.off_links.specs.Leaps.{HasJumpCoordinates};
 ghost use Rattle.nav_steps.specs.Counts.{HasRisenAtMost};
 
 use crate::lanes::Lanes;
@@ -18,23 +21,28 @@ use crate::run::{PlayText, Played};
 use crate::steps::{claim, publish, put_back, settle, submit};
 use crate::tally::count;
 use crate::workers::Workers;
-use nav_base::Question;
+use nav_base::{Point, Question};
 use nav_book::{Book, HistoryFull};
-use nav_ground::{Reply, Request};
-use nav_record::{StepAnswer, Totals, write_answer, write_done, write_reply, write_step};
+use nav_ground::{Reply, Request, Shape};
+use nav_record::{
+    StepAnswer, Totals, write_answer, write_done, write_hop, write_reply, write_step,
+};
 use nav_script::{Line, Script};
 use nav_steps::Steps;
+use off_links::{HopQuestion, Jump};
 use std::alloc::{AllocError, Global};
 use std::sync::Wait;
 use std::sync::ledger::Ledger;
 
-/// The book, the lane of the next request, what the add lines of each lane got, what the workers hold, the totals of what `path` lines were
-/// answered so far, and the text so far. It is not `Drop`, since its book is not: `end` ends it.
+/// The book, the lane of the next request, what the add lines of each lane got, what the workers hold, the jumps so far as part of the last
+/// question for a hop walk, the totals of what `path` lines were answered so far, and the text so far. It is not `Drop`, since its book is
+/// not: `end` ends it.
 pub(crate) struct Player {
     pub(crate) book: Book,
     pub(crate) lane: u32,
     pub(crate) adds: Lanes,
     pub(crate) workers: Workers,
+    pub(crate) hop: HopQuestion,
     pub(crate) totals: Totals,
     pub(crate) text: Vec<u8>,
 }
@@ -75,6 +83,7 @@ impl Player {
             lane: _,
             adds: _,
             workers: _,
+            hop: _,
             totals: _,
             text,
         } = self;
@@ -96,6 +105,7 @@ impl Player {
             lane: _,
             adds: _,
             workers: _,
+            hop: _,
             totals: _,
             text,
         } = self;
@@ -111,7 +121,7 @@ impl Player {
         line: &Line,
         steps: &mut Steps<L>,
     ) -> Result<(), AllocError>
-        requires playable { IsPlayable (length self.old.adds) (length self.old.workers) line.now }
+        requires playable { IsPlayable (length self.old.adds) (length self.old.workers) (length self.old.hop.jumps) line.now }
         requires steady { IsSteady self.old }
         requires room { HasRoom self.old.totals }
         ensures played { OnOk result (HasPlayed line.now self.old self.new steps.old steps.new) }
@@ -123,23 +133,14 @@ impl Player {
                 Ok(())
             }
             Line::Ask(question) => self.ask(alloc, &question),
-            Line::Add(shape) => {
-                let number = self.request(Request::Add(shape))?;
-                self.adds.push(self.lane, number)
-            }
-            Line::Undo(j) => {
-                let dropped = self.adds.number(self.lane, j);
-                self.remove(dropped)
-            }
+            Line::Add(shape) => self.add(shape),
+            Line::Undo(j) => self.undo(j),
             Line::Remove(number) => self.remove(number),
             Line::Settle => {
                 let answer = settle(rt, alloc, &mut self.book, &mut self.workers, steps);
                 write_answered(&mut self.text, answer)
             }
-            Line::Aim => {
-                let k = self.book.aim();
-                write_step(&mut self.text, &StepAnswer::Aim { k })
-            }
+            Line::Aim => self.aim(),
             Line::Claim(worker) => {
                 let answer = claim(alloc, &mut self.book, &mut self.workers, worker, steps);
                 write_answered(&mut self.text, answer)
@@ -156,6 +157,13 @@ impl Player {
                 let answer = publish(rt, alloc, &mut self.book);
                 write_answered(&mut self.text, answer)
             }
+            Line::Jump(jump) => self.declare(jump),
+            Line::Hop {
+                from,
+                from_y,
+                to,
+                to_y,
+            } => self.ask_hop(alloc, from, from_y, to, to_y),
         }
     }
 
@@ -169,6 +177,67 @@ impl Player {
         let (k, answer) = self.book.ask(alloc, question)?;
         count(&mut self.totals, question, &answer);
         write_answer(&mut self.text, k, &answer)
+    }
+
+    /// Answers the question for a hop walk over links and the jumps so far from the published mesh.
+    fn ask_hop(
+        &mut self,
+        alloc: Global,
+        from: Point,
+        from_y: u32,
+        to: Point,
+        to_y: u32,
+    ) -> Result<(), AllocError>
+        requires from { HasCoordinates from }
+        requires to { HasCoordinates to }
+        requires steady { IsSteady self.old }
+        ensures { (s : ℕ) → OnOk result (HasPlayed (Line.Hop from from_y to to_y) self.old self.new s s) }
+    {
+        self.hop.from = from;
+        self.hop.from_y = from_y;
+        self.hop.to = to;
+        self.hop.to_y = to_y;
+        let (k, answer) = self.book.ask_by(alloc, &self.hop)?;
+        write_hop(&mut self.text, k, &answer)
+    }
+
+    /// A jump that is one more from now on. Nothing is written.
+    fn declare(&mut self, jump: Jump) -> Result<(), AllocError>
+        requires room { length self.old.hop.jumps < 256 }
+        requires points { HasJumpCoordinates jump }
+        requires steady { IsSteady self.old }
+        ensures { (s : ℕ) → OnOk result (HasPlayed (Line.Jump jump) self.old self.new s s) }
+    {
+        self.hop.jumps.push(jump)?;
+        Ok(())
+    }
+
+    /// Makes the whole history the target and writes its length.
+    fn aim(&mut self) -> Result<(), AllocError>
+        requires { IsSteady self.old }
+        ensures { (s : ℕ) → OnOk result (HasPlayed Line.Aim self.old self.new s s) }
+    {
+        let k = self.book.aim();
+        write_step(&mut self.text, &StepAnswer::Aim { k })
+    }
+
+    /// Makes a request of the current lane for an obstacle, and keeps its number.
+    fn add(&mut self, shape: Shape) -> Result<(), AllocError>
+        requires shape { IsShape shape }
+        requires steady { IsSteady self.old }
+        ensures { (s : ℕ) → OnOk result (HasPlayed (Line.Add shape) self.old self.new s s) }
+    {
+        let number = self.request(Request::Add(shape))?;
+        self.adds.push(self.lane, number)
+    }
+
+    /// Makes a request of the current lane that the obstacle of its j-th add line goes.
+    fn undo(&mut self, j: u32) -> Result<(), AllocError>
+        requires { IsSteady self.old }
+        ensures { (s : ℕ) → OnOk result (HasPlayed (Line.Undo j) self.old self.new s s) }
+    {
+        let dropped = self.adds.number(self.lane, j);
+        self.remove(dropped)
     }
 
     /// Makes a request of the current lane that the obstacle with a number goes.

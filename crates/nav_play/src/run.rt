@@ -21,6 +21,7 @@ use crate::tally::nothing;
 use crate::workers::Workers;
 use layer_cut::ground;
 use mesh_types::TileMesh;
+use nav_base::Point;
 use nav_book::Book;
 use nav_ground::{Field, Ground, Setting};
 use nav_list::Items;
@@ -28,6 +29,7 @@ use nav_record::Totals;
 use nav_script::Script;
 use nav_share::Shared;
 use nav_steps::Steps;
+use off_links::HopQuestion;
 use std::alloc::{AllocError, Global};
 use std::sync::ledger::Ledger;
 use std::sync::{Arc, Wait};
@@ -151,7 +153,22 @@ fn opened<R: Wait>(
         lane: 0,
         adds,
         workers,
+        hop: without_jumps(alloc),
         totals: nothing(),
         text: Vec::new(alloc),
     })
+}
+
+/// A question for a hop walk, from nowhere, with no jumps.
+fn without_jumps(alloc: Global) -> HopQuestion
+    ensures { result.jumps ≡ [] }
+{
+    let nowhere = Point { x: 0, z: 0 };
+    HopQuestion {
+        from: nowhere,
+        from_y: 0,
+        to: nowhere,
+        to_y: 0,
+        jumps: Items::new(alloc),
+    }
 }

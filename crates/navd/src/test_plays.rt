@@ -439,6 +439,63 @@ fn follows_rays(rt: HostRuntime) {
     check_plays(&rt, rt.alloc(), &RAYS);
 }
 
+/// The room with eight columns a side, in one tile.
+const HALL: SquareField = SquareField {
+    side: 8,
+    tile: 8,
+    ..ROOM
+};
+
+static HOPS: [Play; 4] = [
+    // Over links where they are cheaper, and over the jump where a row is closed.
+    (
+        ROOM,
+        "jump 40 24 10 40 56 10 50\nhop 24 24 10 72 72 10\nadd block 0 5 0 100 2 2\nsettle\n\
+            hop 24 24 10 72 72 10\n",
+        "hop 0 48 0 0 3 0\nlink 0 1 16 32 80 32\nlink 0 2 16 48 80 48\nlink 0 3 16 64 80 64\n\
+            entry 1 added\nsettled 1\nhop 1 66 0 0 2 0\njump 0 0 1\nlink 0 2 16 64 80 64\ndone 1 1\n",
+    ),
+    // With the row closed no polygon holds the point where the jump lands.
+    (
+        ROOM,
+        "jump 40 24 10 40 40 10 50\nhop 24 24 10 72 72 10\nadd block 0 5 0 100 2 2\nsettle\n\
+            hop 24 24 10 72 72 10\n",
+        "hop 0 48 0 0 3 0\nlink 0 1 16 32 80 32\nlink 0 2 16 48 80 48\nlink 0 3 16 64 80 64\n\
+            entry 1 added\nsettled 1\nnopath 1\ndone 1 1\n",
+    ),
+    // Turns behind a jump: their portals are counted with it.
+    (
+        HALL,
+        "add block 3 3 0 100 1 6\nsettle\njump 40 24 10 72 24 10 7\nadd block 5 5 0 100 1 5\n\
+            settle\nhop 40 104 10 104 24 10\n",
+        "entry 1 added\nsettled 1\nentry 2 added\nsettled 2\nhop 2 261 0 15 16 2\n\
+            link 0 12 48 96 16 96\nlink 0 9 48 80 16 80\nlink 0 6 48 64 16 64\nlink 0 3 48 48 16 48\n\
+            link 0 0 48 32 16 32\njump 0 0 1\nlink 0 4 64 32 80 32\nlink 0 7 64 48 80 48\n\
+            link 0 10 64 64 80 64\nlink 0 13 64 80 80 80\nlink 0 16 64 96 80 96\n\
+            link 0 14 112 96 96 96\nlink 0 11 112 80 96 80\nlink 0 8 112 64 96 64\n\
+            link 0 5 112 48 96 48\nlink 0 2 112 32 96 32\nturn 80 96 R 10\nturn 96 96 R 11\ndone 2 2\n",
+    ),
+    // Two jumps, of which the cheaper of two alike is taken, and none that is not joined; they lead one way.
+    (
+        HALL,
+        "add block 3 3 0 100 1 6\nadd block 5 5 0 100 1 6\nsettle\njump 40 24 10 72 24 10 7\n\
+            jump 72 104 10 104 104 10 9\njump 40 24 10 72 24 10 5\njump 999 24 10 72 24 10 1\n\
+            hop 40 104 10 104 24 10\nhop 104 24 10 40 104 10\nhop 0 0 10 104 24 10\n\
+            hop 104 24 10 0 0 10\n",
+        "entry 1 added\nentry 2 added\nsettled 2\nhop 2 254 0 15 17 0\nlink 0 12 48 96 16 96\n\
+            link 0 9 48 80 16 80\nlink 0 6 48 64 16 64\nlink 0 3 48 48 16 48\nlink 0 0 48 32 16 32\n\
+            jump 2 0 1\nlink 0 4 64 32 80 32\nlink 0 7 64 48 80 48\nlink 0 10 64 64 80 64\n\
+            link 0 13 64 80 80 80\nlink 0 16 64 96 80 96\njump 1 0 17\nlink 0 14 112 96 96 96\n\
+            link 0 11 112 80 96 80\nlink 0 8 112 64 96 64\nlink 0 5 112 48 96 48\n\
+            link 0 2 112 32 96 32\nnopath 2\nnostart 2\nnogoal 2\ndone 2 2\n",
+    ),
+];
+
+#[test]
+fn takes_jumps(rt: HostRuntime) {
+    check_plays(&rt, rt.alloc(), &HOPS);
+}
+
 #[test]
 fn leaves_what_was_written_of_an_answer(rt: HostRuntime) {
     let ran = played(&rt, rt.alloc(), &ROOM, ACROSS, (100, 0), (8, 2));

@@ -197,13 +197,16 @@ fn fills_a_history(rt: HostRuntime) {
     );
 }
 
+const ONE_JUMP: &str = "jump 40 24 10 40 56 10 50\n";
+
 /// The word, one more line than it takes, the line; the fault.
 type TooMany = (&'static str, u32, &'static str, &'static str);
 
-static TOO_MANY: [TooMany; 2] = [
+static TOO_MANY: [TooMany; 3] = [
     ("play", 300001, "settle\n", "fault 300046 11\n"),
     // A live run takes no more requests than a history has entries.
     ("live", 262145, "remove 1\n", "fault 262190 11\n"),
+    ("play", 257, ONE_JUMP, "fault 302 12\n"),
 ];
 
 fn check_too_many<R: Abort + Threads + Wait + Sync>(rt: &R, alloc: Global, rows: &[TooMany]) {
@@ -216,6 +219,23 @@ fn check_too_many<R: Abort + Threads + Wait + Sync>(rt: &R, alloc: Global, rows:
 #[test]
 fn takes_no_more_lines_than_it_may(rt: HostRuntime) {
     check_too_many(&rt, rt.alloc(), &TOO_MANY);
+}
+
+/// A walk over three links is cheaper than one over any of 256 jumps.
+#[test]
+fn takes_as_many_jumps_as_it_may(rt: HostRuntime) {
+    let mut script = lines(&rt, rt.alloc(), 256, ONE_JUMP);
+    let hop = "hop 24 24 10 72 72 10\n";
+    script.push_str(hop).expect(&rt, "memory");
+    let ran = played(
+        &rt,
+        rt.alloc(),
+        &ROOM,
+        script.as_str(),
+        (4096, 0),
+        (4096, 0),
+    );
+    check_ends(&rt, &ran, "hop 0 48 0 0 3 0\n", "done 0 0\n");
 }
 
 /// Words that are no form.

@@ -5,13 +5,15 @@ use Rattle.tile_build.specs.Meshes.{tiles_under}
 use Rattle.std.proofs.lemmas.List.{length-replicate}
 use Rattle.nav_desk.specs.BookState.{first_state}
 use Rattle.nav_book.specs.declared.result.TileResult.{TileResult}
+use Rattle.nav_play.proofs.Arms.{no_jumps}
 use Rattle.nav_play.proofs.Held.{held_none}
 use Rattle.nav_play.proofs.Playing.{begun_state}
 use Rattle.nav_play.proofs.run.opened.Goals as goal
 
 pub returns-clause-state : goal.returns-clause-state
 returns-clause-state g c =
-    begun_state c.args.script.now _ _ _ _ (c.in_ok-book.ensures.state ∙ ap first_state c.in_ok-new.ensures.ok) c.in_ok-adds.ensures c.in_ok-workers.ensures
+    begun_state c.args.script.now _ _ _ _ _ (c.in_ok-book.ensures.state ∙ ap first_state c.in_ok-new.ensures.ok) c.in_ok-adds.ensures c.in_ok-workers.ensures
+    c.without_jumps.ensures
 
 pub returns-clause-begun : goal.returns-clause-begun
 returns-clause-begun g c =
@@ -21,9 +23,11 @@ returns-clause-begun g c =
       workers = ap length c.in_ok-workers.ensures ∙ length-replicate {A = Option TileResult} c.args.script.now.workers None;
       text = c.new-4.ensures.items;
       totals = c.nothing.ensures;
+      jumps = c.without_jumps.ensures;
       steady = record {
         lane = omega (arith, lanes, c.requires.script.lanes_least);
         held = held_none _ _ c.args.script.now.workers c.in_ok-workers.ensures;
+        jumps = no_jumps _ c.without_jumps.ensures;
       };
     }
 

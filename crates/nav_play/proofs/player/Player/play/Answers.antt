@@ -17,10 +17,11 @@ loop-line-init g c = record {
 
 pub step-requires-clause-playable : goal.step-requires-clause-playable
 step-requires-clause-playable g c =
-    line_playable c.args.script.now _ _ _ _ _ c.requires.script c.as_slice-line-items.ensures c.loop-line-test.true
+    line_playable c.args.script.now _ _ _ _ _ _ c.requires.script c.as_slice-line-items.ensures c.loop-line-test.true
     (c.loop-line.invariant.playing.lanes ∙ c.requires.begun.lanes)
     (sym (length-map c.loop-line.self.workers (option_map job_built)) ∙ c.loop-line.invariant.playing.workers
     ∙ length-map c.args.self.now.workers (option_map job_built) ∙ c.requires.begun.workers)
+    (let none = ap length c.requires.begun.jumps in omega (arith, c.loop-line.invariant.playing.jumps, none, c.requires.script.jumps))
 
 pub step-requires-clause-room : goal.step-requires-clause-room
 step-requires-clause-room g c =

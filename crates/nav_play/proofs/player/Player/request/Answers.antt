@@ -7,11 +7,11 @@ returns-in_ok-write_reply-in-Ok-clause-number c = number_made c.args.self.now.bo
 
 pub returns-in_ok-write_reply-in-Ok-clause-requested : goal.returns-in_ok-write_reply-in-Ok-clause-requested
 returns-in_ok-write_reply-in-Ok-clause-requested c =
-    request_made c.args.self.now _ c.args.request _ (sym c.in-Ok.is ∙ c.request.ensures.answer) c.in_ok-write_reply-in-Ok.ensures.ok c.request.ensures.state refl refl refl refl
+    request_made c.args.self.now _ c.args.request _ (sym c.in-Ok.is ∙ c.request.ensures.answer) c.in_ok-write_reply-in-Ok.ensures.ok c.request.ensures.state refl refl refl refl refl
 
 pub returns-in_ok-write_step-in-Err-clause-number : goal.returns-in_ok-write_step-in-Err-clause-number
 returns-in_ok-write_step-in-Err-clause-number c = number_made c.args.self.now.book.state c.args.request _ _ (sym c.in-Err.is ∙ c.request.ensures.answer) refl
 
 pub returns-in_ok-write_step-in-Err-clause-requested : goal.returns-in_ok-write_step-in-Err-clause-requested
 returns-in_ok-write_step-in-Err-clause-requested c =
-    request_made c.args.self.now _ c.args.request _ (sym c.in-Err.is ∙ c.request.ensures.answer) c.in_ok-write_step-in-Err.ensures.ok c.request.ensures.state refl refl refl refl
+    request_made c.args.self.now _ c.args.request _ (sym c.in-Err.is ∙ c.request.ensures.answer) c.in_ok-write_step-in-Err.ensures.ok c.request.ensures.state refl refl refl refl refl
