@@ -3,10 +3,10 @@
 steps, hanging spans and low ceilings, for an agent with a radius; and LINES script lines that mix floors, paths, blocks, cylinders, removes
 and settles. MESH is strips or contours, with its ERROR. With WORKERS of at least 1 the script also has rays and the workers' single steps:
 aims, claims, submits, backs and publishes. With KIND `smooth` the field has few holes, areas in patches, and ramps between the two floors, so
-that regions are large and most questions are answered by paths. With AREAS `areas` two obstacles in five set an area. The same arguments give
-the same bytes.
+that regions are large and most questions are answered by paths. With AREAS `areas` two obstacles in five set an area. With HOPS `hops` one
+line in four declares a jump, up to 200 of them, or asks for a hop walk. The same arguments give the same bytes.
 
-usage: level_input.py [SIDE [LINES [SEED [MESH [ERROR [WORKERS [KIND [AREAS]]]]]]]]     (defaults 40 300 1 strips 169 0 rough none)
+usage: level_input.py [SIDE [LINES [SEED [MESH [ERROR [WORKERS [KIND [AREAS [HOPS]]]]]]]]]     (defaults 40 300 1 strips 169 0 rough none none)
 """
 import random
 import sys
@@ -18,6 +18,7 @@ mesh = sys.argv[4] if len(sys.argv) > 4 else "strips"
 error, workers = [int(word) for word in sys.argv[5:7]] + [169, 0][len(sys.argv[5:7]):]
 kind = sys.argv[7] if len(sys.argv) > 7 else "rough"
 areas = sys.argv[8:9] == ["areas"]
+hops = sys.argv[9:10] == ["hops"]
 
 
 def rough_column(x, z):
@@ -54,10 +55,13 @@ tile = random.choice([4, 7, 16, 48])
 climb, radius = (random.randrange(6), random.randrange(4)) if kind == "rough" else (random.choice([2, 3, 4]), random.choice([0, 0, 1, 2]))
 out = ["nav 1", f"size {side} {side - 3}", f"tile {tile}", f"agent 10 {climb} {radius}",
        f"error {error}", f"mesh {mesh}", f"limit {random.choice([3, 64])}"] + [["cost 5 3"], []][random.randrange(2)] + ["cost 20 7"] * areas
+floors = []
 for z in range(side - 3):
     for x in range(side):
         for bottom, top, area in (rough_column if kind == "rough" else smooth_column)(x, z):
             out.append(f"span {x} {z} {bottom} {top} {area}")
+            if area:
+                floors.append((x, z, top))
 out += ["end", f"script 2 {max(workers, 1)}"]
 adds = [0, 0]
 lane = 0
@@ -75,7 +79,27 @@ def add():
     return f"add area {random.choice([5, 20, 63])}" if areas and random.randrange(5) < 2 else "add"
 
 
+def places():
+    """Two places, as a path names them."""
+    points = [random.choice([1, 1, 4, 16]) * (random.randrange(1000)) % (16 * side) for _ in range(4)]
+    heights = [random.choice([10, 11, 27, 28]) for _ in range(2)]
+    return f"{points[0]} {points[1]} {heights[0]} {points[2]} {points[3]} {heights[1]}"
+
+
+def spots():
+    """Two places, as a jump and a hop name them: most lie on a floor."""
+    if random.randrange(8) == 0:
+        return places()
+    return " ".join(f"{16 * x + random.randrange(17)} {16 * z + random.randrange(17)} {top}" for x, z, top in random.choices(floors, k=2))
+
+
+declared = 0
 for _ in range(count):
+    if hops and random.randrange(4) == 0:
+        is_jump = declared < 200 and random.randrange(3) == 0
+        declared += is_jump
+        out.append(f"jump {spots()} {random.choice([1, 20, 200, 1000])}" if is_jump else f"hop {spots()}")
+        continue
     line = random.randrange(16 if workers else 11)
     if line == 0:
         x, z, y = random.randrange(side), random.randrange(side), random.choice([0, 20])
@@ -99,7 +123,5 @@ for _ in range(count):
     elif line < 8:
         out.append(f"floor {random.randrange(side + 2)} {random.randrange(side)}")
     else:
-        points = [random.choice([1, 1, 4, 16]) * (random.randrange(1000)) % (16 * side) for _ in range(4)]
-        heights = [random.choice([10, 11, 27, 28]) for _ in range(2)]
-        out.append(f"path {points[0]} {points[1]} {heights[0]} {points[2]} {points[3]} {heights[1]}")
+        out.append(f"path {places()}")
 sys.stdout.write("\n".join(out) + "\n")

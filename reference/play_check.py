@@ -1,10 +1,10 @@
 #!/usr/bin/env python3
-"""A plain second program for `navd play`: works an input out and compares what `navd` wrote for it, line by line.
-It finds the ground from the rules, over dictionaries of columns and cells with a queue for the clearance, tests every shape against every
-cell, and builds tiles by strips or by outlines with `contours.py`. Of a path it finds the least cost by a search of its own, and tests that
-the links are a walk of that cost and that the turns are taut, part by part of the rule. It follows a ray from polygon to polygon with reduced
-fractions and sorted lists. The published mesh is made from scratch from the shapes that were alive, and the book of tiles that await a build
-has nothing but lists of shapes. It shares nothing with `navd`, and is slow.
+"""A plain second program for `navd play`: works an input out and compares what `navd` wrote for it, line by line. It finds the ground from the
+rules, over dictionaries of columns and cells with a queue for the clearance, tests every shape against every cell, and builds tiles by
+strips or by outlines with `contours.py`. Of a path or a hop walk it finds the least cost by a search of its own, and tests that the links
+and jumps are a walk of that cost and that the turns of each stretch of links are taut, part by part of the rule. It follows a ray from
+polygon to polygon with reduced fractions and sorted lists. The published mesh is made from scratch from the shapes that were alive, and the
+book of tiles that await a build has nothing but lists of shapes. It shares nothing with `navd`, and is slow.
 
 usage: play_check.py INPUT OUTPUT [SUMMARY]      ends with 1 and says where, at the first line that is wrong
 With SUMMARY it also compares what `navd gen` wrote, of which INPUT is the made input, with what it counted.
@@ -120,6 +120,7 @@ published_length, published = 0, {}
 tile_count = -(-width // tile_side) * -(-depth // tile_side)
 stored, claimed, held = [[] for _ in range(tile_count)], set(), [None] * workers
 adds = [[] for _ in range(lanes)]
+jumps = []
 mesh_kept, built_kept = None, {}
 said = 0
 counts = {"path": 0, "nopath": 0, "nostart": 0, "nogoal": 0, "cost": 0}
@@ -321,7 +322,7 @@ def weight(mesh, a, b):
     return max(1, root if root * root == d else root + 1) * costs.get(mesh[0][b][1], 1)
 
 
-def least_cost(mesh, start, goal):
+def least_cost(mesh, start, goal, leaps):
     best, queue = {start: 0}, [(0, start)]
     while queue:
         cost, at = heapq.heappop(queue)
@@ -329,12 +330,21 @@ def least_cost(mesh, start, goal):
             return cost
         if cost > best[at]:
             continue
-        for _, to, _, _ in mesh[1][at]:
-            further = cost + weight(mesh, at, to)
-            if further < best.get(to, 10 ** 15):
-                best[to] = further
-                heapq.heappush(queue, (further, to))
+        for to, step in [(to, weight(mesh, at, to)) for _, to, _, _ in mesh[1][at]] + [leap[1:] for leap in leaps.get(at, [])]:
+            if cost + step < best.get(to, 10 ** 15):
+                best[to] = cost + step
+                heapq.heappush(queue, (cost + step, to))
     return None
+
+
+def leaps_now(mesh):
+    """The jumps that are joined, by the polygon that they leave: number, polygon entered, cost."""
+    leaps = {}
+    for number, (*ends, cost) in enumerate(jumps):
+        start, landing = locate(mesh, *ends[:3]), locate(mesh, *ends[3:])
+        if start is not None and landing is not None:
+            leaps.setdefault(start, []).append((number, landing, cost))
+    return leaps
 
 
 def orient(a, b, c):
@@ -392,44 +402,64 @@ def is_taut(start, portals, goal, turns):
     return None
 
 
-def check_path(words):
-    """Checks the answer to a path line."""
+def check_walk(words, leaps):
+    """Checks the answer to a path line, or to a hop line with these leaps: whether there is a walk and at which cost, each of its steps, and the
+    turns of each of its stretches, the runs of links between jumps."""
     global said
     mesh = mesh_now()
     x1, z1, y1, x2, z2, y2 = map(int, words[1:])
     start, goal = locate(mesh, x1, z1, y1), locate(mesh, x2, z2, y2)
-    cost = None if start is None or goal is None else least_cost(mesh, start, goal)
+    cost = None if start is None or goal is None else least_cost(mesh, start, goal, leaps)
     for name, is_so in (("nostart", start is None), ("nogoal", goal is None), ("nopath", cost is None)):
         if is_so:
-            counts[name] += 1
+            counts[name] += words[0] == "path"
             return expect(f"{name} {published_length}")
-    counts["path"] += 1
-    counts["cost"] += cost
+    if words[0] == "path":
+        counts["path"] += 1
+        counts["cost"] += cost
     head = told[said].split(" ") if said < len(told) else []
     if len(head) != 7 or not head[5].isdigit() or not head[6].isdigit():
-        fail(said, f"a path of cost {cost} is wanted")
+        fail(said, f"a {words[0]} of cost {cost} is wanted")
     steps, bends = int(head[5]), int(head[6])
-    expect(f"path {published_length} {cost} {start[0]} {start[1]} {steps} {bends}")
+    expect(f"{words[0]} {published_length} {cost} {start[0]} {start[1]} {steps} {bends}")
     at = said
-    here, spent, portals, turns = start, 0, [], []
+    here, spent, stretches = start, 0, [((x1, z1), [], at)]
     for i in range(at, at + steps):
-        n = list(map(int, told[i].split(" ")[1:]))
-        link = ((n[0], n[1]), (n[2], n[3]), (n[4], n[5]))
-        if not told[i].startswith("link ") or link not in [known[1:] for known in mesh[1][here]]:
-            fail(i, "no link of the polygon")
-        spent += weight(mesh, here, link[0])
-        here = link[0]
-        portals.append(link[1:])
+        kind, *n = told[i].split(" ")
+        n = list(map(int, n))
+        if kind == "link":
+            link = ((n[0], n[1]), (n[2], n[3]), (n[4], n[5]))
+            if link not in [known[1:] for known in mesh[1][here]]:
+                fail(i, "no link of the polygon")
+            spent += weight(mesh, here, link[0])
+            here = link[0]
+            stretches[-1][1].append(link[1:])
+        else:
+            leap = [leap for leap in leaps.get(here, []) if leap[:2] == (n[0], (n[1], n[2]))]
+            if kind != "jump" or not leap:
+                fail(i, "no link, and no jump from the polygon")
+            spent += leap[0][2]
+            here = leap[0][1]
+            stretches.append((tuple(jumps[n[0]][3:5]), [], i + 1))
     if here != goal or spent != cost:
-        fail(at, f"the links cost {spent} and end at {here}")
+        fail(at, f"the steps cost {spent} and end at {here}")
+    turns = []
     for i in range(at + steps, at + steps + bends):
         kind, x, z, side, place = told[i].split(" ")
         if kind != "turn":
             fail(i, "no turn")
         turns.append(((int(x), int(z)), side, int(place)))
-    wrong = is_taut((x1, z1), portals, (x2, z2), turns)
-    if wrong:
-        fail(at - 1, f"not taut: {wrong}")
+    ends = [tuple(jumps[int(told[first - 1].split(" ")[1])][:2]) for _, _, first in stretches[1:]] + [(x2, z2)]
+    for (begin, portals, first), end in zip(stretches, ends):
+        own = 0
+        while own < len(turns) and turns[own][2] < first - at + len(portals):
+            own += 1
+        wrong = is_taut(begin, portals, end, [(point, side, place - (first - at)) for point, side, place in turns[:own]])
+        if wrong:
+            fail(at - 1, f"not taut: {wrong}")
+        turns = turns[own:]
+    if turns:
+        fail(at - 1, "a turn at no portal")
     said = at + steps + bends
 
 
@@ -503,7 +533,11 @@ for line in lines[at + 2:]:
         free = [cell for cell in kept.get((x, z), []) if not is_blocked(shapes, x, z, cell[0])]
         expect(f"floors {published_length} {len(free)}" + "".join(f" {cell[0]} {area_under(shapes, x, z, cell)}" for cell in free))
     elif words[0] == "path":
-        check_path(words)
+        check_walk(words, {})
+    elif words[0] == "jump":
+        jumps.append(tuple(map(int, words[1:])))
+    elif words[0] == "hop":
+        check_walk(words, leaps_now(mesh_now()))
     elif words[0] == "ray":
         check_ray(words)
 expect(f"done {published_length} {len(history)}")

@@ -82,11 +82,12 @@ def made_inputs():
 
 
 def random_levels():
-    """Rough and smooth levels by turns, as strips and by outlines, without workers and with them, some with obstacles that set areas."""
+    """Rough and smooth levels by turns, as strips and by outlines, without workers and with them, some with obstacles that set areas, some with
+    jumps and hop walks."""
     for n in range(seed, seed + levels):
         mesh = ("strips", "contours")[n % 2]
         words = [(20, 40, 56)[n % 3], 120, n, mesh, (0, 49, 169, 400)[n % 4], (0, 3)[n // 2 % 2], ("rough", "smooth")[n // 4 % 2]]
-        words += ["areas"] if n % 5 < 2 else []
+        words += ["areas" if n % 5 < 2 else "none", "hops" if n % 3 == 1 else "none"]
         play("level " + " ".join(map(str, words)), made("level_input.py", *words))
 
 
