@@ -17,6 +17,7 @@ LINES = {
     "gate": ("stroke:#d55e00;stroke-linecap:round", 3.2),
     "halo": ("fill:none;stroke:#fff;stroke-linejoin:round", 6),
     "path": ("fill:none;stroke:#0072b2;stroke-linejoin:round", 3),
+    "jump": ("fill:none;stroke:#cc79a7;stroke-dasharray:7 3", 3),
     "ray": ("fill:none;stroke:#000;stroke-dasharray:2 4", 2),
     "wall": ("stroke:#d55e00", 5),
     "none": ("fill:none;stroke:#000;stroke-dasharray:8 5", 1.4),
@@ -43,10 +44,11 @@ def show(number):
 class Drawing:
     """Draws the scenes of one input: heights and areas have the same colours in all of them."""
 
-    def __init__(self, scenes, floors=None, polygons=True):
+    def __init__(self, scenes, floors=None, polygons=True, jumps=()):
         self.depth = scenes[0].depth
         self.width = scenes[0].width
         self.floors = floors
+        self.jumps = jumps
         self.polygons = polygons
         heights = {cell[2] for scene in scenes for tile in scene.tiles for cell in tile.cells}
         self.heights = sorted(height for height in heights if self.is_shown(height, height))
@@ -163,13 +165,13 @@ class Drawing:
         return shape if self.is_shown(low, high) else ""
 
     def question(self, line, scene, size):
-        """A path with its corridor and its turns, or a ray with its wall, as the line was answered; `size` is that of its marks."""
+        """A path or a hop walk with its corridor and its turns, or a ray with its wall, as the line was answered; `size` is that of its marks."""
         numbers = [int(word) for word in line.words[1:]]
         start = numbers[0:2]
         goal = numbers[3:5]
         kind = line.answer[0][0]
-        if line.words[0] == "path" and kind == "path":
-            parts = self.path(line, scene, start, goal, size)
+        if line.words[0] == kind and kind in ("path", "hop"):
+            parts = self.walk(line, scene, start, goal, size)
         elif kind == "reached":
             parts = [self.line("halo", start, goal), self.line("ray", start, goal)]
         elif kind == "wall":
@@ -187,25 +189,34 @@ class Drawing:
     def line(self, name, start, goal):
         return f'<path class="{name}" d="M{self.sixteenths(start)}L{self.sixteenths(goal)}"/>'
 
-    def path(self, line, scene, start, goal, size):
+    def walk(self, line, scene, start, goal, size):
+        """The polygons and portals of a path or a hop walk, its jumps, and its line, stretch by stretch between them."""
         first = line.answer[0]
         count = int(first[5])
-        links = [[int(word) for word in row[1:]] for row in line.answer[1 : 1 + count]]
-        turns = [row[1:] for row in line.answer[1 + count :]]
-        corridor = [(int(first[3]), int(first[4]))] + [(link[0], link[1]) for link in links]
-        parts = []
-        for tile, index in corridor:
-            points = self.corners(scene.tiles[tile].polygons[index])
+        steps = line.answer[1 : 1 + count]
+        turns = line.answer[1 + count :]
+        parts, gates, stretches = [], [], [[start]]
+        for tile, index in [first[3:5]] + [row[1:3] if row[0] == "link" else row[2:4] for row in steps]:
+            points = self.corners(scene.tiles[int(tile)].polygons[int(index)])
             parts.append(f'<polygon class="in" points="{points}"/>')
-        for link in links:
-            parts.append(self.line("gate", link[2:4], link[4:6]))
-        places = [start] + [(int(turn[0]), int(turn[1])) for turn in turns] + [goal]
-        course = "L".join(self.sixteenths(place) for place in places)
-        parts += [f'<path class="halo" d="M{course}"/>', f'<path class="path" d="M{course}"/>']
-        for turn in turns:
-            x, y = self.sixteenths((int(turn[0]), int(turn[1]))).split(" ")
-            side = "left" if turn[2] == "L" else "right"
-            parts.append(f'<circle class="turn" cx="{x}" cy="{y}" r="{show(size * 0.8)}"><title>turn at the {side} end of portal {turn[3]}</title></circle>')
+        for place, row in enumerate(steps):
+            numbers = [int(word) for word in row[1:]]
+            if row[0] == "link":
+                gates.append(self.line("gate", numbers[2:4], numbers[4:6]))
+                stretches[-1] += [(int(turn[1]), int(turn[2])) for turn in turns if int(turn[4]) == place]
+            else:
+                leaves, lands = self.jumps[numbers[0]]
+                stretches[-1].append(leaves)
+                stretches.append([lands])
+        stretches[-1].append(goal)
+        courses = ["L".join(self.sixteenths(place) for place in stretch) for stretch in stretches]
+        parts += gates
+        parts += [f'<path class="{name}" d="M{course}"/>' for name in ("halo", "path") for course in courses]
+        parts += [self.line("jump", before[-1], after[0]) for before, after in zip(stretches, stretches[1:])]
+        for _, x, z, end, place in turns:
+            x, y = self.sixteenths((int(x), int(z))).split(" ")
+            side = "left" if end == "L" else "right"
+            parts.append(f'<circle class="turn" cx="{x}" cy="{y}" r="{show(size * 0.8)}"><title>turn at the {side} end of portal {place}</title></circle>')
         return parts
 
     def ray_to_wall(self, line, start, goal):

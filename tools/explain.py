@@ -25,7 +25,8 @@ KINDS = {
     8: ("Line", "the line has none of the forms of a script line; its words are separated by one space each, and its numbers spelled without sign and leading zero"),
     9: ("Lane", "the lane or the worker of the line is not below its count in the line `script`"),
     10: ("BeforeAdd", "the line takes away what the lane's J-th `add` line added, and fewer than J such lines of this lane stand before it"),
-    11: ("TooManyLines", "as many lines as a script may have stand before this one: 300000 behind `script`, or, for `live`, 65536 that add or take away"),
+    11: ("TooManyLines", "as many lines as a script may have stand before this one: 300000 behind `script`, or, for `live`, 262144 that add or take away"),
+    12: ("TooManyJumps", "256 `jump` lines stand before this one, as many as a script may have"),
 }
 
 # The forms of lines, with their limits.
@@ -54,6 +55,8 @@ FORMS = {
     "claim": "claim W, W below WORKERS",
     "back": "back W, W below WORKERS",
     "submit": "submit W, W below WORKERS",
+    "jump": "jump X Z Y X Z Y COST, X and Z at most 16384 (sixteenths of a cell), Y at most 8191, COST 1 to 1000000",
+    "hop": "hop X Z Y X Z Y, X and Z at most 16384 (sixteenths of a cell), Y at most 8191",
 }
 # What may follow the lines of a field, by their first words; behind `script` the lines of a script follow.
 AFTER = {
@@ -69,8 +72,8 @@ AFTER = {
     "span": ["span", "end"],
     "end": ["script"],
 }
-PLAYED = ["lane", "add", "remove", "drop", "floor", "path", "ray", "settle", "aim", "publish", "claim", "back", "submit"]
-LIVED = [word for word in PLAYED if word not in ("aim", "publish", "claim", "back", "submit")]
+PLAYED = ["lane", "add", "remove", "drop", "floor", "path", "ray", "settle", "aim", "publish", "claim", "back", "submit", "jump", "hop"]
+LIVED = [word for word in PLAYED if word not in ("aim", "publish", "claim", "back", "submit", "jump", "hop")]
 
 
 def first_word(line):

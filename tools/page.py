@@ -2,7 +2,7 @@
 """Makes one HTML file of an input, to be opened by any browser from a disk, with no other file.
 
 It draws the mesh of every published length, with a slider over them; what changed is lit up. Drag and wheel move and zoom, a polygon
-under the mouse tells its tile, number, area and floors, and a click on a path or a ray of the script shows how it was answered, at the
+under the mouse tells its tile, number, area and floors, and a click on a path, a hop walk or a ray of the script shows how it was answered, at the
 length of its answer.
 """
 import argparse
@@ -40,12 +40,12 @@ def versions_of(play, scenes, drawing):
 
 
 def script_of(play, drawing, mark):
-    """The lines of the script, each with what it was answered; paths and rays with their drawing."""
+    """The lines of the script, each with what it was answered; paths, hop walks and rays with their drawing."""
     rows = []
     for line in play.said:
         answer = " ".join(line.answer[0]) if line.answer else ""
         row = {"text": f"{line.number}  {' '.join(line.words)}" + (f"\n      {answer}" if answer else ""), "length": line.length}
-        if line.words[0] in ("path", "ray"):
+        if line.words[0] in ("path", "hop", "ray"):
             row["drawing"] = drawing.question(line, play.scene(line.length), mark)
             row["told"] = f"line {line.number}, published length {line.length}\n" + "\n".join(" ".join(words) for words in line.answer[:12])
             row["told"] += "\n.." if len(line.answer) > 12 else ""
@@ -56,7 +56,7 @@ def script_of(play, drawing, mark):
 def page(play, title):
     """The page of a play as one text."""
     scenes = play.all_scenes()
-    drawing = Drawing(scenes)
+    drawing = Drawing(scenes, jumps=play.jumps())
     if not drawing.heights:
         raise Trouble("there is no free cell to draw")
     first = scenes[0]

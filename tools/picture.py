@@ -1,8 +1,9 @@
 #!/usr/bin/env python3
-"""Draws an input as a picture: the ground by height, tiles, polygons by area, obstacles, and the answers of its path and ray lines.
+"""Draws an input as a picture: the ground by height, tiles, polygons by area, obstacles, and the answers of its path, hop and ray
+lines.
 
 The picture is that of one published length: the last one, or another by --length. The ground is what is free: walls, ledges and what
-obstacles take away stay white. Paths and rays are those that were answered at that length.
+obstacles take away stay white. Paths, hop walks and rays are those that were answered at that length.
 """
 import argparse
 import sys
@@ -20,6 +21,7 @@ MARKS = {
     "in": ('<rect class="in" width="16" height="12"/>', "corridor"),
     "gate": ('<path class="gate" d="M1 6h14"/>', "portal"),
     "turn": ('<circle class="turn" cx="8" cy="6" r="5"/>', "turn"),
+    "jump": ('<path class="jump" d="M0 6h16"/>', "jump"),
     "ray": ('<path class="ray" d="M0 6h16"/>', "ray"),
     "wall": ('<path class="wall" d="M0 6h16"/>', "wall it meets"),
     "none": ('<path class="none" d="M0 6h16"/>', "not reached"),
@@ -66,7 +68,7 @@ def legend(drawing, top, cell, body, title):
 def draw(play, length, floors, polygons):
     """The picture of a published length as one text of SVG."""
     scene = play.scene(length) if length is not None else play.last
-    drawing = Drawing([scene], floors, polygons)
+    drawing = Drawing([scene], floors, polygons, play.jumps())
     if not drawing.heights:
         raise Trouble("there is no free cell to draw" + (f" between the floors {floors[0]} and {floors[1]}" if floors else ""))
     cell = cell_pixels(scene.width, scene.depth)

@@ -12,8 +12,8 @@ from inputs import HERE, Trouble, read_input
 
 PROGRAM = os.path.join(HERE, "..", "crates", "navd_scene", "out", "navd_scene")
 # Script lines that are answered by a question's answer, and those that are answered by nothing.
-QUESTIONS = ("path", "ray", "floor")
-SILENT = ("lane",)
+QUESTIONS = ("path", "ray", "floor", "hop")
+SILENT = ("lane", "jump")
 
 
 @dataclass
@@ -114,7 +114,7 @@ def answers(lines, start, out):
     for number, line in enumerate(lines[start + 1 :], start + 2):
         words = line.decode("ascii").split(" ")
         count = 0 if words[0] in SILENT else 1
-        if words[0] == "path" and out[place].startswith("path "):
+        if words[0] in ("path", "hop") and out[place].startswith(f"{words[0]} "):
             first = out[place].split(" ")
             count += int(first[5]) + int(first[6])
         answer = [row.split(" ") for row in out[place : place + count]]
@@ -234,5 +234,10 @@ class Play:
             return list(pool.map(self.scene, lengths))
 
     def questions(self, length=None):
-        """The lines `path` and `ray` that were answered as published for so many entries, or for any."""
-        return [line for line in self.said if line.words[0] in ("path", "ray") and length in (None, line.length)]
+        """The lines `path`, `hop` and `ray` that were answered as published for so many entries, or for any."""
+        return [line for line in self.said if line.words[0] in ("path", "hop", "ray") and length in (None, line.length)]
+
+    def jumps(self):
+        """The jumps that are declared, each as its two points, in sixteenths of a cell."""
+        numbers = [[int(word) for word in line.words[1:]] for line in self.said if line.words[0] == "jump"]
+        return [(tuple(n[0:2]), tuple(n[3:5])) for n in numbers]

@@ -31,6 +31,7 @@ ROWS = [
     (8, [*SCRIPT, "jump"], 11, "none of the forms of a script line", "settle"),
     (9, [*SCRIPT, "lane 1"], 11, "not below its count", "lane I, I below LANES"),
     (10, [*SCRIPT, "drop 1"], 11, "fewer than J such lines", "drop J"),
+    (12, [*SCRIPT, *["jump 0 0 10 0 0 10 1"] * 257], 267, "256 `jump` lines stand before", "jump X Z Y"),
 ]
 # Kinds whose inputs are too long to be made here: the fault is given.
 GIVEN = [(6, 8, "2000000 spans stand before"), (11, 11, "300000 behind `script`")]
