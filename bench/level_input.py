@@ -2,9 +2,10 @@
 """Writes an input for `navd play` to standard output: a rough field of SIDE by SIDE columns with two floors, cut into tiles, with holes,
 steps, hanging spans and low ceilings, for an agent with a radius; and LINES script lines that mix floors, paths, blocks, cylinders, removes
 and settles. MESH is strips or contours, with its ERROR. With WORKERS of at least 1 the script also has rays and the workers' single steps:
-aims, claims, submits, backs and publishes. With KIND `smooth` the field has few holes, areas in patches, and ramps between the two floors, so
-that regions are large and most questions are answered by paths. With AREAS `areas` two obstacles in five set an area. With HOPS `hops` one
-line in four declares a jump, up to 200 of them, or asks for a hop walk. The same arguments give the same bytes.
+aims, claims, submits, backs and publishes. With KIND `smooth` the field has few holes, areas in patches, and ramps between the two floors,
+so that regions are large and most questions are answered by paths. With AREAS `areas` two obstacles in five set an area. With HOPS `hops`
+the script begins with 60 jumps, and one line in four asks for a hop walk or declares a further jump, up to 256. The same arguments give the
+same bytes.
 
 usage: level_input.py [SIDE [LINES [SEED [MESH [ERROR [WORKERS [KIND [AREAS [HOPS]]]]]]]]]     (defaults 40 300 1 strips 169 0 rough none none)
 """
@@ -93,12 +94,17 @@ def spots():
     return " ".join(f"{16 * x + random.randrange(17)} {16 * z + random.randrange(17)} {top}" for x, z, top in random.choices(floors, k=2))
 
 
-declared = 0
+def jump():
+    return f"jump {spots()} {random.choice([1, 20, 200, 1000])}"
+
+
+jumps = 60 * hops
+out += [jump() for _ in range(jumps)]
 for _ in range(count):
     if hops and random.randrange(4) == 0:
-        is_jump = declared < 200 and random.randrange(3) == 0
-        declared += is_jump
-        out.append(f"jump {spots()} {random.choice([1, 20, 200, 1000])}" if is_jump else f"hop {spots()}")
+        is_hop = jumps == 256 or random.randrange(5) > 0
+        jumps += not is_hop
+        out.append(f"hop {spots()}" if is_hop else jump())
         continue
     line = random.randrange(16 if workers else 11)
     if line == 0:
