@@ -91,6 +91,15 @@ class Pictures(unittest.TestCase):
         self.assertNotEqual(drawn(POLYGON.sub("", text, count=1), 10), told(play.scene(1)))
         self.assertNotEqual(drawn(text, 10), told(play.scene(0)))
 
+    def test_hop_walks(self):
+        """Up the ladder of `ledge`: twelve portals, the jump from its foot to its head, and a line on each side of it, the second with two turns."""
+        text = picture(example("ledge"), "--length", 1)
+        self.assertEqual(len(re.findall(r'<path class="gate" d="M[^"]*L[^"]*"/>', text)), 12)
+        self.assertIn('<path class="jump" d="M5.75 8.5L7.25 8.5"/>', text)
+        self.assertIn('<path class="path" d="M2.5 2.5L5.75 8.5"/>', text)
+        self.assertIn('<path class="path" d="M7.25 8.5L10 7L10 6L9.375 2.5"/>', text)
+        self.assertEqual(len(re.findall(r'<circle class="turn" cx="10" cy="[67]"', text)), 2)
+
     def test_paths_and_rays(self):
         text = picture(example("detour"), "--length", 1)
         # Six polygons of the corridor and five portals; two turns, at the crate's right corners; a wall at z = 64.
