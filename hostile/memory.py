@@ -27,6 +27,8 @@ RUNS = {
     "play, one tile": (["play"], flat(6, 6, "10 4 0", "strips", 4, ["script 1 1", "floor 2 2", "add block 2 2 0 100 2 2", "settle", "floor 2 2"])),
     "play, workers and a path": (["play"], flat(8, 4, "10 4 0", "strips", 4, ["script 1 1", "add block 3 4 0 100 3 4", "aim", "publish", "claim 0",
         "submit 0", "publish", "settle", "publish", "path 40 56 10 88 72 10", "ray 24 24 10 88 72"])),
+    "play, jumps and a hop walk": (["play"], flat(8, 8, "10 4 0", "strips", 4, ["script 1 1", "add block 3 3 0 100 1 6", "settle", "jump 40 24 10 72 24 10 7",
+        "jump 999 24 10 72 24 10 1", "add block 5 5 0 100 1 5", "settle", "hop 40 104 10 104 24 10"])),
     "live, three lanes": (["live"], flat(96, 48, "10 4 2", "contours", 64, ["script 3 2", "lane 0", "add block 40 55 0 100 40 55", "drop 1", "settle",
         "path 160 160 10 1400 1400 10", "lane 1", "add cylinder 96 96 4 0 100", "settle", "drop 1", "lane 2", "path 160 160 10 1400 1400 10"])),
     "live, two small lanes": (["live"], flat(12, 4, "10 4 0", "strips", 8, ["script 2 3", "lane 0", "add block 3 4 0 30 7 8", "settle", "floor 3 7",
