@@ -1,6 +1,7 @@
 pub mod LaneRecords
 pub mod LaneTexts
 pub mod Roots
+pub mod Benches
 pub mod LiveBooks
 pub mod Lanes
 pub mod Acting

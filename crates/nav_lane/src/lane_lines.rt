@@ -11,7 +11,8 @@ ghost use Rattle.nav_lane.specs.Lanes.{BelongsTo, IsToldOf, KeepsLane};
 ghost use Rattle.nav_lane.specs.LaneSteps.{HasRun};
 ghost use Rattle.nav_lane.specs.Stops.{IsStoppedAt};
 
-use crate::book::{LiveAct, LiveBook, LiveDone};
+use crate::bench::Bench;
+use crate::book::{LiveAct, LiveDone};
 use crate::lane::{Lane, Stop};
 use crate::said::Said;
 use nav_base::Question;
@@ -20,7 +21,6 @@ use nav_script::Line;
 use nav_version::Told;
 use std::alloc::{AllocError, Global};
 use std::sync::Wait;
-use turn_lock::TurnLock;
 
 impl Lane {
     /// Puts a question to the published version, which goes on from all that the lane has seen. It takes no turn and does not wait.
@@ -36,27 +36,25 @@ impl Lane {
     }
 
     /// Makes a request while the lane has the turn, and keeps its number and reply.
-    pub(crate) fn request<R: Wait>(
+    pub(crate) fn request<R: Wait, G>(
         &mut self,
-        rt: &R,
-        alloc: Global,
-        lock: &TurnLock<LiveBook>,
+        bench: &Bench<'_, R, G>,
         line: Line,
         request: Request,
     ) -> Result<(), Stop>
-        requires own { BelongsTo lock.now self.old }
+        requires own { BelongsTo bench.now.lock.now self.old }
         requires request { request_of self.old.adds line ≡ Some request }
         requires limits { IsRequest request }
-        ensures of { IsOf lock.now self.new.pass }
+        ensures of { IsOf bench.now.lock.now self.new.pass }
         ensures named { self.new.pass.number ≡ self.old.pass.number }
-        ensures ran { (spoken : List Spoken) → KeepsLane lock.now spoken self.old → OnOk result (HasRun lock.now line spoken self.new) }
-        ensures full { IfErr result (IsStoppedAt lock.now line self.old.pass self.new.pass) }
+        ensures ran { (spoken : List Spoken) → KeepsLane bench.now.lock.now spoken self.old → OnOk result (HasRun bench.now.lock.now line spoken self.new) }
+        ensures full { IfErr result (IsStoppedAt bench.now.lock.now line self.old.pass self.new.pass) }
     {
         let act = LiveAct::Ask {
             lane: self.number,
             request,
         };
-        match lock.with(rt, alloc, &mut self.pass, act) {
+        match bench.lock.with(bench.rt, bench.alloc, &mut self.pass, act) {
             LiveDone::Asked { number, reply } => {
                 self.note(&line, &Said::Replied { number, reply })?;
                 Ok(())

@@ -2,63 +2,44 @@
 
 ghost use Rattle.std.specs.Prelude.{◌≡◌, List, [], All, IfErr, OnOk};
 ghost use Rattle.turn_lock.specs.Locks.{IsOf};
-ghost use Rattle.nav_ground.specs.Grounds.{IsGround};
 ghost use Rattle.nav_script.specs.declared.line.Line.TheVariants as lines;
 ghost use Rattle.nav_lane.specs.Acting.{HasSettled};
+ghost use Rattle.nav_lane.specs.Benches.{IsBench};
 ghost use Rattle.nav_lane.specs.LaneRecords.{Spoken};
 ghost use Rattle.nav_lane.specs.Lanes.{BelongsTo, KeepsLane};
 ghost use Rattle.nav_lane.specs.LaneSteps.{HasRun, HasRunAll, IsRunnable};
 ghost use Rattle.nav_lane.specs.Stops.{IsStopped, IsStoppedAt};
 
 use crate::acts::aim;
-use crate::bell::Bell;
-use crate::book::LiveBook;
+use crate::bench::Bench;
 use crate::builds::publish_all;
 use crate::lane::{Lane, Stop};
-use nav_ground::Ground;
 use nav_io::{Actor, Gate, Stage};
 use nav_script::Line;
 use nav_steps::Steps;
-use std::alloc::{AllocError, Global};
+use std::alloc::AllocError;
 use std::sync::Wait;
 use std::sync::ledger::Ledger;
-use turn_lock::TurnLock;
 
 impl Lane {
     /// Has everything built that was asked for, and published. It ends once it has seen a published length that covers the lane's entries and
     /// all that its eye has seen.
     fn settle<R: Wait, G: Gate, L: Ledger>(
         &mut self,
-        rt: &R,
-        alloc: Global,
-        lock: &TurnLock<LiveBook>,
-        bell: &Bell,
-        level: &Ground,
-        gate: &G,
+        bench: &Bench<'_, R, G>,
         steps: &mut Steps<L>,
     ) -> Result<(), AllocError>
-        requires own { BelongsTo lock.now self.old }
-        requires level { level.now ≡ lock.now.root.level }
-        requires rules { IsGround level.now }
-        ensures of { IsOf lock.now self.new.pass }
+        requires own { BelongsTo bench.now.lock.now self.old }
+        requires bench { IsBench bench.now.lock.now bench.now.level.now }
+        ensures of { IsOf bench.now.lock.now self.new.pass }
         ensures named { self.new.pass.number ≡ self.old.pass.number }
-        ensures ran { (spoken : List Spoken) → KeepsLane lock.now spoken self.old → OnOk result (HasRun lock.now lines.Settle spoken self.new) }
-        ensures settled { OnOk result (HasSettled lock.now self.old.pass self.new.pass) }
+        ensures ran { (spoken : List Spoken) → KeepsLane bench.now.lock.now spoken self.old → OnOk result (HasRun bench.now.lock.now lines.Settle spoken self.new) }
+        ensures settled { OnOk result (HasSettled bench.now.lock.now self.old.pass self.new.pass) }
     {
         let actor = Actor::Lane(self.number);
-        for _ in rt.forever() {
-            aim(rt, alloc, lock, bell, &mut self.pass);
-            let told = publish_all(
-                rt,
-                alloc,
-                lock,
-                bell,
-                level,
-                &mut self.pass,
-                actor,
-                gate,
-                steps,
-            )?;
+        for _ in bench.rt.forever() {
+            aim(bench, &mut self.pass);
+            let told = publish_all(bench, &mut self.pass, actor, steps)?;
             if self.settle_at(told)? {
                 return Ok(());
             }
@@ -69,41 +50,35 @@ impl Lane {
     /// Runs one line and keeps what it was answered. Where it cannot, the lane's pass is still one of the lock.
     pub(crate) fn run<R: Wait, G: Gate, L: Ledger>(
         &mut self,
-        rt: &R,
-        alloc: Global,
-        lock: &TurnLock<LiveBook>,
-        bell: &Bell,
-        level: &Ground,
-        gate: &G,
+        bench: &Bench<'_, R, G>,
         line: &Line,
         steps: &mut Steps<L>,
     ) -> Result<(), Stop>
-        requires own { BelongsTo lock.now self.old }
-        requires level { level.now ≡ lock.now.root.level }
-        requires rules { IsGround level.now }
+        requires own { BelongsTo bench.now.lock.now self.old }
+        requires bench { IsBench bench.now.lock.now bench.now.level.now }
         requires line { IsRunnable line.now }
-        ensures of { IsOf lock.now self.new.pass }
+        ensures of { IsOf bench.now.lock.now self.new.pass }
         ensures named { self.new.pass.number ≡ self.old.pass.number }
-        ensures ran { (spoken : List Spoken) → KeepsLane lock.now spoken self.old → OnOk result (HasRun lock.now line.now spoken self.new) }
-        ensures full { IfErr result (IsStoppedAt lock.now line.now self.old.pass self.new.pass) }
+        ensures ran { (spoken : List Spoken) → KeepsLane bench.now.lock.now spoken self.old → OnOk result (HasRun bench.now.lock.now line.now spoken self.new) }
+        ensures full { IfErr result (IsStoppedAt bench.now.lock.now line.now self.old.pass self.new.pass) }
     {
         let actor = Actor::Lane(self.number);
         match *line {
             Line::Ask(question) => {
-                gate.pass(actor, Stage::BeforeAsk);
-                self.ask(alloc, question)?;
-                gate.pass(actor, Stage::AfterAsk);
+                bench.gate.pass(actor, Stage::BeforeAsk);
+                self.ask(bench.alloc, question)?;
+                bench.gate.pass(actor, Stage::AfterAsk);
                 Ok(())
             }
             Line::Settle => {
-                self.settle(rt, alloc, lock, bell, level, gate, steps)?;
+                self.settle(bench, steps)?;
                 Ok(())
             }
             _ => match self.request_of(line) {
                 Some(request) => {
-                    gate.pass(actor, Stage::BeforeRequest);
-                    self.request(rt, alloc, lock, *line, request)?;
-                    gate.pass(actor, Stage::AfterRequest);
+                    bench.gate.pass(actor, Stage::BeforeRequest);
+                    self.request(bench, *line, request)?;
+                    bench.gate.pass(actor, Stage::AfterRequest);
                     Ok(())
                 }
                 None => unreachable!(),
@@ -114,26 +89,20 @@ impl Lane {
     /// Runs all lines of the lane one after another.
     fn run_lines<R: Wait, G: Gate, L: Ledger>(
         &mut self,
-        rt: &R,
-        alloc: Global,
-        lock: &TurnLock<LiveBook>,
-        bell: &Bell,
-        level: &Ground,
-        gate: &G,
+        bench: &Bench<'_, R, G>,
         list: &[Line],
         steps: &mut Steps<L>,
     ) -> Result<(), Stop>
-        requires keeps { KeepsLane lock.now [] self.old }
-        requires level { level.now ≡ lock.now.root.level }
-        requires rules { IsGround level.now }
+        requires keeps { KeepsLane bench.now.lock.now [] self.old }
+        requires bench { IsBench bench.now.lock.now bench.now.level.now }
         requires lines { All IsRunnable list.now }
-        ensures of { IsOf lock.now self.new.pass }
+        ensures of { IsOf bench.now.lock.now self.new.pass }
         ensures named { self.new.pass.number ≡ self.old.pass.number }
-        ensures ran { OnOk result (HasRunAll lock.now list.now self.new) }
+        ensures ran { OnOk result (HasRunAll bench.now.lock.now list.now self.new) }
         ensures full { IfErr result (IsStopped list.now self.new.pass) }
     {
         for line in list {
-            self.run(rt, alloc, lock, bell, level, gate, line, steps)?;
+            self.run(bench, line, steps)?;
         }
         Ok(())
     }
@@ -142,27 +111,21 @@ impl Lane {
     /// more entries; its pass is then still one of the lock.
     pub fn run_all<R: Wait, G: Gate, L: Ledger>(
         &mut self,
-        rt: &R,
-        alloc: Global,
-        lock: &TurnLock<LiveBook>,
-        bell: &Bell,
-        level: &Ground,
-        gate: &G,
+        bench: &Bench<'_, R, G>,
         list: &[Line],
         steps: &mut Steps<L>,
     ) -> Result<(), Stop>
-        requires keeps { KeepsLane lock.now [] self.old }
-        requires level { level.now ≡ lock.now.root.level }
-        requires rules { IsGround level.now }
+        requires keeps { KeepsLane bench.now.lock.now [] self.old }
+        requires bench { IsBench bench.now.lock.now bench.now.level.now }
         requires lines { All IsRunnable list.now }
-        ensures of { IsOf lock.now self.new.pass }
+        ensures of { IsOf bench.now.lock.now self.new.pass }
         ensures named { self.new.pass.number ≡ self.old.pass.number }
-        ensures ran { OnOk result (HasRunAll lock.now list.now self.new) }
+        ensures ran { OnOk result (HasRunAll bench.now.lock.now list.now self.new) }
         ensures full { IfErr result (IsStopped list.now self.new.pass) }
     {
-        bell.begin_lane();
-        let end = self.run_lines(rt, alloc, lock, bell, level, gate, list, steps);
-        bell.end_lane();
+        bench.bell.begin_lane();
+        let end = self.run_lines(bench, list, steps);
+        bench.bell.end_lane();
         end
     }
 }

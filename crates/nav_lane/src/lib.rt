@@ -8,6 +8,7 @@
 
 mod acts;
 mod bell;
+mod bench;
 mod book;
 mod builds;
 mod lane;
@@ -19,6 +20,7 @@ mod said;
 mod worker;
 
 pub use bell::Bell;
+pub use bench::Bench;
 pub use book::{LiveAct, LiveBook, LiveDone, LiveRoot};
 pub use lane::{Lane, Stop};
 pub use said::Said;

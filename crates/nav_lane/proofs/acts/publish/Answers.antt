@@ -8,10 +8,10 @@ use Rattle.nav_lane.proofs.PassLaws.{has_done, saw_others}
 use Rattle.nav_lane.proofs.acts.publish.Goals as goal
 
 pub returns-in-NotYet-clause-saw : goal.returns-in-NotYet-clause-saw
-returns-in-NotYet-clause-saw g c = saw_others c.args.lock.now c.args.pass.now c.with.new.pass _ _ refl c.with.ensures.of c.with.ensures.number c.with.ensures.acts
+returns-in-NotYet-clause-saw g c = saw_others c.args.bench.now.lock.now c.args.pass.now c.with.new.pass _ _ refl c.with.ensures.of c.with.ensures.number c.with.ensures.acts
 
 pub returns-in-NoMemory-clause-saw : goal.returns-in-NoMemory-clause-saw
-returns-in-NoMemory-clause-saw g c = saw_others c.args.lock.now c.args.pass.now c.with.new.pass _ _ refl c.with.ensures.of c.with.ensures.number c.with.ensures.acts
+returns-in-NoMemory-clause-saw g c = saw_others c.args.bench.now.lock.now c.args.pass.now c.with.new.pass _ _ refl c.with.ensures.of c.with.ensures.number c.with.ensures.acts
 
 is_published : (answer : Published) → ((k : ℕ) × (answer ≡ New k)) ⊎ ((k : ℕ) × (answer ≡ Same k)) → IsPublished answer
 is_published answer is = ⊎_elim (λ (k, same). subst IsPublished (sym same) tt) (λ (k, same). subst IsPublished (sym same) tt) is
@@ -21,10 +21,10 @@ returns-in-New g c = record {
   tried = record {
     answer = c.in-Published.answer;
     is = is_published c.in-Published.answer c.in-New.is;
-    done = has_done c.args.lock.now c.args.pass.now c.with.new.pass acts.Publish _ refl c.with.ensures.of c.with.ensures.number c.in-Published.ensures.acts;
+    done = has_done c.args.bench.now.lock.now c.args.pass.now c.with.new.pass acts.Publish _ refl c.with.ensures.of c.with.ensures.number c.in-Published.ensures.acts;
   };
   told = c.in-Published.ensures.acts.did.1.pair;
-  saw = saw_others c.args.lock.now c.args.pass.now c.with.new.pass _ _ refl c.with.ensures.of c.with.ensures.number c.with.ensures.acts;
+  saw = saw_others c.args.bench.now.lock.now c.args.pass.now c.with.new.pass _ _ refl c.with.ensures.of c.with.ensures.number c.with.ensures.acts;
 }
 
 pub returns-in-NotYet-clause-tried : goal.returns-in-NotYet-clause-tried
@@ -32,10 +32,10 @@ returns-in-NotYet-clause-tried g c = record {
   tile = c.in-NotYet.tile;
   told = c.in-Published.told;
   done =
-      subst (λ (answer : Published). HasDone c.args.lock.now acts.Publish (dones.Published answer c.in-Published.told) c.args.pass.now c.with.new.pass) c.in-NotYet.is
-      (has_done c.args.lock.now c.args.pass.now c.with.new.pass acts.Publish _ refl c.with.ensures.of c.with.ensures.number c.in-Published.ensures.acts);
+      subst (λ (answer : Published). HasDone c.args.bench.now.lock.now acts.Publish (dones.Published answer c.in-Published.told) c.args.pass.now c.with.new.pass) c.in-NotYet.is
+      (has_done c.args.bench.now.lock.now c.args.pass.now c.with.new.pass acts.Publish _ refl c.with.ensures.of c.with.ensures.number c.in-Published.ensures.acts);
 }
 
 pub returns-in-NoMemory-clause-tried : goal.returns-in-NoMemory-clause-tried
 returns-in-NoMemory-clause-tried g c =
-    has_done c.args.lock.now c.args.pass.now c.with.new.pass acts.Publish _ refl c.with.ensures.of c.with.ensures.number c.in-NoMemory.ensures.acts
+    has_done c.args.bench.now.lock.now c.args.pass.now c.with.new.pass acts.Publish _ refl c.with.ensures.of c.with.ensures.number c.in-NoMemory.ensures.acts

@@ -7,5 +7,5 @@ use Rattle.nav_lane.proofs.acts.put_back.Goals as goal
 
 pub returns : goal.returns
 returns g c =
-    subst (λ (job : Job). HasActed c.args.lock.now (acts.PutBack job) c.args.pass.now c.with-done.new.pass) c.held.view_is
-    (has_acted c.args.lock.now c.args.pass.now c.with-done.new.pass _ _ refl c.with-done.ensures.of c.with-done.ensures.number c.with-done.ensures.acts)
+    subst (λ (job : Job). HasActed c.args.bench.now.lock.now (acts.PutBack job) c.args.pass.now c.with-done.new.pass) c.held.view_is
+    (has_acted c.args.bench.now.lock.now c.args.pass.now c.with-done.new.pass _ _ refl c.with-done.ensures.of c.with-done.ensures.number c.with-done.ensures.acts)

@@ -7,6 +7,6 @@ use Rattle.nav_lane.proofs.acts.submit.Goals as goal
 
 pub returns : goal.returns
 returns g c =
-    subst (λ (job : Job). HasActed c.args.lock.now (acts.Submit (record { tile = job.tile; shapes = job.shapes; mesh = c.args.mesh })) c.args.pass.now c.with-done.new.pass)
+    subst (λ (job : Job). HasActed c.args.bench.now.lock.now (acts.Submit (record { tile = job.tile; shapes = job.shapes; mesh = c.args.mesh })) c.args.pass.now c.with-done.new.pass)
     c.held.view_is
-    (has_acted c.args.lock.now c.args.pass.now c.with-done.new.pass _ _ refl c.with-done.ensures.of c.with-done.ensures.number c.with-done.ensures.acts)
+    (has_acted c.args.bench.now.lock.now c.args.pass.now c.with-done.new.pass _ _ refl c.with-done.ensures.of c.with-done.ensures.number c.with-done.ensures.acts)

@@ -24,13 +24,13 @@ is_made root level job mesh same fits is = record {
 
 pub submit-requires-clause-made : goal.submit-requires-clause-made
 submit-requires-clause-made g c =
-    is_made c.args.lock.now.root c.args.level.now c.args.held c.in-Ok.mesh c.requires.level c.requires.job
-    (subst (λ (job : Job). c.in-Ok.mesh ≡ tile_under c.args.level.now job.tile job.shapes) c.job.ensures c.in-Ok.ensures.mesh)
+    is_made c.args.bench.now.lock.now.root c.args.bench.now.level.now c.args.held c.in-Ok.mesh c.requires.bench.level c.requires.job
+    (subst (λ (job : Job). c.in-Ok.mesh ≡ tile_under c.args.bench.now.level.now job.tile job.shapes) c.job.ensures c.in-Ok.ensures.mesh)
 
 pub returns-in-Ok-clause-handed : goal.returns-in-Ok-clause-handed
 returns-in-Ok-clause-handed g c =
-    subst (λ (mesh : TileMesh). HasActed c.args.lock.now (acts.Submit (record { tile = c.args.held.tile; shapes = c.args.held.shapes; mesh = mesh })) c.args.pass.now c.submit.new.pass)
-    (subst (λ (job : Job). c.in-Ok.mesh ≡ tile_under c.args.level.now job.tile job.shapes) c.job.ensures c.in-Ok.ensures.mesh) c.submit.ensures
+    subst (λ (mesh : TileMesh). HasActed c.args.bench.now.lock.now (acts.Submit (record { tile = c.args.held.tile; shapes = c.args.held.shapes; mesh = mesh })) c.args.pass.now c.submit.new.pass)
+    (subst (λ (job : Job). c.in-Ok.mesh ≡ tile_under c.args.bench.now.level.now job.tile job.shapes) c.job.ensures c.in-Ok.ensures.mesh) c.submit.ensures
 
 pub returns-in-Err-clause-back : goal.returns-in-Err-clause-back
 returns-in-Err-clause-back g c = search rules

@@ -3,4 +3,4 @@ use Rattle.nav_lane.proofs.builds.publish_all.Given as goal
 
 -- the pass has seen no further entry of its own since the call
 abbrev pub invariant-loop : goal.invariant-loop
-invariant-loop g l = SawOthers l.lock l.fn.pass l.pass
+invariant-loop g l = SawOthers l.bench.lock.now l.fn.pass l.pass

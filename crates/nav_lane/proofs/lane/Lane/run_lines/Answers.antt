@@ -10,19 +10,19 @@ loop-line-init g c = record { so_far = record { spoken = []; keeps = c.requires.
 pub loop-line-preserved : goal.loop-line-preserved
 loop-line-preserved g c = record {
   so_far =
-      one_line_more c.args.lock.now _ c.args.list.now c.loop-line.line-index _ c.loop-line.self c.run.new.self c.loop-line-test.true refl c.loop-line.invariant.so_far
+      one_line_more c.args.bench.now.lock.now _ c.args.list.now c.loop-line.line-index _ c.loop-line.self c.run.new.self c.loop-line-test.true refl c.loop-line.invariant.so_far
       c.in_ok-run.ensures.ran;
   named = c.run.ensures.named ∙ c.loop-line.invariant.named;
 }
 
 pub returns-clause-ran : goal.returns-clause-ran
 returns-clause-ran g c =
-    subst (λ lines. HasRunAll c.args.lock.now lines c.loop-line.self) (take_all c.loop-line.line-index c.args.list.now (omega (arith, c.loop-line-test.false)))
+    subst (λ lines. HasRunAll c.args.bench.now.lock.now lines c.loop-line.self) (take_all c.loop-line.line-index c.args.list.now (omega (arith, c.loop-line-test.false)))
     c.loop-line.invariant.so_far
 
 pub returns-in_err-run-clause-full : goal.returns-in_err-run-clause-full
 returns-in_err-run-clause-full g c =
     let stopped =
-    is_stopped c.args.lock.now c.args.list.now c.loop-line.line-index _ _ c.loop-line.self c.run.new.self.pass c.in_err-run.field-0.0 c.loop-line-test.true refl
+    is_stopped c.args.bench.now.lock.now c.args.list.now c.loop-line.line-index _ _ c.loop-line.self c.run.new.self.pass c.in_err-run.field-0.0 c.loop-line-test.true refl
     c.loop-line.invariant.so_far c.in_err-run.ensures.full in
     handed_on (IsStopped c.args.list.now c.run.new.self.pass) c.from_residual.result c.in_err-run.field-0.0 c.from_residual.ensures.1 stopped

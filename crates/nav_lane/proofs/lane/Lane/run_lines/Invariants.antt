@@ -5,6 +5,6 @@ use Rattle.nav_lane.proofs.lane.Lane.run_lines.Given as goal
 -- the lane has run the lines so far, and its pass has kept its number
 abbrev pub invariant-loop-line : goal.invariant-loop-line
 invariant-loop-line g l = record {
-  so_far : HasRunAll l.lock (take l.line-index l.list) l.self;
+  so_far : HasRunAll l.bench.lock.now (take l.line-index l.list) l.self;
   named : l.self.pass.number ≡ l.fn.self.pass.number;
 }

@@ -8,13 +8,13 @@ use Rattle.nav_lane.proofs.lane.Lane.settle.Goals as goal
 pub returns-then-branch-clause-ran : goal.returns-then-branch-clause-ran
 returns-then-branch-clause-ran g c =
     let between : Lane = record c.loop.self { pass = c.publish_all.new.pass } in
-    let waited = waited_more c.args.lock.now c.args.self.now c.loop.self c.aim.new.pass c.publish_all.new.pass c.loop.invariant c.aim.ensures.has.saw c.in_ok-told.ensures.saw in
+    let waited = waited_more c.args.bench.now.lock.now c.args.self.now c.loop.self c.aim.new.pass c.publish_all.new.pass c.loop.invariant c.aim.ensures.has.saw c.in_ok-told.ensures.saw in
     let ran = rw c.if-branch.true at c.in_ok-settle_at.ensures.ran in
-    λ spoken keeps. ran c.args.lock.now spoken (waits_on c.args.lock.now spoken c.args.self.now between keeps waited) c.in_ok-told.ensures.told
+    λ spoken keeps. ran c.args.bench.now.lock.now spoken (waits_on c.args.bench.now.lock.now spoken c.args.self.now between keeps waited) c.in_ok-told.ensures.told
 
 pub returns-then-branch-clause-settled : goal.returns-then-branch-clause-settled
 returns-then-branch-clause-settled g c =
-    let settled : HasSettled c.args.lock.now c.args.self.now.pass c.publish_all.new.pass = record {
+    let settled : HasSettled c.args.bench.now.lock.now c.args.self.now.pass c.publish_all.new.pass = record {
       start = c.loop.self.pass;
       waited = c.loop.invariant.saw;
       aimed = c.aim.new.pass;
@@ -22,10 +22,10 @@ returns-then-branch-clause-settled g c =
       told = c.in_ok-told.told;
       published = c.in_ok-told.ensures.published;
     } in
-    subst (HasSettled c.args.lock.now c.args.self.now.pass) (sym c.settle_at.ensures.pass) settled
+    subst (HasSettled c.args.bench.now.lock.now c.args.self.now.pass) (sym c.settle_at.ensures.pass) settled
 
 pub loop-preserved : goal.loop-preserved
 loop-preserved g c =
-    let waited = waited_more c.args.lock.now c.args.self.now c.loop.self c.aim.new.pass c.publish_all.new.pass c.loop.invariant c.aim.ensures.has.saw c.in_ok-told.ensures.saw in
+    let waited = waited_more c.args.bench.now.lock.now c.args.self.now c.loop.self c.aim.new.pass c.publish_all.new.pass c.loop.invariant c.aim.ensures.has.saw c.in_ok-told.ensures.saw in
     let same = rw c.if-branch.false at c.in_ok-settle_at.ensures.ran in
-    subst (HasWaited c.args.lock.now c.args.self.now) (sym same) waited
+    subst (HasWaited c.args.bench.now.lock.now c.args.self.now) (sym same) waited
