@@ -7,6 +7,7 @@ use std::alloc::Global;
 use turn_lock::TurnLock;
 
 /// What every actor of a run works with.
+#[derive(Drop)]
 pub struct Bench<'a, R, G> {
     /// Lets threads wait.
     pub rt: &'a R,

@@ -1,4 +1,5 @@
 pub mod Dealing
 pub mod LiveRecord
+pub mod Runs
 pub mod Joined
 pub mod Crews

@@ -4,10 +4,10 @@ ghost use Rattle.std.specs.Prelude.{◌≡◌, ◌+◌, ◌<◌, ◌^◌, ℕ, L
 ghost use Rattle.std.specs.List.{cons_option};
 ghost use Rattle.std.specs.Vec.Iter.{into_iter_items};
 ghost use Rattle.turn_lock.specs.Locks.{LockId, AreAll};
-ghost use Rattle.nav_ground.specs.Grounds.{IsGround};
 ghost use Rattle.nav_script.specs.declared.line.Line.{Line};
 ghost use Rattle.nav_script.specs.declared.script.Script.{Script};
 ghost use Rattle.nav_version.specs.Pairs.{EyeView};
+ghost use Rattle.nav_lane.specs.Benches.{IsBench};
 ghost use Rattle.nav_lane.specs.Roots.{RootView};
 ghost use Rattle.nav_lane.specs.declared.lane.Stop.TheVariants as stops;
 ghost use Rattle.nav_lane.specs.LaneSteps.{IsRunnable};
@@ -17,9 +17,8 @@ ghost use Rattle.nav_live.specs.Dealing.{dealt};
 
 use crate::crew::run_all;
 use crate::hand::{Crew, Hand, Left, Task};
-use nav_ground::Ground;
 use nav_io::Gate;
-use nav_lane::{Bell, Lane, LiveBook, Stop, Worker};
+use nav_lane::{Bench, Lane, LiveBook, Stop, Worker};
 use nav_list::Items;
 use nav_script::{Line, Script};
 use nav_version::Eye;
@@ -27,7 +26,7 @@ use std::alloc::{AllocError, Global};
 use std::sync::Wait;
 use std::thread::Threads;
 use std::vec::IntoIter;
-use turn_lock::{Pass, TurnLock};
+use turn_lock::Pass;
 
 /// How two have ended together: memory comes before a full history.
 fn worse(one: Result<(), Stop>, other: Result<(), Stop>) -> Result<(), Stop>
@@ -204,27 +203,21 @@ impl Crew {
     /// leave takes no memory.
     pub(crate) fn run<R: Threads + Wait + Sync, G: Gate + Sync>(
         self,
-        rt: &R,
-        alloc: Global,
-        lock: &TurnLock<LiveBook>,
-        bell: &Bell,
-        level: &Ground,
-        gate: &G,
+        bench: &Bench<'_, R, G>,
     ) -> (Left, Result<(), Stop>)
-        requires mustered { (script : Script) × AreMustered lock.now script self.hands.items }
+        requires mustered { (script : Script) × AreMustered bench.now.lock.now script self.hands.items }
         requires left { IsSpare (length self.hands.items) self.left }
-        requires level { level.now ≡ lock.now.root.level }
-        requires rules { IsGround level.now }
-        ensures all { AreAll lock.now result.0.passes.items }
-        ensures well { (script : Script) → AreMustered lock.now script self.hands.items → OnOk result.1 (HaveLeft lock.now script result.0) }
-        ensures full { (script : Script) → AreMustered lock.now script self.hands.items → result.1 ≡ Err stops.HistoryFull
+        requires bench { IsBench bench.now.lock.now bench.now.level.now }
+        ensures all { AreAll bench.now.lock.now result.0.passes.items }
+        ensures well { (script : Script) → AreMustered bench.now.lock.now script self.hands.items → OnOk result.1 (HaveLeft bench.now.lock.now script result.0) }
+        ensures full { (script : Script) → AreMustered bench.now.lock.now script self.hands.items → result.1 ≡ Err stops.HistoryFull
             → HaveMetFull script result.0.passes.items }
     {
         let Crew {
             mut hands,
             mut left,
         } = self;
-        run_all(rt, alloc, lock, bell, level, gate, &mut hands);
+        run_all(bench, &mut hands);
         let end = left.take_all(hands);
         (left, end)
     }

@@ -1,22 +1,19 @@
 //! A live run, from its ground and its script to its text.
 
-ghost use Rattle.std.specs.Prelude.{◌≡◌, ◌+◌, ◌*◌, [], length, replicate, All, Err, IfOk, OnOk};
+ghost use Rattle.std.specs.Prelude.{◌≡◌, ◌+◌, ◌*◌, Err, IfOk, OnOk};
 ghost use Rattle.turn_lock.specs.Locks.{LockId, AreAll};
 ghost use Rattle.nav_ground.specs.Limits.{IsSetting};
 ghost use Rattle.nav_ground.specs.Fields.{IsField};
-ghost use Rattle.nav_ground.specs.Grounds.{IsBuiltFor, IsGround, IsSized};
+ghost use Rattle.nav_ground.specs.Grounds.{IsBuiltFor, IsSized};
 ghost use Rattle.nav_ground.specs.Tiling.{tile_count};
 ghost use Rattle.nav_script.specs.Limits.{IsScript};
 ghost use Rattle.nav_script.specs.declared.script.Way.TheVariants.{Live};
-ghost use Rattle.nav_version.specs.Pairs.{eye_of};
-ghost use Rattle.nav_desk.specs.BookState.{first_state};
 ghost use Rattle.nav_book.specs.Openings.{ground_of};
 ghost use Rattle.nav_steps.specs.Counts.{HasRisenAtMost};
-ghost use Rattle.nav_lane.specs.LaneSteps.{IsRunnable};
 ghost use Rattle.nav_lane.specs.declared.lane.Stop.TheVariants as stops;
 ghost use Rattle.nav_live.specs.Crews.{HaveLeft, HaveMetFull, IsSpareCrew};
-ghost use Rattle.nav_live.specs.Dealing.{dealt};
 ghost use Rattle.nav_live.specs.LiveRecord.{LiveRecord};
+ghost use Rattle.nav_live.specs.Runs.{IsOpened, IsRun};
 
 use crate::closing::finish;
 use crate::deal::deal;
@@ -25,7 +22,7 @@ use layer_cut::ground;
 use nav_book::Book;
 use nav_ground::{Field, Ground, Setting};
 use nav_io::Gate;
-use nav_lane::{Bell, LiveBook, Stop};
+use nav_lane::{Bell, Bench, LiveBook, Stop};
 use nav_list::Items;
 use nav_script::{Line, Script};
 use nav_steps::Steps;
@@ -72,37 +69,55 @@ pub fn live<R: Threads + Wait + Sync, G: Gate + Sync, L: Ledger>(
     let level = Arc::new(alloc, level)?;
     let shown = Arc::try_clone(&level)?;
     let (book, eyes) = Book::begin(rt, alloc, level, tiles, script.lanes)?;
-    let bytes = run_over(rt, alloc, &shown, book, eyes, lists, script, gate, steps)?;
+    let run = Run {
+        rt,
+        alloc,
+        level: &shown,
+        script,
+        gate,
+    };
+    let bytes = run_over(&run, Opened { book, eyes, lists }, steps)?;
     Ok(LiveText { bytes })
 }
 
-/// Runs the actors of a script over a book that has no history yet, gives the text of the run, and ends the book.
-fn run_over<R: Threads + Wait + Sync, G: Gate + Sync, L: Ledger>(
-    rt: &R,
+/// What a run is of: the ground of its level, and its script; and what it runs with.
+#[derive(Drop)]
+struct Run<'a, R, G> {
+    rt: &'a R,
     alloc: Global,
-    level: &Ground,
+    level: &'a Ground,
+    script: &'a Script,
+    gate: &'a G,
+}
+
+/// A level that was opened for the lanes of a script: a book that has no history yet, and for each lane an eye and its lines.
+struct Opened {
     book: Book,
     eyes: Vec<Eye>,
     lists: Vec<Items<Line>>,
-    script: &Script,
-    gate: &G,
+}
+
+/// Runs the actors of a script over an opened level, gives the text of the run, and ends the book.
+fn run_over<R: Threads + Wait + Sync, G: Gate + Sync, L: Ledger>(
+    run: &Run<'_, R, G>,
+    opened: Opened,
     steps: &mut Steps<L>,
 ) -> Result<Vec<u8>, AllocError>
-    requires level { IsGround level.now }
-    requires script { IsScript Live script.now }
-    requires state { book.state ≡ first_state level.now }
-    requires eyes { eyes.items ≡ replicate script.now.lanes (eye_of book.pair level.now []) }
-    requires lists { lists.items ≡ dealt script.now }
-    requires runnable { All (λ list. All IsRunnable list) lists.items }
-    ensures text { IfOk result (λ text. LiveRecord level.now script.now text.items) }
-    ensures most { HasRisenAtMost (tile_count level.now.setting) steps.old steps.new }
+    requires run { IsRun run.now.level.now run.now.script.now }
+    requires opened { IsOpened run.now.level.now run.now.script.now opened }
+    ensures text { IfOk result (λ text. LiveRecord run.now.level.now run.now.script.now text.items) }
+    ensures most { HasRisenAtMost (tile_count run.now.level.now.setting) steps.old steps.new }
 {
-    match Crew::with_room(alloc, (script.lanes + script.workers) as usize) {
-        Ok(crew) => run_crew(
-            rt, alloc, level, book, eyes, crew, lists, script, gate, steps,
-        ),
+    let actors = run.script.lanes + run.script.workers;
+    match Crew::with_room(run.alloc, actors as usize) {
+        Ok(crew) => run_crew(run, opened, crew, steps),
         Err(refused) => {
-            book.end(rt);
+            let Opened {
+                book,
+                eyes: _,
+                lists: _,
+            } = opened;
+            book.end(run.rt);
             Err(refused)
         }
     }
@@ -110,39 +125,39 @@ fn run_over<R: Threads + Wait + Sync, G: Gate + Sync, L: Ledger>(
 
 /// The same with the room for the actors.
 fn run_crew<R: Threads + Wait + Sync, G: Gate + Sync, L: Ledger>(
-    rt: &R,
-    alloc: Global,
-    level: &Ground,
-    book: Book,
-    eyes: Vec<Eye>,
+    run: &Run<'_, R, G>,
+    opened: Opened,
     crew: Crew,
-    lists: Vec<Items<Line>>,
-    script: &Script,
-    gate: &G,
     steps: &mut Steps<L>,
 ) -> Result<Vec<u8>, AllocError>
-    requires level { IsGround level.now }
-    requires script { IsScript Live script.now }
-    requires state { book.state ≡ first_state level.now }
-    requires eyes { eyes.items ≡ replicate script.now.lanes (eye_of book.pair level.now []) }
-    requires room { IsSpareCrew (script.now.lanes + script.now.workers) crew }
-    requires lists { lists.items ≡ dealt script.now }
-    requires runnable { All (λ list. All IsRunnable list) lists.items }
-    ensures text { IfOk result (λ text. LiveRecord level.now script.now text.items) }
-    ensures most { HasRisenAtMost (tile_count level.now.setting) steps.old steps.new }
+    requires run { IsRun run.now.level.now run.now.script.now }
+    requires opened { IsOpened run.now.level.now run.now.script.now opened }
+    requires room { IsSpareCrew (run.now.script.now.lanes + run.now.script.now.workers) crew }
+    ensures text { IfOk result (λ text. LiveRecord run.now.level.now run.now.script.now text.items) }
+    ensures most { HasRisenAtMost (tile_count run.now.level.now.setting) steps.old steps.new }
 {
     let mut crew = crew;
-    let bell = Bell::new(script.lanes);
-    match TurnLock::new(alloc, LiveBook { book }, script.lanes + script.workers) {
+    let Opened { book, eyes, lists } = opened;
+    let bell = Bell::new(run.script.lanes);
+    let actors = run.script.lanes + run.script.workers;
+    match TurnLock::new(run.alloc, LiveBook { book }, actors) {
         Ok((lock, passes)) => {
-            crew.muster(alloc, script, passes, eyes, lists);
-            let (left, end) = crew.run(rt, alloc, &lock, &bell, level, gate);
-            end_run(rt, alloc, lock, left, end, script, steps)
+            crew.muster(run.alloc, run.script, passes, eyes, lists);
+            let bench = Bench {
+                rt: run.rt,
+                alloc: run.alloc,
+                lock: &lock,
+                bell: &bell,
+                level: run.level,
+                gate: run.gate,
+            };
+            let (left, end) = crew.run(&bench);
+            end_run(run, lock, left, end, steps)
         }
         Err((live, refused)) => {
             crew.discard();
             let LiveBook { book } = live;
-            book.end(rt);
+            book.end(run.rt);
             Err(refused)
         }
     }
@@ -150,20 +165,18 @@ fn run_crew<R: Threads + Wait + Sync, G: Gate + Sync, L: Ledger>(
 
 /// Closes the lock once all actors have ended, gives the text of the run, and ends the book. No lane of a live script has met a full
 /// history, since the lines of all lanes together make no more requests than a history has entries, and a lane that met one had a request left.
-fn end_run<R: Wait, L: Ledger>(
-    rt: &R,
-    alloc: Global,
+fn end_run<R: Wait, G, L: Ledger>(
+    run: &Run<'_, R, G>,
     lock: TurnLock<LiveBook>,
     left: Left,
     end: Result<(), Stop>,
-    script: &Script,
     steps: &mut Steps<L>,
 ) -> Result<Vec<u8>, AllocError>
-    requires script { IsScript Live script.now }
+    requires script { IsScript Live run.now.script.now }
     requires all { AreAll lock left.passes.items }
-    requires well { OnOk end (HaveLeft lock script.now left) }
-    requires full { end ≡ Err stops.HistoryFull → HaveMetFull script.now left.passes.items }
-    ensures text { IfOk result (λ text. LiveRecord lock.root.level script.now text.items) }
+    requires well { OnOk end (HaveLeft lock run.now.script.now left) }
+    requires full { end ≡ Err stops.HistoryFull → HaveMetFull run.now.script.now left.passes.items }
+    ensures text { IfOk result (λ text. LiveRecord lock.root.level run.now.script.now text.items) }
     ensures most { HasRisenAtMost (tile_count lock.root.level.setting) steps.old steps.new }
 {
     let Left {
@@ -173,12 +186,12 @@ fn end_run<R: Wait, L: Ledger>(
     } = left;
     let LiveBook { mut book } = lock.close(passes);
     let text = match end {
-        Ok(()) => finish(rt, alloc, &mut book, &mut eyes, texts, steps),
+        Ok(()) => finish(run.rt, run.alloc, &mut book, &mut eyes, texts, steps),
         Err(stop) => match stop {
             Stop::NoMemory => Err(AllocError),
             Stop::HistoryFull => unreachable!(),
         },
     };
-    book.end(rt);
+    book.end(run.rt);
     text
 }

@@ -8,23 +8,23 @@ use Rattle.nav_live.proofs.run.end_run.Goals.{in-Ok, in-Err+in-NoMemory}
 
 pub finish-text-requires-clause-pairs : goal.finish-text-requires-clause-pairs
 finish-text-requires-clause-pairs g c =
-    pairs_left c.args.lock c.args.script.now c.args.left c.close-book.result.book c.deref_mut.result.now (has_left c.args.end c.in-Ok.is c.requires.well)
+    pairs_left c.args.lock c.args.run.now.script.now c.args.left c.close-book.result.book c.deref_mut.result.now (has_left c.args.end c.in-Ok.is c.requires.well)
     c.close-book.ensures.root c.deref_mut.ensures.value
 
 pub unreachable-requires : goal.unreachable-requires
 unreachable-requires g c =
-    never_full c.args.lock c.args.script.now c.args.left.passes.items c.close-book.result.book.state.history c.requires.script
+    never_full c.args.lock c.args.run.now.script.now c.args.left.passes.items c.close-book.result.book.state.history c.requires.script
     (is_closed c.args.lock c.args.left.passes.items c.close-book.result.book.state.history c.close-book.ensures.legal c.close-book.ensures.extends
     c.close-book.ensures.made) (c.requires.full (c.in-Err.is ∙ ap Err c.in-HistoryFull.is))
 
 pub returns-clause-text : goal.returns-clause-text
 returns-clause-text g c =
     elim c.match-end.branch [
-      | in-Ok w ↦ subst (λ r. IfOk r (λ text. LiveRecord c.args.lock.root.level c.args.script.now text.items)) (sym w.text-is)
-          (record_of (λ text. text.items) w.finish-text.result c.args.lock c.args.script.now c.args.left c.close-book.result.book w.deref_mut.result.now
+      | in-Ok w ↦ subst (λ r. IfOk r (λ text. LiveRecord c.args.lock.root.level c.args.run.now.script.now text.items)) (sym w.text-is)
+          (record_of (λ text. text.items) w.finish-text.result c.args.lock c.args.run.now.script.now c.args.left c.close-book.result.book w.deref_mut.result.now
           c.args.left.texts.items (has_left c.args.end w.in-Ok.is c.requires.well)
           (is_closed c.args.lock c.args.left.passes.items c.close-book.result.book.state.history c.close-book.ensures.legal
           c.close-book.ensures.extends c.close-book.ensures.made) c.close-book.ensures.root w.deref_mut.ensures.value refl
           w.finish-text.ensures.text w.finish-text.ensures.seen)
-      | in-Err+in-NoMemory w ↦ subst (λ r. IfOk r (λ text. LiveRecord c.args.lock.root.level c.args.script.now text.items)) (sym w.text-is) tt
+      | in-Err+in-NoMemory w ↦ subst (λ r. IfOk r (λ text. LiveRecord c.args.lock.root.level c.args.run.now.script.now text.items)) (sym w.text-is) tt
     ]
