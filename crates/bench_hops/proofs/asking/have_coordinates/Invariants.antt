@@ -1,0 +1,8 @@
+-- The points of the jumps so far have coordinates.
+use Rattle.std.proofs.Common.{ℕ, ◌<◌, get_or}
+use Rattle.mesh_types.specs.Stretches.{some_jump}
+use Rattle.off_links.specs.Leaps.{HasJumpCoordinates}
+use Rattle.bench_hops.proofs.asking.have_coordinates.Given as goal
+
+abbrev pub invariant-loop-jump : goal.invariant-loop-jump
+invariant-loop-jump l = (k : ℕ) → k < l.jump-index → HasJumpCoordinates (get_or l.jumps k some_jump)
