@@ -1,3 +1,4 @@
 pub mod Rounds
 pub mod EdgeCounts
 pub mod EarEdges
+pub mod UnionEdges
