@@ -10,3 +10,6 @@ pub mod PlaceLaws
 pub mod SearchLaws
 pub mod RimLaws
 pub mod MeshLaws
+pub mod SoundParts
+pub mod DoorPairs
+pub mod LinkedTiles

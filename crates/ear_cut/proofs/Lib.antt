@@ -1,4 +1,0 @@
-pub mod Rounds
-pub mod EdgeCounts
-pub mod EarEdges
-pub mod UnionEdges

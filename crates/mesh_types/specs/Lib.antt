@@ -22,8 +22,10 @@ pub mod Hops
 pub mod Rings
 pub mod Simplified
 pub mod Choices
+pub mod Rounds
 pub mod Ears
 pub mod Merging
+pub mod Edges
 pub mod Contours
 pub mod ContourMeshes
 pub mod StripCover

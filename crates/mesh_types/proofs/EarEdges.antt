@@ -3,11 +3,11 @@
 -- The edges of the triangles so far and of what remains, together, change by an ear in two places alone: there is one more each way between the places
 -- before and behind the ear, between which there was none.
 use Rattle.std.proofs.Common.{◌≡◌, ℕ, zero, suc, ◌+◌, ◌-◌, ◌<◌, ◌≤◌, pos, Bool, true, false, cond, List, [], ◌∷◌, length, get_or, map, Option, refl, sym, ap, subst, ◌∙◌, inl, inr, arith}
-use Rattle.std.specs.Prelude.{None, Some, Ok, Err, Result, slice_index, ◌==◌, ◌&&◌, if◌then◌else◌}
+use Rattle.std.specs.Prelude.{None, Some, Ok, Err, Result, slice_index, ◌==◌, if◌then◌else◌}
 use Rattle.std.specs.Int.Signed.{lt_z}
 use Rattle.std.specs.Option.{option_map_or}
-use Rattle.std.specs.List.{remove, range_with_len, sum_by}
-use Rattle.std.proofs.lemmas.Bool.{and_from, and_parts, cases_Bool, eq-eqb, eqb-true}
+use Rattle.std.specs.List.{remove, range_with_len}
+use Rattle.std.proofs.lemmas.Bool.{and_from, and_parts, eq-eqb, eqb-true}
 use Rattle.std.proofs.lemmas.Bool.Decides.{nat_tests}
 use Rattle.std.proofs.lemmas.List.Edits.{length-remove}
 use Rattle.std.proofs.lemmas.List.FromFn.{get_or-range_with_len, length-range_with_len}
@@ -20,10 +20,10 @@ use Rattle.mesh_types.specs.declared.outline.Piece.{Piece}
 use Rattle.mesh_types.specs.Ears.{best_ear, cut_ears, ears_of, put_before, triangle_at, turn_of}
 use Rattle.mesh_types.specs.Merging.{edge_end, piece_of}
 use Rattle.mesh_types.specs.Rings.{place_before}
-use Rattle.mesh_types.proofs.EarLaws.{best_ear-is}
+use Rattle.mesh_types.proofs.EarLaws.{best_ear-is, place_before-in}
 use Rattle.mesh_types.proofs.Totals.{once_in_range, sum_by-range_same, sum_by-zero}
-use Rattle.ear_cut.specs.Edges.{HaveEdgesOnce, KeepOutline, edges_between, edges_round, leads}
-use Rattle.ear_cut.proofs.EdgeCounts.{edges-from, edges-remove, edges-total, one_if, parted, step, step-back, step-from, step-to, step_cases, there-at, times, times-remove}
+use Rattle.mesh_types.specs.Edges.{HaveEdgesOnce, KeepOutline, edges_between, edges_round, leads}
+use Rattle.mesh_types.proofs.EdgeCounts.{edges-from, edges-remove, edges-total, one_if, parted, step, step-back, step-from, step-to, step_cases, there-at, times, times-remove}
 
 -- ---- edges so far and of what remains, together
 
@@ -33,9 +33,6 @@ pub record AreEdges (edges : ℕ → ℕ → ℕ) (rest : List ℕ) : Type 0 whe
   pub different : (u : ℕ) → times u rest ≤ 1
   pub most : (u v : ℕ) → edges u v ≤ 1
   pub free : (u v : ℕ) → 1 ≤ times u rest → 1 ≤ times v rest → edges_round u v rest ≡ 0 → edges_round v u rest ≡ 0 → edges u v ≡ 0
-
-before-in : (count i : ℕ) → i < count → place_before count i < count
-before-in count i below = grind (arith, nat_tests)
 
 -- the cut of an ear
 module _ (edges : ℕ → ℕ → ℕ) (rest : List ℕ) (i : ℕ) (below : i < length rest) (more : 3 < length rest) (are : AreEdges edges rest) where
@@ -47,7 +44,7 @@ module _ (edges : ℕ → ℕ → ℕ) (rest : List ℕ) (i : ℕ) (below : i < 
   next u v = edges u v + (step u v t.a t.c + step u v t.c t.a)
 
   there_a : 1 ≤ times t.a rest
-  there_a = there-at rest (place_before (length rest) i) (before-in (length rest) i below)
+  there_a = there-at rest (place_before (length rest) i) (place_before-in (length rest) i below)
 
   there_c : 1 ≤ times t.c rest
   there_c = there-at rest (place_after (length rest) i) (place_after-in (length rest) i below)

@@ -1,17 +1,16 @@
 -- How many edges lead from one place to another, as a sum over steps; what a place taken out changes.
-use Rattle.std.proofs.Common.{◌≡◌, ◌≢◌, ℕ, zero, suc, ◌+◌, ◌-◌, ◌<◌, ◌≤◌, ℤ, pos, ◌+ℤ◌, Bool, true, false, cond, List, [], ◌∷◌, ◌++◌, length, get_or, take, drop, map, refl, sym, ap, subst, ◌∙◌, inl, inr, arith}
+use Rattle.std.proofs.Common.{◌≡◌, ◌≢◌, ℕ, suc, ◌+◌, ◌-◌, ◌<◌, ◌≤◌, ℤ, pos, ◌+ℤ◌, Bool, true, false, cond, List, [], ◌∷◌, ◌++◌, length, get_or, take, drop, refl, ap, subst, ◌∙◌, inl, inr, arith}
 use Rattle.std.specs.Prelude.{slice_index, ◌==◌, ◌&&◌, ◌⊎◌}
-use Rattle.std.specs.List.{count_by, remove, range_with_len}
+use Rattle.std.specs.List.{count_by, remove}
 use Rattle.std.proofs.lemmas.Int.{ints}
 use Rattle.std.proofs.lemmas.Bool.{cases_Bool, and_parts, eq-eqb, eqb-true}
-use Rattle.std.proofs.lemmas.Bool.Decides.{nat_tests}
 use Rattle.std.proofs.lemmas.List.Sums.{sum_by-cons, sum_by-append, sum_by-remove, sum_by_push, get_or-le-sum_by}
 use Rattle.nav_base.specs.Convex.{place_after}
-use Rattle.nav_base.proofs.ConvexLaws.{place_after-in}
-use Rattle.mesh_types.specs.Merging.{edge_end, past_edge}
+use Rattle.mesh_types.specs.Merging.{past_edge}
 use Rattle.mesh_types.specs.Rings.{place_before}
-use Rattle.ear_cut.specs.Edges.{edges_round}
-use Rattle.ear_cut.proofs.Rounds.{past-first, past-last, past-length, round-past, round-positions, round-remove, round-total, sum_round, total_along, total_round}
+use Rattle.mesh_types.specs.Rounds.{sum_round}
+use Rattle.mesh_types.specs.Edges.{edges_round}
+use Rattle.mesh_types.proofs.Rounds.{past-first, past-last, past-length, round-past, round-positions, round-remove, round-total, total_along, total_round}
 
 -- ---- steps and places
 

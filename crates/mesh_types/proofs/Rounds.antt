@@ -1,29 +1,18 @@
 -- Sums over the steps of places that run round: of any function of a place and the next.
-use Rattle.std.proofs.Common.{◌≡◌, ◌≢◌, ℕ, zero, suc, ◌+◌, ◌-◌, ◌<◌, ◌≤◌, ℤ, pos, ◌+ℤ◌, List, [], ◌∷◌, ◌++◌, length, get_or, take, drop, refl, sym, ap, ◌∙◌, inl, inr, arith, length-append, length-drop, length-take, get_or-drop, get_or-take}
-use Rattle.std.specs.Prelude.{slice_index}
+use Rattle.std.proofs.Common.{◌≡◌, ◌≢◌, ℕ, zero, suc, ◌+◌, ◌-◌, ◌<◌, ◌≤◌, ℤ, pos, ◌+ℤ◌, true, List, [], ◌∷◌, ◌++◌, length, get_or, take, drop, refl, sym, ap, ◌∙◌, inl, inr, arith, length-append, length-drop, length-take, get_or-drop, get_or-take}
+use Rattle.std.specs.Prelude.{slice_index, ◌==◌}
 use Rattle.std.specs.List.{remove, sum_by, range_with_len}
 use Rattle.std.proofs.lemmas.Int.{ints}
-use Rattle.std.proofs.lemmas.Bool.{cases_eq}
+use Rattle.std.proofs.lemmas.Bool.{and_parts, cases_eq, eqb-true}
 use Rattle.std.proofs.lemmas.Bool.Decides.{nat_tests}
 use Rattle.std.proofs.lemmas.List.{append-nil, drop_all, get_or_append_left, get_or-append_right, take-append-drop}
 use Rattle.std.proofs.lemmas.List.Sums.{sum_by-cons}
 use Rattle.std.proofs.Math.Seq.{drop-cons, get_or-append_seam}
 use Rattle.nav_base.specs.Convex.{place_after}
-use Rattle.mesh_types.specs.Merging.{edge_end, past_edge}
+use Rattle.mesh_types.specs.Merging.{edge_end, is_facing, past_edge}
 use Rattle.mesh_types.specs.Rings.{place_before}
+use Rattle.mesh_types.specs.Rounds.{sum_along, sum_round}
 use Rattle.mesh_types.proofs.Totals.{sum_by-range_same}
-
--- ---- definitions
-
--- the sum over the steps of a walk, from one place on and at its end to the first
-abbrev pub sum_along : (ℕ → ℕ → ℤ) → ℕ → ℕ → List ℕ → ℤ
-sum_along f first here [] = f here first
-sum_along f first here (next ∷ rest) = f here next +ℤ sum_along f first next rest
-
--- the sum over the steps of places that run round
-abbrev pub sum_round : (ℕ → ℕ → ℤ) → List ℕ → ℤ
-sum_round f [] = pos 0
-sum_round f (first ∷ rest) = sum_along f first first rest
 
 -- ---- rotation
 
@@ -148,7 +137,7 @@ round-remove f rest i below enough =
 
 -- ---- two lists over an edge that both have, in opposite directions
 
-pub round-both : (f : ℕ → ℕ → ℤ) (i j : ℕ) (xs ys : List ℕ) → get_or xs 0 0 ≡ j → get_or ys 0 0 ≡ i → 0 < length xs → 0 < length ys
+round-both : (f : ℕ → ℕ → ℤ) (i j : ℕ) (xs ys : List ℕ) → get_or xs 0 0 ≡ j → get_or ys 0 0 ≡ i → 0 < length xs → 0 < length ys
     → sum_round f (xs ++ ys) +ℤ (f i j +ℤ f j i) ≡ sum_round f (i ∷ xs) +ℤ sum_round f (j ∷ ys)
 round-both f i j [] ys is_j is_i some some' = absurd (omega (arith, some))
 round-both f i j (x ∷ xs) [] is_j is_i some some' = absurd (omega (arith, some'))
@@ -159,6 +148,17 @@ round-both f i j (x ∷ xs) (y ∷ ys) is_j is_i some some' =
   where
     grouped : (c d a b : ℤ) → (c +ℤ d) +ℤ (a +ℤ b) ≡ (a +ℤ c) +ℤ (b +ℤ d)
     grouped c d a b = omega (arith, ints)
+
+-- the steps round two lists are those round the two together, and the shared edge both ways
+pub round-union : (f : ℕ → ℕ → ℤ) (p q : List ℕ) (edge facing : ℕ) → edge < length p → facing < length q → 2 ≤ length p → 2 ≤ length q → is_facing p edge q facing ≡ true
+    → sum_round f (past_edge p edge ++ past_edge q facing) +ℤ (f (slice_index p edge) (slice_index q facing) +ℤ f (slice_index q facing) (slice_index p edge))
+    ≡ sum_round f p +ℤ sum_round f q
+round-union f p q edge facing inside inside' more more' faces =
+    let both = and_parts (slice_index q facing == edge_end p edge) (edge_end q facing == slice_index p edge) faces in
+    round-both f (slice_index p edge) (slice_index q facing) (past_edge p edge) (past_edge q facing)
+    (past-first p edge inside more ∙ sym (eqb-true (slice_index q facing) (edge_end p edge) both.0)) (past-first q facing inside' more' ∙ eqb-true (edge_end q facing) (slice_index p edge) both.1)
+    (omega (arith, more, past-length p edge inside)) (omega (arith, more', past-length q facing inside'))
+    ∙ (λ k. sym (round-past f p edge inside) k +ℤ sym (round-past f q facing inside') k)
 
 -- ---- sums of whole numbers, by positions
 
