@@ -1,13 +1,12 @@
 -- A door of a tile faces at most one other. So every two doors that face each other are linked, and each link has its reverse.
-use Rattle.std.proofs.Common.{◌≡◌, ℕ, ◌<◌, ◌≤◌, pos, Bool, true, false, cond, List, length, get_or, refl, sym, ap, subst, ◌∙◌, arith, inl, inr, Option, Some, None}
+use Rattle.std.proofs.Common.{◌≡◌, ℕ, ◌<◌, ◌≤◌, pos, Bool, true, false, List, length, get_or, refl, sym, ap, subst, ◌∙◌, arith, inl, inr, Option, Some, None}
 use Rattle.std.specs.Prelude.{All, AllPairs, Contains, slice_get, slice_index, ◌==◌, ◌&&◌, if◌then◌else◌}
-use Rattle.std.specs.List.{count_by, filter_map, find, range_with_len, sum_by}
+use Rattle.std.specs.List.{count_by, filter_map, find, range_with_len}
 use Rattle.std.specs.Option.{option_map}
 use Rattle.std.proofs.lemmas.Bool.{and_from, and_parts, cases_order, eq-eqb, eqb-true, or_cases, or_left, or_right}
 use Rattle.std.proofs.lemmas.List.{get_or_default}
 use Rattle.std.proofs.lemmas.List.Elements.{All-map, Contains-get_or}
 use Rattle.std.proofs.lemmas.List.FromFn.{get_or-range_with_len, length-range_with_len}
-use Rattle.std.proofs.lemmas.List.Sums.{sum_by-le-sum_by}
 use Rattle.nav_base.specs.declared.point.Point.{Point}
 use Rattle.nav_base.specs.Convex.{corner_at, place_after}
 use Rattle.nav_base.proofs.ConvexLaws.{place_after-in}
@@ -19,14 +18,13 @@ use Rattle.mesh_types.specs.declared.door.Door.{Door}
 use Rattle.mesh_types.specs.declared.door.Part.{Part}
 use Rattle.mesh_types.specs.declared.links.Link.{Link}
 use Rattle.mesh_types.specs.declared.outline.Outline as outlines
-use Rattle.mesh_types.specs.declared.outline.Piece.{Piece}
 use Rattle.mesh_types.specs.BorderLinks.{scaled}
 use Rattle.mesh_types.specs.Rings.{AreApart}
 use Rattle.mesh_types.specs.Ears.{is_same_point}
-use Rattle.mesh_types.specs.Edges.{edges_between, edges_round, leads}
+use Rattle.mesh_types.specs.Edges.{edges_between}
 use Rattle.mesh_types.specs.Merging.{edge_end}
 use Rattle.mesh_types.specs.Passages.{AreTwoWay, HasReverse, reverse_of}
-use Rattle.mesh_types.specs.ContourMeshes.{Facet, are_facing, code_between, door_link, door_links, door_over, doors_of, facet_doors, facets_in, facets_of, link_through, names_region, no_facet, no_part, share_corners, share_places}
+use Rattle.mesh_types.specs.ContourMeshes.{Facet, are_facing, code_between, door_link, door_links, door_over, doors_of, facet_doors, facets_of, link_through, names_region, no_facet, no_part, share_corners, share_places}
 use Rattle.mesh_types.proofs.ContourLaws.{is_same_point-from, same_point}
 use Rattle.mesh_types.proofs.Counted.{once_apart, some_counted}
 use Rattle.mesh_types.proofs.DoorLaws.{IsDoorOf, facet_at, facing_points}
@@ -34,59 +32,9 @@ use Rattle.mesh_types.proofs.FacetLaws.{IsFacetOf}
 use Rattle.mesh_types.proofs.Gathered.{gathered_all}
 use Rattle.mesh_types.proofs.LinksInOrder.{All-ordered_links, Contains-ordered_links}
 use Rattle.mesh_types.proofs.RunLaws.{All-found}
-use Rattle.mesh_types.proofs.Totals.{once_in_range, sum_by-flat_map, sum_by-map, sum_by-numbers, sum_by-same, sum_by-zero}
 use Rattle.poly_merge.proofs.Listed.{contains_found}
 use Rattle.contour_mesh.proofs.SoundParts.{IsSoundPart}
-
--- ---- how many doors of a region lead from one place to another
-
-abbrev is_over : ℕ → ℕ → ℕ → Door → Bool
-is_over r from to door = door.region == r && (door.from == from && door.to == to)
-
--- the edges of a facet, where it is of the region
-abbrev edges_over : ℕ → ℕ → ℕ → Facet → ℕ
-edges_over r from to facet = cond (facet.region == r) (edges_round from to facet.places) 0
-
-in_facet : (r from to polygon : ℕ) (facet : Facet) → count_by (is_over r from to) (facet_doors polygon facet) ≡ edges_over r from to facet
-in_facet r from to polygon facet =
-    sum_by-map (λ (door : Door). cond (is_over r from to door) 1 0) (door_over polygon facet) (range_with_len 0 (length facet.places)) ∙ by_test (facet.region == r)
-  where
-    by_test : (b : Bool) → sum_by (λ edge. cond (b && leads facet.places from to edge) 1 0) (range_with_len 0 (length facet.places)) ≡ cond b (edges_round from to facet.places) 0
-    by_test true = refl
-    by_test false = sum_by-zero (range_with_len 0 (length facet.places))
-
-in_part : (r from to region : ℕ) (part : Part) → sum_by (edges_over r from to) (facets_in part region) ≡ cond (region == r) (edges_between from to part.pieces) 0
-in_part r from to region part =
-    sum_by-map (edges_over r from to) (λ (piece : Piece). record { region = region; outline = part.outline; places = piece.corners }) part.pieces ∙ by_test (region == r)
-  where
-    by_test : (b : Bool) → sum_by (λ (piece : Piece). cond b (edges_round from to piece.corners) 0) part.pieces ≡ cond b (edges_between from to part.pieces) 0
-    by_test true = refl
-    by_test false = sum_by-zero part.pieces
-
--- no more than edges of the region's pieces do
-doors_over : (parts : List Part) (r from to c : ℕ) → edges_between from to (get_or parts r no_part).pieces ≤ c → count_by (is_over r from to) (doors_of (facets_of parts)) ≤ c
-unfolding doors_of facets_of
-doors_over parts r from to c few =
-    let facets : List Facet = facets_of parts in
-    let part : ℕ → Part = λ region. get_or parts region no_part in
-    let one : Door → ℕ = λ (door : Door). cond (is_over r from to door) 1 0 in
-    omega (
-      arith,
-      sum_by-flat_map one (λ polygon. facet_doors polygon (get_or facets polygon no_facet)) (range_with_len 0 (length facets)),
-      sum_by-same (λ polygon. sum_by one (facet_doors polygon (get_or facets polygon no_facet))) (λ polygon. edges_over r from to (get_or facets polygon no_facet))
-          (range_with_len 0 (length facets)) (λ polygon. in_facet r from to polygon (get_or facets polygon no_facet)),
-      sum_by-numbers (edges_over r from to) facets no_facet,
-      sum_by-flat_map (edges_over r from to) (λ region. facets_in (part region) region) (range_with_len 0 (length parts)),
-      sum_by-same (λ region. sum_by (edges_over r from to) (facets_in (part region) region)) (λ region. cond (region == r) (edges_between from to (part region).pieces) 0)
-          (range_with_len 0 (length parts)) (λ region. in_part r from to region (part region)),
-      sum_by-le-sum_by (λ region. cond (region == r) (edges_between from to (part region).pieces) 0) (λ region. cond (region == r) c 0) (range_with_len 0 (length parts))
-          (λ region. by_test region (region == r) refl),
-      once_in_range (λ region. region == r) c 0 (length parts) (λ i j less below is_i is_j. omega (arith, less, eqb-true i r is_i, eqb-true j r is_j)),
-    )
-  where
-    by_test : (region : ℕ) (b : Bool) → (region == r) ≡ b → cond b (edges_between from to (get_or parts region no_part).pieces) 0 ≤ cond b c 0
-    by_test region true is = subst (λ k. edges_between from to (get_or parts k no_part).pieces ≤ c) (sym (eqb-true region r is)) few
-    by_test region false is = omega arith
+use Rattle.contour_mesh.proofs.DoorCounts.{doors_over, is_over}
 
 -- ---- the places of doors
 
@@ -180,7 +128,7 @@ share_corners-is a b is =
 named : (code : Option Code) (id : ℕ) → code ≡ Some (Region id) → names_region code id ≡ true
 named code id is = ap (λ (c : Option Code). names_region c id) is ∙ eq-eqb id id refl
 
-facing_back : (a b : Door) → are_facing a b ≡ true → are_facing b a ≡ true
+pub facing_back : (a b : Door) → are_facing a b ≡ true → are_facing b a ≡ true
 facing_back a b facing =
     elim (or_cases (share_places a b) (share_corners a b) facing) [
       | inl places ↦

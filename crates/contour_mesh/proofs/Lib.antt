@@ -11,5 +11,6 @@ pub mod SearchLaws
 pub mod RimLaws
 pub mod MeshLaws
 pub mod SoundParts
+pub mod DoorCounts
 pub mod DoorPairs
 pub mod LinkedTiles

@@ -1,5 +1,5 @@
 -- In the mesh of a tile by the outlines of its regions no passage is missing, and links lead there and back.
-use Rattle.std.proofs.Common.{◌≡◌, List, refl, subst, Option, Some, None}
+use Rattle.std.proofs.Common.{◌≡◌, ℕ, List, refl, sym, subst, Option, Some, None}
 use Rattle.std.specs.Prelude.{All, Contains}
 use Rattle.std.specs.Option.{option_map}
 use Rattle.nav_ground.specs.declared.setting.Setting.{Setting}
@@ -13,10 +13,12 @@ use Rattle.mesh_types.specs.declared.door.Part.{Part}
 use Rattle.mesh_types.specs.declared.tile.TileMesh.{TileMesh}
 use Rattle.mesh_types.specs.Passages.{AreTwoWay}
 use Rattle.mesh_types.specs.Regions.{AreRegionsOf, regions_of}
+use Rattle.mesh_types.specs.Soundness.{IsFit}
 use Rattle.mesh_types.specs.ContourMeshes.{contour_mesh_of, doors_of, facets_of, parts_mesh, parts_of}
 use Rattle.mesh_types.proofs.DoorLaws.{IsDoorOf, doors_are}
 use Rattle.mesh_types.proofs.FacetLaws.{IsFacetOf, facets_are, parts_are}
-use Rattle.contour_mesh.specs.Linked.{LinksFacing}
+use Rattle.mono_regions.proofs.RegionsKept.{regions_kept}
+use Rattle.contour_mesh.specs.Linked.{IsOfOutlines, LinksFacing}
 use Rattle.contour_mesh.proofs.DoorPairs.{facing_linked, links_two_way}
 use Rattle.contour_mesh.proofs.SoundParts.{IsSoundPart, parts_sound}
 
@@ -39,7 +41,7 @@ module _ (setting : Setting) (free : FreeLayer) (cut : IsCut free.cells) (in_til
       record {
         back = links_two_way window parts sound each doors free.tile;
         linked = λ other a b facing.
-            let same : other ≡ parts = one (parts_of window setting.error free.cells regions) other parts facing.parts of in
+            let same : other ≡ parts = one (parts_of window setting.error free.cells regions) other parts facing.made of in
             let held : Door → List Part → Type 0 = λ door some. Contains (doors_of (facets_of some)) door in
             facing_linked window parts sound each doors free.tile a b (subst (held a) same facing.has) (subst (held b) same facing.has_other) facing.facing;
       }
@@ -66,3 +68,9 @@ module _ (setting : Setting) (free : FreeLayer) (cut : IsCut free.cells) (in_til
       by_case (Some parts) of same =
           let at : parts_mesh setting free regions parts ≡ tile = cc in
           subst (IsLinked setting) at (parts_linked parts of)
+
+-- each fit tile that is built by outlines
+pub outlines_linked : (setting : Setting) (tile : TileMesh) → IsFit setting tile → IsOfOutlines setting tile → LinksFacing setting tile
+outlines_linked setting tile fit is =
+    let P : ℕ → Type 0 = λ n. IsInTile setting n tile.free.cells in
+    (contour_linked setting tile.free fit.free (subst P (sym fit.of_tile) fit.in_tile) (regions_kept tile.free.cells fit.free) tile is).linked
