@@ -10,3 +10,9 @@ pub mod PlaceLaws
 pub mod SearchLaws
 pub mod RimLaws
 pub mod MeshLaws
+pub mod RingWalks
+pub mod RingStops
+pub mod SharedCorners
+pub mod SharedSteps
+pub mod NeighbourRims
+pub mod ContourRings

@@ -5,3 +5,4 @@ pub mod Orders
 pub mod Sides
 pub mod SidePlaces
 pub mod RimTables
+pub mod SharedEdges

@@ -10,6 +10,7 @@ ghost use Rattle.mesh_types.specs.ContourMeshes.{doors_of, door_links, door_rim,
 ghost use Rattle.contour_walk.specs.Tables.{IsTableOf};
 ghost use Rattle.contour_mesh.specs.Outcomes.{IsMeshOrCells, IfMade};
 ghost use Rattle.contour_mesh.specs.Parts.{IsCutPart};
+ghost use Rattle.contour_mesh.specs.SharedEdges.{OutlinesShareEdges};
 ghost use Rattle.contour_mesh.specs.Orders.{JoinsCorners, MeetsFacing};
 ghost use Rattle.contour_mesh.specs.Sides.{IsFieldWindow};
 ghost use Rattle.mesh_types.specs.declared.door.Door.{Door};
@@ -42,6 +43,7 @@ pub fn contour_mesh_over(
     requires tile { IsInTile setting.now free.tile free.cells }
     ensures value { IfOk result (IsMeshOrCells setting.now free) }
     ensures fit { IfOk result (IfMade (IsFit setting.now)) }
+    ensures shared { IfOk result (IfMade (λ tile. OutlinesShareEdges setting.now tile.free)) }
 {
     let regions = regions(alloc, &free)?;
     let table = region_table(alloc, &free, setting, &regions)?;
