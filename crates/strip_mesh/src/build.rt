@@ -7,6 +7,7 @@ ghost use Rattle.mesh_types.specs.Passages.{AreTwoWay, LinksConnected, ListsCros
 ghost use Rattle.mesh_types.specs.Soundness.{IsFit};
 ghost use Rattle.mesh_types.specs.StripCover.{CoversCells};
 ghost use Rattle.mesh_types.specs.StripMeshes.{strip_polygon, strip_links, strip_rim, strip_mesh_of};
+ghost use Rattle.mono_regions.specs.Joining.{IsTableOf};
 ghost use Rattle.strip_mesh.specs.Indexed.{AreIndexed, runs_in};
 
 use crate::inner::inner_links;
@@ -14,6 +15,7 @@ use crate::polygons::polygons;
 use crate::rim::rim;
 use crate::tile_strips::TileStrips;
 use mesh_types::{Links, Polygons, RimEdge, TileMesh};
+use mono_regions::StripTable;
 use nav_ground::{FreeLayer, Setting, Window, tile_bounds};
 use nav_list::{Duplicate, Items};
 use std::alloc::{AllocError, Global};
@@ -60,6 +62,24 @@ pub fn strip_mesh_over(
     Ok(mesh)
 }
 
+/// What `strip_mesh` does, of free cells and their strips that the mesh takes over.
+pub fn strip_mesh_of_table(
+    alloc: Global,
+    free: FreeLayer,
+    strips: StripTable,
+    setting: &Setting,
+) -> Result<TileMesh, AllocError>
+    requires setting { IsSetting setting.now }
+    requires cells { IsCut free.cells }
+    requires tile { IsInTile setting.now free.tile free.cells }
+    requires strips { IsTableOf free.cells strips }
+    ensures value { IfOk result (λ tile. tile ≡ strip_mesh_of setting.now free) }
+    ensures fit { IfOk result (IsFit setting.now) }
+{
+    let mesh = mesh_of_strips(alloc, TileStrips::from_parts(free, strips), setting)?;
+    Ok(mesh)
+}
+
 /// The mesh: its parts beside the free cells that they were made from.
 #[tactic(auto, unfolding(mesh_types::specs::StripMeshes::strip_mesh_of))]
 fn mesh(alloc: Global, free: FreeLayer, setting: &Setting) -> Result<TileMesh, AllocError>
@@ -68,9 +88,24 @@ fn mesh(alloc: Global, free: FreeLayer, setting: &Setting) -> Result<TileMesh, A
     requires tile { IsInTile setting.now free.tile free.cells }
     ensures { IfOk result (λ tile. tile ≡ strip_mesh_of setting.now free) }
 {
-    let tile = free.tile;
-    let window = tile_bounds(setting, tile);
     let strips = TileStrips::new(alloc, free)?;
+    mesh_of_strips(alloc, strips, setting)
+}
+
+/// The same from the strips of the tile.
+#[tactic(auto, unfolding(mesh_types::specs::StripMeshes::strip_mesh_of))]
+fn mesh_of_strips(
+    alloc: Global,
+    strips: TileStrips,
+    setting: &Setting,
+) -> Result<TileMesh, AllocError>
+    requires setting { IsSetting setting.now }
+    requires rules { AreIndexed strips }
+    requires tile { IsInTile setting.now strips.free.tile strips.free.cells }
+    ensures { IfOk result (λ tile. tile ≡ strip_mesh_of setting.now strips.free) }
+{
+    let tile = strips.free.tile;
+    let window = tile_bounds(setting, tile);
     let StripParts { polys, links, rim } = strip_parts(alloc, &strips, &window)?;
     Ok(TileMesh {
         tile,

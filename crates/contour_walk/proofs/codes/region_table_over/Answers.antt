@@ -3,7 +3,7 @@ use Rattle.std.specs.Prelude.{All}
 use Rattle.mesh_types.specs.declared.region.Region.{Region}
 use Rattle.contour_walk.specs.Tables.{IsFit}
 use Rattle.contour_walk.proofs.Contoured.{few_regions, strips_fit}
-use Rattle.contour_walk.proofs.codes.region_table.Goals as goal
+use Rattle.contour_walk.proofs.codes.region_table_over.Goals as goal
 
 pub owners-requires-clause-few : goal.owners-requires-clause-few
 owners-requires-clause-few c =
