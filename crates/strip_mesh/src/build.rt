@@ -15,7 +15,7 @@ use crate::polygons::polygons;
 use crate::rim::rim;
 use crate::tile_strips::TileStrips;
 use mesh_types::{Links, Polygons, RimEdge, TileMesh};
-use mono_regions::StripTable;
+use mono_regions::{StripTable, tabled_strips};
 use nav_ground::{FreeLayer, Setting, Window, tile_bounds};
 use nav_list::{Duplicate, Items};
 use std::alloc::{AllocError, Global};
@@ -38,8 +38,7 @@ pub fn strip_mesh(
     ensures listed { IfOk result (ListsCrossings setting.now) }
 {
     let free = free.duplicate(alloc)?;
-    let mesh = mesh(alloc, free, setting)?;
-    Ok(mesh)
+    strip_mesh_over(alloc, free, setting)
 }
 
 /// What `strip_mesh` does, of free cells that the mesh takes over.
@@ -58,8 +57,8 @@ pub fn strip_mesh_over(
     ensures back { IfOk result (λ tile. AreTwoWay tile.links) }
     ensures listed { IfOk result (ListsCrossings setting.now) }
 {
-    let mesh = mesh(alloc, free, setting)?;
-    Ok(mesh)
+    let strips = tabled_strips(alloc, free.cells.as_slice())?;
+    strip_mesh_of_table(alloc, free, strips, setting)
 }
 
 /// What `strip_mesh` does, of free cells and their strips that the mesh takes over.
@@ -75,30 +74,18 @@ pub fn strip_mesh_of_table(
     requires strips { IsTableOf free.cells strips }
     ensures value { IfOk result (λ tile. tile ≡ strip_mesh_of setting.now free) }
     ensures fit { IfOk result (IsFit setting.now) }
+    ensures cover { IfOk result CoversCells }
+    ensures linked { IfOk result LinksConnected }
+    ensures back { IfOk result (λ tile. AreTwoWay tile.links) }
+    ensures listed { IfOk result (ListsCrossings setting.now) }
 {
-    let mesh = mesh_of_strips(alloc, TileStrips::from_parts(free, strips), setting)?;
+    let mesh = mesh(alloc, TileStrips::from_parts(free, strips), setting)?;
     Ok(mesh)
 }
 
 /// The mesh: its parts beside the free cells that they were made from.
 #[tactic(auto, unfolding(mesh_types::specs::StripMeshes::strip_mesh_of))]
-fn mesh(alloc: Global, free: FreeLayer, setting: &Setting) -> Result<TileMesh, AllocError>
-    requires setting { IsSetting setting.now }
-    requires cells { IsCut free.cells }
-    requires tile { IsInTile setting.now free.tile free.cells }
-    ensures { IfOk result (λ tile. tile ≡ strip_mesh_of setting.now free) }
-{
-    let strips = TileStrips::new(alloc, free)?;
-    mesh_of_strips(alloc, strips, setting)
-}
-
-/// The same from the strips of the tile.
-#[tactic(auto, unfolding(mesh_types::specs::StripMeshes::strip_mesh_of))]
-fn mesh_of_strips(
-    alloc: Global,
-    strips: TileStrips,
-    setting: &Setting,
-) -> Result<TileMesh, AllocError>
+fn mesh(alloc: Global, strips: TileStrips, setting: &Setting) -> Result<TileMesh, AllocError>
     requires setting { IsSetting setting.now }
     requires rules { AreIndexed strips }
     requires tile { IsInTile setting.now strips.free.tile strips.free.cells }

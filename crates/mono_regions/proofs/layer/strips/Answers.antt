@@ -4,7 +4,7 @@ use Rattle.nav_ground.specs.Cells.{IsCut}
 use Rattle.mesh_types.specs.Strips.{strips_of}
 use Rattle.mono_regions.proofs.layer.strips.Goals as goal
 
-pub tabled_strips-requires : goal.strip_table-requires
+pub tabled_strips-requires : goal.tabled_strips-requires
 tabled_strips-requires c = subst IsCut (sym c.as_slice-cells.ensures) c.requires
 
 pub strips_along-requires-clause-cells : goal.strips_along-requires-clause-cells
