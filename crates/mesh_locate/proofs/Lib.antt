@@ -1,3 +1,5 @@
 mod NearestLaws
 mod TileReach
+mod Boxes
+mod Reached
 mod Scans

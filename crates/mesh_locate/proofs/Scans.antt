@@ -1,12 +1,11 @@
 -- The scan of a tile, of a row of tiles, and of the rows: what is passed over holds no polygon that holds the point.
-use Rattle.std.proofs.Common.{◌≡◌, ℕ, ◌+◌, ◌-◌, ◌*◌, ◌/◌, ◌%◌, ◌≤◌, ◌<◌, ℤ, length, sym, ap, subst, ◌∙◌, inl, inr, arith}
+use Rattle.std.proofs.Common.{◌≡◌, ℕ, ◌+◌, ◌-◌, ◌*◌, ◌/◌, ◌%◌, ◌≤◌, ◌<◌, ℤ, length, get_or, sym, ap, subst, ◌∙◌, inl, inr, arith}
 use Rattle.std.specs.Prelude.{All, Option, Some, None, slice_get, option_and_then}
 use Rattle.std.proofs.lemmas.Bool.{cases_lt}
 use Rattle.std.proofs.lemmas.Nat.{mod-mul-add, mul-le}
 use Rattle.std.proofs.lemmas.List.Sums.{get_or-le-sum_by}
-use Rattle.std.proofs.lemmas.Option.{same_Some, slice_get_within, get_or_from_slice_get, option_and_then_some}
+use Rattle.std.proofs.lemmas.Option.{same_Some, slice_get_within, slice_get-get_or, get_or_from_slice_get, option_and_then_some}
 use Rattle.nav_base.specs.declared.point.Point.{Point}
-use Rattle.nav_base.specs.Point.{IsCellCorner}
 use Rattle.nav_ground.specs.Limits.{IsSetting}
 use Rattle.nav_ground.specs.Tiling.{tiles_in_row, tile_rows}
 use Rattle.mesh_types.specs.declared.links.PolyRef.{PolyRef}
@@ -15,7 +14,7 @@ use Rattle.mesh_types.specs.declared.tile.TileMesh.{TileMesh}
 use Rattle.mesh_types.specs.declared.mesh.Mesh.{Mesh}
 use Rattle.mesh_types.specs.Located.{HoldsAt, IsLocated}
 use Rattle.mesh_types.specs.Right.{IsNowhere}
-use Rattle.mesh_types.specs.Soundness.{IsSound}
+use Rattle.mesh_types.specs.Soundness.{IsPolygon, IsSound}
 use Rattle.mesh_types.specs.WholeMesh.{poly_at}
 use Rattle.mesh_types.proofs.MeshPolygons.{placed}
 use Rattle.mesh_locate.specs.declared.near.Near.{Near}
@@ -32,10 +31,10 @@ pub polygon_there : (mesh : Mesh) (t i : ℕ) (tile : TileMesh) (polygon : Polyg
     → poly_at mesh (record { tile = t; index = i }) ≡ Some polygon
 polygon_there mesh t i tile polygon there listed = ap (option_and_then (λ (d : TileMesh). slice_get d.polys i)) there ∙ listed
 
-pub its_corners : (mesh : Mesh) (t i : ℕ) (tile : TileMesh) (polygon : Polygon) → IsSound mesh → slice_get mesh.tiles t ≡ Some tile
-    → slice_get tile.polys i ≡ Some polygon → All IsCellCorner polygon.corners
-its_corners mesh t i tile polygon sound there listed =
-    (placed mesh (record { tile = t; index = i }) polygon sound (polygon_there mesh t i tile polygon there listed)).rules.corners
+pub its_polygons : (mesh : Mesh) (t : ℕ) (tile : TileMesh) → IsSound mesh → slice_get mesh.tiles t ≡ Some tile → All IsPolygon tile.polys
+its_polygons mesh t tile sound there k d below =
+    let listed = slice_get-get_or tile.polys k d below in
+    (placed mesh (record { tile = t; index = k }) (get_or tile.polys k d) sound (polygon_there mesh t k tile (get_or tile.polys k d) there listed)).rules
 
 -- a tile has at most as many polygons as all tiles have
 pub few_polygons : (mesh : Mesh) (t : ℕ) (tile : TileMesh) → IsSound mesh → slice_get mesh.tiles t ≡ Some tile → length tile.polys ≤ 8000000

@@ -1,9 +1,11 @@
 -- Nearest: what a search has found of the polygons before a place of a tile.
-use Rattle.std.specs.Prelude.{◌≡◌, ℕ, ◌%◌, ◌<◌, ◌≤◌, ◌⊎◌, Bool, true, nat_lt, Option, Some, None}
+use Rattle.std.specs.Prelude.{◌≡◌, ℕ, ◌%◌, ◌<◌, ◌≤◌, ◌⊎◌, ◌≤ℤ◌, Bool, true, nat_lt, Option, Some, None}
 use Rattle.nav_base.specs.declared.point.Point.{Point}
 use Rattle.nav_ground.specs.Tiling.{tiles_in_row}
 use Rattle.mesh_types.specs.declared.links.PolyRef.{PolyRef}
+use Rattle.mesh_types.specs.declared.extent.Extent.{Extent}
 use Rattle.mesh_types.specs.declared.mesh.Mesh.{Mesh}
+use Rattle.mesh_types.specs.BorderLinks.{scaled}
 use Rattle.mesh_types.specs.Located.{HoldsAt, IsNoLater, height_gap}
 use Rattle.mesh_locate.specs.declared.near.Near.{Near}
 use Rattle.mesh_locate.specs.declared.near.Places.{Places}
@@ -36,3 +38,13 @@ pub record AreColumns (mesh : Mesh) (p : Point) (y : ℕ) (columns : Places) : T
   pub order : columns.first ≤ columns.end
   pub inside : columns.end ≤ tiles_in_row mesh.setting
   pub all : (other : PolyRef) → HoldsAt mesh p y other → IsOneOf columns (other.tile % tiles_in_row mesh.setting)
+
+-- a point lies no further left and no further down than another
+pub record IsFrom (low high : Point) : Type 0 where
+  pub across : low.x ≤ℤ high.x
+  pub along : low.z ≤ℤ high.z
+
+-- a point, in sixteenths, lies in a box of whole cells, or on its border
+pub record IsInBox (box : Extent) (p : Point) : Type 0 where
+  pub low : IsFrom (scaled box.low.x box.low.z) p
+  pub high : IsFrom p (scaled box.high.x box.high.z)

@@ -1,19 +1,60 @@
 //! Whether a polygon holds a place, and which of two is nearer to it.
 
-ghost use Rattle.std.specs.Prelude.{◌≡◌, ◌↔◌, ◌<◌, ◌+◌, pos, ◌<ℤ◌, All, IsTrue, Some};
+ghost use Rattle.std.specs.Prelude.{◌≡◌, ◌↔◌, ◌<◌, ◌+◌, pos, ◌<ℤ◌, All, IsTrue, Some, length, slice_get};
 ghost use Rattle.nav_base.specs.Point.{HasCoordinates, IsCellCorner, orient_of};
 ghost use Rattle.nav_base.specs.Convex.{place_after};
 ghost use Rattle.mesh_types.specs.BorderLinks.{scaled};
 ghost use Rattle.mesh_types.specs.Located.{Holds, height_gap};
+ghost use Rattle.mesh_types.specs.Soundness.{IsPolygon};
 ghost use Rattle.mesh_types.specs.WholeMesh.{poly_at};
-ghost use Rattle.mesh_locate.specs.Nearest.{IsNearestBefore, is_nearer};
+ghost use Rattle.mesh_locate.specs.Nearest.{IsFrom, IsInBox, IsNearestBefore, is_nearer};
 
 use crate::near::Near;
-use mesh_types::{Mesh, PolyRef, Polygon};
+use mesh_types::{Extent, Mesh, PolyRef, Polygon, Polygons};
 use nav_base::{Point, orient};
 
+/// What was found so far, or the polygon at a place of its tile, if it holds the place and is nearer in height. Of most polygons the box alone
+/// is looked at.
+pub fn nearer_at(
+    mesh: &Mesh,
+    at: PolyRef,
+    polygons: &Polygons,
+    p: Point,
+    y: u32,
+    best: Option<Near>,
+) -> Option<Near>
+    requires listed { poly_at mesh.now at ≡ slice_get polygons.now at.index }
+    requires there { at.index < length polygons.now }
+    requires polygons { All IsPolygon polygons.now }
+    requires point { HasCoordinates p }
+    requires best { IsNearestBefore mesh.now p y at.tile at.index best }
+    ensures { IsNearestBefore mesh.now p y at.tile (at.index + 1) result }
+{
+    let place = at.index as usize;
+    if !is_in_box(polygons.extents()[place], p) {
+        return best;
+    }
+    nearer(mesh, at, &polygons.as_slice()[place], p, y, best)
+}
+
+/// Whether a point lies in a box of cells or on its border.
+fn is_in_box(extent: Extent, p: Point) -> bool
+    requires low { IsCellCorner extent.low }
+    requires high { IsCellCorner extent.high }
+    ensures { IsTrue result ↔ IsInBox extent p }
+{
+    is_from(in_sixteenths(extent.low), p) && is_from(p, in_sixteenths(extent.high))
+}
+
+/// Whether a point lies no further left and no further down than another.
+fn is_from(low: Point, high: Point) -> bool
+    ensures { IsTrue result ↔ IsFrom low high }
+{
+    low.x <= high.x && low.z <= high.z
+}
+
 /// What was found so far, or a polygon, if it holds the place and is nearer in height.
-pub fn nearer(
+fn nearer(
     mesh: &Mesh,
     at: PolyRef,
     polygon: &Polygon,

@@ -8,7 +8,7 @@ ghost use Rattle.mesh_types.specs.Soundness.{IsSound};
 ghost use Rattle.mesh_locate.specs.Nearest.{AreColumns, IsNearestBefore};
 
 use crate::near::{Near, Places};
-use crate::polygons::nearer;
+use crate::polygons::nearer_at;
 use mesh_types::{Mesh, PolyRef};
 use nav_base::Point;
 use nav_ground::TileNo;
@@ -47,14 +47,14 @@ fn nearest_in_tile(mesh: &Mesh, tile: TileNo, p: Point, y: u32, best: Option<Nea
     ensures { IsNearestBefore mesh.now p y (tile + 1) 0 result }
 {
     let tiles = mesh.tiles.as_slice();
-    let polys = tiles[tile as usize].get().polys.as_slice();
+    let polygons = &tiles[tile as usize].get().polys;
     let mut nearest = best;
-    for (i, polygon) in polys.iter().enumerate() {
+    for i in 0..polygons.len() {
         let at = PolyRef {
             tile,
             index: i as u32,
         };
-        nearest = nearer(mesh, at, polygon, p, y, nearest);
+        nearest = nearer_at(mesh, at, polygons, p, y, nearest);
     }
     nearest
 }
