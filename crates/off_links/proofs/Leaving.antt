@@ -3,13 +3,13 @@ use Rattle.std.proofs.Common.{◌≡◌, ℕ, ◌+◌, ◌<◌, ◌≤◌, Bool,
 use Rattle.std.specs.Prelude.{◌==◌, nat_lt}
 use Rattle.std.specs.List.{All, AllWithin}
 use Rattle.std.specs.List.Sorted.{IsPartitionedBy, IsPartitionPoint}
-use Rattle.std.proofs.lemmas.Bool.{eqb-true, eq-eqb, ne_eqb, ltb-true, ltb-false}
-use Rattle.std.proofs.lemmas.List.{take-append-drop, append-nil, get_or-take, get_or-drop, length-take, length-drop}
+use Rattle.std.proofs.lemmas.Bool.{eqb-true, eq-eqb, ne_eqb, ltb-true, ltb-false, true≢false, false_from_ne_true}
+use Rattle.std.proofs.lemmas.List.{take-append-drop, append-nil, get_or-take, get_or-drop, get_or_default, length-take, length-drop}
 use Rattle.std.proofs.lemmas.List.Elements.{filter-append}
 use Rattle.nav_ground.proofs.Selections.{filter_all, filter_none}
 use Rattle.mesh_types.specs.declared.links.PolyRef.{PolyRef}
 use Rattle.off_links.specs.declared.leaps.Leap.{Leap}
-use Rattle.off_links.specs.Leaps.{AreInOrder, HasPlace, leap_number, leaves, number_of}
+use Rattle.off_links.specs.Leaps.{AreInOrder, HasPlace, has_number, leap_number, leaves, number_of}
 use Rattle.off_links.proofs.Tests.{filter_same, number_test}
 
 -- elements found by two places: after those that come early, those that are inside
@@ -56,6 +56,22 @@ own_first own leaps first order others i j d le within later =
     let up : leap_number (get_or leaps (first + i) d) ≤ leap_number (get_or leaps (first + j) d) = order (first + i) (first + j) d (omega (arith, le)) there in
     let late = ltb-false (leap_number (get_or leaps (first + i) d)) own (others (first + i) d (omega arith) (omega (arith, le, there))) in
     rw (get_or-drop first leaps i d) (eq-eqb (leap_number (get_or leaps (first + i) d)) own (omega (arith, last, up, late)))
+
+-- a leap by its number, whatever stands for one that is not there
+pub own_at : (own : ℕ) (leaps : List Leap) (k : ℕ) (d e : Leap) → k < length leaps → leap_number (get_or leaps k e) ≡ own
+    → has_number own (get_or leaps k d) ≡ true
+own_at own leaps k d e there same = eq-eqb (leap_number (get_or leaps k d)) own (ap leap_number (get_or_default leaps k d e there) ∙ same)
+
+pub other_at : (own : ℕ) (leaps : List Leap) (k : ℕ) (d e : Leap) → k < length leaps → (leap_number (get_or leaps k e) ≡ own → ⊥)
+    → has_number own (get_or leaps k d) ≡ false
+other_at own leaps k d e there apart =
+    ne_eqb (leap_number (get_or leaps k d)) own (λ same. apart (ap leap_number (get_or_default leaps k e d there) ∙ same))
+
+-- where those that pass a test come first, none passes after the first that fails
+pub none_after : {X : Type 0} (p : X → Bool) (xs : List X) (k : ℕ) → IsPartitionedBy p xs → AllWithin (λ (x : X). p x ≡ true) xs 0 k
+    → ((d : X) → p (get_or xs k d) ≡ false) → IsPartitionPoint (λ (x : X). p x ≡ true) (λ (x : X). p x ≡ false) xs k
+none_after p xs k parted before fails =
+    (before, λ i d late within. false_from_ne_true (p (get_or xs i d)) (λ passes. true≢false (sym (parted k i d late within passes) ∙ fails d)))
 
 -- the leaps found are those that leave the polygon
 pub leaving_found : (leaps : List Leap) (at : PolyRef) (own first count : ℕ) → own ≡ number_of at → at.index < 4294967296 → All HasPlace leaps

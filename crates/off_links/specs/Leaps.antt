@@ -49,6 +49,10 @@ number_of at = at.tile * 4294967296 + at.index
 abbrev pub leap_number : Leap → ℕ
 leap_number leap = number_of leap.from
 
+-- a leap leaves the polygon with a number
+abbrev pub has_number : ℕ → Leap → Bool
+has_number own leap = leap_number leap == own
+
 -- the leaps stand in order of the polygons that they leave
 abbrev pub AreInOrder : List Leap → Type 0
 AreInOrder leaps = IsNonDecreasingBy leap_number leaps

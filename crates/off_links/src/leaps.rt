@@ -1,11 +1,12 @@
 //! Joined jumps, by the polygon that they leave.
 
-ghost use Rattle.std.specs.Prelude.{◌≡◌, ◌≤◌, ◌<◌, ◌+◌, ◌*◌, IfOk, IfSome, IfNone, All, filter, length, slice_index_or};
+ghost use Rattle.std.specs.Prelude.{◌≡◌, ◌≤◌, ◌<◌, ◌+◌, ◌*◌, true, false, IfOk, IfSome, IfNone, All, filter, length, slice_index_or};
+ghost use Rattle.std.specs.List.Sorted.{IsPartitionedBy, IsPartitionPoint};
 ghost use Rattle.nav_ground.specs.Limits.{IsSetting};
 ghost use Rattle.mesh_types.specs.declared.links.PolyRef.{PolyRef};
 ghost use Rattle.mesh_types.specs.Hops.{IsJoined};
 ghost use Rattle.mesh_types.specs.Soundness.{IsSound};
-ghost use Rattle.off_links.specs.Leaps.{HasJumpCoordinates, AreJumps, IsLeapOf, AreLeaps, AreInOrder, HasPlace, leaves, no_leap};
+ghost use Rattle.off_links.specs.Leaps.{HasJumpCoordinates, AreJumps, IsLeapOf, AreLeaps, AreInOrder, HasPlace, has_number, leaves, no_leap};
 
 use mesh_locate::locate;
 use mesh_types::{Jump, Mesh, PolyRef};
@@ -92,8 +93,21 @@ pub(crate) fn leaving(leaps: &[Leap], at: PolyRef) -> &[Leap]
     let own = number(at.tile, at.index);
     let first = leaps.partition_point(|leap| leap_number(leap) < own);
     let rest = &leaps[first..];
-    let count = rest.partition_point(|leap| leap_number(leap) == own);
-    &rest[..count]
+    &rest[..run_length(rest, own)]
+}
+
+/// How many leaps at the beginning leave the polygon with a number: none of most polygons, so they are looked at one by one.
+fn run_length(leaps: &[Leap], own: u64) -> usize
+    requires { IsPartitionedBy (has_number own) leaps.now }
+    ensures within { result ≤ length leaps.now }
+    ensures all { IsPartitionPoint (λ leap. has_number own leap ≡ true) (λ leap. has_number own leap ≡ false) leaps.now result }
+{
+    for (count, leap) in leaps.iter().enumerate() {
+        if leap_number(leap) != own {
+            return count;
+        }
+    }
+    leaps.len()
 }
 
 /// One of the leaps that leave a polygon, by its place among them.
