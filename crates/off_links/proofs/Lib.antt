@@ -1,5 +1,6 @@
 mod Tests
 mod Leaving
+mod TakenSlots
 mod Polygons
 mod Gathering
 mod Arcs

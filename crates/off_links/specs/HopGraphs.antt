@@ -1,5 +1,5 @@
 -- The mesh with leaps as a graph: its polygons are the vertices, and from each lead its links and then its leaps.
-use Rattle.std.specs.Prelude.{◌≡◌, ℕ, ◌<◌, ◌≤◌, List, ◌++◌, length, map, filter, slice_index_or}
+use Rattle.std.specs.Prelude.{◌≡◌, ℕ, ◌<◌, ◌≤◌, Bool, List, ◌++◌, length, map, filter, slice_index_or}
 use Rattle.nav_ground.specs.Limits.{IsSetting}
 use Rattle.mesh_types.specs.declared.links.Link.{Link}
 use Rattle.mesh_types.specs.declared.links.PolyRef.{PolyRef}
@@ -16,6 +16,7 @@ use Rattle.corridor_search.specs.MeshGraphs.{vertex_of, polygon_of, links_from, 
 use Rattle.off_links.specs.declared.leaps.Leap.{Leap}
 use Rattle.off_links.specs.declared.search.Hops.{Hops}
 use Rattle.off_links.specs.Leaps.{AreLeaps, leaves}
+use Rattle.off_links.specs.Slots.{HaveSlots}
 
 -- the step of a link, and that of a leap
 abbrev pub link_step : Link → HopStep
@@ -64,6 +65,11 @@ pub record IsHopped (mesh : Mesh) (jumps : List Jump) (leaps : List Leap) : Type
   pub sound : IsSound mesh
   pub setting : IsSetting mesh.setting
   pub leaps_are : AreLeaps mesh jumps leaps
+
+-- the same with slots of the polygons that leaps leave
+pub record IsSlotted (mesh : Mesh) (jumps : List Jump) (leaps : List Leap) (slots : List Bool) : Type 0 where
+  pub hopped : IsHopped mesh jumps leaps
+  pub slots_are : HaveSlots slots leaps
 
 -- a hop walk that no hop walk undercuts, with its cost, and with fewer steps than there are polygons
 pub record IsCheapestHops (mesh : Mesh) (jumps : List Jump) (from to : PolyRef) (found : Hops) : Type 0 where

@@ -1,4 +1,5 @@
 pub mod Leaps
+pub mod Slots
 pub mod HopGraphs
 pub mod Questions
 pub mod Pulling

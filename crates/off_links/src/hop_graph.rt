@@ -4,7 +4,8 @@ ghost use Rattle.std.specs.Prelude.{◌≡◌, ◌++◌, ◌<◌, OnOk, map, len
 ghost use Rattle.mesh_types.specs.declared.hops.HopStep.{HopStep};
 ghost use Rattle.off_links.specs.HopGraphs.{IsHopped, hop_step, leap_end, steps_from};
 
-use crate::leaps::{Leap, leap_at, leaving};
+use crate::leaps::{Leap, leap_at};
+use crate::slots::leaving_by_slot;
 use corridor_search::{
     extent_at, link_at, link_weight, past_links, polygon_at, push_link_ends, vertex_at,
 };
@@ -19,15 +20,17 @@ pub(crate) struct HopGraph<'a> {
     /// The jumps that the leaps are of: a step of a hop walk names its jump by its number there.
     pub(crate) jumps: &'a [Jump],
     pub(crate) leaps: &'a [Leap],
+    /// Slots in which those of the polygons that leaps leave are taken.
+    pub(crate) slots: &'a [bool],
 }
 
 impl Graph for HopGraph<'_> {
     ghost use Rattle.corridor_search.specs.MeshGraphs.{vertices_of, extents_of};
-    ghost use Rattle.off_links.specs.HopGraphs.{IsHopped, hop_arcs, no_estimate};
+    ghost use Rattle.off_links.specs.HopGraphs.{IsSlotted, hop_arcs, no_estimate};
 
     type Spot = Extent;
 
-    ghost is_sound = { λ g. IsHopped g.mesh.now g.jumps.now g.leaps.now };
+    ghost is_sound = { λ g. IsSlotted g.mesh.now g.jumps.now g.leaps.now g.slots.now };
 
     ghost vertices = { λ g. vertices_of g.mesh.now };
 
@@ -43,7 +46,7 @@ impl Graph for HopGraph<'_> {
     fn push_ends(&self, from: Vertex, ends: &mut Vec<Vertex>) -> Result<(), AllocError> {
         let at = polygon_at(from);
         push_link_ends(self.mesh, at, ends)?;
-        push_leap_ends(leaving(self.leaps, at), ends)
+        push_leap_ends(leaving_by_slot(self.leaps, self.slots, at), ends)
     }
 
     fn spot(&self, of: Vertex) -> Extent {

@@ -12,6 +12,7 @@ mod leaps;
 mod pulling;
 mod question;
 mod search;
+mod slots;
 
 pub use hops::hop;
 pub use mesh_types::{HopAnswer, HopFound, HopStep, Jump};

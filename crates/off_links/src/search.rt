@@ -10,6 +10,7 @@ ghost use Rattle.off_links.specs.HopGraphs.{IsHopped, IsHopStep, hop_step, IsChe
 
 use crate::hop_graph::{HopGraph, step_at};
 use crate::leaps::leaps;
+use crate::slots::slots;
 use corridor_search::vertex_at;
 use graph_search::{Step, cheapest_walk};
 use mesh_types::{HopStep, Jump, Mesh, PolyRef};
@@ -39,10 +40,12 @@ pub(crate) fn cheapest_hops(
     ensures none { IfOk result (λ answer. IfNone answer (HasNoHops mesh.now jumps.now from to)) }
 {
     let leaps = leaps(alloc, mesh, jumps)?;
+    let slots = slots(alloc, leaps.as_slice())?;
     let graph = HopGraph {
         mesh,
         jumps,
         leaps: leaps.as_slice(),
+        slots: slots.as_slice(),
     };
     match cheapest_walk(alloc, &graph, vertex_at(from), vertex_at(to))? {
         Some(walk) => {

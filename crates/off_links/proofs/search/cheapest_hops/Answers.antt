@@ -1,4 +1,4 @@
-use Rattle.std.proofs.Common.{◌≡◌, List, All, Contains, length, ap, map, refl, subst, sym, ◌∙◌, ◌<◌}
+use Rattle.std.proofs.Common.{◌≡◌, Bool, List, All, Contains, length, ap, map, refl, subst, sym, ◌∙◌, ◌<◌}
 use Rattle.std.specs.Prelude.{Option, IfSome, IfNone}
 use Rattle.nav_ground.specs.Limits.{IsSetting}
 use Rattle.mesh_types.specs.declared.hops.Jump.{Jump}
@@ -13,6 +13,7 @@ use Rattle.corridor_search.proofs.Vertices.{there-contains}
 use Rattle.off_links.specs.declared.leaps.Leap.{Leap}
 use Rattle.off_links.specs.Leaps.{AreLeaps}
 use Rattle.off_links.specs.HopGraphs.{IsHopStep, IsHopped, hop_arcs, hop_step}
+use Rattle.off_links.specs.Slots.{HaveSlots}
 use Rattle.off_links.proofs.HopWalks.{found_hops, none_hops, taken_there}
 use Rattle.off_links.proofs.Searched.{hops-searchable}
 use Rattle.off_links.proofs.search.cheapest_hops.Goals as goal
@@ -23,12 +24,16 @@ hopped : (mesh : Mesh) (jumps : List Jump) (leaps leaps' : List Leap) → IsSoun
 hopped mesh jumps leaps leaps' sound setting same are = record { sound = sound; setting = setting; leaps_are = subst (AreLeaps mesh jumps) (sym same) are }
 
 pub cheapest_walk-requires-clause-sound : goal.cheapest_walk-requires-clause-sound
-cheapest_walk-requires-clause-sound c =
-    hopped c.args.mesh.now c.args.jumps.now _ c.as_slice.result.now c.requires.sound c.requires.setting c.as_slice.ensures.value c.in_ok-leaps.ensures
+cheapest_walk-requires-clause-sound c = record {
+  hopped = hopped c.args.mesh.now c.args.jumps.now _ c.as_slice-2.result.now c.requires.sound c.requires.setting c.as_slice-2.ensures.value c.in_ok-leaps.ensures;
+  slots_are =
+      subst (λ (slots : List Bool). HaveSlots slots c.as_slice-2.result.now) (sym c.as_slice-3.ensures.value)
+      (subst (HaveSlots c.in_ok-slots.slots.items) (c.as_slice.ensures.value ∙ sym c.as_slice-2.ensures.value) c.in_ok-slots.ensures);
+}
 
 pub cheapest_walk-requires-clause-searchable : goal.cheapest_walk-requires-clause-searchable
 cheapest_walk-requires-clause-searchable c =
-    hops-searchable c.args.mesh.now c.args.jumps.now c.as_slice.result.now (hopped c.args.mesh.now c.args.jumps.now _ c.as_slice.result.now c.requires.sound c.requires.setting c.as_slice.ensures.value c.in_ok-leaps.ensures)
+    hops-searchable c.args.mesh.now c.args.jumps.now c.as_slice-2.result.now (hopped c.args.mesh.now c.args.jumps.now _ c.as_slice-2.result.now c.requires.sound c.requires.setting c.as_slice-2.ensures.value c.in_ok-leaps.ensures)
 
 pub cheapest_walk-requires-clause-there : goal.cheapest_walk-requires-clause-there
 cheapest_walk-requires-clause-there c =
@@ -36,14 +41,14 @@ cheapest_walk-requires-clause-there c =
 
 pub steps_along-requires-clause-sound : goal.steps_along-requires-clause-sound
 steps_along-requires-clause-sound c =
-    hopped c.args.mesh.now c.args.jumps.now _ c.as_slice.result.now c.requires.sound c.requires.setting c.as_slice.ensures.value c.in_ok-leaps.ensures
+    hopped c.args.mesh.now c.args.jumps.now _ c.as_slice-2.result.now c.requires.sound c.requires.setting c.as_slice-2.ensures.value c.in_ok-leaps.ensures
 
 pub steps_along-requires-clause-there : goal.steps_along-requires-clause-there
 steps_along-requires-clause-there c =
     let mesh = c.args.mesh.now in
     let jumps = c.args.jumps.now in
-    let leaps = c.as_slice.result.now in
-    let rules = hopped mesh jumps _ leaps c.requires.sound c.requires.setting c.as_slice.ensures.value c.in_ok-leaps.ensures in
+    let leaps = c.as_slice-2.result.now in
+    let rules = hopped mesh jumps _ leaps c.requires.sound c.requires.setting c.as_slice-2.ensures.value c.in_ok-leaps.ensures in
     let found = subst (λ (o : Option Walk). IfSome o (graph.IsCheapest (hop_arcs mesh jumps leaps) c.vertex_at.result c.vertex_at-2.result)) c.in-Some.is c.in_ok-walk.ensures.found in
     subst (λ (steps : List Step). All (IsHopStep mesh leaps) steps) (sym c.as_slice-in-Some.ensures.value)
     (taken_there mesh jumps leaps rules c.in-Some.walk.steps.items c.vertex_at.result c.vertex_at-2.result found.walks)
@@ -52,8 +57,8 @@ pub returns-in-Some-clause-found : goal.returns-in-Some-clause-found
 returns-in-Some-clause-found c =
     let mesh = c.args.mesh.now in
     let jumps = c.args.jumps.now in
-    let leaps = c.as_slice.result.now in
-    let rules = hopped mesh jumps _ leaps c.requires.sound c.requires.setting c.as_slice.ensures.value c.in_ok-leaps.ensures in
+    let leaps = c.as_slice-2.result.now in
+    let rules = hopped mesh jumps _ leaps c.requires.sound c.requires.setting c.as_slice-2.ensures.value c.in_ok-leaps.ensures in
     let found = subst (λ (o : Option Walk). IfSome o (graph.IsCheapest (hop_arcs mesh jumps leaps) c.vertex_at.result c.vertex_at-2.result)) c.in-Some.is c.in_ok-walk.ensures.found in
     let short = subst (λ (o : Option Walk). IfSome o (λ (walk : Walk). length walk.steps.items < length (vertices_of mesh))) c.in-Some.is c.in_ok-walk.ensures.short in
     let found' =
@@ -66,8 +71,8 @@ pub returns-clause-none : goal.returns-clause-none
 returns-clause-none c =
     let mesh = c.args.mesh.now in
     let jumps = c.args.jumps.now in
-    let leaps = c.as_slice.result.now in
-    let rules = hopped mesh jumps _ leaps c.requires.sound c.requires.setting c.as_slice.ensures.value c.in_ok-leaps.ensures in
+    let leaps = c.as_slice-2.result.now in
+    let rules = hopped mesh jumps _ leaps c.requires.sound c.requires.setting c.as_slice-2.ensures.value c.in_ok-leaps.ensures in
     let none = subst (λ (o : Option Walk). IfNone o (graph.IsApart (hop_arcs mesh jumps leaps) c.vertex_at.result c.vertex_at-2.result)) c.in-None.is c.in_ok-walk.ensures.none in
     none_hops mesh jumps leaps rules c.args.from c.args.to
     (subst (λ (v : Vertex). graph.IsApart (hop_arcs mesh jumps leaps) (vertex_of c.args.from) v) c.vertex_at-2.ensures

@@ -9,11 +9,11 @@ use Rattle.off_links.proofs.Arcs.{hop-ends}
 use Rattle.off_links.proofs.Weights.{small_places}
 use Rattle.off_links.proofs.hop_graph.HopGraphGraph.push_ends.Goals as goal
 
-pub leaving-requires-clause-order : goal.leaving-requires-clause-order
-leaving-requires-clause-order c = c.requires.sound.leaps_are.order
+pub leaving_by_slot-requires-clause-order : goal.leaving_by_slot-requires-clause-order
+leaving_by_slot-requires-clause-order c = c.requires.sound.hopped.leaps_are.order
 
-pub leaving-requires-clause-places : goal.leaving-requires-clause-places
-leaving-requires-clause-places c = small_places _ _ _ c.requires.sound.leaps_are
+pub leaving_by_slot-requires-clause-places : goal.leaving_by_slot-requires-clause-places
+leaving_by_slot-requires-clause-places c = small_places _ _ _ c.requires.sound.hopped.leaps_are
 
 pub returns : goal.returns
 returns c =
@@ -22,8 +22,8 @@ returns c =
     let old = c.args.ends.now.items in
     let at = c.polygon_at-at.result in
     on_ok_weaker c.push_leap_ends.result
-    (λ next. next ∙ ap (λ (vs : List Vertex). vs ++ map leap_end c.leaving.result.now) c.in_ok-push_link_ends.ensures
-    ∙ ap (λ (fs : List Leap). (old ++ map end_of (links_from mesh at)) ++ map leap_end fs) c.leaving.ensures
+    (λ next. next ∙ ap (λ (vs : List Vertex). vs ++ map leap_end c.leaving_by_slot.result.now) c.in_ok-push_link_ends.ensures
+    ∙ ap (λ (fs : List Leap). (old ++ map end_of (links_from mesh at)) ++ map leap_end fs) c.leaving_by_slot.ensures
     ∙ append_assoc old (map end_of (links_from mesh at)) (map leap_end (leaps_from leaps at))
     ∙ ap (λ (p : PolyRef). old ++ (map end_of (links_from mesh p) ++ map leap_end (leaps_from leaps p))) c.polygon_at-at.ensures
     ∙ ap (λ (vs : List Vertex). old ++ vs)

@@ -31,10 +31,10 @@ returns-in-None c =
     ∙ ap (λ (arc : Arc). arc.weight) (sym (arc-of-link mesh c.args.self.now.jumps.now c.args.self.now.leaps.now c.args.step c.requires.place there below))
 
 pub leap_at-leap-requires-clause-order : goal.leap_at-leap-requires-clause-order
-leap_at-leap-requires-clause-order c = c.requires.sound.leaps_are.order
+leap_at-leap-requires-clause-order c = c.requires.sound.hopped.leaps_are.order
 
 pub leap_at-leap-requires-clause-places : goal.leap_at-leap-requires-clause-places
-leap_at-leap-requires-clause-places c = small_places _ _ _ c.requires.sound.leaps_are
+leap_at-leap-requires-clause-places c = small_places _ _ _ c.requires.sound.hopped.leaps_are
 
 pub leap_at-leap-requires-clause-there : goal.leap_at-leap-requires-clause-there
 leap_at-leap-requires-clause-there c =
@@ -49,4 +49,4 @@ returns-in-Some c =
     let past = rw c.in-Some.is at c.past_links.ensures.past in
     c.from.ensures
     ∙ leap-costs c.args.self.now.mesh.now c.args.self.now.jumps.now c.args.self.now.leaps.now c.args.step c.in-Some.past c.leap_at-leap.result c.polygon_at.result
-    c.requires.sound c.requires.place past c.polygon_at.ensures c.leap_at-leap.ensures
+    c.requires.sound.hopped c.requires.place past c.polygon_at.ensures c.leap_at-leap.ensures
