@@ -1,5 +1,5 @@
 pub mod Lists
-pub mod Boxes
+pub mod OnWays
 pub mod Sound
 pub mod Vertices
 pub mod LinkWeights

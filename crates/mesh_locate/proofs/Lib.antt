@@ -1,5 +1,4 @@
 mod NearestLaws
 mod TileReach
-mod Boxes
 mod Reached
 mod Scans

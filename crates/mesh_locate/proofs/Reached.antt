@@ -16,7 +16,7 @@ use Rattle.mesh_types.specs.Soundness.{IsPolygon}
 use Rattle.mesh_types.specs.WholeMesh.{poly_at}
 use Rattle.mesh_types.proofs.HeldPoints.{held_from_x, held_to_x, held_from_z, held_to_z}
 use Rattle.mesh_locate.specs.Nearest.{IsInBox}
-use Rattle.mesh_locate.proofs.Boxes.{low, high, low-corner, high-corner, low-bound, high-bound}
+use Rattle.mesh_types.proofs.Boxes.{low, high, low-corner, high-corner, low-bound, high-bound}
 
 -- stands for a polygon that is not there
 no_polygon : Polygon

@@ -6,6 +6,7 @@ pub mod LinkOrderLaws
 pub mod RunLaws
 pub mod LinksInOrder
 pub mod HeldPoints
+pub mod Boxes
 pub mod PortalEnds
 pub mod MeshPolygons
 pub mod MeshLinks
