@@ -1,6 +1,6 @@
 pub mod Adding
 pub mod Beginnings
 pub mod Looking
-pub mod PatchLaws
+pub mod NextLaws
 pub mod PressLaws
 pub mod VersionSteps

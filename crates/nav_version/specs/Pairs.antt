@@ -1,5 +1,5 @@
 -- What contracts see of a press and its eyes, and what the calls make of that. What they see of a told list is in `Lists.antt`.
-use Rattle.std.specs.Prelude.{◌≡◌, nat_lt, if◌then◌else◌, ◌<◌, ◌≤◌, List, ◌++◌, length}
+use Rattle.std.specs.Prelude.{◌≡◌, nat_lt, if◌then◌else◌, ◌<◌, List, ◌++◌, length}
 use Rattle.std.specs.Arc.{arc_value}
 use mathlib.Core.List.{IsPrefix}
 use Rattle.logbook.specs.Pages.{Book}
@@ -7,11 +7,8 @@ use Rattle.nav_ground.specs.declared.history.Entry.{Entry}
 use Rattle.nav_ground.specs.declared.history.Ground.{Ground}
 use Rattle.mesh_types.specs.declared.mesh.Mesh.{Mesh}
 use Rattle.mesh_types.specs.Builds.{build_of}
-use Rattle.mesh_types.specs.Soundness.{polygon_count}
-use Rattle.mesh_types.specs.WholeMesh.{mesh_of}
-use Rattle.tile_links.specs.NewTiles.{AreNew, tiles_after}
+use Rattle.mesh_types.specs.Soundness.{IsSound}
 use Rattle.nav_version.specs.declared.version.Version.{Version}
-use Rattle.nav_version.specs.declared.patch.Patch.{Patch}
 
 -- a press: its pair, its ground, and the entries of the published version
 pub record PressView : Type 0 where
@@ -45,14 +42,12 @@ pub record Shows (press : PressView) (version : Version) : Type 0 where
 abbrev pub first_eye : PressView → EyeView
 first_eye press = record { pair = press.pair; ground = press.ground; seen = press.entries }
 
--- a patch can be published over a ground and its entries so far: its tile meshes are new ones for the published mesh, with few polygons
--- once they are in place, the entries stay few, and the mesh so made is that of the ground with the obstacles that are alive after them
-pub record IsPatch (ground : Ground) (entries : List Entry) (patch : Patch) : Type 0 where
-  pub tiles : AreNew ground.setting patch.tiles.items
-  pub polygons : polygon_count (tiles_after patch.tiles.items (build_of ground entries (length entries)).tiles) ≤ 8000000
-  pub few : length (entries ++ patch.entries) < 4294967295
-  pub mesh : mesh_of ground.setting (tiles_after patch.tiles.items (build_of ground entries (length entries)).tiles)
-      ≡ build_of ground (entries ++ patch.entries) (length (entries ++ patch.entries))
+-- further entries and a mesh can be published over a ground and its entries so far: the entries stay few, and the mesh is sound and that of
+-- the ground with the obstacles that are alive after them
+pub record IsNext (ground : Ground) (entries more : List Entry) (mesh : Mesh) : Type 0 where
+  pub few : length (entries ++ more) < 4294967295
+  pub shows : mesh ≡ build_of ground (entries ++ more) (length (entries ++ more))
+  pub sound : IsSound mesh
 
 -- the longer of two lists; of equally long ones the first
 abbrev pub longer : List Entry → List Entry → List Entry

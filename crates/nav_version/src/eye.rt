@@ -57,7 +57,7 @@ fn answered(
     if !shown.told.goes_on(seen) {
         return Err(AllocError);
     }
-    let answer = nav_query::answer(alloc, &shown.version.get().mesh, question)?;
+    let answer = nav_query::answer(alloc, shown.version.get().mesh.get(), question)?;
     Ok((shown.told.again(), answer))
 }
 

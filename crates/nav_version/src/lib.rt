@@ -16,7 +16,6 @@ mod eye;
 mod history;
 mod law;
 mod next;
-mod patch;
 mod press;
 mod rule;
 mod shown;
@@ -26,7 +25,6 @@ mod version;
 
 pub use entries::Entries;
 pub use eye::Eye;
-pub use patch::Patch;
 pub use press::{Press, pair};
 pub use told::Told;
 pub use version::Version;

@@ -2,20 +2,20 @@
 
 ghost use Rattle.std.specs.Prelude.{◌≡◌, ◌<◌, ◌↔◌, ◌++◌, [], IfOk, IfErr, OnOk, OnErr, IsTrue, MatchBool, length, drop, replicate, slice_index_or};
 ghost use Rattle.std.specs.Arc.{arc_value};
-ghost use Rattle.nav_version.specs.Pairs.{IsPatch, Shows, first_eye};
+ghost use Rattle.nav_version.specs.Pairs.{IsNext, Shows, first_eye};
 ghost use Rattle.nav_version.specs.VersionRule.{IsShown};
 ghost use Rattle.nav_version.specs.Versions.{IsVersion};
 
 use crate::eye::Eye;
 use crate::history::History;
 use crate::next::next_version;
-use crate::patch::Patch;
 use crate::shown::Shown;
 use crate::stage::Stage;
 use crate::told::Told;
 use crate::version::Version;
+use mesh_types::Mesh;
 use nav_ground::{Entry, Reply, Request};
-use nav_list::{Duplicate, Items};
+use nav_list::Items;
 use nav_share::Shared;
 use std::alloc::{AllocError, Global};
 use std::marker::Model;
@@ -172,9 +172,8 @@ impl Press {
         Ok(Eye::opened(reader, self.told()))
     }
 
-    /// Publishes the entries so far and those of the patch, with its tiles in place, and tells the new length. It waits for eyes that still
-    /// read the version from before the last publishing. Where memory is refused, the published version is as before, and the patch comes
-    /// back.
+    /// Publishes the entries so far and further ones, with the mesh that they leave, and tells the new length. It waits for eyes that still
+    /// read the version from before the last publishing. Where memory is refused, the published version is as before.
     ///
     /// All that takes memory comes before the history grows, but for a count of owners that has reached its end. If that is met, a later
     /// publishing goes on from there where its entries begin with those of this one; with other entries it is refused.
@@ -182,26 +181,22 @@ impl Press {
         &mut self,
         rt: &R,
         alloc: Global,
-        patch: Patch,
-    ) -> Result<Told, (Patch, AllocError)>
-        requires { IsPatch self.old.ground self.old.entries patch }
-        ensures published { OnOk result (self.new ≡ record self.old { entries = self.old.entries ++ patch.entries }) }
-        ensures told { IfOk result (λ told. told ≡ record { pair = self.old.pair; entries = self.old.entries ++ patch.entries }) }
+        more: &[Entry],
+        mesh: Shared<Mesh>,
+    ) -> Result<Told, AllocError>
+        requires { IsNext self.old.ground self.old.entries more.now mesh }
+        ensures published { OnOk result (self.new ≡ record self.old { entries = self.old.entries ++ more.now }) }
+        ensures told { IfOk result (λ told. told ≡ record { pair = self.old.pair; entries = self.old.entries ++ more.now }) }
         ensures refused { OnErr result (self.new ≡ self.old) }
-        ensures returned { IfErr result (λ refused. refused.0 ≡ patch) }
     {
-        let next = match next_version(alloc, self.version(), &patch) {
-            Ok(next) => next,
-            Err(refused) => return Err((patch, refused)),
-        };
-        let more = match patch.entries.duplicate(alloc) {
-            Ok(more) => more,
-            Err(refused) => return Err((patch, refused)),
-        };
-        if !self.show(rt, alloc, next, more) {
-            return Err((patch, AllocError));
+        let next = next_version(alloc, self.version(), more, mesh)?;
+        let mut own = Vec::with_capacity(alloc, more.len())?;
+        own.extend_from_slice(more)?;
+        if self.show(rt, alloc, next, Items::from_vec(own)) {
+            Ok(self.told())
+        } else {
+            Err(AllocError)
         }
-        Ok(self.told())
     }
 
     // Shows the next version, at one step, and says whether it did.

@@ -1,4 +1,3 @@
 mod CorridorMeshes
 mod PlaceMeshes
 mod FlatFields
-pub mod OneTilePatches

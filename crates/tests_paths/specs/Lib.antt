@@ -1,4 +1,3 @@
 pub mod CorridorMesh
 pub mod PlaceMesh
 pub mod SmallChains
-pub mod OneTile

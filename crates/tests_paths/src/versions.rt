@@ -1,27 +1,25 @@
 //! A pair over a small flat ground: what its eyes answer before and after a publishing. What is wanted was worked out by hand.
 
-ghost use Rattle.std.specs.Prelude.{◌≡◌, ◌<◌, ◌++◌, [], ◌∷◌, IfOk, OnOk, IfSome, All, length};
+ghost use Rattle.std.specs.Prelude.{◌≡◌, ◌<◌, [], ◌∷◌, IfOk, IfSome, All};
 ghost use Rattle.std.specs.Arc.{arc_value};
 ghost use Rattle.nav_ground.specs.Grounds.{IsGround};
-ghost use Rattle.nav_ground.specs.Tiling.{tile_count};
+ghost use Rattle.nav_ground.specs.Limits.{IsShape};
 ghost use Rattle.logbook.specs.Pages.{Book};
 ghost use Rattle.mesh_types.specs.Soundness.{IsSound};
 ghost use Rattle.mesh_types.specs.WholeMesh.{mesh_of};
 ghost use Rattle.tile_build.specs.Meshes.{tiles_under};
-ghost use Rattle.tests_paths.specs.OneTile.{numbered_tiles};
-ghost use Rattle.nav_version.specs.Pairs.{EyeView, IsPatch};
+ghost use Rattle.nav_version.specs.Pairs.{EyeView, IsNext};
 ghost use Rattle.nav_version.specs.Versions.{IsVersion};
 
 use crate::books::flat_field;
 use crate::rows::hold;
 use layer_cut::ground;
-use mesh_types::{Answer, Mesh, TileMesh};
+use mesh_types::{Answer, Mesh};
 use nav_base::Question;
-use nav_ground::{AREAS, Agent, Entry, Ground, MeshKind, Reply, Request, Setting, Shape, TileNo};
-use nav_list::Items;
+use nav_ground::{AREAS, Agent, Entry, Ground, MeshKind, Reply, Request, Setting, Shape};
 use nav_share::Shared;
 use nav_steps::Steps;
-use nav_version::{Entries, Eye, Patch, Press, Version, pair};
+use nav_version::{Entries, Eye, Press, Version, pair};
 use std::alloc::{AllocError, Global};
 use std::marker::Brand;
 use std::sync::ledger::{Blank, Ledger};
@@ -71,17 +69,23 @@ fn level(alloc: Global) -> Result<Ground, AllocError>
     Ok(level)
 }
 
-/// The mesh of a ground without obstacles.
-fn opening_mesh<L: Ledger>(
+/// The mesh of a ground under obstacles.
+fn mesh_under<L: Ledger>(
     alloc: Global,
     level: &Ground,
-    steps: &mut Steps<L>,
+    shapes: &[Shape],
+    blank: Blank,
 ) -> Result<Mesh, AllocError>
     requires level { IsGround level.now }
-    ensures mesh { IfOk result (λ mesh. mesh ≡ mesh_of level.now.setting (tiles_under level.now [])) }
+    requires shapes { All IsShape shapes.now }
+    requires name { blank.name ≡ L.name }
+    requires parts { blank.parts ≡ L.parts }
+    requires some { 0 < blank.parts }
+    ensures mesh { IfOk result (λ mesh. mesh ≡ mesh_of level.now.setting (tiles_under level.now shapes.now)) }
     ensures sound { IfOk result IsSound }
 {
-    let tiles = build_tiles(alloc, level, &[], steps)?;
+    let mut steps = Steps::<L>::new(blank);
+    let tiles = build_tiles(alloc, level, shapes, &mut steps)?;
     joined(alloc, &level.setting, tiles)
 }
 
@@ -95,69 +99,29 @@ fn opening<L: Ledger>(alloc: Global, level: Ground, blank: Blank) -> Result<Vers
     ensures ground { IfOk result (λ version. arc_value version.ground ≡ level) }
     ensures entries { IfOk result (λ version. version.entries ≡ []) }
 {
-    let mut steps = Steps::<L>::new(blank);
-    let mesh = opening_mesh(alloc, &level, &mut steps)?;
+    let mesh = mesh_under::<L>(alloc, &level, &[], blank)?;
     Ok(Version {
         ground: Arc::new(alloc, level)?,
         entries: Entries::new(alloc)?,
-        mesh,
+        mesh: Shared::new(alloc, mesh)?,
     })
 }
 
-/// Tile meshes, each with the number of its tile.
-fn numbered(
-    alloc: Global,
-    tiles: &[Shared<TileMesh>],
-) -> Result<Vec<(TileNo, Shared<TileMesh>)>, AllocError>
-    ensures { IfOk result (λ news. news.items ≡ numbered_tiles tiles.now) }
-{
-    let mut news = Vec::with_capacity(alloc, tiles.len())?;
-    for tile in tiles {
-        push_numbered(&mut news, tile)?;
-    }
-    Ok(news)
-}
-
-fn push_numbered(
-    news: &mut Vec<(TileNo, Shared<TileMesh>)>,
-    tile: &Shared<TileMesh>,
-) -> Result<(), AllocError>
-    ensures { OnOk result (news.new.items ≡ news.old.items ++ (tile.now.tile, tile.now) ∷ []) }
-{
-    let own = tile.share()?;
-    news.push((tile.get().tile, own))?;
-    Ok(())
-}
-
-/// The tile meshes of a ground under the block, each with the number of its tile.
+/// The mesh of a ground once the block was added to it.
 fn covered<L: Ledger>(
     alloc: Global,
-    level: &Ground,
-    steps: &mut Steps<L>,
-) -> Result<Vec<(TileNo, Shared<TileMesh>)>, AllocError>
-    requires level { IsGround level.now }
-    ensures { IfOk result (λ news. news.items ≡ numbered_tiles (tiles_under level.now (BLOCK ∷ []))) }
-{
-    let tiles = build_tiles(alloc, level, &[BLOCK], steps)?;
-    let news = numbered(alloc, tiles.as_slice())?;
-    Ok(news)
-}
-
-/// The patch that publishes the block over the first version of a ground of one tile.
-fn covering<L: Ledger>(alloc: Global, version: &Version, blank: Blank) -> Result<Patch, AllocError>
+    version: &Version,
+    blank: Blank,
+) -> Result<Shared<Mesh>, AllocError>
     requires rules { IsVersion version.now }
     requires none { version.now.entries ≡ [] }
-    requires one { tile_count (arc_value version.now.ground).setting ≡ 1 }
     requires name { blank.name ≡ L.name }
     requires parts { blank.parts ≡ L.parts }
     requires some { 0 < blank.parts }
-    ensures { IfOk result (λ patch. IsPatch (arc_value version.now.ground) version.now.entries patch) }
+    ensures { IfOk result (IsNext (arc_value version.now.ground) version.now.entries (ADDED ∷ [])) }
 {
-    let mut steps = Steps::<L>::new(blank);
-    let tiles = covered(alloc, &version.ground, &mut steps)?;
-    let mut entries = Items::new(alloc);
-    entries.push(ADDED)?;
-    Ok(Patch { entries, tiles })
+    let mesh = mesh_under::<L>(alloc, &version.ground, &[BLOCK], blank)?;
+    Ok(Shared::new(alloc, mesh)?)
 }
 
 /// The length that an eye names, and how many floors it sees in a column; none where it is refused.
@@ -188,13 +152,13 @@ fn seen_by<R: Wait>(
     press: &mut Press,
     first: &mut Eye,
     second: &mut Eye,
-    patch: Patch,
+    mesh: Shared<Mesh>,
 ) -> Option<Seen>
     requires of { second.old.pair ≡ press.old.pair }
-    requires patch { IsPatch press.old.ground press.old.entries patch }
+    requires next { IsNext press.old.ground press.old.entries (ADDED ∷ []) mesh }
 {
     let before = floors(first, alloc, 2, 2);
-    match press.publish(rt, alloc, patch) {
+    match press.publish(rt, alloc, &[ADDED], mesh) {
         Ok(told) => {
             let length = told.length();
             second.learn(told);
@@ -202,7 +166,7 @@ fn seen_by<R: Wait>(
             let again = floors(first, alloc, 2, 2);
             Some(([before, after, again], [length, second.seen()]))
         }
-        Err((_patch, _refused)) => None,
+        Err(_refused) => None,
     }
 }
 
@@ -228,15 +192,15 @@ fn watched<R: Wait>(
     alloc: Global,
     press: Press,
     eyes: Vec<Eye>,
-    patch: Patch,
+    mesh: Shared<Mesh>,
 ) -> Option<Seen>
     requires eyes { All (λ (eye : EyeView). eye.pair ≡ press.pair) eyes.items }
-    requires patch { IsPatch press.ground press.entries patch }
+    requires next { IsNext press.ground press.entries (ADDED ∷ []) mesh }
 {
     let mut press = sent(press);
     let seen = match both(eyes) {
         Some((mut first, mut second)) => {
-            seen_by(rt, alloc, &mut press, &mut first, &mut second, patch)
+            seen_by(rt, alloc, &mut press, &mut first, &mut second, mesh)
         }
         None => None,
     };
@@ -248,9 +212,9 @@ fn watched<R: Wait>(
 fn eyes_read_what_is_published(rt: HostRuntime) -> Result<(), AllocError> {
     let alloc = rt.alloc();
     let version = opening::<Brand>(alloc, level(alloc)?, Blank::new(1))?;
-    let patch = covering::<Brand>(alloc, &version, Blank::new(1))?;
+    let mesh = covered::<Brand>(alloc, &version, Blank::new(1))?;
     let (press, eyes) = pair(&rt, alloc, version, 2)?;
-    let seen = watched(&rt, alloc, press, eyes, patch);
+    let seen = watched(&rt, alloc, press, eyes, mesh);
     let answers = [Some((0, 1)), Some((1, 0)), Some((1, 0))];
     hold(&rt, "a pair", seen == Some((answers, [1, 1])));
     Ok(())

@@ -1,7 +1,14 @@
-use Rattle.std.proofs.Common.{rules}
-use Rattle.nav_book.proofs.KeptTiles.{opening_is}
+use Rattle.std.proofs.Common.{[], ◌∙◌, rules, sym}
+use Rattle.std.proofs.lemmas.List.Elements.{All-nil}
+use Rattle.nav_ground.specs.Limits.{IsShape}
+use Rattle.nav_level.proofs.GroundTiles.{whole_build}
+use Rattle.nav_book.proofs.Opening.{opening_is}
 use Rattle.tests_paths.proofs.versions.opening.Goals as goal
+
+pub mesh_under-requires-clause-shapes : goal.mesh_under-requires-clause-shapes
+mesh_under-requires-clause-shapes g c = All-nil IsShape
 
 pub returns-clause-rules : goal.returns-clause-rules
 returns-clause-rules g c =
-    opening_is c.args.level _ c.requires.level (search rules) (search rules) c.in_ok-mesh.ensures.mesh c.in_ok-mesh.ensures.sound
+    opening_is c.args.level _ c.requires.level (search rules) (search rules) (search rules ∙ c.in_ok-mesh.ensures.mesh ∙ sym (whole_build c.args.level [] 0))
+    (search rules)
