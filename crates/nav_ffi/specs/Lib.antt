@@ -1,0 +1,7 @@
+pub mod Handles
+pub mod Wire
+pub mod Requests
+pub mod Steps
+pub mod Answers
+pub mod Opening
+pub mod Counts
