@@ -1,0 +1,4 @@
+mod Numbers
+mod NearPoints
+mod Turns
+mod Reaches
