@@ -1,0 +1,7 @@
+//! Tests of straight moves over polygons: public calls alone, against tables that were worked out by hand.
+#![tactic(auto)]
+
+#[cfg(test)]
+mod parts;
+#[cfg(test)]
+mod rows;
