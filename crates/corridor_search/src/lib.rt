@@ -6,7 +6,9 @@
 
 mod corridors;
 mod islands;
+mod link_weights;
 mod mesh_graph;
 mod weights;
 
 pub use corridors::cheapest;
+pub use link_weights::weight_over;
