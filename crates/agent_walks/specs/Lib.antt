@@ -1,0 +1,3 @@
+pub mod Marches
+pub mod Walkers
+pub mod Standings
