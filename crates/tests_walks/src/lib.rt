@@ -5,3 +5,5 @@
 mod parts;
 #[cfg(test)]
 mod rows;
+#[cfg(test)]
+mod walks;
