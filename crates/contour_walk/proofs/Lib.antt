@@ -13,4 +13,5 @@ pub mod Loops
 pub mod Earliest
 pub mod Fabric
 pub mod Contoured
+pub mod ContourRings
 pub mod Fewness

@@ -8,9 +8,11 @@
 
 mod corridors;
 mod islands;
+mod link_weights;
 mod mesh_graph;
 mod weights;
 
 pub use corridors::cheapest;
+pub use link_weights::weight_over;
 pub use mesh_graph::{link_at, link_weight, past_links, polygon_at, push_link_ends, vertex_at};
 pub use weights::extent_at;

@@ -1,9 +1,11 @@
 //! The cut of an outline.
 
-ghost use Rattle.std.specs.Prelude.{◌≡◌, ◌<◌, ◌≤◌, ◌+◌, length, All, pos, ◌<ℤ◌, IfOk, IfErr};
+ghost use Rattle.std.specs.Prelude.{◌≡◌, ◌<◌, ◌≤◌, ◌+◌, length, map, All, pos, ◌<ℤ◌, IfOk, IfErr};
 ghost use Rattle.std.specs.List.{range_with_len};
 ghost use Rattle.nav_base.specs.Point.{HasCoordinates};
 ghost use Rattle.mesh_types.specs.Ears.{AreEarsOf, CanBeCut, IsTriangleOf, outline_area, turn_of, turns_of};
+ghost use Rattle.mesh_types.specs.Merging.{piece_of};
+ghost use Rattle.mesh_types.specs.Edges.{HaveEdgesOnce, KeepOutline};
 ghost use Rattle.ear_cut.specs.Refused.{IsLeft};
 
 use crate::ear::{best_ear, triangle_at};
@@ -26,6 +28,10 @@ pub fn ears(alloc: Global, outline: &Outline) -> Result<Items<Triangle>, EarRefu
 
     // Together they have exactly the area that the outline runs round.
     ensures area { IfOk result (λ triangles. turns_of outline.now.corners triangles ≡ outline_area outline.now.corners) }
+
+    // No two of their edges lead from the same corner to the same other. Each edge of the outline is the edge of one triangle, and none leads back along it.
+    ensures once { IfOk result (λ triangles. HaveEdgesOnce (map piece_of triangles)) }
+    ensures outline { IfOk result (λ triangles. KeepOutline outline.now.corners (map piece_of triangles)) }
 {
     let corners = outline.corners.as_slice();
     let mut rest = places(alloc, corners.len() as u32)?;

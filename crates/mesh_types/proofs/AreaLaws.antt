@@ -1,25 +1,21 @@
 -- Areas: a cut takes away exactly the area of its triangle.
-use Rattle.std.proofs.Common.{◌≡◌, ◌≢◌, ℕ, zero, suc, ◌+◌, ◌-◌, ◌<◌, ◌≤◌, ℤ, pos, ◌+ℤ◌, Bool, true, false, List, [], ◌∷◌, ◌++◌, length, get_or, Option, refl, sym, ap, ◌∙◌, inl, inr, arith}
-use Rattle.std.specs.Prelude.{None, Some, Ok, Err, Result, slice_index, if◌then◌else◌}
+use Rattle.std.proofs.Common.{◌≡◌, ℕ, zero, suc, ◌+◌, ◌-◌, ◌<◌, ◌≤◌, ℤ, pos, ◌+ℤ◌, Bool, true, false, List, [], ◌∷◌, length, Option, refl, sym, ap, ◌∙◌, arith}
+use Rattle.std.specs.Prelude.{None, Some, Ok, Err, Result, if◌then◌else◌}
 use Rattle.std.specs.Int.Signed.{lt_z}
 use Rattle.std.specs.Option.{option_map_or}
 use Rattle.std.specs.List.{remove, range_with_len}
 use Rattle.std.proofs.lemmas.Int.{ints}
-use Rattle.std.proofs.lemmas.Bool.{cases_eq}
-use Rattle.std.proofs.lemmas.Bool.Decides.{nat_tests}
-use Rattle.std.proofs.Math.Seq.{get_or-append_seam}
-use Rattle.std.proofs.lemmas.List.{get_or_append_left}
 use Rattle.std.proofs.lemmas.List.Edits.{length-remove}
 use Rattle.std.proofs.lemmas.List.FromFn.{length-range_with_len}
 use Rattle.nav_base.specs.declared.point.Point.{Point}
 use Rattle.nav_base.specs.Point.{cross_of, dot_of, orient_of}
-use Rattle.nav_base.specs.Convex.{corner_at, place_after}
+use Rattle.nav_base.specs.Convex.{corner_at}
 use Rattle.nav_base.proofs.Polynomials.{sum, equal}
 use Rattle.nav_base.proofs.PointTerms.{place, coordinates, cross_term, orient_term}
 use Rattle.mesh_types.specs.declared.outline.Triangle.{Triangle}
-use Rattle.mesh_types.specs.Ears.{put_before, area_of, outline_area, best_ear, crosses_along, cut_ears, ears_of, triangle_at, turn_of, turns_of}
-use Rattle.mesh_types.specs.Rings.{place_before}
+use Rattle.mesh_types.specs.Ears.{put_before, area_of, outline_area, best_ear, cut_ears, ears_of, triangle_at, turn_of, turns_of}
 use Rattle.mesh_types.proofs.EarLaws.{best_ear-is}
+use Rattle.mesh_types.proofs.Rounds.{round-remove}
 
 -- the crosses along two sides of a triangle, and along the third
 two_sides : (a b c : Point) → cross_of a b +ℤ cross_of b c ≡ cross_of a c +ℤ orient_of a b c
@@ -34,91 +30,17 @@ three_sides a b c =
     equal (coordinates (a ∷ b ∷ c ∷ [])) (sum (cross_term (place 0) (place 1)) (sum (cross_term (place 1) (place 2)) (cross_term (place 2) (place 0))))
     (orient_term (place 0) (place 1) (place 2)) refl
 
-with_rest : (a b c d r : ℤ) → a +ℤ b ≡ c +ℤ d → a +ℤ (b +ℤ r) ≡ (c +ℤ r) +ℤ d
-with_rest a b c d r e = omega (arith, ints)
-
-under_first : (a b c d : ℤ) → b ≡ c +ℤ d → a +ℤ b ≡ (a +ℤ c) +ℤ d
-under_first a b c d e = omega (arith, ints)
-
--- a place taken out of a walk behind its first
-crosses-remove : (corners : List Point) (first here : ℕ) (rest : List ℕ) (i : ℕ) → i < length rest
-    → crosses_along corners first here rest
-    ≡ crosses_along corners first here (remove rest i)
-    +ℤ orient_of (corner_at corners (get_or (here ∷ rest) i 0)) (corner_at corners (get_or rest i 0)) (corner_at corners (get_or (rest ++ first ∷ []) (suc i) 0))
-crosses-remove corners first here [] i below = absurd (omega (arith, below))
-crosses-remove corners first here (x ∷ []) zero below = two_sides (corner_at corners here) (corner_at corners x) (corner_at corners first)
-crosses-remove corners first here (x ∷ y ∷ rest) zero below =
-    with_rest _ _ _ _ (crosses_along corners first y rest) (two_sides (corner_at corners here) (corner_at corners x) (corner_at corners y))
-crosses-remove corners first here (x ∷ rest) (suc i) below = under_first _ _ _ _ (crosses-remove corners first x rest i (omega (arith, below)))
-
--- a walk with another first
-crosses-first : (corners : List Point) (first other here : ℕ) (rest : List ℕ)
-    → crosses_along corners first here rest +ℤ cross_of (corner_at corners (get_or (here ∷ rest) (length rest) 0)) (corner_at corners other)
-    ≡ crosses_along corners other here rest +ℤ cross_of (corner_at corners (get_or (here ∷ rest) (length rest) 0)) (corner_at corners first)
-crosses-first corners first other here [] = swapped (cross_of (corner_at corners here) (corner_at corners first)) (cross_of (corner_at corners here) (corner_at corners other))
-  where
-    swapped : (a b : ℤ) → a +ℤ b ≡ b +ℤ a
-    swapped a b = omega (arith, ints)
-crosses-first corners first other here (next ∷ rest) =
-    let last = corner_at corners (get_or (next ∷ rest) (length rest) 0) in
-    under (cross_of (corner_at corners here) (corner_at corners next)) (crosses_along corners first next rest) (cross_of last (corner_at corners other)) (crosses_along corners other next rest)
-    (cross_of last (corner_at corners first)) (crosses-first corners first other next rest)
-  where
-    under : (a b c d e : ℤ) → b +ℤ c ≡ d +ℤ e → (a +ℤ b) +ℤ c ≡ (a +ℤ d) +ℤ e
-    under a b c d e h = omega (arith, ints)
-
--- the first place taken out
-area-first : (corners : List Point) (b c : ℕ) (rest : List ℕ)
-    → area_of corners (b ∷ c ∷ rest) ≡ area_of corners (c ∷ rest) +ℤ orient_of (corner_at corners (get_or (c ∷ rest) (length rest) 0)) (corner_at corners b) (corner_at corners c)
-area-first corners b c rest =
-    let last = corner_at corners (get_or (c ∷ rest) (length rest) 0) in
-    joined (cross_of (corner_at corners b) (corner_at corners c)) (crosses_along corners b c rest) (crosses_along corners c c rest) (cross_of last (corner_at corners c))
-    (cross_of last (corner_at corners b)) (orient_of last (corner_at corners b) (corner_at corners c)) (crosses-first corners b c c rest)
-    (two_sides last (corner_at corners b) (corner_at corners c))
-  where
-    joined : (bc walk other ac ab turn : ℤ) → walk +ℤ ac ≡ other +ℤ ab → ab +ℤ bc ≡ ac +ℤ turn → bc +ℤ walk ≡ other +ℤ turn
-    joined bc walk other ac ab turn e f = omega (arith, ints)
-
--- positions around another
-before_later : (count i : ℕ) → i ≡ place_before count (suc i)
-before_later count i = grind (arith, nat_tests)
-
-after_first : (count : ℕ) → 2 ≤ count → 1 ≡ place_after count 0
-after_first count more = grind (arith, nat_tests)
-
-after_last : (count i : ℕ) → suc i + 1 ≡ count → 0 ≡ place_after count (suc i)
-after_last count i last = grind (arith, nat_tests)
-
-after_inner : (count i : ℕ) → suc i + 1 ≢ count → suc (suc i) ≡ place_after count (suc i)
-after_inner count i inner = grind (arith, nat_tests)
-
--- the place behind another, in a list that runs round
-behind : (first : ℕ) (rest : List ℕ) (i : ℕ) → i < length rest
-    → get_or (rest ++ first ∷ []) (suc i) 0 ≡ get_or (first ∷ rest) (place_after (length (first ∷ rest)) (suc i)) 0
-behind first rest i below =
-    elim (cases_eq (suc i) (length rest)) [
-      | inl last ↦ ap (λ k. get_or (rest ++ first ∷ []) k 0) last ∙ get_or-append_seam rest first [] 0
-          ∙ ap (λ k. get_or (first ∷ rest) k 0) (after_last (length (first ∷ rest)) i (omega (arith, last)))
-      | inr inner ↦ get_or_append_left rest (first ∷ []) 0 (suc i) (omega (arith, below, inner))
-          ∙ ap (λ k. get_or (first ∷ rest) k 0) (after_inner (length (first ∷ rest)) i (omega (arith, inner)))
-    ]
-
 -- a place taken out of a list that runs round
 pub area-remove : (corners : List Point) (rest : List ℕ) (i : ℕ) → i < length rest → 3 ≤ length rest
     → area_of corners rest ≡ area_of corners (remove rest i) +ℤ turn_of corners (triangle_at rest i)
-area-remove corners [] i below enough = absurd (omega (arith, below))
-area-remove corners (b ∷ []) i below enough = absurd (omega (arith, enough))
-area-remove corners (b ∷ c ∷ rest) zero below enough =
-    let before : get_or (c ∷ rest) (length rest) 0 ≡ slice_index (b ∷ c ∷ rest) (place_before (length (b ∷ c ∷ rest)) 0) =
-    ap (λ k. get_or (b ∷ c ∷ rest) k 0) {x = suc (length rest)} {y = place_before (length (b ∷ c ∷ rest)) 0} (omega arith) in
-    let after : c ≡ slice_index (b ∷ c ∷ rest) (place_after (length (b ∷ c ∷ rest)) 0) = ap (λ k. get_or (b ∷ c ∷ rest) k 0) (after_first (length (b ∷ c ∷ rest)) (omega (arith, enough))) in
-    area-first corners b c rest ∙ (λ j. area_of corners (c ∷ rest) +ℤ orient_of (corner_at corners (before j)) (corner_at corners b) (corner_at corners (after j)))
-area-remove corners (first ∷ c ∷ rest) (suc i) below enough =
-    let there : i < length (c ∷ rest) = omega (arith, below) in
-    let before : get_or (first ∷ c ∷ rest) i 0 ≡ slice_index (first ∷ c ∷ rest) (place_before (length (first ∷ c ∷ rest)) (suc i)) =
-    ap (λ k. get_or (first ∷ c ∷ rest) k 0) (before_later (length (first ∷ c ∷ rest)) i) in
-    crosses-remove corners first first (c ∷ rest) i there
-    ∙ (λ j. crosses_along corners first first (remove (c ∷ rest) i) +ℤ orient_of (corner_at corners (before j)) (corner_at corners (get_or (c ∷ rest) i 0)) (corner_at corners (behind first (c ∷ rest) i there j)))
+area-remove corners rest i below enough =
+    let at : ℕ → Point = corner_at corners in
+    let t : Triangle = triangle_at rest i in
+    left (area_of corners rest) (area_of corners (remove rest i)) (cross_of (at t.a) (at t.c)) (cross_of (at t.a) (at t.b)) (cross_of (at t.b) (at t.c)) (turn_of corners t)
+    (round-remove (λ a b. cross_of (at a) (at b)) rest i below (omega (arith, enough))) (two_sides (at t.a) (at t.b) (at t.c))
+  where
+    left : (r s ac ab bc turn : ℤ) → r +ℤ ac ≡ s +ℤ (ab +ℤ bc) → ab +ℤ bc ≡ ac +ℤ turn → r ≡ s +ℤ turn
+    left r s ac ab bc turn e f = omega (arith, ints)
 
 -- the last three
 last-area : (corners : List Point) (rest : List ℕ) (triangles : List Triangle) → length rest ≡ 3 → (b : Bool)

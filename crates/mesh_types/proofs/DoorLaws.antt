@@ -164,7 +164,7 @@ whole_way u v apart = record {
 
 -- ---- facing doors
 
-facing_points : (parts : List Part) (facets : List Facet) (a b : Door) → IsDoorOf parts facets a → IsDoorOf parts facets b → are_facing a b ≡ true
+pub facing_points : (parts : List Part) (facets : List Facet) (a b : Door) → IsDoorOf parts facets a → IsDoorOf parts facets b → are_facing a b ≡ true
     → (a.begin ≡ b.end) × (a.end ≡ b.begin)
 facing_points parts facets a b is is' facing =
     elim (cases_Bool (share_places a b)) [

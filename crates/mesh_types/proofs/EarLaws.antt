@@ -33,7 +33,7 @@ all_below count =
     (λ i there. let same = get_or-range_with_len 0 count i 0 (omega (arith, there, length-range_with_len 0 count)) in omega (arith, there, same, length-range_with_len 0 count))
 
 -- the position before one is in the list
-place_before-in : (count i : ℕ) → i < count → place_before count i < count
+pub place_before-in : (count i : ℕ) → i < count → place_before count i < count
 place_before-in count i below = grind (arith, nat_tests)
 
 -- the best ear is an ear

@@ -23,6 +23,10 @@ pub mod SquareLaws
 pub mod ChoiceLaws
 pub mod EarLaws
 pub mod MergeLaws
+pub mod Rounds
+pub mod EdgeCounts
+pub mod EarEdges
+pub mod UnionEdges
 pub mod AreaLaws
 pub mod UnionAreas
 pub mod RingLaws

@@ -1,107 +1,38 @@
 -- Areas of pieces: two pieces together have the area of both.
-use Rattle.std.proofs.Common.{◌≡◌, ◌≢◌, ℕ, zero, suc, ◌+◌, ◌<◌, ◌≤◌, ℤ, ◌+ℤ◌, true, List, [], ◌∷◌, ◌++◌, length, get_or, take, drop, map, All, refl, sym, ap, ◌∙◌, inl, inr, arith, length-append, length-drop, length-take, get_or-drop, get_or-take}
-use Rattle.std.specs.Prelude.{slice_index, slice_set, ◌==◌}
+use Rattle.std.proofs.Common.{◌≡◌, ℕ, zero, suc, ◌+◌, ◌<◌, ◌≤◌, ℤ, ◌+ℤ◌, true, List, [], ◌∷◌, length, map, All, refl, sym, ap, ◌∙◌, arith}
+use Rattle.std.specs.Prelude.{slice_index, slice_set}
 use Rattle.std.specs.List.{remove}
 use Rattle.std.proofs.lemmas.Int.{ints}
-use Rattle.std.proofs.lemmas.Bool.{and_parts, cases_eq}
-use Rattle.std.proofs.lemmas.Bool.Decides.{nat_tests}
-use Rattle.std.proofs.lemmas.List.{append-nil, length-map, drop_all, get_or-set_other, get_or_append_left, take-append-drop}
-use Rattle.std.proofs.Math.Seq.{drop-cons}
+use Rattle.std.proofs.lemmas.List.{length-map, get_or-set_other}
 use Rattle.std.proofs.Math.ListN.{length-set}
 use lib.IntN.{neg_ℤ}
 use Rattle.nav_base.specs.declared.point.Point.{Point}
 use Rattle.nav_base.specs.Point.{cross_of}
-use Rattle.nav_base.specs.Convex.{corner_at, place_after}
+use Rattle.nav_base.specs.Convex.{corner_at}
 use Rattle.nav_base.proofs.OrientLaws.{cross_of-exchanged}
 use Rattle.mesh_types.specs.declared.outline.Triangle.{Triangle}
 use Rattle.mesh_types.specs.declared.outline.Piece.{Piece}
-use Rattle.mesh_types.specs.Ears.{area_of, crosses_along, turns_of}
-use Rattle.mesh_types.specs.Merging.{IsPieceOf, Merge, areas_of, edge_end, is_facing, joined, past_edge, piece_of, places_at, union_of}
+use Rattle.mesh_types.specs.Ears.{area_of, turns_of}
+use Rattle.mesh_types.specs.Merging.{IsPieceOf, Merge, areas_of, is_facing, joined, piece_of, places_at, union_of}
 use Rattle.mesh_types.proofs.AreaLaws.{three_sides}
+use Rattle.mesh_types.proofs.Rounds.{round-union}
 use Rattle.mesh_types.proofs.MergeLaws.{piece_at}
-
--- a walk in two parts
-crosses-append : (corners : List Point) (first here : ℕ) (xs : List ℕ) (y : ℕ) (ys : List ℕ)
-    → crosses_along corners first here (xs ++ y ∷ ys) ≡ crosses_along corners y here xs +ℤ crosses_along corners first y ys
-crosses-append corners first here [] y ys = refl
-crosses-append corners first here (x ∷ xs) y ys =
-    ap (λ n. cross_of (corner_at corners here) (corner_at corners x) +ℤ n) (crosses-append corners first x xs y ys)
-    ∙ grouped (cross_of (corner_at corners here) (corner_at corners x)) (crosses_along corners y x xs) (crosses_along corners first y ys)
-  where
-    grouped : (a b c : ℤ) → a +ℤ (b +ℤ c) ≡ (a +ℤ b) +ℤ c
-    grouped a b c = omega (arith, ints)
-
--- the beginning of a list does not matter
-area-rotate : (corners : List Point) (xs ys : List ℕ) → area_of corners (xs ++ ys) ≡ area_of corners (ys ++ xs)
-area-rotate corners [] ys = ap (area_of corners) (sym (append-nil ys))
-area-rotate corners (x ∷ xs) [] = ap (area_of corners) (append-nil (x ∷ xs))
-area-rotate corners (x ∷ xs) (y ∷ ys) =
-    crosses-append corners x x xs y ys ∙ swapped (crosses_along corners y x xs) (crosses_along corners x y ys) ∙ sym (crosses-append corners y y ys x xs)
-  where
-    swapped : (a b : ℤ) → a +ℤ b ≡ b +ℤ a
-    swapped a b = omega (arith, ints)
-
--- a list with the beginning of an edge in front
-area-past : (corners : List Point) (places : List ℕ) (edge : ℕ) → edge < length places
-    → area_of corners places ≡ area_of corners (slice_index places edge ∷ past_edge places edge)
-area-past corners places edge below =
-    ap (area_of corners) (parts places edge below) ∙ area-rotate corners (take edge places) (slice_index places edge ∷ drop (edge + 1) places)
-  where
-    parts : (places : List ℕ) (edge : ℕ) → edge < length places → places ≡ take edge places ++ slice_index places edge ∷ drop (edge + 1) places
-    parts places edge below =
-        sym (take-append-drop edge places)
-        ∙ ap (λ xs. take edge places ++ xs) (drop-cons places edge 0 below ∙ ap (λ k. slice_index places edge ∷ drop k places) {x = suc edge} {y = edge + 1} (omega arith))
-
--- positions behind the last and behind another
-after_end : (count i : ℕ) → i + 1 ≡ count → 0 ≡ place_after count i
-after_end count i last = grind (arith, nat_tests)
-
-after_other : (count i : ℕ) → i + 1 ≢ count → i + 1 ≡ place_after count i
-after_other count i inner = grind (arith, nat_tests)
-
--- what stands behind an edge begins where the edge ends
-past-first : (places : List ℕ) (edge : ℕ) → edge < length places → 2 ≤ length places → get_or (past_edge places edge) 0 0 ≡ edge_end places edge
-past-first places edge below enough =
-    elim (cases_eq (edge + 1) (length places)) [
-      | inl last ↦ ap (λ xs. get_or (xs ++ take edge places) 0 0) (drop_all (edge + 1) places (omega (arith, last))) ∙ get_or-take edge places 0 0 (omega (arith, last, enough))
-          ∙ ap (λ k. get_or places k 0) (after_end (length places) edge last)
-      | inr inner ↦ get_or_append_left (drop (edge + 1) places) (take edge places) 0 0 (omega (arith, below, inner, length-drop (edge + 1) places))
-          ∙ get_or-drop (edge + 1) places 0 0 ∙ ap (λ k. get_or places k 0) {x = edge + 1 + 0} {y = edge + 1} (omega arith) ∙ ap (λ k. get_or places k 0) (after_other (length places) edge inner)
-    ]
-
-past-some : (places : List ℕ) (edge : ℕ) → edge < length places → 2 ≤ length places → 0 < length (past_edge places edge)
-past-some places edge below enough = simp (length-append, length-drop, length-take) (omega (arith, below, enough))
-
--- two lists with an edge in opposite directions
-area-both : (corners : List Point) (i j : ℕ) (xs ys : List ℕ) → get_or xs 0 0 ≡ j → get_or ys 0 0 ≡ i → 0 < length xs → 0 < length ys
-    → area_of corners (xs ++ ys) ≡ area_of corners (i ∷ xs) +ℤ area_of corners (j ∷ ys)
-area-both corners i j [] ys is_j is_i some some' = absurd (omega (arith, some))
-area-both corners i j (x ∷ xs) [] is_j is_i some some' = absurd (omega (arith, some'))
-area-both corners i j (x ∷ xs) (y ∷ ys) is_j is_i some some' =
-    crosses-append corners x x xs y ys
-    ∙ (λ k. crosses_along corners (is_i k) x xs +ℤ crosses_along corners (is_j k) y ys)
-    ∙ cancelled (cross_of (corner_at corners i) (corner_at corners x)) (cross_of (corner_at corners j) (corner_at corners y)) (crosses_along corners i x xs) (crosses_along corners j y ys)
-    ((λ k. cross_of (corner_at corners (sym is_i k)) (corner_at corners x)) ∙ cross_of-exchanged (corner_at corners x) (corner_at corners y)
-    ∙ (λ k. neg_ℤ (cross_of (corner_at corners (is_j k)) (corner_at corners y))))
-  where
-    cancelled : (a b c d : ℤ) → a ≡ neg_ℤ b → c +ℤ d ≡ (a +ℤ c) +ℤ (b +ℤ d)
-    cancelled a b c d e = omega (arith, ints)
 
 -- two pieces over a shared edge
 pub area-union : (corners : List Point) (pieces : List Piece) (m : Merge) → m.edge < length (places_at pieces m.first) → m.facing < length (places_at pieces m.second)
     → 2 ≤ length (places_at pieces m.first) → 2 ≤ length (places_at pieces m.second) → is_facing (places_at pieces m.first) m.edge (places_at pieces m.second) m.facing ≡ true
     → area_of corners (union_of pieces m) ≡ area_of corners (places_at pieces m.first) +ℤ area_of corners (places_at pieces m.second)
 area-union corners pieces m edge facing more more' faces =
+    let at : ℕ → Point = corner_at corners in
     let p = places_at pieces m.first in
     let q = places_at pieces m.second in
-    let both = and_parts (slice_index q m.facing == edge_end p m.edge) (edge_end q m.facing == slice_index p m.edge) faces in
-    area-both corners (slice_index p m.edge) (slice_index q m.facing) (past_edge p m.edge) (past_edge q m.facing)
-    (past-first p m.edge edge more ∙ sym (same (slice_index q m.facing) (edge_end p m.edge) both.0)) (past-first q m.facing facing more' ∙ same (edge_end q m.facing) (slice_index p m.edge) both.1)
-    (past-some p m.edge edge more) (past-some q m.facing facing more')
-    ∙ (λ k. sym (area-past corners p m.edge edge) k +ℤ sym (area-past corners q m.facing facing) k)
+    let i : Point = at (slice_index p m.edge) in
+    let j : Point = at (slice_index q m.facing) in
+    left (area_of corners (union_of pieces m)) (area_of corners p) (area_of corners q) (cross_of i j) (cross_of j i)
+    (round-union (λ a b. cross_of (at a) (at b)) p q m.edge m.facing edge facing more more' faces) (cross_of-exchanged j i)
   where
-    same : (a b : ℕ) → (a == b) ≡ true → a ≡ b
-    same a b is = grind (arith, nat_tests)
+    left : (r s t a b : ℤ) → r +ℤ (a +ℤ b) ≡ s +ℤ t → a ≡ neg_ℤ b → r ≡ s +ℤ t
+    left r s t a b e f = omega (arith, ints)
 
 -- ---- sums
 

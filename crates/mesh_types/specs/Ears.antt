@@ -1,7 +1,7 @@
 -- Ears: how an outline is cut into triangles, ear by ear.
 --
 -- The corners of an outline are named by their places, from 0. The remaining places stand in a list that runs round: its first follows its last.
-use Rattle.std.specs.Prelude.{◌≡◌, ℕ, zero, suc, ◌-◌, ◌<◌, ◌≤◌, ℤ, pos, ◌+ℤ◌, Bool, not, ◌&&◌, nat_lt, if◌then◌else◌, List, [], ◌∷◌, length, slice_index, filter, All, Option, Result, Ok, Err}
+use Rattle.std.specs.Prelude.{◌≡◌, ℕ, zero, suc, ◌-◌, ◌<◌, ◌≤◌, ℤ, pos, ◌+ℤ◌, Bool, not, ◌&&◌, nat_lt, List, [], ◌∷◌, length, slice_index, filter, All, Option, Result, Ok, Err, if◌then◌else◌}
 use Rattle.std.specs.Int.Signed.{le_z, lt_z}
 use Rattle.std.specs.Ordering.{int_eq}
 use Rattle.std.specs.Option.{option_map_or}
@@ -13,6 +13,7 @@ use Rattle.nav_base.specs.Deviation.{square_of}
 use Rattle.mesh_types.specs.declared.outline.Triangle.{Triangle}
 use Rattle.mesh_types.specs.Choices.{first_best}
 use Rattle.mesh_types.specs.Rings.{place_before}
+use Rattle.mesh_types.specs.Rounds.{sum_round}
 
 -- an outline that can be cut: it has at least three corners, its places are numbers of 32 bits, and its corners are points of the plane
 pub record CanBeCut (corners : List Point) : Type 0 where
@@ -108,15 +109,9 @@ abbrev pub turns_of : List Point → List Triangle → ℤ
 turns_of corners [] = pos 0
 turns_of corners (t ∷ triangles) = turn_of corners t +ℤ turns_of corners triangles
 
--- the crosses of successive corners of a walk over places, from one place on and at its end to the first
-abbrev pub crosses_along : List Point → ℕ → ℕ → List ℕ → ℤ
-crosses_along corners first here [] = cross_of (corner_at corners here) (corner_at corners first)
-crosses_along corners first here (next ∷ rest) = cross_of (corner_at corners here) (corner_at corners next) +ℤ crosses_along corners first next rest
-
 -- twice the area that places run round, by the cross of each corner and the next
 abbrev pub area_of : List Point → List ℕ → ℤ
-area_of corners [] = pos 0
-area_of corners (first ∷ rest) = crosses_along corners first first rest
+area_of corners places = sum_round (λ a b. cross_of (corner_at corners a) (corner_at corners b)) places
 
 -- twice the area that an outline runs round
 abbrev pub outline_area : List Point → ℤ

@@ -13,6 +13,7 @@ pub mod Builds
 pub mod Corridors
 pub mod Located
 pub mod Chains
+pub mod Folds
 pub mod Taut
 pub mod Floors
 pub mod Rays
@@ -22,8 +23,10 @@ pub mod Hops
 pub mod Rings
 pub mod Simplified
 pub mod Choices
+pub mod Rounds
 pub mod Ears
 pub mod Merging
+pub mod Edges
 pub mod Contours
 pub mod ContourMeshes
 pub mod StripCover

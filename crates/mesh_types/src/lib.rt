@@ -27,6 +27,7 @@ mod polygons;
 mod region;
 mod strip;
 mod tile;
+mod walks;
 
 pub use answers::{Answer, PathFound, RayAnswer};
 pub use asked::Asked;
@@ -47,3 +48,4 @@ pub use polygons::Polygons;
 pub use region::{Code, Region, Regions, UnitEdge};
 pub use strip::Strip;
 pub use tile::{LevelPair, RimEdge, TileMesh};
+pub use walks::WalkAnswer;

@@ -3,6 +3,7 @@
 ghost use Rattle.std.specs.Prelude.{◌≡◌, ◌+◌, ◌≤◌, None, All, IfOk, length};
 ghost use Rattle.mesh_types.specs.Ears.{AreEarsOf, CanBeCut, outline_area};
 ghost use Rattle.mesh_types.specs.Merging.{IsPieceOf, areas_of, best_merge, merged};
+ghost use Rattle.mesh_types.specs.Edges.{HaveEdgesOnce, KeepOutline};
 
 use crate::choice::best_merge;
 use crate::choices::{all_choices, choices_after};
@@ -25,6 +26,10 @@ pub fn merge(
     // Together they have exactly the area that the outline runs round.
     ensures area { IfOk result (λ pieces. areas_of outline.now.corners pieces ≡ outline_area outline.now.corners) }
     ensures few { IfOk result (λ pieces. length pieces + 2 ≤ length outline.now.corners) }
+
+    // No two of their edges lead from the same corner to the same other. Each edge of the outline is the edge of one piece, and none leads back along it.
+    ensures once { IfOk result HaveEdgesOnce }
+    ensures outline { IfOk result (KeepOutline outline.now.corners) }
 
     // No two pieces are left that could be united.
     ensures done { IfOk result (λ pieces. best_merge outline.now.corners pieces ≡ None) }

@@ -9,6 +9,7 @@ use Rattle.mesh_types.specs.declared.outline.Triangle.{Triangle}
 use Rattle.mesh_types.specs.Ears.{ArePlacesOf, ears_of, cut_ears, turn_of, triangle_at, best_ear}
 use Rattle.mesh_types.proofs.EarLaws.{after, all_places, places-remove, cut-begun, cut-more, cut-none, cut-last, cut-last_none, ears_of-triangles}
 use Rattle.mesh_types.proofs.AreaLaws.{ears_of-area}
+use Rattle.mesh_types.proofs.EarEdges.{ears_of-once, ears_of-outline}
 use Rattle.ear_cut.proofs.cut.ears.Goals as goal
 
 pub loop-rest-init : goal.loop-rest-init
@@ -76,3 +77,9 @@ returns-clause-turn c = (ears_of-triangles c.args.outline.now.corners c.from_vec
 
 pub returns-clause-area : goal.returns-clause-area
 returns-clause-area c = ears_of-area c.args.outline.now.corners c.from_vec-2.result c.requires.enough (cut c)
+
+pub returns-clause-once : goal.returns-clause-once
+returns-clause-once c = ears_of-once c.args.outline.now.corners c.from_vec-2.result c.requires.enough (cut c)
+
+pub returns-clause-outline : goal.returns-clause-outline
+returns-clause-outline c = ears_of-outline c.args.outline.now.corners c.from_vec-2.result c.requires.enough (cut c)

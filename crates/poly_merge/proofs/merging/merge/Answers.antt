@@ -2,9 +2,11 @@ use Rattle.std.proofs.Common.{◌≡◌, All, map, length, sym, ap, subst, ◌�
 use Rattle.std.specs.Prelude.{None}
 use Rattle.std.specs.Option.{option_map}
 use Rattle.std.proofs.lemmas.List.{length-map}
+use Rattle.mesh_types.specs.Edges.{HaveEdgesOnce, KeepOutline}
 use Rattle.mesh_types.specs.Merging.{IsPieceOf, areas_of, best_merge, merge_all, piece_of}
 use Rattle.mesh_types.proofs.EarLaws.{ears_of-triangles}
 use Rattle.mesh_types.proofs.AreaLaws.{ears_of-area}
+use Rattle.mesh_types.proofs.UnionEdges.{merged-once, merged-outline}
 use Rattle.mesh_types.proofs.UnionAreas.{area-union, areas-joined, areas-triangles, piece-some}
 use Rattle.mesh_types.proofs.MergeLaws.{length-joined, merge_all-none, merge_all-some, merged-begun, triangles-pieces}
 use Rattle.poly_merge.specs.Seen.{seen}
@@ -90,3 +92,12 @@ returns-clause-value c =
     let none : best_merge corners pieces ≡ None =
     (λ i. best_merge (sym c.as_slice-corners.ensures i) (sym c.as_slice-in-loop-next.ensures.value i)) ∙ sym c.best_merge.ensures.value ∙ ap (option_map seen) c.in_default.is in
     c.from_vec.ensures ∙ sym (c.loop-next.invariant.merged ∙ merge_all-none corners (length pieces) pieces none)
+
+pub returns-clause-once : goal.returns-clause-once
+returns-clause-once c =
+    subst HaveEdgesOnce (sym (returns-clause-value c)) (merged-once c.args.outline.now.corners c.args.triangles c.requires.outline.enough c.requires.triangles)
+
+pub returns-clause-outline : goal.returns-clause-outline
+returns-clause-outline c =
+    subst (KeepOutline c.args.outline.now.corners) (sym (returns-clause-value c))
+    (merged-outline c.args.outline.now.corners c.args.triangles c.requires.outline.enough c.requires.triangles)
