@@ -1,4 +1,4 @@
 mod ColumnParts
 mod MeshFloors
-mod FewLinks
+pub mod FewLinks
 mod PathParts
