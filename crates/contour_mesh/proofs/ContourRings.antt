@@ -3,7 +3,7 @@ use Rattle.std.proofs.Common.{◌≡◌, ℕ, zero, suc, ◌+◌, ◌-◌, ◌<�
 use Rattle.std.specs.Prelude.{All, Contains, Result, Ok, Err, is_some, nat_lt, if◌then◌else◌}
 use Rattle.std.specs.List.{cons_option, filter_map, list_all, range_with_len}
 use Rattle.std.specs.List.Sorted.{IsPermutation}
-use Rattle.std.proofs.lemmas.Bool.{and_parts, both_ways, cases_lt, false_from_ne_true}
+use Rattle.std.proofs.lemmas.Bool.{and_parts, both_ways, cases_lt, false_from_ne_true, ltb-false}
 use Rattle.std.proofs.lemmas.List.{get_or_default, take-append-drop}
 use Rattle.std.proofs.lemmas.List.Elements.{All-contains, Contains-append_cases, Contains-append_left, Contains-append_right}
 use Rattle.std.proofs.lemmas.List.FromFn.{get_or-range_with_len, length-range_with_len}
@@ -36,12 +36,11 @@ use Rattle.mesh_types.specs.Regions.{AreRegionsOf, IsIn, IsStrip, place_in, regi
 use Rattle.mesh_types.specs.Rings.{IsRing}
 use Rattle.mesh_types.specs.Simplified.{changes, does_change, kept_edges, simplified_of}
 use Rattle.mesh_types.specs.Soundness.{IsFit}
-use Rattle.mesh_types.proofs.ContourLaws.{contour_is}
+use Rattle.mesh_types.proofs.FacetLaws.{parts_are}
 use Rattle.mesh_types.proofs.RegionLaws.{cell_there, own_region, stack, woven}
 use Rattle.mono_regions.proofs.RegionsKept.{regions_kept}
 use Rattle.contour_walk.specs.Walk.{bottoms, edge_at as walk_edge, left_side, right_side, round, to_left_end, top_side}
-use Rattle.contour_walk.proofs.Contoured.{walk_contour, walk_ring}
-use Rattle.contour_walk.proofs.Earliest.{IsNoLater, earlier_found, earliest_stays}
+use Rattle.contour_walk.proofs.ContourRings.{contour_ring}
 use Rattle.contour_mesh.specs.declared.outcome.ContourMesh.{ContourMesh}
 use Rattle.contour_mesh.specs.declared.outcome.ContourMesh.TheVariants.{Made, NotCut}
 use Rattle.contour_mesh.specs.Outcomes.{IfMade}
@@ -51,63 +50,7 @@ use Rattle.contour_mesh.proofs.RingStops.{index_of}
 use Rattle.contour_mesh.proofs.RingWalks.{IsBack, RunAlong, before_later, edge_at, some_edge, unchanged}
 use Rattle.contour_mesh.proofs.SharedSteps.{edge_of_outline, edges_shared, outline_of}
 
--- ---- the contour of a region is a ring
-
-record IsEarliest (edges : List UnitEdge) (k : ℕ) : Type 0 where
-  place : ℕ
-  there : 0 < length edges → place < length edges
-  least : (j : ℕ) (d : UnitEdge) → j < k → IsNoLater (get_or edges place d).from (get_or edges j d).from
-
-earliest : (edges : List UnitEdge) (k : ℕ) → k ≤ length edges → IsEarliest edges k
-earliest edges zero most = record { place = 0; there = λ some. some; least = λ j d less. absurd (omega (arith, less)) }
-earliest edges (suc k) most = more (earliest edges k (omega (arith, most)))
-  where
-    more : IsEarliest edges k → IsEarliest edges (suc k)
-    more so_far = by_case (is_point_before (get_or edges k some_edge).from (get_or edges so_far.place some_edge).from) refl
-      where
-        by_case : (b : Bool) → is_point_before (get_or edges k some_edge).from (get_or edges so_far.place some_edge).from ≡ b → IsEarliest edges (suc k)
-        by_case true is =
-            let next = earlier_found edges so_far.place k k some_edge refl (omega (arith, most)) so_far.there is so_far.least in
-            record { place = k; there = next.0; least = λ j d less. next.1 j d (omega (arith, less)) }
-        by_case false is =
-            let next = earliest_stays edges so_far.place so_far.place k some_edge refl (omega (arith, most)) so_far.there is so_far.least in
-            record { place = so_far.place; there = next.0; least = λ j d less. next.1 j d (omega (arith, less)) }
-
-module _ (window : Window) (cells : List Cell) (regions : Regions) (cut : IsCut cells) (are : AreRegionsOf cells regions) (p : ℕ)
-    (there : p < length regions.regions) where
-  abbrev walk : List UnitEdge
-  walk = round (walk_edge window cells regions) (strips_in regions p)
-
-  abbrev ring_of : List UnitEdge
-  ring_of = contour_of window cells regions p
-
-  record IsContourRing : Type 0 where
-    ring : IsRing ring_of
-    rim : IsPermutation (rim_of window cells regions p) ring_of
-    walked : (edge : UnitEdge) → Contains walk edge → Contains ring_of edge
-
-  contour_ring : IsContourRing
-  contour_ring =
-      let first = earliest walk (length walk) (omega arith) in
-      let m : ℕ = first.place in
-      let edges : List UnitEdge = drop m walk ++ take m walk in
-      let ring = walk_ring cells cut.rules regions are p there window walk edges m refl refl in
-      let contour = walk_contour cells cut.rules regions are p there window walk edges m refl refl first.there (λ k d less. first.least k d less) in
-      let same : edges ≡ ring_of = contour_is window cells regions p edges contour ring in
-      record {
-        ring = subst IsRing same ring;
-        rim = subst (IsPermutation (rim_of window cells regions p)) same contour.rim;
-        walked = λ edge held.
-            let P : List UnitEdge → Type 0 = λ es. Contains es edge in
-            subst P same
-            (elim (Contains-append_cases (take m walk) (drop m walk) edge (subst P (sym (take-append-drop m walk)) held)) [
-              | inl early ↦ Contains-append_right (drop m walk) (take m walk) edge early
-              | inr late ↦ Contains-append_left (drop m walk) (take m walk) edge late
-            ]);
-      }
-
-  pub ring_is : IsRing (contour_of window cells regions p)
-  ring_is = contour_ring.ring
+-- ---- the walk round a region
 
 -- the walk has the right end and the left end of its first strip
 right_end : (edge : ℕ → Strip → ℕ → UnitEdge) (s : Strip) (rest : List Strip) → Contains (round edge (s ∷ rest)) (edge 2 s s.x1)
@@ -148,8 +91,8 @@ module _ (window : Window) (cells : List Cell) (regions : Regions) (cut : IsCut 
       let E : List UnitEdge = contour_of window cells regions p in
       let F : List UnitEdge = contour_of window cells regions q in
       let P : UnitEdge → Type 0 = λ edge. edge.code ≡ Region q → HasOtherEdge window cells regions p q edge in
-      let own = contour_ring window cells regions cut are p p-in in
-      let others = contour_ring window cells regions cut are q q-in in
+      let own = contour_ring window cells cut.rules regions are p p-in in
+      let others = contour_ring window cells cut.rules regions are q q-in in
       let each = All-permutation P (rim_of window cells regions p) E own.rim (rims_meet window cells regions cut inside are p q p-in) in
       let found = each k some_edge less coded in
       let held = Contains-permutation (rim_of window cells regions q) F found.other others.rim found.listed in
@@ -160,8 +103,8 @@ module _ (window : Window) (cells : List Cell) (regions : Regions) (cut : IsCut 
   run_along : (p q : ℕ) → p < length regions.regions → q < length regions.regions
       → RunAlong (contour_of window cells regions p) (contour_of window cells regions q) (Region q) (Region p)
   run_along p q p-in q-in = record {
-    ring = (contour_ring window cells regions cut are p p-in).ring;
-    other = (contour_ring window cells regions cut are q q-in).ring;
+    ring = (contour_ring window cells cut.rules regions are p p-in).ring;
+    other = (contour_ring window cells cut.rules regions are q q-in).ring;
     forth = λ k less coded. let is = turned p q k p-in q-in less coded in (is.place, is.there, is.back);
     back = λ k less coded. let is = turned q p k q-in p-in less coded in (is.place, is.there, is.back);
   }
@@ -175,7 +118,7 @@ module _ (window : Window) (cells : List Cell) (regions : Regions) (cut : IsCut 
       let upon = (stack cells regions are q there).upon k d (omega (arith, less)) in
       ap (λ j. (get_or (strips_in regions q) j d).z) {x = suc k} {y = k + 1} (omega arith) ∙ upon.row ∙ omega (arith, before)
 
-  one_in_row : (q : ℕ) (s t : Strip) → q < length regions.regions → Contains (strips_in regions q) s → Contains (strips_in regions q) t → s.z ≡ t.z → s ≡ t
+  pub one_in_row : (q : ℕ) (s t : Strip) → q < length regions.regions → Contains (strips_in regions q) s → Contains (strips_in regions q) t → s.z ≡ t.z → s ≡ t
   one_in_row q s t there own own' same =
       let strips : List Strip = strips_in regions q in
       let at : get_or strips own'.0 s ≡ t = get_or_default strips own'.0 s t own'.1 ∙ own'.2 in
@@ -194,7 +137,7 @@ module _ (window : Window) (cells : List Cell) (regions : Regions) (cut : IsCut 
       by_strips : (strips : List Strip) → strips_in regions p ≡ strips → ⊥
       by_strips [] is = omega (arith, (stack cells regions are p p-in).some, ap length is)
       by_strips (s ∷ rest) is =
-          let ring = contour_ring window cells regions cut are p p-in in
+          let ring = contour_ring window cells cut.rules regions are p p-in in
           let edge : ℕ → Strip → ℕ → UnitEdge = walk_edge window cells regions in
           let P : UnitEdge → List Strip → Type 0 = λ e strips. Contains (round edge strips) e in
           let left : UnitEdge = edge 0 s s.x0 in
@@ -280,10 +223,11 @@ found_at {Y = Y} h first (suc count) k d each less =
         let later = further k (omega (arith, inside)) in
         (ap h {x = first + suc k} {y = first + 1 + k} (omega arith) ∙ later.0, omega (arith, later.1))
 
-pub part_there : (window : Window) (error : ℕ) (cells : List Cell) (regions : Regions) (parts : List Part) → parts_of window error cells regions ≡ Some parts
-    → (p : ℕ) → p < length parts → (p < length regions.regions) × (region_part window error cells regions p ≡ Some (get_or parts p no_part))
+-- each region has its part
+pub part_found : (window : Window) (error : ℕ) (cells : List Cell) (regions : Regions) (parts : List Part) → parts_of window error cells regions ≡ Some parts
+    → (p : ℕ) → p < length regions.regions → (p < length parts) × (region_part window error cells regions p ≡ Some (get_or parts p no_part))
 unfolding parts_of
-part_there window error cells regions parts is p less = by_case (list_all (λ id. is_some (region_part window error cells regions id)) (region_numbers regions)) refl is
+part_found window error cells regions parts is p inside = by_case (list_all (λ id. is_some (region_part window error cells regions id)) (region_numbers regions)) refl is
   where
     h : ℕ → Option Part
     h = region_part window error cells regions
@@ -291,42 +235,38 @@ part_there window error cells regions parts is p less = by_case (list_all (λ id
     n : ℕ
     n = length regions.regions
 
-    few : (first count : ℕ) → length (filter_map (region_part window error cells regions) (range_with_len first count)) ≤ count
-    few first zero = omega arith
-    few first (suc count) = by_found (region_part window error cells regions first) (few (first + 1) count)
-      where
-        by_found : (o : Option Part) → length (filter_map (region_part window error cells regions) (range_with_len (first + 1) count)) ≤ count
-            → length (cons_option o (filter_map (region_part window error cells regions) (range_with_len (first + 1) count))) ≤ suc count
-        by_found None le = omega (arith, le)
-        by_found (Some part) le = omega (arith, le)
-
     by_case : (b : Bool) → list_all (λ id. is_some (region_part window error cells regions id)) (region_numbers regions) ≡ b
         → (if b then Some (filter_map (region_part window error cells regions) (region_numbers regions)) else None) ≡ Some parts
-        → (p < length regions.regions) × (region_part window error cells regions p ≡ Some (get_or parts p no_part))
+        → (p < length parts) × (region_part window error cells regions p ≡ Some (get_or parts p no_part))
     by_case false all made = absurd (none-some parts made)
     by_case true all made =
         let same : filter_map h (region_numbers regions) ≡ parts = same_Some (filter_map h (region_numbers regions)) parts made in
-        let inside : p < n = omega (arith, less, ap length same, few 0 n) in
         let each = AllPass-from_list_all (λ id. is_some (h id)) (region_numbers regions) all in
         let at = found_at h 0 n p no_part
         (λ i least most.
         let most' : i < n = omega (arith, most) in
         ap (λ k. is_some (h k)) (sym (get_or-range_with_len 0 n i i most' ∙ omega arith)) ∙ each i i (omega (arith, most', length-range_with_len 0 n))) inside in
-        (inside, ap h {x = p} {y = 0 + p} (omega arith) ∙ at.0 ∙ ap (λ ps. Some (get_or ps p no_part)) same)
+        (omega (arith, at.1, ap length same), ap h {x = p} {y = 0 + p} (omega arith) ∙ at.0 ∙ ap (λ ps. Some (get_or ps p no_part)) same)
 
 -- the outline of a part is what its contour keeps
-pub part_outline : (error : ℕ) (edges : List UnitEdge) (part : Part) → part_of (simplified_of error edges) ≡ Some part → part.outline ≡ outline_of error edges
+pub record IsOutlineOf (error : ℕ) (edges : List UnitEdge) (part : Part) : Type 0 where
+  pub is : part.outline ≡ outline_of error edges
+  pub enough : 3 ≤ length (kept_edges error edges)
+
+pub part_outline : (error : ℕ) (edges : List UnitEdge) (part : Part) → part_of (simplified_of error edges) ≡ Some part → IsOutlineOf error edges part
 unfolding simplified_of
-part_outline error edges part is = by_case (nat_lt (length (kept_edges error edges)) 3) is
+part_outline error edges part is = by_case (nat_lt (length (kept_edges error edges)) 3) refl is
   where
     by_cut : (r : Result (List Triangle) (List ℕ)) → cut_part (outline_of error edges) r ≡ Some part → part.outline ≡ outline_of error edges
     by_cut (Ok triangles) same =
         ap (λ (x : Part). x.outline) (sym (same_Some (record { outline = outline_of error edges; pieces = merged (outline_of error edges).corners triangles }) part same))
     by_cut (Err left) same = absurd (none-some part same)
 
-    by_case : (b : Bool) → part_of (if b then Flat else Outline (outline_of error edges)) ≡ Some part → part.outline ≡ outline_of error edges
-    by_case true same = absurd (none-some part same)
-    by_case false same = by_cut (ears_of (outline_of error edges).corners) same
+    by_case : (b : Bool) → nat_lt (length (kept_edges error edges)) 3 ≡ b → part_of (if b then Flat else Outline (outline_of error edges)) ≡ Some part
+        → IsOutlineOf error edges part
+    by_case true few same = absurd (none-some part same)
+    by_case false many same =
+        record { is = by_cut (ears_of (outline_of error edges).corners) same; enough = ltb-false (length (kept_edges error edges)) 3 many }
 
 -- where the outline of a region has an edge along another region, that one's has it too
 pub outlines_share : (window : Window) (error : ℕ) (cells : List Cell) (regions : Regions) (parts : List Part) → IsCut cells
@@ -334,19 +274,20 @@ pub outlines_share : (window : Window) (error : ℕ) (cells : List Cell) (region
 outlines_share window error cells regions parts cut inside are made p q from to p-in q-in edge =
     let E : List UnitEdge = contour_of window cells regions p in
     let F : List UnitEdge = contour_of window cells regions q in
-    let own = part_there window error cells regions parts made p p-in in
-    let other = part_there window error cells regions parts made q q-in in
-    let outline : (get_or parts p no_part).outline ≡ outline_of error E = part_outline error E (get_or parts p no_part) own.1 in
-    let outline' : (get_or parts q no_part).outline ≡ outline_of error F = part_outline error F (get_or parts q no_part) other.1 in
+    let few = (parts_are window cells cut.rules regions are inside error parts made).few in
+    let p-there : p < length regions.regions = omega (arith, p-in, few) in
+    let q-there : q < length regions.regions = omega (arith, q-in, few) in
+    let outline = (part_outline error E (get_or parts p no_part) (part_found window error cells regions parts made p p-there).1).is in
+    let outline' = (part_outline error F (get_or parts q no_part) (part_found window error cells regions parts made q q-there).1).is in
     let P : outlines.Outline → Type 0 = λ o. HasEdge o from to (Region q) in
     let Q : outlines.Outline → Type 0 = λ o. HasEdge o to from (Region p) in
     let has = subst P outline edge in
     let at = edge_of_outline error E from to (Region q) has in
-    let is = turned window cells regions cut inside are p q at.place own.0 other.0 at.there at.coded in
+    let is = turned window cells regions cut inside are p q at.place p-there q-there at.there at.coded in
     subst Q (sym outline')
-    (edges_shared error E F (Region q) (Region p) (run_along window cells regions cut inside are p q own.0 other.0)
-    (some_changes window cells regions cut inside are p q at.place own.0 other.0 at.there at.coded)
-    (some_changes window cells regions cut inside are q p is.place other.0 own.0 is.there is.back.coded) from to has)
+    (edges_shared error E F (Region q) (Region p) (run_along window cells regions cut inside are p q p-there q-there)
+    (some_changes window cells regions cut inside are p q at.place p-there q-there at.there at.coded)
+    (some_changes window cells regions cut inside are q p is.place q-there p-there is.there is.back.coded) from to has)
 
 -- so it is in each tile that is made
 tile_shares : (setting : Setting) (tile : TileMesh) → IsFit setting tile → OutlinesShareEdges setting tile.free

@@ -1,8 +1,8 @@
 -- How many doors of a region lead from one place of its outline to another: as many as edges of its pieces do.
-use Rattle.std.proofs.Common.{◌≡◌, ℕ, ◌+◌, ◌<◌, ◌≤◌, Bool, true, false, cond, List, [], ◌∷◌, length, get_or, refl, sym, ap, subst, ◌∙◌, arith}
+use Rattle.std.proofs.Common.{◌≡◌, ℕ, ◌+◌, ◌<◌, ◌≤◌, Bool, true, false, cond, List, [], ◌∷◌, length, get_or, refl, sym, ap, subst, ◌∙◌, arith, inl, inr}
 use Rattle.std.specs.Prelude.{All, Contains, ◌==◌, ◌&&◌}
 use Rattle.std.specs.List.{count_by, range_with_len, sum_by}
-use Rattle.std.proofs.lemmas.Bool.{and_parts, eq-eqb, eqb-true}
+use Rattle.std.proofs.lemmas.Bool.{and_parts, cases_lt, eq-eqb, eqb-true}
 use Rattle.std.proofs.lemmas.List.Elements.{Contains-append_right}
 use Rattle.std.proofs.lemmas.List.FromFn.{get_or-range_with_len, length-range_with_len}
 use Rattle.std.proofs.lemmas.List.Sums.{get_or-le-sum_by, sum_by-cons, sum_by-le-sum_by}
@@ -82,16 +82,23 @@ pub record HasDoor (doors : List Door) (r from to : ℕ) : Type 0 where
   pub begins : door.from ≡ from
   pub ends : door.to ≡ to
 
-some_passes : {X : Type 0} (p : X → Bool) (xs : List X) → 1 ≤ count_by p xs → (x : X) × Contains xs x × (p x ≡ true)
-some_passes p [] some = absurd (omega (arith, some))
-some_passes {X = X} p (x ∷ xs) some = by_test (p x) refl (some_passes p xs)
+pub some_term : {X : Type 0} (f : X → ℕ) (xs : List X) → 1 ≤ sum_by f xs → (x : X) × Contains xs x × (1 ≤ f x)
+some_term f [] some = absurd (omega (arith, some))
+some_term f (x ∷ xs) some = elim (cases_lt 0 (f x)) [
+  | inl here ↦ (x, (0, omega arith, refl), omega (arith, here))
+  | inr none ↦
+      let found = some_term f xs (omega (arith, some, none, sum_by-cons f x xs)) in
+      (found.0, Contains-append_right (x ∷ []) xs found.0 found.1, found.2)
+]
+
+pub some_passes : {X : Type 0} (p : X → Bool) (xs : List X) → 1 ≤ count_by p xs → (x : X) × Contains xs x × (p x ≡ true)
+some_passes p xs some =
+    let found = some_term (λ x. cond (p x) 1 0) xs some in
+    (found.0, found.1, by_test (p found.0) found.2)
   where
-    by_test : (b : Bool) → p x ≡ b → (1 ≤ count_by p xs → (y : X) × Contains xs y × (p y ≡ true)) → (y : X) × Contains (x ∷ xs) y × (p y ≡ true)
-    by_test true is later = (x, (0, omega arith, refl), is)
-    by_test false is later =
-        let none : count_by p (x ∷ xs) ≡ count_by p xs = sum_by-cons (λ y. cond (p y) 1 0) x xs ∙ ap (λ b. cond b 1 0 + count_by p xs) is ∙ omega arith in
-        let found = later (omega (arith, some, none)) in
-        (found.0, Contains-append_right (x ∷ []) xs found.0 found.1, found.2)
+    by_test : (b : Bool) → 1 ≤ cond b 1 0 → b ≡ true
+    by_test true more = refl
+    by_test false more = absurd (omega (arith, more))
 
 pub door_there : (parts : List Part) (r from to : ℕ) → r < length parts → 1 ≤ edges_between from to (get_or parts r no_part).pieces
     → HasDoor (doors_of (facets_of parts)) r from to

@@ -39,7 +39,7 @@ use Rattle.contour_mesh.proofs.DoorCounts.{doors_over, is_over}
 -- ---- the places of doors
 
 -- a door joins two places of the outline of its region, and has the code between them
-record IsDoorIn (parts : List Part) (door : Door) : Type 0 where
+pub record IsDoorIn (parts : List Part) (door : Door) : Type 0 where
   pub region : door.region < length parts
   pub from : door.from < length (get_or parts door.region no_part).outline.corners
   pub to : door.to < length (get_or parts door.region no_part).outline.corners
@@ -87,7 +87,7 @@ named_once : (code : Option Code) (r s : ℕ) → code ≡ Some (Region r) → c
 named_once code r s is is' = let same : Some (Region r) ≡ Some (Region s) = sym is ∙ is' in cc
 
 -- the code between two places is that of the edge from the one to the next
-coded_next : (outline : outlines.Outline) (from to : ℕ) (code : Code) → code_between outline from to ≡ Some code → to ≡ place_after (length outline.corners) from
+pub coded_next : (outline : outlines.Outline) (from to : ℕ) (code : Code) → code_between outline from to ≡ Some code → to ≡ place_after (length outline.corners) from
 coded_next outline from to code is = by_test (to == place_after (length outline.corners) from) refl is
   where
     by_test : (b : Bool) → (to == place_after (length outline.corners) from) ≡ b → (if b then slice_get outline.codes from else None) ≡ Some code
@@ -155,10 +155,10 @@ module _ (window : Window) (parts : List Part) (sound : All IsSoundPart parts) (
   of_part : (r : ℕ) → r < length parts → IsSoundPart (get_or parts r no_part)
   of_part r there = sound r no_part there
 
-  is_in : (door : Door) → Contains doors door → IsDoorIn parts door
+  pub is_in : (door : Door) → Contains doors door → IsDoorIn parts door
   is_in door has = subst (IsDoorIn parts) has.2 (doors_in window parts (facets_of parts) each has.0 door has.1)
 
-  is_of : (door : Door) → Contains doors door → IsDoorOf parts (facets_of parts) door
+  pub is_of : (door : Door) → Contains doors door → IsDoorOf parts (facets_of parts) door
   is_of door has = subst (IsDoorOf parts (facets_of parts)) has.2 (are has.0 door has.1)
 
   -- doors of one region from one place to another are one door
@@ -209,7 +209,7 @@ module _ (window : Window) (parts : List Part) (sound : All IsSoundPart parts) (
       )
 
   -- doors of one region between the same points
-  between_points : (b c : Door) → Contains doors b → Contains doors c → b.region ≡ c.region → b.begin ≡ c.begin → b.end ≡ c.end → b ≡ c
+  pub between_points : (b c : Door) → Contains doors b → Contains doors c → b.region ≡ c.region → b.begin ≡ c.begin → b.end ≡ c.end → b ≡ c
   between_points b c has has' region begin end =
       let corners : ℕ → List Point = λ r. (get_or parts r no_part).outline.corners in
       let is = is_in b has in

@@ -20,3 +20,6 @@ pub mod SharedCorners
 pub mod SharedSteps
 pub mod NeighbourRims
 pub mod ContourRings
+pub mod CoveredPlaces
+pub mod SideCells
+pub mod ListedCells

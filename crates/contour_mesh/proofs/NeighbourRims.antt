@@ -1,6 +1,6 @@
 -- The rims of two regions run along each other where cells of the one are connected to cells of the other.
 use Rattle.std.proofs.Common.{◌≡◌, ℕ, zero, suc, ◌+◌, ◌-◌, ◌<◌, ◌≤◌, Bool, true, false, ℤ, pos, ◌≤ℤ◌, List, [], map, filter, length, get_or, Option, Some, None, ap, ◌∙◌, sym, refl, subst, arith}
-use Rattle.std.specs.Prelude.{All, Contains, option_and_then, ◌==◌, ◌&&◌, int_le, is_some, nat_le, not, slice_get, if◌then◌else◌}
+use Rattle.std.specs.Prelude.{All, Contains, option_and_then, ◌==◌, ◌&&◌, is_some, nat_le, not, slice_get, if◌then◌else◌}
 use Rattle.std.specs.List.{find, list_any, range_with_len}
 use Rattle.std.specs.Option.{option_map_or}
 use Rattle.std.proofs.lemmas.Bool.{and_parts, both_ways, eq-eqb, eqb-false, eqb-true, leb-true, false_from_ne_true, ne_eqb}
@@ -31,6 +31,7 @@ use Rattle.mesh_types.specs.StripMeshes.{corner, is_at_side, is_crossing}
 use Rattle.mesh_types.proofs.Gathered.{all_of_each, Contains-filter, Contains-flat_map, Contains-map}
 use Rattle.mesh_types.proofs.Opposites.{opposite_small}
 use Rattle.mesh_types.proofs.RegionLaws.{cell_there, own_region, stack, woven}
+use Rattle.mesh_types.proofs.SidePlaces.{at_most}
 use Rattle.contour_mesh.proofs.RingWalks.{IsBack}
 
 -- ---- what lies beyond an edge with the code of a region
@@ -105,7 +106,7 @@ held_by cells regions are q at is =
         (slice_get_within s.levels (at.x - s.x0) level there, get_or_from_slice_get s.levels (at.x - s.x0) level 0 there ∙ eqb-true level at.level h)
 
 -- so the place is one of the region's
-place_listed : (cells : List Cell) (regions : Regions) → AreRegionsOf cells regions → (q : ℕ) (at : CellRef) → region_at regions at ≡ Some q → Contains (places_in regions q) at
+pub place_listed : (cells : List Cell) (regions : Regions) → AreRegionsOf cells regions → (q : ℕ) (at : CellRef) → region_at regions at ≡ Some q → Contains (places_in regions q) at
 place_listed cells regions are q at is =
     let held = held_by cells regions are q at is in
     let s : Strip = held.strip in
@@ -125,7 +126,7 @@ pub record IsPlaceOf (cells : List Cell) (regions : Regions) (p : ℕ) (at : Cel
   pub place : (cell_in cells at).at ≡ at
   pub region : region_at regions at ≡ Some p
 
-places_own : (cells : List Cell) (regions : Regions) → AreRegionsOf cells regions → (p : ℕ) → p < length regions.regions
+pub places_own : (cells : List Cell) (regions : Regions) → AreRegionsOf cells regions → (p : ℕ) → p < length regions.regions
     → All (IsPlaceOf cells regions p) (places_in regions p)
 places_own cells regions are p there =
     all_of_each (IsPlaceOf cells regions p) (λ (s : Strip). map (place_in s) (columns s)) (strips_in regions p)
@@ -145,9 +146,6 @@ places_own cells regions are p there =
 
 -- ---- an edge, seen from the other side
 
-at_most : (a b : ℤ) → int_le a b ≡ true → a ≤ℤ b
-at_most a b h = grind (arith, ints)
-
 low_side : (w : ℤ) (a b : ℕ) → w ≤ℤ pos a → pos b ≤ℤ w → a < b → ⊥
 low_side w a b low high h = omega (arith, ints)
 
@@ -155,7 +153,7 @@ high_side : (w : ℤ) (a b : ℕ) → pos a ≤ℤ w → w ≤ℤ pos b → b < 
 high_side w a b low high h = omega (arith, ints)
 
 -- a column toward which another lies in the tile is not at that side
-beyond_side : (dir : ℕ) (window : Window) (from to : CellRef) → dir < 4 → is_toward dir from to ≡ true → IsInWindow window to.x to.z → is_at_side window dir from ≡ false
+pub beyond_side : (dir : ℕ) (window : Window) (from to : CellRef) → dir < 4 → is_toward dir from to ≡ true → IsInWindow window to.x to.z → is_at_side window dir from ≡ false
 beyond_side zero window from to small toward inside =
     let at = both_equal (to.x + 1) from.x to.z from.z toward in
     false_from_ne_true (is_at_side window 0 from) (λ h. low_side window.x0 to.x from.x inside.x_least (at_most (pos from.x) window.x0 h) (omega (arith, at.0)))

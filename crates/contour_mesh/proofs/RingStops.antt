@@ -95,7 +95,7 @@ module _ (n : ℕ) (q : ℕ → Bool) where
   next_inner : (t : ℕ) → t + 1 < length passing → next_of t ≡ at (t + 1)
   next_inner t inner = get_or_append_left passing ((at 0 + n) ∷ []) 0 (t + 1) inner
 
-  next_last : (t : ℕ) → t + 1 ≡ length passing → next_of t ≡ at 0 + n
+  pub next_last : (t : ℕ) → t + 1 ≡ length passing → next_of t ≡ at 0 + n
   next_last t last =
       get_or-append_right passing ((at 0 + n) ∷ []) (length passing) (t + 1) 0 refl (omega (arith, last))
       ∙ ap (λ k. get_or ((at 0 + n) ∷ []) k 0) {x = t + 1 - length passing} {y = 0} (omega (arith, last))

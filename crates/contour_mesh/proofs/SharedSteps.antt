@@ -21,7 +21,7 @@ use Rattle.mesh_types.specs.Rings.{beginnings, place_before}
 use Rattle.mesh_types.specs.Simplified.{begins_among, changes, codes_of, does_change, is_among, kept_corners, kept_edges, origin}
 use Rattle.mesh_types.proofs.LinkOrderLaws.{point_total, points_tie}
 use Rattle.contour_mesh.specs.SharedEdges.{HasEdge}
-use Rattle.contour_mesh.proofs.RingStops.{AreNext, below, listed_next, next_is, next_of, passing}
+use Rattle.contour_mesh.proofs.RingStops.{AreNext, below, index_of, listed_next, next_is, next_of, passing}
 use Rattle.contour_mesh.proofs.RingWalks.{HasCode, IsBack, RunAlong, after_inside, begins_back, corners_back, edge_at, not_changed, some_edge, turn, turn_high, turn_inside, turn_low, turned_round, unchanged, walked_back}
 use Rattle.contour_mesh.proofs.SharedCorners.{before_next, change_kept, corner_at, kept_other, run_coded}
 
@@ -57,6 +57,22 @@ abbrev pub is_kept : ℕ → List UnitEdge → ℕ → Bool
 is_kept error E k = begins_among (kept_corners error E) (edge_at E k)
 
 -- ---- from one kept corner to the next
+
+-- between them the code does not change
+kept_stays : (error : ℕ) (E : List UnitEdge) (i j : ℕ) → AreNext (length E) (is_kept error E) i j → (k : ℕ) → i < k → k < j → does_change E (turn (length E) k) ≡ false
+kept_stays error E i j next k low high =
+    let place : ℕ = turn (length E) k in
+    false_from_ne_true (does_change E place)
+    (λ h.
+    let there : place < length E = turn_inside (length E) k (omega (arith, high, next.there, next.round)) in
+    let w = index_of (length E) (does_change E) place there h in
+    both_ways (is_kept error E place) (next.inner k low high)
+    (among_from (kept_corners error E) (edge_at E place).from (change_kept E (omega (arith, w.1)) error place there h)))
+
+-- so all edges have the code of the first
+pub kept_coded : (error : ℕ) (E : List UnitEdge) (i j u : ℕ) → AreNext (length E) (is_kept error E) i j → i + u < j
+    → (edge_at E (turn (length E) (i + u))).code ≡ (edge_at E i).code
+kept_coded error E i j u next less = run_coded E i j next.there next.round (kept_stays error E i j next) u less
 
 -- the same steps, seen from the other ring
 record IsStepBack (error : ℕ) (E F : List UnitEdge) (d : Code) (k j : ℕ) : Type 0 where
@@ -101,14 +117,8 @@ step_back error E F c d are some some' k j next coded =
     wide : k + size < length E + length E
     wide = omega (arith, all, next.there, next.round)
 
-    -- between them the code does not change
-    stays : (i : ℕ) → k < i → i < j → does_change E (turn (length E) i) ≡ false
-    stays i low high = false_from_ne_true (does_change E (turn n i))
-        (λ h. both_ways (is_kept error E (turn n i)) (next.inner i low high)
-        (among_from (kept_corners error E) (edge_at E (turn n i)).from (change_kept E some error (turn n i) (turn_inside n i (omega (arith, high, all, wide))) h)))
-
     code : (u : ℕ) → k + u < j → (edge_at E (turn (length E) (k + u))).code ≡ c
-    code u less = run_coded E k j next.there next.round stays u less ∙ coded
+    code u less = kept_coded error E k j u next less ∙ coded
 
     has : HasCode E c k size
     has = record {
@@ -194,7 +204,7 @@ step_back error E F c d are some some' k j next coded =
 abbrev pub outline_of : ℕ → List UnitEdge → outlines.Outline
 outline_of error E = record { corners = beginnings (kept_edges error E); codes = codes_of (kept_edges error E) }
 
-abbrev places_of : ℕ → List UnitEdge → List ℕ
+abbrev pub places_of : ℕ → List UnitEdge → List ℕ
 places_of error E = passing (length E) (is_kept error E)
 
 edges_are : (error : ℕ) (E : List UnitEdge) → kept_edges error E ≡ map (edge_at E) (places_of error E)
@@ -203,22 +213,22 @@ edges_are error E =
     ap (filter (begins_among (kept_corners error E))) (fill_by_all (edge_at E) E (length E) some_edge refl (λ k there. refl))
     ∙ filter-map (begins_among (kept_corners error E)) (edge_at E) (range_with_len 0 (length E))
 
-kept_count : (error : ℕ) (E : List UnitEdge) → length (kept_edges error E) ≡ length (places_of error E)
+pub kept_count : (error : ℕ) (E : List UnitEdge) → length (kept_edges error E) ≡ length (places_of error E)
 kept_count error E = ap length (edges_are error E) ∙ length-map (places_of error E) (edge_at E)
 
-outline_count : (error : ℕ) (E : List UnitEdge) → length (outline_of error E).corners ≡ length (places_of error E)
+pub outline_count : (error : ℕ) (E : List UnitEdge) → length (outline_of error E).corners ≡ length (places_of error E)
 outline_count error E = length-map (kept_edges error E) (λ (e : UnitEdge). e.from) ∙ kept_count error E
 
 edge_there : (error : ℕ) (E : List UnitEdge) (t : ℕ) → t < length (places_of error E) → get_or (kept_edges error E) t some_edge ≡ edge_at E (get_or (places_of error E) t 0)
 edge_there error E t less = ap (λ es. get_or es t some_edge) (edges_are error E) ∙ get_or-map (edge_at E) (places_of error E) t 0 some_edge less
 
-outline_corner : (error : ℕ) (E : List UnitEdge) (t : ℕ) → t < length (places_of error E)
+pub outline_corner : (error : ℕ) (E : List UnitEdge) (t : ℕ) → t < length (places_of error E)
     → get_or (outline_of error E).corners t origin ≡ (edge_at E (get_or (places_of error E) t 0)).from
 outline_corner error E t less =
     get_or-map (λ (e : UnitEdge). e.from) (kept_edges error E) t some_edge origin (omega (arith, less, kept_count error E))
     ∙ ap (λ (e : UnitEdge). e.from) (edge_there error E t less)
 
-outline_code : (error : ℕ) (E : List UnitEdge) (t : ℕ) → t < length (places_of error E)
+pub outline_code : (error : ℕ) (E : List UnitEdge) (t : ℕ) → t < length (places_of error E)
     → slice_get (outline_of error E).codes t ≡ Some (edge_at E (get_or (places_of error E) t 0)).code
 outline_code error E t less =
     let there : t < length (kept_edges error E) = omega (arith, less, kept_count error E) in

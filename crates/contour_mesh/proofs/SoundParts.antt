@@ -18,7 +18,7 @@ use Rattle.mesh_types.specs.declared.outline.Simplified.TheVariants.{Flat, Outli
 use Rattle.mesh_types.specs.declared.door.Part.{Part}
 use Rattle.mesh_types.specs.Regions.{AreRegionsOf}
 use Rattle.mesh_types.specs.Rings.{AreApart, IsRing, beginnings}
-use Rattle.mesh_types.specs.Simplified.{begins_among, codes_of, kept_corners, simplified_of}
+use Rattle.mesh_types.specs.Simplified.{begins_among, codes_of, kept_corners, kept_edges, simplified_of}
 use Rattle.mesh_types.specs.Ears.{ears_of}
 use Rattle.mesh_types.specs.Edges.{HaveEdgesOnce, KeepOutline}
 use Rattle.mesh_types.specs.Merging.{merged}
@@ -87,7 +87,7 @@ parts_sound window error cells rules' regions are parts is = by_case (list_all (
         let there' : k < length regions.regions = omega (arith, there, count) in
         let id : ℕ = get_or (region_numbers regions) k d in
         let inside : id < length regions.regions = omega (arith, get_or-range_with_len 0 (length regions.regions) k d there', there') in
-        simplified_sound error (contour_of window cells regions id) (contour_ring window cells rules' regions are id inside) part same)
+        simplified_sound error (contour_of window cells regions id) (contour_ring window cells rules' regions are id inside).ring part same)
 
     by_case : (b : Bool) → (if b then Some found else None) ≡ Some parts → All IsSoundPart parts
     by_case true same =

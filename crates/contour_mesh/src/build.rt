@@ -5,7 +5,7 @@ ghost use Rattle.nav_ground.specs.Limits.{IsSetting};
 ghost use Rattle.nav_ground.specs.Cells.{IsCells, IsCut, IsInTile};
 ghost use Rattle.nav_ground.specs.Tiling.{tile_count, tile_window};
 ghost use Rattle.mesh_types.specs.Regions.{AreRegionsOf, regions_of};
-ghost use Rattle.mesh_types.specs.Passages.{AreTwoWay};
+ghost use Rattle.mesh_types.specs.Passages.{AreTwoWay, ListsCrossings};
 ghost use Rattle.mesh_types.specs.Soundness.{IsFit};
 ghost use Rattle.mesh_types.specs.ContourMeshes.{doors_of, door_links, door_rim, facet_polygon, facets_of, parts_mesh};
 ghost use Rattle.contour_walk.specs.Tables.{IsTableOf};
@@ -52,6 +52,9 @@ pub fn contour_mesh_over(
 
     // Where two regions meet, their outlines have the same edges, the other way round.
     ensures shared { IfOk result (IfMade (λ tile. OutlinesShareEdges setting.now tile.free)) }
+
+    // Each free cell with a kept neighbour across a side of the tile is listed by exactly one entry of the rim.
+    ensures listed { IfOk result (IfMade (ListsCrossings setting.now)) }
 {
     let regions = regions(alloc, &free)?;
     let table = region_table(alloc, &free, setting, &regions)?;
@@ -77,6 +80,7 @@ fn mesh_over_regions(
     ensures fit { IfOk result (IfMade (IsFit setting.now)) }
     ensures linked { IfOk result (IfMade (LinksFacing setting.now)) }
     ensures back { IfOk result (IfMade (λ mesh. AreTwoWay mesh.links)) }
+    ensures listed { IfOk result (IfMade (ListsCrossings setting.now)) }
 {
     let cells = free.cells.as_slice();
     match parts(alloc, cells, regions, table, setting.error)? {

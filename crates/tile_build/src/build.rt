@@ -42,7 +42,7 @@ pub fn build_tile<L: Ledger>(
     ensures linked { IfOk result (λ tile. IsOfStrips setting.now tile → LinksConnected tile) }
     ensures facing { IfOk result (λ tile. IsOfOutlines setting.now tile → LinksFacing setting.now tile) }
     ensures back { IfOk result (λ tile. AreTwoWay tile.links) }
-    ensures listed { IfOk result (λ tile. IsOfStrips setting.now tile → ListsCrossings setting.now tile) }
+    ensures listed { IfOk result (ListsCrossings setting.now) }
     ensures step { steps.new ≡ steps.old + 1 }
 {
     steps.tick();
@@ -60,6 +60,7 @@ fn free_mesh(alloc: Global, free: FreeLayer, setting: &Setting) -> Result<TileMe
     ensures value { IfOk result (λ tile. tile ≡ mesh_of_free setting.now free) }
     ensures fit { IfOk result (IsFit setting.now) }
     ensures back { IfOk result (λ tile. AreTwoWay tile.links) }
+    ensures listed { IfOk result (ListsCrossings setting.now) }
 {
     match setting.mesh {
         MeshKind::Strips => strip_mesh_over(alloc, free, setting),
@@ -79,6 +80,7 @@ fn contour_or_strips(
     ensures value { IfOk result (λ tile. tile ≡ unwrap_or (contour_mesh_of setting.now free) (strip_mesh_of setting.now free)) }
     ensures fit { IfOk result (IsFit setting.now) }
     ensures back { IfOk result (λ tile. AreTwoWay tile.links) }
+    ensures listed { IfOk result (ListsCrossings setting.now) }
 {
     match contour_mesh_over(alloc, free, setting)? {
         ContourMesh::Made(tile) => Ok(tile),

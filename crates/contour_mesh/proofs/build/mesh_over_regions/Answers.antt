@@ -5,6 +5,7 @@ use Rattle.mesh_types.specs.Regions.{AreRegionsOf}
 use Rattle.mesh_types.proofs.ContourFit.{contour_mesh_fits}
 use Rattle.contour_mesh.specs.Parts.{IsCutPart}
 use Rattle.contour_mesh.proofs.LinkedTiles.{contour_linked}
+use Rattle.contour_mesh.proofs.ListedCells.{contours_list}
 use Rattle.contour_mesh.proofs.MeshLaws.{few_polygons, mesh_is, no_mesh, no_more_parts, window_fits}
 use Rattle.contour_mesh.proofs.build.mesh_over_regions.Goals as goal
 
@@ -57,3 +58,8 @@ pub returns-in_ok-mesh-in-Some-clause-back : goal.returns-in_ok-mesh-in-Some-cla
 returns-in_ok-mesh-in-Some-clause-back c =
     (contour_linked c.args.setting.now c.args.free c.requires.cells c.requires.tile (subst (AreRegionsOf c.args.free.cells) c.requires.all c.requires.regions)
     c.in_ok-mesh-in-Some.mesh (returns-in_ok-mesh-in-Some-clause-value c)).back
+
+pub returns-in_ok-mesh-in-Some-clause-listed : goal.returns-in_ok-mesh-in-Some-clause-listed
+returns-in_ok-mesh-in-Some-clause-listed c =
+    contours_list c.args.setting.now c.args.free c.requires.cells c.requires.tile (subst (AreRegionsOf c.args.free.cells) c.requires.all c.requires.regions)
+    c.in_ok-mesh-in-Some.mesh (returns-in_ok-mesh-in-Some-clause-value c)
