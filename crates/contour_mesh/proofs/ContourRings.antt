@@ -1,11 +1,10 @@
 -- The contours of two regions run along each other, and so their outlines share the edges between them.
-use Rattle.std.proofs.Common.{◌≡◌, ℕ, zero, suc, ◌+◌, ◌-◌, ◌<◌, ◌≤◌, Bool, true, false, List, [], ◌∷◌, ◌++◌, length, get_or, take, drop, Option, Some, None, ap, ◌∙◌, sym, refl, subst, arith, inl, inr}
+use Rattle.std.proofs.Common.{◌≡◌, ℕ, zero, suc, ◌+◌, ◌-◌, ◌<◌, ◌≤◌, Bool, true, false, List, [], ◌∷◌, ◌++◌, length, get_or, Option, Some, None, ap, ◌∙◌, sym, refl, subst, arith, inl, inr}
 use Rattle.std.specs.Prelude.{All, Contains, Result, Ok, Err, is_some, nat_lt, if◌then◌else◌}
 use Rattle.std.specs.List.{cons_option, filter_map, list_all, range_with_len}
-use Rattle.std.specs.List.Sorted.{IsPermutation}
 use Rattle.std.proofs.lemmas.Bool.{and_parts, both_ways, cases_lt, false_from_ne_true, ltb-false}
-use Rattle.std.proofs.lemmas.List.{get_or_default, take-append-drop}
-use Rattle.std.proofs.lemmas.List.Elements.{All-contains, Contains-append_cases, Contains-append_left, Contains-append_right}
+use Rattle.std.proofs.lemmas.List.{get_or_default}
+use Rattle.std.proofs.lemmas.List.Elements.{All-contains, Contains-append_left, Contains-append_right}
 use Rattle.std.proofs.lemmas.List.FromFn.{get_or-range_with_len, length-range_with_len}
 use Rattle.std.proofs.lemmas.List.Sorted.{All-permutation, Contains-permutation}
 use Rattle.std.proofs.lemmas.List.Sums.{AllPass-from_list_all}
@@ -30,10 +29,8 @@ use Rattle.mesh_types.specs.declared.tile.TileMesh.{TileMesh}
 use Rattle.mesh_types.specs.ContourMeshes.{contour_of, cut_part, no_part, part_of, parts_of, region_numbers, region_part}
 use Rattle.mesh_types.specs.Contours.{cell_in, region_at, rim_of, strips_in}
 use Rattle.mesh_types.specs.Ears.{ears_of}
-use Rattle.mesh_types.specs.LinkOrder.{is_point_before}
 use Rattle.mesh_types.specs.Merging.{merged}
 use Rattle.mesh_types.specs.Regions.{AreRegionsOf, IsIn, IsStrip, place_in, regions_of}
-use Rattle.mesh_types.specs.Rings.{IsRing}
 use Rattle.mesh_types.specs.Simplified.{changes, does_change, kept_edges, simplified_of}
 use Rattle.mesh_types.specs.Soundness.{IsFit}
 use Rattle.mesh_types.proofs.FacetLaws.{parts_are}

@@ -1,5 +1,5 @@
 -- Each place of a ring lies between two places next to each other that pass a test, and between no others. Steps of one along a line.
-use Rattle.std.proofs.Common.{◌≡◌, ℕ, zero, suc, ◌+◌, ◌-◌, ◌<◌, ◌≤◌, Bool, true, false, length, get_or, ap, ◌∙◌, sym, refl, subst, arith, inl, inr}
+use Rattle.std.proofs.Common.{◌≡◌, ℕ, zero, suc, ◌+◌, ◌-◌, ◌<◌, ◌≤◌, Bool, true, false, length, get_or, ap, ◌∙◌, sym, arith, inl, inr}
 use Rattle.std.specs.Prelude.{◌⊎◌, if◌then◌else◌}
 use Rattle.std.proofs.lemmas.Bool.{both_ways, cases_Bool, cases_lt, cases_order}
 use Rattle.contour_mesh.proofs.RingStops.{AreNext, below, index_of, next_is, next_last, next_of, passes, passing}
@@ -23,18 +23,18 @@ last_of q (suc k) = elim (cases_Bool (q (suc k))) [
   | inl is ↦ inl (record { place = suc k; most = omega arith; is = is; none = λ m more most. absurd (omega (arith, more, most)) })
   | inr not ↦ elim (last_of q k) [
     | inl last ↦ inl (record {
-        place = last.place;
-        most = omega (arith, last.most);
-        is = last.is;
-        none = λ m more most. elim (cases_lt k m) [
-          | inl beyond ↦ ap q {x = m} {y = suc k} (omega (arith, beyond, most)) ∙ not
-          | inr before ↦ last.none m more before
-        ];
-      })
-    | inr none ↦ inr (λ m most. elim (cases_lt k m) [
+      place = last.place;
+      most = omega (arith, last.most);
+      is = last.is;
+      none = λ m more most. elim (cases_lt k m) [
         | inl beyond ↦ ap q {x = m} {y = suc k} (omega (arith, beyond, most)) ∙ not
-        | inr before ↦ none m before
-      ])
+        | inr before ↦ last.none m more before
+      ];
+    })
+    | inr none ↦ inr (λ m most. elim (cases_lt k m) [
+      | inl beyond ↦ ap q {x = m} {y = suc k} (omega (arith, beyond, most)) ∙ not
+      | inr before ↦ none m before
+    ])
   ]
 ]
 
