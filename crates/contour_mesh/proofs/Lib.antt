@@ -10,3 +10,16 @@ pub mod PlaceLaws
 pub mod SearchLaws
 pub mod RimLaws
 pub mod MeshLaws
+pub mod SoundParts
+pub mod DoorCounts
+pub mod DoorPairs
+pub mod LinkedTiles
+pub mod RingWalks
+pub mod RingStops
+pub mod SharedCorners
+pub mod SharedSteps
+pub mod NeighbourRims
+pub mod ContourRings
+pub mod CoveredPlaces
+pub mod SideCells
+pub mod ListedCells

@@ -5,3 +5,5 @@ pub mod Orders
 pub mod Sides
 pub mod SidePlaces
 pub mod RimTables
+pub mod Linked
+pub mod SharedEdges

@@ -5,11 +5,14 @@ ghost use Rattle.nav_ground.specs.Limits.{IsSetting};
 ghost use Rattle.nav_ground.specs.Cells.{IsCells, IsCut, IsInTile};
 ghost use Rattle.nav_ground.specs.Tiling.{tile_count, tile_window};
 ghost use Rattle.mesh_types.specs.Regions.{AreRegionsOf, regions_of};
+ghost use Rattle.mesh_types.specs.Passages.{AreTwoWay, ListsCrossings};
 ghost use Rattle.mesh_types.specs.Soundness.{IsFit};
 ghost use Rattle.mesh_types.specs.ContourMeshes.{doors_of, door_links, door_rim, facet_polygon, facets_of, parts_mesh};
 ghost use Rattle.contour_walk.specs.Tables.{IsTableOf};
 ghost use Rattle.contour_mesh.specs.Outcomes.{IsMeshOrCells, IfMade};
+ghost use Rattle.contour_mesh.specs.Linked.{LinksFacing};
 ghost use Rattle.contour_mesh.specs.Parts.{IsCutPart};
+ghost use Rattle.contour_mesh.specs.SharedEdges.{OutlinesShareEdges};
 ghost use Rattle.contour_mesh.specs.Orders.{JoinsCorners, MeetsFacing};
 ghost use Rattle.contour_mesh.specs.Sides.{IsFieldWindow};
 ghost use Rattle.mesh_types.specs.declared.door.Door.{Door};
@@ -42,6 +45,16 @@ pub fn contour_mesh_over(
     requires tile { IsInTile setting.now free.tile free.cells }
     ensures value { IfOk result (IsMeshOrCells setting.now free) }
     ensures fit { IfOk result (IfMade (IsFit setting.now)) }
+
+    // No passage is missing: every two doors that face each other are linked, and each link has its reverse.
+    ensures linked { IfOk result (IfMade (LinksFacing setting.now)) }
+    ensures back { IfOk result (IfMade (λ mesh. AreTwoWay mesh.links)) }
+
+    // Where two regions meet, their outlines have the same edges, the other way round.
+    ensures shared { IfOk result (IfMade (λ tile. OutlinesShareEdges setting.now tile.free)) }
+
+    // Each free cell with a kept neighbour across a side of the tile is listed by exactly one entry of the rim.
+    ensures listed { IfOk result (IfMade (ListsCrossings setting.now)) }
 {
     let regions = regions(alloc, &free)?;
     let table = region_table(alloc, &free, setting, &regions)?;
@@ -65,6 +78,9 @@ fn mesh_over_regions(
     requires window { table.now.window ≡ tile_window setting.now free.tile }
     ensures value { IfOk result (IsMeshOrCells setting.now free) }
     ensures fit { IfOk result (IfMade (IsFit setting.now)) }
+    ensures linked { IfOk result (IfMade (LinksFacing setting.now)) }
+    ensures back { IfOk result (IfMade (λ mesh. AreTwoWay mesh.links)) }
+    ensures listed { IfOk result (IfMade (ListsCrossings setting.now)) }
 {
     let cells = free.cells.as_slice();
     match parts(alloc, cells, regions, table, setting.error)? {

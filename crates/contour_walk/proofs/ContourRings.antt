@@ -1,6 +1,10 @@
--- The contour of each region is a ring.
-use Rattle.std.proofs.Common.{ℕ, zero, suc, ◌<◌, ◌≤◌, List, ◌++◌, length, get_or, take, drop, refl, subst, arith, inl, inr}
+-- The contour of each region is a ring of the edges of its rim.
+use Rattle.std.proofs.Common.{◌≡◌, ℕ, zero, suc, ◌<◌, ◌≤◌, List, ◌++◌, length, get_or, take, drop, refl, subst, sym, arith, inl, inr}
+use Rattle.std.specs.Prelude.{Contains}
+use Rattle.std.specs.List.Sorted.{IsPermutation}
 use Rattle.std.proofs.lemmas.Bool.{cases_Bool}
+use Rattle.std.proofs.lemmas.List.{take-append-drop}
+use Rattle.std.proofs.lemmas.List.Elements.{Contains-append_cases, Contains-append_left, Contains-append_right}
 use Rattle.nav_ground.specs.declared.cell.Cell.{Cell}
 use Rattle.nav_ground.specs.declared.cell.Window.{Window}
 use Rattle.nav_ground.specs.Cells.{IsCells}
@@ -10,7 +14,7 @@ use Rattle.mesh_types.specs.declared.region.UnitEdge.{UnitEdge}
 use Rattle.mesh_types.specs.Regions.{AreRegionsOf}
 use Rattle.mesh_types.specs.Rings.{IsRing}
 use Rattle.mesh_types.specs.Simplified.{origin}
-use Rattle.mesh_types.specs.Contours.{IsContour, strips_in}
+use Rattle.mesh_types.specs.Contours.{IsContour, rim_of, strips_in}
 use Rattle.mesh_types.specs.LinkOrder.{is_point_before}
 use Rattle.mesh_types.specs.ContourMeshes.{contour_of}
 use Rattle.mesh_types.proofs.ContourLaws.{contour_is}
@@ -40,11 +44,29 @@ earliest edges (suc k) most =
 
 module _ (window : Window) (cells : List Cell) (rules' : IsCells cells) (regions : Regions) (are : AreRegionsOf cells regions) (id : ℕ)
     (there : id < length regions.regions) where
-  pub contour_ring : IsRing (contour_of window cells regions id)
+  -- the contour of a region is a ring of the edges of its rim, which are those of the walk round its strips
+  pub record IsContourRing : Type 0 where
+    pub ring : IsRing (contour_of window cells regions id)
+    pub rim : IsPermutation (rim_of window cells regions id) (contour_of window cells regions id)
+    pub walked : (edge : UnitEdge) → Contains (round (edge_at window cells regions) (strips_in regions id)) edge → Contains (contour_of window cells regions id) edge
+
+  pub contour_ring : IsContourRing
   contour_ring =
       let walk : List UnitEdge = round (edge_at window cells regions) (strips_in regions id) in
       let first = earliest walk (length walk) (omega arith) in
-      let edges : List UnitEdge = drop first.place walk ++ take first.place walk in
-      let ring : IsRing edges = walk_ring cells rules' regions are id there window walk edges first.place refl refl in
-      let contour : IsContour window cells regions id edges = walk_contour cells rules' regions are id there window walk edges first.place refl refl first.inside first.least in
-      subst IsRing (contour_is window cells regions id edges contour ring) ring
+      let m : ℕ = first.place in
+      let edges : List UnitEdge = drop m walk ++ take m walk in
+      let ring : IsRing edges = walk_ring cells rules' regions are id there window walk edges m refl refl in
+      let contour : IsContour window cells regions id edges = walk_contour cells rules' regions are id there window walk edges m refl refl first.inside first.least in
+      let same : edges ≡ contour_of window cells regions id = contour_is window cells regions id edges contour ring in
+      record {
+        ring = subst IsRing same ring;
+        rim = subst (IsPermutation (rim_of window cells regions id)) same contour.rim;
+        walked = λ edge held.
+            let P : List UnitEdge → Type 0 = λ es. Contains es edge in
+            subst P same
+            (elim (Contains-append_cases (take m walk) (drop m walk) edge (subst P (sym (take-append-drop m walk)) held)) [
+              | inl early ↦ Contains-append_right (drop m walk) (take m walk) edge early
+              | inr late ↦ Contains-append_left (drop m walk) (take m walk) edge late
+            ]);
+      }

@@ -3,3 +3,4 @@ pub mod FreeInTile
 pub mod BuildTotals
 pub mod GroundTiles
 pub mod TileFits
+pub mod TwoWayTiles

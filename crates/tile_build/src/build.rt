@@ -11,6 +11,7 @@ ghost use Rattle.mesh_types.specs.Passages.{AreTwoWay, LinksConnected, ListsCros
 ghost use Rattle.mesh_types.specs.Soundness.{IsFit};
 ghost use Rattle.mesh_types.specs.StripCover.{CoversCells, IsOfStrips};
 ghost use Rattle.mesh_types.specs.StripMeshes.{strip_mesh_of};
+ghost use Rattle.contour_mesh.specs.Linked.{IsOfOutlines, LinksFacing};
 
 use contour_mesh::{ContourMesh, contour_mesh_over};
 use mesh_types::TileMesh;
@@ -39,8 +40,9 @@ pub fn build_tile<L: Ledger>(
     ensures fit { IfOk result (IsFit setting.now) }
     ensures cover { IfOk result (λ tile. IsOfStrips setting.now tile → CoversCells tile) }
     ensures linked { IfOk result (λ tile. IsOfStrips setting.now tile → LinksConnected tile) }
-    ensures back { IfOk result (λ tile. IsOfStrips setting.now tile → AreTwoWay tile.links) }
-    ensures listed { IfOk result (λ tile. IsOfStrips setting.now tile → ListsCrossings setting.now tile) }
+    ensures facing { IfOk result (λ tile. IsOfOutlines setting.now tile → LinksFacing setting.now tile) }
+    ensures back { IfOk result (λ tile. AreTwoWay tile.links) }
+    ensures listed { IfOk result (ListsCrossings setting.now) }
     ensures step { steps.new ≡ steps.old + 1 }
 {
     steps.tick();
@@ -57,6 +59,8 @@ fn free_mesh(alloc: Global, free: FreeLayer, setting: &Setting) -> Result<TileMe
     requires tile { IsInTile setting.now free.tile free.cells }
     ensures value { IfOk result (λ tile. tile ≡ mesh_of_free setting.now free) }
     ensures fit { IfOk result (IsFit setting.now) }
+    ensures back { IfOk result (λ tile. AreTwoWay tile.links) }
+    ensures listed { IfOk result (ListsCrossings setting.now) }
 {
     match setting.mesh {
         MeshKind::Strips => strip_mesh_over(alloc, free, setting),
@@ -75,6 +79,8 @@ fn contour_or_strips(
     requires tile { IsInTile setting.now free.tile free.cells }
     ensures value { IfOk result (λ tile. tile ≡ unwrap_or (contour_mesh_of setting.now free) (strip_mesh_of setting.now free)) }
     ensures fit { IfOk result (IsFit setting.now) }
+    ensures back { IfOk result (λ tile. AreTwoWay tile.links) }
+    ensures listed { IfOk result (ListsCrossings setting.now) }
 {
     match contour_mesh_over(alloc, free, setting)? {
         ContourMesh::Made(tile) => Ok(tile),

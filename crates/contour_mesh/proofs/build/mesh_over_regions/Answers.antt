@@ -4,6 +4,8 @@ use Rattle.mesh_types.specs.declared.door.Part.{Part}
 use Rattle.mesh_types.specs.Regions.{AreRegionsOf}
 use Rattle.mesh_types.proofs.ContourFit.{contour_mesh_fits}
 use Rattle.contour_mesh.specs.Parts.{IsCutPart}
+use Rattle.contour_mesh.proofs.LinkedTiles.{contour_linked}
+use Rattle.contour_mesh.proofs.ListedCells.{contours_list}
 use Rattle.contour_mesh.proofs.MeshLaws.{few_polygons, mesh_is, no_mesh, no_more_parts, window_fits}
 use Rattle.contour_mesh.proofs.build.mesh_over_regions.Goals as goal
 
@@ -46,3 +48,18 @@ pub returns-in_ok-mesh-in-Some-clause-fit : goal.returns-in_ok-mesh-in-Some-clau
 returns-in_ok-mesh-in-Some-clause-fit c =
     contour_mesh_fits c.args.setting.now c.args.free c.in_ok-mesh-in-Some.mesh c.requires.cells c.requires.tile
     (subst (AreRegionsOf c.args.free.cells) c.requires.all c.requires.regions) (returns-in_ok-mesh-in-Some-clause-value c)
+
+pub returns-in_ok-mesh-in-Some-clause-linked : goal.returns-in_ok-mesh-in-Some-clause-linked
+returns-in_ok-mesh-in-Some-clause-linked c =
+    (contour_linked c.args.setting.now c.args.free c.requires.cells c.requires.tile (subst (AreRegionsOf c.args.free.cells) c.requires.all c.requires.regions)
+    c.in_ok-mesh-in-Some.mesh (returns-in_ok-mesh-in-Some-clause-value c)).linked
+
+pub returns-in_ok-mesh-in-Some-clause-back : goal.returns-in_ok-mesh-in-Some-clause-back
+returns-in_ok-mesh-in-Some-clause-back c =
+    (contour_linked c.args.setting.now c.args.free c.requires.cells c.requires.tile (subst (AreRegionsOf c.args.free.cells) c.requires.all c.requires.regions)
+    c.in_ok-mesh-in-Some.mesh (returns-in_ok-mesh-in-Some-clause-value c)).back
+
+pub returns-in_ok-mesh-in-Some-clause-listed : goal.returns-in_ok-mesh-in-Some-clause-listed
+returns-in_ok-mesh-in-Some-clause-listed c =
+    contours_list c.args.setting.now c.args.free c.requires.cells c.requires.tile (subst (AreRegionsOf c.args.free.cells) c.requires.all c.requires.regions)
+    c.in_ok-mesh-in-Some.mesh (returns-in_ok-mesh-in-Some-clause-value c)

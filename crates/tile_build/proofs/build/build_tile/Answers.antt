@@ -5,9 +5,11 @@ use Rattle.std.proofs.lemmas.Result.{IfOk-weaker}
 use Rattle.nav_ground.specs.Touching.{touching_shapes}
 use Rattle.mesh_types.specs.Builds.{tile_mesh_of}
 use Rattle.mesh_types.specs.ContourMeshes.{mesh_of_free}
-use Rattle.mesh_types.specs.Passages.{AreTwoWay, LinksConnected, ListsCrossings}
+use Rattle.mesh_types.specs.Passages.{LinksConnected}
 use Rattle.mesh_types.specs.StripCover.{CoversCells, IsOfStrips}
-use Rattle.strip_mesh.proofs.StripTiles.{tile_covers, tile_linked, tile_back, tile_lists}
+use Rattle.strip_mesh.proofs.StripTiles.{tile_covers, tile_linked}
+use Rattle.contour_mesh.specs.Linked.{IsOfOutlines, LinksFacing}
+use Rattle.contour_mesh.proofs.LinkedTiles.{outlines_linked}
 use Rattle.tile_build.proofs.LocalTiles.{tile_mesh_local}
 use Rattle.tile_build.proofs.FreeInTile.{free_in_tile}
 use Rattle.tile_build.proofs.build.build_tile.Goals as goal
@@ -39,14 +41,16 @@ pub returns-clause-linked : goal.returns-clause-linked
 returns-clause-linked g c =
     IfOk-weaker c.free_mesh.result _ (λ tile. IsOfStrips c.args.setting.now tile → LinksConnected tile) (tile_linked c.args.setting.now) c.free_mesh.ensures.fit
 
+pub returns-clause-facing : goal.returns-clause-facing
+returns-clause-facing g c =
+    IfOk-weaker c.free_mesh.result _ (λ tile. IsOfOutlines c.args.setting.now tile → LinksFacing c.args.setting.now tile) (outlines_linked c.args.setting.now)
+    c.free_mesh.ensures.fit
+
 pub returns-clause-back : goal.returns-clause-back
-returns-clause-back g c =
-    IfOk-weaker c.free_mesh.result _ (λ tile. IsOfStrips c.args.setting.now tile → AreTwoWay tile.links) (tile_back c.args.setting.now) c.free_mesh.ensures.fit
+returns-clause-back g c = c.free_mesh.ensures.back
 
 pub returns-clause-listed : goal.returns-clause-listed
-returns-clause-listed g c =
-    IfOk-weaker c.free_mesh.result _ (λ tile. IsOfStrips c.args.setting.now tile → ListsCrossings c.args.setting.now tile) (tile_lists c.args.setting.now)
-    c.free_mesh.ensures.fit
+returns-clause-listed g c = c.free_mesh.ensures.listed
 
 pub returns-in_err-free-clause-step : goal.returns-in_err-free-clause-step
 returns-in_err-free-clause-step g c = c.tick.ensures
