@@ -3,3 +3,5 @@ pub mod FreeInTile
 pub mod BuildTotals
 pub mod GroundTiles
 pub mod TileFits
+pub mod BuiltTiles
+pub mod RimPairs
