@@ -1,3 +1,6 @@
+pub mod OneEdge
+pub mod OneWay
+pub mod NoneOverSides
 pub mod LocalTiles
 pub mod FreeInTile
 pub mod BuildTotals
