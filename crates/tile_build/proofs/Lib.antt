@@ -4,7 +4,7 @@ pub mod NoneOverSides
 pub mod LocalTiles
 pub mod FreeInTile
 pub mod BuildTotals
-pub mod GroundTiles
-pub mod TileFits
 pub mod BuiltTiles
 pub mod RimPairs
+pub mod GroundTiles
+pub mod TileFits
