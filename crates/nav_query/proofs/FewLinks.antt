@@ -78,7 +78,7 @@ cost_there (cost ∷ costs) zero there holds =
 cost_there (cost ∷ costs) (suc i) there holds = cost_there costs i (omega (arith, there)) (and_parts (is_cost cost) (list_all is_cost costs) holds).1
 
 -- a link of a mesh weighs at least 1
-some_weight : (mesh : Mesh) (link : Link) → IsSound mesh → IsSetting mesh.setting → IsLinkOf mesh link → 1 ≤ weight_of mesh link
+pub some_weight : (mesh : Mesh) (link : Link) → IsSound mesh → IsSetting mesh.setting → IsLinkOf mesh link → 1 ≤ weight_of mesh link
 some_weight mesh link sound setting is =
     let lead = leads mesh link sound is in
     let costs = mesh.setting.costs in
@@ -92,7 +92,7 @@ some_weight mesh link sound setting is =
     product : (root cost : ℕ) → 1 ≤ cost → 1 ≤ max 1 root * cost
     product root cost some = let least : 1 * 1 ≤ max 1 root * cost = mul-le 1 1 (max 1 root) cost (omega arith) some in omega (arith, least)
 
-cost_of-cons : (mesh : Mesh) (link : Link) (links : List Link) → cost_of mesh (link ∷ links) ≡ weight_of mesh link + cost_of mesh links
+pub cost_of-cons : (mesh : Mesh) (link : Link) (links : List Link) → cost_of mesh (link ∷ links) ≡ weight_of mesh link + cost_of mesh links
 cost_of-cons mesh link links = sum_by-cons (weight_of mesh) link links
 
 -- ---- shorter walks
@@ -135,11 +135,11 @@ shortcut mesh from at to (link ∷ links) sound setting there walk by =
 
 -- ---- walks of least cost
 
-IsLeast : Mesh → PolyRef → List Link → PolyRef → Type 0
+unfoldable pub IsLeast : Mesh → PolyRef → List Link → PolyRef → Type 0
 IsLeast mesh from links to = (other : List Link) → WalksTo mesh from other to → cost_of mesh links ≤ cost_of mesh other
 
 -- what is left of one after its first link is one too
-least_rest : (mesh : Mesh) (from to : PolyRef) (link : Link) (links : List Link) → WalksTo mesh from (link ∷ links) to → IsLeast mesh from (link ∷ links) to
+pub least_rest : (mesh : Mesh) (from to : PolyRef) (link : Link) (links : List Link) → WalksTo mesh from (link ∷ links) to → IsLeast mesh from (link ∷ links) to
     → IsLeast mesh link.to links to
 unfolding IsLeast
 least_rest mesh from to link links walk least =

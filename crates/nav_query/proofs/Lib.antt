@@ -1,4 +1,5 @@
 mod ColumnParts
 mod MeshFloors
 pub mod FewLinks
+pub mod NeverBack
 mod PathParts

@@ -80,12 +80,16 @@ pub few_polygons_under : (whole : Ground) (shapes : List Shape) → IsGround who
 unfolding mesh_of
 few_polygons_under whole shapes rules' limits = few_polygons_of_tiles whole shapes rules' limits
 
+-- each tile has few links
+pub few_links_of_tiles : (whole : Ground) (shapes : List Shape) → IsGround whole → All IsShape shapes → All HasFewLinks (tiles_under whole shapes)
+few_links_of_tiles whole shapes rules' limits =
+    All-weaker IsSmall HasFewLinks (λ tile small. small.links) (tiles_under whole shapes) (small_tiles whole shapes rules' limits)
+
 pub few_links_under : (whole : Ground) (shapes : List Shape) → IsGround whole → All IsShape shapes → link_count (mesh_under whole shapes) ≤ 56000000
 few_links_under whole shapes rules' limits =
     omega (
       arith,
-      few_links whole.setting (tiles_under whole shapes)
-          (All-weaker IsSmall HasFewLinks (λ tile small. small.links) (tiles_under whole shapes) (small_tiles whole shapes rules' limits)),
+      few_links whole.setting (tiles_under whole shapes) (few_links_of_tiles whole shapes rules' limits),
       few_in_tiles whole shapes rules',
     )
 

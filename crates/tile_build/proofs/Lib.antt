@@ -4,6 +4,8 @@ pub mod NoneOverSides
 pub mod LocalTiles
 pub mod FreeInTile
 pub mod BuildTotals
+pub mod BuiltTiles
+pub mod RimPairs
 pub mod GroundTiles
 pub mod TileFits
 pub mod TwoWayTiles

@@ -20,13 +20,13 @@ record IsOnTheWay (u v r l : ℤ) : Type 0 where
   before : ((v -ℤ u) *ℤ (l -ℤ u)) ≤ℤ ((v -ℤ u) *ℤ (v -ℤ u))
 
 -- (v - u) (y - u) is (v - u) (x - u) and (v - u) (y - x)
-split : (u v x y : ℤ) → (v -ℤ u) *ℤ (y -ℤ u) ≡ (v -ℤ u) *ℤ (x -ℤ u) +ℤ (v -ℤ u) *ℤ (y -ℤ x)
+pub split : (u v x y : ℤ) → (v -ℤ u) *ℤ (y -ℤ u) ≡ (v -ℤ u) *ℤ (x -ℤ u) +ℤ (v -ℤ u) *ℤ (y -ℤ x)
 split u v x y =
     equal (u ∷ v ∷ x ∷ y ∷ []) (product (difference (at 1) (at 0)) (difference (at 3) (at 0)))
     (sum (product (difference (at 1) (at 0)) (difference (at 2) (at 0))) (product (difference (at 1) (at 0)) (difference (at 3) (at 2)))) refl
 
 -- (v - u) (y - x) is (u - v) (x - y)
-turned : (u v x y : ℤ) → (v -ℤ u) *ℤ (y -ℤ x) ≡ (u -ℤ v) *ℤ (x -ℤ y)
+pub turned : (u v x y : ℤ) → (v -ℤ u) *ℤ (y -ℤ x) ≡ (u -ℤ v) *ℤ (x -ℤ y)
 turned u v x y =
     equal (u ∷ v ∷ x ∷ y ∷ []) (product (difference (at 1) (at 0)) (difference (at 3) (at 2)))
     (product (difference (at 0) (at 1)) (difference (at 2) (at 3))) refl

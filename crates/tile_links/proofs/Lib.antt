@@ -13,3 +13,5 @@ pub mod RimTables
 pub mod TilesFit
 pub mod NearTiles
 pub mod TwoWayMeshes
+pub mod AxisOrders
+pub mod OneWayCrossings

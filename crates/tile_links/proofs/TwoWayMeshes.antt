@@ -139,11 +139,11 @@ side_portal_back (suc (suc (suc zero))) line first last small = refl
 side_portal_back (suc (suc (suc (suc side)))) line first last small = absurd (omega (arith, small))
 
 -- an entry of a tile's rim
-record IsEntry (setting : Setting) (tile : TileMesh) (entry : RimEdge) : Type 0 where
-  held : Contains tile.rim entry
-  rim : IsRimOf setting tile entry
+pub record IsEntry (setting : Setting) (tile : TileMesh) (entry : RimEdge) : Type 0 where
+  pub held : Contains tile.rim entry
+  pub rim : IsRimOf setting tile entry
 
-entries : (setting : Setting) (tile : TileMesh) → IsFit setting tile → All (IsEntry setting tile) tile.rim
+pub entries : (setting : Setting) (tile : TileMesh) → IsFit setting tile → All (IsEntry setting tile) tile.rim
 entries setting tile fit k d there = record { held = All-contains_itself tile.rim k d there; rim = fit.rim k d there }
 
 link_back : (setting : Setting) (a b : TileMesh) (side : ℕ) (entry other : RimEdge) (run : Run) → IsSetting setting → side < 4
@@ -231,7 +231,7 @@ crossing_back setting tiles tile t limits are there =
     }))))))
 
 -- the links that leave a tile, by its number
-links_of_tile : (setting : Setting) (tiles : List TileMesh) (t : ℕ) (links : List Link) → slice_get (map (cross_links setting tiles) tiles) t ≡ Some links
+pub links_of_tile : (setting : Setting) (tiles : List TileMesh) (t : ℕ) (links : List Link) → slice_get (map (cross_links setting tiles) tiles) t ≡ Some links
     → (tile : TileMesh) × (slice_get tiles t ≡ Some tile) × (links ≡ cross_links setting tiles tile)
 links_of_tile setting tiles t links there = by_case (slice_get tiles t) refl
   where
