@@ -12,6 +12,7 @@ ghost use Rattle.nav_run.specs.Answers.{IsLineOf, IsRight, IsTextUnless};
 ghost use Rattle.nav_run.specs.StepCounts.{HasStepped, builds_for};
 
 use crate::input::{Input, InputRefusal, read_input};
+use crate::stage::Stage;
 use nav_io::Gate;
 use nav_live::{LiveText, live};
 use nav_play::{PlayText, play};
@@ -36,11 +37,9 @@ pub(crate) enum Answer {
 
 /// Reads an input and runs its script this way, or writes the line of its fault. The bytes are let go once they are read.
 pub(crate) fn answer_to<R: Threads + Wait + Sync, G: Gate + Sync, L: Ledger>(
-    rt: &R,
-    alloc: Global,
+    stage: &Stage<'_, R, G>,
     way: Way,
     bytes: Vec<u8>,
-    gate: &G,
     steps: &mut Steps<L>,
 ) -> Answer
     requires { length bytes.items ≤ input_limit }
@@ -48,12 +47,12 @@ pub(crate) fn answer_to<R: Threads + Wait + Sync, G: Gate + Sync, L: Ledger>(
     ensures complete { IsInputFor way bytes.items → IsTextUnless result }
     ensures steps { HasStepped way bytes.items steps.old steps.new }
 {
-    let input = match read_whole(alloc, way, bytes) {
+    let input = match read_whole(stage.alloc, way, bytes) {
         Ok(input) => input,
-        Err(InputRefusal::Fault(fault)) => return told(alloc, &fault),
+        Err(InputRefusal::Fault(fault)) => return told(stage.alloc, &fault),
         Err(InputRefusal::OutOfMemory) => return Answer::OutOfMemory,
     };
-    match text_of(rt, alloc, way, input, gate, steps) {
+    match text_of(stage, way, input, steps) {
         Ok(text) => Answer::Text(text),
         Err(_) => Answer::OutOfMemory,
     }
@@ -72,11 +71,9 @@ fn read_whole(alloc: Global, way: Way, bytes: Vec<u8>) -> Result<Input, InputRef
 
 /// Runs the script of an input this way over its field.
 fn text_of<R: Threads + Wait + Sync, G: Gate + Sync, L: Ledger>(
-    rt: &R,
-    alloc: Global,
+    stage: &Stage<'_, R, G>,
     way: Way,
     input: Input,
-    gate: &G,
     steps: &mut Steps<L>,
 ) -> Result<Vec<u8>, AllocError>
     requires runnable { IsRunnable way input.setting input.field input.script }
@@ -90,11 +87,26 @@ fn text_of<R: Threads + Wait + Sync, G: Gate + Sync, L: Ledger>(
     } = input;
     match way {
         Way::Play => {
-            let PlayText { bytes, .. } = play(rt, alloc, setting, field, &script, steps)?;
+            let PlayText { bytes, .. } = play(
+                stage.rt,
+                stage.alloc,
+                setting,
+                field,
+                &script,
+                steps,
+            )?;
             Ok(bytes)
         }
         Way::Live => {
-            let LiveText { bytes } = live(rt, alloc, setting, field, &script, gate, steps)?;
+            let LiveText { bytes } = live(
+                stage.rt,
+                stage.alloc,
+                setting,
+                field,
+                &script,
+                stage.gate,
+                steps,
+            )?;
             Ok(bytes)
         }
     }

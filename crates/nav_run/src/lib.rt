@@ -7,6 +7,7 @@
 mod answer;
 mod input;
 mod made;
+mod stage;
 mod status;
 mod top;
 mod triangles;

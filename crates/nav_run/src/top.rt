@@ -16,6 +16,7 @@ ghost use Rattle.nav_run.specs.StepCounts.{HasRunStepped};
 
 use crate::answer::{Answer, answer_to};
 use crate::made::summarize;
+use crate::stage::Stage;
 use crate::status::Status;
 use crate::triangles::{Rastered, answer_to_triangles};
 use crate::words::{Form, form_of};
@@ -120,17 +121,16 @@ pub fn navd<R: Threads + Wait + Sync, S: Source, K: Sink, G: Gate + Sync, L: Led
     // two for each tile, since each thread counts what it builds by itself.
     ensures steps { HasRunStepped words.now (S.left source.old) (S.left source.new) steps.old steps.new }
 {
-    respond(rt, alloc, words, source, sink, gate, steps)
+    let stage = Stage { rt, alloc, gate };
+    respond(&stage, words, source, sink, steps)
 }
 
 /// Does what the words ask for: answers the input that is read, sums up the made one, or tells that the words are in no form.
 fn respond<R: Threads + Wait + Sync, S: Source, K: Sink, G: Gate + Sync, L: Ledger>(
-    rt: &R,
-    alloc: Global,
+    stage: &Stage<'_, R, G>,
     words: &[String],
     source: &mut S,
     sink: &mut K,
-    gate: &G,
     steps: &mut Steps<L>,
 ) -> Status
     ensures run { HasRun words.now (S.left source.old) (S.left source.new) (S.faults source.old) (S.faults source.new)
@@ -140,9 +140,15 @@ fn respond<R: Threads + Wait + Sync, S: Source, K: Sink, G: Gate + Sync, L: Ledg
     ensures steps { HasRunStepped words.now (S.left source.old) (S.left source.new) steps.old steps.new }
 {
     match form_of(words) {
-        Some(Form::Read { way }) => respond_to_input(rt, alloc, way, source, sink, gate, steps),
-        Some(Form::Raster) => respond_to_triangles(alloc, source, sink),
-        Some(Form::Gen { number, size }) => match summarize(rt, alloc, number, size, steps) {
+        Some(Form::Read { way }) => respond_to_input(stage, way, source, sink, steps),
+        Some(Form::Raster) => respond_to_triangles(stage.alloc, source, sink),
+        Some(Form::Gen { number, size }) => match summarize(
+            stage.rt,
+            stage.alloc,
+            number,
+            size,
+            steps,
+        ) {
             Ok(text) => finish(sink, text.as_slice(), Status::Ok),
             Err(_) => Status::OutOfMemory,
         },
@@ -152,12 +158,10 @@ fn respond<R: Threads + Wait + Sync, S: Source, K: Sink, G: Gate + Sync, L: Ledg
 
 /// Reads the whole input from the source, and answers it with a text of its run this way.
 fn respond_to_input<R: Threads + Wait + Sync, S: Source, K: Sink, G: Gate + Sync, L: Ledger>(
-    rt: &R,
-    alloc: Global,
+    stage: &Stage<'_, R, G>,
     way: Way,
     source: &mut S,
     sink: &mut K,
-    gate: &G,
     steps: &mut Steps<L>,
 ) -> Status
     ensures run { (words : List (String Global)) → IsWayForm way words
@@ -167,13 +171,13 @@ fn respond_to_input<R: Threads + Wait + Sync, S: Source, K: Sink, G: Gate + Sync
     ensures steps { (words : List (String Global)) → IsWayForm way words
         → HasRunStepped words (S.left source.old) (S.left source.new) steps.old steps.new }
 {
-    let input = match read_all(alloc, source, MOST) {
+    let input = match read_all(stage.alloc, source, MOST) {
         Ok(input) => input,
         Err(ReadRefusal::ReadFault) => return Status::ReadFault,
         Err(ReadRefusal::TooLong) => return finish(sink, b"fault too long\n", Status::TooLong),
         Err(ReadRefusal::OutOfMemory) => return Status::OutOfMemory,
     };
-    match answer_to(rt, alloc, way, input, gate, steps) {
+    match answer_to(stage, way, input, steps) {
         Answer::Text(text) => finish(sink, text.as_slice(), Status::Ok),
         Answer::Fault(text) => finish(sink, text.as_slice(), Status::BadText),
         Answer::OutOfMemory => Status::OutOfMemory,
@@ -212,7 +216,7 @@ fn finish<K: Sink>(sink: &mut K, text: &[u8], status: Status) -> Status
 }
 
 /// `navd` with a counter of its own and a gate at which nobody waits, for callers that count nothing. It promises the same but for the
-/// steps.
+/// steps: by the status that it ends with, what `navd` tells in a clause each.
 pub fn run<R: Threads + Wait + Sync, S: Source, K: Sink, L: Ledger>(
     rt: &R,
     alloc: Global,
@@ -224,53 +228,18 @@ pub fn run<R: Threads + Wait + Sync, S: Source, K: Sink, L: Ledger>(
     requires name { blank.name ≡ L.name }
     requires parts { blank.parts ≡ L.parts }
     requires some { 0 < blank.parts }
-    // A text of what was read, or the summary of the made input, whole, to the sink that held what it held.
-    ensures ok { result ≡ Status.Ok → HasDone words.now (S.left source.old) (S.left source.new) (K.held sink.old) (K.held sink.new) }
-
-    // Each refusal has its cause, and the sink holds what is due.
-    ensures bad_text { result ≡ Status.BadText
-        → HasTold words.now (S.left source.old) (S.left source.new) (K.held sink.old) (K.held sink.new) }
-    ensures usage { result ≡ Status.Usage → (¬ IsForm words.now)
-        × Appends (K.held sink.old) (K.held sink.new) usage_text × (S.left source.new ≡ S.left source.old) }
-    ensures read_fault { result ≡ Status.ReadFault → IsReadForm words.now
-        × Rose (S.faults source.old) (S.faults source.new) × Keeps (K.held sink.old) (K.held sink.new) }
-    ensures write_fault { result ≡ Status.WriteFault → Rose (K.faults sink.old) (K.faults sink.new)
-        × HasBroken words.now (S.left source.old) (S.left source.new) (K.held sink.old) (K.held sink.new) }
-    ensures too_long { result ≡ Status.TooLong → IsReadForm words.now
-        × TookMany (S.left source.old) (S.left source.new) (input_limit + 1) × Appends (K.held sink.old) (K.held sink.new) too_long_text }
-    ensures too_many { result ≡ Status.TooManySpans
-        → HasToldMany words.now (S.left source.old) (S.left source.new) (K.held sink.old) (K.held sink.new) }
-    ensures no_memory { result ≡ Status.OutOfMemory → Keeps (K.held sink.old) (K.held sink.new) }
-
-    // What comes where nothing fails but memory.
-    ensures no_form { (¬ IsForm words.now) → (result ≡ Status.Usage) ⊎ (result ≡ Status.WriteFault) }
-    ensures more { IsReadForm words.now → HasMore (S.left source.old) input_limit
-        → (¬ Rose (S.faults source.old) (S.faults source.new)) → (¬ Rose (K.faults sink.old) (K.faults sink.new))
-        → (result ≡ Status.TooLong) ⊎ (result ≡ Status.OutOfMemory) }
-    ensures complete { IfSome (S.left source.old) (λ input. (way : Way) → IsWayForm way words.now
-        → IsInputFor way input → length input ≤ input_limit
-        → (¬ Rose (S.faults source.old) (S.faults source.new)) → (¬ Rose (K.faults sink.old) (K.faults sink.new))
-        → (result ≡ Status.Ok) ⊎ (result ≡ Status.OutOfMemory)) }
-    ensures wrong { IfSome (S.left source.old) (λ input. (way : Way) → IsWayForm way words.now
-        → (¬ IsInputFor way input) → length input ≤ input_limit
-        → (¬ Rose (S.faults source.old) (S.faults source.new)) → (¬ Rose (K.faults sink.old) (K.faults sink.new))
-        → (result ≡ Status.BadText) ⊎ (result ≡ Status.OutOfMemory)) }
-    ensures raster_complete { IfSome (S.left source.old) (λ input. IsRasterForm words.now → HasFewSpans input → length input ≤ input_limit
-        → (¬ Rose (S.faults source.old) (S.faults source.new)) → (¬ Rose (K.faults sink.old) (K.faults sink.new))
-        → (result ≡ Status.Ok) ⊎ (result ≡ Status.OutOfMemory)) }
-    ensures raster_wrong { IfSome (S.left source.old) (λ input. IsRasterForm words.now → (¬ IsLevel input) → length input ≤ input_limit
-        → (¬ Rose (S.faults source.old) (S.faults source.new)) → (¬ Rose (K.faults sink.old) (K.faults sink.new))
-        → (result ≡ Status.BadText) ⊎ (result ≡ Status.OutOfMemory)) }
-    ensures raster_many { IfSome (S.left source.old) (λ input. IsRasterForm words.now → HasTooManySpans input → length input ≤ input_limit
-        → (¬ Rose (S.faults source.old) (S.faults source.new)) → (¬ Rose (K.faults sink.old) (K.faults sink.new))
-        → (result ≡ Status.TooManySpans) ⊎ (result ≡ Status.OutOfMemory)) }
-    ensures made { IsGen words.now → (¬ Rose (K.faults sink.old) (K.faults sink.new))
-        → (result ≡ Status.Ok) ⊎ (result ≡ Status.OutOfMemory) }
+    ensures run { HasRun words.now (S.left source.old) (S.left source.new) (S.faults source.old) (S.faults source.new)
+        (K.held sink.old) (K.held sink.new) (K.faults sink.old) (K.faults sink.new) result }
 
     // At most the bytes of the longest input and one more are gone from the source, and none where no input is read.
     ensures took { TookAtMost (S.left source.old) (S.left source.new) (input_limit + 1) }
     ensures unread { (¬ IsReadForm words.now) → source.new ≡ source.old }
 {
+    let stage = Stage {
+        rt,
+        alloc,
+        gate: &FreeGate,
+    };
     let mut steps = Steps::<L>::new(blank);
-    navd(rt, alloc, words, source, sink, &FreeGate, &mut steps)
+    respond(&stage, words, source, sink, &mut steps)
 }
