@@ -10,7 +10,7 @@ ghost use Rattle.mesh_types.specs.Builds.{build_of};
 ghost use Rattle.mesh_types.specs.Right.{IsRight};
 ghost use Rattle.mesh_types.specs.Soundness.{IsSound, link_count, polygon_count};
 ghost use Rattle.tile_build.specs.Meshes.{tiles_under};
-ghost use Rattle.nav_query.specs.Questions.{HasLowCost, IsAnswerable};
+ghost use Rattle.nav_query.specs.Questions.{HasLowCost, HasUnfoldedWay, IsAnswerable};
 ghost use Rattle.nav_version.specs.Pairs.{eye_of};
 ghost use Rattle.nav_desk.specs.BookState.{IsBook, first_state};
 ghost use Rattle.nav_desk.specs.Steps.{IsJob, next_reply, request_answer, requested, after_request, after_aim, next_job, after_claim, after_put_back, after_put_back_all, submission, after_submit, publication, after_publish};
@@ -198,12 +198,13 @@ impl Book {
     }
 
     /// The published length, and an answer to the question that is right in the mesh as it was last published. A path that is found costs
-    /// less than 2^45.
+    /// less than 2^45, and no portal on its way folds back on the one before it.
     pub fn ask(&self, alloc: Global, question: &Question) -> Result<(u32, Answer), AllocError>
         requires { IsAnswerable question.now }
         ensures published { IfOk result (λ told. told.0 ≡ self.now.state.published) }
         ensures right { IfOk result (λ told. IsRight (published_mesh self.now.state) question.now told.1) }
         ensures low_cost { IfOk result (λ told. HasLowCost told.1) }
+        ensures unfolded { IfOk result (λ told. HasUnfoldedWay told.1) }
     {
         self.ask_by(
             alloc,
@@ -222,6 +223,7 @@ impl Book {
         requires question { Q.can_ask question.now }
         ensures published { IfOk result (λ told. told.0 ≡ self.now.state.published) }
         ensures right { IfOk result (λ told. Q.is_right question.now (published_mesh self.now.state) told.1) }
+        ensures rules { IsBook self.now.state }
     {
         let answer = question.ask(alloc, self.mesh())?;
         Ok((self.desk.published(), answer))

@@ -2,4 +2,5 @@ mod ColumnParts
 mod MeshFloors
 pub mod FewLinks
 pub mod NeverBack
+pub mod UnfoldedBuilds
 mod PathParts

@@ -6,7 +6,8 @@ use Rattle.nav_base.specs.Point.{HasCoordinates}
 use Rattle.mesh_types.specs.declared.answers.Answer.{Answer}
 use Rattle.mesh_types.specs.declared.answers.Answer.TheVariants.{Floors, Path, NoStart, NoGoal, NoPath, Reached, Wall}
 use Rattle.mesh_types.specs.declared.mesh.Mesh.{Mesh}
-use Rattle.mesh_types.specs.Right.{IsRight}
+use Rattle.mesh_types.specs.Folds.{IsUnfolded}
+use Rattle.mesh_types.specs.Right.{IsRight, portals_of}
 use Rattle.nav_query.specs.declared.questions.Asking.{Asking}
 
 -- floors are asked of any column, paths and rays between points with coordinates
@@ -24,6 +25,16 @@ HasLowCost NoGoal = ⊤
 HasLowCost NoPath = ⊤
 HasLowCost (Reached at) = ⊤
 HasLowCost (Wall a b num den) = ⊤
+
+-- no portal on the way of a path that was found folds back on the one before it
+abbrev pub HasUnfoldedWay : Answer → Type 0
+HasUnfoldedWay (Path found) = IsUnfolded (portals_of found.links)
+HasUnfoldedWay (Floors floors) = ⊤
+HasUnfoldedWay NoStart = ⊤
+HasUnfoldedWay NoGoal = ⊤
+HasUnfoldedWay NoPath = ⊤
+HasUnfoldedWay (Reached at) = ⊤
+HasUnfoldedWay (Wall a b num den) = ⊤
 
 -- such a question, asked as one that carries how it is answered: it can be asked where it is answered, and an answer is right where it is right in
 -- the mesh and costs little
