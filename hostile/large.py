@@ -148,7 +148,7 @@ def run(navd, folder, name, word, parts, wanted, share):
 
 
 if __name__ == "__main__":
-    navd = os.path.abspath(sys.argv[1])
+    navd = os.path.abspath(sys.argv[1]) if len(sys.argv) > 1 else sys.exit(__doc__)
     print("| Text | Word | Bytes | Status | First line | Processor time | Memory at most |\n|---|---|---|---|---|---|---|")
     with tempfile.TemporaryDirectory(dir=sys.argv[2] if len(sys.argv) > 2 else None) as folder:
         sys.exit(bool(sum([run(navd, folder, *it) for it in TEXTS[int(sys.argv[3]) - 1 if len(sys.argv) > 3 else 0 :]])))

@@ -450,7 +450,10 @@ def main():
         behind(house, sys.argv[sys.argv.index("--of") + 1])
         return 0
     if "--calls" in sys.argv:
-        calls(house)
+        try:
+            calls(house)
+        except BrokenPipeError:
+            sys.stderr.close()
         return 0
     if "--unused" in sys.argv:
         unused(house)

@@ -43,7 +43,7 @@ FORMS = {
     "end": "end",
     "script": "script LANES WORKERS, LANES 1 to 16, WORKERS 1 to 8",
     "lane": "lane I, I below LANES",
-    "add": "add block X0 X1 Y0 Y1 Z0 Z1 or add cylinder CX CZ R Y0 Y1, X and Z at most 1023, Y at most 8191, CX and CZ at most 2048, R at most 1023, no range backwards",
+    "add": "add block X0 X1 Y0 Y1 Z0 Z1 or add cylinder CX CZ R Y0 Y1, with area A, 1 to 63, behind add where it sets an area; X and Z at most 1023, Y at most 8191, CX and CZ at most 2048, R at most 1023, no range backwards",
     "remove": "remove N",
     "drop": "drop J, J at least 1",
     "floor": "floor X Z, each at most 1023",
