@@ -1,0 +1,3 @@
+mod CorridorParts
+mod LineLaws
+mod Arrivals

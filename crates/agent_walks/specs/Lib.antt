@@ -1,0 +1,4 @@
+pub mod Marches
+pub mod Walkers
+pub mod Standings
+pub mod Questions

@@ -1,0 +1,193 @@
+//! A walker in the mesh of a few cells by hand.
+
+ghost use Rattle.std.specs.Prelude.{◌≡◌, IfOk};
+ghost use Rattle.nav_base.specs.Point.{HasCoordinates, IsCoordinate};
+ghost use Rattle.mesh_types.specs.Soundness.{IsFit, IsSound};
+
+use crate::rows::all_hold;
+use agent_walks::{Place, WalkAnswer, march_in, send_in};
+use mesh_types::{Mesh, PolyRef, TileMesh};
+use nav_base::Point;
+use nav_ground::{AREAS, Agent, Cell, CellRef, FreeLayer, MeshKind, Setting};
+use nav_list::Items;
+use std::alloc::{AllocError, Global};
+use strip_mesh::strip_mesh;
+use tile_links::whole;
+
+/// A cell of the level of its column with the neighbours that it has.
+macro_rules! cell {
+    ($x:expr, $z:expr, $next:expr) => {
+        Cell {
+            at: CellRef {
+                x: $x,
+                z: $z,
+                level: 0,
+            },
+            floor: 10,
+            ceiling: 65535,
+            area: 1,
+            next: $next,
+        }
+    };
+}
+
+/// Two cells in the first row, the second of which is connected to the first of two in the second row, and one apart in the last row.
+static CELLS: [Cell; 5] = [
+    cell!(0, 0, [None, None, Some(0), None]),
+    cell!(1, 0, [Some(0), Some(0), None, None]),
+    cell!(1, 1, [None, None, Some(0), Some(0)]),
+    cell!(2, 1, [Some(0), None, None, None]),
+    cell!(0, 3, [None, None, None, None]),
+];
+
+const SETTING: Setting = Setting {
+    width: 3,
+    depth: 4,
+    tile: 4,
+    agent: Agent {
+        height: 10,
+        climb: 4,
+        radius: 0,
+    },
+    error: 169,
+    mesh: MeshKind::Strips,
+    limit: 4,
+    costs: [2; AREAS],
+    clear: false,
+};
+
+fn tile(alloc: Global) -> Result<TileMesh, AllocError>
+    ensures { IfOk result (IsFit SETTING) }
+{
+    let cells = Vec::from_array(alloc, CELLS)?;
+    let free = FreeLayer {
+        tile: 0,
+        cells: Items::from_vec(cells),
+    };
+    strip_mesh(alloc, &free, &SETTING)
+}
+
+fn mesh(alloc: Global) -> Result<Mesh, AllocError>
+    ensures sound { IfOk result IsSound }
+    ensures setting { IfOk result (λ mesh. mesh.setting ≡ SETTING) }
+{
+    let tile = tile(alloc)?;
+    if tile.polys.len() > 8000000 {
+        return Err(AllocError);
+    }
+    let tiles = Vec::from_array(alloc, [tile])?;
+    whole(alloc, &SETTING, tiles)
+}
+
+/// A place at the height of the floors.
+fn place(x: i32, z: i32) -> Place
+    requires across { IsCoordinate x }
+    requires along { IsCoordinate z }
+    ensures { HasCoordinates result.point }
+{
+    Place {
+        point: Point { x, z },
+        y: 10,
+    }
+}
+
+/// Whether a walker stands in a polygon at a point, with so many links left, which cost so much.
+fn stands(answer: &WalkAnswer, index: u32, x: i32, z: i32, cost: u64, count: usize) -> bool {
+    match answer {
+        WalkAnswer::Walking {
+            at,
+            point,
+            y,
+            cost: left,
+            links,
+        } => {
+            *at == PolyRef { tile: 0, index }
+                && *point == Point { x, z }
+                && *y == 10
+                && *left == cost
+                && links.len() == count
+        }
+        _ => false,
+    }
+}
+
+/// The first step that is wrong, of a walker that goes from the first polygon round its corner at (32, 16) to a goal in the second.
+fn wrong_step(alloc: Global, mesh: &Mesh) -> Result<Option<usize>, AllocError>
+    requires sound { IsSound mesh.now }
+    requires setting { mesh.now.setting ≡ SETTING }
+{
+    let (walker, answer) = send_in(alloc, mesh, 0, place(0, 0), place(48, 17))?;
+    if !stands(&answer, 0, 0, 0, 46, 1) {
+        return Ok(Some(0));
+    }
+    let Some(walker) = walker else {
+        return Ok(Some(1));
+    };
+    // Half of the way to the corner.
+    let (walker, answer) = march_in(alloc, mesh, 0, walker, 16)?;
+    if !stands(&answer, 0, 16, 8, 46, 1) {
+        return Ok(Some(2));
+    }
+    let Some(walker) = walker else {
+        return Ok(Some(3));
+    };
+    // To the corner, 16, and 8 of the 16 to the goal.
+    let (walker, answer) = march_in(alloc, mesh, 0, walker, 24)?;
+    if !stands(&answer, 1, 40, 16, 0, 0) {
+        return Ok(Some(4));
+    }
+    let Some(walker) = walker else {
+        return Ok(Some(5));
+    };
+    let (_, answer) = march_in(alloc, mesh, 0, walker, 100)?;
+    if !stands(&answer, 1, 48, 17, 0, 0) {
+        return Ok(Some(6));
+    }
+    Ok(None)
+}
+
+/// The first place that is answered otherwise than that there is no start, no goal or no way.
+fn wrong_refusal(alloc: Global, mesh: &Mesh) -> Result<Option<usize>, AllocError>
+    requires sound { IsSound mesh.now }
+    requires setting { mesh.now.setting ≡ SETTING }
+{
+    let (walker, answer) = send_in(alloc, mesh, 0, place(40, 8), place(8, 8))?;
+    if walker.is_some() || !matches!(answer, WalkAnswer::NoStart) {
+        return Ok(Some(0));
+    }
+    let (walker, answer) = send_in(alloc, mesh, 0, place(8, 8), place(40, 8))?;
+    if walker.is_some() || !matches!(answer, WalkAnswer::NoGoal) {
+        return Ok(Some(1));
+    }
+    let (walker, answer) = send_in(alloc, mesh, 0, place(8, 8), place(8, 56))?;
+    if walker.is_some() || !matches!(answer, WalkAnswer::NoPath) {
+        return Ok(Some(2));
+    }
+    Ok(None)
+}
+
+/// A step that is wrong; 99 where there is no memory.
+fn wrong(alloc: Global) -> Option<usize> {
+    match mesh(alloc) {
+        Ok(mesh) => wrong_step(alloc, &mesh).unwrap_or(Some(99)),
+        Err(_) => Some(99),
+    }
+}
+
+/// A refusal that is wrong; 99 where there is no memory.
+fn wrong_answer(alloc: Global) -> Option<usize> {
+    match mesh(alloc) {
+        Ok(mesh) => wrong_refusal(alloc, &mesh).unwrap_or(Some(99)),
+        Err(_) => Some(99),
+    }
+}
+
+#[test]
+fn walks_round_a_corner(rt: HostRuntime) {
+    all_hold(&rt, "steps", wrong(rt.alloc()));
+}
+
+#[test]
+fn is_not_sent(rt: HostRuntime) {
+    all_hold(&rt, "refusals", wrong_answer(rt.alloc()));
+}
