@@ -1,5 +1,5 @@
 -- Folds: chains of portals of which none folds back on the one before it.
-use Rattle.std.specs.Prelude.{ℕ, ◌+◌, ◌<◌, List, length, ⊥}
+use Rattle.std.specs.Prelude.{ℕ, ◌+◌, ◌<◌, List, length}
 use Rattle.mesh_types.specs.declared.links.Portal.{Portal}
 use Rattle.mesh_types.specs.Chains.{portal_at, IsFold}
 
