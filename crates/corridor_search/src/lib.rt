@@ -10,6 +10,7 @@ mod corridors;
 mod islands;
 mod link_weights;
 mod mesh_graph;
+mod roots;
 mod weights;
 
 pub use corridors::cheapest;

@@ -8,8 +8,9 @@ ghost use Rattle.nav_base.specs.Root.{ceil_sqrt_of};
 ghost use Rattle.nav_ground.specs.Limits.{IsSetting, IsArea};
 ghost use Rattle.corridor_search.specs.MeshGraphs.{IsInField, IsBox, nowhere, middle_of, extent_at};
 
+use crate::roots::root;
 use mesh_types::{Extent, Mesh, PolyRef};
-use nav_base::{Point, ceil_sqrt};
+use nav_base::Point;
 use nav_ground::Setting;
 
 /// Stands for the extent of no polygon.
@@ -66,7 +67,7 @@ pub(crate) fn distance(from: Point, to: Point) -> u32
     requires to { IsInField to }
     ensures { result ≡ ceil_sqrt_of (square_of (from_to from to)) }
 {
-    ceil_sqrt(square_distance(from, to))
+    root(square_distance(from, to))
 }
 
 /// The square of the distance between two points.

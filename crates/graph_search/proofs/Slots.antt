@@ -1,7 +1,9 @@
 -- The slots of keys are in the order of the keys, and stay where they are when a lesser key is taken.
-use Rattle.std.proofs.Common.{◌≡◌, ◌≢◌, ℕ, zero, suc, ◌+◌, ◌-◌, ◌*◌, ◌<◌, ◌≤◌, refl, sym, ap, ◌∙◌, inl, inr, arith}
+use Rattle.std.proofs.Common.{◌≡◌, ◌≢◌, ℕ, zero, suc, ◌+◌, ◌-◌, ◌*◌, ◌^◌, ◌<◌, ◌≤◌, ◌⊎◌, refl, sym, subst, ap, ◌∙◌, inl, inr, arith}
 use Rattle.std.specs.Prelude.{◌/◌, ◌%◌, ◌==◌}
 use Rattle.std.proofs.lemmas.Bool.{cases_eq, cond-true, cond-false, eq-eqb, ne_eqb}
+use Rattle.std.proofs.lemmas.Nat.{pow-add}
+use Rattle.std.proofs.Math.Nat.{div-one, div-div-eq-div-mul}
 use Rattle.graph_search.specs.Entries.{slot_of}
 
 -- where only the lowest digit differs, or another does, and where there are no digits
@@ -104,3 +106,28 @@ slot-end slot digit before after least most is =
     let end : 11 - digit ≡ 0 = omega (arith, least) in
     let none : slot_of (11 - digit) before after ≡ 0 = ap (λ (n : ℕ). slot_of n before after) end ∙ slot-none before after in
     omega (arith, is, none, least, most)
+
+-- a number without its lowest digits: one digit more is taken first
+less_one : (n digit : ℕ) → n / 2 ^ (6 * suc digit) ≡ n / 64 / 2 ^ (6 * digit)
+less_one n digit =
+    ap (λ (k : ℕ). n / 2 ^ k) six ∙ ap (λ (k : ℕ). n / k) (pow-add 2 6 (6 * digit)) ∙ sym (div-div-eq-div-mul n 64 (2 ^ (6 * digit)))
+  where
+    six : 6 * suc digit ≡ 6 + 6 * digit
+    six = omega arith
+
+-- the slot by the highest digit that differs, or by the lowest
+pub slot-at : (digits digit last key : ℕ) → digit < digits → last / 2 ^ (6 * digit) / 64 ≡ key / 2 ^ (6 * digit) / 64
+    → ((last / 2 ^ (6 * digit) ≢ key / 2 ^ (6 * digit)) ⊎ (digit ≡ 0)) → 64 * digit + key / 2 ^ (6 * digit) % 64 ≡ slot_of digits last key
+slot-at zero digit last key below same differ = absurd (omega (arith, below))
+slot-at (suc digits) zero last key below same differ =
+    let low = slot-low digits last key (sym (ap (λ (n : ℕ). n / 64) (div-one last)) ∙ same ∙ ap (λ (n : ℕ). n / 64) (div-one key)) in
+    omega (arith, low, div-one key)
+slot-at (suc digits) (suc digit) last key below same (inr none) = absurd (omega (arith, none))
+slot-at (suc digits) (suc digit) last key below same (inl differ) =
+    let before = less_one last digit in
+    let after = less_one key digit in
+    let rest =
+    slot-at digits digit (last / 64) (key / 64) (omega (arith, below)) (sym (ap (λ (n : ℕ). n / 64) before) ∙ same ∙ ap (λ (n : ℕ). n / 64) after)
+    (inl (λ is. differ (before ∙ is ∙ sym after))) in
+    let high = slot-high digits last key (λ is. differ (before ∙ ap (λ (n : ℕ). n / 2 ^ (6 * digit)) is ∙ sym after)) in
+    omega (arith, rest, high, after)

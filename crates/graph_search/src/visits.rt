@@ -64,6 +64,19 @@ impl Visits {
         ensures { OnOk result (IsWritten (visit_at self.old) vertex visit (visit_at self.new)) }
     {
         let block = vertex.block as usize;
+        let place = vertex.place as usize;
+        if block < self.pages.len() && place < self.pages[block].len() {
+            self.pages[block][place] = visit;
+            return Ok(());
+        }
+        self.set_further(alloc, vertex, visit)
+    }
+
+    /// Writes it where the pages may not reach to the vertex yet.
+    fn set_further(&mut self, alloc: Global, vertex: Vertex, visit: Visit) -> Result<(), AllocError>
+        ensures { OnOk result (IsWritten (visit_at self.old) vertex visit (visit_at self.new)) }
+    {
+        let block = vertex.block as usize;
         add_pages(alloc, &mut self.pages, block)?;
         write(&mut self.pages[block], vertex.place as usize, visit)
     }

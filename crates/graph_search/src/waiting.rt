@@ -98,8 +98,21 @@ impl Waiting {
     }
 }
 
-/// The slot of a key.
+/// The slot of a key. The digit is guessed from the highest place in which the two numbers differ, and tested.
 fn slot(last: u64, key: u64) -> usize
+    ensures { result ≡ slot_of 11 last key }
+{
+    let digit = (63 - (last ^ key).leading_zeros().min(63)) / 6;
+    let before = last >> (6 * digit);
+    let after = key >> (6 * digit);
+    if before / 64 == after / 64 && (before != after || digit == 0) {
+        return LISTS * digit as usize + (after % 64) as usize;
+    }
+    slot_by_digits(last, key)
+}
+
+/// The same, digit by digit.
+fn slot_by_digits(last: u64, key: u64) -> usize
     ensures { result ≡ slot_of 11 last key }
 {
     let mut before = last;

@@ -1,6 +1,6 @@
 use Rattle.std.proofs.Common.{◌≡◌, ◌+◌, ◌-◌, ◌*◌}
 use Rattle.graph_search.specs.Entries.{slot_of}
-use Rattle.graph_search.proofs.waiting.slot.Given as goal
+use Rattle.graph_search.proofs.waiting.slot_by_digits.Given as goal
 
 -- the slot by the digits that are left
 abbrev pub invariant-loop-digit : goal.invariant-loop-digit
