@@ -1,0 +1,7 @@
+pub mod GroundTiles
+pub mod FreshTiles
+pub mod StoredTiles
+pub mod KeptTiles
+pub mod Settled
+pub mod JobLaws
+mod Passing
