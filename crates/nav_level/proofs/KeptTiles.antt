@@ -21,6 +21,7 @@ use Rattle.tile_build.proofs.BuildTotals.{alive_limits}
 use Rattle.tile_links.specs.NewTiles.{AreNew, IsWhole, New, tiles_after}
 use Rattle.nav_desk.specs.declared.answers.Submitted.TheVariants.{Taken, Stale}
 use Rattle.nav_desk.specs.BookState.{BookState, IsBook, first_state, least_awaited}
+use Rattle.nav_desk.specs.Renewal.{IsAllShown, IsRenewed}
 use Rattle.nav_desk.specs.Steps.{next_reply, after_request, is_taken, submission, after_submit, after_publish}
 use Rattle.nav_desk.proofs.BookLaws.{none_awaited}
 use Rattle.nav_level.specs.Fresh.{news_of}
@@ -117,6 +118,20 @@ module _ (state : BookState) (places : List (Option TileMesh)) (mesh : Mesh) (ke
           → (if test then slice_set state.stored tile shapes else state.stored) ≡ slice_set state.stored tile shapes
       by_test true here = refl
       by_test false other = absurd cc
+
+  -- a renewed history shows the same, since the same shapes are alive
+  pub mesh_renewed : (new : BookState) → IsAllShown state → IsRenewed state new
+      → shapes_alive new.history (length new.history) ≡ shapes_alive state.history (length state.history) → published_mesh new ≡ published_mesh state
+  mesh_renewed new all renewed alive =
+      let shapes : shapes_alive new.history new.published ≡ shapes_alive state.history state.published =
+      ap (shapes_alive new.history) renewed.published ∙ alive ∙ ap (shapes_alive state.history) (sym all.shown) in
+      whole_build new.whole new.history new.published
+      ∙ (λ i. mesh_of (renewed.whole i).setting (tiles_under (renewed.whole i) (shapes i)))
+      ∙ sym (whole_build state.whole state.history state.published)
+
+  pub kept_renewed : (new : BookState) → IsAllShown state → IsRenewed state new
+      → shapes_alive new.history (length new.history) ≡ shapes_alive state.history (length state.history) → IsBook new → AreKept new places mesh
+  kept_renewed new all renewed alive rules = same_tiles new rules renewed.whole renewed.stored (mesh_renewed new all renewed alive)
 
   -- the published mesh has the ground's setting, and is the whole of its tiles
   same_setting : mesh.setting ≡ state.whole.setting

@@ -4,7 +4,7 @@ ghost use Rattle.std.specs.Prelude.{◌≡◌, ◌↔◌, ◌+◌, ◌<◌, ◌�
 ghost use Rattle.std.specs.Arc.{arc_value};
 ghost use Rattle.nav_ground.specs.declared.history.Entry.{Entry};
 ghost use Rattle.nav_ground.specs.Grounds.{IsGround};
-ghost use Rattle.nav_ground.specs.History.{IsRequest, IsHistory, history_limit};
+ghost use Rattle.nav_ground.specs.History.{IsRequest, IsHistory, alive_after, history_limit, shapes_alive};
 ghost use Rattle.nav_ground.specs.Tiling.{tile_count};
 ghost use Rattle.mesh_types.specs.Builds.{build_of};
 ghost use Rattle.mesh_types.specs.Right.{IsRight};
@@ -12,6 +12,7 @@ ghost use Rattle.mesh_types.specs.Soundness.{IsSound, link_count, polygon_count}
 ghost use Rattle.tile_build.specs.Meshes.{tiles_under};
 ghost use Rattle.nav_query.specs.Questions.{HasLowCost, IsAnswerable};
 ghost use Rattle.nav_desk.specs.BookState.{IsBook, first_state, least_awaited};
+ghost use Rattle.nav_desk.specs.Renewal.{IsAllShown, IsRenewed};
 ghost use Rattle.nav_desk.specs.Steps.{IsJob, next_reply, request_answer, requested, after_request, after_aim, next_job, after_claim, after_put_back, after_put_back_all, submission, after_submit, after_publish};
 ghost use Rattle.nav_level.specs.Results.{published_mesh, target_mesh, tile_under};
 ghost use Rattle.nav_level.specs.Settling.{IsUnclaimed};
@@ -218,6 +219,23 @@ impl Level {
         }
     }
 
+    /// Begins the history again, where all of it is published, so that it can go on where it would come to be full: it adds the obstacles that
+    /// are alive, in order of their numbers, and all of that is published. An obstacle's number is its place in that order, from 1; the numbers
+    /// that they had are told in the same order. Nothing is built, the published mesh is the same, and no tile is claimed then. Where memory is
+    /// refused, nothing has changed.
+    pub fn renew(&mut self, alloc: Global) -> Result<Items<u32>, AllocError>
+        requires { IsAllShown self.old }
+        ensures numbers { IfOk result (λ numbers. numbers ≡ alive_after self.old.history (length self.old.history)) }
+        ensures renewed { OnOk result (IsRenewed self.old self.new) }
+        ensures alive { OnOk result (shapes_alive self.new.history (length self.new.history) ≡ shapes_alive self.old.history (length self.old.history)) }
+        ensures mesh { OnOk result (published_mesh self.new ≡ published_mesh self.old) }
+        ensures refused { OnErr result (self.new ≡ self.old) }
+    {
+        let numbers = self.desk.alive(alloc)?;
+        self.desk.renew();
+        Ok(numbers)
+    }
+
     /// The published length, and an answer to the question that is right in the mesh as it was last published. A path that is found costs
     /// less than 2^45.
     pub fn ask(&self, alloc: Global, question: &Question) -> Result<(u32, Answer), AllocError>
@@ -285,6 +303,13 @@ impl Level {
     {
         let mesh = self.mesh();
         (polygons(mesh.tiles.as_slice()), links(mesh))
+    }
+
+    /// The numbers of the obstacles that are alive after the whole history, rising.
+    pub fn alive(&self, alloc: Global) -> Result<Items<u32>, AllocError>
+        ensures { IfOk result (λ numbers. numbers ≡ alive_after self.now.history (length self.now.history)) }
+    {
+        self.desk.alive(alloc)
     }
 
     /// How many entries the history has.
