@@ -1,15 +1,18 @@
 -- What a level publishes next, and what its press shows then.
 use Rattle.std.proofs.Common.{◌≡◌, ℕ, List, [], ◌∷◌, ◌++◌, length, take, take-add, ◌-◌, ap, ◌∙◌, refl, sym, subst, arith, Result, Ok, Err}
 use Rattle.std.specs.Prelude.{slice_range, OnOk, OnErr}
-use Rattle.std.proofs.lemmas.List.{length-take-le, take-append-le}
+use Rattle.std.proofs.lemmas.List.{length-take-le, take-append-le, take_all}
 use Rattle.nav_ground.specs.declared.history.Entry.{Entry}
 use Rattle.nav_ground.specs.declared.history.Ground.{Ground}
 use Rattle.nav_ground.specs.declared.history.Request.{Request}
+use Rattle.nav_ground.specs.History.{alive_after}
 use Rattle.mesh_types.specs.declared.mesh.Mesh.{Mesh}
 use Rattle.mesh_types.specs.Builds.{build_of}
 use Rattle.mesh_types.specs.Soundness.{IsSound}
 use Rattle.nav_version.specs.Pairs.{IsNext, PressView}
 use Rattle.nav_desk.specs.BookState.{BookState, IsBook}
+use Rattle.nav_desk.specs.Renewal.{AddsAgain, IsRenewed}
+use Rattle.nav_desk.proofs.Renewals.{only_adds}
 use Rattle.nav_desk.specs.Steps.{after_request, after_publish, next_reply}
 use Rattle.nav_level.specs.Results.{target_mesh}
 use Rattle.nav_level.proofs.GroundTiles.{build_of_beginning}
@@ -80,3 +83,13 @@ module _ (state : BookState) (press : PressView) (kept : IsShown state press) wh
           level = ap (λ (p : PressView). p.ground) is ∙ kept.level ∙ sym whole;
           entries = ap (λ (p : PressView). p.entries) is ∙ target_entries ∙ (λ i. take (sym published i) (sym history i));
         }
+
+-- a press that shows what the obstacles that are alive leave, once they were added again, shows the state once it is renewed
+pub shown_renewed : (state new : BookState) (press : PressView) → press.ground ≡ state.whole
+    → AddsAgain state.history (alive_after state.history (length state.history)) press.entries → IsRenewed state new → IsBook new → IsShown new press
+shown_renewed state new press ground adds renewed rules = record {
+  rules = rules;
+  level = ground ∙ sym renewed.whole;
+  entries = only_adds state.history (alive_after state.history (length state.history)) press.entries new.history adds renewed.history
+      ∙ sym (take_all new.published new.history (omega (arith, renewed.published)));
+}

@@ -4,7 +4,7 @@ ghost use Rattle.std.specs.Prelude.{◌≡◌, ◌↔◌, ◌+◌, ◌<◌, ◌�
 ghost use Rattle.std.specs.Arc.{arc_value};
 ghost use Rattle.nav_ground.specs.declared.history.Entry.{Entry};
 ghost use Rattle.nav_ground.specs.Grounds.{IsGround};
-ghost use Rattle.nav_ground.specs.History.{IsRequest, IsHistory, history_limit};
+ghost use Rattle.nav_ground.specs.History.{IsRequest, IsHistory, alive_after, history_limit, shapes_alive};
 ghost use Rattle.nav_ground.specs.Tiling.{tile_count};
 ghost use Rattle.mesh_types.specs.Builds.{build_of};
 ghost use Rattle.mesh_types.specs.Right.{IsRight};
@@ -13,12 +13,14 @@ ghost use Rattle.tile_build.specs.Meshes.{tiles_under};
 ghost use Rattle.nav_query.specs.Questions.{HasLowCost, IsAnswerable};
 ghost use Rattle.nav_version.specs.Pairs.{eye_of};
 ghost use Rattle.nav_desk.specs.BookState.{IsBook, first_state};
+ghost use Rattle.nav_desk.specs.Renewal.{AddsAgain, IsAllShown, IsRenewed};
 ghost use Rattle.nav_desk.specs.Steps.{IsJob, next_reply, request_answer, requested, after_request, after_aim, next_job, after_claim, after_put_back, after_put_back_all, submission, after_submit, publication, after_publish};
 ghost use Rattle.nav_steps.specs.Counts.{HasRisenAtMost};
 ghost use Rattle.nav_book.specs.Results.{IsBuild, job_built, published_entries, published_mesh};
 ghost use Rattle.nav_book.specs.Settling.{IsUnclaimed, after_settle, awaited_tiles, settling};
 
 use crate::result::TileResult;
+use core::mem::replace;
 use mesh_types::{Answer, Asked, Mesh, TileMesh};
 use nav_base::Question;
 use nav_ground::{Entry, Ground, Reply, Request};
@@ -35,7 +37,7 @@ use std::sync::{Arc, Wait};
 /// A level of a ground, and the press that shows each mesh which the level publishes to eyes. It is not `Drop`, since its press is not:
 /// `end` ends it.
 ///
-/// Contracts see its state, of which each call is a step, and the pair of its press and its eyes, which no call changes.
+/// Contracts see its state, of which each call is a step, and the pair of its press and its eyes, which no call but `renew` changes.
 pub struct Book {
     level: Level,
     press: Press,
@@ -166,7 +168,7 @@ impl Book {
                 let next = self.level.next_mesh(alloc)?;
                 let _told = self
                     .press
-                    .publish(rt, alloc, self.level.next_entries(), next.share()?)?;
+                    .publish_mesh(rt, alloc, self.level.next_entries(), next.share()?)?;
                 self.level.show(next);
                 Ok(answer)
             }
@@ -214,6 +216,56 @@ impl Book {
         let k = self.level.build_target(alloc, steps)?;
         let _ = self.publish(rt, alloc)?;
         Ok(k)
+    }
+
+    /// Begins the history again, where all of it is published, so that it can go on where it would come to be full: it adds the obstacles that
+    /// are alive, in order of their numbers, and all of that is published. An obstacle's number is its place in that order, from 1; the numbers
+    /// that they had are told in the same order. Nothing is built, the published mesh is the same, and no tile is claimed then.
+    ///
+    /// The press and its eyes are new ones, since eyes see one history that only grows: each reader gets an eye, which has seen the new one, and
+    /// those from before answer no more. It waits for those that are reading. Where memory is refused, nothing has changed.
+    pub fn renew<R: Wait>(
+        &mut self,
+        rt: &R,
+        alloc: Global,
+        readers: u32,
+    ) -> Result<(Items<u32>, Vec<Eye>), AllocError>
+        requires { IsAllShown self.old.state }
+        ensures numbers { IfOk result (λ made. made.0 ≡ alive_after self.old.state.history (length self.old.state.history)) }
+        ensures renewed { OnOk result (IsRenewed self.old.state self.new.state) }
+        ensures alive { OnOk result (shapes_alive self.new.state.history (length self.new.state.history) ≡ shapes_alive self.old.state.history (length self.old.state.history)) }
+        ensures mesh { OnOk result (published_mesh self.new.state ≡ published_mesh self.old.state) }
+        ensures eyes { IfOk result (λ made. made.1.items ≡ replicate readers (eye_of self.new.pair self.new.state.whole self.new.state.history)) }
+        ensures refused { OnErr result (self.new ≡ self.old) }
+    {
+        let numbers = self.level.alive(alloc)?;
+        let (press, eyes) = self.next_pair(rt, alloc, readers)?;
+        self.level.begin_again();
+        let last = replace(&mut self.press, press);
+        last.end(rt);
+        Ok((numbers, eyes))
+    }
+
+    // The pair that shows what is published with the history that a renewal leaves.
+    fn next_pair<R: Wait>(
+        &self,
+        rt: &R,
+        alloc: Global,
+        readers: u32,
+    ) -> Result<(Press, Vec<Eye>), AllocError>
+        requires { IsAllShown self.now.state }
+        ensures ground { IfOk result (λ made. made.0.ground ≡ self.now.state.whole) }
+        ensures again { IfOk result (λ made. AddsAgain self.now.state.history (alive_after self.now.state.history (length self.now.state.history)) made.0.entries) }
+        ensures eyes { IfOk result (λ made. made.1.items ≡ replicate readers (eye_of made.0.pair self.now.state.whole made.0.entries)) }
+    {
+        let entries = self.level.renewed(alloc)?;
+        let version = Version {
+            ground: Arc::try_clone(&self.press.version().ground)?,
+            entries: Entries::of(alloc, entries.as_slice())?,
+            mesh: self.level.shared_mesh()?,
+        };
+        let (press, eyes) = pair(rt, alloc, version, readers)?;
+        Ok((press, eyes))
     }
 
     /// The published length, for an eye of this book to learn.

@@ -1,10 +1,10 @@
 -- A history that is begun again, place by place.
-use Rattle.std.proofs.Common.{◌≡◌, ◌≢◌, ℕ, zero, suc, ◌+◌, ◌-◌, ◌<◌, Bool, false, List, [], ◌∷◌, ◌++◌, length, map, get_or, take, set, Some, None, refl, sym, ap, ◌∙◌, subst, ⊎_elim, arith}
+use Rattle.std.proofs.Common.{◌≡◌, ◌≢◌, ℕ, zero, suc, ◌+◌, ◌-◌, ◌<◌, Bool, List, [], ◌∷◌, ◌++◌, length, get_or, take, set, Some, refl, sym, ap, ◌∙◌, subst, ⊎_elim, arith}
 use Rattle.std.specs.Prelude.{◌≤◌, All, if◌then◌else◌}
 use Rattle.std.specs.List.{slice_get, range_with_len}
 use Rattle.std.specs.Option.{option_map}
 use Rattle.std.proofs.lemmas.Bool.{cases_eq, ne_eqb}
-use Rattle.std.proofs.lemmas.List.{ext_get_or, get_or-map, get_or-set_other, get_or-set_same, get_or-take, get_or_default, length-map, length-set, length-take-le, take_all, take_more}
+use Rattle.std.proofs.lemmas.List.{ext_get_or, get_or-map, get_or-set_other, get_or-set_same, get_or_default, length-map, length-set, length-take-le, take_all, take_more}
 use Rattle.std.proofs.lemmas.List.Elements.{All-filter, All-nil}
 use Rattle.std.proofs.lemmas.List.FromFn.{get_or-range_with_len, length-range_with_len}
 use Rattle.std.proofs.lemmas.Option.{get_or_from_slice_get, none-some, option_and_then_some, same_Some, slice_get-get_or, slice_get_within}
@@ -14,10 +14,10 @@ use Rattle.nav_ground.specs.declared.history.Request.{Request}
 use Rattle.nav_ground.specs.declared.history.Request.TheVariants.{Add, Remove}
 use Rattle.nav_ground.specs.declared.shape.Shape.{Shape}
 use Rattle.nav_ground.specs.declared.shape.Shape.TheVariants.{Block}
-use Rattle.nav_ground.specs.History.{IsHistory, IsRequest, alive_after, entry_at, history_limit, is_alive, shape_in, shape_of}
+use Rattle.nav_ground.specs.History.{IsHistory, IsRequest, alive_after, entry_at, is_alive, shape_in, shape_of}
 use Rattle.nav_ground.proofs.Selections.{slice_get-take}
 use Rattle.nav_desk.specs.declared.live.Live.{Live}
-use Rattle.nav_desk.specs.LiveTable.{IsLiveTable, numbers_of, reply_among, rows_after, shapes_in}
+use Rattle.nav_desk.specs.LiveTable.{IsLiveTable, numbers_of, rows_after, shapes_in}
 use Rattle.nav_desk.specs.Renewal.{AddsAgain, under}
 use Rattle.nav_desk.proofs.Histories.{request_kept, shape_limits}
 use Rattle.nav_desk.proofs.Tables.{table_rises}
@@ -231,3 +231,12 @@ begun_again history entries rows live table done = record {
         ∙ slice_get-get_or entries place e (omega (arith, within, fewer, done.entries_each))
         ∙ ap Some (done.new place d e within ∙ ap (λ n. under (place + 1) (get_or history (n - 1) e)) is)
         ∙ sym (ap (option_map (under (place + 1))) (found number (omega (arith, bounds.0, is)) (omega (arith, bounds.1, is))))
+
+-- a list that adds again the obstacles with some numbers is the only one
+pub only_adds : (before : List Entry) (numbers : List ℕ) (a b : List Entry) → AddsAgain before numbers a → AddsAgain before numbers b → a ≡ b
+only_adds before numbers a b adds others =
+    ext_get_or no_entry a b (adds.each ∙ sym others.each) (λ place there.
+    let at : slice_get numbers place ≡ Some (get_or numbers place 0) = slice_get-get_or numbers place 0 (omega (arith, there, adds.each)) in
+    same_Some (get_or a place no_entry) (get_or b place no_entry)
+    (sym (slice_get-get_or a place no_entry there) ∙ adds.again place (get_or numbers place 0) at ∙ sym (others.again place (get_or numbers place 0) at)
+    ∙ slice_get-get_or b place no_entry (omega (arith, there, adds.each, others.each))))

@@ -6,7 +6,7 @@ ghost use Rattle.nav_ground.specs.Grounds.{IsGround};
 ghost use Rattle.nav_ground.specs.History.{IsHistory, IsRequest, alive_after, history_limit, shapes_alive};
 ghost use Rattle.nav_ground.specs.Tiling.{tile_count};
 ghost use Rattle.nav_desk.specs.BookState.{IsBook, first_state, least_awaited};
-ghost use Rattle.nav_desk.specs.Renewal.{IsAllShown, IsRenewed};
+ghost use Rattle.nav_desk.specs.Renewal.{AddsAgain, IsAllShown, IsRenewed};
 ghost use Rattle.nav_desk.specs.Steps.{IsJob, next_reply, next_job, request_answer, requested, after_request, after_aim, after_claim, after_put_back, after_put_back_all, after_submit, after_publish, submission};
 
 use crate::answers::{HistoryFull, Job, Published, Submitted};
@@ -230,6 +230,21 @@ impl Desk {
         ensures { IfOk result (λ numbers. numbers ≡ alive_after self.now.history (length self.now.history)) }
     {
         Ok(Items::from_vec(numbers(alloc, self.live.as_slice())?))
+    }
+
+    /// The history that a renewal leaves: the adds of the obstacles that are alive, in order of their numbers, each under the number of its
+    /// place, from 1.
+    pub fn renewed(&self, alloc: Global) -> Result<Items<Entry>, AllocError>
+        ensures again { IfOk result (AddsAgain self.now.history (alive_after self.now.history (length self.now.history))) }
+        ensures rules { IfOk result (IsHistory self.now.whole.setting.limit) }
+        ensures alive { IfOk result (λ entries. shapes_alive entries (length entries) ≡ shapes_alive self.now.history (length self.now.history)) }
+    {
+        let mut entries = Vec::with_capacity(alloc, self.entries.len())?;
+        entries.extend_from_slice(self.entries.as_slice())?;
+        let mut live = Vec::with_capacity(alloc, self.live.len())?;
+        live.extend_from_slice(self.live.as_slice())?;
+        begin_again(&mut entries, &mut live);
+        Ok(Items::from_vec(entries))
     }
 
     /// Begins the history again, where all of it is published: it adds the obstacles that are alive, in order of their numbers, and all of that

@@ -110,3 +110,9 @@ whole_build whole history k = refl
 pub build_is_whole : (whole : Ground) (history : List Entry) (k : ℕ) → build_of whole history k ≡ mesh_of (build_of whole history k).setting (build_of whole history k).tiles
 unfolding build_of mesh_of
 build_is_whole whole history k = refl
+
+-- two histories after which the same shapes are alive have the same mesh
+pub same_shapes_build : (whole : Ground) (some history : List Entry) (j k : ℕ) → shapes_alive some j ≡ shapes_alive history k
+    → build_of whole some j ≡ build_of whole history k
+same_shapes_build whole some history j k same =
+    whole_build whole some j ∙ (λ i. mesh_of whole.setting (tiles_under whole (same i))) ∙ sym (whole_build whole history k)

@@ -27,7 +27,7 @@ use Rattle.nav_desk.proofs.BookLaws.{none_awaited}
 use Rattle.nav_level.specs.Fresh.{news_of}
 use Rattle.nav_level.specs.Representation.{AreKept}
 use Rattle.nav_level.specs.Results.{published_mesh, target_mesh, tile_under}
-use Rattle.nav_level.proofs.GroundTiles.{are_tiles, build_is_whole, build_of-append, setting_of_build, tiles_of_build, whole_build}
+use Rattle.nav_level.proofs.GroundTiles.{are_tiles, build_is_whole, build_of-append, same_shapes_build, setting_of_build, tiles_of_build, whole_build}
 use Rattle.nav_level.proofs.StoredTiles.{AreTouching, news_are_new, stored_again, stored_with, tiles_renewed}
 
 -- so many empty places
@@ -125,9 +125,8 @@ module _ (state : BookState) (places : List (Option TileMesh)) (mesh : Mesh) (ke
   mesh_renewed new all renewed alive =
       let shapes : shapes_alive new.history new.published ≡ shapes_alive state.history state.published =
       ap (shapes_alive new.history) renewed.published ∙ alive ∙ ap (shapes_alive state.history) (sym all.shown) in
-      whole_build new.whole new.history new.published
-      ∙ (λ i. mesh_of (renewed.whole i).setting (tiles_under (renewed.whole i) (shapes i)))
-      ∙ sym (whole_build state.whole state.history state.published)
+      ap (λ (w : Ground). build_of w new.history new.published) renewed.whole
+      ∙ same_shapes_build state.whole new.history state.history new.published state.published shapes
 
   pub kept_renewed : (new : BookState) → IsAllShown state → IsRenewed state new
       → shapes_alive new.history (length new.history) ≡ shapes_alive state.history (length state.history) → IsBook new → AreKept new places mesh

@@ -12,7 +12,7 @@ ghost use Rattle.mesh_types.specs.Soundness.{IsSound, link_count, polygon_count}
 ghost use Rattle.tile_build.specs.Meshes.{tiles_under};
 ghost use Rattle.nav_query.specs.Questions.{HasLowCost, IsAnswerable};
 ghost use Rattle.nav_desk.specs.BookState.{IsBook, first_state, least_awaited};
-ghost use Rattle.nav_desk.specs.Renewal.{IsAllShown, IsRenewed};
+ghost use Rattle.nav_desk.specs.Renewal.{AddsAgain, IsAllShown, IsRenewed};
 ghost use Rattle.nav_desk.specs.Steps.{IsJob, next_reply, request_answer, requested, after_request, after_aim, next_job, after_claim, after_put_back, after_put_back_all, submission, after_submit, after_publish};
 ghost use Rattle.nav_level.specs.Results.{published_mesh, target_mesh, tile_under};
 ghost use Rattle.nav_level.specs.Settling.{IsUnclaimed};
@@ -231,9 +231,30 @@ impl Level {
         ensures mesh { OnOk result (published_mesh self.new ≡ published_mesh self.old) }
         ensures refused { OnErr result (self.new ≡ self.old) }
     {
-        let numbers = self.desk.alive(alloc)?;
-        self.desk.renew();
+        let numbers = self.alive(alloc)?;
+        self.begin_again();
         Ok(numbers)
+    }
+
+    /// Begins the history again as `renew` does, for one who was told the numbers by `alive`. It takes no memory.
+    pub fn begin_again(&mut self)
+        requires { IsAllShown self.old }
+        ensures renewed { IsRenewed self.old self.new }
+        ensures alive { shapes_alive self.new.history (length self.new.history) ≡ shapes_alive self.old.history (length self.old.history) }
+        ensures mesh { published_mesh self.new ≡ published_mesh self.old }
+        ensures rules { IsBook self.new }
+    {
+        self.desk.renew()
+    }
+
+    /// The history that `renew` leaves, and then the published mesh is that of this history.
+    pub fn renewed(&self, alloc: Global) -> Result<Items<Entry>, AllocError>
+        requires { IsAllShown self.now }
+        ensures again { IfOk result (AddsAgain self.now.history (alive_after self.now.history (length self.now.history))) }
+        ensures rules { IfOk result (IsHistory self.now.whole.setting.limit) }
+        ensures mesh { IfOk result (λ entries. build_of self.now.whole entries (length entries) ≡ published_mesh self.now) }
+    {
+        self.desk.renewed(alloc)
     }
 
     /// The published length, and an answer to the question that is right in the mesh as it was last published. A path that is found costs

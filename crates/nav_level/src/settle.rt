@@ -1,12 +1,14 @@
 //! How everything that a history asks for is built and published, by single steps of the level.
 
-ghost use Rattle.std.specs.Prelude.{◌≡◌, ◌+◌, None, length, IfOk, OnOk, OnErr};
-ghost use Rattle.nav_desk.specs.BookState.{IsBook, least_awaited};
+ghost use Rattle.std.specs.Prelude.{◌≡◌, ℕ, ◌+◌, None, length, IfOk, OnOk, OnErr};
+ghost use Rattle.std.specs.Option.{option_map_or};
+ghost use Rattle.nav_desk.specs.BookState.{IsBook, least_awaited, least_claimable};
 ghost use Rattle.nav_steps.specs.Counts.{HasRisenAtMost};
-ghost use Rattle.nav_level.specs.Settling.{IsUnclaimed, after_settle, all_built, awaited_tiles, settling};
+ghost use Rattle.nav_level.specs.Settling.{IsUnclaimed, after_settle, after_step, all_built, awaited_tiles, settling};
 
 use crate::job_build::build_job;
 use crate::level::Level;
+use nav_ground::TileNo;
 use nav_steps::Steps;
 use std::alloc::{AllocError, Global};
 use std::sync::ledger::Ledger;
@@ -59,6 +61,36 @@ impl Level {
         let k = self.aim();
         self.build_all(alloc, steps)?;
         Ok(k)
+    }
+
+    /// Claims the least tile that is awaited and not claimed, builds it, with one step, and takes the build in; its number is given. None
+    /// exactly where there is no such tile, and then nothing is done. Where memory is refused, nothing has changed.
+    pub fn step<L: Ledger>(
+        &mut self,
+        alloc: Global,
+        steps: &mut Steps<L>,
+    ) -> Result<Option<TileNo>, AllocError>
+        ensures tile { IfOk result (λ tile. tile ≡ least_claimable self.old) }
+        ensures stepped { OnOk result (self.new ≡ after_step self.old) }
+        ensures steps { IfOk result (λ tile. steps.new ≡ option_map_or (λ (t : ℕ). steps.old + 1) tile steps.old) }
+        ensures most { HasRisenAtMost 1 steps.old steps.new }
+        ensures refused { OnErr result (self.new ≡ self.old) }
+        ensures rules { IsBook self.new }
+    {
+        let Some(job) = self.claim(alloc)? else {
+            return Ok(None);
+        };
+        let tile = job.tile;
+        match build_job(alloc, self.level(), &job, steps) {
+            Ok(mesh) => {
+                let _ = self.submit(job, mesh);
+                Ok(Some(tile))
+            }
+            Err(refused) => {
+                self.put_back(job);
+                Err(refused)
+            }
+        }
     }
 
     /// Builds and submits every tile that is awaited, in rising order.

@@ -1,9 +1,6 @@
-use Rattle.std.proofs.Common.{◌≡◌, ◌-◌, ◌<◌, ◌∙◌, List, length, take, get_or, sym, subst, arith, rules}
+use Rattle.std.proofs.Common.{◌≡◌, ◌-◌, ◌<◌, ◌∙◌, length, take, get_or, subst, arith, rules}
 use Rattle.nav_ground.specs.declared.history.Entry.{Entry}
-use Rattle.nav_ground.specs.History.{IsHistory}
 use Rattle.nav_desk.specs.declared.live.Live.{Live}
-use Rattle.nav_desk.specs.LiveTable.{IsLiveTable, numbers_of}
-use Rattle.nav_desk.specs.Renewal.{AddsAgain}
 use Rattle.nav_desk.proofs.Renewals.{IsBegun, begun_again, begun_history, begun_more, begun_table, row_number, rows_fit, shapes_begun}
 use Rattle.nav_desk.proofs.renewal.begin_again.Goals as goal
 

@@ -1,4 +1,4 @@
-use Rattle.std.proofs.Common.{◌≡◌, length, vec_capacity}
+use Rattle.std.proofs.Common.{◌≡◌, vec_capacity}
 use Rattle.nav_desk.proofs.Renewals.{IsBegun}
 use Rattle.nav_desk.proofs.renewal.begin_again.Given as goal
 

@@ -4,7 +4,7 @@ use Rattle.nav_desk.specs.BookState.{BookState}
 use Rattle.nav_desk.specs.Renewal.{IsAllShown, IsRenewed}
 use Rattle.nav_level.specs.Results.{published_mesh}
 use Rattle.nav_level.proofs.KeptTiles.{kept_renewed, mesh_renewed}
-use Rattle.nav_level.proofs.level.Level.renew.Goals as goal
+use Rattle.nav_level.proofs.level.Level.begin_again.Goals as goal
 
 pub invariant_of-self : goal.invariant_of-self
 invariant_of-self c =
