@@ -6,14 +6,11 @@ use mathlib.Core.Option.{some}
 use mathlib.Core.List.{IsPrefix}
 use lib.ListN.{get_elem?}
 use Rattle.logbook.specs.Pages.{Book}
-use Rattle.nav_base.specs.declared.answers.Question.{Question}
 use Rattle.nav_ground.specs.declared.history.Entry.{Entry}
 use Rattle.nav_ground.specs.declared.history.Ground.{Ground}
 use Rattle.nav_ground.specs.declared.setting.MeshKind.TheVariants.{Strips}
-use Rattle.mesh_types.specs.declared.answers.Answer.{Answer}
+use Rattle.mesh_types.specs.declared.mesh.Mesh.{Mesh}
 use Rattle.mesh_types.specs.Builds.{build_of}
-use Rattle.mesh_types.specs.Right.{IsRight}
-use Rattle.nav_query.specs.Questions.{HasLowCost}
 use Rattle.nav_version.specs.declared.shown.Shown.{Shown}
 use Rattle.nav_version.specs.Lists.{ToldView}
 use Rattle.nav_version.specs.Versions.{IsVersion}
@@ -101,10 +98,9 @@ pub record Takes (before after : Option Shown) : Type 0 where
   pub knows : after ≡ Some shown
 
 -- a version that was shown answered a question: its list goes on from the one that was seen and has fewer entries than a
--- u32 can count, and the answer is right in its mesh, which is that of the ground and the list, with a cost that a mesh can have
-pub record HasFound (ground : Ground) (question : Question) (seen : ToldView) (found : ToldView × Answer) : Type 0 where
+-- u32 can count, and the answer is right in its mesh, which is that of the ground and the list
+pub record HasFound {A : Type 0} (right : Mesh → A → Type 0) (ground : Ground) (seen : ToldView) (found : ToldView × A) : Type 0 where
   pub pair : found.0.pair ≡ seen.pair
   pub goes_on : IsPrefix seen.entries found.0.entries
   pub few : length found.0.entries < 4294967295
-  pub right : IsRight (build_of ground found.0.entries (length found.0.entries)) question found.1
-  pub low_cost : HasLowCost found.1
+  pub right_there : right (build_of ground found.0.entries (length found.0.entries)) found.1

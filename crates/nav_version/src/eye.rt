@@ -15,8 +15,9 @@ use crate::shown::Shown;
 use crate::stage::Looker;
 use crate::told::Told;
 use core::mem::replace_with;
-use mesh_types::Answer;
+use mesh_types::{Answer, Asked};
 use nav_base::Question;
+use nav_query::Asking;
 use std::alloc::{AllocError, Global};
 use std::marker::Model;
 
@@ -43,21 +44,21 @@ impl Model for Eye {
 
 // An answer to a question from a version that is shown, and the version's list. It is refused for want of memory; and where the version
 // were a shorter one than was learnt of, which no press shows.
-fn answered(
+fn answered<Q: Asked>(
     alloc: Global,
     shown: &Shown,
-    question: &Question,
+    question: &Q,
     seen: &Told,
-) -> Result<(Told, Answer), AllocError>
-    requires question { IsAnswerable question.now }
+) -> Result<(Told, Q::Answer), AllocError>
+    requires question { Q.can_ask question.now }
     requires shown { IsShown shown.now }
     requires pair { seen.now.pair ≡ shown.now.told.pair }
-    ensures { IfOk result (HasFound (arc_value shown.now.version.ground) question.now seen.now) }
+    ensures { IfOk result (HasFound (λ mesh answer. Q.is_right question.now mesh answer) (arc_value shown.now.version.ground) seen.now) }
 {
     if !shown.told.goes_on(seen) {
         return Err(AllocError);
     }
-    let answer = nav_query::answer(alloc, &shown.version.get().mesh, question)?;
+    let answer = question.ask(alloc, shown.version.get().mesh.get())?;
     Ok((shown.told.again(), answer))
 }
 
@@ -123,10 +124,33 @@ impl Eye {
         // After a refusal the eye has looked all the same, or nothing has changed.
         ensures refused { OnErr result (HasLooked self.old self.new ⊎ (self.new ≡ self.old)) }
     {
+        self.ask_by(
+            alloc,
+            &Asking {
+                question: *question,
+            },
+        )
+    }
+
+    /// The length of a published version, and an answer to a question of any kind that is right in its mesh. What `ask` says of the version,
+    /// of waiting and of refusals holds here too.
+    pub fn ask_by<Q: Asked>(
+        &mut self,
+        alloc: Global,
+        question: &Q,
+    ) -> Result<(u32, Q::Answer), AllocError>
+        requires question { Q.can_ask question.now }
+        ensures looked { OnOk result (HasLooked self.old self.new) }
+        ensures length { IfOk result (λ told. told.0 ≡ length self.new.seen) }
+        ensures right { IfOk result (λ told. Q.is_right question.now (build_of self.old.ground self.new.seen told.0) told.1) }
+
+        // After a refusal the eye has looked all the same, or nothing has changed.
+        ensures refused { OnErr result (HasLooked self.old self.new ⊎ (self.new ≡ self.old)) }
+    {
         let shown = replace_with(&mut self.reader, (), look)?;
-        let (told, answer) = answered(alloc, &shown, question, &self.told)?;
-        let length = told.length();
-        self.told = told;
+        let (found, answer) = answered(alloc, &shown, question, &self.told)?;
+        let length = found.length();
+        self.told = found;
         Ok((length, answer))
     }
 }
