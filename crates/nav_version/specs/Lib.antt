@@ -6,3 +6,4 @@ pub mod Representation
 pub mod StageKept
 pub mod VersionRule
 pub mod Versions
+pub mod Rules
