@@ -59,7 +59,7 @@ def crates_by_storey():
 
 def uses_of(text, prefix):
     """The imports of a file: (path, names or None, alias or None)."""
-    for path, names, alias in re.findall(rf"^ *{prefix}use ([\w.]+?)(?:\.\{{([^}}]*)\}})?(?: as (\w+))?;?$", text, re.M):
+    for path, names, alias in re.findall(rf"^ *(?:pub )?{prefix}use ([\w.]+?)(?:\.\{{([^}}]*)\}})?(?: as (\w+))?;?$", text, re.M):
         yield path.split("."), [name.strip() for name in names.split(",")] if names else None, alias or None
 
 
@@ -170,12 +170,17 @@ class House:
 
     def __init__(self):
         self.storeys = crates_by_storey()
-        self.specs, self.code, self.types = {}, {}, {}
+        self.specs, self.code, self.types, self.passed = {}, {}, {}, {}
         for crate in self.storeys:
             for path in sorted((TOP / "crates" / crate / "specs").rglob("*.antt")):
                 if path.name != "Lib.antt":
                     module = read_spec(crate, path)
                     self.specs[crate, module.name] = module
+                    continue
+                for passed in re.findall(r"^pub use ([\w.]+)$", path.read_text(), re.M):
+                    source = source_of(passed.split("."))
+                    if source[0] == "spec":
+                        self.passed[crate, source[2].split(".")[-1]] = source[1:]
             for path in sorted((TOP / "crates" / crate / "src").rglob("*.rt")):
                 module = read_code(crate, path)
                 self.code[crate, module.name] = module
@@ -188,7 +193,9 @@ class House:
 
     def resolve(self, source, name):
         if source[0] == "spec":
-            module = self.specs.get(source[1:])
+            module = self.specs.get(self.passed.get(source[1:], source[1:]))
+            if module and name not in module.items and name in module.names:
+                return self.resolve(*module.names[name])
             return module.items.get(name) if module else None
         if source[0] in ("type", "const"):
             return self.types.get((source[1], source[2] if source[0] == "type" else name))

@@ -1,7 +1,4 @@
-pub mod GroundTiles
-pub mod FreshTiles
-pub mod StoredTiles
-pub mod KeptTiles
-pub mod Settled
-mod Passing
-mod JobLaws
+pub use Rattle.nav_level.proofs.GroundTiles
+pub use Rattle.nav_level.proofs.Settled
+pub mod Opening
+pub mod Showing

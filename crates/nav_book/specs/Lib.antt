@@ -1,6 +1,5 @@
 pub mod Views
 pub mod Results
-pub mod Fresh
 pub mod Representation
-pub mod Openings
-pub mod Settling
+pub use Rattle.nav_level.specs.Openings
+pub use Rattle.nav_level.specs.Settling

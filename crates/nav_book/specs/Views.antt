@@ -2,7 +2,8 @@
 use Rattle.logbook.specs.Pages.{Book}
 use Rattle.nav_desk.specs.BookState.{BookState}
 
--- a book: its state, of which each call is a step, and the pair of its press and its eyes, which no call changes
+-- a book: its state, of which each call is a step, and the pair of its press and its eyes, which a renewal alone
+-- changes
 pub record BookView : Type 0 where
   pub state : BookState
   pub pair : Book

@@ -1,10 +1,10 @@
-//! The book: its history, the tiles that wait for a build, and the press that publishes its mesh.
+//! The book: a level, and the press that publishes its mesh.
 
 ghost use Rattle.std.specs.Prelude.{◌≡◌, ◌↔◌, ◌+◌, ◌<◌, ◌≤◌, ◌++◌, [], List, length, replicate, IsErr, IfOk, IfErr, IfSome, OnOk, OnErr};
 ghost use Rattle.std.specs.Arc.{arc_value};
 ghost use Rattle.nav_ground.specs.declared.history.Entry.{Entry};
 ghost use Rattle.nav_ground.specs.Grounds.{IsGround};
-ghost use Rattle.nav_ground.specs.History.{IsRequest, IsHistory, history_limit};
+ghost use Rattle.nav_ground.specs.History.{IsRequest, IsHistory, alive_after, history_limit, shapes_alive};
 ghost use Rattle.nav_ground.specs.Tiling.{tile_count};
 ghost use Rattle.mesh_types.specs.Builds.{build_of};
 ghost use Rattle.mesh_types.specs.Right.{IsRight};
@@ -13,33 +13,33 @@ ghost use Rattle.tile_build.specs.Meshes.{tiles_under};
 ghost use Rattle.nav_query.specs.Questions.{HasLowCost, HasUnfoldedWay, IsAnswerable};
 ghost use Rattle.nav_version.specs.Pairs.{eye_of};
 ghost use Rattle.nav_desk.specs.BookState.{IsBook, first_state};
+ghost use Rattle.nav_desk.specs.Renewal.{AddsAgain, IsAllShown, IsRenewed};
 ghost use Rattle.nav_desk.specs.Steps.{IsJob, next_reply, request_answer, requested, after_request, after_aim, next_job, after_claim, after_put_back, after_put_back_all, submission, after_submit, publication, after_publish};
-ghost use Rattle.nav_book.specs.Results.{IsBuild, published_entries, published_mesh};
-ghost use Rattle.nav_book.specs.Settling.{IsUnclaimed};
+ghost use Rattle.nav_steps.specs.Counts.{HasRisenAtMost};
+ghost use Rattle.nav_book.specs.Results.{IsBuild, job_built, published_entries, published_mesh};
+ghost use Rattle.nav_book.specs.Settling.{IsUnclaimed, after_settle, awaited_tiles, settling};
 
-use crate::counts::{links, polygons};
-use crate::fresh::{empty, empty_places, patch_of};
 use crate::result::TileResult;
+use core::mem::replace;
 use mesh_types::{Answer, Asked, Mesh, TileMesh};
 use nav_base::Question;
-use nav_desk::{Desk, HistoryFull, Job, Published, Submitted};
 use nav_ground::{Entry, Ground, Reply, Request};
+use nav_level::{HistoryFull, Job, Level, Published, Submitted, build_job};
 use nav_list::Items;
-use nav_query::Asking;
 use nav_share::Shared;
+use nav_steps::Steps;
 use nav_version::{Entries, Eye, Press, Told, Version, pair};
 use std::alloc::{AllocError, Global};
 use std::marker::Model;
+use std::sync::ledger::Ledger;
 use std::sync::{Arc, Wait};
-use tile_links::joined;
 
-/// The history of the requests to a ground, the tiles that wait for a build, and the press that publishes its mesh. It is not `Drop`, since
-/// its press is not: `end` ends it.
+/// A level of a ground, and the press that shows each mesh which the level publishes to eyes. It is not `Drop`, since its press is not:
+/// `end` ends it.
 ///
-/// Contracts see its state, of which each call is a step, and the pair of its press and its eyes, which no call changes.
+/// Contracts see its state, of which each call is a step, and the pair of its press and its eyes, which no call but `renew` changes.
 pub struct Book {
-    desk: Desk,
-    fresh: Vec<Option<Shared<TileMesh>>>,
+    level: Level,
     press: Press,
 }
 
@@ -71,16 +71,15 @@ impl Book {
         ensures state { IfOk result (λ made. made.0.state ≡ first_state (arc_value level)) }
         ensures eyes { IfOk result (λ made. made.1.items ≡ replicate readers (eye_of made.0.pair (arc_value level) [])) }
     {
-        let fresh = empty_places(alloc, tiles.len())?;
-        let mesh = joined(alloc, &level.setting, tiles)?;
-        let desk = Desk::begin(alloc, Arc::try_clone(&level)?)?;
+        let shown = Arc::try_clone(&level)?;
+        let held = Level::begin(alloc, level, tiles)?;
         let opening = Version {
-            ground: level,
+            ground: shown,
             entries: Entries::new(alloc)?,
-            mesh,
+            mesh: held.shared_mesh()?,
         };
         let (press, eyes) = pair(rt, alloc, opening, readers)?;
-        Ok((Book { desk, fresh, press }, eyes))
+        Ok((Book { level: held, press }, eyes))
     }
 
     /// Appends a request of a lane to the history, and gives the number of its entry, from 1, and its answer. What was published stays.
@@ -99,7 +98,7 @@ impl Book {
         ensures len { IfErr result (λ refused. refused.len ≡ length self.old.state.history) }
         ensures refused { OnErr result (self.new ≡ self.old) }
     {
-        self.desk.request(lane, request)
+        self.level.request(lane, request)
     }
 
     /// Makes the whole history the target, and gives its length. A tile is awaited from then on where the shapes that it was last built
@@ -109,7 +108,7 @@ impl Book {
         ensures length { result ≡ length self.old.state.history }
         ensures pair { self.new.pair ≡ self.old.pair }
     {
-        self.desk.aim()
+        self.level.aim()
     }
 
     /// Claims the least tile that is awaited and not claimed, and gives it with the shapes to build it under: those that are alive at the
@@ -121,7 +120,7 @@ impl Book {
         ensures pair { self.new.pair ≡ self.old.pair }
         ensures refused { OnErr result (self.new ≡ self.old) }
     {
-        self.desk.claim(alloc)
+        self.level.claim(alloc)
     }
 
     /// Gives a job back: its tile is claimed no more.
@@ -130,7 +129,7 @@ impl Book {
         ensures back { self.new.state ≡ after_put_back self.old.state job.tile }
         ensures pair { self.new.pair ≡ self.old.pair }
     {
-        self.desk.put_back(job.tile)
+        self.level.put_back(job)
     }
 
     /// Gives all jobs back: no tile is claimed any more.
@@ -139,7 +138,7 @@ impl Book {
         ensures free { IsUnclaimed self.new.state }
         ensures pair { self.new.pair ≡ self.old.pair }
     {
-        self.desk.put_back_all()
+        self.level.put_back_all()
     }
 
     /// Takes a build in: its tile is claimed no more. It is stale exactly where the tile is not awaited, or was not built under the
@@ -150,14 +149,8 @@ impl Book {
         ensures stored { self.new.state ≡ after_submit self.old.state made.tile made.shapes }
         ensures pair { self.new.pair ≡ self.old.pair }
     {
-        let answer = self.desk.submit(made.tile, made.shapes);
-        match answer {
-            Submitted::Taken => {
-                self.fresh[made.tile as usize] = Some(made.mesh);
-                answer
-            }
-            Submitted::Stale => answer,
-        }
+        let TileResult { tile, shapes, mesh } = made;
+        self.level.submit(Job { tile, shapes }, mesh)
     }
 
     /// Publishes the target, and waits for eyes that still read the version from before the last publishing. It is not yet to be where a
@@ -169,24 +162,110 @@ impl Book {
         ensures pair { self.new.pair ≡ self.old.pair }
         ensures refused { OnErr result (self.new ≡ self.old) }
     {
-        let answer = self.desk.publication();
+        let answer = self.level.publication();
         match answer {
             Published::New { .. } => {
-                let from = self.desk.published() as usize;
-                let to = self.desk.target() as usize;
-                let more = &self.desk.entries()[from..to];
-                let patch = patch_of(alloc, more, self.fresh.as_slice())?;
-                match self.press.publish(rt, alloc, patch) {
-                    Ok(_told) => {
-                        empty(self.fresh.as_mut_slice());
-                        self.desk.publish();
-                        Ok(answer)
-                    }
-                    Err((_patch, refused)) => Err(refused),
-                }
+                let next = self.level.next_mesh(alloc)?;
+                let _told = self
+                    .press
+                    .publish_mesh(rt, alloc, self.level.next_entries(), next.share()?)?;
+                self.level.show(next);
+                Ok(answer)
             }
             _ => Ok(answer),
         }
+    }
+
+    /// The build of the tile of a job, of the book's ground. It takes one step, also where memory is refused.
+    pub fn build<L: Ledger>(
+        &self,
+        alloc: Global,
+        job: Job,
+        steps: &mut Steps<L>,
+    ) -> Result<TileResult, AllocError>
+        requires job { IsJob self.now.state.whole.setting job }
+        ensures rules { IsBook self.now.state }
+        ensures job { IfOk result (λ made. job_built made ≡ job) }
+        ensures made { IfOk result (IsBuild self.now.state.whole) }
+        ensures step { steps.new ≡ steps.old + 1 }
+    {
+        let mesh = build_job(alloc, self.level(), &job, steps)?;
+        let Job { tile, shapes } = job;
+        Ok(TileResult { tile, shapes, mesh })
+    }
+
+    /// Puts every job back, builds every tile that is awaited for the whole history, with one step each, and publishes the history, whose
+    /// length it gives. No tile is claimed then. Where memory is refused, some of that is done.
+    pub fn settle<R: Wait, L: Ledger>(
+        &mut self,
+        rt: &R,
+        alloc: Global,
+        steps: &mut Steps<L>,
+    ) -> Result<u32, AllocError>
+        ensures length { IfOk result (λ k. k ≡ length self.old.state.history) }
+        ensures book { OnOk result (self.new.state ≡ after_settle self.old.state) }
+        // So the publish at its end never has to wait for a tile.
+        ensures shown { OnOk result (self.new.state.published ≡ length self.old.state.history) }
+        ensures whole { OnOk result (self.new.state.whole ≡ self.old.state.whole) }
+        ensures history { OnOk result (self.new.state.history ≡ self.old.state.history) }
+        ensures free { OnOk result (IsUnclaimed self.new.state) }
+        ensures steps { OnOk result (steps.new ≡ steps.old + length (awaited_tiles (settling self.old.state))) }
+        ensures most { HasRisenAtMost (length (awaited_tiles (settling self.old.state))) steps.old steps.new }
+        ensures pair { self.new.pair ≡ self.old.pair }
+    {
+        let k = self.level.build_target(alloc, steps)?;
+        let _ = self.publish(rt, alloc)?;
+        Ok(k)
+    }
+
+    /// Begins the history again, where all of it is published, so that it can go on where it would come to be full: it adds the obstacles that
+    /// are alive, in order of their numbers, and all of that is published. An obstacle's number is its place in that order, from 1; the numbers
+    /// that they had are told in the same order. Nothing is built, the published mesh is the same, and no tile is claimed then.
+    ///
+    /// The press and its eyes are new ones, since eyes see one history that only grows: each reader gets an eye, which has seen the new one, and
+    /// those from before answer no more. It waits for those that are reading. Where memory is refused, nothing has changed.
+    pub fn renew<R: Wait>(
+        &mut self,
+        rt: &R,
+        alloc: Global,
+        readers: u32,
+    ) -> Result<(Items<u32>, Vec<Eye>), AllocError>
+        requires { IsAllShown self.old.state }
+        ensures numbers { IfOk result (λ made. made.0 ≡ alive_after self.old.state.history (length self.old.state.history)) }
+        ensures renewed { OnOk result (IsRenewed self.old.state self.new.state) }
+        ensures alive { OnOk result (shapes_alive self.new.state.history (length self.new.state.history) ≡ shapes_alive self.old.state.history (length self.old.state.history)) }
+        ensures mesh { OnOk result (published_mesh self.new.state ≡ published_mesh self.old.state) }
+        ensures eyes { IfOk result (λ made. made.1.items ≡ replicate readers (eye_of self.new.pair self.new.state.whole self.new.state.history)) }
+        ensures refused { OnErr result (self.new ≡ self.old) }
+    {
+        let numbers = self.level.alive(alloc)?;
+        let (press, eyes) = self.next_pair(rt, alloc, readers)?;
+        self.level.begin_again();
+        let last = replace(&mut self.press, press);
+        last.end(rt);
+        Ok((numbers, eyes))
+    }
+
+    // The pair that shows what is published with the history that a renewal leaves.
+    fn next_pair<R: Wait>(
+        &self,
+        rt: &R,
+        alloc: Global,
+        readers: u32,
+    ) -> Result<(Press, Vec<Eye>), AllocError>
+        requires { IsAllShown self.now.state }
+        ensures ground { IfOk result (λ made. made.0.ground ≡ self.now.state.whole) }
+        ensures again { IfOk result (λ made. AddsAgain self.now.state.history (alive_after self.now.state.history (length self.now.state.history)) made.0.entries) }
+        ensures eyes { IfOk result (λ made. made.1.items ≡ replicate readers (eye_of made.0.pair self.now.state.whole made.0.entries)) }
+    {
+        let entries = self.level.renewed(alloc)?;
+        let version = Version {
+            ground: Arc::try_clone(&self.press.version().ground)?,
+            entries: Entries::of(alloc, entries.as_slice())?,
+            mesh: self.level.shared_mesh()?,
+        };
+        let (press, eyes) = pair(rt, alloc, version, readers)?;
+        Ok((press, eyes))
     }
 
     /// The published length, for an eye of this book to learn.
@@ -206,12 +285,7 @@ impl Book {
         ensures low_cost { IfOk result (λ told. HasLowCost told.1) }
         ensures unfolded { IfOk result (λ told. HasUnfoldedWay told.1) }
     {
-        self.ask_by(
-            alloc,
-            &Asking {
-                question: *question,
-            },
-        )
+        self.level.ask(alloc, question)
     }
 
     /// The published length, and an answer to a question of any kind that is right in the mesh as it was last published.
@@ -223,10 +297,8 @@ impl Book {
         requires question { Q.can_ask question.now }
         ensures published { IfOk result (λ told. told.0 ≡ self.now.state.published) }
         ensures right { IfOk result (λ told. Q.is_right question.now (published_mesh self.now.state) told.1) }
-        ensures rules { IsBook self.now.state }
     {
-        let answer = question.ask(alloc, self.mesh())?;
-        Ok((self.desk.published(), answer))
+        self.level.ask_by(alloc, question)
     }
 
     /// The ground, as it is without obstacles.
@@ -234,7 +306,7 @@ impl Book {
         ensures value { result.now ≡ self.now.state.whole }
         ensures rules { IsBook self.now.state }
     {
-        self.desk.level()
+        self.level.level()
     }
 
     /// The mesh as it was last published. It is also that of every longer history at that length.
@@ -244,7 +316,7 @@ impl Book {
         ensures sound { IsSound (published_mesh self.now.state) }
         ensures rules { IsBook self.now.state }
     {
-        &self.press.version().mesh
+        self.level.mesh()
     }
 
     /// How many polygons and how many links the mesh has as it was last published; a link leads one way. The obstacles may be any: there are
@@ -255,15 +327,14 @@ impl Book {
         ensures few_polygons { result.0 ≤ 8000000 }
         ensures few_links { result.1 ≤ 64000000 }
     {
-        let mesh = self.mesh();
-        (polygons(mesh.tiles.as_slice()), links(mesh))
+        self.level.mesh_counts()
     }
 
     /// How many entries the history has.
     pub fn length(&self) -> u32
         ensures { result ≡ length self.now.state.history }
     {
-        self.desk.length()
+        self.level.length()
     }
 
     /// How many entries the last `aim` saw: the tiles are built for the history up to there.
@@ -271,7 +342,7 @@ impl Book {
         ensures value { result ≡ self.now.state.target }
         ensures within { result ≤ length self.now.state.history }
     {
-        self.desk.target()
+        self.level.target()
     }
 
     /// How many entries the published mesh shows.
@@ -279,7 +350,7 @@ impl Book {
         ensures value { result ≡ self.now.state.published }
         ensures within { result ≤ self.now.state.target }
     {
-        self.desk.published()
+        self.level.published()
     }
 
     /// The history, the oldest entry first.
@@ -287,16 +358,12 @@ impl Book {
         ensures entries { result.now ≡ self.now.state.history }
         ensures rules { IsHistory self.now.state.whole.setting.limit self.now.state.history }
     {
-        self.desk.entries()
+        self.level.entries()
     }
 
     /// Ends the book and its press. It waits for eyes that are reading; from then on no eye answers any more.
     pub fn end<R: Wait>(self, rt: &R) {
-        let Book {
-            desk: _,
-            fresh: _,
-            press,
-        } = self;
+        let Book { level: _, press } = self;
         press.end(rt);
     }
 }

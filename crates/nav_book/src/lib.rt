@@ -12,13 +12,8 @@
 #![tactic(auto)]
 
 mod book;
-mod counts;
-mod fresh;
-mod job_build;
 mod result;
-mod settle;
 
 pub use book::Book;
-pub use job_build::build_job;
-pub use nav_desk::{HistoryFull, Job, Published, Submitted};
+pub use nav_level::{HistoryFull, Job, Published, Submitted, build_job};
 pub use result::TileResult;

@@ -30,7 +30,7 @@ shape_kept (Add other) shape limits here = subst IsShape (same_Some other shape 
 shape_kept (Remove number) shape limits here = absurd (none-some shape here)
 
 -- the shape of an obstacle of a history is within its limits
-shape_limits : (history : List Entry) (number : ℕ) (shape : Shape) → All (λ (entry : Entry). IsRequest entry.request) history → shape_of history number ≡ Some shape → IsShape shape
+pub shape_limits : (history : List Entry) (number : ℕ) (shape : Shape) → All (λ (entry : Entry). IsRequest entry.request) history → shape_of history number ≡ Some shape → IsShape shape
 shape_limits history number shape requests found =
     option_and_then_some (λ (entry : Entry). shape_in entry.request) (entry_at history number) shape found
     (λ entry there here. shape_kept entry.request shape (asked number entry there) here)

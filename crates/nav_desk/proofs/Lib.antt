@@ -8,3 +8,4 @@ pub mod Keeping
 pub mod Rows
 pub mod Tables
 pub mod Histories
+pub mod Renewals

@@ -7,3 +7,4 @@ pub mod Steps
 pub mod Waiting
 pub mod Awaiting
 pub mod Representation
+pub mod Renewal

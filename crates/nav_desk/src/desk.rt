@@ -3,9 +3,10 @@
 ghost use Rattle.std.specs.Prelude.{◌≡◌, ◌↔◌, ◌+◌, ◌<◌, ◌≤◌, None, [], false, length, replicate, IsErr, IfOk, IfErr, IfSome, OnOk, OnErr, vec_capacity};
 ghost use Rattle.std.specs.Arc.{arc_value};
 ghost use Rattle.nav_ground.specs.Grounds.{IsGround};
-ghost use Rattle.nav_ground.specs.History.{IsHistory, IsRequest, history_limit};
+ghost use Rattle.nav_ground.specs.History.{IsHistory, IsRequest, alive_after, history_limit, shapes_alive};
 ghost use Rattle.nav_ground.specs.Tiling.{tile_count};
 ghost use Rattle.nav_desk.specs.BookState.{IsBook, first_state, least_awaited};
+ghost use Rattle.nav_desk.specs.Renewal.{AddsAgain, IsAllShown, IsRenewed};
 ghost use Rattle.nav_desk.specs.Steps.{IsJob, next_reply, next_job, request_answer, requested, after_request, after_aim, after_claim, after_put_back, after_put_back_all, after_submit, after_publish, submission};
 
 use crate::answers::{HistoryFull, Job, Published, Submitted};
@@ -13,6 +14,7 @@ use crate::bounded::Bounded;
 use crate::least_set::LeastSet;
 use crate::live::{Live, answer, take_over};
 use crate::marks::{look_again, mark_changed};
+use crate::renewal::{begin_again, numbers};
 use crate::touching::{is_touching_list, touching_list};
 use crate::waiting::WaitingTiles;
 use nav_ground::{Entry, Ground, HISTORY_LIMIT, Reply, Request, Shape, TileNo, tiles};
@@ -221,6 +223,44 @@ impl Desk {
         ensures rules { IsBook self.new }
     {
         self.published = self.target;
+    }
+
+    /// The numbers of the obstacles that are alive after the whole history, rising.
+    pub fn alive(&self, alloc: Global) -> Result<Items<u32>, AllocError>
+        ensures { IfOk result (λ numbers. numbers ≡ alive_after self.now.history (length self.now.history)) }
+    {
+        Ok(Items::from_vec(numbers(alloc, self.live.as_slice())?))
+    }
+
+    /// The history that a renewal leaves: the adds of the obstacles that are alive, in order of their numbers, each under the number of its
+    /// place, from 1.
+    pub fn renewed(&self, alloc: Global) -> Result<Items<Entry>, AllocError>
+        ensures again { IfOk result (AddsAgain self.now.history (alive_after self.now.history (length self.now.history))) }
+        ensures rules { IfOk result (IsHistory self.now.whole.setting.limit) }
+        ensures alive { IfOk result (λ entries. shapes_alive entries (length entries) ≡ shapes_alive self.now.history (length self.now.history)) }
+    {
+        let mut entries = Vec::with_capacity(alloc, self.entries.len())?;
+        entries.extend_from_slice(self.entries.as_slice())?;
+        let mut live = Vec::with_capacity(alloc, self.live.len())?;
+        live.extend_from_slice(self.live.as_slice())?;
+        begin_again(&mut entries, &mut live);
+        Ok(Items::from_vec(entries))
+    }
+
+    /// Begins the history again, where all of it is published: it adds the obstacles that are alive, in order of their numbers, and all of that
+    /// is published. An obstacle's number is its place in that order, from 1. No tile is claimed then; what is stored stays. It takes no
+    /// memory.
+    pub fn renew(&mut self)
+        requires { IsAllShown self.old }
+        ensures renewed { IsRenewed self.old self.new }
+        ensures alive { shapes_alive self.new.history (length self.new.history) ≡ shapes_alive self.old.history (length self.old.history) }
+        ensures rules { IsBook self.new }
+    {
+        begin_again(&mut self.entries, &mut self.live);
+        let count = self.live.len() as u32;
+        self.target = count;
+        self.published = count;
+        self.waiting.release_all();
     }
 
     /// The ground, as it is without obstacles.

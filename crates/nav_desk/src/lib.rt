@@ -14,6 +14,7 @@ mod least_set;
 mod live;
 mod marks;
 mod reach;
+mod renewal;
 mod touching;
 mod waiting;
 

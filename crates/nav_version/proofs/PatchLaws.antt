@@ -1,4 +1,4 @@
--- A version's mesh is whole, and so is the one that a patch makes of it.
+-- A version's mesh is whole, and so is the one that a patch makes of it; and the version that comes next keeps the rules of versions.
 use Rattle.std.proofs.Common.{◌≡◌, ℕ, ◌++◌, List, length, refl, sym, ap, ◌∙◌, subst, arith}
 use Rattle.std.specs.Arc.{arc_value}
 use Rattle.nav_ground.specs.declared.history.Entry.{Entry}
@@ -12,7 +12,7 @@ use Rattle.mesh_types.specs.WholeMesh.{mesh_of}
 use Rattle.tile_links.specs.NewTiles.{IsWhole, New, tiles_after}
 use Rattle.nav_version.specs.declared.patch.Patch.{Patch}
 use Rattle.nav_version.specs.declared.version.Version.{Version}
-use Rattle.nav_version.specs.Pairs.{IsPatch}
+use Rattle.nav_version.specs.Pairs.{IsNext, IsPatch}
 use Rattle.nav_version.specs.Versions.{IsVersion}
 
 setting_of_build : (ground : Ground) (entries : List Entry) (k : ℕ) → (build_of ground entries k).setting ≡ ground.setting
@@ -38,16 +38,25 @@ IsWhole-of_version version rules' = record {
       (build_is_whole (arc_value version.ground) version.entries (length version.entries));
 }
 
--- the version after a patch keeps the rules of versions
-pub IsVersion-after_patch : (last next : Version) (patch : Patch) (news : List New) → IsVersion last → IsPatch (arc_value last.ground) last.entries patch
-    → arc_value next.ground ≡ arc_value last.ground → next.entries ≡ last.entries ++ patch.entries
-    → next.mesh ≡ mesh_of last.mesh.setting (tiles_after news last.mesh.tiles) → news ≡ patch.tiles.items → IsSound next.mesh → IsVersion next
-IsVersion-after_patch last next patch news rules' may ground entries mesh are sound' =
+-- the mesh that a patch leaves can be published with the patch's entries
+pub IsNext-of_patch : (last : Version) (patch : Patch) (news : List New) (mesh : Mesh) → IsVersion last → IsPatch (arc_value last.ground) last.entries patch
+    → mesh ≡ mesh_of last.mesh.setting (tiles_after news last.mesh.tiles) → news ≡ patch.tiles.items → IsSound mesh
+    → IsNext (arc_value last.ground) last.entries patch.entries mesh
+IsNext-of_patch last patch news mesh rules' may is are sound' =
     let setting = setting_of_version last rules' in
     let tiles = ap (λ (m : Mesh). m.tiles) rules'.mesh in
     record {
-      ground = subst IsGround (sym ground) rules'.ground;
-      few = let few = may.few in omega (arith, ap (λ (list : List Entry). length list) entries);
-      mesh = mesh ∙ (λ i. mesh_of (setting i) (tiles_after (are i) (tiles i))) ∙ may.mesh ∙ (λ i. build_of (sym ground i) (sym entries i) (length (sym entries i)));
+      few = may.few;
+      shows = is ∙ (λ i. mesh_of (setting i) (tiles_after (are i) (tiles i))) ∙ may.mesh;
       sound = sound';
     }
+
+-- the version after further entries, with a mesh that can be published with them, keeps the rules of versions
+pub IsVersion-next : (last next : Version) (more : List Entry) (mesh : Mesh) → IsVersion last → IsNext (arc_value last.ground) last.entries more mesh
+    → arc_value next.ground ≡ arc_value last.ground → next.entries ≡ last.entries ++ more → next.mesh ≡ mesh → IsVersion next
+IsVersion-next last next more mesh rules' may ground entries is = record {
+  ground = subst IsGround (sym ground) rules'.ground;
+  few = let few = may.few in omega (arith, ap (λ (list : List Entry). length list) entries);
+  mesh = is ∙ may.shows ∙ (λ i. build_of (sym ground i) (sym entries i) (length (sym entries i)));
+  sound = subst IsSound (sym is) may.sound;
+}

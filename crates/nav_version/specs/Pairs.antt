@@ -7,7 +7,7 @@ use Rattle.nav_ground.specs.declared.history.Entry.{Entry}
 use Rattle.nav_ground.specs.declared.history.Ground.{Ground}
 use Rattle.mesh_types.specs.declared.mesh.Mesh.{Mesh}
 use Rattle.mesh_types.specs.Builds.{build_of}
-use Rattle.mesh_types.specs.Soundness.{polygon_count}
+use Rattle.mesh_types.specs.Soundness.{IsSound, polygon_count}
 use Rattle.mesh_types.specs.WholeMesh.{mesh_of}
 use Rattle.tile_links.specs.NewTiles.{AreNew, tiles_after}
 use Rattle.nav_version.specs.declared.version.Version.{Version}
@@ -53,6 +53,13 @@ pub record IsPatch (ground : Ground) (entries : List Entry) (patch : Patch) : Ty
   pub few : length (entries ++ patch.entries) < 4294967295
   pub mesh : mesh_of ground.setting (tiles_after patch.tiles.items (build_of ground entries (length entries)).tiles)
       ≡ build_of ground (entries ++ patch.entries) (length (entries ++ patch.entries))
+
+-- further entries and a mesh can be published over a ground and its entries so far: the entries stay few, and the mesh is sound and that of
+-- the ground with the obstacles that are alive after them
+pub record IsNext (ground : Ground) (entries more : List Entry) (mesh : Mesh) : Type 0 where
+  pub few : length (entries ++ more) < 4294967295
+  pub shows : mesh ≡ build_of ground (entries ++ more) (length (entries ++ more))
+  pub sound : IsSound mesh
 
 -- the longer of two lists; of equally long ones the first
 abbrev pub longer : List Entry → List Entry → List Entry

@@ -39,6 +39,14 @@ impl Entries {
         })
     }
 
+    /// A copy of a list.
+    pub fn of(alloc: Global, entries: &[Entry]) -> Result<Entries, AllocError>
+        ensures { IfOk result (λ all. all ≡ entries.now) }
+    {
+        let none = Entries::new(alloc)?;
+        none.with(alloc, entries)
+    }
+
     /// These and further ones behind them.
     pub(crate) fn with(&self, alloc: Global, more: &[Entry]) -> Result<Entries, AllocError>
         ensures { IfOk result (λ all. all ≡ self.now ++ more.now) }

@@ -59,7 +59,7 @@ fn answered<Q: Asked>(
     if !shown.told.goes_on(seen) {
         return Err(AllocError);
     }
-    let answer = question.ask(alloc, &shown.version.get().mesh)?;
+    let answer = question.ask(alloc, shown.version.get().mesh.get())?;
     Ok((shown.told.again(), answer))
 }
 

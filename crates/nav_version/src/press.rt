@@ -2,20 +2,21 @@
 
 ghost use Rattle.std.specs.Prelude.{◌≡◌, ◌<◌, ◌↔◌, ◌++◌, [], IfOk, IfErr, OnOk, OnErr, IsTrue, MatchBool, length, drop, replicate, slice_index_or};
 ghost use Rattle.std.specs.Arc.{arc_value};
-ghost use Rattle.nav_version.specs.Pairs.{IsPatch, Shows, first_eye};
+ghost use Rattle.nav_version.specs.Pairs.{IsNext, IsPatch, Shows, first_eye};
 ghost use Rattle.nav_version.specs.VersionRule.{IsShown};
 ghost use Rattle.nav_version.specs.Versions.{IsVersion};
 
 use crate::eye::Eye;
 use crate::history::History;
-use crate::next::next_version;
+use crate::next::{next_version, patched};
 use crate::patch::Patch;
 use crate::shown::Shown;
 use crate::stage::Stage;
 use crate::told::Told;
 use crate::version::Version;
+use mesh_types::Mesh;
 use nav_ground::{Entry, Reply, Request};
-use nav_list::{Duplicate, Items};
+use nav_list::Items;
 use nav_share::Shared;
 use std::alloc::{AllocError, Global};
 use std::marker::Model;
@@ -190,18 +191,39 @@ impl Press {
         ensures refused { OnErr result (self.new ≡ self.old) }
         ensures returned { IfErr result (λ refused. refused.0 ≡ patch) }
     {
-        let next = match next_version(alloc, self.version(), &patch) {
-            Ok(next) => next,
+        let mesh = match patched(alloc, self.version(), &patch) {
+            Ok(mesh) => mesh,
             Err(refused) => return Err((patch, refused)),
         };
-        let more = match patch.entries.duplicate(alloc) {
-            Ok(more) => more,
-            Err(refused) => return Err((patch, refused)),
-        };
-        if !self.show(rt, alloc, next, more) {
-            return Err((patch, AllocError));
+        match self.publish_mesh(rt, alloc, patch.entries.as_slice(), mesh) {
+            Ok(told) => Ok(told),
+            Err(refused) => Err((patch, refused)),
         }
-        Ok(self.told())
+    }
+
+    /// Publishes the entries so far and further ones, with the mesh that they leave, and tells the new length: as `publish` does, for one
+    /// who has that mesh already. It waits for eyes that still read the version from before the last publishing. Where memory is refused,
+    /// the published version is as before.
+    pub fn publish_mesh<R: Wait>(
+        &mut self,
+        rt: &R,
+        alloc: Global,
+        more: &[Entry],
+        mesh: Shared<Mesh>,
+    ) -> Result<Told, AllocError>
+        requires { IsNext self.old.ground self.old.entries more.now mesh }
+        ensures published { OnOk result (self.new ≡ record self.old { entries = self.old.entries ++ more.now }) }
+        ensures told { IfOk result (λ told. told ≡ record { pair = self.old.pair; entries = self.old.entries ++ more.now }) }
+        ensures refused { OnErr result (self.new ≡ self.old) }
+    {
+        let next = next_version(alloc, self.version(), more, mesh)?;
+        let mut own = Vec::with_capacity(alloc, more.len())?;
+        own.extend_from_slice(more)?;
+        if self.show(rt, alloc, next, Items::from_vec(own)) {
+            Ok(self.told())
+        } else {
+            Err(AllocError)
+        }
     }
 
     // Shows the next version, at one step, and says whether it did.

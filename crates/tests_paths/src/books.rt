@@ -122,7 +122,7 @@ fn sizes(layout: Layout) -> (u32, u32, u32)
 }
 
 /// The ground of a flat field, where two obstacles may be alive.
-fn flat_ground(alloc: Global, layout: Layout) -> Result<Ground, AllocError>
+pub(crate) fn flat_ground(alloc: Global, layout: Layout) -> Result<Ground, AllocError>
     ensures { IfOk result IsGround }
 {
     let (width, depth, tile) = sizes(layout);
@@ -161,7 +161,7 @@ fn begun<R: Wait>(
 }
 
 /// The book of a flat ground, and an eye for each reader.
-fn opened<R: Wait, L: Ledger>(
+pub(crate) fn opened<R: Wait, L: Ledger>(
     rt: &R,
     alloc: Global,
     layout: Layout,

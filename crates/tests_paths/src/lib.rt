@@ -15,11 +15,15 @@ mod hops;
 #[cfg(test)]
 mod late_rows;
 #[cfg(test)]
+mod levels;
+#[cfg(test)]
 mod lists;
 #[cfg(test)]
 mod places;
 #[cfg(test)]
 mod questions;
+#[cfg(test)]
+mod renewals;
 #[cfg(test)]
 mod rows;
 #[cfg(test)]

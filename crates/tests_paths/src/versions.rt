@@ -100,7 +100,7 @@ fn opening<L: Ledger>(alloc: Global, level: Ground, blank: Blank) -> Result<Vers
     Ok(Version {
         ground: Arc::new(alloc, level)?,
         entries: Entries::new(alloc)?,
-        mesh,
+        mesh: Shared::new(alloc, mesh)?,
     })
 }
 

@@ -1,7 +1,9 @@
-use Rattle.std.proofs.Common.{rules}
-use Rattle.nav_book.proofs.KeptTiles.{opening_is}
+use Rattle.std.proofs.Common.{[], ◌∙◌, rules, sym}
+use Rattle.nav_level.proofs.GroundTiles.{whole_build}
+use Rattle.nav_book.proofs.Opening.{opening_is}
 use Rattle.tests_paths.proofs.versions.opening.Goals as goal
 
 pub returns-clause-rules : goal.returns-clause-rules
 returns-clause-rules g c =
-    opening_is c.args.level _ c.requires.level (search rules) (search rules) c.in_ok-mesh.ensures.mesh c.in_ok-mesh.ensures.sound
+    opening_is c.args.level _ c.requires.level (search rules) (search rules) (search rules ∙ c.in_ok-mesh.ensures.mesh ∙ sym (whole_build c.args.level [] 0))
+    (search rules)

@@ -1,8 +1,7 @@
-use Rattle.std.proofs.Common.{◌≡◌, ◌++◌, List, Option, Some, length, drop, ap, sym, subst, ◌∙◌, rules}
+use Rattle.std.proofs.Common.{◌≡◌, ◌++◌, List, Some, length, drop, ap, sym, subst, ◌∙◌, rules}
 use Rattle.std.proofs.lemmas.List.{take_rest}
 use Rattle.nav_ground.specs.declared.history.Entry.{Entry}
 use Rattle.nav_version.specs.declared.shown.Shown.{Shown}
-use Rattle.nav_version.specs.Lists.{ToldView}
 use Rattle.nav_version.specs.Pairs.{PressView}
 use Rattle.nav_version.specs.VersionRule.{IsKept}
 use Rattle.nav_version.proofs.PressLaws.{GoesOn-grown, IsKept-grown, IsShown-grown, all_added, left_behind}

@@ -1,0 +1,25 @@
+-- The versions that a book opens with and is renewed with keep the rules of versions.
+use Rattle.std.proofs.Common.{◌≡◌, ◌<◌, [], List, length, ap, ◌∙◌, sym, subst, arith}
+use Rattle.std.specs.Arc.{arc_value}
+use Rattle.nav_ground.specs.declared.history.Entry.{Entry}
+use Rattle.nav_ground.specs.declared.history.Ground.{Ground}
+use Rattle.nav_ground.specs.Grounds.{IsGround}
+use Rattle.mesh_types.specs.Builds.{build_of}
+use Rattle.mesh_types.specs.Soundness.{IsSound}
+use Rattle.nav_version.specs.declared.version.Version.{Version}
+use Rattle.nav_version.specs.Versions.{IsVersion}
+
+-- a version with the mesh of a ground after some entries
+pub version_is : (whole : Ground) (entries : List Entry) (version : Version) → IsGround whole → length entries < 4294967295 → arc_value version.ground ≡ whole
+    → version.entries ≡ entries → version.mesh ≡ build_of whole entries (length entries) → IsSound version.mesh → IsVersion version
+version_is whole entries version rules' few level are is sound' = record {
+  ground = subst IsGround (sym level) rules';
+  few = omega (arith, few, ap (λ (list : List Entry). length list) are);
+  mesh = is ∙ (λ i. build_of (sym level i) (sym are i) (length (sym are i)));
+  sound = sound';
+}
+
+-- without entries
+pub opening_is : (whole : Ground) (version : Version) → IsGround whole → arc_value version.ground ≡ whole → version.entries ≡ []
+    → version.mesh ≡ build_of whole [] 0 → IsSound version.mesh → IsVersion version
+opening_is whole version rules' level none is sound' = version_is whole [] version rules' (omega arith) level none is sound'

@@ -1,0 +1,16 @@
+use Rattle.std.proofs.Common.{◌≡◌, ◌∙◌, List, ap, sym, subst, length, arith, rules}
+use Rattle.std.specs.Prelude.{replicate}
+use Rattle.nav_ground.specs.declared.history.Entry.{Entry}
+use Rattle.nav_ground.specs.History.{alive_after}
+use Rattle.nav_version.specs.Pairs.{eye_of}
+use Rattle.nav_desk.specs.Renewal.{AddsAgain}
+use Rattle.nav_book.proofs.Opening.{version_is}
+use Rattle.nav_book.proofs.book.Book.next_pair.Goals as goal
+
+pub pair-press-requires : goal.pair-press-requires
+pair-press-requires g c =
+    let few = c.in_ok-entries.ensures.rules.few in
+    version_is c.self.inside.level.whole c.in_ok-entries.entries
+    (record { ground = c.in_ok-try_clone.field-0; entries = c.in_ok-of.field-0; mesh = c.in_ok-shared_mesh.field-0 }) c.self.invariant.rules.level
+    (omega (arith, few)) (c.in_ok-try_clone.ensures ∙ c.version.ensures.value.ground ∙ c.self.invariant.level) (search rules)
+    (c.in_ok-shared_mesh.ensures.value ∙ sym c.in_ok-entries.ensures.mesh) c.in_ok-shared_mesh.ensures.sound

@@ -1,0 +1,61 @@
+use Rattle.std.proofs.Common.{◌≡◌, ◌∙◌, length, ap, sym, arith, rules}
+use Rattle.std.proofs.lemmas.List.{length-map, length-replicate}
+use Rattle.std.specs.Arc.{arc_value}
+use Rattle.nav_ground.specs.Touching.{touching_shapes}
+use Rattle.nav_ground.specs.History.{shapes_alive}
+use Rattle.nav_desk.specs.declared.live.Live.{Live}
+use Rattle.nav_desk.specs.Flags.{flag_of}
+use Rattle.nav_desk.specs.Waiting.{Waiting}
+use Rattle.nav_desk.proofs.Keeping.{is_book}
+use Rattle.nav_desk.proofs.Tables.{table_shapes}
+use Rattle.nav_desk.proofs.desk.Desk.renew.Goals as goal
+
+pub overflow_cast-count : goal.overflow_cast-count
+overflow_cast-count c =
+    let count = c.begin_again.ensures.count in
+    let len : c.len-count.result ≡ length c.begin_again.new.live.items = search rules in
+    omega (arith, len, count, c.self.invariant.few, c.self.invariant.level.setting.limit_most)
+
+pub invariant_of-self : goal.invariant_of-self
+invariant_of-self c =
+    let old = c.self.inside.entries.items in
+    let new = c.begin_again.new.entries.items in
+    let kept = c.self.invariant in
+    let begun = c.begin_again.ensures in
+    let made = begun.kept (arc_value c.self.inside.level).setting.limit kept.few kept.history in
+    let shown = rw (← c.self.view_is) at c.requires.shown in
+    let whole : c.self.inside.target ≡ length old = omega (arith, shown, kept.aims, kept.shows) in
+    let len : c.len-count.result ≡ length c.begin_again.new.live.items = search rules in
+    let each = length-map c.self.inside.live.items (λ (row : Live). row.number) in
+    let count : c.len-count.result ≡ length new = omega (arith, len, begun.count, begun.again.each, each) in
+    record {
+      level = kept.level;
+      history = made.0;
+      room = rw begun.room kept.room;
+      table = made.1;
+      few = rw begun.count kept.few;
+      live_room = rw begun.live_room kept.live_room;
+      aims = omega (arith, count);
+      shows = omega arith;
+      shapes = kept.shapes ∙ ap (shapes_alive old) whole ∙ sym (table_shapes old c.self.inside.live.items kept.table) ∙ sym begun.shapes
+          ∙ table_shapes new c.begin_again.new.live.items made.1 ∙ ap (shapes_alive new) (sym count);
+      aimed_room = kept.aimed_room;
+      lists = kept.lists;
+      marks = kept.marks;
+      flags = ap (λ (w : Waiting). length w.awaited) c.release_all.ensures ∙ kept.flags;
+      claims = ap (λ (w : Waiting). length w.claimed) c.release_all.ensures ∙ length-replicate _ _ ∙ kept.claims;
+      clean = λ tile there unmarked. ap (touching_shapes (arc_value c.self.inside.level).setting tile) begun.shapes ∙ kept.clean tile there unmarked;
+      awaited = λ tile there. ap (λ (w : Waiting). flag_of w.awaited tile) c.release_all.ensures ∙ kept.awaited tile there;
+    }
+
+pub returns-clause-rules : goal.returns-clause-rules
+returns-clause-rules c = is_book _ (invariant_of-self c)
+
+pub returns-clause-alive : goal.returns-clause-alive
+returns-clause-alive c =
+    let kept = c.self.invariant in
+    let begun = c.begin_again.ensures in
+    let made = begun.kept (arc_value c.self.inside.level).setting.limit kept.few kept.history in
+    rw (← c.self.view_is)
+    (sym (table_shapes c.begin_again.new.entries.items c.begin_again.new.live.items made.1) ∙ begun.shapes
+    ∙ table_shapes c.self.inside.entries.items c.self.inside.live.items kept.table)

@@ -1,0 +1,24 @@
+use Rattle.std.proofs.Common.{[], ◌∙◌, ap, length, subst, sym}
+use Rattle.std.specs.Prelude.{replicate, None}
+use Rattle.std.proofs.lemmas.List.Elements.{All-nil}
+use Rattle.std.specs.Arc.{arc_value}
+use Rattle.nav_ground.specs.declared.history.Ground.{Ground}
+use Rattle.nav_ground.specs.Limits.{IsShape}
+use Rattle.mesh_types.specs.Soundness.{IsSound}
+use Rattle.mesh_types.specs.WholeMesh.{mesh_of}
+use Rattle.nav_level.proofs.GroundTiles.{are_tiles, length-tiles_under}
+use Rattle.nav_level.proofs.KeptTiles.{kept_first}
+use Rattle.nav_level.proofs.level.Level.begin.Goals as goal
+
+pub joined-requires-clause-tiles : goal.joined-requires-clause-tiles
+joined-requires-clause-tiles c =
+    rw (c.deref.ensures, c.requires.tiles) (are_tiles (arc_value c.args.level) [] c.requires.level (All-nil IsShape))
+
+pub invariant_of-result : goal.invariant_of-result
+invariant_of-result c =
+    let whole : Ground = arc_value c.args.level in
+    kept_first whole c.in_ok-desk.desk c.in_ok-fresh.fresh.items c.in_ok-shared.shared c.in_ok-desk.ensures.state c.in_ok-desk.ensures.rules c.requires.level
+    (c.in_ok-fresh.ensures ∙ ap (λ n. replicate n None) (c.len.ensures ∙ ap length c.requires.tiles ∙ length-tiles_under whole [] c.requires.level))
+    (c.in_ok-shared.ensures.ok ∙ c.in_ok-mesh.ensures.mesh ∙ ap (λ (w : Ground). mesh_of w.setting c.args.tiles) c.deref.ensures
+    ∙ ap (mesh_of whole.setting) c.requires.tiles)
+    (subst IsSound (sym c.in_ok-shared.ensures.ok) c.in_ok-mesh.ensures.sound)

@@ -1,0 +1,18 @@
+use Rattle.std.proofs.Common.{◌≡◌, ◌+◌, ◌≤◌, length}
+use Rattle.nav_level.specs.Settling.{IsUnclaimed, all_built, awaited_tiles}
+use Rattle.nav_level.proofs.level.Level.build_all.Given as goal
+
+-- what is left to build leads to the same book, and its steps to the same count
+abbrev pub invariant-loop-job : goal.invariant-loop-job
+invariant-loop-job g l = record {
+  free : IsUnclaimed l.self;
+  left : all_built l.self ≡ all_built l.fn.self;
+  count : l.steps + length (awaited_tiles l.self) ≡ l.fn.steps + length (awaited_tiles l.fn.self);
+  whole : l.self.whole ≡ l.fn.self.whole;
+  history : l.self.history ≡ l.fn.self.history;
+  published : l.self.published ≡ l.fn.self.published;
+  least : l.fn.steps ≤ l.steps;
+}
+
+abbrev pub decreases-loop-job : goal.decreases-loop-job
+decreases-loop-job g l = length (awaited_tiles l.self)

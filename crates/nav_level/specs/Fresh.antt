@@ -1,0 +1,31 @@
+-- Fresh tile meshes, which are stored and not published yet: one place a tile, empty where the stored mesh is the published one.
+use Rattle.std.specs.Prelude.{◌≡◌, ℕ, ◌+◌, ◌<◌, List, [], ◌∷◌, ◌++◌, get_or, Option, Some, None, unwrap_or}
+use Rattle.nav_ground.specs.declared.history.Ground.{Ground}
+use Rattle.nav_ground.specs.declared.shape.Shape.{Shape}
+use Rattle.nav_ground.specs.Tiling.{tile_count}
+use Rattle.mesh_types.specs.declared.tile.TileMesh.{TileMesh}
+use Rattle.tile_links.specs.NewTiles.{New}
+use Rattle.nav_level.specs.Results.{tile_under}
+
+-- the number of a tile with its fresh mesh, if it has one
+abbrev pub new_at : ℕ → Option TileMesh → List New
+new_at tile None = []
+new_at tile (Some mesh) = (tile, mesh) ∷ []
+
+-- the fresh tile meshes with their numbers, in order, where the first place is that of a tile
+abbrev pub news_from : ℕ → List (Option TileMesh) → List New
+news_from tile [] = []
+news_from tile (place ∷ places) = new_at tile place ++ news_from (tile + 1) places
+
+-- the same where the first place is that of the first tile
+abbrev pub news_of : List (Option TileMesh) → List New
+news_of places = news_from 0 places
+
+-- the mesh that is at hand for a tile: its fresh one, and its published one where it has none
+abbrev pub mesh_at_hand : List (Option TileMesh) → List TileMesh → ℕ → TileMesh → TileMesh
+mesh_at_hand places published tile otherwise = unwrap_or (get_or places tile None) (get_or published tile otherwise)
+
+-- the mesh at hand for each tile is its mesh under its stored shapes
+abbrev pub AreStored : Ground → List (List Shape) → List (Option TileMesh) → List TileMesh → Type 0
+AreStored whole stored places published = (tile : ℕ) (otherwise : TileMesh) → tile < tile_count whole.setting
+    → mesh_at_hand places published tile otherwise ≡ tile_under whole tile (get_or stored tile [])

@@ -1,0 +1,5 @@
+pub mod Results
+pub mod Fresh
+pub mod Representation
+pub mod Openings
+pub mod Settling

@@ -1,0 +1,25 @@
+-- What the fields of a level keep at every moment.
+use Rattle.std.specs.Prelude.{◌≡◌, List, length, Option}
+use Rattle.nav_ground.specs.Tiling.{tile_count}
+use Rattle.mesh_types.specs.declared.mesh.Mesh.{Mesh}
+use Rattle.mesh_types.specs.declared.tile.TileMesh.{TileMesh}
+use Rattle.mesh_types.specs.Soundness.{IsSound}
+use Rattle.nav_desk.specs.BookState.{BookState, IsBook}
+use Rattle.nav_level.specs.declared.level.Level.TheInside.{Inside}
+use Rattle.nav_level.specs.Fresh.{AreStored}
+use Rattle.nav_level.specs.Results.{published_mesh}
+
+-- what a level is seen as
+abbrev pub state_of : Inside → BookState
+state_of inside = inside.desk
+
+-- the state keeps its rules, each tile has a place and a stored mesh, and the mesh is the published one, which is sound
+pub record AreKept (state : BookState) (places : List (Option TileMesh)) (mesh : Mesh) : Type 0 where
+  pub rules : IsBook state
+  pub each : length places ≡ tile_count state.whole.setting
+  pub stored : AreStored state.whole state.stored places mesh.tiles
+  pub shown : mesh ≡ published_mesh state
+  pub sound : IsSound mesh
+
+abbrev pub IsKept : Inside → Type 0
+IsKept inside = AreKept inside.desk inside.fresh.items inside.mesh

@@ -1,0 +1,368 @@
+//! The level: its history, the tiles that wait for a build, those that were built since the last publishing, and the published mesh.
+
+ghost use Rattle.std.specs.Prelude.{◌≡◌, ◌↔◌, ◌+◌, ◌<◌, ◌≤◌, ◌++◌, [], List, None, length, slice_range, IsErr, IfOk, IfErr, IfSome, OnOk, OnErr};
+ghost use Rattle.std.specs.Arc.{arc_value};
+ghost use Rattle.nav_ground.specs.declared.history.Entry.{Entry};
+ghost use Rattle.nav_ground.specs.Grounds.{IsGround};
+ghost use Rattle.nav_ground.specs.History.{IsRequest, IsHistory, alive_after, history_limit, shapes_alive};
+ghost use Rattle.nav_ground.specs.Tiling.{tile_count};
+ghost use Rattle.mesh_types.specs.Builds.{build_of};
+ghost use Rattle.mesh_types.specs.Right.{IsRight};
+ghost use Rattle.mesh_types.specs.Soundness.{IsSound, link_count, polygon_count};
+ghost use Rattle.tile_build.specs.Meshes.{tiles_under};
+ghost use Rattle.nav_query.specs.Questions.{HasLowCost, HasUnfoldedWay, IsAnswerable};
+ghost use Rattle.nav_desk.specs.BookState.{IsBook, first_state, least_awaited};
+ghost use Rattle.nav_desk.specs.Renewal.{AddsAgain, IsAllShown, IsRenewed};
+ghost use Rattle.nav_desk.specs.Steps.{IsJob, next_reply, request_answer, requested, after_request, after_aim, next_job, after_claim, after_put_back, after_put_back_all, submission, after_submit, after_publish};
+ghost use Rattle.nav_level.specs.Results.{published_mesh, target_mesh, tile_under};
+ghost use Rattle.nav_level.specs.Settling.{IsUnclaimed};
+
+use crate::counts::{links, polygons};
+use crate::fresh::{empty, empty_places, news_of};
+use mesh_types::{Answer, Asked, Mesh, TileMesh};
+use nav_base::Question;
+use nav_desk::{Desk, HistoryFull, Job, Published, Submitted};
+use nav_ground::{Entry, Ground, Reply, Request};
+use nav_list::Items;
+use nav_query::Asking;
+use nav_share::Shared;
+use std::alloc::{AllocError, Global};
+use std::marker::Model;
+use std::sync::Arc;
+use tile_links::{joined, replaced};
+
+/// The history of the requests to a ground, the tiles that wait for a build, and the published mesh.
+///
+/// Contracts see its state, of which each call is a step.
+#[derive(Drop)]
+pub struct Level {
+    desk: Desk,
+    /// The tile meshes that are stored and not published yet, one place a tile.
+    fresh: Vec<Option<Shared<TileMesh>>>,
+    mesh: Shared<Mesh>,
+}
+
+impl Model for Level {
+    ghost use Rattle.nav_desk.specs.BookState.{BookState};
+
+    ghost Value = { BookState };
+
+    ghost use Rattle.nav_level.specs.Representation.{state_of, IsKept};
+
+    ghost view = { state_of };
+
+    ghost invariant = { IsKept };
+}
+
+impl Level {
+    /// The level of a ground, with no entries, whose published mesh is that of the ground without obstacles: the tiles are those. It takes
+    /// the room for a whole history, for as many live obstacles as the setting allows, and for what is kept of each tile, so that requests
+    /// and builds that come in take no memory.
+    pub fn begin(
+        alloc: Global,
+        level: Arc<Ground>,
+        tiles: Items<Shared<TileMesh>>,
+    ) -> Result<Level, AllocError>
+        requires level { IsGround (arc_value level) }
+        requires tiles { tiles ≡ tiles_under (arc_value level) [] }
+        ensures state { IfOk result (λ made. made ≡ first_state (arc_value level)) }
+        ensures rules { IfOk result IsBook }
+    {
+        let fresh = empty_places(alloc, tiles.len())?;
+        let mesh = joined(alloc, &level.setting, tiles)?;
+        let shared = Shared::new(alloc, mesh)?;
+        let desk = Desk::begin(alloc, level)?;
+        Ok(Level {
+            desk,
+            fresh,
+            mesh: shared,
+        })
+    }
+
+    /// Appends a request of a lane to the history, and gives the number of its entry, from 1, and its answer. What was published stays.
+    /// It takes no memory.
+    pub fn request(&mut self, lane: u32, request: Request) -> Result<(u32, Reply), HistoryFull>
+        requires { IsRequest request }
+        ensures state { self.new ≡ requested self.old lane request }
+        ensures answer { result ≡ request_answer self.old request }
+        ensures appended { OnOk result (self.new ≡ after_request self.old lane request) }
+        ensures number { IfOk result (λ answer. answer.0 ≡ length self.old.history + 1) }
+        ensures reply { IfOk result (λ answer. answer.1 ≡ next_reply self.old request) }
+        ensures rules { IsBook self.new }
+
+        // It is refused exactly where the history is full, and then nothing changes.
+        ensures full { IsErr result ↔ (length self.old.history ≡ history_limit) }
+        ensures len { IfErr result (λ refused. refused.len ≡ length self.old.history) }
+        ensures refused { OnErr result (self.new ≡ self.old) }
+    {
+        self.desk.request(lane, request)
+    }
+
+    /// Makes the whole history the target, and gives its length. A tile is awaited from then on where the shapes that it was last built
+    /// under are not those that touch it at the target.
+    pub fn aim(&mut self) -> u32
+        ensures aimed { self.new ≡ after_aim self.old }
+        ensures length { result ≡ length self.old.history }
+        ensures rules { IsBook self.new }
+    {
+        self.desk.aim()
+    }
+
+    /// Claims the least tile that is awaited and not claimed, and gives it with the shapes to build it under: those that are alive at the
+    /// target and touch it. None exactly where there is no such tile. Where memory is refused, nothing has changed.
+    pub fn claim(&mut self, alloc: Global) -> Result<Option<Job>, AllocError>
+        ensures job { IfOk result (λ job. job ≡ next_job self.old) }
+        ensures fit { IfOk result (λ job. IfSome job (IsJob self.old.whole.setting)) }
+        ensures claimed { OnOk result (self.new ≡ after_claim self.old) }
+        ensures refused { OnErr result (self.new ≡ self.old) }
+        ensures rules { IsBook self.new }
+    {
+        self.desk.claim(alloc)
+    }
+
+    /// Gives a job back: its tile is claimed no more.
+    pub fn put_back(&mut self, job: Job)
+        requires { job.tile < tile_count self.old.whole.setting }
+        ensures back { self.new ≡ after_put_back self.old job.tile }
+        ensures rules { IsBook self.new }
+    {
+        self.desk.put_back(job.tile)
+    }
+
+    /// Gives all jobs back: no tile is claimed any more.
+    pub fn put_back_all(&mut self)
+        ensures back { self.new ≡ after_put_back_all self.old }
+        ensures free { IsUnclaimed self.new }
+        ensures rules { IsBook self.new }
+    {
+        self.desk.put_back_all()
+    }
+
+    /// Takes the build of a job in: its tile is claimed no more. It is stale exactly where the tile is not awaited, or was not built under
+    /// the shapes that touch it at the target, and then it is dropped, and nothing else changes. It takes no memory.
+    pub fn submit(&mut self, job: Job, mesh: Shared<TileMesh>) -> Submitted
+        requires there { job.tile < tile_count self.old.whole.setting }
+        requires mesh { mesh ≡ tile_under self.old.whole job.tile job.shapes }
+        ensures answer { result ≡ submission self.old job.tile job.shapes }
+        ensures stored { self.new ≡ after_submit self.old job.tile job.shapes }
+        ensures rules { IsBook self.new }
+    {
+        let Job { tile, shapes } = job;
+        let answer = self.desk.submit(tile, shapes);
+        match answer {
+            Submitted::Taken => {
+                self.fresh[tile as usize] = Some(mesh);
+                answer
+            }
+            Submitted::Stale => answer,
+        }
+    }
+
+    /// What a publish is answered now: that a tile is awaited, of which the least is named; else that the target is published already, or
+    /// that it comes to be published. Nothing that a caller sees has changed.
+    pub fn publication(&mut self) -> Published
+        ensures answer { result ≡ Rattle.nav_desk.specs.Steps.publication self.old }
+        ensures same { self.new ≡ self.old }
+    {
+        self.desk.publication()
+    }
+
+    /// The entries that are to be published next: those behind the published ones up to the target.
+    pub fn next_entries(&self) -> &[Entry]
+        ensures { result.now ≡ slice_range self.now.history self.now.published self.now.target }
+    {
+        let from = self.desk.published() as usize;
+        let to = self.desk.target() as usize;
+        &self.desk.entries()[from..to]
+    }
+
+    /// The mesh for the target, made of the published one and the tiles that were built since; the two share all others.
+    pub fn next_mesh(&self, alloc: Global) -> Result<Shared<Mesh>, AllocError>
+        requires { least_awaited self.now ≡ None }
+        ensures mesh { IfOk result (λ mesh. mesh ≡ target_mesh self.now) }
+        ensures sound { IfOk result IsSound }
+    {
+        let news = news_of(alloc, self.fresh.as_slice())?;
+        let mesh = replaced(alloc, self.mesh.get(), news.as_slice())?;
+        Ok(Shared::new(alloc, mesh)?)
+    }
+
+    /// Publishes the target with its mesh. It takes no memory.
+    pub fn show(&mut self, mesh: Shared<Mesh>)
+        requires built { least_awaited self.old ≡ None }
+        requires mesh { mesh ≡ target_mesh self.old }
+        requires sound { IsSound mesh }
+        ensures state { self.new ≡ after_publish self.old }
+        ensures shown { self.new.published ≡ self.old.target }
+        ensures rules { IsBook self.new }
+    {
+        empty(self.fresh.as_mut_slice());
+        self.mesh = mesh;
+        self.desk.publish();
+    }
+
+    /// Publishes the target. It is not yet to be where a tile is awaited, of which the least is named, and it is published already where the
+    /// target is the published length; then nothing changes, and no memory is taken. Where memory is refused, nothing has changed.
+    pub fn publish(&mut self, alloc: Global) -> Result<Published, AllocError>
+        ensures answer { IfOk result (λ answer. answer ≡ Rattle.nav_desk.specs.Steps.publication self.old) }
+        ensures published { OnOk result (self.new ≡ after_publish self.old) }
+        ensures refused { OnErr result (self.new ≡ self.old) }
+    {
+        let answer = self.publication();
+        match answer {
+            Published::New { .. } => {
+                let next = self.next_mesh(alloc)?;
+                self.show(next);
+                Ok(answer)
+            }
+            _ => Ok(answer),
+        }
+    }
+
+    /// Begins the history again, where all of it is published, so that it can go on where it would come to be full: it adds the obstacles that
+    /// are alive, in order of their numbers, and all of that is published. An obstacle's number is its place in that order, from 1; the numbers
+    /// that they had are told in the same order. Nothing is built, the published mesh is the same, and no tile is claimed then. Where memory is
+    /// refused, nothing has changed.
+    pub fn renew(&mut self, alloc: Global) -> Result<Items<u32>, AllocError>
+        requires { IsAllShown self.old }
+        ensures numbers { IfOk result (λ numbers. numbers ≡ alive_after self.old.history (length self.old.history)) }
+        ensures renewed { OnOk result (IsRenewed self.old self.new) }
+        ensures alive { OnOk result (shapes_alive self.new.history (length self.new.history) ≡ shapes_alive self.old.history (length self.old.history)) }
+        ensures mesh { OnOk result (published_mesh self.new ≡ published_mesh self.old) }
+        ensures refused { OnErr result (self.new ≡ self.old) }
+    {
+        let numbers = self.alive(alloc)?;
+        self.begin_again();
+        Ok(numbers)
+    }
+
+    /// Begins the history again as `renew` does, for one who was told the numbers by `alive`. It takes no memory.
+    pub fn begin_again(&mut self)
+        requires { IsAllShown self.old }
+        ensures renewed { IsRenewed self.old self.new }
+        ensures alive { shapes_alive self.new.history (length self.new.history) ≡ shapes_alive self.old.history (length self.old.history) }
+        ensures mesh { published_mesh self.new ≡ published_mesh self.old }
+        ensures rules { IsBook self.new }
+    {
+        self.desk.renew()
+    }
+
+    /// The history that `renew` leaves, and then the published mesh is that of this history.
+    pub fn renewed(&self, alloc: Global) -> Result<Items<Entry>, AllocError>
+        requires { IsAllShown self.now }
+        ensures again { IfOk result (AddsAgain self.now.history (alive_after self.now.history (length self.now.history))) }
+        ensures rules { IfOk result (IsHistory self.now.whole.setting.limit) }
+        ensures mesh { IfOk result (λ entries. build_of self.now.whole entries (length entries) ≡ published_mesh self.now) }
+    {
+        self.desk.renewed(alloc)
+    }
+
+    /// The published length, and an answer to the question that is right in the mesh as it was last published. A path that is found costs
+    /// less than 2^45, and no portal on its way folds back on the one before it.
+    pub fn ask(&self, alloc: Global, question: &Question) -> Result<(u32, Answer), AllocError>
+        requires { IsAnswerable question.now }
+        ensures published { IfOk result (λ told. told.0 ≡ self.now.published) }
+        ensures right { IfOk result (λ told. IsRight (published_mesh self.now) question.now told.1) }
+        ensures low_cost { IfOk result (λ told. HasLowCost told.1) }
+        ensures unfolded { IfOk result (λ told. HasUnfoldedWay told.1) }
+    {
+        self.ask_by(
+            alloc,
+            &Asking {
+                question: *question,
+            },
+        )
+    }
+
+    /// The published length, and an answer to a question of any kind that is right in the mesh as it was last published.
+    pub fn ask_by<Q: Asked>(
+        &self,
+        alloc: Global,
+        question: &Q,
+    ) -> Result<(u32, Q::Answer), AllocError>
+        requires question { Q.can_ask question.now }
+        ensures published { IfOk result (λ told. told.0 ≡ self.now.published) }
+        ensures right { IfOk result (λ told. Q.is_right question.now (published_mesh self.now) told.1) }
+        ensures rules { IsBook self.now }
+    {
+        let answer = question.ask(alloc, self.mesh())?;
+        Ok((self.desk.published(), answer))
+    }
+
+    /// The ground, as it is without obstacles.
+    pub fn level(&self) -> &Ground
+        ensures value { result.now ≡ self.now.whole }
+        ensures rules { IsBook self.now }
+    {
+        self.desk.level()
+    }
+
+    /// The mesh as it was last published. It is also that of every longer history at that length.
+    pub fn mesh(&self) -> &Mesh
+        ensures value { result.now ≡ published_mesh self.now }
+        ensures lasting { (more : List Entry) → result.now ≡ build_of self.now.whole (self.now.history ++ more) self.now.published }
+        ensures sound { IsSound (published_mesh self.now) }
+        ensures rules { IsBook self.now }
+    {
+        self.mesh.get()
+    }
+
+    /// A further owner of the mesh as it was last published, which stays as it is. It takes no memory; it is refused only where the count of
+    /// owners has reached its end.
+    pub fn shared_mesh(&self) -> Result<Shared<Mesh>, AllocError>
+        ensures value { IfOk result (λ mesh. mesh ≡ published_mesh self.now) }
+        ensures sound { IfOk result IsSound }
+    {
+        self.mesh.share()
+    }
+
+    /// How many polygons and how many links the mesh has as it was last published; a link leads one way. The obstacles may be any: there are
+    /// never more than 8000000 polygons and 64000000 links.
+    pub fn mesh_counts(&self) -> (u32, u32)
+        ensures polygons { result.0 ≡ polygon_count (published_mesh self.now).tiles }
+        ensures links { result.1 ≡ link_count (published_mesh self.now) }
+        ensures few_polygons { result.0 ≤ 8000000 }
+        ensures few_links { result.1 ≤ 64000000 }
+    {
+        let mesh = self.mesh();
+        (polygons(mesh.tiles.as_slice()), links(mesh))
+    }
+
+    /// The numbers of the obstacles that are alive after the whole history, rising.
+    pub fn alive(&self, alloc: Global) -> Result<Items<u32>, AllocError>
+        ensures { IfOk result (λ numbers. numbers ≡ alive_after self.now.history (length self.now.history)) }
+    {
+        self.desk.alive(alloc)
+    }
+
+    /// How many entries the history has.
+    pub fn length(&self) -> u32
+        ensures { result ≡ length self.now.history }
+    {
+        self.desk.length()
+    }
+
+    /// How many entries the last `aim` saw: the tiles are built for the history up to there.
+    pub fn target(&self) -> u32
+        ensures value { result ≡ self.now.target }
+        ensures within { result ≤ length self.now.history }
+    {
+        self.desk.target()
+    }
+
+    /// How many entries the published mesh shows.
+    pub fn published(&self) -> u32
+        ensures value { result ≡ self.now.published }
+        ensures within { result ≤ self.now.target }
+    {
+        self.desk.published()
+    }
+
+    /// The history, the oldest entry first.
+    pub fn entries(&self) -> &[Entry]
+        ensures entries { result.now ≡ self.now.history }
+        ensures rules { IsHistory self.now.whole.setting.limit self.now.history }
+    {
+        self.desk.entries()
+    }
+}

@@ -1,0 +1,22 @@
+//! The level of a ground: the history of requests, the tiles that wait for a build, and the mesh that is published. Nothing of it waits.
+//!
+//! A level is seen as a `BookState` of `nav_desk`, and each call is one step of the state's definition. A request appends one entry; an aim
+//! makes the length of the history the target; claims hand out the tiles that are awaited, with the shapes to build them under; builds come
+//! in by `submit`; and `publish` puts those that came in since into the published mesh, once no tile is awaited. `settle` does all that is
+//! left to do, so that the whole history is published. The published mesh is always the build from scratch of the ground with the obstacles
+//! that are alive after the published entries. `ask` answers from it, and `mesh_counts` counts it. Requests, aims and builds that come in
+//! take no memory, since all their room was taken at the opening.
+//!
+//! A publishing comes in two halves besides: `next_mesh` makes what is published next, and takes all the memory; `show` takes it over, and
+//! cannot be refused. Who shows the mesh to others as well does so in between.
+#![tactic(auto)]
+
+mod counts;
+mod fresh;
+mod job_build;
+mod level;
+mod settle;
+
+pub use job_build::build_job;
+pub use level::Level;
+pub use nav_desk::{HistoryFull, Job, Published, Submitted};

@@ -1,0 +1,217 @@
+//! Rows of levels, of which no call waits, over a small flat ground. What is wanted was worked out by hand.
+
+ghost use Rattle.std.specs.Prelude.{◌≡◌, ◌<◌, IfOk};
+
+use crate::books::{Asked, Layout, flat_ground, request_of};
+use crate::rows::all_hold;
+use mesh_types::Answer;
+use nav_base::Question;
+use nav_ground::Reply;
+use nav_level::{Level, Published};
+use nav_steps::Steps;
+use std::alloc::{AllocError, Global};
+use std::marker::Brand;
+use std::sync::Arc;
+use std::sync::ledger::{Blank, Ledger};
+use tile_build::build_tiles;
+
+/// What is done with a level, or asked of it.
+#[derive(Clone, Copy)]
+enum Step {
+    Ask(Asked),
+    Aim,
+    /// One tile is claimed, built and taken in.
+    Build,
+    Publish,
+    Settle,
+    /// The history begins again.
+    Renew,
+    /// How long the history is, and how much of it is published.
+    Lengths,
+    /// The floors of a column.
+    Floors(u32, u32),
+}
+
+/// What a step was answered.
+#[derive(Clone, Copy, PartialEq)]
+enum Told {
+    /// Also an answer that no row wants.
+    Nothing,
+    NoMemory,
+    Reply(u32, Reply),
+    /// The length that is aimed at or published, or the tile that was built.
+    Number(u32),
+    /// Two lengths, or the numbers that two obstacles had.
+    Numbers(u32, u32),
+    Published(Published),
+    Floors(usize),
+}
+
+fn opened<L: Ledger>(alloc: Global, steps: &mut Steps<L>) -> Result<Level, AllocError> {
+    let ground = flat_ground(alloc, Layout::Two)?;
+    let tiles = build_tiles(alloc, &ground, &[], steps)?;
+    let ground = Arc::new(alloc, ground)?;
+    Level::begin(alloc, ground, tiles)
+}
+
+fn asked(level: &mut Level, asked: Asked) -> Told {
+    match level.request(0, request_of(asked)) {
+        Ok((number, reply)) => Told::Reply(number, reply),
+        Err(_) => Told::Nothing,
+    }
+}
+
+fn built<L: Ledger>(level: &mut Level, alloc: Global, steps: &mut Steps<L>) -> Told {
+    match level.step(alloc, steps) {
+        Ok(Some(tile)) => Told::Number(tile),
+        Ok(None) => Told::Nothing,
+        Err(_) => Told::NoMemory,
+    }
+}
+
+fn published(level: &mut Level, alloc: Global) -> Told {
+    match level.publish(alloc) {
+        Ok(answer) => Told::Published(answer),
+        Err(_) => Told::NoMemory,
+    }
+}
+
+fn settled<L: Ledger>(level: &mut Level, alloc: Global, steps: &mut Steps<L>) -> Told {
+    match level.settle(alloc, steps) {
+        Ok(length) => Told::Number(length),
+        Err(_) => Told::NoMemory,
+    }
+}
+
+/// The numbers that the two obstacles had; nothing is done where not all is published.
+fn renewed(level: &mut Level, alloc: Global) -> Told {
+    if level.published() != level.length() {
+        return Told::Nothing;
+    }
+    match level.renew(alloc) {
+        Ok(numbers) => Told::Numbers(
+            numbers.get(0).copied().unwrap_or(0),
+            numbers.get(1).copied().unwrap_or(0),
+        ),
+        Err(_) => Told::NoMemory,
+    }
+}
+
+fn floors(level: &Level, alloc: Global, x: u32, z: u32) -> Told {
+    match level.ask(alloc, &Question::Floor { x, z }) {
+        Ok((_length, Answer::Floors(floors))) => Told::Floors(floors.len()),
+        Ok(_) => Told::Nothing,
+        Err(_) => Told::NoMemory,
+    }
+}
+
+fn act<L: Ledger>(level: &mut Level, alloc: Global, steps: &mut Steps<L>, step: Step) -> Told {
+    match step {
+        Step::Ask(request) => asked(level, request),
+        Step::Aim => Told::Number(level.aim()),
+        Step::Build => built(level, alloc, steps),
+        Step::Publish => published(level, alloc),
+        Step::Settle => settled(level, alloc, steps),
+        Step::Renew => renewed(level, alloc),
+        Step::Lengths => Told::Numbers(level.length(), level.published()),
+        Step::Floors(x, z) => floors(level, alloc, x, z),
+    }
+}
+
+type Row = (Step, Told);
+
+fn wrong_row<L: Ledger>(
+    level: &mut Level,
+    alloc: Global,
+    steps: &mut Steps<L>,
+    rows: &[Row],
+) -> Option<usize> {
+    for row in 0..rows.len() {
+        let (step, wanted) = rows[row];
+        if act(level, alloc, steps, step) != wanted {
+            return Some(row);
+        }
+    }
+    None
+}
+
+/// A row that is wrong; 99 where there is no memory.
+fn wrong_in_play<L: Ledger>(alloc: Global, rows: &[Row], blank: Blank) -> Option<usize>
+    requires name { blank.name ≡ L.name }
+    requires parts { blank.parts ≡ L.parts }
+    requires some { 0 < blank.parts }
+{
+    let mut steps = Steps::<L>::new(blank);
+    match opened(alloc, &mut steps) {
+        Ok(mut level) => wrong_row(&mut level, alloc, &mut steps, rows),
+        Err(_) => Some(99),
+    }
+}
+
+/// Tiles that are built one by one. The columns up to 3 are of the tile 0.
+static STEPS: [Row; 12] = [
+    (Step::Build, Told::Nothing),
+    (
+        Step::Ask(Asked::Block(1)),
+        Told::Reply(1, Reply::Added { number: 1 }),
+    ),
+    (Step::Build, Told::Nothing),
+    (Step::Aim, Told::Number(1)),
+    (
+        Step::Publish,
+        Told::Published(Published::NotYet { tile: 0 }),
+    ),
+    (Step::Build, Told::Number(0)),
+    (Step::Build, Told::Nothing),
+    (Step::Floors(1, 1), Told::Floors(1)),
+    (Step::Publish, Told::Published(Published::New { k: 1 })),
+    (Step::Floors(1, 1), Told::Floors(0)),
+    (Step::Publish, Told::Published(Published::Same { k: 1 })),
+    (Step::Lengths, Told::Numbers(1, 1)),
+];
+
+/// Of three obstacles the first goes; the two that are left get the numbers 1 and 2.
+static RENEWAL: [Row; 19] = [
+    (
+        Step::Ask(Asked::Block(1)),
+        Told::Reply(1, Reply::Added { number: 1 }),
+    ),
+    (
+        Step::Ask(Asked::Block(5)),
+        Told::Reply(2, Reply::Added { number: 2 }),
+    ),
+    (Step::Ask(Asked::Remove(1)), Told::Reply(3, Reply::Removed)),
+    (
+        Step::Ask(Asked::Block(2)),
+        Told::Reply(4, Reply::Added { number: 4 }),
+    ),
+    (Step::Renew, Told::Nothing),
+    (Step::Lengths, Told::Numbers(4, 0)),
+    (Step::Settle, Told::Number(4)),
+    (Step::Renew, Told::Numbers(2, 4)),
+    (Step::Lengths, Told::Numbers(2, 2)),
+    (Step::Publish, Told::Published(Published::Same { k: 2 })),
+    (Step::Floors(1, 1), Told::Floors(1)),
+    (Step::Floors(2, 1), Told::Floors(0)),
+    (Step::Floors(5, 1), Told::Floors(0)),
+    (
+        Step::Ask(Asked::Remove(4)),
+        Told::Reply(3, Reply::Dead { number: 4 }),
+    ),
+    (Step::Ask(Asked::Remove(2)), Told::Reply(4, Reply::Removed)),
+    (
+        Step::Ask(Asked::Remove(2)),
+        Told::Reply(5, Reply::Dead { number: 2 }),
+    ),
+    (Step::Settle, Told::Number(5)),
+    (Step::Floors(2, 1), Told::Floors(1)),
+    (Step::Floors(5, 1), Told::Floors(0)),
+];
+
+#[test]
+fn plays_levels(rt: HostRuntime) {
+    let wrong = wrong_in_play::<Brand>(rt.alloc(), &STEPS, Blank::new(1));
+    all_hold(&rt, "steps of a level", wrong);
+    let wrong = wrong_in_play::<Brand>(rt.alloc(), &RENEWAL, Blank::new(1));
+    all_hold(&rt, "a history that begins again", wrong);
+}
