@@ -1,5 +1,5 @@
 -- A tile that is claimed and built: its build is taken in, or it is put back.
-use Rattle.std.proofs.Common.{◌≡◌, ℕ, Bool, true, false, List, set, ap, ◌∙◌, sym, refl, Option, Some, None}
+use Rattle.std.proofs.Common.{◌≡◌, ℕ, Bool, true, false, set, ap, ◌∙◌, sym, refl, Option, Some, None}
 use Rattle.std.specs.Prelude.{not, ◌&&◌}
 use Rattle.std.specs.Option.{option_map, option_map_or}
 use Rattle.std.proofs.lemmas.List.{set-get_or, set-set}

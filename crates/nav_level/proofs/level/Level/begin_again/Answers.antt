@@ -1,7 +1,5 @@
-use Rattle.std.proofs.Common.{◌≡◌, ◌∙◌, length, ap, subst, sym}
-use Rattle.nav_ground.specs.History.{shapes_alive}
-use Rattle.nav_desk.specs.BookState.{BookState}
-use Rattle.nav_desk.specs.Renewal.{IsAllShown, IsRenewed}
+use Rattle.std.proofs.Common.{◌∙◌, ap, subst, sym}
+use Rattle.nav_desk.specs.Renewal.{IsAllShown}
 use Rattle.nav_level.specs.Results.{published_mesh}
 use Rattle.nav_level.proofs.KeptTiles.{kept_renewed, mesh_renewed}
 use Rattle.nav_level.proofs.level.Level.begin_again.Goals as goal
