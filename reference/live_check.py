@@ -1,14 +1,19 @@
 #!/usr/bin/env python3
 """Checks live runs by the built program, of random scripts or of one input: that each lane's requests are its entries in order, that the
 lengths of a lane do not fall and cover its entries at a settle, and each answer with length K against a play of the first K entries of the
-printed history.
+printed history. What the lines of a lane's walker are told is worked out from the lines before them: the path from where the walker stands is
+asked in that play, tested against a mesh that `play_check.py` builds, with a search of its own and the rule of taut lines, and then followed for
+the length of the march, step by step. A march along another path of the same cost would be right too, and is not looked for.
 
 usage: live_check.py NAVD RUNS [SEED]     so many random scripts (default seed 1)
        live_check.py NAVD INPUT           the live run of one input
 """
+import importlib.util
+import os
 import random
 import subprocess
 import sys
+import tempfile
 
 
 def level(size, tile, rng):
@@ -39,6 +44,13 @@ def request(size, adds, rng):
     return f"{add} cylinder {rng.randrange(2 * size)} {rng.randrange(2 * size)} {rng.randrange(5)} 0 100"
 
 
+def walk(size, rng):
+    at = lambda: rng.randrange(16 * size)
+    if rng.random() < 0.3:
+        return f"send {at()} {at()} 10 {at()} {at()} 10"
+    return f"march {rng.choice([1 + rng.randrange(40), 1 + rng.randrange(400), 65535])}"
+
+
 def lane(size, count, rng):
     lines, adds = [], 0
     for _ in range(count):
@@ -46,8 +58,10 @@ def lane(size, count, rng):
         if draw < 0.35:
             lines.append(request(size, adds, rng))
             adds += lines[-1].startswith("add")
-        elif draw < 0.9:
+        elif draw < 0.65:
             lines.append(question(size, rng))
+        elif draw < 0.9:
+            lines.append(walk(size, rng))
         else:
             lines.append("settle")
     return lines
@@ -73,6 +87,96 @@ def answers(out):
 def determined(answer):
     words = answer[0].split()
     return [words[0], *(words[2:5] if words[0] == "path" else words[2:])]
+
+
+def second_program(head):
+    """`play_check.py` over a level and a script without lines: its ground, its rules and its meshes."""
+    with tempfile.TemporaryDirectory() as folder:
+        files = os.path.join(folder, "input"), os.path.join(folder, "output")
+        for file, text in zip(files, ("\n".join(head + ["script 1 1", ""]), "done 0 0\n")):
+            with open(file, "w") as out:
+                out.write(text)
+        here = os.path.dirname(os.path.abspath(__file__))
+        spec = importlib.util.spec_from_file_location("play_check", os.path.join(here, "play_check.py"))
+        second, words, path = importlib.util.module_from_spec(spec), sys.argv, sys.path[:]
+        sys.argv, sys.path = ["play_check.py", *files], [here, *path]
+        try:
+            spec.loader.exec_module(second)
+        finally:
+            sys.argv, sys.path = words, path
+    return second
+
+
+def mesh_after(second, entries):
+    """The mesh under the shapes that are alive after these entries of the printed history."""
+    shapes = {}
+    for number, words in enumerate(entries, 1):
+        if words[3] == "remove":
+            shapes.pop(int(words[4]), None)
+        elif words[-1] == "added":
+            area = int(words[5]) if words[4] == "area" else None
+            kind = 4 if area is None else 6
+            shapes[number] = words[kind], list(map(int, words[kind + 1 : -1])), area
+    second.published = shapes
+    return second.published_mesh()
+
+
+def leg(a, b):
+    return max(abs(a[0] - b[0]), abs(a[1] - b[1]))
+
+
+def part(second, mesh, polys, start, toward, rest):
+    """How far the way leads through polygons: the point, the place of the polygon, or None. Every step is tried, from the last one on."""
+    n = leg(start, toward)
+    for g in range(rest, 0, -1):
+        whole = [{(n * a + g * (b - a)) // n, -((n * a + g * (b - a)) // -n)} for a, b in zip(start, toward)]
+        for spot in sorted((x, z) for x in whole[0] for z in whole[1]):
+            for place, name in enumerate(polys):
+                if second.holds(mesh[0][name][0], spot):
+                    return spot, place
+    return None
+
+
+def marched(second, mesh, first, links, turns, start, goal, budget):
+    """Where a march along a path ends: the point, and the place of its polygon among the path's."""
+    polys, at, place = [first] + [link[0] for link in links], start, 0
+    for spot, _, portal in turns + [(goal, None, None)]:
+        last = len(links) if portal is None else max(place, portal)
+        if budget < leg(at, spot):
+            found = part(second, mesh, polys[place : last + 1], at, spot, budget)
+            return (at, place) if found is None else (found[0], place + found[1])
+        at, budget, place = spot, budget - leg(at, spot), last if portal is None else max(place, portal + 1)
+    return at, place
+
+
+def check_walker(second, mesh, k, start, y, goal, goal_y, length, path, answer):
+    """What a walker is answered that is sent (without a length) or marches, where a play gave this path from its start to its goal."""
+    ends = second.locate(mesh, *start, y), second.locate(mesh, *goal, goal_y)
+    cost = second.least_cost(mesh, *ends, {}) if None not in ends else None
+    for name, is_so in (("nostart", ends[0] is None), ("nogoal", ends[1] is None), ("nopath", cost is None)):
+        if is_so:
+            assert answer == [f"{name} {k}"] == path, (answer, name)
+            return
+    head, count = path[0].split(), int(path[0].split()[5])
+    assert [head[0], *map(int, head[1:5])] == ["path", k, cost, *ends[0]], path
+    lines = path[1 : count + 1]
+    links = [((n[0], n[1]), (n[2], n[3]), (n[4], n[5])) for n in (list(map(int, line.split()[1:])) for line in lines)]
+    turns = [((int(w[1]), int(w[2])), w[3], int(w[4])) for w in (line.split() for line in path[count + 1 :])]
+    here, costs = ends[0], []
+    for link in links:
+        assert link in [known[1:] for known in mesh[1][here]], link
+        costs.append(second.weight(mesh, here, link[0]))
+        here = link[0]
+    assert here == ends[1] and sum(costs) == cost
+    wrong = second.is_taut(start, [link[1:] for link in links], goal, turns)
+    assert wrong is None, wrong
+    at, place = (start, 0) if length is None else marched(second, mesh, ends[0], links, turns, start, goal, length)
+    name = ([ends[0]] + [link[0] for link in links])[place]
+    assert second.holds(mesh[0][name][0], at)
+    rest = sum(costs[place:])
+    wanted = [f"walker {k} {name[0]} {name[1]} {at[0]} {at[1]} {rest} {count - place}", *lines[place:]]
+    assert answer == wanted, (answer, wanted)
+    assert rest == second.least_cost(mesh, name, ends[1], {})
 
 
 def random_input(rng):
@@ -112,10 +216,18 @@ def check(navd, head, workers, lanes):
             parts.append([])
         else:
             parts[-1].append(line)
-    asked = {}
+    asked, second, meshes = {}, None, {}
+    if any(line.startswith("send") for lines in lanes for line in lines):
+        second = second_program(head)
+
+    def mesh_at(k):
+        if k not in meshes:
+            meshes[k] = mesh_after(second, entries[:k])
+        return meshes[k]
+
     for at, (lines, said) in enumerate(zip(lanes, parts, strict=True)):
         said, own, k, adds = answers(said), [e for e in entries if e[2] == str(at)], 0, []
-        newest = 0
+        newest, walker, goal = 0, None, None
         assert len(said) == len(lines)
         for line, answer in zip(lines, said):
             words, told = line.split(), answer[0].split()
@@ -128,12 +240,25 @@ def check(navd, head, workers, lanes):
                 if words[0] == "add":
                     adds.append(newest if told[2] == "added" else 0)
                 continue
+            if words[0] == "march" and walker is None:
+                assert answer == ["nowalker"]
+                continue
             assert k <= int(told[1]) <= n
             k = int(told[1])
             if words[0] == "settle":
                 assert told[0] == "settled" and k >= newest
+            elif words[0] in ("send", "march"):
+                if words[0] == "send":
+                    x, z, y, *goal = map(int, words[1:])
+                    start, length = (x, z), None
+                else:
+                    start, y = walker[2], mesh_at(walker[0])[0][walker[1]][2]  # the least floor of the polygon that was named
+                    length = int(words[1])
+                where = k, start, y, tuple(goal[:2]), goal[2], length
+                asked.setdefault(k, []).append((f"path {start[0]} {start[1]} {y} {goal[0]} {goal[1]} {goal[2]}", answer, where))
+                walker = (k, (int(told[2]), int(told[3])), (int(told[4]), int(told[5]))) if told[0] == "walker" else None
             else:
-                asked.setdefault(k, []).append((line, answer))
+                asked.setdefault(k, []).append((line, answer, None))
         assert not own
     # the same history in a play, and each question at its length
     play, wanted = ["script 1 1"], []
@@ -147,17 +272,22 @@ def check(navd, head, workers, lanes):
         if k in asked:
             play.append("settle")
             wanted.append(["settled", str(k)])
-            for line, answer in asked[k]:
+            for line, answer, where in asked[k]:
                 play.append(line)
-                wanted.append(determined(answer))
+                wanted.append(determined(answer) if where is None else (where, answer))
     got = answers(run(navd, "play", "\n".join(head + play) + "\n"))
     assert got[-1][0].startswith("done")
+    walks = 0
     for g, w in zip(got[:-1], wanted, strict=True):
+        if isinstance(w, tuple):
+            check_walker(second, mesh_at(w[0][0]), *w[0], g, w[1])
+            walks += 1
+            continue
         words = g[0].split()
         found = words if words[0] in ("entry", "settled") else determined(g)
         assert found == w, (g, w)
     assert last[0] == "final" and int(last[1]) == n
-    return len(asked), sum(len(v) for v in asked.values()), n
+    return len(asked), sum(len(v) for v in asked.values()) - walks, n, walks
 
 
 if sys.argv[2].isdigit():
@@ -165,7 +295,7 @@ if sys.argv[2].isdigit():
     inputs = (random_input(rng) for _ in range(int(sys.argv[2])))
 else:
     inputs = [read_input(open(sys.argv[2]).read())]
-totals = [0, 0, 0]
+totals = [0, 0, 0, 0]
 for head, workers, lanes in inputs:
     totals = [a + b for a, b in zip(totals, check(sys.argv[1], head, workers, lanes))]
-print("lengths named", totals[0], "questions", totals[1], "entries", totals[2], "all as in plays")
+print("lengths named", totals[0], "questions", totals[1], "entries", totals[2], "all as in plays; sends and marches", totals[3], "all right")

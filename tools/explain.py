@@ -57,6 +57,8 @@ FORMS = {
     "submit": "submit W, W below WORKERS",
     "jump": "jump X Z Y X Z Y COST, X and Z at most 16384 (sixteenths of a cell), Y at most 8191, COST 1 to 1000000",
     "hop": "hop X Z Y X Z Y, X and Z at most 16384 (sixteenths of a cell), Y at most 8191",
+    "send": "send X Z Y X Z Y, X and Z at most 16384 (sixteenths of a cell), Y at most 8191",
+    "march": "march L, 1 to 65535 (sixteenths of a cell)",
 }
 # What may follow the lines of a field, by their first words; behind `script` the lines of a script follow.
 AFTER = {
@@ -73,7 +75,7 @@ AFTER = {
     "end": ["script"],
 }
 PLAYED = ["lane", "add", "remove", "drop", "floor", "path", "ray", "settle", "aim", "publish", "claim", "back", "submit", "jump", "hop"]
-LIVED = [word for word in PLAYED if word not in ("aim", "publish", "claim", "back", "submit", "jump", "hop")]
+LIVED = [word for word in PLAYED if word not in ("aim", "publish", "claim", "back", "submit", "jump", "hop")] + ["send", "march"]
 
 
 def first_word(line):

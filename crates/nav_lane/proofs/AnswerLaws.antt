@@ -10,11 +10,11 @@ use Rattle.nav_ground.specs.declared.history.Entry.{Entry}
 use Rattle.nav_ground.specs.declared.history.Ground.{Ground}
 use Rattle.mesh_types.specs.Right.{IsRight}
 use Rattle.nav_script.specs.declared.line.Line.{Line}
-use Rattle.nav_script.specs.declared.line.Line.TheVariants.{Ask, Add, Remove, Undo, Settle}
+use Rattle.nav_script.specs.declared.line.Line.TheVariants.{Ask, Add, Remove, Undo, Settle, Send, March}
 use Rattle.nav_book.proofs.GroundTiles.{build_of-append}
 use Rattle.nav_lane.specs.declared.said.Said.{Said}
-use Rattle.nav_lane.specs.declared.said.Said.TheVariants.{Replied, Answered, Settled}
-use Rattle.nav_lane.specs.LaneRecords.{Spoken, AreAnswers, CoverEntries, IsAnswered, IsSaid, IsSettled, NeverFall, last_number, length_told, lengths_told, number_after}
+use Rattle.nav_lane.specs.declared.said.Said.TheVariants.{Replied, Answered, Settled, Walked, NoWalker}
+use Rattle.nav_lane.specs.LaneRecords.{Spoken, AreAnswers, CoverEntries, HasGone, IsAnswered, IsPlaced, IsSaid, IsSettled, NeverFall, last_number, length_told, lengths_told, number_after}
 
 -- a beginning of a list is no longer than the list
 pub IsPrefix-length : {A : Type 0} (xs ys : List A) → IsPrefix xs ys → length xs ≤ length ys
@@ -25,15 +25,35 @@ answered_later whole history more question (Answered k answer) is =
     (omega (arith, is.0, length-append history more), subst (λ mesh. IsRight mesh question answer) (sym (build_of-append whole history more k is.0)) is.1)
 answered_later whole history more question (Replied number reply) is = is
 answered_later whole history more question (Settled k) is = is
+answered_later whole history more question (Walked k answer) is = is
+answered_later whole history more question NoWalker is = is
 
 settled_later : (history more : List Entry) (said : Said) → IsSettled history said → IsSettled (history ++ more) said
 settled_later history more (Settled k) is = omega (arith, is, length-append history more)
 settled_later history more (Answered k answer) is = is
 settled_later history more (Replied number reply) is = is
+settled_later history more (Walked k answer) is = is
+settled_later history more NoWalker is = is
+
+placed_later : (history more : List Entry) (said : Said) → IsPlaced history said → IsPlaced (history ++ more) said
+placed_later history more (Walked k answer) is = omega (arith, is, length-append history more)
+placed_later history more (Replied number reply) is = is
+placed_later history more (Answered k answer) is = is
+placed_later history more (Settled k) is = is
+placed_later history more NoWalker is = is
+
+gone_later : (history more : List Entry) (said : Said) → HasGone history said → HasGone (history ++ more) said
+gone_later history more (Walked k answer) is = omega (arith, is, length-append history more)
+gone_later history more (Replied number reply) is = is
+gone_later history more (Answered k answer) is = is
+gone_later history more (Settled k) is = is
+gone_later history more NoWalker is = is
 
 said_later : (whole : Ground) (history more : List Entry) (line : Line) (said : Said) → IsSaid whole history line said → IsSaid whole (history ++ more) line said
 said_later whole history more (Ask question) said is = answered_later whole history more question said is
 said_later whole history more Settle said is = settled_later history more said is
+said_later whole history more (Send from from_y to to_y) said is = placed_later history more said is
+said_later whole history more (March far) said is = gone_later history more said is
 said_later whole history more _ said is = is
 
 -- answers that are right in a history are right in every longer one
@@ -50,21 +70,14 @@ answers_and whole history spoken one are is = All-push (λ (one : Spoken). IsSai
 -- each length that lines name is one of the history
 said_within : (whole : Ground) (history : List Entry) (line : Line) (said : Said) (k : ℕ) → IsSaid whole history line said → length_told said ≡ Some k → k ≤ length history
 said_within whole history (Ask question) (Answered n answer) k is told = let same : n ≡ k = cc told in omega (arith, is.0, same)
-said_within whole history (Ask question) (Replied number reply) k is told = absurd is
-said_within whole history (Ask question) (Settled n) k is told = absurd is
 said_within whole history Settle (Settled n) k is told = let same : n ≡ k = cc told in omega (arith, is, same)
-said_within whole history Settle (Answered n answer) k is told = absurd is
-said_within whole history Settle (Replied number reply) k is told = absurd is
+said_within whole history (Send from from_y to to_y) (Walked n answer) k is told = let same : n ≡ k = cc told in omega (arith, is, same)
+said_within whole history (March far) (Walked n answer) k is told = let same : n ≡ k = cc told in omega (arith, is, same)
+said_within whole history (March far) NoWalker k is told = absurd (cc told)
 said_within whole history (Add shape) (Replied number reply) k is told = absurd (cc told)
-said_within whole history (Add shape) (Answered n answer) k is told = absurd is
-said_within whole history (Add shape) (Settled n) k is told = absurd is
 said_within whole history (Remove number) (Replied n reply) k is told = absurd (cc told)
-said_within whole history (Remove number) (Answered n answer) k is told = absurd is
-said_within whole history (Remove number) (Settled n) k is told = absurd is
 said_within whole history (Undo j) (Replied number reply) k is told = absurd (cc told)
-said_within whole history (Undo j) (Answered n answer) k is told = absurd is
-said_within whole history (Undo j) (Settled n) k is told = absurd is
-said_within whole history _ said k is told = absurd is
+said_within whole history _ _ k is told = absurd is
 
 one_within : (told : Option ℕ) (n : ℕ) → ((k : ℕ) → told ≡ Some k → k ≤ n) → All (λ k. k ≤ n) (cons_option told [])
 one_within None n within = All-nil (λ (k : ℕ). k ≤ n)

@@ -1,6 +1,6 @@
 -- What a lane keeps when it has run one line more.
-use Rattle.std.proofs.Common.{◌≡◌, ◌∙◌, refl, sym, ap, subst, ℕ, ◌+◌, ◌<◌, ◌≤◌, List, [], ◌∷◌, ◌++◌, length, take, get_or, cond, Some, true, append-nil, arith}
-use Rattle.std.specs.Prelude.{Result, Ok, Err, IfErr, IsErrAnd}
+use Rattle.std.proofs.Common.{◌≡◌, ◌∙◌, refl, sym, ap, subst, ℕ, ◌+◌, ◌<◌, ◌≤◌, List, [], ◌∷◌, ◌++◌, length, take, get_or, cond, true, append-nil, arith}
+use Rattle.std.specs.Prelude.{Option, Some, None, IfSome, Result, Ok, Err, IfErr, IsErrAnd}
 use Rattle.std.proofs.lemmas.Grind.{take_at_read}
 use Rattle.std.proofs.lemmas.List.{map-append}
 use Rattle.std.proofs.lemmas.List.Concat.{flat_map-append}
@@ -11,13 +11,18 @@ use mathlib.Core.List.{IsPrefix}
 use Rattle.turn_lock.specs.Growth.{Extends}
 use Rattle.turn_lock.specs.Locks.{Acts, IsOf, LockId, PassView}
 use Rattle.nav_base.specs.declared.answers.Question.{Question}
+use Rattle.nav_base.specs.declared.point.Point.{Point}
 use Rattle.nav_ground.specs.declared.history.Entry.{Entry}
 use Rattle.nav_ground.specs.declared.history.Ground.{Ground}
 use Rattle.nav_ground.specs.declared.history.Reply.{Reply}
 use Rattle.nav_ground.specs.declared.history.Request.{Request}
 use Rattle.mesh_types.specs.declared.answers.Answer.{Answer}
+use Rattle.mesh_types.specs.declared.walks.WalkAnswer.{WalkAnswer}
 use Rattle.mesh_types.specs.Builds.{build_of}
 use Rattle.mesh_types.specs.Right.{IsRight}
+use Rattle.agent_walks.specs.declared.walkers.Walker.{Walker}
+use Rattle.agent_walks.specs.Marches.{IsMarched, IsSent}
+use Rattle.agent_walks.specs.Walkers.{IsUnderWay, IsWalker, walker_of}
 use Rattle.nav_script.specs.declared.line.Line.{Line}
 use Rattle.nav_script.specs.declared.line.Line.TheVariants as lines
 use Rattle.nav_script.specs.Lanes.{is_request}
@@ -29,10 +34,10 @@ use Rattle.nav_lane.specs.declared.lane.Stop.TheVariants.{NoMemory, HistoryFull}
 use Rattle.nav_lane.specs.declared.book.LiveAct.TheVariants as acts
 use Rattle.nav_lane.specs.declared.book.LiveDone.TheVariants as dones
 use Rattle.nav_lane.specs.declared.said.Said.{Said}
-use Rattle.nav_lane.specs.declared.said.Said.TheVariants.{Replied, Answered, Settled}
-use Rattle.nav_lane.specs.LaneRecords.{Spoken, AreAnswers, AreEntries, adds_of, adds_with, IsSaid, entries_made, entry_said, length_told, number_after, request_of}
+use Rattle.nav_lane.specs.declared.said.Said.TheVariants.{Replied, Answered, Settled, Walked, NoWalker}
+use Rattle.nav_lane.specs.LaneRecords.{Spoken, Standing, AreAnswers, AreEntries, adds_of, adds_with, IsMoved, IsSaid, entries_made, entry_said, length_told, number_after, request_of, standing_with}
 use Rattle.nav_lane.specs.LiveBooks.{Does, IsLegal, lane_of}
-use Rattle.nav_lane.specs.Lanes.{BelongsTo, CanStart, KeepsLane, NotesLines, SawOthers}
+use Rattle.nav_lane.specs.Lanes.{BelongsTo, CanStart, KeepsLane, KeepsWalker, NotesLines, SawOthers}
 use Rattle.nav_lane.specs.LaneSteps.{HasNoted, HasRun, HasRunAll}
 use Rattle.nav_lane.specs.LaneTexts.{said_text, told_text}
 use Rattle.nav_lane.specs.Stops.{FindsFull, IsStopped, IsStoppedAt}
@@ -41,6 +46,7 @@ use Rattle.nav_lane.proofs.AnswerLaws.{IsPrefix-length, answers_and, answers_lat
 use Rattle.nav_lane.proofs.PassLaws.{saw_then}
 use Rattle.nav_lane.proofs.EntryLaws.{entries_extended, entries_of_no_request, entries_of_request}
 use Rattle.nav_lane.proofs.RecordLaws.{length-entries_made}
+use Rattle.nav_lane.proofs.WalkLaws.{LeavesWalker, walks_later, walks_marched, walks_not, walks_past, walks_sent}
 
 -- what is written with one line more
 told_text_and : (spoken : List Spoken) (one : Spoken) → told_text (spoken ++ one ∷ []) ≡ told_text spoken ++ said_text one.1
@@ -58,54 +64,137 @@ noted_more spoken line said before after notes noted =
       last = noted.last ∙ ap (λ last. number_after last said) notes.last ∙ sym (last_number_and spoken one);
     }
 
-pub ran_ask : (lock : LockId RootView) (spoken : List Spoken) (before after : Lane) (question : Question) (k : ℕ) (answer : Answer)
-    → KeepsLane lock spoken before → HasNoted (lines.Ask question) (Answered k answer) before after → after.number ≡ before.number → after.pass ≡ before.pass
-    → HasLooked before.eye after.eye → k ≡ length after.eye.seen → IsRight (build_of before.eye.ground after.eye.seen k) question answer
-    → HasRun lock (lines.Ask question) spoken after
-ran_ask lock spoken before after question k answer keeps noted number same looked long right =
-    let one : Spoken = (lines.Ask question, Answered k answer) in
-    let right' : IsRight (build_of lock.root.level after.eye.seen k) question answer = subst (λ g. IsRight (build_of g after.eye.seen k) question answer) keeps.own.ground right in
-    let told : (n : ℕ) → length_told (Answered k answer) ≡ Some n → length before.eye.seen ≤ n =
-    λ n is. (let seen = IsPrefix-length before.eye.seen after.eye.seen looked.seen in let same : k ≡ n = cc is in omega (arith, seen, long, same)) in
+-- a lane that has made no act belongs to its lock as before, where its eye is of the same pair and ground, and its walker may march
+still_own : (lock : LockId RootView) (before after : Lane) → BelongsTo lock before → after.number ≡ before.number → after.pass ≡ before.pass
+    → after.eye.pair ≡ before.eye.pair → after.eye.ground ≡ before.eye.ground → IfSome after.walker IsWalker → BelongsTo lock after
+still_own lock before after own number same pair level walker = record {
+  of = subst (IsOf lock) (sym same) own.of;
+  number = number ∙ own.number ∙ ap (λ p. p.number) (sym same);
+  pair = pair ∙ own.pair;
+  ground = level ∙ own.ground;
+  walker = walker;
+}
+
+-- a line more that makes no request and no act, after which the eye has seen so much: it is answered as it may be, names no length below what was
+-- seen before, and leaves the walker that it may leave
+ran_line : (lock : LockId RootView) (spoken : List Spoken) (before after : Lane) (line : Line) (said : Said) → KeepsLane lock spoken before
+    → HasNoted line said before after → BelongsTo lock after → after.pass ≡ before.pass → IsPrefix before.eye.seen after.eye.seen
+    → ((adds : List ℕ) → entry_said before.pass.number adds line said ≡ None) → IsSaid lock.root.level after.eye.seen line said
+    → ((n : ℕ) → said ≡ Settled n → before.last ≤ n) → ((n : ℕ) → length_told said ≡ Some n → length before.eye.seen ≤ n)
+    → KeepsWalker lock.root.level after.eye.seen (spoken ++ (line, said) ∷ []) after.walker → HasRun lock line spoken after
+ran_line lock spoken before after line said keeps noted own same seen silent is covers above walks =
+    let one : Spoken = (line, said) in
     record {
-      said = Answered k answer;
+      said = said;
       keeps = record {
-        own = record {
-          of = subst (IsOf lock) (sym same) keeps.own.of;
-          number = number ∙ keeps.own.number ∙ ap (λ p. p.number) (sym same);
-          pair = looked.pair ∙ keeps.own.pair;
-          ground = looked.ground ∙ keeps.own.ground;
-        };
-        entries = rw same (entries_of_no_request before.pass.seen before.pass.number spoken one refl keeps.entries);
-        answers = answers_and lock.root.level after.eye.seen spoken one (answers_later lock.root.level before.eye.seen after.eye.seen spoken looked.seen keeps.answers) (omega (arith, long), right');
-        settled = covers_more spoken one keeps.settled (λ n is. absurd (cc is));
-        rising = rising_more lock.root.level before.eye.seen spoken one keeps.answers keeps.rising told;
-        notes = noted_more spoken (lines.Ask question) (Answered k answer) before after keeps.notes noted;
+        own = own;
+        entries = rw same (entries_of_no_request before.pass.seen before.pass.number spoken one (silent (adds_of spoken)) keeps.entries);
+        answers = answers_and lock.root.level after.eye.seen spoken one (answers_later lock.root.level before.eye.seen after.eye.seen spoken seen keeps.answers) is;
+        settled = covers_more spoken one keeps.settled (λ n e. subst (λ last. last ≤ n) keeps.notes.last (covers n e));
+        rising = rising_more lock.root.level before.eye.seen spoken one keeps.answers keeps.rising above;
+        walks = walks;
+        notes = noted_more spoken line said before after keeps.notes noted;
       };
     }
 
+-- a length that was told is at least that of all that was seen before
+told_above : (before after : EyeView) (k n : ℕ) → HasLooked before after → k ≡ length after.seen → k ≡ n → length before.seen ≤ n
+told_above before after k n looked long same = let seen = IsPrefix-length before.seen after.seen looked.seen in omega (arith, seen, long, same)
+
+pub ran_ask : (lock : LockId RootView) (spoken : List Spoken) (before after : Lane) (question : Question) (k : ℕ) (answer : Answer)
+    → KeepsLane lock spoken before → HasNoted (lines.Ask question) (Answered k answer) before after → after.number ≡ before.number → after.pass ≡ before.pass
+    → after.walker ≡ before.walker → HasLooked before.eye after.eye → k ≡ length after.eye.seen
+    → IsRight (build_of before.eye.ground after.eye.seen k) question answer → HasRun lock (lines.Ask question) spoken after
+ran_ask lock spoken before after question k answer keeps noted number same walker looked long right =
+    let right' : IsRight (build_of lock.root.level after.eye.seen k) question answer = subst (λ g. IsRight (build_of g after.eye.seen k) question answer) keeps.own.ground right in
+    ran_line lock spoken before after (lines.Ask question) (Answered k answer) keeps noted
+    (still_own lock before after keeps.own number same looked.pair looked.ground (subst (λ w. IfSome w IsWalker) (sym walker) keeps.own.walker))
+    same looked.seen (λ adds. refl) (omega (arith, long), right') (λ n is. absurd (cc is))
+    (λ n is. told_above before.eye after.eye k n looked long (cc is))
+    (walks_past lock.root.level before.eye.seen after.eye.seen spoken (lines.Ask question, Answered k answer) before.walker after.walker looked.seen keeps.answers keeps.walks
+    walker (λ standing. refl, λ whole history standing. tt))
+
 pub ran_settle : (lock : LockId RootView) (spoken : List Spoken) (before after : Lane) (k : ℕ)
     → KeepsLane lock spoken before → HasNoted lines.Settle (Settled k) before after → after.number ≡ before.number → after.pass ≡ before.pass
-    → after.eye.pair ≡ before.eye.pair → after.eye.ground ≡ before.eye.ground → IsPrefix before.eye.seen after.eye.seen → k ≤ length after.eye.seen
-    → before.last ≤ k → length before.eye.seen ≤ k → HasRun lock lines.Settle spoken after
-ran_settle lock spoken before after k keeps noted number same pair level seen within covers above =
-    let one : Spoken = (lines.Settle, Settled k) in
-    record {
-      said = Settled k;
-      keeps = record {
-        own = record {
-          of = subst (IsOf lock) (sym same) keeps.own.of;
-          number = number ∙ keeps.own.number ∙ ap (λ p. p.number) (sym same);
-          pair = pair ∙ keeps.own.pair;
-          ground = level ∙ keeps.own.ground;
-        };
-        entries = rw same (entries_of_no_request before.pass.seen before.pass.number spoken one refl keeps.entries);
-        answers = answers_and lock.root.level after.eye.seen spoken one (answers_later lock.root.level before.eye.seen after.eye.seen spoken seen keeps.answers) within;
-        settled = covers_more spoken one keeps.settled (λ n is. let same' : k ≡ n = cc is in omega (arith, covers, same', keeps.notes.last));
-        rising = rising_more lock.root.level before.eye.seen spoken one keeps.answers keeps.rising (λ n is. let same' : k ≡ n = cc is in omega (arith, above, same'));
-        notes = noted_more spoken lines.Settle (Settled k) before after keeps.notes noted;
-      };
-    }
+    → after.walker ≡ before.walker → after.eye.pair ≡ before.eye.pair → after.eye.ground ≡ before.eye.ground → IsPrefix before.eye.seen after.eye.seen
+    → k ≤ length after.eye.seen → before.last ≤ k → length before.eye.seen ≤ k → HasRun lock lines.Settle spoken after
+ran_settle lock spoken before after k keeps noted number same walker pair level seen within covers above =
+    ran_line lock spoken before after lines.Settle (Settled k) keeps noted
+    (still_own lock before after keeps.own number same pair level (subst (λ w. IfSome w IsWalker) (sym walker) keeps.own.walker))
+    same seen (λ adds. refl) within (λ n is. let same' : k ≡ n = cc is in omega (arith, covers, same'))
+    (λ n is. let same' : k ≡ n = cc is in omega (arith, above, same'))
+    (walks_past lock.root.level before.eye.seen after.eye.seen spoken (lines.Settle, Settled k) before.walker after.walker seen keeps.answers keeps.walks
+    walker (λ standing. refl, λ whole history standing. tt))
+
+-- a `send` was answered from what the eye sees after it, and left this walker
+pub record HasSent (before eye : EyeView) (from : Point) (from_y : ℕ) (to : Point) (to_y k : ℕ) (answer : WalkAnswer) (walker : Option Walker) : Type 0 where
+  pub looked : HasLooked before eye
+  pub long : k ≡ length eye.seen
+  pub sent : IsSent (build_of before.ground eye.seen k) from from_y to to_y answer
+  pub way : IsUnderWay (build_of before.ground eye.seen k) to to_y answer
+  pub leaves : walker ≡ walker_of k to to_y answer
+  pub may_march : IfSome walker IsWalker
+
+pub ran_send : (lock : LockId RootView) (spoken : List Spoken) (before after : Lane) (eye : EyeView) (from : Point) (from_y : ℕ) (to : Point) (to_y k : ℕ)
+    (answer : WalkAnswer) (walker : Option Walker) → KeepsLane lock spoken before → HasNoted (lines.Send from from_y to to_y) (Walked k answer) before after
+    → after.number ≡ before.number → after.pass ≡ before.pass → after.eye ≡ eye → after.walker ≡ walker
+    → HasSent before.eye eye from from_y to to_y k answer walker → HasRun lock (lines.Send from from_y to to_y) spoken after
+ran_send lock spoken before after eye from from_y to to_y k answer walker keeps noted number same is left has =
+    let has' : HasSent before.eye after.eye from from_y to to_y k answer after.walker =
+    subst (λ w. HasSent before.eye after.eye from from_y to to_y k answer w) (sym left) (subst (λ e. HasSent before.eye e from from_y to to_y k answer walker) (sym is) has) in
+    let level = lock.root.level in
+    let within : k ≤ length after.eye.seen = let long = has'.long in omega (arith, long) in
+    let there = walks_later level before.eye.seen after.eye.seen spoken before.walker has'.looked.seen keeps.answers keeps.walks in
+    ran_line lock spoken before after (lines.Send from from_y to to_y) (Walked k answer) keeps noted
+    (still_own lock before after keeps.own number same has'.looked.pair has'.looked.ground has'.may_march)
+    same has'.looked.seen (λ adds. refl) within (λ n e. absurd (cc e))
+    (λ n e. told_above before.eye after.eye k n has'.looked has'.long (cc e))
+    (walks_sent level after.eye.seen spoken before.walker after.walker from from_y to to_y k answer there within
+    (subst (λ g. IsSent (build_of g after.eye.seen k) from from_y to to_y answer) keeps.own.ground has'.sent) has'.leaves
+    (subst (λ g. IsUnderWay (build_of g after.eye.seen k) to to_y answer) keeps.own.ground has'.way))
+
+-- a march of a walker was answered from what the eye sees after it, and left this walker
+pub record HasMarched (before eye : EyeView) (walker : Walker) (far k : ℕ) (answer : WalkAnswer) (left : Option Walker) : Type 0 where
+  pub looked : HasLooked before eye
+  pub long : k ≡ length eye.seen
+  pub marched : IsMarched (build_of before.ground eye.seen k) walker.point walker.y walker.goal walker.goal_y far answer
+  pub way : IsUnderWay (build_of before.ground eye.seen k) walker.goal walker.goal_y answer
+  pub leaves : left ≡ walker_of k walker.goal walker.goal_y answer
+  pub may_march : IfSome left IsWalker
+
+pub ran_march : (lock : LockId RootView) (spoken : List Spoken) (before after : Lane) (eye : EyeView) (walker : Walker) (far k : ℕ)
+    (answer : WalkAnswer) (left : Option Walker) → KeepsLane lock spoken before → before.walker ≡ Some walker
+    → HasNoted (lines.March far) (Walked k answer) before after → after.number ≡ before.number → after.pass ≡ before.pass → after.eye ≡ eye
+    → after.walker ≡ left → HasMarched before.eye eye walker far k answer left → HasRun lock (lines.March far) spoken after
+ran_march lock spoken before after eye walker far k answer left keeps was noted number same is leaves has =
+    let has' : HasMarched before.eye after.eye walker far k answer after.walker =
+    subst (λ w. HasMarched before.eye after.eye walker far k answer w) (sym leaves) (subst (λ e. HasMarched before.eye e walker far k answer left) (sym is) has) in
+    let level = lock.root.level in
+    let within : k ≤ length after.eye.seen = let long = has'.long in omega (arith, long) in
+    let there : KeepsWalker level after.eye.seen spoken (Some walker) =
+    walks_later level before.eye.seen after.eye.seen spoken (Some walker) has'.looked.seen keeps.answers
+    (subst (λ w. KeepsWalker level before.eye.seen spoken w) was keeps.walks) in
+    ran_line lock spoken before after (lines.March far) (Walked k answer) keeps noted
+    (still_own lock before after keeps.own number same has'.looked.pair has'.looked.ground has'.may_march)
+    same has'.looked.seen (λ adds. refl) within (λ n e. absurd (cc e))
+    (λ n e. told_above before.eye after.eye k n has'.looked has'.long (cc e))
+    (walks_marched level after.eye.seen spoken walker after.walker far k answer there within
+    (subst (λ g. IsMarched (build_of g after.eye.seen k) walker.point walker.y walker.goal walker.goal_y far answer) keeps.own.ground has'.marched) has'.leaves
+    (subst (λ g. IsUnderWay (build_of g after.eye.seen k) walker.goal walker.goal_y answer) keeps.own.ground has'.way))
+
+-- a march where there is no walker
+pub ran_idle : (lock : LockId RootView) (spoken : List Spoken) (before after : Lane) (far : ℕ) → KeepsLane lock spoken before → before.walker ≡ None
+    → HasNoted (lines.March far) NoWalker before after → after.number ≡ before.number → after.pass ≡ before.pass → after.eye ≡ before.eye → after.walker ≡ None
+    → HasRun lock (lines.March far) spoken after
+ran_idle lock spoken before after far keeps was noted number same is none =
+    let level = lock.root.level in
+    let own = still_own lock before after keeps.own number same (ap (λ e. e.pair) is) (ap (λ e. e.ground) is) (subst (λ w. IfSome w IsWalker) (sym none) tt) in
+    let there : KeepsWalker level before.eye.seen spoken None = subst (λ w. KeepsWalker level before.eye.seen spoken w) was keeps.walks in
+    let walks : KeepsWalker level after.eye.seen (spoken ++ (lines.March far, NoWalker) ∷ []) after.walker =
+    subst (λ w. KeepsWalker level after.eye.seen (spoken ++ (lines.March far, NoWalker) ∷ []) w) (sym none)
+    (subst (λ e. KeepsWalker level e.seen (spoken ++ (lines.March far, NoWalker) ∷ []) None) (sym is) (walks_not level before.eye.seen spoken far there)) in
+    ran_line lock spoken before after (lines.March far) NoWalker keeps noted own same ([], append-nil before.eye.seen ∙ ap (λ e. e.seen) (sym is)) (λ adds. refl) tt
+    (λ n e. absurd (cc e)) (λ n e. absurd (cc e)) walks
 
 -- what an answered request of a lane did to the history that its pass has seen
 pub record HasAsked (lock : LockId RootView) (before after : Lane) (request : Request) (k : ℕ) (reply : Reply) : Type 0 where
@@ -116,12 +205,12 @@ pub record HasAsked (lock : LockId RootView) (before after : Lane) (request : Re
   pub left : after.pass.seen ≡ found ++ record { lane = before.number; request = request; reply = reply } ∷ []
   pub told : k ≡ length after.pass.seen
 
--- a line that makes a request is a request line, and may be replied to
+-- a line that makes a request is a request line, may be replied to, and has nothing to do with walkers
 asking : (whole : Ground) (history : List Entry) (adds : List ℕ) (line : Line) (request : Request) → request_of adds line ≡ Some request
-    → (is_request line ≡ true) × ((k : ℕ) (reply : Reply) → IsSaid whole history line (Replied k reply))
-asking whole history adds (lines.Add shape) request makes = (refl, λ k reply. tt)
-asking whole history adds (lines.Remove number) request makes = (refl, λ k reply. tt)
-asking whole history adds (lines.Undo j) request makes = (refl, λ k reply. tt)
+    → (is_request line ≡ true) × ((k : ℕ) (reply : Reply) → IsSaid whole history line (Replied k reply)) × ((k : ℕ) (reply : Reply) → LeavesWalker (line, Replied k reply))
+asking whole history adds (lines.Add shape) request makes = (refl, λ k reply. tt, λ k reply. (λ standing. refl, λ level those standing. tt))
+asking whole history adds (lines.Remove number) request makes = (refl, λ k reply. tt, λ k reply. (λ standing. refl, λ level those standing. tt))
+asking whole history adds (lines.Undo j) request makes = (refl, λ k reply. tt, λ k reply. (λ standing. refl, λ level those standing. tt))
 asking whole history adds _ request makes = absurd (cc makes)
 
 -- what the turn of a request that was answered did, for the lane whose pass it is
@@ -153,9 +242,12 @@ finds_full lock before pass line request len of number turn makes =
 
 pub ran_request : (lock : LockId RootView) (spoken : List Spoken) (before after : Lane) (line : Line) (request : Request) (k : ℕ) (reply : Reply)
     → KeepsLane lock spoken before → HasNoted line (Replied k reply) before after → after.number ≡ before.number → after.eye ≡ before.eye
-    → HasAsked lock before after request k reply → request_of before.adds line ≡ Some request → HasRun lock line spoken after
-ran_request lock spoken before after line request k reply keeps noted number same asked makes =
-    let fits : IsSaid lock.root.level after.eye.seen line (Replied k reply) = (asking lock.root.level after.eye.seen before.adds line request makes).1 k reply in
+    → after.walker ≡ before.walker → HasAsked lock before after request k reply → request_of before.adds line ≡ Some request → HasRun lock line spoken after
+ran_request lock spoken before after line request k reply keeps noted number same walker asked makes =
+    let level = lock.root.level in
+    let rules = asking level after.eye.seen before.adds line request makes in
+    let fits : IsSaid level after.eye.seen line (Replied k reply) = rules.1 k reply in
+    let seen : IsPrefix before.eye.seen after.eye.seen = ([], append-nil before.eye.seen ∙ ap (λ e. e.seen) (sym same)) in
     let one : Spoken = (line, Replied k reply) in
     let e : Entry = record { lane = before.number; request = request; reply = reply } in
     let found : AreEntries asked.found before.number spoken =
@@ -174,31 +266,33 @@ ran_request lock spoken before after line request k reply keeps noted number sam
           number = number ∙ sym own;
           pair = ap (λ v. v.pair) same ∙ keeps.own.pair;
           ground = ap (λ v. v.ground) same ∙ keeps.own.ground;
+          walker = subst (λ w. IfSome w IsWalker) (sym walker) keeps.own.walker;
         };
         entries = rw (asked.left, own) more;
         answers = answers_and lock.root.level after.eye.seen spoken one (subst (λ v. AreAnswers lock.root.level v.seen spoken) (sym same) keeps.answers) fits;
         settled = covers_more spoken one keeps.settled (λ n is. absurd (cc is));
         rising = rising_more lock.root.level before.eye.seen spoken one keeps.answers keeps.rising (λ n is. absurd (cc is));
+        walks = walks_past level before.eye.seen after.eye.seen spoken one before.walker after.walker seen keeps.answers keeps.walks walker (rules.2 k reply);
         notes = noted_more spoken line (Replied k reply) before after keeps.notes noted;
       };
     }
 
 -- the same where the eye after the line is that after a call
 pub ran_ask_by : (lock : LockId RootView) (spoken : List Spoken) (before after : Lane) (eye : EyeView) (question : Question) (k : ℕ) (answer : Answer)
-    → KeepsLane lock spoken before → HasNoted (lines.Ask question) (Answered k answer) before after → after.number ≡ before.number → after.pass ≡ before.pass → after.eye ≡ eye
-    → HasLooked before.eye eye → k ≡ length eye.seen → IsRight (build_of before.eye.ground eye.seen k) question answer
+    → KeepsLane lock spoken before → HasNoted (lines.Ask question) (Answered k answer) before after → after.number ≡ before.number → after.pass ≡ before.pass → after.walker ≡ before.walker
+    → after.eye ≡ eye → HasLooked before.eye eye → k ≡ length eye.seen → IsRight (build_of before.eye.ground eye.seen k) question answer
     → HasRun lock (lines.Ask question) spoken after
-ran_ask_by lock spoken before after eye question k answer keeps noted number same is looked long right =
-    ran_ask lock spoken before after question k answer keeps noted number same (subst (HasLooked before.eye) (sym is) looked) (long ∙ ap (λ e. length e.seen) (sym is))
+ran_ask_by lock spoken before after eye question k answer keeps noted number same walker is looked long right =
+    ran_ask lock spoken before after question k answer keeps noted number same walker (subst (HasLooked before.eye) (sym is) looked) (long ∙ ap (λ e. length e.seen) (sym is))
     (subst (λ e. IsRight (build_of before.eye.ground e.seen k) question answer) (sym is) right)
 
 pub ran_settle_by : (lock : LockId RootView) (spoken : List Spoken) (before after : Lane) (eye : EyeView) (told : List Entry) (k : ℕ)
-    → KeepsLane lock spoken before → HasNoted lines.Settle (Settled k) before after → after.number ≡ before.number → after.pass ≡ before.pass → after.eye ≡ eye
+    → KeepsLane lock spoken before → HasNoted lines.Settle (Settled k) before after → after.number ≡ before.number → after.pass ≡ before.pass → after.walker ≡ before.walker → after.eye ≡ eye
     → eye ≡ after_learning before.eye told → IsPrefix before.eye.seen eye.seen → IsPrefix told eye.seen → k ≡ length told
     → before.last ≤ k → length before.eye.seen ≤ k → HasRun lock lines.Settle spoken after
-ran_settle_by lock spoken before after eye told k keeps noted number same is learnt own more long covers above =
+ran_settle_by lock spoken before after eye told k keeps noted number same walker is learnt own more long covers above =
     let within : k ≤ length after.eye.seen = omega (arith, long, IsPrefix-length told eye.seen more, ap (λ e. length e.seen) is) in
-    ran_settle lock spoken before after k keeps noted number same (ap (λ e. e.pair) (is ∙ learnt)) (ap (λ e. e.ground) (is ∙ learnt))
+    ran_settle lock spoken before after k keeps noted number same walker (ap (λ e. e.pair) (is ∙ learnt)) (ap (λ e. e.ground) (is ∙ learnt))
     (subst (λ e. IsPrefix before.eye.seen e.seen) (sym is) own) within covers above
 
 -- two acts more
@@ -213,7 +307,7 @@ waited_more lock before between pass then waited first second = record {
 pub waits_there : (lock : LockId RootView) (before after : Lane) → BelongsTo lock before → HasWaited lock before after → BelongsTo lock after
 waits_there lock before after own waited =
     subst (BelongsTo lock) (sym waited.rest)
-    (record { of = waited.saw.of; number = own.number ∙ sym waited.saw.number; pair = own.pair; ground = own.ground })
+    (record { of = waited.saw.of; number = own.number ∙ sym waited.saw.number; pair = own.pair; ground = own.ground; walker = own.walker })
 
 pub waits_on : (lock : LockId RootView) (spoken : List Spoken) (before after : Lane) → KeepsLane lock spoken before → HasWaited lock before after → KeepsLane lock spoken after
 waits_on lock spoken before after keeps waited =
@@ -221,23 +315,31 @@ waits_on lock spoken before after keeps waited =
     let entries : AreEntries pass.seen pass.number spoken =
     subst (λ n. AreEntries pass.seen n spoken) (sym waited.saw.number) (waited.saw.entries ∙ keeps.entries) in
     subst (KeepsLane lock spoken) (sym waited.rest) (record {
-      own = record { of = waited.saw.of; number = keeps.own.number ∙ sym waited.saw.number; pair = keeps.own.pair; ground = keeps.own.ground };
+      own = record {
+        of = waited.saw.of;
+        number = keeps.own.number ∙ sym waited.saw.number;
+        pair = keeps.own.pair;
+        ground = keeps.own.ground;
+        walker = keeps.own.walker;
+      };
       entries = entries;
       answers = keeps.answers;
       settled = keeps.settled;
       rising = keeps.rising;
+      walks = record { moved = keeps.walks.moved; stands = keeps.walks.stands };
       notes = record { text = keeps.notes.text; adds = keeps.notes.adds; last = keeps.notes.last };
     })
 
 -- a lane that has run no line keeps what it has to
 pub starts : (lock : LockId RootView) (lane : Lane) → CanStart lock lane.number lane.pass lane.eye → lane.text.items ≡ [] → lane.adds ≡ [] → lane.last ≡ 0
-    → KeepsLane lock [] lane
-starts lock lane can unwritten nothing zero' = record {
-  own = record { of = can.of; number = can.named; pair = can.pair; ground = can.level };
+    → lane.walker ≡ None → KeepsLane lock [] lane
+starts lock lane can unwritten nothing zero' none = record {
+  own = record { of = can.of; number = can.named; pair = can.pair; ground = can.level; walker = subst (λ w. IfSome w IsWalker) (sym none) tt };
   entries = rw can.nothing refl;
   answers = All-nil (λ (one : Spoken). IsSaid lock.root.level lane.eye.seen one.0 one.1);
   settled = λ place k line is. absurd (cc is);
   rising = λ i j d lt there. absurd (omega (arith, there));
+  walks = subst (λ w. KeepsWalker lock.root.level lane.eye.seen [] w) (sym none) (record { moved = tt; stands = tt });
   notes = record { text = unwritten; adds = nothing; last = zero' };
 }
 

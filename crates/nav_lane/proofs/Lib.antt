@@ -3,4 +3,5 @@ pub mod EntryLaws
 pub mod AnswerLaws
 pub mod RecordLaws
 mod PassLaws
+mod WalkLaws
 mod LaneLaws

@@ -9,17 +9,18 @@ use Rattle.turn_lock.specs.Locks.{LockId}
 use Rattle.nav_ground.specs.declared.history.Entry.{Entry}
 use Rattle.nav_ground.specs.declared.history.Ground.{Ground}
 use Rattle.nav_script.specs.declared.line.Line.{Line}
-use Rattle.nav_script.specs.declared.line.Line.TheVariants.{Ask, Add, Remove, Undo, Settle}
+use Rattle.nav_script.specs.declared.line.Line.TheVariants.{Ask, Add, Remove, Undo, Settle, Send, March}
 use Rattle.nav_script.specs.Lanes.{is_request}
 use Rattle.nav_lane.specs.Roots.{RootView}
 use Rattle.nav_lane.specs.declared.lane.Lane as lanes
 use Rattle.nav_lane.specs.declared.said.Said.{Said}
-use Rattle.nav_lane.specs.declared.said.Said.TheVariants.{Replied, Answered, Settled}
+use Rattle.nav_lane.specs.declared.said.Said.TheVariants.{Replied, Answered, Settled, Walked, NoWalker}
 use Rattle.nav_lane.specs.LaneRecords.{Spoken, AreAnswers, IsLane, IsSaid, adds_with, entries_from, entries_made, entry_said}
 use Rattle.nav_lane.specs.Lanes.{KeepsLane}
 use Rattle.nav_lane.specs.LaneSteps.{HasRunAll}
 use Rattle.nav_lane.proofs.AnswerLaws.{answers_later}
 use Rattle.nav_lane.proofs.EntryLaws.{entries_extended}
+use Rattle.nav_lane.proofs.WalkLaws.{walks_later}
 
 -- where the one history goes on from what the lane's pass and its eye have seen, the lane's lines say what they may
 pub lane_record : (lock : LockId RootView) (history : List Entry) (list : List Line) (spoken : List Spoken) (lane : lanes.Lane) → KeepsLane lock spoken lane
@@ -31,27 +32,21 @@ lane_record lock history list spoken lane keeps extends seen each = record {
   answers = answers_later lock.root.level lane.eye.seen history spoken seen keeps.answers;
   settled = keeps.settled;
   rising = keeps.rising;
+  walks = (walks_later lock.root.level lane.eye.seen history spoken lane.walker seen keeps.answers keeps.walks).moved;
 }
 
 -- a line that was answered as it may be says one entry where it makes a request, and none where it does not
 said_by : (whole : Ground) (history : List Entry) (lane : ℕ) (adds : List ℕ) (line : Line) (said : Said) (rest : List (ℕ × Entry)) → IsSaid whole history line said
     → length (cons_option (entry_said lane adds line said) rest) ≡ cond (is_request line) 1 0 + length rest
 said_by whole history lane adds (Add shape) (Replied number reply) rest is = omega arith
-said_by whole history lane adds (Add shape) (Answered k answer) rest is = absurd is
-said_by whole history lane adds (Add shape) (Settled k) rest is = absurd is
 said_by whole history lane adds (Remove obstacle) (Replied number reply) rest is = omega arith
-said_by whole history lane adds (Remove obstacle) (Answered k answer) rest is = absurd is
-said_by whole history lane adds (Remove obstacle) (Settled k) rest is = absurd is
 said_by whole history lane adds (Undo j) (Replied number reply) rest is = omega arith
-said_by whole history lane adds (Undo j) (Answered k answer) rest is = absurd is
-said_by whole history lane adds (Undo j) (Settled k) rest is = absurd is
 said_by whole history lane adds (Ask question) (Answered k answer) rest is = omega arith
-said_by whole history lane adds (Ask question) (Replied number reply) rest is = absurd is
-said_by whole history lane adds (Ask question) (Settled k) rest is = absurd is
 said_by whole history lane adds Settle (Settled k) rest is = omega arith
-said_by whole history lane adds Settle (Replied number reply) rest is = absurd is
-said_by whole history lane adds Settle (Answered k answer) rest is = absurd is
-said_by whole history lane adds _ said rest is = absurd is
+said_by whole history lane adds (Send from from_y to to_y) (Walked k answer) rest is = omega arith
+said_by whole history lane adds (March far) (Walked k answer) rest is = omega arith
+said_by whole history lane adds (March far) NoWalker rest is = omega arith
+said_by whole history lane adds _ _ rest is = absurd is
 
 -- lines that were answered as they may be say as many entries as requests are among them
 length-entries_from : (whole : Ground) (history : List Entry) (lane : ℕ) (adds : List ℕ) (spoken : List Spoken) → AreAnswers whole history spoken

@@ -1,19 +1,26 @@
 -- What the lines of one lane may say, given the one history that all lanes share.
-use Rattle.std.specs.Prelude.{◌≡◌, ℕ, ◌-◌, ◌≤◌, ◌==◌, if◌then◌else◌, ⊤, List, [], ◌∷◌, ◌++◌, length, map, take, fold, filter, filter_map, slice_get, unwrap_or, All, AllPairs, Option, Some, None}
+use Rattle.std.specs.Prelude.{◌≡◌, ℕ, ◌-◌, ◌≤◌, ◌==◌, if◌then◌else◌, ⊤, List, [], ◌∷◌, ◌++◌, length, map, take, fold, filter, filter_map, slice_get, unwrap_or, All, AllPairs, Option, Some, None, option_and_then}
 use Rattle.std.specs.List.{cons_option, enumerate_from}
 use Rattle.std.specs.Option.{option_map}
 use Rattle.nav_base.specs.declared.answers.Question.{Question}
+use Rattle.nav_base.specs.declared.point.Point.{Point}
 use Rattle.nav_ground.specs.declared.history.Entry.{Entry}
 use Rattle.nav_ground.specs.declared.history.Ground.{Ground}
 use Rattle.nav_ground.specs.declared.history.Request.{Request}
 use Rattle.nav_ground.specs.declared.history.Request.TheVariants as requests
 use Rattle.nav_ground.specs.History.{is_added}
+use Rattle.mesh_types.specs.declared.links.PolyRef.{PolyRef}
+use Rattle.mesh_types.specs.declared.polygon.Polygon.{Polygon}
+use Rattle.mesh_types.specs.declared.walks.WalkAnswer.{WalkAnswer}
+use Rattle.mesh_types.specs.declared.walks.WalkAnswer.TheVariants.{Walking, NoStart, NoGoal, NoPath}
 use Rattle.mesh_types.specs.Builds.{build_of}
 use Rattle.mesh_types.specs.Right.{IsRight}
+use Rattle.mesh_types.specs.WholeMesh.{poly_at}
+use Rattle.agent_walks.specs.Marches.{IsMarched, IsSent}
 use Rattle.nav_script.specs.declared.line.Line.{Line}
-use Rattle.nav_script.specs.declared.line.Line.TheVariants.{Ask, Add, Remove, Undo, Settle}
+use Rattle.nav_script.specs.declared.line.Line.TheVariants.{Ask, Add, Remove, Undo, Settle, Send, March}
 use Rattle.nav_lane.specs.declared.said.Said.{Said}
-use Rattle.nav_lane.specs.declared.said.Said.TheVariants.{Replied, Answered, Settled}
+use Rattle.nav_lane.specs.declared.said.Said.TheVariants.{Replied, Answered, Settled, Walked, NoWalker}
 
 -- a line of a lane, with what it was answered
 abbrev pub Spoken : Type 0
@@ -62,20 +69,27 @@ entries_said lane spoken = entries_from lane [] spoken
 -- that these leave
 abbrev pub IsAnswered : Ground → List Entry → Question → Said → Type 0
 IsAnswered whole history question (Answered k answer) = (k ≤ length history) × IsRight (build_of whole history k) question answer
-IsAnswered whole history question (Replied number reply) = ⊥
-IsAnswered whole history question (Settled k) = ⊥
+IsAnswered whole history question _ = ⊥
 
 -- a `settle` names a length of the history
 abbrev pub IsSettled : List Entry → Said → Type 0
 IsSettled history (Settled k) = k ≤ length history
-IsSettled history (Replied number reply) = ⊥
-IsSettled history (Answered k answer) = ⊥
+IsSettled history _ = ⊥
 
 -- a request is replied to; which number and reply it is told, the entries say
 abbrev pub IsReplied : Said → Type 0
 IsReplied (Replied number reply) = ⊤
-IsReplied (Answered k answer) = ⊥
-IsReplied (Settled k) = ⊥
+IsReplied _ = ⊥
+
+-- a `send` names a length of the history, and a `march` does or tells that there is no walker; what else they are told, the lines before them say
+abbrev pub IsPlaced : List Entry → Said → Type 0
+IsPlaced history (Walked k answer) = k ≤ length history
+IsPlaced history _ = ⊥
+
+abbrev pub HasGone : List Entry → Said → Type 0
+HasGone history (Walked k answer) = k ≤ length history
+HasGone history NoWalker = ⊤
+HasGone history _ = ⊥
 
 -- what a line may be answered; lines that lead workers, declare jumps, ask for hop walks or name lanes are none that a lane runs
 abbrev pub IsSaid : Ground → List Entry → Line → Said → Type 0
@@ -84,13 +98,14 @@ IsSaid whole history (Add shape) said = IsReplied said
 IsSaid whole history (Remove number) said = IsReplied said
 IsSaid whole history (Undo j) said = IsReplied said
 IsSaid whole history Settle said = IsSettled history said
+IsSaid whole history (Send from from_y to to_y) said = IsPlaced history said
+IsSaid whole history (March far) said = HasGone history said
 IsSaid whole history _ said = ⊥
 
 -- the number of the last entry that these lines left; 0 where they left none
 abbrev pub number_after : ℕ → Said → ℕ
 number_after last (Replied number reply) = number
-number_after last (Answered k answer) = last
-number_after last (Settled k) = last
+number_after last _ = last
 
 abbrev pub last_number : List Spoken → ℕ
 last_number spoken = fold (λ (last : ℕ) (one : Spoken). number_after last one.1) 0 spoken
@@ -99,7 +114,9 @@ last_number spoken = fold (λ (last : ℕ) (one : Spoken). number_after last one
 abbrev pub length_told : Said → Option ℕ
 length_told (Answered k answer) = Some k
 length_told (Settled k) = Some k
+length_told (Walked k answer) = Some k
 length_told (Replied number reply) = None
+length_told NoWalker = None
 
 abbrev pub lengths_told : List Spoken → List ℕ
 lengths_told spoken = filter_map (λ (one : Spoken). length_told one.1) spoken
@@ -116,9 +133,68 @@ AreAnswers whole history spoken = All (λ (one : Spoken). IsSaid whole history o
 abbrev pub CoverEntries : List Spoken → Type 0
 CoverEntries spoken = (place k : ℕ) (line : Line) → slice_get spoken place ≡ Some (line, Settled k) → last_number (take place spoken) ≤ k
 
--- the lengths that questions and `settle` lines name never fall
+-- the lengths that lines name never fall
 abbrev pub NeverFall : List Spoken → Type 0
 NeverFall spoken = AllPairs (λ (a b : ℕ). a ≤ b) (lengths_told spoken)
+
+-- a lane's walker between two of its lines: the length that its last lines name, the polygon and the point where they place it, and its goal
+pub record Standing : Type 0 where
+  pub k : ℕ
+  pub at : PolyRef
+  pub point : Point
+  pub goal : Point
+  pub goal_y : ℕ
+
+-- the walker after an answer: there is one exactly where the answer is that it walks
+abbrev pub standing_of : ℕ → Point → ℕ → WalkAnswer → Option Standing
+standing_of k goal goal_y (Walking at point y cost links) = Some (record { k = k; at = at; point = point; goal = goal; goal_y = goal_y })
+standing_of k goal goal_y NoStart = None
+standing_of k goal goal_y NoGoal = None
+standing_of k goal goal_y NoPath = None
+
+-- the walker after a line: a `send` places one or takes it away, a `march` moves it on to the same goal or takes it away, and every other line
+-- leaves it
+abbrev pub standing_after : Option Standing → Line → Said → Option Standing
+standing_after standing (Send from from_y to to_y) (Walked k answer) = standing_of k to to_y answer
+standing_after standing (March far) (Walked k answer) = option_and_then (λ (s : Standing). standing_of k s.goal s.goal_y answer) standing
+standing_after standing _ _ = standing
+
+-- the walker after lines, the first of which find this one
+abbrev pub standing_with : Option Standing → Spoken → Option Standing
+standing_with standing one = standing_after standing one.0 one.1
+
+abbrev pub last_standing : List Spoken → Option Standing
+last_standing spoken = fold standing_with None spoken
+
+-- a `send` is answered as it is right in the ground with the obstacles that the first k entries leave
+abbrev pub IsSentTo : Ground → List Entry → Point → ℕ → Point → ℕ → Said → Type 0
+IsSentTo whole history from from_y to to_y (Walked k answer) = IsSent (build_of whole history k) from from_y to to_y answer
+IsSentTo whole history from from_y to to_y _ = ⊥
+
+-- a march of a walker is answered as it is right there, from the point that the walker's last lines print. The height is the least floor of the
+-- polygon that they name, in the mesh of the length that they name
+pub record IsMarchOf (whole : Ground) (history : List Entry) (standing : Standing) (far k : ℕ) (answer : WalkAnswer) : Type 0 where
+  pub polygon : Polygon
+  pub there : poly_at (build_of whole history standing.k) standing.at ≡ Some polygon
+  pub marched : IsMarched (build_of whole history k) standing.point polygon.low standing.goal standing.goal_y far answer
+
+-- a march without a walker is told that there is none, and no other is
+abbrev pub IsMarchTold : Ground → List Entry → ℕ → Option Standing → Said → Type 0
+IsMarchTold whole history far (Some standing) (Walked k answer) = IsMarchOf whole history standing far k answer
+IsMarchTold whole history far (Some standing) _ = ⊥
+IsMarchTold whole history far None NoWalker = ⊤
+IsMarchTold whole history far None _ = ⊥
+
+-- what a line of a walker may be told, given the walker before it
+abbrev pub IsMoved : Ground → List Entry → Option Standing → Line → Said → Type 0
+IsMoved whole history standing (Send from from_y to to_y) said = IsSentTo whole history from from_y to to_y said
+IsMoved whole history standing (March far) said = IsMarchTold whole history far standing said
+IsMoved whole history standing _ said = ⊤
+
+-- the lines of a lane, one after another, where the first finds this walker
+abbrev pub AreMoved : Ground → List Entry → Option Standing → List Spoken → Type 0
+AreMoved whole history standing [] = ⊤
+AreMoved whole history standing (one ∷ more) = IsMoved whole history standing one.0 one.1 × AreMoved whole history (standing_with standing one) more
 
 -- what the lines of a lane may say: each line is answered once, in order
 pub record IsLane (whole : Ground) (history : List Entry) (lane : ℕ) (lines : List Line) (spoken : List Spoken) : Type 0 where
@@ -127,3 +203,4 @@ pub record IsLane (whole : Ground) (history : List Entry) (lane : ℕ) (lines : 
   pub answers : AreAnswers whole history spoken
   pub settled : CoverEntries spoken
   pub rising : NeverFall spoken
+  pub walks : AreMoved whole history None spoken

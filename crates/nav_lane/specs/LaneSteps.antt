@@ -1,10 +1,11 @@
 -- What a lane runs, and what it keeps of it.
 use Rattle.std.specs.Prelude.{◌≡◌, ⊤, List, [], ◌∷◌, ◌++◌, map}
 use Rattle.turn_lock.specs.Locks.{LockId}
+use Rattle.nav_base.specs.Point.{HasCoordinates}
 use Rattle.nav_ground.specs.Limits.{IsShape}
 use Rattle.nav_query.specs.Questions.{IsAnswerable}
 use Rattle.nav_script.specs.declared.line.Line.{Line}
-use Rattle.nav_script.specs.declared.line.Line.TheVariants.{Ask, Add, Remove, Undo, Settle}
+use Rattle.nav_script.specs.declared.line.Line.TheVariants.{Ask, Add, Remove, Undo, Settle, Send, March}
 use Rattle.nav_lane.specs.Roots.{RootView}
 use Rattle.nav_lane.specs.declared.lane.Lane as lanes
 use Rattle.nav_lane.specs.declared.said.Said.{Said}
@@ -12,13 +13,15 @@ use Rattle.nav_lane.specs.LaneRecords.{Spoken, adds_with, number_after}
 use Rattle.nav_lane.specs.LaneTexts.{said_text}
 use Rattle.nav_lane.specs.Lanes.{KeepsLane}
 
--- a lane can run a request, a question or a `settle`, with its numbers within their limits
+-- a lane can run a request, a question, a `settle`, a `send` or a `march`, with its numbers within their limits
 abbrev pub IsRunnable : Line → Type 0
 IsRunnable (Ask question) = IsAnswerable question
 IsRunnable (Add shape) = IsShape shape
 IsRunnable (Remove number) = ⊤
 IsRunnable (Undo j) = ⊤
 IsRunnable Settle = ⊤
+IsRunnable (Send from from_y to to_y) = HasCoordinates from × HasCoordinates to
+IsRunnable (March far) = ⊤
 IsRunnable _ = ⊥
 
 -- a line was noted: its answer is written behind those before, and what later lines need of it is kept

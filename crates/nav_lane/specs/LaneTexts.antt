@@ -3,8 +3,9 @@ use Rattle.std.specs.Prelude.{ℕ, List}
 use Rattle.std.specs.List.{flat_map}
 use Rattle.nav_record.specs.declared.step.StepAnswer.TheVariants as steps
 use Rattle.nav_record.specs.Texts.{reply_text, answer_text, step_text}
+use Rattle.nav_record.specs.WalkTexts.{walk_text, no_walker_text}
 use Rattle.nav_lane.specs.declared.said.Said.{Said}
-use Rattle.nav_lane.specs.declared.said.Said.TheVariants.{Replied, Answered, Settled}
+use Rattle.nav_lane.specs.declared.said.Said.TheVariants.{Replied, Answered, Settled, Walked, NoWalker}
 use Rattle.nav_lane.specs.LaneRecords.{Spoken}
 
 -- the lines of what a line of a lane was answered
@@ -12,6 +13,8 @@ abbrev pub said_text : Said → List ℕ
 said_text (Replied number reply) = reply_text number reply
 said_text (Answered k answer) = answer_text k answer
 said_text (Settled k) = step_text (steps.Settled k)
+said_text (Walked k answer) = walk_text k answer
+said_text NoWalker = no_walker_text
 
 -- the lines of what the lines of a lane were answered, in order
 abbrev pub told_text : List Spoken → List ℕ

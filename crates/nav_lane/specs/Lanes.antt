@@ -1,12 +1,18 @@
 -- What lanes and workers keep between two of their steps.
-use Rattle.std.specs.Prelude.{◌≡◌, ℕ, List, []}
+use Rattle.std.specs.Prelude.{◌≡◌, ℕ, ◌≤◌, ⊤, List, [], length, Option, Some, None, IfSome}
 use Rattle.turn_lock.specs.Locks.{LockId, PassView, IsOf}
 use Rattle.nav_ground.specs.declared.history.Entry.{Entry}
+use Rattle.nav_ground.specs.declared.history.Ground.{Ground}
+use Rattle.mesh_types.specs.declared.polygon.Polygon.{Polygon}
+use Rattle.mesh_types.specs.Builds.{build_of}
+use Rattle.mesh_types.specs.WholeMesh.{poly_at}
+use Rattle.agent_walks.specs.declared.walkers.Walker.{Walker}
+use Rattle.agent_walks.specs.Walkers.{IsWalker}
 use Rattle.nav_version.specs.Lists.{ToldView}
 use Rattle.nav_version.specs.Pairs.{EyeView}
 use Rattle.nav_lane.specs.Roots.{RootView}
 use Rattle.nav_lane.specs.declared.lane.Lane.{Lane}
-use Rattle.nav_lane.specs.LaneRecords.{Spoken, AreAnswers, AreEntries, CoverEntries, NeverFall, adds_of, entries_made, last_number}
+use Rattle.nav_lane.specs.LaneRecords.{Spoken, Standing, AreAnswers, AreEntries, AreMoved, CoverEntries, NeverFall, adds_of, entries_made, last_number, last_standing}
 use Rattle.nav_lane.specs.LaneTexts.{told_text}
 
 -- a pass has acted without asking: it is of the lock, has its number, and has seen no further entry of its own
@@ -19,12 +25,39 @@ pub record SawOthers (lock : LockId RootView) (before after : PassView RootView 
 abbrev pub IsToldOf : LockId RootView → ToldView → Type 0
 IsToldOf lock told = told.pair ≡ lock.root.pair
 
--- a lane belongs to a lock: its pass is of the lock and has the lane's number, and its eye is of the pair and the ground of the lock's book
+-- a lane belongs to a lock: its pass is of the lock and has the lane's number, its eye is of the pair and the ground of the lock's book, and where
+-- it has a walker, that may march
 pub record BelongsTo (lock : LockId RootView) (lane : Lane) : Type 0 where
   pub of : IsOf lock lane.pass
   pub number : lane.number ≡ lane.pass.number
   pub pair : lane.eye.pair ≡ lock.root.pair
   pub ground : lane.eye.ground ≡ lock.root.level
+  pub walker : IfSome lane.walker IsWalker
+
+-- a walker is the one of which lines speak, on the least floor of their polygon in the mesh of the length that they name, which is one of the
+-- history
+pub record IsThatWalker (whole : Ground) (history : List Entry) (standing : Standing) (walker : Walker) : Type 0 where
+  pub within : standing.k ≤ length history
+  pub k : walker.k ≡ standing.k
+  pub at : walker.at ≡ standing.at
+  pub point : walker.point ≡ standing.point
+  pub goal : walker.goal ≡ standing.goal
+  pub goal_y : walker.goal_y ≡ standing.goal_y
+  pub polygon : Polygon
+  pub there : poly_at (build_of whole history standing.k) standing.at ≡ Some polygon
+  pub floor : walker.y ≡ polygon.low
+
+-- there is a walker exactly where lines speak of one
+abbrev pub IsWalkerOf : Ground → List Entry → Option Standing → Option Walker → Type 0
+IsWalkerOf whole history (Some standing) (Some walker) = IsThatWalker whole history standing walker
+IsWalkerOf whole history (Some standing) None = ⊥
+IsWalkerOf whole history None (Some walker) = ⊥
+IsWalkerOf whole history None None = ⊤
+
+-- a lane that was answered so was told of its walker what it may be told, and has the walker that its lines leave
+pub record KeepsWalker (whole : Ground) (history : List Entry) (spoken : List Spoken) (walker : Option Walker) : Type 0 where
+  pub moved : AreMoved whole history None spoken
+  pub stands : IsWalkerOf whole history (last_standing spoken) walker
 
 -- a lane that was answered so has written the answers; it knows what its add lines added, and the number of its last entry
 pub record NotesLines (spoken : List Spoken) (lane : Lane) : Type 0 where
@@ -33,14 +66,15 @@ pub record NotesLines (spoken : List Spoken) (lane : Lane) : Type 0 where
   pub last : lane.last ≡ last_number spoken
 
 -- a lane of a lock has run these lines, with these answers. The entries that its pass has seen of it are those that the lines say they left; each
--- of its questions is answered right in the version of the length that its line names, which is a beginning of what its eye has seen; and it has
--- noted its lines
+-- of its questions is answered right in the version of the length that its line names, which is a beginning of what its eye has seen, and so are
+-- the lines of its walker; and it has noted its lines
 pub record KeepsLane (lock : LockId RootView) (spoken : List Spoken) (lane : Lane) : Type 0 where
   pub own : BelongsTo lock lane
   pub entries : AreEntries lane.pass.seen lane.pass.number spoken
   pub answers : AreAnswers lock.root.level lane.eye.seen spoken
   pub settled : CoverEntries spoken
   pub rising : NeverFall spoken
+  pub walks : KeepsWalker lock.root.level lane.eye.seen spoken lane.walker
   pub notes : NotesLines spoken lane
 
 -- a lane can start with a pass of the lock that has this number and has seen nothing, and an eye of the pair and the ground of its book

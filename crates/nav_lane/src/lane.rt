@@ -1,6 +1,7 @@
 //! A lane.
 
 use crate::book::LiveBook;
+use agent_walks::Walker;
 use nav_list::Items;
 use nav_version::Eye;
 use std::alloc::AllocError;
@@ -20,6 +21,9 @@ pub struct Lane {
     pub adds: Items<u32>,
     /// The number of its last entry, from 1; 0 before its first.
     pub last: u32,
+    /// Its walker: the one that its last `send` placed, where the last `march` moved it; none before the first `send`, and after a `send` or a
+    /// `march` that found no way.
+    pub walker: Option<Walker>,
 }
 
 /// Why a lane ends before its last line.

@@ -36,7 +36,7 @@ fn last_after(last: u32, said: &Said) -> u32
 {
     match said {
         Said::Replied { number, .. } => *number,
-        Said::Answered { .. } | Said::Settled { .. } => last,
+        _ => last,
     }
 }
 
@@ -68,6 +68,7 @@ impl Lane {
         ensures number { self.new.number ≡ self.old.number }
         ensures pass { self.new.pass ≡ self.old.pass }
         ensures eye { self.new.eye ≡ self.old.eye }
+        ensures walker { self.new.walker ≡ self.old.walker }
     {
         if let Some(number) = added(line, said) {
             self.adds.push(number)?;

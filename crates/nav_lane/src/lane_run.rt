@@ -70,6 +70,19 @@ impl Lane {
                 bench.gate.pass(actor, Stage::AfterAsk);
                 Ok(())
             }
+            Line::Send {
+                from,
+                from_y,
+                to,
+                to_y,
+            } => {
+                self.send(bench, from, from_y, to, to_y)?;
+                Ok(())
+            }
+            Line::March(length) => {
+                self.march(bench, length)?;
+                Ok(())
+            }
             Line::Settle => {
                 self.settle(bench, steps)?;
                 Ok(())

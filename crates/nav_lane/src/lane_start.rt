@@ -28,6 +28,7 @@ impl Lane {
             text: Vec::new(alloc),
             adds: Items::new(alloc),
             last: 0,
+            walker: None,
         }
     }
 }

@@ -2,7 +2,7 @@
 //!
 //! The book stands under a turn lock: `LiveBook` is the lock's value. Each act on it is one step of the book's definition, with that step's
 //! answer; requests alone add entries to the history, each under the lane that makes it. A `Lane` makes its requests in order, answers its
-//! questions from published versions, without the lock, and writes what each line was answered when it is answered; `specs/LaneRecords.antt` says what
+//! questions and moves its walker in published versions, without the lock, and writes what each line was answered when it is answered; `specs/LaneRecords.antt` says what
 //! that may be, and `specs/LaneTexts.antt` how it is written.
 #![tactic(auto)]
 
@@ -16,6 +16,7 @@ mod lane_lines;
 mod lane_notes;
 mod lane_run;
 mod lane_start;
+mod lane_walks;
 mod said;
 mod worker;
 

@@ -15,7 +15,7 @@ use Rattle.nav_base.specs.declared.point.Point.{Point}
 use Rattle.nav_base.specs.Point.{HasCoordinates}
 use Rattle.nav_query.specs.Questions.{IsAnswerable}
 use Rattle.nav_script.specs.declared.line.Line.{Line}
-use Rattle.nav_script.specs.declared.line.Line.TheVariants.{Lane, Ask, Add, Remove, Undo, Settle, Aim, Claim, Back, Submit, Publish, Jump, Hop}
+use Rattle.nav_script.specs.declared.line.Line.TheVariants.{Lane, Ask, Add, Remove, Undo, Settle, Aim, Claim, Back, Submit, Publish, Jump, Hop, Send, March}
 use Rattle.nav_script.specs.declared.script.Script.{Script}
 use Rattle.nav_script.specs.declared.script.Way.TheVariants.{Live}
 use Rattle.nav_script.specs.Lanes.{adds_before, next_lane}
@@ -147,6 +147,8 @@ can_run lanes workers adds (Submit worker) fits other = absurd (cc (fits.0))
 can_run lanes workers adds Publish fits other = absurd (cc fits)
 can_run lanes workers adds (Jump jump) fits other = absurd (cc (fits.0))
 can_run lanes workers adds (Hop from from_y to to_y) fits other = absurd (cc (fits.0))
+can_run lanes workers adds (Send from from_y to to_y) fits other = (has_coordinates from fits.1.0, has_coordinates to fits.1.2)
+can_run lanes workers adds (March far) fits other = tt
 
 -- so it can run all that it gets
 lines_run : (lane current : ℕ) (lines : List Line) → All (λ (line : Line). names_lane line ≡ false → IsRunnable line) lines → All IsRunnable (lines_from lane current lines)

@@ -63,6 +63,7 @@ impl Left {
                     text,
                     adds: _,
                     last: _,
+                    walker: _,
                 } = lane;
                 self.passes.push_reserved(pass);
                 self.eyes.push_reserved(eye);

@@ -10,9 +10,9 @@ use Rattle.nav_base.specs.declared.point.Point.{Point}
 use Rattle.nav_base.specs.Point.{HasCoordinates, IsCoordinate}
 use Rattle.nav_query.specs.Questions.{IsAnswerable}
 use Rattle.nav_script.specs.declared.line.Line.{Line}
-use Rattle.nav_script.specs.declared.line.Line.TheVariants.{Lane, Ask, Add, Claim, Back, Submit, Jump, Hop}
+use Rattle.nav_script.specs.declared.line.Line.TheVariants.{Lane, Ask, Add, Claim, Back, Submit, Jump, Hop, Send, March}
 use Rattle.nav_script.specs.declared.script.Script.{Script}
-use Rattle.nav_script.specs.declared.script.Way.TheVariants.{Play}
+use Rattle.nav_script.specs.declared.script.Way.TheVariants.{Play, Live}
 use Rattle.nav_script.specs.Limits.{IsScript, IsLine, IsPlace, IsQuestion}
 use Rattle.nav_script.specs.Lanes.{adds_before, is_jump}
 use Rattle.nav_play.specs.Players.{IsPlayable}
@@ -41,6 +41,8 @@ playable lanes workers jumps before (Submit worker) fits room = fits.1
 playable lanes workers jumps before (Jump jump) fits room =
     (room refl, record { from = place_fits jump.from fits.1.0.0; to = place_fits jump.to fits.1.0.2 })
 playable lanes workers jumps before (Hop from from_y to to_y) fits room = (place_fits from fits.1.0, place_fits to fits.1.2)
+playable lanes workers jumps before (Send from from_y to to_y) fits room = let no : Play ≡ Live = fits.0 in absurd cc
+playable lanes workers jumps before (March far) fits room = let no : Play ≡ Live = fits.0 in absurd cc
 playable lanes workers jumps before _ fits room = tt
 
 -- where the jumps so far and those of the lines that are left are at most 256, a jump of the next line is not one too many

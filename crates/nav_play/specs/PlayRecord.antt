@@ -18,7 +18,7 @@ use Rattle.nav_book.specs.Settling.{after_settle}
 use Rattle.nav_record.specs.declared.step.StepAnswer.TheVariants as answers
 use Rattle.nav_record.specs.Texts.{reply_text, step_text, done_text}
 use Rattle.nav_script.specs.declared.line.Line.{Line}
-use Rattle.nav_script.specs.declared.line.Line.TheVariants.{Lane, Ask, Add, Remove, Undo, Settle, Aim, Claim, Back, Submit, Publish, Jump, Hop}
+use Rattle.nav_script.specs.declared.line.Line.TheVariants.{Lane, Ask, Add, Remove, Undo, Settle, Aim, Claim, Back, Submit, Publish, Jump, Hop, Send, March}
 use Rattle.nav_script.specs.declared.script.Script.{Script}
 use Rattle.nav_play.specs.Answering.{IsAnswered, IsHopAnswered}
 use Rattle.nav_play.specs.Jobs.{claim_said, held_after_claim, book_after_claim, back_said, book_after_back, submit_said, book_after_submit, publication_said}
@@ -98,6 +98,8 @@ IsSaid state (Submit worker) text = text ≡ step_text (submit_said state.book w
 IsSaid state Publish text = text ≡ step_text (publication_said (publication state.book))
 IsSaid state (Jump jump) text = text ≡ []
 IsSaid state (Hop from from_y to to_y) text = IsHopAnswered state.book state.jumps from from_y to to_y text
+IsSaid state (Send from from_y to to_y) text = ⊥
+IsSaid state (March far) text = ⊥
 
 -- the state after a line; a `settle` puts back the jobs of the tiles that workers hold with all others, so that no worker holds a tile
 abbrev pub state_after : PlayState → Line → PlayState
@@ -126,6 +128,8 @@ state_after state (Submit worker) = record state {
 state_after state Publish = record state { book = after_publish state.book }
 state_after state (Jump jump) = record state { jumps = state.jumps ++ jump ∷ [] }
 state_after state (Hop from from_y to to_y) = state
+state_after state (Send from from_y to to_y) = state
+state_after state (March far) = state
 
 -- the state after lines, one after another
 abbrev pub state_after_all : PlayState → List Line → PlayState

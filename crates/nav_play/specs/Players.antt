@@ -16,7 +16,7 @@ use Rattle.nav_play.specs.PlayRecord.{PlayState, AddsSome, IsSaid, request_text,
 use Rattle.nav_play.specs.Tallies.{HasCounted, no_answers}
 use Rattle.nav_play.specs.Work.{jobs_of}
 use Rattle.nav_script.specs.declared.line.Line.{Line}
-use Rattle.nav_script.specs.declared.line.Line.TheVariants.{Lane, Ask, Add, Claim, Back, Submit, Jump, Hop}
+use Rattle.nav_script.specs.declared.line.Line.TheVariants.{Lane, Ask, Add, Claim, Back, Submit, Jump, Hop, Send, March}
 use Rattle.nav_script.specs.declared.script.Script.{Script}
 
 -- the jobs of the tiles that workers hold
@@ -71,6 +71,8 @@ IsPlayable lanes workers jumps (Back worker) = worker < workers
 IsPlayable lanes workers jumps (Submit worker) = worker < workers
 IsPlayable lanes workers jumps (Jump jump) = (jumps < 256) × HasJumpCoordinates jump
 IsPlayable lanes workers jumps (Hop from from_y to to_y) = HasCoordinates from × HasCoordinates to
+IsPlayable lanes workers jumps (Send from from_y to to_y) = ⊥
+IsPlayable lanes workers jumps (March far) = ⊥
 IsPlayable lanes workers jumps _ = ⊤
 
 -- a player has come to a state

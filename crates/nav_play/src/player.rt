@@ -164,6 +164,9 @@ impl Player {
                 to,
                 to_y,
             } => self.ask_hop(alloc, from, from_y, to, to_y),
+            // Lines of walkers stand in scripts that run live alone.
+            Line::Send { .. } => unreachable!(),
+            Line::March(_) => unreachable!(),
         }
     }
 

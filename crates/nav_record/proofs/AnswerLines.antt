@@ -63,7 +63,7 @@ line_of (text, plain) = (text, refl, plain)
 pub poly_plain : (at : PolyRef) → is_line (poly_text at) ≡ true
 poly_plain at = (spaced (decimal at.tile, is_line-decimal at.tile) (decimal at.index) (is_line-decimal at.index)).1
 
-point_plain : (p : Point) → is_line (point_text p) ≡ true
+pub point_plain : (p : Point) → is_line (point_text p) ≡ true
 point_plain p = (spaced (signed_decimal p.x, signed_plain p.x) (signed_decimal p.z) (signed_plain p.z)).1
 
 side_plain : (side : Side) → is_line (side_text side) ≡ true

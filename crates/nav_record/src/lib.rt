@@ -2,7 +2,7 @@
 //!
 //! Each function appends the whole lines of one answer to the bytes that are written so far, exactly as its definition in `specs/`
 //! spells them, or appends nothing where memory is refused. Where the vector has the room for all of them, it succeeds. All is one line but a
-//! path or a hop walk, which has one more for each step and each turn.
+//! path or a hop walk, which has one more for each step and each turn, and a walker, which has one more for each link.
 #![tactic(auto)]
 
 mod answer;
@@ -17,6 +17,7 @@ mod paths;
 mod reply;
 mod step;
 mod totals;
+mod walks;
 
 pub use answer::write_answer;
 pub use done::write_done;
@@ -27,3 +28,4 @@ pub use live::{write_final, write_history, write_lane};
 pub use reply::write_reply;
 pub use step::{StepAnswer, write_step};
 pub use totals::Totals;
+pub use walks::{write_no_walker, write_walk};

@@ -35,7 +35,7 @@ fn append_first_line(out: &mut Vec<u8>, k: u32, found: &PathFound) -> Result<(),
 }
 
 /// Appends a line for each link: the polygon that it enters, and the left and the right end of its portal.
-fn append_links(out: &mut Vec<u8>, links: &[Link]) -> Result<(), AllocError>
+pub(crate) fn append_links(out: &mut Vec<u8>, links: &[Link]) -> Result<(), AllocError>
     ensures { Appends out.old out.new result (flat_map link_text links.now) }
 {
     for link in links {

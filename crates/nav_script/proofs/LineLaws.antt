@@ -9,14 +9,14 @@ use Rattle.nav_text.specs.Forms.{numbers_of, number_after, line_text, AreNumbers
 use Rattle.nav_text.proofs.FormLaws.{numbers_take, number_after_take}
 use Rattle.nav_text.proofs.Inversions.{bind_some, map_some, ok_is}
 use Rattle.nav_script.specs.declared.line.Line.{Line}
-use Rattle.nav_script.specs.declared.line.Line.TheVariants.{Lane, Remove, Undo, Settle, Aim, Claim, Back, Submit, Publish}
+use Rattle.nav_script.specs.declared.line.Line.TheVariants.{Lane, Remove, Undo, Settle, Aim, Claim, Back, Submit, Publish, March}
 use Rattle.nav_script.specs.declared.script.Way.{Way}
 use Rattle.nav_script.specs.declared.script.Way.TheVariants.{Play, Live}
 use Rattle.nav_script.specs.Spelling.{line_of}
 use Rattle.nav_script.specs.Lanes.{NamesLaneBelow}
 use Rattle.nav_script.specs.Limits.{AreEnds, IsPlace, IsLine}
 use Rattle.nav_script.specs.Forms.{LineRead, in_limits, below_count, floor_line, is_place, is_standing, point_at, path_line, ray_line, is_range, is_block, is_cylinder, block_line, cylinder_line, area_block_line, area_cylinder_line, drop_line, form, first_of_them, question_forms, question_line, request_forms, request_line, area_forms, area_line, lane_forms, lane_line}
-use Rattle.nav_script.specs.PlayedForms.{worker_forms, worker_line, jump_line, hop_line, hop_forms, jump_or_hop, played_line, line_read}
+use Rattle.nav_script.specs.WayForms.{worker_forms, worker_line, jump_line, hop_line, hop_forms, jump_or_hop, send_line, march_line, walker_forms, walker_line, way_line, line_read}
 
 -- the lists of a length, one element after another
 some_more : (P : List ℕ → Type 0) (n : List ℕ) (k : ℕ) → ((x : ℕ) (more : List ℕ) → length more ≡ k → P (x ∷ more)) → length n ≡ suc k → P n
@@ -330,12 +330,34 @@ hop_right lanes workers adds text =
       ),
     )
 
-pub played_right : (way : Way) (lanes workers adds : ℕ) (text : List ℕ)
-    → (read : LineRead) → played_line way workers text ≡ Some read → IsRight way lanes workers adds text read
-played_right Play lanes workers adds text read e =
+march_limits : (length : ℕ) → is_range 1 length 65535 ≡ true → (1 ≤ length) × (length ≤ 65535)
+march_limits length h =
+    let parts = and_parts (nat_le 1 length) (nat_le length 65535) h in (leb-true 1 length parts.0, leb-true length 65535 parts.1)
+
+walker_right : (lanes workers adds : ℕ) (text : List ℕ)
+    → (read : LineRead) → walker_line text ≡ Some read → IsRight Live lanes workers adds text read
+unfolding walker_line
+walker_right lanes workers adds text =
+    let Q : LineRead → Type 0 = IsRight Live lanes workers adds text in
+    let R : List ℕ → (List ℕ → LineRead) → List ℕ → Type 0 = Gives Live lanes workers adds text in
+    let right = limits_right Live lanes workers adds text in
+    let march : List ℕ → LineRead = λ n. march_line (slice_index n 0) in
+    first_is Q (walker_forms text) (
+      form_is Q (codes "send") 6 send_line text
+          (six (R (codes "send") send_line) (λ x z y to_x to_z to_y fit spelled. right _ _ spelled (λ h. (refl, path_limits x z y to_x to_z to_y h)))),
+      (
+        form_is Q (codes "march") 1 march text
+            (one (R (codes "march") march) (λ length fit spelled. right _ _ spelled (λ h. let limits = march_limits length h in (refl, limits.0, limits.1)))),
+        tt,
+      ),
+    )
+
+pub way_right : (way : Way) (lanes workers adds : ℕ) (text : List ℕ)
+    → (read : LineRead) → way_line way workers text ≡ Some read → IsRight way lanes workers adds text read
+way_right Play lanes workers adds text read e =
     first_is (IsRight Play lanes workers adds text) (worker_line workers text ∷ jump_or_hop text ∷ [])
     (worker_right lanes workers adds text, (hop_right lanes workers adds text, tt)) read e
-played_right Live lanes workers adds text read e = absurd cc
+way_right Live lanes workers adds text read e = walker_right lanes workers adds text read e
 
 known : (o : Option LineRead) (line : Line) → unwrap_or o (Err kinds.Line) ≡ Ok line → o ≡ Some (Ok line)
 known (Some read) line e = ap Some e
@@ -346,7 +368,7 @@ pub line_right : (way : Way) (lanes workers adds : ℕ) (text : List ℕ) (line 
     → line_read way lanes workers adds text ≡ Ok line → (text ≡ line_of line) × IsLine way lanes workers adds line
 line_right way lanes workers adds text line e =
     let Q : LineRead → Type 0 = IsRight way lanes workers adds text in
-    let forms = question_line text ∷ request_line adds text ∷ area_line text ∷ lane_line lanes text ∷ played_line way workers text ∷ [] in
+    let forms = question_line text ∷ request_line adds text ∷ area_line text ∷ lane_line lanes text ∷ way_line way workers text ∷ [] in
     first_is Q forms (
       question_right way lanes workers adds text,
       (
@@ -355,7 +377,7 @@ line_right way lanes workers adds text line e =
           area_right way lanes workers adds text,
           (
             lane_right way lanes workers adds text,
-            (played_right way lanes workers adds text, tt),
+            (way_right way lanes workers adds text, tt),
           ),
         ),
       ),

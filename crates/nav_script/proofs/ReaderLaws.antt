@@ -14,7 +14,7 @@ use Rattle.nav_script.specs.declared.script.ScriptRefusal.{ScriptRefusal}
 use Rattle.nav_script.specs.declared.script.ScriptRefusal.TheVariants as refusals
 use Rattle.nav_script.specs.Lanes.{adds_before}
 use Rattle.nav_script.specs.Forms.{LineRead}
-use Rattle.nav_script.specs.PlayedForms.{line_read}
+use Rattle.nav_script.specs.WayForms.{line_read}
 use Rattle.nav_script.specs.Reading.{Place, AtScript, AtLines, header_read, lacks_room, lacks_jumps, header_verdict, verdict_of, line_verdict, value_at, script_format, value_of, IsReading}
 
 -- after these lines, reading the rest gives what reading the whole text gives

@@ -29,7 +29,7 @@ use Rattle.nav_script.specs.Spelling.{line_of, script_lines, script_text}
 use Rattle.nav_script.specs.Lanes.{lane_after, adds_before, is_jump, is_request}
 use Rattle.nav_script.specs.Limits.{IsLine, IsScript, IsScriptText}
 use Rattle.nav_script.specs.Forms.{LineRead}
-use Rattle.nav_script.specs.PlayedForms.{line_read}
+use Rattle.nav_script.specs.WayForms.{line_read}
 use Rattle.nav_script.specs.Reading.{Place, AtScript, AtLines, in_counts, header_read, begins_request, lacks_room, lacks_jumps, header_verdict, verdict_of, line_verdict, value_at, script_format, one_later, IsFirstFaultFrom, value_of, IsReading, Gives}
 use Rattle.nav_script.proofs.LineLaws.{line_right, two}
 use Rattle.nav_script.proofs.SpellingLaws.{begins_spelled, jump_spelled, line_again, line_plain}

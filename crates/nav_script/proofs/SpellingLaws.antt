@@ -16,14 +16,14 @@ use Rattle.nav_text.specs.Forms.{numbers_of, number_after, has_word, line_text, 
 use Rattle.nav_text.proofs.FormLaws.{fields_of_again, number_after_at, is_line-line_text}
 use Rattle.mesh_types.specs.declared.hops.Jump as jumps
 use Rattle.nav_script.specs.declared.line.Line.{Line}
-use Rattle.nav_script.specs.declared.line.Line.TheVariants.{Lane, Ask, Add, Remove, Undo, Settle, Aim, Claim, Back, Submit, Publish, Jump, Hop}
+use Rattle.nav_script.specs.declared.line.Line.TheVariants.{Lane, Ask, Add, Remove, Undo, Settle, Aim, Claim, Back, Submit, Publish, Jump, Hop, Send, March}
 use Rattle.nav_script.specs.declared.script.Way.{Way}
 use Rattle.nav_script.specs.declared.script.Way.TheVariants.{Play, Live}
 use Rattle.nav_script.specs.Spelling.{ends_of, question_spelling, shape_spelling, line_of}
 use Rattle.nav_script.specs.Lanes.{is_jump, is_request}
 use Rattle.nav_script.specs.Limits.{AreEnds, IsJump, IsPlace, IsLine, IsQuestion}
 use Rattle.nav_script.specs.Forms.{LineRead, is_place, is_standing, point_at, is_range, drop_line, question_line, request_line, area_line, lane_line}
-use Rattle.nav_script.specs.PlayedForms.{worker_line, jump_or_hop, line_read}
+use Rattle.nav_script.specs.WayForms.{worker_line, jump_or_hop, walker_line, line_read}
 use Rattle.nav_script.specs.Reading.{begins_request}
 
 -- a line begins with the word of a request exactly where it is one
@@ -46,6 +46,8 @@ begins_spelled (Submit worker) = refl
 begins_spelled Publish = refl
 begins_spelled (Jump jump) = refl
 begins_spelled (Hop from from_y to to_y) = refl
+begins_spelled (Send from from_y to to_y) = refl
+begins_spelled (March length) = refl
 
 -- a line's first word is `jump` exactly where it declares one
 pub jump_spelled : (line : Line) → has_word (codes "jump") (line_of line) ≡ is_jump line
@@ -67,6 +69,8 @@ jump_spelled (Submit worker) = refl
 jump_spelled Publish = refl
 jump_spelled (Jump jump) = refl
 jump_spelled (Hop from from_y to to_y) = refl
+jump_spelled (Send from from_y to to_y) = refl
+jump_spelled (March length) = refl
 
 small : (n most : ℕ) → most < 4294967296 → n ≤ most → n < 2 ^ 32
 small n most fits le = omega arith
@@ -288,6 +292,28 @@ hop_again lanes workers adds from from_y to to_y is =
     (size_most to.x 16384 t.x_least t.x_most) (size_most to.z 16384 t.z_least t.z_most) is.3
     ∙ ap₂ (λ a b. let l : LineRead = Ok (Hop a from_y b to_y) in l) (point_is from f) (point_is to t)
 
+send_numbers : (lanes workers adds x z y to_x to_z to_y : ℕ) → x ≤ 16384 → z ≤ 16384 → y ≤ 8191 → to_x ≤ 16384 → to_z ≤ 16384 → to_y ≤ 8191
+    → line_read Live lanes workers adds (line_text (codes "send") (x ∷ z ∷ y ∷ to_x ∷ to_z ∷ to_y ∷ []))
+    ≡ Ok (Send (point_at x z) y (point_at to_x to_z) to_y)
+unfolding question_line request_line area_line lane_line walker_line numbers_of number_after
+send_numbers lanes workers adds x z y to_x to_z to_y hx hz hy htx htz hty =
+    let fit : AreNumbers (x ∷ z ∷ y ∷ to_x ∷ to_z ∷ to_y ∷ []) = (omega arith, (omega arith, (omega arith, (omega arith, (omega arith, (omega arith, tt)))))) in
+    rw (fields_of_again (x ∷ z ∷ y ∷ to_x ∷ to_z ∷ to_y ∷ []) fit, standing_true x z y hx hz hy, standing_true to_x to_z to_y htx htz hty) refl
+
+send_again : (lanes workers adds : ℕ) (from : Point) (from_y : ℕ) (to : Point) (to_y : ℕ) → AreEnds from from_y to to_y
+    → line_read Live lanes workers adds (line_of (Send from from_y to to_y)) ≡ Ok (Send from from_y to to_y)
+send_again lanes workers adds from from_y to to_y is =
+    let f = is.0 in
+    let t = is.2 in
+    send_numbers lanes workers adds (nat_abs from.x) (nat_abs from.z) from_y (nat_abs to.x) (nat_abs to.z) to_y
+    (size_most from.x 16384 f.x_least f.x_most) (size_most from.z 16384 f.z_least f.z_most) is.1
+    (size_most to.x 16384 t.x_least t.x_most) (size_most to.z 16384 t.z_least t.z_most) is.3
+    ∙ ap₂ (λ a b. let l : LineRead = Ok (Send a from_y b to_y) in l) (point_is from f) (point_is to t)
+
+march_again : (lanes workers adds length : ℕ) → 1 ≤ length → length ≤ 65535 → line_read Live lanes workers adds (line_of (March length)) ≡ Ok (March length)
+unfolding question_line request_line area_line lane_line walker_line numbers_of number_after
+march_again lanes workers adds length least most = rw (fields_of_again (length ∷ []) (omega arith, tt), range_true 1 length 65535 least most) refl
+
 -- A line that may stand there, spelled, is read as that line.
 pub line_again : (way : Way) (lanes workers adds : ℕ) (line : Line) → lanes ≤ 16 → workers ≤ 8 → adds < 2 ^ 32 → IsLine way lanes workers adds line
     → line_read way lanes workers adds (line_of line) ≡ Ok line
@@ -316,6 +342,10 @@ line_again Play lanes workers adds (Jump jump) few crew counted is = jump_again 
 line_again Live lanes workers adds (Jump jump) few crew counted is = let no : Live ≡ Play = is.0 in absurd cc
 line_again Play lanes workers adds (Hop from from_y to to_y) few crew counted is = hop_again lanes workers adds from from_y to to_y is.1
 line_again Live lanes workers adds (Hop from from_y to to_y) few crew counted is = let no : Live ≡ Play = is.0 in absurd cc
+line_again Play lanes workers adds (Send from from_y to to_y) few crew counted is = let no : Play ≡ Live = is.0 in absurd cc
+line_again Live lanes workers adds (Send from from_y to to_y) few crew counted is = send_again lanes workers adds from from_y to to_y is.1
+line_again Play lanes workers adds (March length) few crew counted is = let no : Play ≡ Live = is.0 in absurd cc
+line_again Live lanes workers adds (March length) few crew counted is = march_again lanes workers adds length is.1 is.2
 
 -- the numbers of two points with their heights
 numbers_of_ends : (from : Point) (from_y : ℕ) (to : Point) (to_y : ℕ) → AreEnds from from_y to to_y → AreNumbers (ends_of from from_y to to_y)
@@ -388,3 +418,7 @@ line_plain way lanes workers adds Publish few crew counted is = refl
 line_plain way lanes workers adds (Jump jump) few crew counted is = plain_jump jump is.1
 line_plain way lanes workers adds (Hop from from_y to to_y) few crew counted is =
     is_line-line_text (codes "hop") (ends_of from from_y to to_y) refl (numbers_of_ends from from_y to to_y is.1)
+line_plain way lanes workers adds (Send from from_y to to_y) few crew counted is =
+    is_line-line_text (codes "send") (ends_of from from_y to to_y) refl (numbers_of_ends from from_y to to_y is.1)
+line_plain way lanes workers adds (March length) few crew counted is =
+    let most : length ≤ 65535 = is.2 in is_line-line_text (codes "march") (length ∷ []) refl (omega arith, tt)

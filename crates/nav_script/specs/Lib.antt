@@ -2,5 +2,5 @@ pub mod Spelling
 pub mod Lanes
 pub mod Limits
 pub mod Forms
-pub mod PlayedForms
+pub mod WayForms
 pub mod Reading

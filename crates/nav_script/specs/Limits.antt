@@ -7,7 +7,7 @@ use Rattle.nav_ground.specs.History.{history_limit}
 use Rattle.nav_ground.specs.Limits.{IsShape}
 use Rattle.mesh_types.specs.declared.hops.Jump as jumps
 use Rattle.nav_script.specs.declared.line.Line.{Line}
-use Rattle.nav_script.specs.declared.line.Line.TheVariants.{Lane, Ask, Add, Remove, Undo, Settle, Aim, Claim, Back, Submit, Publish, Jump, Hop}
+use Rattle.nav_script.specs.declared.line.Line.TheVariants.{Lane, Ask, Add, Remove, Undo, Settle, Aim, Claim, Back, Submit, Publish, Jump, Hop, Send, March}
 use Rattle.nav_script.specs.declared.script.Way.{Way}
 use Rattle.nav_script.specs.declared.script.Way.TheVariants.{Play, Live}
 use Rattle.nav_script.specs.declared.script.Script.{Script}
@@ -37,7 +37,7 @@ IsQuestion (Ray from from_y to) = IsPlace from × (from_y ≤ 8191) × IsPlace t
 
 -- a line may stand where so many adds of its lane stand before it: its numbers are in their limits, lanes and workers are below
 -- their counts, a `drop` names one of those adds, counted from 1, and the lines that lead workers, declare jumps or ask for hop walks are
--- played only
+-- played only, and those of walkers run live only
 abbrev pub IsLine : Way → (lanes workers adds : ℕ) → Line → Type 0
 IsLine way lanes workers adds (Lane lane) = lane < lanes
 IsLine way lanes workers adds (Ask question) = IsQuestion question
@@ -52,6 +52,8 @@ IsLine way lanes workers adds (Submit worker) = (way ≡ Play) × (worker < work
 IsLine way lanes workers adds Publish = way ≡ Play
 IsLine way lanes workers adds (Jump jump) = (way ≡ Play) × IsJump jump
 IsLine way lanes workers adds (Hop from from_y to to_y) = (way ≡ Play) × AreEnds from from_y to to_y
+IsLine way lanes workers adds (Send from from_y to to_y) = (way ≡ Live) × AreEnds from from_y to to_y
+IsLine way lanes workers adds (March length) = (way ≡ Live) × (1 ≤ length) × (length ≤ 65535)
 
 -- a script for a way to run it: 1 to 16 lanes, 1 to 8 workers, at most 300000 lines, each of which may stand after the lines
 -- before it, at most 256 jumps, and where it runs live at most as many requests as a history has entries

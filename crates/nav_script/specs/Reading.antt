@@ -16,7 +16,7 @@ use Rattle.nav_script.specs.declared.script.ScriptRefusal.{ScriptRefusal}
 use Rattle.nav_script.specs.declared.script.ScriptRefusal.TheVariants as refusals
 use Rattle.nav_script.specs.Lanes.{adds_before, is_request, is_jump}
 use Rattle.nav_script.specs.Forms.{LineRead}
-use Rattle.nav_script.specs.PlayedForms.{line_read}
+use Rattle.nav_script.specs.WayForms.{line_read}
 
 -- what the lines before have said
 pub data Place : Type 0 where

@@ -8,7 +8,7 @@ use Rattle.nav_ground.specs.declared.shape.Shape.TheVariants.{Block, Cylinder, A
 use Rattle.nav_text.specs.Lines.{text_of}
 use Rattle.nav_text.specs.Forms.{line_text}
 use Rattle.nav_script.specs.declared.line.Line.{Line}
-use Rattle.nav_script.specs.declared.line.Line.TheVariants.{Lane, Ask, Add, Remove, Undo, Settle, Aim, Claim, Back, Submit, Publish, Jump, Hop}
+use Rattle.nav_script.specs.declared.line.Line.TheVariants.{Lane, Ask, Add, Remove, Undo, Settle, Aim, Claim, Back, Submit, Publish, Jump, Hop, Send, March}
 use Rattle.nav_script.specs.declared.script.Script.{Script}
 
 -- two points with their heights: of each x and z, then the height
@@ -46,6 +46,8 @@ line_of (Submit worker) = line_text (codes "submit") (worker ∷ [])
 line_of Publish = codes "publish"
 line_of (Jump jump) = line_text (codes "jump") (ends_of jump.from jump.from_y jump.to jump.to_y ++ jump.cost ∷ [])
 line_of (Hop from from_y to to_y) = line_text (codes "hop") (ends_of from from_y to to_y)
+line_of (Send from from_y to to_y) = line_text (codes "send") (ends_of from from_y to to_y)
+line_of (March length) = line_text (codes "march") (length ∷ [])
 
 -- the lines of a script's text
 abbrev pub script_lines : Script → List (List ℕ)

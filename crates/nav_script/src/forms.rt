@@ -2,7 +2,7 @@
 ghost use Rattle.std.specs.Prelude.{◌≡◌, ◌≤◌, IfOk};
 ghost use Rattle.nav_script.specs.Lanes.{NamesLaneBelow};
 ghost use Rattle.nav_script.specs.Forms;
-ghost use Rattle.nav_script.specs.PlayedForms.{line_read};
+ghost use Rattle.nav_script.specs.WayForms.{line_read};
 
 use crate::header::Header;
 use crate::line::Line;
@@ -25,6 +25,8 @@ const LAST_CENTRE: u32 = 2048;
 const LARGEST_RADIUS: u32 = 1023;
 /// The greatest cost of a jump.
 const COSTLIEST_JUMP: u32 = 1000000;
+/// The longest march, in sixteenths of a cell.
+const LONGEST_MARCH: u32 = 65535;
 /// The greatest area that an obstacle can set.
 const GREATEST_AREA: u32 = 63;
 
@@ -193,7 +195,7 @@ fn area_cylinder_line(area: u32, n: [u32; 5]) -> Result<Line, FaultKind>
 }
 
 fn jump_line(n: [u32; 7]) -> Result<Line, FaultKind>
-    ensures { result ≡ Rattle.nav_script.specs.PlayedForms.jump_line n }
+    ensures { result ≡ Rattle.nav_script.specs.WayForms.jump_line n }
 {
     let [x, z, from_y, to_x, to_z, to_y, cost] = n;
     if !(is_standing(x, z, from_y)
@@ -212,7 +214,7 @@ fn jump_line(n: [u32; 7]) -> Result<Line, FaultKind>
 }
 
 fn hop_line(n: [u32; 6]) -> Result<Line, FaultKind>
-    ensures { result ≡ Rattle.nav_script.specs.PlayedForms.hop_line n }
+    ensures { result ≡ Rattle.nav_script.specs.WayForms.hop_line n }
 {
     let [x, z, y, to_x, to_z, to_y] = n;
     if !(is_standing(x, z, y) && is_standing(to_x, to_z, to_y)) {
@@ -224,6 +226,27 @@ fn hop_line(n: [u32; 6]) -> Result<Line, FaultKind>
         to: point_at(to_x, to_z),
         to_y,
     })
+}
+
+fn send_line(n: [u32; 6]) -> Result<Line, FaultKind>
+    ensures { result ≡ Rattle.nav_script.specs.WayForms.send_line n }
+{
+    let [x, z, y, goal_x, goal_z, goal_y] = n;
+    if !(is_standing(x, z, y) && is_standing(goal_x, goal_z, goal_y)) {
+        return Err(FaultKind::Range);
+    }
+    Ok(Line::Send {
+        from: point_at(x, z),
+        from_y: y,
+        to: point_at(goal_x, goal_z),
+        to_y: goal_y,
+    })
+}
+
+fn march_line(length: u32) -> Result<Line, FaultKind>
+    ensures { result ≡ Rattle.nav_script.specs.WayForms.march_line length }
+{
+    in_limits(is_range(1, length, LONGEST_MARCH), Line::March(length))
 }
 
 fn drop_line(adds: u32, back: u32) -> Result<Line, FaultKind>
@@ -292,9 +315,9 @@ fn lane_line(lanes: u32, line: &[u8]) -> Option<Result<Line, FaultKind>>
     Some(below_count(n[0], lanes, Line::Lane(n[0])))
 }
 
-#[tactic(auto, unfolding(crate::specs::PlayedForms::worker_line))]
+#[tactic(auto, unfolding(crate::specs::WayForms::worker_line))]
 fn worker_line(workers: u32, line: &[u8]) -> Option<Result<Line, FaultKind>>
-    ensures { result ≡ Rattle.nav_script.specs.PlayedForms.worker_line workers line.now }
+    ensures { result ≡ Rattle.nav_script.specs.WayForms.worker_line workers line.now }
 {
     if let Some(n) = numbers_of::<1>(b"claim", line) {
         return Some(below_count(n[0], workers, Line::Claim(n[0])));
@@ -314,9 +337,9 @@ fn worker_line(workers: u32, line: &[u8]) -> Option<Result<Line, FaultKind>>
     None
 }
 
-#[tactic(auto, unfolding(crate::specs::PlayedForms::jump_or_hop))]
+#[tactic(auto, unfolding(crate::specs::WayForms::jump_or_hop))]
 fn jump_or_hop(line: &[u8]) -> Option<Result<Line, FaultKind>>
-    ensures { result ≡ Rattle.nav_script.specs.PlayedForms.jump_or_hop line.now }
+    ensures { result ≡ Rattle.nav_script.specs.WayForms.jump_or_hop line.now }
 {
     if let Some(n) = numbers_of::<7>(b"jump", line) {
         return Some(jump_line(n));
@@ -325,8 +348,19 @@ fn jump_or_hop(line: &[u8]) -> Option<Result<Line, FaultKind>>
     Some(hop_line(n))
 }
 
-fn played_line(way: Way, workers: u32, line: &[u8]) -> Option<Result<Line, FaultKind>>
-    ensures { result ≡ Rattle.nav_script.specs.PlayedForms.played_line way workers line.now }
+#[tactic(auto, unfolding(crate::specs::WayForms::walker_line))]
+fn walker_line(line: &[u8]) -> Option<Result<Line, FaultKind>>
+    ensures { result ≡ Rattle.nav_script.specs.WayForms.walker_line line.now }
+{
+    if let Some(n) = numbers_of::<6>(b"send", line) {
+        return Some(send_line(n));
+    }
+    let n = numbers_of::<1>(b"march", line)?;
+    Some(march_line(n[0]))
+}
+
+fn way_line(way: Way, workers: u32, line: &[u8]) -> Option<Result<Line, FaultKind>>
+    ensures { result ≡ Rattle.nav_script.specs.WayForms.way_line way workers line.now }
 {
     match way {
         Way::Play => {
@@ -335,7 +369,7 @@ fn played_line(way: Way, workers: u32, line: &[u8]) -> Option<Result<Line, Fault
             }
             jump_or_hop(line)
         }
-        Way::Live => None,
+        Way::Live => walker_line(line),
     }
 }
 
@@ -357,7 +391,7 @@ pub fn read_line(way: Way, header: Header, adds: u32, line: &[u8]) -> Result<Lin
     if let Some(read) = lane_line(header.lanes, line) {
         return read;
     }
-    if let Some(read) = played_line(way, header.workers, line) {
+    if let Some(read) = way_line(way, header.workers, line) {
         return read;
     }
     Err(FaultKind::Line)

@@ -18,6 +18,8 @@
 //! | `claim W`, `back W`, `submit W` | W below WORKERS; not in a script that runs live |
 //! | `jump X Z Y X Z Y COST` | points as `path`, COST 1 to 1000000; at most 256 such lines; not in a script that runs live |
 //! | `hop X Z Y X Z Y` | as `path`; not in a script that runs live |
+//! | `send X Z Y X Z Y` | as `path`; only in a script that runs live |
+//! | `march L` | 1 to 65535 sixteenths of a cell; only in a script that runs live |
 //!
 //! A script that runs live has at most as many `add`, `remove` and `drop` lines as a history has entries. Every line ends with a line feed.
 #![tactic(auto)]

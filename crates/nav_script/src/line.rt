@@ -40,4 +40,14 @@ pub enum Line {
         to: Point,
         to_y: u32,
     },
+    /// The lane gets a walker from the first point to the second, in place of one that it has. Points are in sixteenths of a cell and not
+    /// negative, heights in height units.
+    Send {
+        from: Point,
+        from_y: u32,
+        to: Point,
+        to_y: u32,
+    },
+    /// The lane's walker moves by at most so many sixteenths of a cell, 1 to 65535, each leg of its way measured along its longer axis.
+    March(u32),
 }

@@ -40,6 +40,52 @@ static ALONE: [Live; 5] = [
     ),
 ];
 
+/// A flat field of 8 by 8 columns in one tile. A block from its lower edge to its row 5 leaves a way round above it.
+const COURT: SquareField = SquareField {
+    side: 8,
+    tile: 8,
+    ..ROOM
+};
+
+/// What a walker is told, which goes up through strips, round a block and down again.
+static WALKERS: [Live; 6] = [
+    // Three strips up, of which 16 sixteenths are one; then on to the goal, and there it stays.
+    (
+        ROOM,
+        "march 5\nsend 24 24 10 72 72 10\nmarch 16\nmarch 100\n",
+        "history 0\nlane 0\nnowalker\nwalker 0 0 0 24 24 48 3\nlink 0 1 16 32 80 32\nlink 0 2 16 48 80 48\nlink 0 3 16 64 80 64\nwalker 0 0 1 40 40 32 2\nlink 0 2 16 48 80 48\nlink 0 3 16 64 80 64\nwalker 0 0 3 72 72 0 0\nfinal 0 4 6\n",
+    ),
+    // The way that it was given is gone after the change, and so is the walker.
+    (
+        ROOM,
+        "send 24 24 10 72 72 10\nadd block 0 5 0 100 2 2\nsettle\nmarch 16\nmarch 16\n",
+        "history 1\nentry 1 0 add block 0 5 0 100 2 2 added\nlane 0\nwalker 0 0 0 24 24 48 3\nlink 0 1 16 32 80 32\nlink 0 2 16 48 80 48\nlink 0 3 16 64 80 64\nentry 1 added\nsettled 1\nnopath 1\nnowalker\nfinal 1 3 2\n",
+    ),
+    // Over one corner and a part of the way to the next, a part beyond a corner, to the goal, and no further.
+    (
+        COURT,
+        "add block 3 3 0 100 1 5\nsettle\nsend 40 24 10 72 24 10\nmarch 80\nmarch 20\nmarch 65535\nmarch 1\n",
+        "history 1\nentry 1 0 add block 3 3 0 100 1 5 added\nlane 0\nentry 1 added\nsettled 1\nwalker 1 0 0 40 24 193 10\nlink 0 2 16 32 48 32\nlink 0 4 16 48 48 48\nlink 0 6 16 64 48 64\nlink 0 8 16 80 48 80\nlink 0 10 16 96 48 96\nlink 0 9 112 96 64 96\nlink 0 7 112 80 64 80\nlink 0 5 112 64 64 64\nlink 0 3 112 48 64 48\nlink 0 1 112 32 64 32\nwalker 1 0 10 56 96 93 5\nlink 0 9 112 96 64 96\nlink 0 7 112 80 64 80\nlink 0 5 112 64 64 64\nlink 0 3 112 48 64 48\nlink 0 1 112 32 64 32\nwalker 1 0 9 65 84 64 4\nlink 0 7 112 80 64 80\nlink 0 5 112 64 64 64\nlink 0 3 112 48 64 48\nlink 0 1 112 32 64 32\nwalker 1 0 1 72 24 0 0\nwalker 1 0 1 72 24 0 0\nfinal 1 11 20\n",
+    ),
+    (
+        COURT,
+        "add block 3 3 0 100 1 5\nsettle\nsend 0 0 10 72 24 10\nmarch 1\nsend 40 24 10 0 0 10\nmarch 1\n",
+        "history 1\nentry 1 0 add block 3 3 0 100 1 5 added\nlane 0\nentry 1 added\nsettled 1\nnostart 1\nnowalker\nnogoal 1\nnowalker\nfinal 1 11 20\n",
+    ),
+    // A new walker takes the place of the old one, with its own goal; a send that fails takes it away.
+    (
+        ROOM,
+        "send 24 24 10 72 72 10\nsend 72 72 10 24 72 10\nmarch 16\nsend 24 24 10 0 0 10\nmarch 16\n",
+        "history 0\nlane 0\nwalker 0 0 0 24 24 48 3\nlink 0 1 16 32 80 32\nlink 0 2 16 48 80 48\nlink 0 3 16 64 80 64\nwalker 0 0 3 72 72 0 0\nwalker 0 0 3 56 72 0 0\nnogoal 0\nnowalker\nfinal 0 4 6\n",
+    ),
+    // A block that a walker stands in leaves it no start.
+    (
+        ROOM,
+        "send 24 24 10 72 72 10\nadd block 1 1 0 100 1 1\nsettle\nmarch 16\nmarch 16\n",
+        "history 1\nentry 1 0 add block 1 1 0 100 1 1 added\nlane 0\nwalker 0 0 0 24 24 48 3\nlink 0 1 16 32 80 32\nlink 0 2 16 48 80 48\nlink 0 3 16 64 80 64\nentry 1 added\nsettled 1\nnostart 1\nnowalker\nfinal 1 4 6\n",
+    ),
+];
+
 fn check_lives<R: Abort + Threads + Wait + Sync>(rt: &R, alloc: Global, lives: &[Live]) {
     for (level, script, text) in lives {
         let ran = lived(rt, alloc, level, script, &FreeGate);
@@ -50,6 +96,11 @@ fn check_lives<R: Abort + Threads + Wait + Sync>(rt: &R, alloc: Global, lives: &
 #[test]
 fn runs_one_lane(rt: HostRuntime) {
     check_lives(&rt, rt.alloc(), &ALONE);
+}
+
+#[test]
+fn sends_walkers(rt: HostRuntime) {
+    check_lives(&rt, rt.alloc(), &WALKERS);
 }
 
 /// Three lanes and two workers on a wide field.

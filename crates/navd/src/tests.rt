@@ -28,7 +28,7 @@ fn lines(rt: &impl Abort, alloc: Global, count: u32, line: &str) -> String {
 /// The word, the script; the status and what the sink holds.
 type Ending = (&'static str, &'static str, Status, &'static str);
 
-static ENDINGS: [Ending; 12] = [
+static ENDINGS: [Ending; 15] = [
     ("play", SCRIPT, Status::Ok, PLAYED),
     ("play", "", Status::Ok, "done 0 0\n"),
     ("plays", "", Status::Usage, "fault usage\n"),
@@ -45,6 +45,14 @@ static ENDINGS: [Ending; 12] = [
     ("play", "aim\n", Status::Ok, "aim 0\ndone 0 0\n"),
     ("live", "aim\n", Status::BadText, "fault 46 8\n"),
     ("live", "lane 1\n", Status::BadText, "fault 46 9\n"),
+    ("live", "march 0\n", Status::BadText, "fault 46 2\n"),
+    ("play", "march 1\n", Status::BadText, "fault 46 8\n"),
+    (
+        "play",
+        "send 24 24 10 72 72 10\n",
+        Status::BadText,
+        "fault 46 8\n",
+    ),
     ("lives", "", Status::Usage, "fault usage\n"),
 ];
 

@@ -3,13 +3,14 @@
 use crate::texts::check;
 use mesh_types::{
     Answer, Corner, HopAnswer, HopFound, HopStep, Link, PathFound, PolyRef, Portal, Side,
+    WalkAnswer,
 };
 use nav_base::{FloorAt, Point};
 use nav_ground::{Entry, Reply, Request, Shape};
 use nav_list::Items;
 use nav_record::{
     StepAnswer, write_answer, write_done, write_entry, write_fault, write_final, write_history,
-    write_hop, write_lane, write_reply, write_step,
+    write_hop, write_lane, write_no_walker, write_reply, write_step, write_walk,
 };
 use nav_text::{FaultKind, TextFault};
 use std::alloc::Global;
@@ -317,4 +318,36 @@ fn writes_hops(rt: HostRuntime) {
     let wanted = "hop 12 18446744073709551615 0 1 2 2\njump 255 5 6\nlink 3 4 16 32 48 64\n\
         turn 16 32 L 0\nturn 48 64 R 0\n";
     check_hop(&rt, alloc, 12, HopAnswer::Found(found), wanted);
+}
+
+/// What a walker is answered is written as these lines.
+fn check_walker(rt: &impl Abort, alloc: Global, answer: WalkAnswer, wanted: &str) {
+    let mut out = Vec::new(alloc);
+    write_walk(&mut out, 12, &answer).expect(rt, "memory");
+    check_text(rt, out.as_slice(), wanted);
+}
+
+#[test]
+fn writes_walkers(rt: HostRuntime) {
+    let alloc = rt.alloc();
+    check_walker(&rt, alloc, WalkAnswer::NoStart, "nostart 12\n");
+    check_walker(&rt, alloc, WalkAnswer::NoGoal, "nogoal 12\n");
+    check_walker(&rt, alloc, WalkAnswer::NoPath, "nopath 12\n");
+    let links = Vec::from_array(alloc, [LINK]).expect(&rt, "memory");
+    let walking = WalkAnswer::Walking {
+        at: FIRST,
+        point: Point { x: 16, z: 32 },
+        y: 10,
+        cost: 18446744073709551615,
+        links: Items::from_vec(links),
+    };
+    let wanted = "walker 12 0 1 16 32 18446744073709551615 1\nlink 3 4 16 32 48 64\n";
+    check_walker(&rt, alloc, walking, wanted);
+}
+
+#[test]
+fn writes_that_there_is_no_walker(rt: HostRuntime) {
+    let mut out = Vec::new(rt.alloc());
+    write_no_walker(&mut out).expect(&rt, "memory");
+    check_text(&rt, out.as_slice(), "nowalker\n");
 }

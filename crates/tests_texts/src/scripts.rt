@@ -40,7 +40,7 @@ const TO: Point = Point { x: 7, z: 16384 };
 type Third = (&'static str, Way, Told);
 
 /// A line of each form, and what it says.
-static RIGHT_LINES: [Third; 19] = [
+static RIGHT_LINES: [Third; 22] = [
     (
         "floor 1023 0",
         Way::Play,
@@ -185,6 +185,21 @@ static RIGHT_LINES: [Third; 19] = [
             },
         ),
     ),
+    (
+        "send 16384 0 8191 7 16384 0",
+        Way::Live,
+        Told::Last(
+            2,
+            Line::Send {
+                from: FROM,
+                from_y: 8191,
+                to: TO,
+                to_y: 0,
+            },
+        ),
+    ),
+    ("march 1", Way::Live, Told::Last(2, Line::March(1))),
+    ("march 65535", Way::Live, Told::Last(2, Line::March(65535))),
 ];
 
 /// Reads scripts with these third lines, and a text behind each.
@@ -205,7 +220,7 @@ fn reads_right_lines(rt: HostRuntime) {
 }
 
 /// Lines with each fault that they can have.
-static WRONG_LINES: [Third; 90] = [
+static WRONG_LINES: [Third; 101] = [
     ("floor 0 1024", Way::Play, Told::Fault(47, 2)),
     ("floor 1024 0", Way::Live, Told::Fault(47, 2)),
     ("floor 0", Way::Play, Told::Fault(47, 8)),
@@ -339,6 +354,17 @@ static WRONG_LINES: [Third; 90] = [
     ("hop 0 0 8192 0 0 0", Way::Play, Told::Fault(47, 2)),
     ("hop 0 0 0 16385 0 0", Way::Play, Told::Fault(47, 2)),
     ("hop 0 0 0 0 0 8192", Way::Play, Told::Fault(47, 2)),
+    ("send 0 0 0 0 0", Way::Live, Told::Fault(47, 8)),
+    ("send 0 0 0 0 0 0", Way::Play, Told::Fault(47, 8)),
+    ("send 0 16385 0 0 0 0", Way::Live, Told::Fault(47, 2)),
+    ("send 0 0 8192 0 0 0", Way::Live, Told::Fault(47, 2)),
+    ("send 0 0 0 16385 0 0", Way::Live, Told::Fault(47, 2)),
+    ("send 0 0 0 0 0 8192", Way::Live, Told::Fault(47, 2)),
+    ("march", Way::Live, Told::Fault(47, 8)),
+    ("march 1", Way::Play, Told::Fault(47, 8)),
+    ("march 0", Way::Live, Told::Fault(47, 2)),
+    ("march 65536", Way::Live, Told::Fault(47, 2)),
+    ("march 1 1", Way::Live, Told::Fault(47, 8)),
     ("", Way::Play, Told::Fault(47, 8)),
 ];
 

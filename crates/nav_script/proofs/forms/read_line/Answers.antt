@@ -1,5 +1,5 @@
 use Rattle.std.proofs.Common.{sym}
-use Rattle.nav_script.proofs.LineLaws.{question_right, request_right, area_right, lane_right, played_right, right_names}
+use Rattle.nav_script.proofs.LineLaws.{question_right, request_right, area_right, lane_right, way_right, right_names}
 use Rattle.nav_script.proofs.forms.read_line.Goals as goal
 
 pub returns-in-Some-clause-lane : goal.returns-in-Some-clause-lane
@@ -18,6 +18,6 @@ pub returns-in-Some-lane_line-clause-lane : goal.returns-in-Some-lane_line-claus
 returns-in-Some-lane_line-clause-lane c =
     right_names c.args.way c.args.header.lanes c.args.header.workers c.args.adds c.args.line.now _ (lane_right _ _ _ _ _ _ (sym c.in-Some-lane_line.ensures))
 
-pub returns-in-Some-played_line-clause-lane : goal.returns-in-Some-played_line-clause-lane
-returns-in-Some-played_line-clause-lane c =
-    right_names c.args.way c.args.header.lanes c.args.header.workers c.args.adds c.args.line.now _ (played_right _ _ _ _ _ _ (sym c.in-Some-played_line.ensures))
+pub returns-in-Some-way_line-clause-lane : goal.returns-in-Some-way_line-clause-lane
+returns-in-Some-way_line-clause-lane c =
+    right_names c.args.way c.args.header.lanes c.args.header.workers c.args.adds c.args.line.now _ (way_right _ _ _ _ _ _ (sym c.in-Some-way_line.ensures))

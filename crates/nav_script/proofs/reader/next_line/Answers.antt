@@ -1,7 +1,7 @@
 use Rattle.std.proofs.Common.{◌∙◌, ap, sym, arith}
 use Rattle.std.proofs.lemmas.Bool.Decides.{nat_tests}
 use Rattle.std.proofs.lemmas.Result.{IfOk-weaker}
-use Rattle.nav_script.specs.PlayedForms.{line_read}
+use Rattle.nav_script.specs.WayForms.{line_read}
 use Rattle.nav_script.proofs.ReaderLaws.{verdict_full, verdict_room, verdict_jumps, verdict_read}
 use Rattle.nav_script.proofs.reader.next_line.Goals as goal
 

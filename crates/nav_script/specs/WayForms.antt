@@ -1,7 +1,7 @@
--- The forms of lines that stand only in a script to be played, and what any line says.
+-- The forms of lines that stand only in a script to be played, or only in one that runs live, and what any line says.
 use Rattle.std.specs.Prelude.{ℕ, ◌&&◌, List, [], ◌∷◌, slice_index, codes, Option, None, Ok, Err, unwrap_or}
 use Rattle.nav_text.specs.declared.fault.FaultKind.TheVariants as kinds
-use Rattle.nav_script.specs.declared.line.Line.TheVariants.{Aim, Claim, Back, Submit, Publish, Jump, Hop}
+use Rattle.nav_script.specs.declared.line.Line.TheVariants.{Aim, Claim, Back, Submit, Publish, Jump, Hop, Send, March}
 use Rattle.nav_script.specs.declared.script.Way.{Way}
 use Rattle.nav_script.specs.declared.script.Way.TheVariants.{Play, Live}
 use Rattle.nav_script.specs.Forms.{LineRead, in_limits, below_count, point_at, are_standing, is_range, form, first_of_them, question_line, request_line, area_line, lane_line}
@@ -46,14 +46,32 @@ hop_forms line = form (codes "jump") 7 jump_line line ∷ form (codes "hop") 6 h
 unfoldable pub jump_or_hop : List ℕ → Option LineRead
 jump_or_hop line = first_of_them (hop_forms line)
 
--- such lines are of no form where the script runs live
-abbrev pub played_line : Way → ℕ → List ℕ → Option LineRead
-played_line Play workers line = first_of_them (worker_line workers line ∷ jump_or_hop line ∷ [])
-played_line Live workers line = None
+-- a walker of a lane, with the numbers of a question for a path
+abbrev pub send_line : List ℕ → LineRead
+send_line n =
+    in_limits
+    (are_standing n)
+    (Send (point_at (slice_index n 0) (slice_index n 1)) (slice_index n 2) (point_at (slice_index n 3) (slice_index n 4)) (slice_index n 5))
+
+-- a march of 1 to 65535 sixteenths
+abbrev pub march_line : ℕ → LineRead
+march_line length = in_limits (is_range 1 length 65535) (March length)
+
+abbrev pub walker_forms : List ℕ → List (Option LineRead)
+walker_forms line = form (codes "send") 6 send_line line ∷ form (codes "march") 1 (λ n. march_line (slice_index n 0)) line ∷ []
+
+-- a line that sends a walker or lets it march
+unfoldable pub walker_line : List ℕ → Option LineRead
+walker_line line = first_of_them (walker_forms line)
+
+-- the lines that lead workers, declare jumps or ask for hop walks are of no form where the script runs live, and those of walkers where it is played
+abbrev pub way_line : Way → ℕ → List ℕ → Option LineRead
+way_line Play workers line = first_of_them (worker_line workers line ∷ jump_or_hop line ∷ [])
+way_line Live workers line = walker_line line
 
 -- what a line of a script says; of no form, it is wrong as a line
 abbrev pub line_read : Way → (lanes workers adds : ℕ) → List ℕ → LineRead
 line_read way lanes workers adds line =
     unwrap_or
-    (first_of_them (question_line line ∷ request_line adds line ∷ area_line line ∷ lane_line lanes line ∷ played_line way workers line ∷ []))
+    (first_of_them (question_line line ∷ request_line adds line ∷ area_line line ∷ lane_line lanes line ∷ way_line way workers line ∷ []))
     (Err kinds.Line)

@@ -1,0 +1,99 @@
+//! What walkers are answered.
+ghost use Rattle.std.specs.Prelude.{◌≡◌, ◌+◌, ◌≤◌, ◌++◌, length, IsOk, OnOk, OnErr, vec_len, vec_capacity};
+ghost use Rattle.nav_text.specs.Appends.{Appends};
+ghost use Rattle.nav_record.specs.OneLine.{HasLines, IsOneLine};
+ghost use Rattle.nav_record.specs.WalkTexts.{no_walker_text, walk_line_count, walk_text, walker_text, walker_line_text};
+
+use crate::append::{Field, append, append_parts};
+use crate::paths::append_links;
+use mesh_types::{Link, PolyRef, WalkAnswer};
+use nav_base::Point;
+use std::alloc::AllocError;
+
+/// Appends the lines of what a walker is answered; `k` is the length of the version that was read. A walker has a line of its own and one for
+/// each link that leads on; every other answer is one line. Points are in sixteenths of a cell.
+#[tactic(auto, using(crate::proofs::WalkLines::walk_lines))]
+pub fn write_walk(out: &mut Vec<u8>, k: u32, answer: &WalkAnswer) -> Result<(), AllocError>
+    ensures ok { OnOk result (out.new.items ≡ out.old.items ++ walk_text k answer.now) }
+    ensures err { OnErr result (out.new.items ≡ out.old.items) }
+    ensures room { vec_len out.old + length (walk_text k answer.now) ≤ vec_capacity out.old → IsOk result }
+    // The text is whole lines: one, and for a walker one more for each link.
+    ensures lines { HasLines (walk_text k answer.now) (walk_line_count answer.now) }
+{
+    let len = out.len();
+    let written = append_walk(out, k, answer);
+    if written.is_err() {
+        out.truncate(len);
+    }
+    written
+}
+
+/// Appends the line of a march where there is no walker.
+#[tactic(auto, using(crate::proofs::WalkLines::no_walker_line))]
+pub fn write_no_walker(out: &mut Vec<u8>) -> Result<(), AllocError>
+    ensures ok { OnOk result (out.new.items ≡ out.old.items ++ no_walker_text) }
+    ensures err { OnErr result (out.new.items ≡ out.old.items) }
+    ensures room { vec_len out.old + length no_walker_text ≤ vec_capacity out.old → IsOk result }
+    // The text is one line.
+    ensures line { IsOneLine no_walker_text }
+{
+    append(out, b"nowalker", &[], b"\n")
+}
+
+/// What `write_walk` appends, but where memory is refused a part of the lines may stand at the end.
+fn append_walk(out: &mut Vec<u8>, k: u32, answer: &WalkAnswer) -> Result<(), AllocError>
+    ensures { Appends out.old out.new result (walk_text k answer.now) }
+{
+    match answer {
+        WalkAnswer::Walking {
+            at,
+            point,
+            y: _,
+            cost,
+            links,
+        } => append_walker(out, k, *at, *point, *cost, links.as_slice()),
+        WalkAnswer::NoStart => append_parts(out, b"nostart", &[Field::Number(k)], b"\n"),
+        WalkAnswer::NoGoal => append_parts(out, b"nogoal", &[Field::Number(k)], b"\n"),
+        WalkAnswer::NoPath => append_parts(out, b"nopath", &[Field::Number(k)], b"\n"),
+    }
+}
+
+/// Appends the lines of a walker: its own, then one for each link.
+fn append_walker(
+    out: &mut Vec<u8>,
+    k: u32,
+    at: PolyRef,
+    point: Point,
+    cost: u64,
+    links: &[Link],
+) -> Result<(), AllocError>
+    ensures { Appends out.old out.new result (walker_text k at point cost links.now) }
+{
+    append_walker_line(out, k, at, point, cost, links.len())?;
+    append_links(out, links)
+}
+
+/// Appends the line of a walker: the polygon and the point where it stands, its cost, and how many links lead on.
+fn append_walker_line(
+    out: &mut Vec<u8>,
+    k: u32,
+    at: PolyRef,
+    point: Point,
+    cost: u64,
+    links: usize,
+) -> Result<(), AllocError>
+    ensures { Appends out.old out.new result (walker_line_text k at point cost links) }
+{
+    append_parts(
+        out,
+        b"walker",
+        &[
+            Field::Number(k),
+            Field::Polygon(at),
+            Field::Place(point),
+            Field::Cost(cost),
+            Field::Count(links),
+        ],
+        b"\n",
+    )
+}
