@@ -1,0 +1,4 @@
+mod Words
+mod Laying
+mod Ends
+mod Opened

@@ -1,0 +1,32 @@
+-- Answers over the border: how questions of what a handle holds end.
+use Rattle.std.specs.Prelude.{◌≡◌, ℕ, ◌⊎◌, Option, Some, None, Result, Ok, Err}
+use Rattle.nav_base.specs.declared.answers.Question.{Question}
+use Rattle.mesh_types.specs.declared.answers.Answer.{Answer}
+use Rattle.mesh_types.specs.Right.{IsRight}
+use Rattle.nav_desk.specs.BookState.{BookState}
+use Rattle.nav_level.specs.Results.{published_mesh}
+use Rattle.nav_ffi.specs.declared.status.TheConstants as status
+use Rattle.nav_ffi.specs.Telling.{answer_status}
+
+-- a level answers, rightly in the published mesh, unless memory is refused; where there is no level there is no answer
+abbrev pub IsReplied : Option BookState → Question → Result Answer ℕ → Type 0
+IsReplied None question (Ok answer) = ⊥
+IsReplied None question (Err why) = why ≡ status.EMPTY
+IsReplied (Some state) question (Ok answer) = IsRight (published_mesh state) question answer
+IsReplied (Some state) question (Err why) = why ≡ status.NO_MEMORY
+
+-- there is an answer that is right in the published mesh: the question ends with its status, and it is told in the host's places
+pub record IsAnswered {Room : Type 0} (told : Answer → Room → Room) (state : BookState) (question : Question) (before after : Room) (ended : ℕ) : Type 0 where
+  pub answer : Answer
+  pub right : IsRight (published_mesh state) question answer
+  pub status : ended ≡ answer_status answer
+  pub rooms : after ≡ told answer before
+
+-- a call ended in this way and told nothing
+abbrev pub EndsSo : {Room : Type 0} → ℕ → Room → Room → ℕ → Type 0
+EndsSo why before after ended = (ended ≡ why) × (after ≡ before)
+
+-- a question of what a handle holds: a level answers it, unless memory is refused; where there is none it ends so
+abbrev pub IsAsked : {Room : Type 0} → (Answer → Room → Room) → Option BookState → Question → Room → Room → ℕ → Type 0
+IsAsked told None question before after ended = EndsSo status.EMPTY before after ended
+IsAsked told (Some state) question before after ended = IsAnswered told state question before after ended ⊎ EndsSo status.NO_MEMORY before after ended

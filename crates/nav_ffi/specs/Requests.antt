@@ -1,0 +1,43 @@
+-- Requests over the border: how they end, which entry they make, and what the handle holds then.
+use Rattle.std.specs.Prelude.{◌≡◌, ℕ, ◌+◌, if◌then◌else◌, length, Option, Some, None, option_map}
+use Rattle.nav_ground.specs.declared.history.Reply.{Reply}
+use Rattle.nav_ground.specs.declared.history.Reply.TheVariants.{Added, Removed, Full, Dead}
+use Rattle.nav_ground.specs.declared.history.Request.{Request}
+use Rattle.nav_ground.specs.declared.history.Request.TheVariants.{Add}
+use Rattle.nav_ground.specs.declared.shape.Shape.{Shape}
+use Rattle.nav_ground.specs.Limits.{IsShape}
+use Rattle.nav_desk.specs.BookState.{BookState}
+use Rattle.nav_desk.specs.Steps.{is_full, next_reply, requested}
+use Rattle.nav_ffi.specs.declared.status.TheConstants as status
+
+-- how an entry with a reply ends
+abbrev pub reply_status : Reply → ℕ
+reply_status (Added number) = status.OK
+reply_status Removed = status.OK
+reply_status (Full live) = status.TOO_MANY
+reply_status (Dead number) = status.DEAD
+
+-- how a request of what a handle holds ends
+abbrev pub request_status : Option BookState → Request → ℕ
+request_status None request = status.EMPTY
+request_status (Some state) request = if is_full state then status.HISTORY_FULL else reply_status (next_reply state request)
+
+-- the number of the entry that it makes, from 1; 0 where it makes none
+abbrev pub entry_made : Option BookState → ℕ
+entry_made None = 0
+entry_made (Some state) = if is_full state then 0 else length state.history + 1
+
+-- what the handle holds then: requests over the border are of lane 0
+abbrev pub held_requested : Option BookState → Request → Option BookState
+held_requested held request = option_map (λ (state : BookState). requested state 0 request) held
+
+-- a request of what a handle held came to an end, and made an entry or none
+pub record IsRequested (before after : Option BookState) (request : Request) (ended made : ℕ) : Type 0 where
+  pub status : ended ≡ request_status before request
+  pub entry : made ≡ entry_made before
+  pub held : after ≡ held_requested before request
+
+-- an obstacle was to be added: where its numbers are in their limits it was asked for; else nothing was done
+pub record IsAddAsked (before after : Option BookState) (shape : Shape) (ended made : ℕ) : Type 0 where
+  pub asked : IsShape shape → IsRequested before after (Add shape) ended made
+  pub refused : (IsShape shape → ⊥) → (ended ≡ status.OUT_OF_RANGE) × (made ≡ 0) × (after ≡ before)

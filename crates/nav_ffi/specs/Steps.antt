@@ -1,0 +1,64 @@
+-- Steps over the border: how they end, what they tell, and what the handle holds then.
+use Rattle.std.specs.Prelude.{◌≡◌, ◌⊎◌, ℕ, length, Option, Some, None}
+use Rattle.nav_desk.specs.declared.answers.Published.{Published}
+use Rattle.nav_desk.specs.declared.answers.Published.TheVariants.{New, Same, NotYet}
+use Rattle.nav_desk.specs.BookState.{BookState, least_claimable}
+use Rattle.nav_desk.specs.Steps.{after_aim, after_publish, publication}
+use Rattle.nav_level.specs.Settling.{after_job, after_settle}
+use Rattle.nav_ffi.specs.declared.status.TheConstants as status
+
+-- how a step ended, which number it told, and what the handle holds then
+pub record Ended : Type 0 where
+  pub status : ℕ
+  pub number : ℕ
+  pub held : Option BookState
+
+-- it ended with a status, told a number, and left a state; or it ended with a status alone, and left all as it was
+abbrev pub done : ℕ → ℕ → BookState → Ended
+done why number state = record { status = why; number = number; held = Some state }
+
+abbrev pub not_done : ℕ → ℕ → Option BookState → Ended
+not_done why number held = record { status = why; number = number; held = held }
+
+-- an aim, with the number that was told before
+abbrev pub aimed : Option BookState → ℕ → Ended
+aimed None before = not_done status.EMPTY before None
+aimed (Some state) before = done status.OK (length state.history) (after_aim state)
+
+-- a publish tells how many entries are published, or the tile that is awaited
+abbrev pub published_by : BookState → Published → Ended
+published_by state (New k) = done status.OK k (after_publish state)
+published_by state (Same k) = done status.SAME k state
+published_by state (NotYet tile) = done status.NOT_YET tile state
+
+abbrev pub published : Option BookState → ℕ → Ended
+published None before = not_done status.EMPTY before None
+published (Some state) before = published_by state (publication state)
+
+-- a step by one tile: the least that is awaited and not claimed is built and handed in, and told; where there is none, nothing is done
+abbrev pub stepped_by : BookState → ℕ → Option ℕ → Ended
+stepped_by state before (Some tile) = done status.OK tile (after_job state tile)
+stepped_by state before None = done status.SAME before state
+
+abbrev pub stepped : Option BookState → ℕ → Ended
+stepped None before = not_done status.EMPTY before None
+stepped (Some state) before = stepped_by state before (least_claimable state)
+
+-- or memory was refused, and nothing was done
+abbrev pub UnlessRefused : Ended → Option BookState → ℕ → Ended → Type 0
+UnlessRefused wanted held before ended = (ended ≡ wanted) ⊎ (ended ≡ not_done status.NO_MEMORY before held)
+
+-- a settle that wanted memory: the ground, the history and what is published are as they were
+pub record IsCutShort (state : BookState) (before : ℕ) (ended : Ended) : Type 0 where
+  pub status : ended.status ≡ status.NO_MEMORY
+  pub number : ended.number ≡ before
+  pub after : BookState
+  pub held : ended.held ≡ Some after
+  pub whole : after.whole ≡ state.whole
+  pub history : after.history ≡ state.history
+  pub published : after.published ≡ state.published
+
+-- a settle of what a handle holds: all is built and published, unless memory is refused
+abbrev pub IsSettled : Option BookState → ℕ → Ended → Type 0
+IsSettled None before ended = ended ≡ not_done status.EMPTY before None
+IsSettled (Some state) before ended = (ended ≡ done status.OK (length state.history) (after_settle state)) ⊎ IsCutShort state before ended

@@ -1,0 +1,39 @@
+#!/bin/sh
+# Builds the hosts over the library and has them play the examples, which must write what `navd play` wrote:
+#
+#     hosts/check.sh [LIBRARY]        the archive; else where `rt lib` of crates/nav_ffi leaves it
+#
+# The host in C plays each example plainly, with the compiler's checks of addresses and undefined behaviour, and, on one example, with each
+# allocation refused in turn; random calls, valid and not, follow. The host in Python plays them through a shared object, and the one in Rust runs its test, where there is cargo.
+set -eu
+here=$(cd "$(dirname "$0")" && pwd)
+lib=$(realpath "${1:-$here/../crates/nav_ffi/out/libnav_ffi.a}")
+to=$(mktemp -d)
+trap 'rm -rf "$to"' EXIT
+make -s -C "$here/c" LIB="$lib" TO="$to" "$to/play" "$to/checked" "$to/calls" "$to/libnavd.so"
+count=0
+for out in "$here"/../examples/*.out; do
+    input=${out%.out}.nav
+    # jumps and workers are no part of the library
+    ! grep -qE '^(jump|hop|claim|back|submit) ' "$input" || continue
+    for host in "$to/play" "$to/checked" "env NAVD_LIBRARY=$to/libnavd.so python3 $here/python/play.py"; do
+        # a text with a fault is told so, with the status 1
+        $host < "$input" > "$to/told" || [ "$(cut -c1-6 "$to/told")" = "fault " ] || { echo "failed: $host $input"; exit 1; }
+        cmp "$to/told" "$out" || { echo "differs: $host $input"; exit 1; }
+        count=$((count + 1))
+    done
+done
+input=$here/../examples/storeroom.nav
+refused=0
+while :; do
+    refused=$((refused + 1))
+    "$to/checked" "$refused" < "$input" > "$to/told" 2> "$to/count" || { echo "failed: allocation $refused refused"; cat "$to/count"; exit 1; }
+    cmp "$to/told" "${input%.nav}.out" || { echo "differs: allocation $refused refused"; exit 1; }
+    [ "$(cat "$to/count")" -ge "$refused" ] || break
+done
+echo "played $count times alike, and $((refused - 1)) times with an allocation refused"
+"$to/calls" "$here/../examples/bridge.nav" 10000 1
+"$to/calls" "$here/../examples/storeroom.nav" 10000 2
+if command -v cargo > "$to/cargo"; then
+    NAVD_LIBRARY_DIR=$(dirname "$lib") cargo test --quiet --offline --manifest-path "$here/rust/Cargo.toml" --target-dir "$to/target"
+fi

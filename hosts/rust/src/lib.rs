@@ -1,0 +1,254 @@
+//! A level of navd: obstacles that come and go, and the ways through it. `include/navd.h` says what each call means, its units and limits.
+//!
+//! ```no_run
+//! # fn main() -> Result<(), navd::Error> {
+//! let mut level = navd::Level::open(&std::fs::read("examples/detour.nav").unwrap())?;
+//! let crate_ = level.add_block(&navd::Block { x0: 1, x1: 8, y0: 0, y1: 100, z0: 4, z1: 5 }, 0)?;
+//! level.settle()?;
+//! if let Ok(path) = level.find_path(navd::place(40, 40, 10), navd::place(40, 120, 10))? {
+//!     println!("{} by {} links, {} turns", path.cost, path.links.len(), path.turns.len());
+//! }
+//! level.remove(crate_)?;
+//! # Ok(())
+//! # }
+//! ```
+mod heap;
+mod sys;
+
+use std::fmt;
+use std::ptr::null_mut;
+pub use sys::{Block, Counts, Cylinder, Floor, Link, Point, Polygon, Turn};
+
+/// Why a call was refused.
+#[derive(Clone, Copy, Debug, PartialEq, Eq)]
+pub enum Error {
+    NoMemory,
+    /// The first line of the text that fails, from 1, and the kind of its fault.
+    Fault { line: u32, kind: u32 },
+    OutOfRange,
+    TooManyObstacles,
+    NoSuchObstacle,
+    HistoryFull,
+    /// This tile is still awaited.
+    NotYet { tile: u32 },
+}
+
+impl fmt::Display for Error {
+    fn fmt(&self, f: &mut fmt::Formatter<'_>) -> fmt::Result {
+        match self {
+            Error::NoMemory => write!(f, "no memory"),
+            Error::Fault { line, kind } => write!(f, "fault of kind {kind} in line {line}"),
+            Error::OutOfRange => write!(f, "a number is out of its limits"),
+            Error::TooManyObstacles => write!(f, "as many obstacles are alive as may be"),
+            Error::NoSuchObstacle => write!(f, "no obstacle with this number is alive"),
+            Error::HistoryFull => write!(f, "the history is full"),
+            Error::NotYet { tile } => write!(f, "tile {tile} is still awaited"),
+        }
+    }
+}
+
+impl std::error::Error for Error {}
+
+fn error_of(status: u32) -> Error {
+    match status {
+        sys::NO_MEMORY => Error::NoMemory,
+        sys::OUT_OF_RANGE => Error::OutOfRange,
+        sys::TOO_MANY => Error::TooManyObstacles,
+        sys::DEAD => Error::NoSuchObstacle,
+        sys::HISTORY_FULL => Error::HistoryFull,
+        sys::EMPTY => unreachable!("a level's handle is never empty"),
+        other => unreachable!("a call that does not end with {other}"),
+    }
+}
+
+/// A point in sixteenths of a cell, and a height that says in which storey.
+#[derive(Clone, Copy, Debug, PartialEq, Eq)]
+pub struct Place {
+    pub at: Point,
+    pub y: u32,
+}
+
+/// The place at x and z with a height.
+pub fn place(x: i32, z: i32, y: u32) -> Place {
+    Place { at: Point { x, z }, y }
+}
+
+/// A path: a cheapest corridor, and where the taut line through it turns.
+#[derive(Clone, Debug, PartialEq, Eq)]
+pub struct Path {
+    pub cost: u64,
+    pub first: Polygon,
+    pub links: Vec<Link>,
+    pub turns: Vec<Turn>,
+}
+
+/// Why there is no path, or no ray.
+#[derive(Clone, Copy, Debug, PartialEq, Eq)]
+pub enum NoWay {
+    NoStart,
+    NoGoal,
+    NoPath,
+}
+
+/// Where a ray ends.
+#[derive(Clone, Copy, Debug, PartialEq, Eq)]
+pub enum Ray {
+    Reached(Polygon),
+    /// At this edge, num / den of the way along.
+    Wall { a: Point, b: Point, num: i64, den: i64 },
+}
+
+/// A level. It is used by one thread at a time.
+pub struct Level {
+    handle: sys::Handle,
+}
+
+impl Level {
+    /// The level of the field text with which the bytes begin, with no obstacles.
+    pub fn open(text: &[u8]) -> Result<Level, Error> {
+        let mut level = Level { handle: sys::Handle { at: null_mut(), full: 0 } };
+        let mut fault = sys::Fault::default();
+        // SAFETY: the handle is zeroed, and the bytes are those of a slice, which has an address also where it is empty.
+        match unsafe { sys::navd_open(&mut level.handle, text.as_ptr(), text.len(), &mut fault) } {
+            sys::OK => Ok(level),
+            sys::FAULTY => Err(Error::Fault { line: fault.line, kind: fault.kind }),
+            status => Err(error_of(status)),
+        }
+    }
+
+    fn number(&mut self, call: impl FnOnce(*mut sys::Handle, *mut u32) -> u32) -> (u32, u32) {
+        let mut number = 0;
+        let status = call(&mut self.handle, &mut number);
+        (status, number)
+    }
+
+    /// Adds a block, which stops agents where the area is 0 and else sets that area; the obstacle's number.
+    pub fn add_block(&mut self, block: &Block, area: u32) -> Result<u32, Error> {
+        // SAFETY: here and below, the handle is this level's, which the borrow keeps from other calls, and all else are references.
+        done(self.number(|level, entry| unsafe { sys::navd_add_block(level, block, area, entry) }))
+    }
+
+    /// Adds a cylinder, likewise.
+    pub fn add_cylinder(&mut self, cylinder: &Cylinder, area: u32) -> Result<u32, Error> {
+        done(self.number(|level, entry| unsafe { sys::navd_add_cylinder(level, cylinder, area, entry) }))
+    }
+
+    /// Removes the obstacle with a number; the number of the entry.
+    pub fn remove(&mut self, number: u32) -> Result<u32, Error> {
+        done(self.number(|level, entry| unsafe { sys::navd_remove(level, number, entry) }))
+    }
+
+    /// Builds and publishes all that the history asks for; how many entries are published.
+    pub fn settle(&mut self) -> Result<u32, Error> {
+        done(self.number(|level, number| unsafe { sys::navd_settle(level, number) }))
+    }
+
+    /// Makes the whole history the target; its length.
+    pub fn aim(&mut self) -> Result<u32, Error> {
+        done(self.number(|level, number| unsafe { sys::navd_aim(level, number) }))
+    }
+
+    /// Builds the least tile that is awaited, if there is one.
+    pub fn step(&mut self) -> Result<Option<u32>, Error> {
+        match self.number(|level, number| unsafe { sys::navd_step(level, number) }) {
+            (sys::SAME, _) => Ok(None),
+            ended => done(ended).map(Some),
+        }
+    }
+
+    /// Publishes the target; how many entries are published.
+    pub fn publish(&mut self) -> Result<u32, Error> {
+        match self.number(|level, number| unsafe { sys::navd_publish(level, number) }) {
+            (sys::SAME, number) => Ok(number),
+            (sys::NOT_YET, tile) => Err(Error::NotYet { tile }),
+            ended => done(ended),
+        }
+    }
+
+    /// The floors of a column, from the bottom up.
+    pub fn floors(&mut self, x: u32, z: u32) -> Result<Vec<Floor>, Error> {
+        let mut floors = vec![Floor::default(); 8];
+        loop {
+            let mut count = 0;
+            let status = unsafe { sys::navd_floors(&mut self.handle, x, z, floors.as_mut_ptr(), floors.len(), &mut count) };
+            done((status, 0))?;
+            let fits = count <= floors.len();
+            floors.resize(count, Floor::default());
+            if fits {
+                return Ok(floors);
+            }
+        }
+    }
+
+    /// A cheapest corridor with a taut path, or why there is none.
+    pub fn find_path(&mut self, from: Place, to: Place) -> Result<Result<Path, NoWay>, Error> {
+        let way = sys::Way { from: from.at, from_y: from.y, to: to.at, to_y: to.y };
+        let (mut links, mut turns) = (vec![Link::default(); 64], vec![Turn::default(); 64]);
+        loop {
+            let mut path = sys::Path::default();
+            let status = unsafe {
+                sys::navd_find_path(
+                    &mut self.handle,
+                    &way,
+                    links.as_mut_ptr(),
+                    links.len(),
+                    turns.as_mut_ptr(),
+                    turns.len(),
+                    &mut path,
+                )
+            };
+            if let Some(no_way) = no_way(status) {
+                return Ok(Err(no_way));
+            }
+            done((status, 0))?;
+            let fits = path.links <= links.len() && path.turns <= turns.len();
+            links.resize(path.links, Link::default());
+            turns.resize(path.turns, Turn::default());
+            if fits {
+                return Ok(Ok(Path { cost: path.cost, first: path.first, links, turns }));
+            }
+        }
+    }
+
+    /// The straight walk from a place toward a point, or that no polygon holds the place.
+    pub fn cast_ray(&mut self, from: Place, to: Point) -> Result<Result<Ray, NoWay>, Error> {
+        let way = sys::Way { from: from.at, from_y: from.y, to, to_y: 0 };
+        let mut ray = sys::Ray::default();
+        let status = unsafe { sys::navd_cast_ray(&mut self.handle, &way, &mut ray) };
+        match (status, no_way(status)) {
+            (_, Some(no_way)) => Ok(Err(no_way)),
+            (sys::WALL, _) => Ok(Ok(Ray::Wall { a: ray.a, b: ray.b, num: ray.num, den: ray.den })),
+            _ => done((status, 0)).map(|_| Ok(Ray::Reached(ray.last))),
+        }
+    }
+
+    /// The counts of the level.
+    pub fn counts(&mut self) -> Result<Counts, Error> {
+        let mut counts = Counts::default();
+        done((unsafe { sys::navd_count(&mut self.handle, &mut counts) }, 0)).map(|_| counts)
+    }
+}
+
+impl Drop for Level {
+    fn drop(&mut self) {
+        // SAFETY: the handle is this level's; an empty one may be closed.
+        unsafe { sys::navd_close(&mut self.handle) }
+    }
+}
+
+fn done((status, number): (u32, u32)) -> Result<u32, Error> {
+    if status == sys::OK {
+        Ok(number)
+    } else {
+        Err(error_of(status))
+    }
+}
+
+fn no_way(status: u32) -> Option<NoWay> {
+    match status {
+        sys::NO_START => Some(NoWay::NoStart),
+        sys::NO_GOAL => Some(NoWay::NoGoal),
+        sys::NO_PATH => Some(NoWay::NoPath),
+        _ => None,
+    }
+}

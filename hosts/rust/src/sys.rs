@@ -1,0 +1,155 @@
+//! The declarations of include/navd.h, name for name.
+#![allow(missing_docs)]
+
+use std::ffi::c_void;
+
+pub const OK: u32 = 0;
+pub const NO_MEMORY: u32 = 1;
+pub const EMPTY: u32 = 2;
+pub const FAULTY: u32 = 3;
+pub const OUT_OF_RANGE: u32 = 4;
+pub const TOO_MANY: u32 = 5;
+pub const DEAD: u32 = 6;
+pub const HISTORY_FULL: u32 = 7;
+pub const NOT_YET: u32 = 8;
+pub const SAME: u32 = 9;
+pub const NO_START: u32 = 10;
+pub const NO_GOAL: u32 = 11;
+pub const NO_PATH: u32 = 12;
+pub const WALL: u32 = 13;
+
+#[repr(C)]
+pub struct Handle {
+    pub at: *mut c_void,
+    pub full: u32,
+}
+
+#[repr(C)]
+#[derive(Clone, Copy, Default, Debug, PartialEq, Eq)]
+pub struct Point {
+    pub x: i32,
+    pub z: i32,
+}
+
+#[repr(C)]
+#[derive(Clone, Copy)]
+pub struct Block {
+    pub x0: u32,
+    pub x1: u32,
+    pub y0: u32,
+    pub y1: u32,
+    pub z0: u32,
+    pub z1: u32,
+}
+
+#[repr(C)]
+#[derive(Clone, Copy)]
+pub struct Cylinder {
+    pub cx: u32,
+    pub cz: u32,
+    pub r: u32,
+    pub y0: u32,
+    pub y1: u32,
+}
+
+#[repr(C)]
+#[derive(Clone, Copy)]
+pub struct Way {
+    pub from: Point,
+    pub from_y: u32,
+    pub to: Point,
+    pub to_y: u32,
+}
+
+#[repr(C)]
+#[derive(Clone, Copy, Default, Debug, PartialEq, Eq)]
+pub struct Polygon {
+    pub tile: u32,
+    pub index: u32,
+}
+
+#[repr(C)]
+#[derive(Clone, Copy, Default, Debug, PartialEq, Eq)]
+pub struct Link {
+    pub from: Polygon,
+    pub edge: u32,
+    pub to: Polygon,
+    pub left: Point,
+    pub right: Point,
+}
+
+#[repr(C)]
+#[derive(Clone, Copy, Default, Debug, PartialEq, Eq)]
+pub struct Turn {
+    pub at: Point,
+    pub side: u32,
+    pub link: u32,
+}
+
+#[repr(C)]
+#[derive(Clone, Copy, Default, Debug, PartialEq, Eq)]
+pub struct Floor {
+    pub y: u32,
+    pub area: u32,
+}
+
+#[repr(C)]
+#[derive(Clone, Copy, Default)]
+pub struct Path {
+    pub cost: u64,
+    pub first: Polygon,
+    pub links: usize,
+    pub turns: usize,
+}
+
+#[repr(C)]
+#[derive(Clone, Copy, Default)]
+pub struct Ray {
+    pub last: Polygon,
+    pub a: Point,
+    pub b: Point,
+    pub num: i64,
+    pub den: i64,
+}
+
+#[repr(C)]
+#[derive(Clone, Copy, Default)]
+pub struct Fault {
+    pub line: u32,
+    pub kind: u32,
+}
+
+#[repr(C)]
+#[derive(Clone, Copy, Default, Debug, PartialEq, Eq)]
+pub struct Counts {
+    pub history: u32,
+    pub target: u32,
+    pub published: u32,
+    pub tiles: u32,
+    pub polygons: u32,
+    pub links: u32,
+}
+
+extern "C" {
+    pub fn navd_open(level: *mut Handle, text: *const u8, length: usize, fault: *mut Fault) -> u32;
+    pub fn navd_close(level: *mut Handle);
+    pub fn navd_add_block(level: *mut Handle, block: *const Block, area: u32, entry: *mut u32) -> u32;
+    pub fn navd_add_cylinder(level: *mut Handle, cylinder: *const Cylinder, area: u32, entry: *mut u32) -> u32;
+    pub fn navd_remove(level: *mut Handle, number: u32, entry: *mut u32) -> u32;
+    pub fn navd_settle(level: *mut Handle, published: *mut u32) -> u32;
+    pub fn navd_aim(level: *mut Handle, target: *mut u32) -> u32;
+    pub fn navd_step(level: *mut Handle, tile: *mut u32) -> u32;
+    pub fn navd_publish(level: *mut Handle, number: *mut u32) -> u32;
+    pub fn navd_floors(level: *mut Handle, x: u32, z: u32, floors: *mut Floor, room: usize, count: *mut usize) -> u32;
+    pub fn navd_find_path(
+        level: *mut Handle,
+        way: *const Way,
+        links: *mut Link,
+        links_room: usize,
+        turns: *mut Turn,
+        turns_room: usize,
+        path: *mut Path,
+    ) -> u32;
+    pub fn navd_cast_ray(level: *mut Handle, way: *const Way, ray: *mut Ray) -> u32;
+    pub fn navd_count(level: *mut Handle, counts: *mut Counts) -> u32;
+}
