@@ -2,20 +2,20 @@
 use Rattle.std.proofs.Common.{◌≡◌, ℕ, ◌+◌, ◌<◌, ◌≤◌, Bool, true, false, List, [], ◌∷◌, length, set, replicate, ap, ◌∙◌, sym, subst, refl, arith, inl, inr, Option, Some, None}
 use Rattle.std.specs.Prelude.{not, ◌&&◌}
 use Rattle.std.specs.List.{find, fold, range_with_len}
-use Rattle.std.specs.Option.{option_map, option_map_or}
+use Rattle.std.specs.Option.{option_map_or}
 use Rattle.std.proofs.Math.ListN.{get_or-eq_default}
 use Rattle.std.proofs.lemmas.Bool.{cases_eq, cases_lt, cond-true}
 use Rattle.std.proofs.lemmas.List.{get_or-set_same, get_or-set_other, get_or-replicate, length-replicate, length-set}
 use Rattle.nav_ground.specs.declared.shape.Shape.{Shape}
 use Rattle.nav_ground.specs.Tiling.{tile_count}
-use Rattle.nav_desk.specs.declared.answers.Job.{Job}
 use Rattle.nav_desk.specs.BookState.{BookState, IsBook, is_awaited, is_claimed, least_awaited, least_claimable, wanted_at}
 use Rattle.nav_desk.specs.Flags.{flag_of}
 use Rattle.nav_desk.specs.SameShapes.{are_same}
-use Rattle.nav_desk.specs.Steps.{after_claim, after_put_back_all, after_submit, is_taken, job_of, next_job}
+use Rattle.nav_desk.specs.Steps.{after_claim, after_put_back_all, is_taken}
 use Rattle.nav_desk.proofs.BookLaws.{shown_after_publish}
 use Rattle.nav_desk.proofs.SameShapes.{same_lists_decide}
-use Rattle.nav_level.specs.Settling.{IsUnclaimed, after_job, after_settle, all_built, awaited_tiles, settling}
+use Rattle.nav_level.specs.Settling.{IsUnclaimed, after_job, after_settle, after_step, all_built, awaited_tiles, settling, steps_due}
+use Rattle.nav_level.proofs.StepLaws.{none_due, one_due}
 use Rattle.nav_level.proofs.Passing.{first_passing, others_passing, none_found, none_passes}
 
 -- where no tile is claimed, the least tile that can be claimed is the least awaited one
@@ -104,75 +104,74 @@ built_none : (book : BookState) → awaited_tiles book ≡ [] → all_built book
 unfolding all_built
 built_none book none = ap (fold after_job book) none
 
--- a turn of the loop over jobs: one tile is claimed and submitted, and what is left to build leads to the same book
+-- a turn of the loop over tiles: one is claimed, built and submitted, and what is left to build leads to the same book
 pub record IsTurn (book next : BookState) : Type 0 where
   pub free : IsUnclaimed next
   pub left : all_built next ≡ all_built book
   pub fewer : length (awaited_tiles book) ≡ length (awaited_tiles next) + 1
+  pub due : steps_due book ≡ 1
   pub whole : next.whole ≡ book.whole
+  pub history : next.history ≡ book.history
+  pub published : next.published ≡ book.published
 
-pub turn : (book after next : BookState) (given : Option Job) (job : Job) → IsUnclaimed book → IsBook after → given ≡ next_job book → given ≡ Some job
-    → after ≡ after_claim book → next ≡ after_submit after job.tile job.shapes → IsTurn book next
-turn book after next given job free kept next_is some claim submit = by_case (awaited_tiles book) refl
+-- where no tile is awaited, none can be claimed
+none_claimable : (book : BookState) → IsUnclaimed book → awaited_tiles book ≡ [] → least_claimable book ≡ None
+none_claimable book free none = least_same book free ∙ none_found (is_awaited book) (range_with_len 0 (tile_count book.whole.setting)) none
+
+pub turn : (book next : BookState) (given : Option ℕ) (tile : ℕ) → IsUnclaimed book → IsBook book → given ≡ least_claimable book → given ≡ Some tile
+    → next ≡ after_step book → IsTurn book next
+turn book next given tile free rules given_is some step = by_case (awaited_tiles book) refl
   where
-    lists : length book.stored ≡ tile_count book.whole.setting
-    lists = subst (λ (b : BookState). length b.stored ≡ tile_count b.whole.setting) claim kept.lists
-
     by_case : (tiles : List ℕ) → awaited_tiles book ≡ tiles → IsTurn book next
     by_case [] none =
-        let no_job : next_job book ≡ None =
-        ap (option_map (job_of book)) (least_same book free ∙ none_found (is_awaited book) (range_with_len 0 (tile_count book.whole.setting)) none) in
-        let e : Some job ≡ None = sym some ∙ next_is ∙ no_job in
+        let e : Some tile ≡ None = sym some ∙ given_is ∙ none_claimable book free none in
         absurd cc
-    by_case (tile ∷ more) are =
-        let its : next_job book ≡ Some (job_of book tile) = ap (option_map (job_of book)) (claimed_next book tile more free are) in
-        let e : Some job ≡ Some (job_of book tile) = sym some ∙ next_is ∙ its in
-        let same : job ≡ job_of book tile = cc in
-        let done = job_step book tile more lists free are in
-        let next_done : next ≡ after_job book tile = submit ∙ (λ i. after_submit (claim i) (same i).tile (same i).shapes) in
-        subst (λ (b : BookState). IsTurn book b) (sym next_done) (record {
+    by_case (first ∷ more) are =
+        let done = job_step book first more rules.lists free are in
+        let next_is : next ≡ after_job book first = step ∙ ap (λ (o : Option ℕ). option_map_or (after_job book) o book) (claimed_next book first more free are) in
+        subst (λ (b : BookState). IsTurn book b) (sym next_is) (record {
           free = done.free;
-          left = built_more book tile more are done.left;
+          left = built_more book first more are done.left;
           fewer = let all = ap length are in let rest = ap length done.left in omega (arith, all, rest);
+          due = one_due book first (claimed_next book first more free are);
           whole = done.whole;
+          history = refl;
+          published = refl;
         })
 
--- where a job is given, a tile is left
-pub one_left : (book : BookState) (given : Option Job) (job : Job) → IsUnclaimed book → given ≡ next_job book → given ≡ Some job
-    → 1 ≤ length (awaited_tiles book)
-one_left book given job free next_is some = by_case (awaited_tiles book) refl
+-- a step of the count for a tile that can be claimed is one for a tile that is awaited
+pub step_fits : (book : BookState) → IsUnclaimed book → steps_due book ≤ length (awaited_tiles book)
+step_fits book free = by_case (awaited_tiles book) refl
   where
-    by_case : (tiles : List ℕ) → awaited_tiles book ≡ tiles → 1 ≤ length (awaited_tiles book)
+    by_case : (tiles : List ℕ) → awaited_tiles book ≡ tiles → steps_due book ≤ length (awaited_tiles book)
     by_case [] none =
-        let no_job : next_job book ≡ None =
-        ap (option_map (job_of book)) (least_same book free ∙ none_found (is_awaited book) (range_with_len 0 (tile_count book.whole.setting)) none) in
-        let e : Some job ≡ None = sym some ∙ next_is ∙ no_job in
-        absurd cc
-    by_case (tile ∷ more) are = let all = ap length are in omega (arith, all)
+        let no = none_due book (none_claimable book free none) in
+        omega (arith, no)
+    by_case (first ∷ more) are =
+        let one = one_due book first (claimed_next book first more free are) in
+        let all = ap length are in
+        omega (arith, one, all)
 
--- no job is left: all is built, no tile is awaited, and the last claim changed nothing
+-- no tile is left: all is built, no tile is awaited, and the last step changed nothing
 pub record IsEnd (book : BookState) : Type 0 where
   pub built : all_built book ≡ book
   pub left : awaited_tiles book ≡ []
   pub none : least_awaited book ≡ None
-  pub same : after_claim book ≡ book
+  pub due : steps_due book ≡ 0
+  pub same : after_step book ≡ book
 
-pub turns_end : (book : BookState) (given : Option Job) → IsUnclaimed book → given ≡ next_job book → given ≡ None → IsEnd book
-turns_end book given free next_is none = by_case (least_claimable book) refl
-  where
-    by_case : (o : Option ℕ) → least_claimable book ≡ o → IsEnd book
-    by_case None nothing =
-        let left : awaited_tiles book ≡ [] =
-        none_passes (is_awaited book) (range_with_len 0 (tile_count book.whole.setting)) (sym (least_same book free) ∙ nothing) in
-        record {
-          built = built_none book left;
-          left = left;
-          none = sym (least_same book free) ∙ nothing;
-          same = λ i. record book { claimed = option_map_or (λ (tile : ℕ). set book.claimed tile true) (nothing i) book.claimed };
-        }
-    by_case (Some tile) is =
-        let e : Some (job_of book tile) ≡ None = sym (ap (option_map (job_of book)) is) ∙ sym next_is ∙ none in
-        absurd cc
+pub turns_end : (book : BookState) (given : Option ℕ) → IsUnclaimed book → given ≡ least_claimable book → given ≡ None → IsEnd book
+turns_end book given free given_is none =
+    let nothing : least_claimable book ≡ None = sym given_is ∙ none in
+    let left : awaited_tiles book ≡ [] =
+    none_passes (is_awaited book) (range_with_len 0 (tile_count book.whole.setting)) (sym (least_same book free) ∙ nothing) in
+    record {
+      built = built_none book left;
+      left = left;
+      none = sym (least_same book free) ∙ nothing;
+      due = none_due book nothing;
+      same = ap (λ (o : Option ℕ). option_map_or (after_job book) o book) nothing;
+    }
 
 -- what is built keeps the target, and once no tile is awaited a publish shows it
 jobs_target : (book : BookState) (tiles : List ℕ) → (fold after_job book tiles).target ≡ book.target

@@ -22,6 +22,10 @@ after_job book tile = after_submit (after_claim book) tile (wanted_at book tile)
 abbrev pub after_step : BookState → BookState
 after_step book = option_map_or (after_job book) (least_claimable book) book
 
+-- how many steps the count of builds takes with it
+abbrev pub steps_due : BookState → ℕ
+steps_due book = option_map_or (λ (tile : ℕ). 1) (least_claimable book) 0
+
 -- no tile is claimed
 pub record IsUnclaimed (book : BookState) : Type 0 where
   pub at : (tile : ℕ) → is_claimed book tile ≡ false

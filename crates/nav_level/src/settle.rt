@@ -1,10 +1,9 @@
 //! How everything that a history asks for is built and published, by single steps of the level.
 
-ghost use Rattle.std.specs.Prelude.{◌≡◌, ℕ, ◌+◌, None, length, IfOk, OnOk, OnErr};
-ghost use Rattle.std.specs.Option.{option_map_or};
+ghost use Rattle.std.specs.Prelude.{◌≡◌, ◌+◌, None, length, IfOk, OnOk, OnErr};
 ghost use Rattle.nav_desk.specs.BookState.{IsBook, least_awaited, least_claimable};
 ghost use Rattle.nav_steps.specs.Counts.{HasRisenAtMost};
-ghost use Rattle.nav_level.specs.Settling.{IsUnclaimed, after_settle, after_step, all_built, awaited_tiles, settling};
+ghost use Rattle.nav_level.specs.Settling.{IsUnclaimed, after_settle, after_step, all_built, awaited_tiles, settling, steps_due};
 
 use crate::job_build::build_job;
 use crate::level::Level;
@@ -15,7 +14,8 @@ use std::sync::ledger::Ledger;
 
 impl Level {
     /// Puts every job back, builds every tile that is awaited for the whole history, with one step each, and publishes the history, whose
-    /// length it gives. No tile is claimed then. Where memory is refused, some of that is done.
+    /// length it gives. No tile is claimed then, also where memory is refused: then
+    /// some of that is done.
     pub fn settle<L: Ledger>(
         &mut self,
         alloc: Global,
@@ -27,7 +27,7 @@ impl Level {
         ensures shown { OnOk result (self.new.published ≡ length self.old.history) }
         ensures whole { self.new.whole ≡ self.old.whole }
         ensures history { self.new.history ≡ self.old.history }
-        ensures free { OnOk result (IsUnclaimed self.new) }
+        ensures free { IsUnclaimed self.new }
         ensures steps { OnOk result (steps.new ≡ steps.old + length (awaited_tiles (settling self.old))) }
         ensures most { HasRisenAtMost (length (awaited_tiles (settling self.old))) steps.old steps.new }
 
@@ -40,7 +40,8 @@ impl Level {
     }
 
     /// Puts every job back, makes the whole history the target, whose length it gives, and builds every tile that is awaited for it, with one
-    /// step each; to publish it is all that is left. No tile is claimed then. Where memory is refused, some of that is done.
+    /// step each; to publish it is all that is left. No tile is claimed then, also where memory is refused: then
+    /// some of that is done.
     pub fn build_target<L: Ledger>(
         &mut self,
         alloc: Global,
@@ -49,7 +50,7 @@ impl Level {
         ensures length { IfOk result (λ k. k ≡ length self.old.history) }
         ensures built { OnOk result (self.new ≡ all_built (settling self.old)) }
         ensures none { OnOk result (least_awaited self.new ≡ None) }
-        ensures free { OnOk result (IsUnclaimed self.new) }
+        ensures free { IsUnclaimed self.new }
         ensures steps { OnOk result (steps.new ≡ steps.old + length (awaited_tiles (settling self.old))) }
         ensures most { HasRisenAtMost (length (awaited_tiles (settling self.old))) steps.old steps.new }
         ensures whole { self.new.whole ≡ self.old.whole }
@@ -72,8 +73,8 @@ impl Level {
     ) -> Result<Option<TileNo>, AllocError>
         ensures tile { IfOk result (λ tile. tile ≡ least_claimable self.old) }
         ensures stepped { OnOk result (self.new ≡ after_step self.old) }
-        ensures steps { IfOk result (λ tile. steps.new ≡ option_map_or (λ (t : ℕ). steps.old + 1) tile steps.old) }
-        ensures most { HasRisenAtMost 1 steps.old steps.new }
+        ensures steps { OnOk result (steps.new ≡ steps.old + steps_due self.old) }
+        ensures most { HasRisenAtMost (steps_due self.old) steps.old steps.new }
         ensures refused { OnErr result (self.new ≡ self.old) }
         ensures rules { IsBook self.new }
     {
@@ -100,9 +101,10 @@ impl Level {
         steps: &mut Steps<L>,
     ) -> Result<(), AllocError>
         requires free { IsUnclaimed self.old }
+        requires rules { IsBook self.old }
         ensures built { OnOk result (self.new ≡ all_built self.old) }
         ensures none { OnOk result (least_awaited self.new ≡ None) }
-        ensures free { OnOk result (IsUnclaimed self.new) }
+        ensures free { IsUnclaimed self.new }
         ensures steps { OnOk result (steps.new ≡ steps.old + length (awaited_tiles self.old)) }
         ensures most { HasRisenAtMost (length (awaited_tiles self.old)) steps.old steps.new }
         ensures whole { self.new.whole ≡ self.old.whole }
@@ -110,10 +112,7 @@ impl Level {
         ensures published { self.new.published ≡ self.old.published }
         ensures rules { IsBook self.new }
     {
-        while let Some(job) = self.claim(alloc)? {
-            let mesh = build_job(alloc, self.level(), &job, steps)?;
-            let _ = self.submit(job, mesh);
-        }
+        while let Some(_tile) = self.step(alloc, steps)? {}
         Ok(())
     }
 }

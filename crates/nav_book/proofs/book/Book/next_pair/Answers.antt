@@ -7,8 +7,8 @@ use Rattle.nav_desk.specs.Renewal.{AddsAgain}
 use Rattle.nav_book.proofs.Opening.{version_is}
 use Rattle.nav_book.proofs.book.Book.next_pair.Goals as goal
 
-pub pair-press-requires : goal.pair-press-requires
-pair-press-requires g c =
+pub pair-requires : goal.pair-requires
+pair-requires g c =
     let few = c.in_ok-entries.ensures.rules.few in
     version_is c.self.inside.level.whole c.in_ok-entries.entries
     (record { ground = c.in_ok-try_clone.field-0; entries = c.in_ok-of.field-0; mesh = c.in_ok-shared_mesh.field-0 }) c.self.invariant.rules.level

@@ -20,3 +20,10 @@ invariant_of-self-2 g c =
 pub returns-clause-book : goal.returns-clause-book
 returns-clause-book g c =
     c.in_ok-publish.ensures.published ∙ ap after_publish c.in_ok-k.ensures.built ∙ ap (λ (s : BookState). after_publish (all_built (settling s))) (ap (λ v. v.state) c.self.view_is)
+
+pub returns-clause-shown : goal.returns-clause-shown
+returns-clause-shown g c =
+    ap (λ (s : BookState). s.published) (returns-clause-book g c)
+    ∙ settled_shows c.args.self.now.state
+    (subst (λ (s : BookState). least_awaited s ≡ None)
+    (c.in_ok-k.ensures.built ∙ ap (λ (s : BookState). all_built (settling s)) (ap (λ v. v.state) c.self.view_is)) c.in_ok-k.ensures.none)

@@ -1,11 +1,13 @@
 use Rattle.std.proofs.Common.{◌≡◌, ◌+◌, ◌≤◌, length}
+use Rattle.nav_desk.specs.BookState.{IsBook}
 use Rattle.nav_level.specs.Settling.{IsUnclaimed, all_built, awaited_tiles}
 use Rattle.nav_level.proofs.level.Level.build_all.Given as goal
 
 -- what is left to build leads to the same book, and its steps to the same count
-abbrev pub invariant-loop-job : goal.invariant-loop-job
-invariant-loop-job g l = record {
+abbrev pub invariant-loop-tile : goal.invariant-loop-tile
+invariant-loop-tile g l = record {
   free : IsUnclaimed l.self;
+  rules : IsBook l.self;
   left : all_built l.self ≡ all_built l.fn.self;
   count : l.steps + length (awaited_tiles l.self) ≡ l.fn.steps + length (awaited_tiles l.fn.self);
   whole : l.self.whole ≡ l.fn.self.whole;
@@ -14,5 +16,5 @@ invariant-loop-job g l = record {
   least : l.fn.steps ≤ l.steps;
 }
 
-abbrev pub decreases-loop-job : goal.decreases-loop-job
-decreases-loop-job g l = length (awaited_tiles l.self)
+abbrev pub decreases-loop-tile : goal.decreases-loop-tile
+decreases-loop-tile g l = length (awaited_tiles l.self)

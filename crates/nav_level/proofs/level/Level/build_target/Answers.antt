@@ -10,7 +10,7 @@ due : (at book : BookState) (m n : ℕ) → at ≡ book → HasRisenAtMost (leng
 due at book m n is risen = subst (λ (b : BookState). HasRisenAtMost (length (awaited_tiles b)) m n) is risen
 
 pub build_all-requires : goal.build_all-requires
-build_all-requires g c = record { free = subst IsUnclaimed (sym c.aim-k.ensures.aimed) (record { at = c.put_back_all.ensures.free.at }) }
+build_all-requires g c = record { free = subst IsUnclaimed (sym c.aim-k.ensures.aimed) (record { at = c.put_back_all.ensures.free.at }); rules = c.aim-k.ensures.rules }
 
 pub returns-in_err-build_all-clause-most : goal.returns-in_err-build_all-clause-most
 returns-in_err-build_all-clause-most g c = due _ _ _ _ (c.aim-k.ensures.aimed ∙ ap after_aim c.put_back_all.ensures.back) c.build_all.ensures.most
