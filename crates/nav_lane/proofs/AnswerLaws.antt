@@ -14,7 +14,7 @@ use Rattle.nav_script.specs.declared.line.Line.TheVariants.{Ask, Add, Remove, Un
 use Rattle.nav_book.proofs.GroundTiles.{build_of-append}
 use Rattle.nav_lane.specs.declared.said.Said.{Said}
 use Rattle.nav_lane.specs.declared.said.Said.TheVariants.{Replied, Answered, Settled, Walked, NoWalker}
-use Rattle.nav_lane.specs.LaneRecords.{Spoken, AreAnswers, CoverEntries, HasGone, IsAnswered, IsPlaced, IsSaid, IsSettled, NeverFall, last_number, length_told, lengths_told, number_after}
+use Rattle.nav_lane.specs.LaneRecords.{Spoken, AreAnswers, CoverEntries, IsAnswered, IsSaid, IsSettled, MayNameLength, NamesLength, NeverFall, last_number, length_told, lengths_told, number_after}
 
 -- a beginning of a list is no longer than the list
 pub IsPrefix-length : {A : Type 0} (xs ys : List A) → IsPrefix xs ys → length xs ≤ length ys
@@ -35,14 +35,14 @@ settled_later history more (Replied number reply) is = is
 settled_later history more (Walked k answer) is = is
 settled_later history more NoWalker is = is
 
-placed_later : (history more : List Entry) (said : Said) → IsPlaced history said → IsPlaced (history ++ more) said
+placed_later : (history more : List Entry) (said : Said) → NamesLength history said → NamesLength (history ++ more) said
 placed_later history more (Walked k answer) is = omega (arith, is, length-append history more)
 placed_later history more (Replied number reply) is = is
 placed_later history more (Answered k answer) is = is
 placed_later history more (Settled k) is = is
 placed_later history more NoWalker is = is
 
-gone_later : (history more : List Entry) (said : Said) → HasGone history said → HasGone (history ++ more) said
+gone_later : (history more : List Entry) (said : Said) → MayNameLength history said → MayNameLength (history ++ more) said
 gone_later history more (Walked k answer) is = omega (arith, is, length-append history more)
 gone_later history more (Replied number reply) is = is
 gone_later history more (Answered k answer) is = is

@@ -82,14 +82,14 @@ IsReplied (Replied number reply) = ⊤
 IsReplied _ = ⊥
 
 -- a `send` names a length of the history, and a `march` does or tells that there is no walker; what else they are told, the lines before them say
-abbrev pub IsPlaced : List Entry → Said → Type 0
-IsPlaced history (Walked k answer) = k ≤ length history
-IsPlaced history _ = ⊥
+abbrev pub NamesLength : List Entry → Said → Type 0
+NamesLength history (Walked k answer) = k ≤ length history
+NamesLength history _ = ⊥
 
-abbrev pub HasGone : List Entry → Said → Type 0
-HasGone history (Walked k answer) = k ≤ length history
-HasGone history NoWalker = ⊤
-HasGone history _ = ⊥
+abbrev pub MayNameLength : List Entry → Said → Type 0
+MayNameLength history (Walked k answer) = k ≤ length history
+MayNameLength history NoWalker = ⊤
+MayNameLength history _ = ⊥
 
 -- what a line may be answered; lines that lead workers, declare jumps, ask for hop walks or name lanes are none that a lane runs
 abbrev pub IsSaid : Ground → List Entry → Line → Said → Type 0
@@ -98,8 +98,8 @@ IsSaid whole history (Add shape) said = IsReplied said
 IsSaid whole history (Remove number) said = IsReplied said
 IsSaid whole history (Undo j) said = IsReplied said
 IsSaid whole history Settle said = IsSettled history said
-IsSaid whole history (Send from from_y to to_y) said = IsPlaced history said
-IsSaid whole history (March far) said = HasGone history said
+IsSaid whole history (Send from from_y to to_y) said = NamesLength history said
+IsSaid whole history (March far) said = MayNameLength history said
 IsSaid whole history _ said = ⊥
 
 -- the number of the last entry that these lines left; 0 where they left none
@@ -159,7 +159,7 @@ standing_after standing (Send from from_y to to_y) (Walked k answer) = standing_
 standing_after standing (March far) (Walked k answer) = option_and_then (λ (s : Standing). standing_of k s.goal s.goal_y answer) standing
 standing_after standing _ _ = standing
 
--- the walker after lines, the first of which find this one
+-- the walker after a line with what it was told, and after all lines of a lane, the first of which finds none
 abbrev pub standing_with : Option Standing → Spoken → Option Standing
 standing_with standing one = standing_after standing one.0 one.1
 
