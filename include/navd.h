@@ -21,7 +21,8 @@
  *
  * Memory comes from three functions that the host provides (hosts/c/heap.c has them over malloc). They come from one allocator, align blocks to
  * `align`, which is a power of two up to 16, and are called from no signal handler. Where memory is refused, `ok` is false, `block` is any
- * address that is not null, and a block that was to be made another size is as it was; a size may be 0.
+ * address that is not null, and a block that was to be made another size is as it was; a size may be 0. Where levels are in calls on several
+ * threads, the three are called from these at once.
  *     typedef struct { bool ok; void *block; } navd_tried;
  *     navd_tried rattle_alloc(size_t size, size_t align);
  *     navd_tried rattle_realloc(void *block, size_t kept, size_t size, size_t align);
@@ -45,12 +46,13 @@ extern "C" {
 #define NAVD_TOO_MANY 5u      /* as many obstacles are alive as may be: the entry was made, and no obstacle */
 #define NAVD_DEAD 6u          /* no obstacle with this number is alive: the entry was made, and nothing went */
 #define NAVD_HISTORY_FULL 7u  /* the history has 262144 entries, the most that it can have; nothing was done */
-#define NAVD_NOT_YET 8u       /* a tile is still awaited; nothing was done */
+#define NAVD_NOT_YET 8u       /* something is not built or published yet; nothing was done */
 #define NAVD_SAME 9u          /* it was so before; nothing was done */
 #define NAVD_NO_START 10u     /* no polygon holds the place where the path or the ray begins */
 #define NAVD_NO_GOAL 11u      /* no polygon holds the place where the path ends */
 #define NAVD_NO_PATH 12u      /* both places are held, and no walk joins them */
 #define NAVD_WALL 13u         /* the ray ends at an edge */
+#define NAVD_NO_ROOM 14u      /* there is too little room for what is told; nothing was done */
 
 /* A handle of a level. Zeroed, it holds nothing: navd_level level = {0}; */
 typedef struct {
@@ -158,7 +160,8 @@ uint32_t navd_remove(navd_level *level, uint32_t number, uint32_t *entry);
 /* == Building == */
 
 /* Builds all that the history asks for and publishes it; how many entries that are is left at `published`.
- * NAVD_OK. NAVD_EMPTY. NAVD_NO_MEMORY: some tiles may be built; what is published, and the history, are as they were. */
+ * NAVD_OK. NAVD_EMPTY. NAVD_NO_MEMORY: the whole history may be the target, and some of its tiles built, and navd_step builds on from there;
+ * what is published, and the history, are as they were. */
 uint32_t navd_settle(navd_level *level, uint32_t *published);
 
 /* Makes the whole history the target, up to which tiles are built from now on; its length is left at `target`. No memory is taken.
@@ -173,6 +176,13 @@ uint32_t navd_step(navd_level *level, uint32_t *tile);
  * NAVD_OK. NAVD_SAME: the target was published before. NAVD_NOT_YET: at `number` is left the least tile that is awaited. NAVD_EMPTY.
  * NAVD_NO_MEMORY: nothing was done. */
 uint32_t navd_publish(navd_level *level, uint32_t *number);
+
+/* Begins the history again, where all of it is published: it has one entry then for each obstacle that is alive, in the order of their numbers,
+ * and so the number of each is from then on its place in the list of the numbers that they had, from 1. That list is laid into `numbers`, and
+ * how many there are, never more than the field text's limit, is left at `count`. Nothing is built, and the published mesh is the same. A host
+ * that runs for long does this before its history is full.
+ * NAVD_OK. NAVD_NOT_YET: not all of the history is published. NAVD_NO_ROOM: only `count` was left. NAVD_EMPTY. NAVD_NO_MEMORY. */
+uint32_t navd_renew(navd_level *level, uint32_t *numbers, size_t room, size_t *count);
 
 /* == Questions, which are answered from what is published ==
  * They change nothing. */

@@ -46,7 +46,7 @@ static bool is_one_of(uint32_t status, const char *name, const uint32_t *allowed
     is_one_of(status, name, (const uint32_t[]){__VA_ARGS__}, sizeof((const uint32_t[]){__VA_ARGS__}) / sizeof(uint32_t))
 
 static navd_level first, second, empty;
-static uint32_t entries, made_by[NAVD_WALL + 1];
+static uint32_t entries, made_by[NAVD_NO_ROOM + 1];
 static uint32_t alive[1024], alive_count;
 
 static bool is_block(const navd_block *b) {
@@ -106,6 +106,22 @@ static void build(void) {
     }
 }
 
+/* Now and then both histories begin again. */
+static void renew(void) {
+    uint32_t numbers[1024], others[1024], told;
+    size_t count = 0, other = 0, room = pick(3) ? 1024 : pick(4);
+    uint32_t status = navd_renew(&first, numbers, room, &count);
+    made_by[status]++;
+    ENDS(status, "navd_renew", NAVD_OK, NAVD_NOT_YET, NAVD_NO_ROOM);
+    if (status == NAVD_NO_ROOM && (count != alive_count || count <= room)) ENDS(status, "the count of a renewal", NAVD_OK);
+    if (status != NAVD_OK) return;
+    ENDS(navd_settle(&second, &told), "the second level", NAVD_OK);
+    ENDS(navd_renew(&second, others, 1024, &other), "the second level", NAVD_OK);
+    if (count != alive_count || count != other || memcmp(numbers, others, count * sizeof *numbers)) ENDS(status, "the numbers of a renewal", NAVD_EMPTY);
+    for (uint32_t i = 0; i < count; i++) alive[i] = i + 1;
+    entries = (uint32_t)count;
+}
+
 static void question(void) {
     navd_floor floors[2];
     navd_link links[3];
@@ -153,6 +169,7 @@ static void of_empty(void) {
     ENDS(navd_find_path(&empty, &way, links, 1, turns, 1, &path), "an empty handle", NAVD_EMPTY);
     ENDS(navd_cast_ray(&empty, &way, &ray), "an empty handle", NAVD_EMPTY);
     ENDS(navd_count(&empty, &counts), "an empty handle", NAVD_EMPTY);
+    ENDS(navd_renew(&empty, &told, 1, &count), "an empty handle", NAVD_EMPTY);
 }
 
 /* The two levels show the same. */
@@ -196,12 +213,12 @@ int main(int argc, char **words) {
     for (long calls = atol(words[2]); calls > 0; calls--) switch (pick(8)) {
         case 0: of_empty(); break;
         case 1: case 2: case 3: request(); break;
-        case 4: case 5: build(); break;
+        case 4: case 5: pick(5) ? build() : renew(); break;
         default: question();
         }
     agree();
     printf("%" PRIu32 " entries alike; ended so often with each status:", entries);
-    for (size_t i = 0; i <= NAVD_WALL; i++) printf(" %" PRIu32, made_by[i]);
+    for (size_t i = 0; i <= NAVD_NO_ROOM; i++) printf(" %" PRIu32, made_by[i]);
     putchar('\n');
     navd_close(&first);
     navd_close(&second);

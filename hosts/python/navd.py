@@ -16,10 +16,10 @@ from ctypes import POINTER, Structure, byref, c_int32, c_int64, c_size_t, c_uint
 from dataclasses import dataclass
 from pathlib import Path
 
-OK, NO_MEMORY, EMPTY, FAULTY, OUT_OF_RANGE, TOO_MANY, DEAD, HISTORY_FULL, NOT_YET, SAME, NO_START, NO_GOAL, NO_PATH, WALL = range(14)
+OK, NO_MEMORY, EMPTY, FAULTY, OUT_OF_RANGE, TOO_MANY, DEAD, HISTORY_FULL, NOT_YET, SAME, NO_START, NO_GOAL, NO_PATH, WALL, NO_ROOM = range(15)
 
 NAMES = ("ok", "no memory", "empty handle", "faulty text", "number out of range", "too many obstacles", "no such obstacle", "history full",
-         "a tile is awaited", "same as before", "no start", "no goal", "no path", "wall")
+         "a tile is awaited", "same as before", "no start", "no goal", "no path", "wall", "no room")
 
 
 class NavdError(Exception):
@@ -187,6 +187,7 @@ def _library():
         "navd_aim": [handle, number],
         "navd_step": [handle, number],
         "navd_publish": [handle, number],
+        "navd_renew": [handle, number, c_size_t, POINTER(c_size_t)],
         "navd_floors": [handle, c_uint32, c_uint32, POINTER(_Floor), c_size_t, POINTER(c_size_t)],
         "navd_find_path": [handle, POINTER(_Way), POINTER(_Link), c_size_t, POINTER(_Turn), c_size_t, POINTER(_Path)],
         "navd_cast_ray": [handle, POINTER(_Way), POINTER(_Ray)],
@@ -263,6 +264,14 @@ class Level:
     def publish(self):
         """How many entries are published; a NavdError while a tile is awaited."""
         return self._number(self._calls.navd_publish, allowed=(OK, SAME))[1]
+
+    def renew(self):
+        """Begins the history again: the numbers that the obstacles had, of which the n-th has the number n from then on."""
+        numbers, count = (c_uint32 * 1024)(), c_size_t()
+        status = self._calls.navd_renew(byref(self._handle), numbers, len(numbers), byref(count))
+        if status:
+            raise NavdError(status)
+        return list(numbers[:count.value])
 
     def floors(self, x, z):
         """The floors of a column, from the bottom up."""

@@ -6,3 +6,4 @@ pub mod Telling
 pub mod Answers
 pub mod Opening
 pub mod Counts
+pub mod Renewing

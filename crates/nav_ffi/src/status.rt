@@ -28,3 +28,5 @@ pub const NO_GOAL: u32 = 11;
 pub const NO_PATH: u32 = 12;
 /// The ray ends at an edge.
 pub const WALL: u32 = 13;
+/// There is too little room for what is told.
+pub const NO_ROOM: u32 = 14;

@@ -31,6 +31,8 @@ pub enum Error {
     HistoryFull,
     /// This tile is still awaited.
     NotYet { tile: u32 },
+    /// Not all of the history is published.
+    NotPublished,
 }
 
 impl fmt::Display for Error {
@@ -43,6 +45,7 @@ impl fmt::Display for Error {
             Error::NoSuchObstacle => write!(f, "no obstacle with this number is alive"),
             Error::HistoryFull => write!(f, "the history is full"),
             Error::NotYet { tile } => write!(f, "tile {tile} is still awaited"),
+            Error::NotPublished => write!(f, "not all of the history is published"),
         }
     }
 }
@@ -162,6 +165,20 @@ impl Level {
             (sys::SAME, number) => Ok(number),
             (sys::NOT_YET, tile) => Err(Error::NotYet { tile }),
             ended => done(ended),
+        }
+    }
+
+    /// Begins the history again, where all of it is published: the numbers that the obstacles had, of which the n-th has the number n from then on.
+    pub fn renew(&mut self) -> Result<Vec<u32>, Error> {
+        let mut numbers = vec![0; 1024];
+        let mut count = 0;
+        match unsafe { sys::navd_renew(&mut self.handle, numbers.as_mut_ptr(), numbers.len(), &mut count) } {
+            sys::NOT_YET => Err(Error::NotPublished),
+            status => {
+                done((status, 0))?;
+                numbers.truncate(count);
+                Ok(numbers)
+            }
         }
     }
 

@@ -140,6 +140,7 @@ extern "C" {
     pub fn navd_aim(level: *mut Handle, target: *mut u32) -> u32;
     pub fn navd_step(level: *mut Handle, tile: *mut u32) -> u32;
     pub fn navd_publish(level: *mut Handle, number: *mut u32) -> u32;
+    pub fn navd_renew(level: *mut Handle, numbers: *mut u32, room: usize, count: *mut usize) -> u32;
     pub fn navd_floors(level: *mut Handle, x: u32, z: u32, floors: *mut Floor, room: usize, count: *mut usize) -> u32;
     pub fn navd_find_path(
         level: *mut Handle,
