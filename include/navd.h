@@ -21,7 +21,8 @@
  *
  * Memory comes from three functions that the host provides (hosts/c/heap.c has them over malloc). They come from one allocator, align blocks to
  * `align`, which is a power of two up to 16, and are called from no signal handler. Where memory is refused, `ok` is false, `block` is any
- * address that is not null, and a block that was to be made another size is as it was; a size may be 0.
+ * address that is not null, and a block that was to be made another size is as it was; a size may be 0. Where levels are in calls on several
+ * threads, the three are called from these at once.
  *     typedef struct { bool ok; void *block; } navd_tried;
  *     navd_tried rattle_alloc(size_t size, size_t align);
  *     navd_tried rattle_realloc(void *block, size_t kept, size_t size, size_t align);
@@ -159,7 +160,8 @@ uint32_t navd_remove(navd_level *level, uint32_t number, uint32_t *entry);
 /* == Building == */
 
 /* Builds all that the history asks for and publishes it; how many entries that are is left at `published`.
- * NAVD_OK. NAVD_EMPTY. NAVD_NO_MEMORY: some tiles may be built; what is published, and the history, are as they were. */
+ * NAVD_OK. NAVD_EMPTY. NAVD_NO_MEMORY: the whole history may be the target, and some of its tiles built, and navd_step builds on from there;
+ * what is published, and the history, are as they were. */
 uint32_t navd_settle(navd_level *level, uint32_t *published);
 
 /* Makes the whole history the target, up to which tiles are built from now on; its length is left at `target`. No memory is taken.

@@ -4,7 +4,7 @@ use Rattle.nav_desk.specs.declared.answers.Published.{Published}
 use Rattle.nav_desk.specs.declared.answers.Published.TheVariants.{New, Same, NotYet}
 use Rattle.nav_desk.specs.BookState.{BookState, least_claimable}
 use Rattle.nav_desk.specs.Steps.{after_aim, after_publish, publication}
-use Rattle.nav_level.specs.Settling.{after_job, after_settle}
+use Rattle.nav_level.specs.Settling.{IsUnclaimed, after_job, after_settle}
 use Rattle.nav_ffi.specs.declared.status.TheConstants as status
 
 -- how a step ended, which number it told, and what the handle holds then
@@ -44,11 +44,12 @@ abbrev pub stepped : Option BookState → ℕ → Ended
 stepped None before = not_done status.EMPTY before None
 stepped (Some state) before = stepped_by state before (least_claimable state)
 
--- or memory was refused, and nothing was done
+-- a step of what a handle holds: where there is a level memory may be refused, and then nothing was done
 abbrev pub UnlessRefused : Ended → Option BookState → ℕ → Ended → Type 0
-UnlessRefused wanted held before ended = (ended ≡ wanted) ⊎ (ended ≡ not_done status.NO_MEMORY before held)
+UnlessRefused wanted None before ended = ended ≡ wanted
+UnlessRefused wanted (Some state) before ended = (ended ≡ wanted) ⊎ (ended ≡ not_done status.NO_MEMORY before (Some state))
 
--- a settle that wanted memory: the ground, the history and what is published are as they were
+-- a settle that wanted memory: the ground, the history and what is published are as they were, and no tile is claimed, so that steps build on
 pub record IsCutShort (state : BookState) (before : ℕ) (ended : Ended) : Type 0 where
   pub status : ended.status ≡ status.NO_MEMORY
   pub number : ended.number ≡ before
@@ -57,6 +58,7 @@ pub record IsCutShort (state : BookState) (before : ℕ) (ended : Ended) : Type 
   pub whole : after.whole ≡ state.whole
   pub history : after.history ≡ state.history
   pub published : after.published ≡ state.published
+  pub free : IsUnclaimed after
 
 -- a settle of what a handle holds: all is built and published, unless memory is refused
 abbrev pub IsSettled : Option BookState → ℕ → Ended → Type 0

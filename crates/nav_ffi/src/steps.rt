@@ -2,7 +2,7 @@
 
 ghost use Rattle.std.specs.Prelude.{◌≡◌, ◌<◌, length, IfOk, OnErr, OnOk};
 ghost use Rattle.nav_desk.specs.BookState.{least_claimable};
-ghost use Rattle.nav_level.specs.Settling.{after_settle, after_step};
+ghost use Rattle.nav_level.specs.Settling.{IsUnclaimed, after_settle, after_step};
 ghost use Rattle.nav_ffi.specs.Steps.{IsSettled, UnlessRefused, aimed, stepped};
 
 use crate::handle::NavdLevel;
@@ -56,6 +56,7 @@ fn settle<L: Ledger>(alloc: Global, level: &mut Level, blank: Blank) -> Result<u
     ensures level { OnOk result (level.new ≡ after_settle level.old) }
     ensures whole { level.new.whole ≡ level.old.whole }
     ensures history { level.new.history ≡ level.old.history }
+    ensures free { IsUnclaimed level.new }
     ensures refused { OnErr result (level.new.published ≡ level.old.published) }
 {
     let mut steps = Steps::<L>::new(blank);
