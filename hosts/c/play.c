@@ -155,13 +155,21 @@ static void take_away(uint32_t number) {
     tell_entry(status, entry, "removed", number, 0);
 }
 
+/* What a settle does, tile by tile: also where a settle was cut short. */
+static uint32_t step_on(uint32_t *number) {
+    uint32_t status, tile;
+    navd_aim(&level, number);
+    while (AGAIN(navd_step(&level, &tile)) == NAVD_OK) {}
+    return AGAIN(navd_publish(&level, number));
+}
+
 static void build(const char *word) {
     uint32_t status, number = 0;
     if (!strcmp(word, "aim")) {
         AGAIN(navd_aim(&level, &number));
         printf("aim %" PRIu32 "\n", number);
     } else if (!strcmp(word, "settle")) {
-        AGAIN(navd_settle(&level, &number));
+        if (navd_settle(&level, &number) == NAVD_NO_MEMORY) step_on(&number);
         published = number;
         printf("settled %" PRIu32 "\n", number);
     } else {
