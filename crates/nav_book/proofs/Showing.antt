@@ -1,5 +1,5 @@
 -- What a level publishes next, and what its press shows then.
-use Rattle.std.proofs.Common.{◌≡◌, ℕ, List, [], ◌∷◌, ◌++◌, length, take, take-add, ◌-◌, ap, ◌∙◌, refl, sym, subst, arith, Result, Ok, Err}
+use Rattle.std.proofs.Common.{◌≡◌, ℕ, List, [], ◌∷◌, ◌++◌, length, take, take-add, ◌-◌, ap, ◌∙◌, refl, sym, arith, Result, Ok, Err}
 use Rattle.std.specs.Prelude.{slice_range, OnOk, OnErr}
 use Rattle.std.proofs.lemmas.List.{length-take-le, take-append-le, take_all}
 use Rattle.nav_ground.specs.declared.history.Entry.{Entry}

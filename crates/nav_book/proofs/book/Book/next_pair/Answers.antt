@@ -1,9 +1,4 @@
-use Rattle.std.proofs.Common.{◌≡◌, ◌∙◌, List, ap, sym, subst, length, arith, rules}
-use Rattle.std.specs.Prelude.{replicate}
-use Rattle.nav_ground.specs.declared.history.Entry.{Entry}
-use Rattle.nav_ground.specs.History.{alive_after}
-use Rattle.nav_version.specs.Pairs.{eye_of}
-use Rattle.nav_desk.specs.Renewal.{AddsAgain}
+use Rattle.std.proofs.Common.{◌∙◌, sym, arith, rules}
 use Rattle.nav_book.proofs.Opening.{version_is}
 use Rattle.nav_book.proofs.book.Book.next_pair.Goals as goal
 

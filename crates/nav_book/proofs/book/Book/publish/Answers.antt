@@ -1,4 +1,4 @@
-use Rattle.std.proofs.Common.{◌≡◌, ◌∙◌, ap, subst, sym}
+use Rattle.std.proofs.Common.{◌∙◌, ap, subst, sym}
 use Rattle.std.specs.Prelude.{slice_range}
 use Rattle.mesh_types.specs.Soundness.{IsSound}
 use Rattle.nav_desk.specs.BookState.{BookState}

@@ -3,7 +3,6 @@ use Rattle.nav_desk.specs.BookState.{BookState, least_awaited}
 use Rattle.nav_desk.specs.Steps.{after_publish}
 use Rattle.nav_book.specs.Settling.{all_built, settling}
 use Rattle.nav_level.proofs.JobLaws.{settled_shows}
-use Rattle.nav_level.proofs.Settled.{settled_history, settled_whole}
 use Rattle.nav_book.proofs.Showing.{shown_same}
 use Rattle.nav_book.proofs.book.Book.settle.Goals as goal
 
