@@ -1,6 +1,6 @@
 #!/bin/sh
-# Times marches in strips: 400 questions for the path from one end to the other of a hall of 8 by 1004 columns, with a wall at every tenth row
-# that leaves a gap at one side and then at the other, so that the way has 1001 links and turns at each wall; and 400 marches along it from the
+# Times marches in strips: 4000 questions for the path from one end to the other of a hall of 8 by 1004 columns, with a wall at every tenth row
+# that leaves a gap at one side and then at the other, so that the way has 1001 links and turns at each wall; and 4000 marches along it from the
 # same place, of random lengths. Prints the microseconds of each, from the least processor time of nine runs, less that of reading and building.
 # Fails where a march takes more than 1.2 times the question; and where `part` tries more than 3 steps a call on corridors of strips, which
 # tries.py counts. usage: bench/walks.sh
@@ -31,13 +31,13 @@ seconds() {
 }
 
 made=$(seconds 4 0)
-asked=$(seconds 4 400)
+asked=$(seconds 4 4000)
 cat "$work/output"
-marched=$(seconds 5 400)
+marched=$(seconds 5 4000)
 cat "$work/output"
 status=0
 awk -v made="$made" -v asked="$asked" -v marched="$marched" 'BEGIN {
-    printf "%.0f microseconds a question, %.0f a march: %.2f times\n", (asked - made) * 2500, (marched - made) * 2500, (marched - made) / (asked - made)
+    printf "%.0f microseconds a question, %.0f a march: %.2f times\n", (asked - made) * 250, (marched - made) * 250, (marched - made) / (asked - made)
     exit !(marched - made <= 1.2 * (asked - made))
 }' || status=1
 python3 bench/tries.py || status=1
