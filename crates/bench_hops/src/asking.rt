@@ -9,6 +9,7 @@ ghost use Rattle.mesh_types.specs.Soundness.{IsSound};
 ghost use Rattle.off_links.specs.Leaps.{HasJumpCoordinates};
 ghost use Rattle.off_links.specs.Questions.{CanHop};
 
+use crate::ends::{has_coordinates, links_between_ends};
 use crate::level::level;
 use crate::plain::steps_of_plain;
 use crate::random::Random;
@@ -66,7 +67,7 @@ pub fn measured<L: Ledger>(alloc: Global, input: &[u8], blank: Blank) -> Outcome
         return Outcome::Fault;
     };
     let wanted = Wanted {
-        way: read_number(way, 3).unwrap_or(1),
+        way: read_number(way, 5).unwrap_or(1),
         count: read_number(count, 1000000).unwrap_or(0),
         jumps: read_number(jumps, 256).unwrap_or(0),
     };
@@ -115,13 +116,32 @@ fn asked(alloc: Global, mesh: &Mesh, wanted: Wanted) -> Result<Made, AllocError>
     }
     let mut random = Random { state: 7 };
     for _place in 0..wanted.count {
-        let question = question(alloc, &mut random, &mesh.setting, wanted.jumps)?;
-        if let Some(steps) = steps_by(alloc, mesh, &question, wanted.way)? {
+        if let Some(steps) = steps_of(alloc, mesh, &mut random, wanted)? {
             made.walks = made.walks.wrapping_add(1);
             made.steps = made.steps.wrapping_add(steps);
         }
     }
     Ok(made)
+}
+
+/// How many steps the way has that answers one question.
+fn steps_of(
+    alloc: Global,
+    mesh: &Mesh,
+    random: &mut Random,
+    wanted: Wanted,
+) -> Result<Option<usize>, AllocError>
+    requires sound { IsSound mesh.now }
+    requires setting { IsSetting mesh.now.setting }
+{
+    match wanted.way {
+        4 => links_between_ends(alloc, mesh, None),
+        5 => links_between_ends(alloc, mesh, Some(random.length(&mesh.setting))),
+        way => {
+            let question = question(alloc, random, &mesh.setting, wanted.jumps)?;
+            steps_by(alloc, mesh, &question, way)
+        }
+    }
 }
 
 /// A question between random points. Its jumps are the same in all questions, and too dear to be of use.
@@ -183,13 +203,6 @@ fn steps_by(
         Some(corridor) => Ok(Some(corridor.links.len())),
         None => Ok(None),
     }
-}
-
-/// Whether a point has coordinates.
-fn has_coordinates(p: Point) -> bool
-    ensures { IsTrue result → HasCoordinates p }
-{
-    -65536 <= p.x && p.x <= 65536 && -65536 <= p.z && p.z <= 65536
 }
 
 /// Whether each jump's points have coordinates.

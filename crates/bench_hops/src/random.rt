@@ -26,4 +26,9 @@ impl Random {
         let z = self.below(setting.depth.wrapping_mul(16));
         Point { x, z }
     }
+
+    /// A length up to a field's depth, in sixteenths.
+    pub fn length(&mut self, setting: &Setting) -> u32 {
+        u32::try_from(self.below(setting.depth.wrapping_mul(16))).unwrap_or(0)
+    }
 }

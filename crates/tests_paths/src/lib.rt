@@ -30,3 +30,5 @@ mod rows;
 mod settings;
 #[cfg(test)]
 mod versions;
+#[cfg(test)]
+mod walkers;

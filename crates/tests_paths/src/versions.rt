@@ -46,10 +46,10 @@ const SETTING: Setting = Setting {
     clear: false,
 };
 
-/// A block over the column (2, 2), and the entry that adds it.
+/// A block over all columns (x, 2), and the entry that adds it.
 const BLOCK: Shape = Shape::Block {
-    x0: 2,
-    x1: 2,
+    x0: 0,
+    x1: 5,
     y0: 0,
     y1: 100,
     z0: 2,
@@ -62,7 +62,7 @@ const ADDED: Entry = Entry {
     reply: Reply::Added { number: 1 },
 };
 
-fn level(alloc: Global) -> Result<Ground, AllocError>
+pub(crate) fn level(alloc: Global) -> Result<Ground, AllocError>
     ensures rules { IfOk result IsGround }
     ensures setting { IfOk result (λ level. level.setting ≡ SETTING) }
 {
@@ -86,7 +86,11 @@ fn opening_mesh<L: Ledger>(
 }
 
 /// The version of a ground without obstacles.
-fn opening<L: Ledger>(alloc: Global, level: Ground, blank: Blank) -> Result<Version, AllocError>
+pub(crate) fn opening<L: Ledger>(
+    alloc: Global,
+    level: Ground,
+    blank: Blank,
+) -> Result<Version, AllocError>
     requires level { IsGround level }
     requires name { blank.name ≡ L.name }
     requires parts { blank.parts ≡ L.parts }
@@ -144,7 +148,11 @@ fn covered<L: Ledger>(
 }
 
 /// The patch that publishes the block over the first version of a ground of one tile.
-fn covering<L: Ledger>(alloc: Global, version: &Version, blank: Blank) -> Result<Patch, AllocError>
+pub(crate) fn covering<L: Ledger>(
+    alloc: Global,
+    version: &Version,
+    blank: Blank,
+) -> Result<Patch, AllocError>
     requires rules { IsVersion version.now }
     requires none { version.now.entries ≡ [] }
     requires one { tile_count (arc_value version.now.ground).setting ≡ 1 }
@@ -178,7 +186,7 @@ fn count(answer: &Answer) -> usize {
     }
 }
 
-/// What the eyes see in the column of the block: the first one before the publishing, the second one once it learnt of it, and the first one
+/// What the eyes see in a column of the block: the first one before the publishing, the second one once it learnt of it, and the first one
 /// again, which was told nothing; and the length that was told, and what the second one says that it has seen.
 type Seen = ([Option<(u32, usize)>; 3], [u32; 2]);
 
