@@ -4,13 +4,14 @@
 #     hosts/check.sh [LIBRARY]        the archive; else where `rt lib` of crates/nav_ffi leaves it
 #
 # The host in C plays each example plainly, with the compiler's checks of addresses and undefined behaviour, and, on one example, with each
-# allocation refused in turn; random calls, valid and not, follow. The host in Python plays them through a shared object, and the one in Rust runs its test, where there is cargo.
+# allocation refused in turn; random calls, valid and not, follow, and
+# threads that ask views beside one that changes the level. The host in Python plays them through a shared object, and the one in Rust runs its test, where there is cargo.
 set -eu
 here=$(cd "$(dirname "$0")" && pwd)
 lib=$(realpath "${1:-$here/../crates/nav_ffi/out/libnav_ffi.a}")
 to=$(mktemp -d)
 trap 'rm -rf "$to"' EXIT
-make -s -C "$here/c" LIB="$lib" TO="$to" "$to/play" "$to/checked" "$to/calls" "$to/libnavd.so"
+make -s -C "$here/c" LIB="$lib" TO="$to" "$to/play" "$to/checked" "$to/calls" "$to/readers" "$to/readers_checked" "$to/libnavd.so"
 count=0
 for out in "$here"/../examples/*.out; do
     input=${out%.out}.nav
@@ -34,6 +35,8 @@ done
 echo "played $count times alike, and $((refused - 1)) times with an allocation refused"
 "$to/calls" "$here/../examples/bridge.nav" 10000 1
 "$to/calls" "$here/../examples/storeroom.nav" 10000 2
+"$to/readers" "$here/../examples/storeroom.nav" 2000
+"$to/readers_checked" "$here/../examples/storeroom.nav" 2000
 if command -v cargo > "$to/cargo"; then
     NAVD_LIBRARY_DIR=$(dirname "$lib") cargo test --quiet --offline --manifest-path "$here/rust/Cargo.toml" --target-dir "$to/target"
 fi

@@ -10,8 +10,9 @@
  * Handles. A handle whose bytes are all 0 holds nothing, and each call is given the address of one: never a null pointer. No call but these
  * changes a handle, and no byte of it is copied or read by the host. What it holds is on the heap; `navd_close` frees it.
  *
- * Threads. A handle is in one call at a time, questions too, and stays on the thread that opened it. Handles of two levels may be in calls
- * side by side.
+ * Threads. A handle is in one call at a time, questions too; it may go from thread to thread, by a lock or by the start or the end of a thread.
+ * Calls of two handles may run side by side, also of a level and of views of it: so one thread changes a level while others ask views, each its
+ * own. A view is brought up to a level by navd_look, which is a call of both.
  *
  * Arrays. An array is given by its address and by how many elements it has room for; the address is not null, also where there is room for
  * none. As much is laid into it as there is room for, and what is behind that stays as it was; how many there are is told beside it.
@@ -59,6 +60,12 @@ typedef struct {
     void *at;
     uint32_t full;
 } navd_level;
+
+/* A handle of a view: what one reader has of a level, the mesh as it was published when the reader last looked. Zeroed, it holds nothing. */
+typedef struct {
+    void *at;
+    uint32_t full;
+} navd_view;
 
 /* A point, in sixteenths of a cell. */
 typedef struct {
@@ -204,6 +211,21 @@ uint32_t navd_cast_ray(navd_level *level, const navd_way *way, navd_ray *ray);
 /* The counts of a level.
  * NAVD_OK. NAVD_EMPTY. */
 uint32_t navd_count(navd_level *level, navd_counts *counts);
+
+/* == Views == */
+
+/* Brings a view up to what the level has published now; how many entries that are is left at `published`. What the view showed is let go.
+ * NAVD_OK. NAVD_EMPTY: the level's handle holds none. NAVD_NO_MEMORY: the view shows what it showed. */
+uint32_t navd_look(navd_view *view, navd_level *level, uint32_t *published);
+
+/* Closes the view, if the handle holds one; the handle holds nothing then. A view may be closed after its level. */
+void navd_view_close(navd_view *view);
+
+/* The questions of a level, asked of what the view shows; NAVD_EMPTY: the handle holds no view. */
+uint32_t navd_view_floors(navd_view *view, uint32_t x, uint32_t z, navd_floor *floors, size_t room, size_t *count);
+uint32_t navd_view_find_path(navd_view *view, const navd_way *way, navd_link *links, size_t links_room, navd_turn *turns, size_t turns_room,
+                             navd_path *path);
+uint32_t navd_view_cast_ray(navd_view *view, const navd_way *way, navd_ray *ray);
 
 #ifdef __cplusplus
 }

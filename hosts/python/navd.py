@@ -192,10 +192,15 @@ def _library():
         "navd_find_path": [handle, POINTER(_Way), POINTER(_Link), c_size_t, POINTER(_Turn), c_size_t, POINTER(_Path)],
         "navd_cast_ray": [handle, POINTER(_Way), POINTER(_Ray)],
         "navd_count": [handle, POINTER(_Counts)],
+        "navd_look": [handle, handle, number],
+        "navd_view_floors": [handle, c_uint32, c_uint32, POINTER(_Floor), c_size_t, POINTER(c_size_t)],
+        "navd_view_find_path": [handle, POINTER(_Way), POINTER(_Link), c_size_t, POINTER(_Turn), c_size_t, POINTER(_Path)],
+        "navd_view_cast_ray": [handle, POINTER(_Way), POINTER(_Ray)],
     }.items():
         call = getattr(found, name)
         call.argtypes, call.restype = words, c_uint32
-    found.navd_close.argtypes, found.navd_close.restype = [handle], None
+    for call in (found.navd_close, found.navd_view_close):
+        call.argtypes, call.restype = [handle], None
     return found
 
 
@@ -207,12 +212,72 @@ def _point(p):
     return p.x, p.z
 
 
-class Level:
-    """A level, which `close` or the end of a `with` ends. It is used by one thread at a time."""
+class _Asked:
+    """What is asked of a level and of a view alike. It is used by one thread at a time."""
 
-    def __init__(self, field_text):
+    def __init__(self):
         self._calls, self._handle = _library(), _Handle()
         self._links, self._turns, self._floors = (_Link * 64)(), (_Turn * 64)(), (_Floor * 8)()
+
+    def __enter__(self):
+        return self
+
+    def __exit__(self, *_):
+        self.close()
+
+    def _call(self, name):
+        return getattr(self._calls, self._names + name)
+
+    def floors(self, x, z):
+        """The floors of a column, from the bottom up."""
+        count = c_size_t()
+        while True:
+            status = self._call("floors")(byref(self._handle), x, z, self._floors, len(self._floors), byref(count))
+            if status:
+                raise NavdError(status)
+            if count.value <= len(self._floors):
+                return [Floor(floor.y, floor.area) for floor in self._floors[:count.value]]
+            self._floors = (_Floor * count.value)()
+
+    def find_path(self, start, goal):
+        """A Path_, or a NoPath."""
+        way = _Way(_Point(start.x, start.z), start.y, _Point(goal.x, goal.z), goal.y)
+        found = _Path()
+        while True:
+            status = self._call("find_path")(byref(self._handle), byref(way), self._links, len(self._links), self._turns, len(self._turns),
+                                                byref(found))
+            if status in (NO_START, NO_GOAL, NO_PATH):
+                return NoPath(status)
+            if status:
+                raise NavdError(status)
+            if found.links <= len(self._links) and found.turns <= len(self._turns):
+                break
+            self._links, self._turns = (_Link * max(1, found.links))(), (_Turn * max(1, found.turns))()
+        links = [Link(_polygon(it.from_), it.edge, _polygon(it.to), _point(it.left), _point(it.right)) for it in self._links[:found.links]]
+        turns = [Turn(_point(it.at), bool(it.side), it.link) for it in self._turns[:found.turns]]
+        return Path_(found.cost, _polygon(found.first), links, turns)
+
+    def cast_ray(self, start, goal):
+        """A Reached, a Wall or a NoPath."""
+        way = _Way(_Point(start.x, start.z), start.y, _Point(goal.x, goal.z), 0)
+        ray = _Ray()
+        status = self._call("cast_ray")(byref(self._handle), byref(way), byref(ray))
+        if status == OK:
+            return Reached(_polygon(ray.last))
+        if status == WALL:
+            return Wall(_point(ray.a), _point(ray.b), ray.num, ray.den)
+        if status == NO_START:
+            return NoPath(status)
+        raise NavdError(status)
+
+
+class Level(_Asked):
+    """A level, which `close` or the end of a `with` ends. It is used by one thread at a time."""
+
+    _names = "navd_"
+
+    def __init__(self, field_text):
+        super().__init__()
         fault = _Fault()
         status = self._calls.navd_open(byref(self._handle), field_text, len(field_text), byref(fault))
         if status:
@@ -220,12 +285,6 @@ class Level:
 
     def close(self):
         self._calls.navd_close(byref(self._handle))
-
-    def __enter__(self):
-        return self
-
-    def __exit__(self, *_):
-        self.close()
 
     def _number(self, call, *words, allowed=(OK,)):
         number = c_uint32()
@@ -273,51 +332,26 @@ class Level:
             raise NavdError(status)
         return list(numbers[:count.value])
 
-    def floors(self, x, z):
-        """The floors of a column, from the bottom up."""
-        count = c_size_t()
-        while True:
-            status = self._calls.navd_floors(byref(self._handle), x, z, self._floors, len(self._floors), byref(count))
-            if status:
-                raise NavdError(status)
-            if count.value <= len(self._floors):
-                return [Floor(floor.y, floor.area) for floor in self._floors[:count.value]]
-            self._floors = (_Floor * count.value)()
-
-    def find_path(self, start, goal):
-        """A Path_, or a NoPath."""
-        way = _Way(_Point(start.x, start.z), start.y, _Point(goal.x, goal.z), goal.y)
-        found = _Path()
-        while True:
-            status = self._calls.navd_find_path(byref(self._handle), byref(way), self._links, len(self._links), self._turns, len(self._turns),
-                                                byref(found))
-            if status in (NO_START, NO_GOAL, NO_PATH):
-                return NoPath(status)
-            if status:
-                raise NavdError(status)
-            if found.links <= len(self._links) and found.turns <= len(self._turns):
-                break
-            self._links, self._turns = (_Link * max(1, found.links))(), (_Turn * max(1, found.turns))()
-        links = [Link(_polygon(it.from_), it.edge, _polygon(it.to), _point(it.left), _point(it.right)) for it in self._links[:found.links]]
-        turns = [Turn(_point(it.at), bool(it.side), it.link) for it in self._turns[:found.turns]]
-        return Path_(found.cost, _polygon(found.first), links, turns)
-
-    def cast_ray(self, start, goal):
-        """A Reached, a Wall or a NoPath."""
-        way = _Way(_Point(start.x, start.z), start.y, _Point(goal.x, goal.z), 0)
-        ray = _Ray()
-        status = self._calls.navd_cast_ray(byref(self._handle), byref(way), byref(ray))
-        if status == OK:
-            return Reached(_polygon(ray.last))
-        if status == WALL:
-            return Wall(_point(ray.a), _point(ray.b), ray.num, ray.den)
-        if status == NO_START:
-            return NoPath(status)
-        raise NavdError(status)
-
     def counts(self):
         told = _Counts()
         status = self._calls.navd_count(byref(self._handle), byref(told))
         if status:
             raise NavdError(status)
         return Counts(*(getattr(told, name) for name, _ in _Counts._fields_))
+
+
+class View(_Asked):
+    """What one thread asks while another changes the level: the mesh as it was published at the last look."""
+
+    _names = "navd_view_"
+
+    def close(self):
+        self._calls.navd_view_close(byref(self._handle))
+
+    def look(self, level):
+        """Shows what the level has published now; how many entries that are. It is a call of both."""
+        published = c_uint32()
+        status = self._calls.navd_look(byref(self._handle), byref(level._handle), byref(published))
+        if status:
+            raise NavdError(status)
+        return published.value

@@ -1,4 +1,3 @@
-mod Words
 mod Laying
-mod Ends
+mod EndLaws
 mod Opened

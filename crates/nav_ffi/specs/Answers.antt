@@ -2,23 +2,34 @@
 use Rattle.std.specs.Prelude.{◌≡◌, ℕ, ◌⊎◌, Option, Some, None, Result, Ok, Err}
 use Rattle.nav_base.specs.declared.answers.Question.{Question}
 use Rattle.mesh_types.specs.declared.answers.Answer.{Answer}
+use Rattle.mesh_types.specs.declared.mesh.Mesh.{Mesh}
 use Rattle.mesh_types.specs.Right.{IsRight}
 use Rattle.nav_desk.specs.BookState.{BookState}
 use Rattle.nav_level.specs.Results.{published_mesh}
+use Rattle.nav_handle.specs.Views.{Seen}
 use Rattle.nav_ffi.specs.declared.status.TheConstants as status
 use Rattle.nav_ffi.specs.Telling.{answer_status}
 
--- a level answers, rightly in the published mesh, unless memory is refused; where there is no level there is no answer
-abbrev pub IsReplied : Option BookState → Question → Result Answer ℕ → Type 0
+-- the mesh that answers: what a level has published, or what a view shows
+abbrev pub shown_in : Option BookState → Option Mesh
+shown_in None = None
+shown_in (Some state) = Some (published_mesh state)
+
+abbrev pub seen_in : Option Seen → Option Mesh
+seen_in None = None
+seen_in (Some seen) = Some seen.mesh
+
+-- where there is a mesh there is an answer that is right in it, unless memory is refused; else there is none
+abbrev pub IsReplied : Option Mesh → Question → Result Answer ℕ → Type 0
 IsReplied None question (Ok answer) = ⊥
 IsReplied None question (Err why) = why ≡ status.EMPTY
-IsReplied (Some state) question (Ok answer) = IsRight (published_mesh state) question answer
-IsReplied (Some state) question (Err why) = why ≡ status.NO_MEMORY
+IsReplied (Some mesh) question (Ok answer) = IsRight mesh question answer
+IsReplied (Some mesh) question (Err why) = why ≡ status.NO_MEMORY
 
--- there is an answer that is right in the published mesh: the question ends with its status, and it is told in the host's places
-pub record IsAnswered {Room : Type 0} (told : Answer → Room → Room) (state : BookState) (question : Question) (before after : Room) (ended : ℕ) : Type 0 where
+-- there is an answer that is right in the mesh: the question ends with its status, and it is told in the host's places
+pub record IsAnswered {Room : Type 0} (told : Answer → Room → Room) (mesh : Mesh) (question : Question) (before after : Room) (ended : ℕ) : Type 0 where
   pub answer : Answer
-  pub right : IsRight (published_mesh state) question answer
+  pub right : IsRight mesh question answer
   pub status : ended ≡ answer_status answer
   pub rooms : after ≡ told answer before
 
@@ -26,7 +37,7 @@ pub record IsAnswered {Room : Type 0} (told : Answer → Room → Room) (state :
 abbrev pub EndsSo : {Room : Type 0} → ℕ → Room → Room → ℕ → Type 0
 EndsSo why before after ended = (ended ≡ why) × (after ≡ before)
 
--- a question of what a handle holds: a level answers it, unless memory is refused; where there is none it ends so
-abbrev pub IsAsked : {Room : Type 0} → (Answer → Room → Room) → Option BookState → Question → Room → Room → ℕ → Type 0
+-- a question: the mesh answers it, unless memory is refused; where there is none it ends so
+abbrev pub IsAsked : {Room : Type 0} → (Answer → Room → Room) → Option Mesh → Question → Room → Room → ℕ → Type 0
 IsAsked told None question before after ended = EndsSo status.EMPTY before after ended
-IsAsked told (Some state) question before after ended = IsAnswered told state question before after ended ⊎ EndsSo status.NO_MEMORY before after ended
+IsAsked told (Some mesh) question before after ended = IsAnswered told mesh question before after ended ⊎ EndsSo status.NO_MEMORY before after ended

@@ -1,4 +1,3 @@
-pub mod Handles
 pub mod Wire
 pub mod Requests
 pub mod Steps
@@ -7,3 +6,4 @@ pub mod Answers
 pub mod Opening
 pub mod Counts
 pub mod Renewing
+pub mod Viewing

@@ -7,8 +7,7 @@
 //! numbers: those that are out of their limits are told so, and no others.
 #![tactic(auto)]
 
-mod handle;
-mod loose;
+mod ends;
 mod opening;
 mod questions;
 mod renewal;
@@ -17,15 +16,18 @@ mod shapes;
 mod status;
 mod steps;
 mod told;
+mod views;
 mod ways;
 mod wire;
 
-pub use handle::NavdLevel;
 pub use opening::{navd_close, navd_open};
 pub use questions::{navd_cast_ray, navd_count, navd_find_path, navd_floors};
 pub use renewal::navd_renew;
 pub use requests::{navd_add_block, navd_add_cylinder, navd_remove};
 pub use steps::{navd_aim, navd_publish, navd_settle, navd_step};
+pub use views::{
+    navd_look, navd_view_cast_ray, navd_view_close, navd_view_find_path, navd_view_floors,
+};
 pub use wire::{
     NavdBlock, NavdCounts, NavdCylinder, NavdFault, NavdFloor, NavdLink, NavdPath, NavdPoint,
     NavdPolygon, NavdRay, NavdTurn, NavdWay,

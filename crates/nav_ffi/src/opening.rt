@@ -13,10 +13,10 @@ ghost use Rattle.nav_desk.specs.BookState.{first_state};
 ghost use Rattle.nav_level.specs.Openings.{ground_of};
 ghost use Rattle.nav_ffi.specs.Opening.{BeginsWith, HoldsOpened, fault_of};
 
-use crate::handle::NavdLevel;
 use crate::status::{FAULTY, NO_MEMORY, OK};
 use crate::wire::NavdFault;
 use layer_cut::ground;
+use nav_handle::NavdLevel;
 use nav_level::Level;
 use nav_steps::Steps;
 use span_text::{FieldRefusal, FieldText, read_field};

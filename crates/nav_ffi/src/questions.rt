@@ -2,26 +2,26 @@
 
 ghost use Rattle.std.specs.Prelude.{◌≡◌};
 ghost use Rattle.nav_query.specs.Questions.{IsAnswerable};
-ghost use Rattle.nav_ffi.specs.Answers.{EndsSo, IsAsked, IsReplied};
+ghost use Rattle.nav_ffi.specs.Answers.{EndsSo, IsAsked, IsReplied, shown_in};
 ghost use Rattle.nav_ffi.specs.Counts.{AreCounted};
 ghost use Rattle.nav_ffi.specs.Telling.{PathRoom, told_floors, told_path, told_ray};
 ghost use Rattle.nav_ffi.specs.Wire.{path_asked, ray_asked};
 
-use crate::handle::NavdLevel;
+use crate::ends::{end_floors, end_path, end_ray};
 use crate::status::{EMPTY, NO_MEMORY, OK, OUT_OF_RANGE};
-use crate::told::{answer_status, tell_floors, tell_path, tell_ray};
 use crate::ways::{is_way, path_question, ray_question};
 use crate::wire::{NavdCounts, NavdFloor, NavdLink, NavdPath, NavdRay, NavdTurn, NavdWay};
 use mesh_types::Answer;
 use nav_base::Question;
 use nav_ground::tiles;
+use nav_handle::NavdLevel;
 use std::alloc::Global;
 
 /// An answer to a question of what a handle holds, or the status that says why there is none.
 fn answer(alloc: Global, level: &mut NavdLevel, question: &Question) -> Result<Answer, u32>
     requires { IsAnswerable question.now }
     ensures same { level.new.level ≡ level.old.level }
-    ensures replied { IsReplied level.old.level question.now result }
+    ensures replied { IsReplied (shown_in level.old.level) question.now result }
 {
     let Some(held) = level.take(alloc) else {
         return Err(EMPTY);
@@ -45,7 +45,7 @@ pub extern "C" fn navd_find_path(
     path: &mut NavdPath,
 ) -> u32
     ensures asked { IsAnswerable (path_asked way.now)
-        → IsAsked told_path level.old.level (path_asked way.now) (path.old, links.old, turns.old) (path.new, links.new, turns.new) result }
+        → IsAsked told_path (shown_in level.old.level) (path_asked way.now) (path.old, links.old, turns.old) (path.new, links.new, turns.new) result }
     ensures refused { (IsAnswerable (path_asked way.now) → ⊥)
         → EndsSo {Room = PathRoom} OUT_OF_RANGE (path.old, links.old, turns.old) (path.new, links.new, turns.new) result }
     ensures same { level.new.level ≡ level.old.level }
@@ -53,13 +53,8 @@ pub extern "C" fn navd_find_path(
     if !is_way(way) {
         return OUT_OF_RANGE;
     }
-    match answer(alloc, level, &path_question(way)) {
-        Ok(answer) => {
-            tell_path(&answer, path, links, turns);
-            answer_status(&answer)
-        }
-        Err(status) => status,
-    }
+    let answer = answer(alloc, level, &path_question(way));
+    end_path(answer, path, links, turns)
 }
 
 /// The straight walk from a place toward a point.
@@ -70,20 +65,15 @@ pub extern "C" fn navd_cast_ray(
     way: &NavdWay,
     ray: &mut NavdRay,
 ) -> u32
-    ensures asked { IsAnswerable (ray_asked way.now) → IsAsked told_ray level.old.level (ray_asked way.now) ray.old ray.new result }
+    ensures asked { IsAnswerable (ray_asked way.now) → IsAsked told_ray (shown_in level.old.level) (ray_asked way.now) ray.old ray.new result }
     ensures refused { (IsAnswerable (ray_asked way.now) → ⊥) → EndsSo OUT_OF_RANGE ray.old ray.new result }
     ensures same { level.new.level ≡ level.old.level }
 {
     if !is_way(way) {
         return OUT_OF_RANGE;
     }
-    match answer(alloc, level, &ray_question(way)) {
-        Ok(answer) => {
-            tell_ray(&answer, ray);
-            answer_status(&answer)
-        }
-        Err(status) => status,
-    }
+    let answer = answer(alloc, level, &ray_question(way));
+    end_ray(answer, ray)
 }
 
 /// The floors of the free cells of a column; how many there are is left at `count`.
@@ -96,16 +86,11 @@ pub extern "C" fn navd_floors(
     floors: &mut [NavdFloor],
     count: &mut usize,
 ) -> u32
-    ensures asked { IsAsked told_floors level.old.level (Question.Floor x z) (count.old, floors.old) (count.new, floors.new) result }
+    ensures asked { IsAsked told_floors (shown_in level.old.level) (Question.Floor x z) (count.old, floors.old) (count.new, floors.new) result }
     ensures same { level.new.level ≡ level.old.level }
 {
-    match answer(alloc, level, &Question::Floor { x, z }) {
-        Ok(answer) => {
-            tell_floors(&answer, count, floors);
-            answer_status(&answer)
-        }
-        Err(status) => status,
-    }
+    let answer = answer(alloc, level, &Question::Floor { x, z });
+    end_floors(answer, count, floors)
 }
 
 /// The counts of a level.

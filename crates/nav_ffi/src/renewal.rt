@@ -4,8 +4,8 @@ ghost use Rattle.std.specs.Prelude.{◌≡◌};
 ghost use Rattle.nav_ffi.specs.Renewing.{IsRenewing};
 ghost use Rattle.nav_ffi.specs.Wire.{laid};
 
-use crate::handle::NavdLevel;
 use crate::status::{EMPTY, NO_MEMORY, NO_ROOM, NOT_YET, OK};
+use nav_handle::NavdLevel;
 use std::alloc::Global;
 
 /// Lays numbers into a room.

@@ -5,8 +5,8 @@ ghost use Rattle.nav_desk.specs.BookState.{least_claimable};
 ghost use Rattle.nav_level.specs.Settling.{IsUnclaimed, after_settle, after_step};
 ghost use Rattle.nav_ffi.specs.Steps.{IsSettled, UnlessRefused, aimed, stepped};
 
-use crate::handle::NavdLevel;
 use crate::status::{EMPTY, NO_MEMORY, NOT_YET, OK, SAME};
+use nav_handle::NavdLevel;
 use nav_level::{Level, Published};
 use nav_steps::Steps;
 use std::alloc::{AllocError, Global};

@@ -184,59 +184,19 @@ impl Level {
 
     /// The floors of a column, from the bottom up.
     pub fn floors(&mut self, x: u32, z: u32) -> Result<Vec<Floor>, Error> {
-        let mut floors = vec![Floor::default(); 8];
-        loop {
-            let mut count = 0;
-            let status = unsafe { sys::navd_floors(&mut self.handle, x, z, floors.as_mut_ptr(), floors.len(), &mut count) };
-            done((status, 0))?;
-            let fits = count <= floors.len();
-            floors.resize(count, Floor::default());
-            if fits {
-                return Ok(floors);
-            }
-        }
+        floors_by(|floors, room, count| unsafe { sys::navd_floors(&mut self.handle, x, z, floors, room, count) })
     }
 
     /// A cheapest corridor with a taut path, or why there is none.
     pub fn find_path(&mut self, from: Place, to: Place) -> Result<Result<Path, NoWay>, Error> {
-        let way = sys::Way { from: from.at, from_y: from.y, to: to.at, to_y: to.y };
-        let (mut links, mut turns) = (vec![Link::default(); 64], vec![Turn::default(); 64]);
-        loop {
-            let mut path = sys::Path::default();
-            let status = unsafe {
-                sys::navd_find_path(
-                    &mut self.handle,
-                    &way,
-                    links.as_mut_ptr(),
-                    links.len(),
-                    turns.as_mut_ptr(),
-                    turns.len(),
-                    &mut path,
-                )
-            };
-            if let Some(no_way) = no_way(status) {
-                return Ok(Err(no_way));
-            }
-            done((status, 0))?;
-            let fits = path.links <= links.len() && path.turns <= turns.len();
-            links.resize(path.links, Link::default());
-            turns.resize(path.turns, Turn::default());
-            if fits {
-                return Ok(Ok(Path { cost: path.cost, first: path.first, links, turns }));
-            }
-        }
+        path_by(from, to, |way, links, links_room, turns, turns_room, path| unsafe {
+            sys::navd_find_path(&mut self.handle, way, links, links_room, turns, turns_room, path)
+        })
     }
 
     /// The straight walk from a place toward a point, or that no polygon holds the place.
     pub fn cast_ray(&mut self, from: Place, to: Point) -> Result<Result<Ray, NoWay>, Error> {
-        let way = sys::Way { from: from.at, from_y: from.y, to, to_y: 0 };
-        let mut ray = sys::Ray::default();
-        let status = unsafe { sys::navd_cast_ray(&mut self.handle, &way, &mut ray) };
-        match (status, no_way(status)) {
-            (_, Some(no_way)) => Ok(Err(no_way)),
-            (sys::WALL, _) => Ok(Ok(Ray::Wall { a: ray.a, b: ray.b, num: ray.num, den: ray.den })),
-            _ => done((status, 0)).map(|_| Ok(Ray::Reached(ray.last))),
-        }
+        ray_by(from, to, |way, ray| unsafe { sys::navd_cast_ray(&mut self.handle, way, ray) })
     }
 
     /// The counts of the level.
@@ -250,6 +210,103 @@ impl Drop for Level {
     fn drop(&mut self) {
         // SAFETY: the handle is this level's; an empty one may be closed.
         unsafe { sys::navd_close(&mut self.handle) }
+    }
+}
+
+// SAFETY: the library's handles may go from thread to thread, which is proved of them; the borrows keep each in one call at a time.
+unsafe impl Send for Level {}
+unsafe impl Send for View {}
+
+/// What one thread asks while another changes the level: the mesh as it was published at the last look. It outlives its level.
+pub struct View {
+    handle: sys::Handle,
+}
+
+impl View {
+    /// A view of what a level has published.
+    pub fn of(level: &mut Level) -> Result<View, Error> {
+        let mut view = View { handle: sys::Handle { at: null_mut(), full: 0 } };
+        view.look(level).map(|_| view)
+    }
+
+    /// Shows what the level has published now; how many entries that are.
+    pub fn look(&mut self, level: &mut Level) -> Result<u32, Error> {
+        let mut published = 0;
+        // SAFETY: here and below, the handle is this view's, which the borrow keeps from other calls, and all else are references.
+        done((unsafe { sys::navd_look(&mut self.handle, &mut level.handle, &mut published) }, 0)).map(|_| published)
+    }
+
+    /// The floors of a column, from the bottom up.
+    pub fn floors(&mut self, x: u32, z: u32) -> Result<Vec<Floor>, Error> {
+        floors_by(|floors, room, count| unsafe { sys::navd_view_floors(&mut self.handle, x, z, floors, room, count) })
+    }
+
+    /// A cheapest corridor with a taut path, or why there is none.
+    pub fn find_path(&mut self, from: Place, to: Place) -> Result<Result<Path, NoWay>, Error> {
+        path_by(from, to, |way, links, links_room, turns, turns_room, path| unsafe {
+            sys::navd_view_find_path(&mut self.handle, way, links, links_room, turns, turns_room, path)
+        })
+    }
+
+    /// The straight walk from a place toward a point, or that no polygon holds the place.
+    pub fn cast_ray(&mut self, from: Place, to: Point) -> Result<Result<Ray, NoWay>, Error> {
+        ray_by(from, to, |way, ray| unsafe { sys::navd_view_cast_ray(&mut self.handle, way, ray) })
+    }
+}
+
+impl Drop for View {
+    fn drop(&mut self) {
+        // SAFETY: the handle is this view's.
+        unsafe { sys::navd_view_close(&mut self.handle) }
+    }
+}
+
+/// Asks for floors until there is room for all of them.
+fn floors_by(mut call: impl FnMut(*mut Floor, usize, *mut usize) -> u32) -> Result<Vec<Floor>, Error> {
+    let mut floors = vec![Floor::default(); 8];
+    loop {
+        let mut count = 0;
+        done((call(floors.as_mut_ptr(), floors.len(), &mut count), 0))?;
+        let fits = count <= floors.len();
+        floors.resize(count, Floor::default());
+        if fits {
+            return Ok(floors);
+        }
+    }
+}
+
+/// Asks for a path until there is room for all of it.
+fn path_by(
+    from: Place,
+    to: Place,
+    mut call: impl FnMut(*const sys::Way, *mut Link, usize, *mut Turn, usize, *mut sys::Path) -> u32,
+) -> Result<Result<Path, NoWay>, Error> {
+    let way = sys::Way { from: from.at, from_y: from.y, to: to.at, to_y: to.y };
+    let (mut links, mut turns) = (vec![Link::default(); 64], vec![Turn::default(); 64]);
+    loop {
+        let mut path = sys::Path::default();
+        let status = call(&way, links.as_mut_ptr(), links.len(), turns.as_mut_ptr(), turns.len(), &mut path);
+        if let Some(no_way) = no_way(status) {
+            return Ok(Err(no_way));
+        }
+        done((status, 0))?;
+        let fits = path.links <= links.len() && path.turns <= turns.len();
+        links.resize(path.links, Link::default());
+        turns.resize(path.turns, Turn::default());
+        if fits {
+            return Ok(Ok(Path { cost: path.cost, first: path.first, links, turns }));
+        }
+    }
+}
+
+fn ray_by(from: Place, to: Point, call: impl FnOnce(*const sys::Way, *mut sys::Ray) -> u32) -> Result<Result<Ray, NoWay>, Error> {
+    let way = sys::Way { from: from.at, from_y: from.y, to, to_y: 0 };
+    let mut ray = sys::Ray::default();
+    let status = call(&way, &mut ray);
+    match (status, no_way(status)) {
+        (_, Some(no_way)) => Ok(Err(no_way)),
+        (sys::WALL, _) => Ok(Ok(Ray::Wall { a: ray.a, b: ray.b, num: ray.num, den: ray.den })),
+        _ => done((status, 0)).map(|_| Ok(Ray::Reached(ray.last))),
     }
 }
 

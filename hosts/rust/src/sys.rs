@@ -153,4 +153,17 @@ extern "C" {
     ) -> u32;
     pub fn navd_cast_ray(level: *mut Handle, way: *const Way, ray: *mut Ray) -> u32;
     pub fn navd_count(level: *mut Handle, counts: *mut Counts) -> u32;
+    pub fn navd_look(view: *mut Handle, level: *mut Handle, published: *mut u32) -> u32;
+    pub fn navd_view_close(view: *mut Handle);
+    pub fn navd_view_floors(view: *mut Handle, x: u32, z: u32, floors: *mut Floor, room: usize, count: *mut usize) -> u32;
+    pub fn navd_view_find_path(
+        view: *mut Handle,
+        way: *const Way,
+        links: *mut Link,
+        links_room: usize,
+        turns: *mut Turn,
+        turns_room: usize,
+        path: *mut Path,
+    ) -> u32;
+    pub fn navd_view_cast_ray(view: *mut Handle, way: *const Way, ray: *mut Ray) -> u32;
 }

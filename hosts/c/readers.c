@@ -1,0 +1,143 @@
+/* Four reader threads ask views while the main thread changes the level and publishes, as a host in C:
+ *
+ *     readers TEXT QUESTIONS
+ *
+ * Each reader asks QUESTIONS questions of a view of its own and looks again after every eight, under a lock that it shares with the main thread.
+ * Afterwards a second level is taken through the same requests, and each answer is compared with what that level answers at the length that the
+ * answer's view had. The time of the readers alone and beside the changes is written to standard error. */
+#define _POSIX_C_SOURCE 200809L
+
+#include <inttypes.h>
+#include <pthread.h>
+#include <stdatomic.h>
+#include <stdbool.h>
+#include <stdio.h>
+#include <stdlib.h>
+#include <time.h>
+
+#include "../../include/navd.h"
+
+enum { READERS = 4, MOST_REQUESTS = 4000 };
+
+typedef struct {
+    uint32_t length, status;
+    uint64_t cost;
+    navd_way way;
+} answer;
+
+static navd_level level, second;
+static pthread_mutex_t lock = PTHREAD_MUTEX_INITIALIZER;
+static atomic_bool is_over;
+static navd_block blocks[MOST_REQUESTS];
+static uint32_t requests;
+static long questions;
+static answer *answers[READERS];
+
+static uint32_t pick(uint64_t *seed, uint32_t below) {
+    *seed = *seed * 6364136223846793005u + 1442695040888963407u;
+    return (uint32_t)((*seed >> 33) % below);
+}
+
+static void want(bool holds, const char *what) {
+    if (holds) return;
+    fprintf(stderr, "%s\n", what);
+    exit(1);
+}
+
+static void *read_on(void *number) {
+    size_t me = (size_t)(uintptr_t)number;
+    uint64_t seed = me + 7;
+    navd_view view = {0};
+    uint32_t length = 0;
+    for (long i = 0; i < questions; i++) {
+        if (i % 8 == 0) {
+            pthread_mutex_lock(&lock);
+            want(navd_look(&view, &level, &length) == NAVD_OK, "a look");
+            pthread_mutex_unlock(&lock);
+        }
+        navd_way way = {{(int32_t)pick(&seed, 192), (int32_t)pick(&seed, 160)}, 10, {(int32_t)pick(&seed, 192), (int32_t)pick(&seed, 160)}, 10};
+        navd_link links[64];
+        navd_turn turns[64];
+        navd_path path = {0};
+        uint32_t status = navd_view_find_path(&view, &way, links, 64, turns, 64, &path);
+        answers[me][i] = (answer){length, status, status == NAVD_OK ? path.cost : 0, way};
+    }
+    navd_view_close(&view);
+    return NULL;
+}
+
+static double seconds(void) {
+    struct timespec now;
+    clock_gettime(CLOCK_MONOTONIC, &now);
+    return (double)now.tv_sec + (double)now.tv_nsec / 1e9;
+}
+
+/* A request with its settle: a block put up, or every other time the one before taken away. */
+static void change(navd_level *of, uint32_t number) {
+    uint32_t entry, published;
+    if (number % 2)
+        want(navd_remove(of, number, &entry) == NAVD_OK, "a remove");
+    else
+        want(navd_add_block(of, &blocks[number], 0, &entry) == NAVD_OK, "an add");
+    want(navd_settle(of, &published) == NAVD_OK && published == number + 1, "a settle");
+}
+
+static double run_readers(bool with_changes) {
+    pthread_t threads[READERS];
+    double start = seconds();
+    is_over = false;
+    for (size_t i = 0; i < READERS; i++) want(!pthread_create(&threads[i], NULL, read_on, (void *)(uintptr_t)i), "a thread");
+    while (with_changes && requests < MOST_REQUESTS && !is_over) {
+        pthread_mutex_lock(&lock);
+        change(&level, requests++);
+        pthread_mutex_unlock(&lock);
+        struct timespec rest = {0, 200000};
+        nanosleep(&rest, NULL);
+        if (requests >= 40 && requests % 2 == 0) is_over = true;
+    }
+    for (size_t i = 0; i < READERS; i++) want(!pthread_join(threads[i], NULL), "a thread's end");
+    return seconds() - start;
+}
+
+/* Every answer is that of the second level at the length that it names. */
+static void compare(void) {
+    for (uint32_t length = 0;; length++) {
+        for (size_t reader = 0; reader < READERS; reader++)
+            for (long i = 0; i < questions; i++) {
+                answer *told = &answers[reader][i];
+                navd_link links[1];
+                navd_turn turns[1];
+                navd_path path = {0};
+                if (told->length != length) continue;
+                uint32_t status = navd_find_path(&second, &told->way, links, 0, turns, 0, &path);
+                want(status == told->status && (status != NAVD_OK || path.cost == told->cost), "an answer of another length");
+            }
+        if (length == requests) return;
+        change(&second, length);
+    }
+}
+
+int main(int argc, char **words) {
+    static uint8_t text[1 << 20];
+    FILE *file = argc == 3 ? fopen(words[1], "rb") : NULL;
+    if (!file) return 2;
+    size_t size = fread(text, 1, sizeof text, file);
+    fclose(file);
+    questions = atol(words[2]);
+    uint64_t seed = 3;
+    navd_fault fault;
+    want(navd_open(&level, text, size, &fault) == NAVD_OK && navd_open(&second, text, size, &fault) == NAVD_OK, "an open");
+    for (size_t i = 0; i < MOST_REQUESTS; i++) {
+        uint32_t x = pick(&seed, 10), z = pick(&seed, 8);
+        blocks[i] = (navd_block){x, x + pick(&seed, 3), 0, 100, z, z + pick(&seed, 3)};
+    }
+    for (size_t i = 0; i < READERS; i++) want((answers[i] = calloc((size_t)questions, sizeof(answer))) != NULL, "memory");
+    double alone = run_readers(false), beside = run_readers(true);
+    compare();
+    fprintf(stderr, "readers alone %.3f s, beside %" PRIu32 " changes %.3f s\n", alone, requests, beside);
+    printf("%ld answers of %d readers, each right at its length\n", questions * READERS, READERS);
+    for (size_t i = 0; i < READERS; i++) free(answers[i]);
+    navd_close(&level);
+    navd_close(&second);
+    return 0;
+}
