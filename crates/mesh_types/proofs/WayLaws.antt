@@ -1,13 +1,13 @@
 -- What a search reads of a tile: where the ways of a polygon stand, and that the middles are those of the polygons.
-use Rattle.std.proofs.Common.{◌≡◌, ℕ, ◌+◌, ◌-◌, ◌*◌, ◌<◌, ◌≤◌, ℤ, pos, ◌+ℤ◌, ◌*ℤ◌, ◌≤ℤ◌, List, [], ◌∷◌, ◌++◌, length, map, take, drop, get_or, ap, sym, subst, ◌∙◌, arith}
-use Rattle.std.specs.Prelude.{slice_range, slice_get, unsigned_abs, Some}
+use Rattle.std.proofs.Common.{◌≡◌, ℕ, ◌+◌, ◌-◌, ◌*◌, ◌<◌, ◌≤◌, ℤ, pos, ◌+ℤ◌, ◌*ℤ◌, ◌≤ℤ◌, List, [], ◌∷◌, ◌++◌, length, map, take, drop, get_or, ap, sym, ◌∙◌, inl, inr, arith}
+use Rattle.std.specs.Prelude.{slice_range, unsigned_abs}
 use Rattle.std.specs.List.{count_by, range_with_len}
 use Rattle.std.specs.Int.{int_min, int_max}
 use Rattle.std.proofs.lemmas.Int.{ints, clamps}
-use Rattle.std.proofs.lemmas.List.{length-map, take-map, drop-map}
+use Rattle.std.proofs.lemmas.List.{length-map, take-map, drop-map, get_or_past}
 use Rattle.std.proofs.lemmas.List.FromFn.{get_or-map-range_with_len, length-map-range_with_len, map-range_with_len_more}
 use Rattle.std.proofs.lemmas.List.Sums.{count_by-le-length}
-use Rattle.std.proofs.lemmas.Option.{slice_get_within, get_or_from_slice_get}
+use Rattle.std.proofs.lemmas.Bool.{cases_lt}
 use Rattle.nav_base.specs.declared.point.Point.{Point}
 use Rattle.nav_base.specs.Point.{IsCellCorner, dot_of}
 use Rattle.nav_base.specs.Deviation.{square_of}
@@ -104,18 +104,13 @@ ways-between tile spots ways place first next are there at at' =
     ∙ ap (slice_range tile.links (count_by (is_before_polygon place) tile.links)) end
     ∙ at_key (λ (link : Link). link.from.index) place tile.links are.order)
 
--- the middle that stands in the spot at a place, if there is one
-pub middle-at : (tile : TileMesh) (spots : List Spot) (place : ℕ) (spot : Spot) → spots ≡ spots_of (extents_in tile) tile.links → slice_get spots place ≡ Some spot
-    → spot.middle ≡ middle_in (extent_in (extents_in tile) place)
-middle-at tile spots place spot are is =
-    let within = slice_get_within spots place spot is in
-    ap (λ (s : Spot). s.middle)
-    (sym (get_or_from_slice_get spots place spot spot is)
-    ∙ spot-at tile spots place spot are (omega (arith, within, spots-count tile spots are)))
-
--- where there is none, there is no polygon
-pub middle-past : (tile : TileMesh) (spots : List Spot) (place : ℕ) (nowhere : Point) → spots ≡ spots_of (extents_in tile) tile.links → length spots ≤ place
-    → nowhere ≡ record { x = pos 0; z = pos 0 } → nowhere ≡ middle_in (extent_in (extents_in tile) place)
-middle-past tile spots place nowhere are past is =
-    is ∙ sym (ap middle_in (get_or-past (extents_in tile) place no_extent
-    (omega (arith, past, spots-count tile spots are, length-map tile.polys extent_of))))
+-- the middle that stands in the spot at a place
+pub middle-at : (tile : TileMesh) (spots : List Spot) (place : ℕ) → spots ≡ spots_of (extents_in tile) tile.links
+    → (get_or spots place no_spot).middle ≡ middle_in (extent_in (extents_in tile) place)
+middle-at tile spots place are =
+    elim (cases_lt place (length tile.polys + 1)) [
+      | inl less ↦ ap (λ (s : Spot). s.middle) (spot-at tile spots place no_spot are less)
+      | inr more ↦
+          ap (λ (s : Spot). s.middle) (get_or_past spots place no_spot (omega (arith, more, spots-count tile spots are)))
+          ∙ sym (ap middle_in (get_or_past (extents_in tile) place no_extent (omega (arith, more, length-map tile.polys extent_of))))
+    ]

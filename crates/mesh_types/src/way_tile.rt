@@ -9,6 +9,7 @@ use crate::tile::TileMesh;
 use crate::ways::{Spot, Way, spots, ways};
 use nav_base::Point;
 use nav_list::Duplicate;
+use nav_share::Shared;
 use std::alloc::{AllocError, Global};
 use std::marker::Model;
 
@@ -45,6 +46,14 @@ impl Tile {
         Ok(Tile { mesh, spots, ways })
     }
 
+    /// The same as a value that several meshes can share.
+    pub fn shared(alloc: Global, mesh: TileMesh) -> Result<Shared<Tile>, AllocError>
+        ensures { IfOk result (λ made. made ≡ mesh) }
+    {
+        let tile = Tile::new(alloc, mesh)?;
+        Ok(Shared::new(alloc, tile)?)
+    }
+
     /// The tile mesh.
     pub fn mesh(&self) -> &TileMesh
         ensures { result.now ≡ self.now }
@@ -57,10 +66,7 @@ impl Tile {
     pub fn middle(&self, place: u32) -> Point
         ensures { result ≡ middle_in (extent_in (extents_in self.now) place) }
     {
-        match self.spots.get(place as usize) {
-            Some(spot) => spot.middle,
-            None => Point { x: 0, z: 0 },
-        }
+        middle_of(self.spots.as_slice(), place as usize)
     }
 
     /// The links inside the tile that leave the polygon at a place, in order, as a search reads them.
@@ -83,6 +89,16 @@ fn first_at(spots: &[Spot], place: usize) -> usize
     ensures { result ≡ (slice_index_or spots.now place no_spot).first }
 {
     spots[place].first
+}
+
+/// The middle of the spot at a place; (0, 0) where there are fewer.
+fn middle_of(spots: &[Spot], place: usize) -> Point
+    ensures { result ≡ (slice_index_or spots.now place no_spot).middle }
+{
+    match spots.get(place) {
+        Some(spot) => spot.middle,
+        None => Point { x: 0, z: 0 },
+    }
 }
 
 impl Duplicate for Tile {
