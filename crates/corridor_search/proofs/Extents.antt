@@ -36,7 +36,7 @@ extent-is mesh at polygon is =
     ∙ ap extent_of (get_or_from_slice_get held.tile.polys at.index polygon polygon held.is)
 
 -- the box of a polygon lies in the largest field
-box-of : (polygon : Polygon) → IsPolygon polygon → IsBox (extent_of polygon)
+pub box-of : (polygon : Polygon) → IsPolygon polygon → IsBox (extent_of polygon)
 box-of polygon rules = record {
   low = record {
     left = low-bound (λ p. p.x) polygon.corners (pos 0) some (λ k d there. (rules.corners k d there).left);

@@ -28,19 +28,6 @@ enters-there mesh at link sound held =
     let through = (leads mesh at link sound held).through in
     record { polygon = through.enters; is = through.is_entered }
 
--- the ends of the arcs that leave a polygon are those of its links
-pub ends-are : (mesh : Mesh) (at : PolyRef) → map end_of (links_from mesh at) ≡ ends_of (arcs_from mesh (vertex_of at))
-ends-are mesh at = each (links_from mesh at)
-  where
-    each : (links : List Link) → map end_of links ≡ ends_of (map (arc_over mesh) links)
-    each [] = refl
-    each (link ∷ links) = ap (λ (ends : List Vertex). end_of link ∷ ends) (each links)
-
--- the vertices of the polygons that links enter are their ends
-pub ends-over : (links : List Link) → map vertex_of (map entered_by links) ≡ map end_of links
-ends-over [] = refl
-ends-over (link ∷ links) = ap (λ (ends : List Vertex). end_of link ∷ ends) (ends-over links)
-
 -- the polygon that the arc of a step enters is there, and the arc weighs what its link does
 pub step-enters : (mesh : Mesh) (step : Step) (to : Vertex) → IsSound mesh → step.place < length (arcs_from mesh step.from) → (arc_of (arcs_from mesh) step).to ≡ to
     → IsThere mesh (polygon_of to)

@@ -19,7 +19,7 @@ use Rattle.mesh_types.specs.declared.ways.Spot.{Spot}
 use Rattle.mesh_types.specs.declared.ways.Way.{Way}
 use Rattle.mesh_types.specs.Extents.{extent_of}
 use Rattle.mesh_types.specs.LinkIndex.{AreOrderedLinks, is_before_polygon, leaving_of}
-use Rattle.mesh_types.specs.Ways.{moved_in, middle_in, no_extent, extent_in, no_spot, spot_of, spots_of, way_of, extents_in, way_in, AreWays}
+use Rattle.mesh_types.specs.Ways.{IsInField, moved_in, middle_in, no_extent, extent_in, no_spot, spot_of, spots_of, way_of, extents_in, way_in, AreWays}
 use Rattle.mesh_types.proofs.Keyed.{at_key, fewer_before}
 
 -- the square of a vector's length, by its parts
@@ -40,6 +40,15 @@ pub middle-same : (extent : Extent) → IsCellCorner extent.low → IsCellCorner
 middle-same extent low high = λ i. record {
   x = pos 8 *ℤ (moved-same extent.low.x low.left low.right i +ℤ moved-same extent.high.x high.left high.right i);
   z = pos 8 *ℤ (moved-same extent.low.z low.bottom low.top i +ℤ moved-same extent.high.z high.bottom high.top i);
+}
+
+-- and the middle of any box lies in the field
+pub middle-within : (extent : Extent) → IsInField (middle_in extent)
+middle-within extent = record {
+  left = omega (arith, ints, clamps);
+  right = omega (arith, ints, clamps);
+  bottom = omega (arith, ints, clamps);
+  top = omega (arith, ints, clamps);
 }
 
 -- a spot more

@@ -2,7 +2,7 @@
 
 ghost use Rattle.std.specs.Prelude.{◌≡◌, ◌<◌, IfOk, length, map, slice_index_or};
 ghost use Rattle.mesh_types.specs.LinkIndex.{leaving_of};
-ghost use Rattle.mesh_types.specs.Ways.{extents_in, extent_in, middle_in, no_spot, way_in};
+ghost use Rattle.mesh_types.specs.Ways.{IsInField, extents_in, extent_in, middle_in, no_spot, way_in};
 
 use crate::link_list::between;
 use crate::tile::TileMesh;
@@ -64,7 +64,8 @@ impl Tile {
     /// The middle of the box of the polygon at a place, in sixteenths of a cell, its corners moved into the largest field where they lie
     /// outside; (0, 0) where there are fewer polygons.
     pub fn middle(&self, place: u32) -> Point
-        ensures { result ≡ middle_in (extent_in (extents_in self.now) place) }
+        ensures value { result ≡ middle_in (extent_in (extents_in self.now) place) }
+        ensures in_field { IsInField result }
     {
         middle_of(self.spots.as_slice(), place as usize)
     }

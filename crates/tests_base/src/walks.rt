@@ -25,40 +25,24 @@ fn at(place: u32) -> Vertex
 impl Graph for Rows<'_> {
     ghost use Rattle.tests_base.specs.Rows.{AreRows, ten_vertices, row_arcs, none_left};
 
-    /// Nothing is asked of a vertex but its place.
-    type Spot = u32;
-
     ghost is_sound = { λ g. AreRows g.rows.now };
 
     ghost vertices = { λ _. ten_vertices };
 
     ghost arcs = { λ g. row_arcs g.rows.now };
 
-    ghost spots = { λ _ v. v.place };
-
     ghost estimates = { λ _. none_left };
 
     ghost heaviest = { λ _. 100 };
 
-    fn push_ends(&self, from: Vertex, ends: &mut Vec<Vertex>) -> Result<(), AllocError> {
+    fn push_arcs(&self, from: Vertex, found: &mut Vec<Arc>) -> Result<(), AllocError> {
         match self.rows.get(from.place as usize) {
-            Some(row) => push_row(row, ends),
+            Some(row) => push_row(row, found),
             None => Ok(()),
         }
     }
 
-    fn spot(&self, of: Vertex) -> u32 {
-        of.place
-    }
-
-    fn weight(&self, step: Step, _to: Vertex, _left: u32, _entered: u32) -> u64 {
-        match self.rows.get(step.from.place as usize) {
-            Some(row) => weight_in(row, step.place),
-            None => 0,
-        }
-    }
-
-    fn estimate(&self, _from: Vertex, _spot: u32) -> u64 {
+    fn estimate(&self, _from: Vertex) -> u64 {
         0
     }
 }
