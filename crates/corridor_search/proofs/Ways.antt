@@ -28,7 +28,7 @@ use Rattle.corridor_search.proofs.Lists.{kept_element}
 use Rattle.corridor_search.proofs.Sound.{tile-fit, tile-number, placed, polygon-rules, outer-leads}
 
 -- what agrees on each element of a list gives the same list
-same-each : {X Y : Type 0} (f g : X → Y) (xs : List X) → ((x : X) → Contains xs x → f x ≡ g x) → map f xs ≡ map g xs
+pub same-each : {X Y : Type 0} (f g : X → Y) (xs : List X) → ((x : X) → Contains xs x → f x ≡ g x) → map f xs ≡ map g xs
 same-each f g [] each = refl
 same-each f g (x ∷ xs) each = λ i. each x (0, omega arith, refl) i ∷ same-each f g xs (λ y held. each y (suc held.0, omega (arith, held.1), held.2)) i
 

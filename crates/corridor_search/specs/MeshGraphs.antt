@@ -144,10 +144,6 @@ pub record IsSearched (mesh : Mesh) (goal : Point) : Type 0 where
   pub setting : IsSetting mesh.setting
   pub in_field : IsInField goal
 
--- the vertex of the polygon that a link enters
-abbrev pub end_of : Link → Vertex
-end_of link = vertex_of (entered_by link)
-
 -- a step takes a link that leaves its polygon
 pub record IsOver (mesh : Mesh) (step : Step) : Type 0 where
   pub there : step.place < length (links_from mesh (polygon_of step.from))

@@ -1,11 +1,8 @@
 //! The mesh as a graph.
 
-ghost use Rattle.std.specs.Prelude.{◌≡◌, ◌++◌, ◌+◌, ◌<◌, OnOk, IfSome, IfNone, map, length, Contains};
-ghost use Rattle.nav_ground.specs.Limits.{IsSetting};
+ghost use Rattle.std.specs.Prelude.{◌≡◌, ◌+◌, ◌<◌, IfSome, IfNone, map, length};
 ghost use Rattle.mesh_types.specs.LinkIndex.{entered_by};
-ghost use Rattle.mesh_types.specs.Soundness.{IsSound};
-ghost use Rattle.graph_search.specs.Walks.{arc_of};
-ghost use Rattle.corridor_search.specs.MeshGraphs.{vertex_of, vertices_of, polygon_of, inner_links, outer_links, links_from, link_of, end_of, arcs_from, extents_of};
+ghost use Rattle.corridor_search.specs.MeshGraphs.{vertex_of, polygon_of, inner_links, outer_links, links_from, link_of};
 
 use crate::arcs::push_link_arcs;
 use crate::weights::{distance, middle_at};
