@@ -28,5 +28,5 @@ pub fn build_job<L: Ledger>(
 {
     let layer = &level.layers.as_slice()[job.tile as usize];
     let mesh = build_tile(alloc, layer, &level.setting, job.shapes.as_slice(), steps)?;
-    Tile::shared(alloc, mesh)
+    Ok(Tile::shared(alloc, mesh)?)
 }
