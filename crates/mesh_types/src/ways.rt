@@ -51,7 +51,7 @@ pub(crate) fn spots(
     ensures { IfOk result (λ spots. spots.items ≡ spots_of extents.now links.now) }
 {
     let mut spots = first_spots(alloc, extents, links)?;
-    let last = spot(extents, links, 0, extents.len());
+    let last = made_spot(extents, links, 0, extents.len());
     spots.push(last)?;
     Ok(spots)
 }
@@ -64,7 +64,7 @@ fn first_spots(alloc: Global, extents: &[Extent], links: &[Link]) -> Result<Vec<
     let mut spots = Vec::with_capacity(alloc, extents.len())?;
     let mut known = 0;
     for place in 0..extents.len() {
-        let next = spot(extents, links, known, place);
+        let next = made_spot(extents, links, known, place);
         known = next.first;
         spots.push(next)?;
     }
@@ -72,7 +72,7 @@ fn first_spots(alloc: Global, extents: &[Extent], links: &[Link]) -> Result<Vec<
 }
 
 /// The spot of the polygon at a place; of the links that leave earlier ones, the first ones are known to.
-fn spot(extents: &[Extent], links: &[Link], known: usize, place: usize) -> Spot
+fn made_spot(extents: &[Extent], links: &[Link], known: usize, place: usize) -> Spot
     requires order { AreOrderedLinks links.now }
     requires known { known ≤ count_by (is_before_polygon place) links.now }
     ensures { result ≡ spot_of extents.now links.now place }
@@ -93,13 +93,13 @@ pub(crate) fn ways(
 {
     let mut ways = Vec::with_capacity(alloc, links.len())?;
     for link in links {
-        ways.push(way(extents, link))?;
+        ways.push(made_way(extents, link))?;
     }
     Ok(ways)
 }
 
 /// The way of a link.
-fn way(extents: &[Extent], link: &Link) -> Way
+fn made_way(extents: &[Extent], link: &Link) -> Way
     ensures { result ≡ way_of extents.now link.now }
 {
     let left = extent_in(extents, link.from.index as usize);

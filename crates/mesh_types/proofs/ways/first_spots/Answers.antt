@@ -8,8 +8,8 @@ use Rattle.mesh_types.proofs.ways.first_spots.Goals as goal
 pub loop-place-preserved : goal.loop-place-preserved
 loop-place-preserved c = (
   c.in_ok-push.ensures.items
-      ∙ (λ i. c.loop-place.invariant.0 i ++ c.spot-next.ensures i ∷ [])
+      ∙ (λ i. c.loop-place.invariant.0 i ++ c.made_spot-next.ensures i ∷ [])
       ∙ one_more_spot c.args.extents.now c.args.links.now c.loop-place.place,
-  subst (λ (s : Spot). s.first ≤ count_by (is_before_polygon (c.loop-place.place + 1)) c.args.links.now) (sym c.spot-next.ensures)
+  subst (λ (s : Spot). s.first ≤ count_by (is_before_polygon (c.loop-place.place + 1)) c.args.links.now) (sym c.made_spot-next.ensures)
       (known-next c.args.links.now c.loop-place.place),
 )

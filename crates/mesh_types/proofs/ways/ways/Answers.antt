@@ -5,7 +5,7 @@ use Rattle.mesh_types.proofs.ways.ways.Goals as goal
 
 pub loop-link-preserved : goal.loop-link-preserved
 loop-link-preserved c =
-    let made = c.way.ensures ∙ ap (way_of c.args.extents.now) c.link-item.is in
+    let made = c.made_way.ensures ∙ ap (way_of c.args.extents.now) c.link-item.is in
     c.in_ok-push.ensures.items ∙ (λ i. c.loop-link.invariant i ++ made i ∷ [])
     ∙ sym (map_more (way_of c.args.extents.now) c.args.links.now c.loop-link.link-index c.link-item.result c.loop-link-test.true)
 
