@@ -57,6 +57,14 @@ filter-filter p q (x ∷ xs) =
     elim (q x) as (λ b. filter p (cond b (x ∷ filter q xs) (filter q xs)) ≡ cond (b && p x) (x ∷ filter (λ y. q y && p y) xs) (filter (λ y. q y && p y) xs))
     [ true ↦ ap (λ ys. cond (p x) (x ∷ ys) ys) rest | false ↦ rest ]
 
+-- two tests that agree at the elements of a list keep the same of them
+pub filter_same : {A : Type 0} (p q : A → Bool) (xs : List A) → All (λ x. p x ≡ q x) xs → filter p xs ≡ filter q xs
+filter_same p q [] same = refl
+filter_same p q (x ∷ xs) same =
+    let here = All-head (λ y. p y ≡ q y) x xs same in
+    let rest = filter_same p q xs (All-tail (λ y. p y ≡ q y) x xs same) in
+    ap (λ b. cond b (x ∷ filter p xs) (filter p xs)) here ∙ ap (λ ys. cond (q x) (x ∷ ys) ys) rest
+
 -- a test that every element passes keeps all, one that none passes keeps none
 pub filter_all : {A : Type 0} (p : A → Bool) (xs : List A) → All (λ x. p x ≡ true) xs → filter p xs ≡ xs
 filter_all p [] each = refl
