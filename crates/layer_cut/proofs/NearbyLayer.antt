@@ -17,7 +17,7 @@ use Rattle.nav_ground.specs.declared.cell.Window.{Window}
 use Rattle.nav_ground.specs.Limits.{IsSetting}
 use Rattle.nav_ground.specs.Fields.{IsField}
 use Rattle.nav_ground.specs.Cells.{is_toward, is_naming, next_level}
-use Rattle.nav_ground.specs.Tiling.{is_in_window, tile_window}
+use Rattle.nav_ground.specs.Tiling.{is_in_window, tile_window, widened}
 use Rattle.nav_ground.specs.Filters.{filtered_areas}
 use Rattle.nav_ground.specs.Connection.{unconnected_cells, is_connected, level_toward, connected_cell, compact_cells}
 use Rattle.nav_ground.specs.Clearance.{has_neighbour, is_boundary, is_axis_step, is_turn, is_diagonal_step, is_walk_end, is_kept, kept_cells, cells_in}
@@ -25,7 +25,6 @@ use Rattle.nav_ground.specs.Layers.{cells_of, kept_level, layer_cell, layer_amon
 use Rattle.nav_ground.proofs.Directions.{both_equal}
 use Rattle.nav_ground.proofs.Selections.{filter-filter, filter-map, list_any-map}
 use Rattle.nav_ground.proofs.Connected.{level_of_connected}
-use Rattle.agent_erode.specs.Windows.{widened}
 use Rattle.agent_erode.proofs.WindowLaws.{toward_beside, beside_back, deep_beside, deep_inside, inside_deep, either_same, and_same, any_range_same, kept_near}
 use Rattle.layer_cut.specs.Nearby.{field_in}
 use Rattle.layer_cut.proofs.Restricted.{any_agree, map_kept_agree, find-restricted, any-restricted}

@@ -64,6 +64,39 @@ bounds_some (Cylinder cx cz r y0 y1) limits = record { x = reach_some cx r; z = 
 bounds_some (AreaBlock area x0 x1 y0 y1 z0 z1) (area', limits) = record { x = range_some x0 x1 limits.x; z = range_some z0 z1 limits.z }
 bounds_some (AreaCylinder area cx cz r y0 y1) limits = record { x = reach_some cx r; z = reach_some cz r }
 
+-- and lie in or near the largest field
+pub record IsNearField (window : Window) : Type 0 where
+  pub low : (pos 0 ≤ℤ (window.x0 +ℤ pos 1024)) × (pos 0 ≤ℤ (window.z0 +ℤ pos 1024))
+  pub high : (window.x1 ≤ℤ pos 3071) × (window.z1 ≤ℤ pos 3071)
+
+first_near : (first : ℕ) → pos 0 ≤ℤ (pos first +ℤ pos 1024)
+first_near first = omega (arith, ints)
+
+last_near : (last : ℕ) → last ≤ 1023 → pos last ≤ℤ pos 3071
+last_near last small = omega (arith, ints)
+
+reach_first : (c r : ℕ) → r ≤ 1023 → pos 0 ≤ℤ ((pos (div_ceil c 2) -ℤ pos (r + 1)) +ℤ pos 1024)
+reach_first c r small = omega (arith, ints)
+
+reach_last : (c r : ℕ) → c ≤ 2048 → r ≤ 1023 → pos (c / 2 + r) ≤ℤ pos 3071
+reach_last c r centre small = omega (arith, ints)
+
+pub bounds_near : (shape : Shape) → IsShape shape → IsNearField (bounds_of shape)
+bounds_near (Block x0 x1 y0 y1 z0 z1) limits =
+    record { low = (first_near x0, first_near z0); high = (last_near x1 limits.x_most, last_near z1 limits.z_most) }
+bounds_near (Cylinder cx cz r y0 y1) limits =
+    record {
+      low = (reach_first cx r limits.r_most, reach_first cz r limits.r_most);
+      high = (reach_last cx r limits.cx_most limits.r_most, reach_last cz r limits.cz_most limits.r_most);
+    }
+bounds_near (AreaBlock area x0 x1 y0 y1 z0 z1) (area', limits) =
+    record { low = (first_near x0, first_near z0); high = (last_near x1 limits.x_most, last_near z1 limits.z_most) }
+bounds_near (AreaCylinder area cx cz r y0 y1) (area', limits) =
+    record {
+      low = (reach_first cx r limits.r_most, reach_first cz r limits.r_most);
+      high = (reach_last cx r limits.cx_most limits.r_most, reach_last cz r limits.cz_most limits.r_most);
+    }
+
 -- they are such with more columns on each side, too
 wide_some : (a b : ℤ) (margin : ℕ) → a ≤ℤ b → (a -ℤ pos margin) ≤ℤ (b +ℤ pos margin)
 wide_some a b margin some = omega (arith, ints)
