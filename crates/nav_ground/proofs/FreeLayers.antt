@@ -1,6 +1,6 @@
 -- The free cells of a layer keep the rules of cells.
 use Rattle.std.proofs.Common.{◌≡◌, ℕ, ◌+◌, ◌<◌, Bool, true, false, length, List, [], ◌∷◌, map, get_or, ap, ◌∙◌, sym, refl, subst, Option, Some, None, unwrap_or, arith, zero, suc, inl, inr}
-use Rattle.std.specs.Prelude.{All, IsTrue, ◌&&◌, ◌==◌, not, if◌then◌else◌}
+use Rattle.std.specs.Prelude.{All, Contains, IsTrue, ◌&&◌, ◌==◌, not, if◌then◌else◌}
 use Rattle.std.specs.List.{filter, filter_map, last_or, cons_option}
 use Rattle.std.specs.Option.{option_map_or}
 use Rattle.std.proofs.lemmas.Bool.{and_parts, and_left, and_right, not-true, both_ways, eqb-true, cases_lt}
@@ -68,13 +68,21 @@ one_at_place cells rules' i j d here there same =
       ]
     ]
 
+pub same_at_place : (cells : List Cell) (a b : Cell) → IsCells cells → Contains cells a → Contains cells b → a.at ≡ b.at → a ≡ b
+same_at_place cells a b rules' has_a has_b same =
+    let moved = get_or_default cells has_b.0 a b has_b.1 in
+    sym has_a.2
+    ∙ one_at_place cells rules' has_a.0 has_b.0 a has_a.1 has_b.1
+    (ap (λ (c : Cell). c.at) has_a.2 ∙ same ∙ ap (λ (c : Cell). c.at) (sym (moved ∙ has_b.2)))
+    ∙ moved ∙ has_b.2
+
 -- a cell names one place in a direction
 level_named : (next : Option ℕ) (a b : ℕ) → option_map_or (λ level. level == a) next false ≡ true
     → option_map_or (λ level. level == b) next false ≡ true → a ≡ b
 level_named None a b ha hb = absurd cc
 level_named (Some level) a b ha hb = sym (eqb-true level a ha) ∙ eqb-true level b hb
 
-same_place : (a b : CellRef) → a.x ≡ b.x → a.z ≡ b.z → a.level ≡ b.level → a ≡ b
+pub same_place : (a b : CellRef) → a.x ≡ b.x → a.z ≡ b.z → a.level ≡ b.level → a ≡ b
 same_place a b x z level =
     ap (λ (n : ℕ). record a { x = n }) x ∙ ap (λ (n : ℕ). record a { x = b.x; z = n }) z
     ∙ ap (λ (n : ℕ). record { x = b.x; z = b.z; level = n }) level

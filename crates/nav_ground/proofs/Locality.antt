@@ -11,7 +11,7 @@ use Rattle.nav_ground.specs.declared.cell.Layer.{Layer}
 use Rattle.nav_ground.specs.declared.shape.Shape.{Shape}
 use Rattle.nav_ground.specs.Cells.{IsInTile, is_naming, next_level}
 use Rattle.nav_ground.specs.Shapes.{area_set_by}
-use Rattle.nav_ground.specs.FreeCells.{is_over, is_blocked, is_unblocked, is_same_place, clear_places, is_crowded, is_taken, is_free, area_given, area_under, free_next, free_cell_of, free_layer_of}
+use Rattle.nav_ground.specs.FreeCells.{is_over, is_blocked, is_unblocked, is_same_place, clear_places, is_crowded, is_taken, area_given, area_under, free_next, free_cell_of, free_layer_of}
 use Rattle.nav_ground.specs.Clearance.{kept_cells, places_of}
 use Rattle.nav_ground.specs.Grounds.{IsWideWithin}
 use Rattle.nav_ground.specs.Tiling.{tile_window, widened, margin_of, IsInWindow}
@@ -58,6 +58,26 @@ kept_same f g p q (x ∷ xs) same =
         → map f (cond (p x) (x ∷ filter p xs) (filter p xs)) ≡ map g (cond kept (x ∷ filter q xs) (filter q xs))
     by_test true same' is rest = ap (λ b. map f (cond b (x ∷ filter p xs) (filter p xs))) is ∙ cc
     by_test false same' is rest = ap (λ b. map f (cond b (x ∷ filter p xs) (filter p xs))) is ∙ rest
+
+-- two tests of what is taken, and two lists of shapes, that agree at the cells of a list leave the same free cells
+pub free_cells_same : (f g : Cell → Bool) (few many : List Shape) (cells : List Cell)
+    → All (λ (cell : Cell). (f cell ≡ g cell) × (area_under few cell ≡ area_under many cell)) cells
+    → map (free_cell_of f cells few) (filter (λ (cell : Cell). not (f cell)) cells) ≡ map (free_cell_of g cells many) (filter (λ (cell : Cell). not (g cell)) cells)
+free_cells_same f g few many cells same =
+    kept_same (free_cell_of f cells few) (free_cell_of g cells many) (λ (cell : Cell). not (f cell)) (λ (cell : Cell). not (g cell)) cells
+    (λ k d there. (same_cell (get_or cells k d) (same k d there).1, ap not (same k d there).0))
+  where
+    same_next : (cell : Cell) (dir : ℕ) → free_next f cells cell dir ≡ free_next g cells cell dir
+    same_next cell dir =
+        ap (λ lost. if lost then None else next_level cell dir)
+        (any_same (λ (other : Cell). is_naming dir cell other.at && f other) (λ (other : Cell). is_naming dir cell other.at && g other) cells
+        (λ k d there. ap (λ b. is_naming dir cell (get_or cells k d).at && b) (same k d there).0))
+
+    same_cell : (cell : Cell) → area_under few cell ≡ area_under many cell → free_cell_of f cells few cell ≡ free_cell_of g cells many cell
+    same_cell cell area = λ i. record cell {
+      area = area i;
+      next = same_next cell 0 i ∷ same_next cell 1 i ∷ same_next cell 2 i ∷ same_next cell 3 i ∷ [];
+    }
 
 module _ (setting : Setting) (layer : Layer) (shapes : List Shape) (rules' : IsInTile setting layer.tile layer.cells)
     (within : IsWideWithin setting layer) where
@@ -109,28 +129,12 @@ module _ (setting : Setting) (layer : Layer) (shapes : List Shape) (rules' : IsI
       ap (λ (places : List CellRef). (if layer.radius == 0 then false else not (list_any (is_same_place cell.at) places)) || is_blocked few cell) same_clear
       ∙ ap (λ b. is_crowded layer shapes cell || b) (same_blocked cell near)
 
-  same_next : (cell : Cell) (dir : ℕ) → free_next (is_taken layer few) layer.cells cell dir ≡ free_next (is_taken layer shapes) layer.cells cell dir
-  same_next cell dir =
-      ap (λ lost. if lost then None else next_level cell dir)
-      (any_same (λ (other : Cell). is_naming dir cell other.at && is_taken layer few other)
-      (λ (other : Cell). is_naming dir cell other.at && is_taken layer shapes other)
-      layer.cells (λ k d there.
-      ap (λ b. is_naming dir cell (get_or layer.cells k d).at && b) (same_taken (get_or layer.cells k d) (all_near k d there))))
-
-  same_cell : (cell : Cell) → IsNear cell
-      → free_cell_of (is_taken layer few) layer.cells few cell ≡ free_cell_of (is_taken layer shapes) layer.cells shapes cell
-  same_cell cell near = λ i. record cell {
-    area = same_area cell near i;
-    next = same_next cell 0 i ∷ same_next cell 1 i ∷ same_next cell 2 i ∷ same_next cell 3 i ∷ [];
-  }
-
   -- the free cells of a layer under shapes are those under the shapes that touch its tile
   pub free_layer_local : free_layer_of layer (touching_shapes setting layer.tile shapes) ≡ free_layer_of layer shapes
   free_layer_local =
       ap (λ (cells : List Cell). record { tile = layer.tile; cells = cells })
-      (kept_same (free_cell_of (is_taken layer few) layer.cells few) (free_cell_of (is_taken layer shapes) layer.cells shapes)
-      (is_free layer few) (is_free layer shapes) layer.cells
+      (free_cells_same (is_taken layer few) (is_taken layer shapes) few shapes layer.cells
       (λ k d there.
       let cell : Cell = get_or layer.cells k d in
       let near = all_near k d there in
-      (same_cell cell near, ap not (same_taken cell near))))
+      (same_taken cell near, same_area cell near)))

@@ -9,7 +9,7 @@ use Rattle.nav_ground.specs.declared.setting.Setting.{Setting}
 use Rattle.nav_ground.specs.declared.cell.Window.{Window}
 use Rattle.nav_ground.specs.declared.shape.Shape.{Shape}
 use Rattle.nav_ground.specs.declared.shape.Shape.TheVariants.{Block, Cylinder, AreaBlock, AreaCylinder}
-use Rattle.nav_ground.specs.Limits.{IsSetting, IsShape}
+use Rattle.nav_ground.specs.Limits.{IsSetting, IsBox, IsRound, IsShape}
 use Rattle.nav_ground.specs.Shapes.{Covers, bounds_of}
 use Rattle.nav_ground.specs.Tiling.{tiles_in_row, tile_rows, tile_count, corner_x, corner_z, tile_window, widened, margin_of, IsInWindow}
 use Rattle.nav_ground.specs.Touching.{Touches, are_meeting, are_overlapping, touch_window, is_touching}
@@ -65,37 +65,45 @@ bounds_some (AreaBlock area x0 x1 y0 y1 z0 z1) (area', limits) = record { x = ra
 bounds_some (AreaCylinder area cx cz r y0 y1) limits = record { x = reach_some cx r; z = reach_some cz r }
 
 -- and lie in or near the largest field
+abbrev IsColumn : ℤ → Type 0
+IsColumn x = (pos 0 ≤ℤ (x +ℤ pos 1024)) × (x ≤ℤ pos 3071)
+
 pub record IsNearField (window : Window) : Type 0 where
-  pub low : (pos 0 ≤ℤ (window.x0 +ℤ pos 1024)) × (pos 0 ≤ℤ (window.z0 +ℤ pos 1024))
-  pub high : (window.x1 ≤ℤ pos 3071) × (window.z1 ≤ℤ pos 3071)
+  pub x0 : (pos 0 ≤ℤ (window.x0 +ℤ pos 1024)) × (window.x0 ≤ℤ pos 3071)
+  pub x1 : (pos 0 ≤ℤ (window.x1 +ℤ pos 1024)) × (window.x1 ≤ℤ pos 3071)
+  pub z0 : (pos 0 ≤ℤ (window.z0 +ℤ pos 1024)) × (window.z0 ≤ℤ pos 3071)
+  pub z1 : (pos 0 ≤ℤ (window.z1 +ℤ pos 1024)) × (window.z1 ≤ℤ pos 3071)
 
-first_near : (first : ℕ) → pos 0 ≤ℤ (pos first +ℤ pos 1024)
-first_near first = omega (arith, ints)
+number_near : (x : ℕ) → x ≤ 1023 → IsColumn (pos x)
+number_near x small = (omega (arith, ints), omega (arith, ints))
 
-last_near : (last : ℕ) → last ≤ 1023 → pos last ≤ℤ pos 3071
-last_near last small = omega (arith, ints)
+first_near : (c r : ℕ) → c ≤ 2048 → r ≤ 1023 → IsColumn (pos (div_ceil c 2) -ℤ pos (r + 1))
+first_near c r centre small = (omega (arith, ints), omega (arith, ints))
 
-reach_first : (c r : ℕ) → r ≤ 1023 → pos 0 ≤ℤ ((pos (div_ceil c 2) -ℤ pos (r + 1)) +ℤ pos 1024)
-reach_first c r small = omega (arith, ints)
+last_near : (c r : ℕ) → c ≤ 2048 → r ≤ 1023 → IsColumn (pos (c / 2 + r))
+last_near c r centre small = (omega (arith, ints), omega (arith, ints))
 
-reach_last : (c r : ℕ) → c ≤ 2048 → r ≤ 1023 → pos (c / 2 + r) ≤ℤ pos 3071
-reach_last c r centre small = omega (arith, ints)
+box_near : (x0 x1 y0 y1 z0 z1 : ℕ) → IsBox x0 x1 y0 y1 z0 z1 → IsNearField (bounds_of (Block x0 x1 y0 y1 z0 z1))
+box_near x0 x1 y0 y1 z0 z1 limits = record {
+  x0 = number_near x0 (omega (arith, limits.x, limits.x_most));
+  x1 = number_near x1 limits.x_most;
+  z0 = number_near z0 (omega (arith, limits.z, limits.z_most));
+  z1 = number_near z1 limits.z_most;
+}
+
+round_near : (cx cz r y0 y1 : ℕ) → IsRound cx cz r y0 y1 → IsNearField (bounds_of (Cylinder cx cz r y0 y1))
+round_near cx cz r y0 y1 limits = record {
+  x0 = first_near cx r limits.cx_most limits.r_most;
+  x1 = last_near cx r limits.cx_most limits.r_most;
+  z0 = first_near cz r limits.cz_most limits.r_most;
+  z1 = last_near cz r limits.cz_most limits.r_most;
+}
 
 pub bounds_near : (shape : Shape) → IsShape shape → IsNearField (bounds_of shape)
-bounds_near (Block x0 x1 y0 y1 z0 z1) limits =
-    record { low = (first_near x0, first_near z0); high = (last_near x1 limits.x_most, last_near z1 limits.z_most) }
-bounds_near (Cylinder cx cz r y0 y1) limits =
-    record {
-      low = (reach_first cx r limits.r_most, reach_first cz r limits.r_most);
-      high = (reach_last cx r limits.cx_most limits.r_most, reach_last cz r limits.cz_most limits.r_most);
-    }
-bounds_near (AreaBlock area x0 x1 y0 y1 z0 z1) (area', limits) =
-    record { low = (first_near x0, first_near z0); high = (last_near x1 limits.x_most, last_near z1 limits.z_most) }
-bounds_near (AreaCylinder area cx cz r y0 y1) (area', limits) =
-    record {
-      low = (reach_first cx r limits.r_most, reach_first cz r limits.r_most);
-      high = (reach_last cx r limits.cx_most limits.r_most, reach_last cz r limits.cz_most limits.r_most);
-    }
+bounds_near (Block x0 x1 y0 y1 z0 z1) limits = box_near x0 x1 y0 y1 z0 z1 limits
+bounds_near (Cylinder cx cz r y0 y1) limits = round_near cx cz r y0 y1 limits
+bounds_near (AreaBlock area x0 x1 y0 y1 z0 z1) (area', limits) = box_near x0 x1 y0 y1 z0 z1 limits
+bounds_near (AreaCylinder area cx cz r y0 y1) (area', limits) = round_near cx cz r y0 y1 limits
 
 -- they are such with more columns on each side, too
 wide_some : (a b : ℤ) (margin : ℕ) → a ≤ℤ b → (a -ℤ pos margin) ≤ℤ (b +ℤ pos margin)

@@ -3,13 +3,12 @@ use Rattle.std.proofs.Common.{◌≡◌, ℕ, ◌+◌, ◌<◌, ◌≤◌, Bool,
 use Rattle.std.specs.Prelude.{◌&&◌, ◌||◌, not, ◌*◌, ◌%◌, Contains}
 use Rattle.std.specs.List.{list_any, range_with_len}
 use Rattle.std.proofs.lemmas.Bool.{cases_Bool, or_cases, or_left, or_right, and_parts, and_from, both_ways, false_from_ne_true, not-true}
-use Rattle.std.proofs.lemmas.List.{get_or_default}
 use Rattle.std.proofs.lemmas.List.Elements.{Contains-get_or}
 use Rattle.std.proofs.lemmas.List.Folds.{list_any_none}
 use Rattle.nav_ground.specs.declared.cell.Cell.{Cell}
 use Rattle.nav_ground.specs.Cells.{IsCompact, is_naming, opposite}
 use Rattle.nav_ground.specs.Clearance.{has_neighbour, is_boundary, is_axis_step, is_turn, is_diagonal_step, is_walk_end, is_kept}
-use Rattle.nav_ground.proofs.FreeLayers.{one_at_place, names_one}
+use Rattle.nav_ground.proofs.FreeLayers.{same_at_place, names_one}
 use Rattle.nav_ground.proofs.Selections.{found, any_of, list_any-filter, found_below, any_below}
 use Rattle.agent_erode.proofs.Walks.{any_direction, direction_any}
 
@@ -81,15 +80,6 @@ module _ (p : Cell → Bool) (cells : List Cell) (compact : IsCompact cells) whe
   any_left q cell has open' passes =
       list_any-filter p q cells ∙ any_of (λ (c : Cell). p c && q c) cells cell has (and_from (p cell) (q cell) open' passes)
 
-  -- a place of a field is that of one cell
-  pub same_cell : (a b : Cell) → Contains cells a → Contains cells b → a.at ≡ b.at → a ≡ b
-  same_cell a b has_a has_b same =
-      let moved = get_or_default cells has_b.0 a b has_b.1 in
-      sym has_a.2
-      ∙ one_at_place cells compact.rules has_a.0 has_b.0 a has_a.1 has_b.1
-      (ap (λ (c : Cell). c.at) has_a.2 ∙ same ∙ ap (λ (c : Cell). c.at) (sym (moved ∙ has_b.2)))
-      ∙ moved ∙ has_b.2
-
   -- beside a cell that is left out stand boundary cells
   beside_left_out : (from to : Cell) → Contains cells from → Contains cells to → p from ≡ false → is_axis_step from to ≡ true
       → is_boundary left to ≡ true
@@ -105,7 +95,7 @@ module _ (p : Cell → Bool) (cells : List Cell) (compact : IsCompact cells) whe
       let other : Cell = get_or cells k d in
       false_from_ne_true (p other && is_naming (opposite dir) to other.at) (λ h.
       let parts = and_parts (p other) _ h in
-      let same = same_cell other from (Contains-get_or cells k d there) has_from (names_one (opposite dir) to other.at from.at small parts.1 back) in
+      let same = same_at_place cells other from compact.rules (Contains-get_or cells k d there) has_from (names_one (opposite dir) to other.at from.at small parts.1 back) in
       both_ways (p from) closed (ap p (sym same) ∙ parts.0))))
 
   -- a boundary cell is one among fewer cells
