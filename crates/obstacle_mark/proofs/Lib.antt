@@ -3,3 +3,5 @@ pub mod Rows
 pub mod Columns
 pub mod Blocked
 pub mod FreeCellsLeft
+pub mod FewerCells
+pub mod WholeFree

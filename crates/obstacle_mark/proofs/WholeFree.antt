@@ -57,17 +57,17 @@ place_found cells q cell compact has =
     list_any-map (is_same_place cell.at) (λ (c : Cell). c.at) (filter q cells)
     ∙ list_any-filter q (λ (c : Cell). is_same_place cell.at c.at) cells
     ∙ elim (cases_Bool (q cell)) [
-      | inl yes ↦
-          any_of (λ (c : Cell). q c && is_same_place cell.at c.at) cells cell has (and_from _ _ yes (place_itself cell.at)) ∙ sym yes
-      | inr no ↦
+      | inl passes ↦
+          any_of (λ (c : Cell). q c && is_same_place cell.at c.at) cells cell has (and_from _ _ passes (place_itself cell.at)) ∙ sym passes
+      | inr fails ↦
           list_any_none (λ (c : Cell). q c && is_same_place cell.at c.at) cells
           (λ k d there.
           let other : Cell = get_or cells k d in
           false_from_ne_true (q other && is_same_place cell.at other.at) (λ h.
           let parts = and_parts (q other) _ h in
           let same = same_at_place cells cell other compact.rules has (Contains-get_or cells k d there) (place_told cell.at other.at parts.1) in
-          both_ways (q cell) no (ap q same ∙ parts.0)))
-          ∙ sym no
+          both_ways (q cell) fails (ap q same ∙ parts.0)))
+          ∙ sym fails
     ]
 
 -- the places of the free cells of a layer, by the kept cells that its cells are made from
