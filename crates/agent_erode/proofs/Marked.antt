@@ -48,23 +48,36 @@ marked_by_test p (cell ∷ cells) =
     [ true ↦ ap (λ (cs : List Cell). cell ∷ cs) rest | false ↦ rest ]
 
 -- one cell more, which is marked, and which is not
+next_marked : (cells : List Cell) (marks : List Bool) (i : ℕ) (d : Cell) (e : Bool) → i < length cells → i < length marks
+    → get_or marks i e ≡ true
+    → marked (take (suc i) cells) (take (suc i) marks) ≡ marked (take i cells) (take i marks) ++ get_or cells i d ∷ []
+next_marked [] marks i d e there beside mark = absurd (omega (arith, there))
+next_marked (cell ∷ cells) [] i d e there beside mark = absurd (omega (arith, beside))
+next_marked (cell ∷ cells) (m ∷ marks) zero d e there beside mark = ap (λ b. if b then cell ∷ [] else []) mark
+next_marked (cell ∷ cells) (true ∷ marks) (suc i) d e there beside mark =
+    ap (λ (cs : List Cell). cell ∷ cs) (next_marked cells marks i d e (omega (arith, there)) (omega (arith, beside)) mark)
+next_marked (cell ∷ cells) (false ∷ marks) (suc i) d e there beside mark =
+    next_marked cells marks i d e (omega (arith, there)) (omega (arith, beside)) mark
+
+next_unmarked : (cells : List Cell) (marks : List Bool) (i : ℕ) (e : Bool) → i < length cells → i < length marks → get_or marks i e ≡ false
+    → marked (take (suc i) cells) (take (suc i) marks) ≡ marked (take i cells) (take i marks)
+next_unmarked [] marks i e there beside mark = absurd (omega (arith, there))
+next_unmarked (cell ∷ cells) [] i e there beside mark = absurd (omega (arith, beside))
+next_unmarked (cell ∷ cells) (m ∷ marks) zero e there beside mark = ap (λ b. if b then cell ∷ [] else []) mark
+next_unmarked (cell ∷ cells) (true ∷ marks) (suc i) e there beside mark =
+    ap (λ (cs : List Cell). cell ∷ cs) (next_unmarked cells marks i e (omega (arith, there)) (omega (arith, beside)) mark)
+next_unmarked (cell ∷ cells) (false ∷ marks) (suc i) e there beside mark =
+    next_unmarked cells marks i e (omega (arith, there)) (omega (arith, beside)) mark
+
 pub one_more_marked : (cells : List Cell) (marks : List Bool) (i : ℕ) (d : Cell) (e : Bool) → i < length cells → i < length marks
     → get_or marks i e ≡ true
     → marked (take (i + 1) cells) (take (i + 1) marks) ≡ marked (take i cells) (take i marks) ++ get_or cells i d ∷ []
-one_more_marked [] marks i d e there beside mark = absurd (omega (arith, there))
-one_more_marked (cell ∷ cells) [] i d e there beside mark = absurd (omega (arith, beside))
-one_more_marked (cell ∷ cells) (m ∷ marks) zero d e there beside mark = ap (λ b. if b then cell ∷ [] else []) mark
-one_more_marked (cell ∷ cells) (true ∷ marks) (suc i) d e there beside mark =
-    ap (λ (cs : List Cell). cell ∷ cs) (one_more_marked cells marks i d e (omega (arith, there)) (omega (arith, beside)) mark)
-one_more_marked (cell ∷ cells) (false ∷ marks) (suc i) d e there beside mark =
-    one_more_marked cells marks i d e (omega (arith, there)) (omega (arith, beside)) mark
+one_more_marked cells marks i d e there beside mark =
+    let same : i + 1 ≡ suc i = omega arith in
+    ap (λ (n : ℕ). marked (take n cells) (take n marks)) same ∙ next_marked cells marks i d e there beside mark
 
 pub one_less_marked : (cells : List Cell) (marks : List Bool) (i : ℕ) (e : Bool) → i < length cells → i < length marks → get_or marks i e ≡ false
     → marked (take (i + 1) cells) (take (i + 1) marks) ≡ marked (take i cells) (take i marks)
-one_less_marked [] marks i e there beside mark = absurd (omega (arith, there))
-one_less_marked (cell ∷ cells) [] i e there beside mark = absurd (omega (arith, beside))
-one_less_marked (cell ∷ cells) (m ∷ marks) zero e there beside mark = ap (λ b. if b then cell ∷ [] else []) mark
-one_less_marked (cell ∷ cells) (true ∷ marks) (suc i) e there beside mark =
-    ap (λ (cs : List Cell). cell ∷ cs) (one_less_marked cells marks i e (omega (arith, there)) (omega (arith, beside)) mark)
-one_less_marked (cell ∷ cells) (false ∷ marks) (suc i) e there beside mark =
-    one_less_marked cells marks i e (omega (arith, there)) (omega (arith, beside)) mark
+one_less_marked cells marks i e there beside mark =
+    let same : i + 1 ≡ suc i = omega arith in
+    ap (λ (n : ℕ). marked (take n cells) (take n marks)) same ∙ next_unmarked cells marks i e there beside mark
