@@ -5,4 +5,4 @@ pub mod Blocked
 pub mod FreeCellsLeft
 pub mod FewerCells
 pub mod WholeFree
-pub mod Clear
+pub mod ClearPlaces
