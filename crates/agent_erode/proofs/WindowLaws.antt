@@ -8,11 +8,10 @@ use Rattle.std.proofs.lemmas.List.Sums.{length-filter, count_by-le-length}
 use Rattle.std.proofs.lemmas.List.Elements.{All-filter, filter_agree, filter-append}
 use Rattle.std.proofs.lemmas.List.{get_or-take, get_or-drop, length-take, length-drop, append-nil, take-append-drop}
 use Rattle.std.specs.List.Sorted.{IsNonDecreasingBy}
-use Rattle.std.proofs.lemmas.List.Kept.{AllPairs-filter}
 use Rattle.nav_ground.specs.declared.cell.Cell.{Cell}
 use Rattle.nav_ground.specs.declared.cell.CellRef.{CellRef}
 use Rattle.nav_ground.specs.declared.cell.Window.{Window}
-use Rattle.nav_ground.specs.Cells.{IsCellBefore, IsCell, IsCells, is_naming, is_toward}
+use Rattle.nav_ground.specs.Cells.{IsCellBefore, IsCells, is_naming, is_toward}
 use Rattle.nav_ground.specs.Tiling.{is_in_window, widened}
 use Rattle.nav_ground.specs.Clearance.{has_neighbour, is_boundary, is_axis_step, is_turn, is_diagonal_step, is_walk_end, is_kept, kept_cells, cells_in}
 use Rattle.cell_table.proofs.Places.{no_cell}

@@ -1,6 +1,6 @@
 -- The layers of a field keep the rules of layers, and their cells lie in their tiles.
-use Rattle.std.proofs.Common.{◌≡◌, ◌<◌, ◌≤◌, ℕ, Bool, true, false, length, List, [], map, get_or, ap, ◌∙◌, sym, refl, subst, Option, None, arith, zero, suc, ℤ, pos, ◌≤ℤ◌, int_le}
-use Rattle.std.specs.Prelude.{All, AllPairs, Contains, IsTrue, ◌&&◌, ◌==◌, if◌then◌else◌}
+use Rattle.std.proofs.Common.{◌≡◌, ◌<◌, ℕ, Bool, true, false, length, List, [], map, get_or, ap, ◌∙◌, sym, refl, subst, Option, None, arith, zero, suc, ℤ, pos, ◌≤ℤ◌, int_le}
+use Rattle.std.specs.Prelude.{All, Contains, IsTrue, ◌&&◌, ◌==◌, if◌then◌else◌}
 use Rattle.std.specs.List.{filter, range_with_len}
 use Rattle.std.specs.Option.{option_map_or}
 use Rattle.std.proofs.lemmas.Bool.{and_parts, both_ways}
@@ -19,10 +19,10 @@ use Rattle.nav_ground.specs.declared.history.Ground.{Ground}
 use Rattle.nav_ground.specs.declared.setting.Setting.{Setting}
 use Rattle.nav_ground.specs.Fields.{IsField}
 use Rattle.nav_ground.specs.Limits.{IsSetting}
-use Rattle.nav_ground.specs.Cells.{IsCell, IsCells, IsCellBefore, IsCompact, IsCut, IsLayer, IsInTile, is_toward, is_naming, next_level, opposite}
+use Rattle.nav_ground.specs.Cells.{IsCell, IsCells, IsCellBefore, IsCompact, IsCut, is_toward, is_naming, next_level, opposite}
 use Rattle.nav_ground.specs.Tiling.{tile_count, tile_window, widened, margin_of, IsInWindow, is_in_window}
-use Rattle.nav_ground.specs.Grounds.{IsSized, IsLayerOf, IsWideWithin, IsGround}
-use Rattle.nav_ground.specs.Clearance.{has_neighbour, is_kept, kept_cells, cells_in}
+use Rattle.nav_ground.specs.Grounds.{IsLayerOf, IsWideWithin, IsGround}
+use Rattle.nav_ground.specs.Clearance.{has_neighbour, is_kept, cells_in}
 use Rattle.nav_ground.specs.Filters.{filtered_areas}
 use Rattle.nav_ground.specs.Layers.{cells_of, kept_cells_of, kept_level, layer_cell, wide_cells, layer_among, layer_of, layers_of}
 use Rattle.nav_ground.proofs.Kept.{few_kept, AllPairs-map}
