@@ -11,7 +11,7 @@ use Rattle.contour_mesh.specs.declared.outcome.ContourMesh.TheVariants.{Made, No
 -- the mesh by the outlines where each region has one that can be cut, and otherwise the free cells again, with their strips
 abbrev pub IsMeshOrCells : Setting → FreeLayer → ContourMesh → Type 0
 IsMeshOrCells setting free (Made mesh) = contour_mesh_of setting free ≡ Some mesh
-IsMeshOrCells setting free (NotCut cells strips) = (contour_mesh_of setting free ≡ None) × (cells ≡ free) × IsTableOf free.cells strips
+IsMeshOrCells setting free (NotCut cells strips) = (contour_mesh_of setting free ≡ None) × (cells ≡ free) × IsTableOf cells.cells strips
 
 -- P of the mesh, where one is made
 abbrev pub IfMade : (TileMesh → Type 0) → ContourMesh → Type 0

@@ -9,7 +9,7 @@ ghost use Rattle.mesh_types.specs.Passages.{AreTwoWay, ListsCrossings};
 ghost use Rattle.mesh_types.specs.Soundness.{IsFit};
 ghost use Rattle.mesh_types.specs.ContourMeshes.{doors_of, door_links, door_rim, facet_polygon, facets_of, parts_mesh};
 ghost use Rattle.contour_walk.specs.Tables.{IsTableOf};
-ghost use Rattle.mono_regions.specs.Joining as StripTables;
+ghost use Rattle.mono_regions.specs.Joining as strip_tables;
 ghost use Rattle.contour_mesh.specs.declared.outcome.ContourMesh.{ContourMesh};
 ghost use Rattle.contour_mesh.specs.Outcomes.{IsMeshOrCells, IfMade};
 ghost use Rattle.contour_mesh.specs.Linked.{LinksFacing};
@@ -36,7 +36,7 @@ use nav_list::Items;
 use std::alloc::{AllocError, Global};
 
 /// The mesh of a tile by the outlines of its regions, from its free cells, which it takes over: the pieces of each outline as polygons, the
-/// links between them, and the rim. Where some region has no outline, or one that cannot be cut, the free cells come back.
+/// links between them, and the rim. Where some region has no outline, or one that cannot be cut, the free cells come back, with their strips.
 pub fn contour_mesh_over(
     alloc: Global,
     free: FreeLayer,
@@ -83,7 +83,7 @@ fn mesh_over_regions(
     requires regions { AreRegionsOf free.cells regions.now }
     requires all { regions.now ≡ regions_of free.cells }
     requires table { IsTableOf free.cells regions.now.regions table }
-    requires strips { StripTables.IsTableOf free.cells (record { table = table.neighbours; index = index }) }
+    requires strips { strip_tables.IsTableOf free.cells (record { table = table.neighbours; index = index }) }
     requires window { table.window ≡ tile_window setting.now free.tile }
     ensures value { IfOk result (IsMeshOrCells setting.now free) }
     ensures fit { IfOk result (IfMade (IsFit setting.now)) }
@@ -105,13 +105,8 @@ fn mesh_over_regions(
 fn not_cut(free: FreeLayer, table: RegionTable, index: StripIndex) -> ContourMesh
     ensures { result ≡ ContourMesh.NotCut free (record { table = table.neighbours; index = index }) }
 {
-    let RegionTable {
-        window: _,
-        neighbours,
-        owners: _,
-    } = table;
     let strips = StripTable {
-        table: neighbours,
+        table: table.neighbours,
         index,
     };
     ContourMesh::NotCut { free, strips }
