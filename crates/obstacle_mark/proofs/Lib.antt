@@ -3,3 +3,4 @@ pub mod Rows
 pub mod Columns
 pub mod Blocked
 pub mod FreeCellsLeft
+pub mod AwayPlaces

@@ -30,6 +30,13 @@ pub record IsPassed (places : List CellRef) (n column : ℕ) : Type 0 where
   pub most : n ≤ length places
   pub before : (k : ℕ) (d : CellRef) → k < n → column_of (slice_index_or places k d) < column
 
+-- a place comes more than a row of columns before a column, or behind it; so it is in none of the columns beside that one
+abbrev pub LiesBefore : ℕ → CellRef → Type 0
+LiesBefore column at = column_of at + 2048 < column
+
+abbrev pub LiesBehind : ℕ → CellRef → Type 0
+LiesBehind column at = column + 2048 < column_of at
+
 -- a place comes before a column, in the order of cells: by z, then by x
 abbrev pub is_before : ℕ → ℕ → CellRef → Bool
 is_before x z at = nat_lt at.z z || (at.z == z && nat_lt at.x x)

@@ -1,10 +1,10 @@
 //! The places of blocked cells, and which neighbours are among them.
 
-ghost use Rattle.std.specs.Prelude.{◌≡◌, ℕ, ◌<◌, ◌≤◌, IfOk, List, map, length, slice_index_or, vec_len};
+ghost use Rattle.std.specs.Prelude.{◌≡◌, ℕ, ◌<◌, ◌≤◌, All, IfOk, IsTrue, List, map, length, slice_index_or, vec_len};
 ghost use Rattle.nav_ground.specs.declared.cell.CellRef.{CellRef};
 ghost use Rattle.nav_ground.specs.declared.shape.Shape.{Shape};
 ghost use Rattle.obstacle_mark.specs.AreasLeft.{area_left};
-ghost use Rattle.obstacle_mark.specs.Columns.{IsPlace, ArePlaces, IsPassed, column_of};
+ghost use Rattle.obstacle_mark.specs.Columns.{IsPlace, ArePlaces, IsPassed, LiesBefore, LiesBehind, column_of};
 ghost use Rattle.obstacle_mark.specs.Places.{places_blocked, level_kept, ArePassed};
 
 use nav_ground::{Cell, CellRef};
@@ -40,7 +40,8 @@ pub fn blocked_places(
     Ok(places)
 }
 
-/// The levels that a cell names in the four directions, without those neighbours that are among the blocked places.
+/// The levels that a cell names in the four directions, without those neighbours that are among the blocked places. Where these lie more
+/// than a row of columns away, and so where there are none, none of the four is looked up.
 pub fn next_kept(blocked: &[CellRef], passed: &mut Passed, cell: &Cell) -> [Option<u32>; 4]
     requires cell { IsPlace cell.now.at }
     requires blocked { ArePlaces blocked.now }
@@ -48,6 +49,10 @@ pub fn next_kept(blocked: &[CellRef], passed: &mut Passed, cell: &Cell) -> [Opti
     ensures next { result ≡ Rattle.obstacle_mark.specs.Places.next_kept blocked.now cell.now }
     ensures passed { ArePassed blocked.now passed.new cell.now.at }
 {
+    let column = column_of(cell.at);
+    if lie_before(blocked, column) || lie_behind(blocked, column) {
+        return [cell.next[0], cell.next[1], cell.next[2], cell.next[3]];
+    }
     [
         level_kept(blocked, &mut passed.left, cell, 0),
         level_kept(blocked, &mut passed.above, cell, 1),
@@ -72,6 +77,29 @@ fn level_kept(blocked: &[CellRef], passed: &mut usize, cell: &Cell, dir: usize) 
         None
     } else {
         Some(level)
+    }
+}
+
+/// Whether all of the places come more than a row of columns before a column.
+fn lie_before(places: &[CellRef], column: u32) -> bool
+    requires { ArePlaces places.now }
+    ensures { IsTrue result → All (LiesBefore column) places.now }
+{
+    match places.last() {
+        Some(last) => column_of(*last) + 2048 < column,
+        None => true,
+    }
+}
+
+/// Whether all of the places come more than a row of columns behind a column.
+fn lie_behind(places: &[CellRef], column: u32) -> bool
+    requires places { ArePlaces places.now }
+    requires column { column < 2099200 }
+    ensures { IsTrue result → All (LiesBehind column) places.now }
+{
+    match places.first() {
+        Some(first) => column + 2048 < column_of(*first),
+        None => true,
     }
 }
 
