@@ -182,18 +182,39 @@ fn links_after(
         ≡ Rattle.mesh_types.specs.WholeMesh.cross_links setting.now tiles.now (get_or tiles.now place e)) }
 {
     if changes.near[place] {
-        let links = near_links(
+        Ok(shared_near_links(
             alloc,
             setting,
             tiles,
             changes.news,
             cross[place].get(),
             tiles[place].get(),
-        )?;
-        Ok(Shared::new(alloc, links)?)
+        )?)
     } else {
         Ok(cross[place].share()?)
     }
+}
+
+/// What `near_links` gives, as a value that several meshes can share.
+fn shared_near_links(
+    alloc: Global,
+    setting: &Setting,
+    tiles: &[Shared<TileMesh>],
+    news: &[(TileNo, Shared<TileMesh>)],
+    old: &Links,
+    tile: &TileMesh,
+) -> Result<Shared<Links>, AllocError>
+    requires setting { IsSetting setting.now }
+    requires tiles { AreTiles setting.now tiles.now }
+    requires tile { IsFit setting.now tile.now }
+    requires few { length tile.now.polys ≤ 8000000 }
+    requires rising { AreRising news.now }
+    requires old { Rattle.tile_links.specs.NewTiles.is_new news.now tile.now.tile ≡ false
+        → KeepsOld setting.now news.now tiles.now tile.now old.now }
+    ensures { IfOk result (λ links. links ≡ Rattle.mesh_types.specs.WholeMesh.cross_links setting.now tiles.now tile.now) }
+{
+    let links = near_links(alloc, setting, tiles, news, old, tile)?;
+    Ok(Shared::new(alloc, links)?)
 }
 
 /// The links that leave a tile near a new one, given those that left it before: all of them again where the tile is new itself, and else
