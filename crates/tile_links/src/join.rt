@@ -67,7 +67,7 @@ fn all_cross_links(
 }
 
 /// The links that leave a tile for other tiles, as a value that several meshes can share.
-pub fn shared_cross_links(
+fn shared_cross_links(
     alloc: Global,
     setting: &Setting,
     tiles: &[Shared<TileMesh>],
