@@ -1,32 +1,28 @@
 -- Blocked places more than a row of columns away take no neighbour from a cell.
-use Rattle.std.proofs.Common.{◌≡◌, ℕ, zero, suc, ◌+◌, ◌-◌, ◌<◌, ◌⊎◌, inl, inr, false, length, List, [], ◌∷◌, get_or, ap, ◌∙◌, sym, refl, Option, None, arith}
+use Rattle.std.proofs.Common.{◌≡◌, ℕ, zero, suc, ◌+◌, ◌-◌, ◌<◌, ◌⊎◌, inl, inr, false, length, List, [], ◌∷◌, get_or, ap, ◌∙◌, sym, refl, subst, Option, None, arith}
 use Rattle.std.specs.Prelude.{All, ◌==◌, if◌then◌else◌, option_and_then, slice_get}
 use Rattle.std.specs.List.{list_any}
 use Rattle.std.proofs.lemmas.Bool.{and_left, ne_eqb}
-use Rattle.std.proofs.lemmas.List.Elements.{All-weaker}
 use Rattle.std.proofs.lemmas.List.Folds.{list_any_none}
 use Rattle.nav_ground.specs.declared.cell.Cell.{Cell}
 use Rattle.nav_ground.specs.declared.cell.CellRef.{CellRef}
 use Rattle.nav_ground.specs.Cells.{is_naming, next_level}
-use Rattle.obstacle_mark.specs.Columns.{IsPlace, ArePlaces, LiesBefore, LiesBehind, column_of}
+use Rattle.obstacle_mark.specs.Columns.{IsPlace, ArePlaces, LiesAway, LiesBefore, LiesBehind, column_of}
 use Rattle.obstacle_mark.specs.Places.{level_kept, next_kept}
 use Rattle.obstacle_mark.proofs.Columns.{toward_number}
 
 -- a number more than 2048 away is none of the four beside
-none_beside : (dir own other : ℕ) → (other + 2048 < own) ⊎ (own + 2048 < other)
+none_beside : (dir own other : ℕ) → dir < 4 → (other + 2048 < own) ⊎ (own + 2048 < other)
     → other ≡ (if dir == 0 then own - 1 else (if dir == 1 then own + 2048 else (if dir == 2 then own + 1 else own - 2048))) → ⊥
-none_beside zero own other (inl before) same = omega (arith, before, same)
-none_beside zero own other (inr behind) same = omega (arith, behind, same)
-none_beside (suc zero) own other (inl before) same = omega (arith, before, same)
-none_beside (suc zero) own other (inr behind) same = omega (arith, behind, same)
-none_beside (suc (suc zero)) own other (inl before) same = omega (arith, before, same)
-none_beside (suc (suc zero)) own other (inr behind) same = omega (arith, behind, same)
-none_beside (suc (suc (suc dir))) own other (inl before) same = omega (arith, before, same)
-none_beside (suc (suc (suc dir))) own other (inr behind) same = omega (arith, behind, same)
-
--- a place lies so far from a column
-abbrev LiesAway : ℕ → CellRef → Type 0
-LiesAway column at = (column_of at + 2048 < column) ⊎ (column + 2048 < column_of at)
+none_beside zero own other small (inl before) same = omega (arith, before, same)
+none_beside zero own other small (inr behind) same = omega (arith, behind, same)
+none_beside (suc zero) own other small (inl before) same = omega (arith, before, same)
+none_beside (suc zero) own other small (inr behind) same = omega (arith, behind, same)
+none_beside (suc (suc zero)) own other small (inl before) same = omega (arith, before, same)
+none_beside (suc (suc zero)) own other small (inr behind) same = omega (arith, behind, same)
+none_beside (suc (suc (suc zero))) own other small (inl before) same = omega (arith, before, same)
+none_beside (suc (suc (suc zero))) own other small (inr behind) same = omega (arith, behind, same)
+none_beside (suc (suc (suc (suc dir)))) own other small away same = absurd (omega (arith, small))
 
 -- a cell names none of such places, and keeps the level that it names
 kept_away : (dir : ℕ) (cell : Cell) (blocked : List CellRef) → dir < 4 → IsPlace cell.at → All IsPlace blocked
@@ -36,7 +32,7 @@ kept_away dir cell blocked small f each away =
     (list_any_none (λ (at : CellRef). is_naming dir cell at) blocked
     (λ k d there.
     and_left _ _ (toward_number dir cell.at (get_or blocked k d) small f (each k d there)
-    ∙ ne_eqb _ _ (none_beside dir (column_of cell.at) (column_of (get_or blocked k d)) (away k d there))))))
+    ∙ ne_eqb _ _ (none_beside dir (column_of cell.at) (column_of (get_or blocked k d)) small (away k d there))))))
 
 -- the level that stands at a place
 level_at : (nexts : List (Option ℕ)) (dir : ℕ) → get_or nexts dir None ≡ option_and_then (λ (next : Option ℕ). next) (slice_get nexts dir)
@@ -51,21 +47,12 @@ all_kept cell blocked f each away =
     λ dir small. level_at cell.next dir ∙ kept_away dir cell blocked small f each away in
     cc (same 0 (omega arith), same 1 (omega arith), same 2 (omega arith), same 3 (omega arith))
 
--- what a cell keeps where all places come more than a row of columns before its column
-pub kept_behind : (cell : Cell) (blocked : List CellRef) (column : ℕ) → IsPlace cell.at → ArePlaces blocked → column ≡ column_of cell.at
-    → All (LiesBefore column) blocked
+-- what a cell keeps where all places lie more than a row of columns away from its column
+pub kept_all : (cell : Cell) (blocked : List CellRef) (column : ℕ) → IsPlace cell.at → ArePlaces blocked → column ≡ column_of cell.at
+    → All (LiesAway column) blocked
     → get_or cell.next 0 None ∷ get_or cell.next 1 None ∷ get_or cell.next 2 None ∷ get_or cell.next 3 None ∷ [] ≡ next_kept blocked cell
-kept_behind cell blocked column f rules' same before =
-    all_kept cell blocked f rules'.each
-    (All-weaker (LiesBefore column) (LiesAway (column_of cell.at)) (λ at less. inl (omega (arith, less, same))) blocked before)
-
--- and where all come more than a row of columns behind it
-pub kept_before : (cell : Cell) (blocked : List CellRef) (column : ℕ) → IsPlace cell.at → ArePlaces blocked → column ≡ column_of cell.at
-    → All (LiesBehind column) blocked
-    → get_or cell.next 0 None ∷ get_or cell.next 1 None ∷ get_or cell.next 2 None ∷ get_or cell.next 3 None ∷ [] ≡ next_kept blocked cell
-kept_before cell blocked column f rules' same behind =
-    all_kept cell blocked f rules'.each
-    (All-weaker (LiesBehind column) (LiesAway (column_of cell.at)) (λ at more. inr (omega (arith, more, same))) blocked behind)
+kept_all cell blocked column f rules' same away =
+    all_kept cell blocked f rules'.each (subst (λ (n : ℕ). All (LiesAway n) blocked) same away)
 
 -- places in order come before a column where the last of them does, and behind it where the first of them does
 pub all_before : (places : List CellRef) (column : ℕ) → ArePlaces places

@@ -1,5 +1,5 @@
 -- Columns by number, so that places in order have columns in order.
-use Rattle.std.specs.Prelude.{◌≡◌, ℕ, ◌+◌, ◌-◌, ◌*◌, ◌<◌, ◌≤◌, ◌==◌, nat_lt, Bool, ◌&&◌, ◌||◌, if◌then◌else◌, List, length, All, slice_index_or}
+use Rattle.std.specs.Prelude.{◌≡◌, ℕ, ◌+◌, ◌-◌, ◌*◌, ◌<◌, ◌≤◌, ◌⊎◌, ◌==◌, nat_lt, Bool, ◌&&◌, ◌||◌, if◌then◌else◌, List, length, All, slice_index_or}
 use Rattle.std.specs.List.Sorted.{IsNonDecreasingBy}
 use Rattle.nav_ground.specs.declared.cell.CellRef.{CellRef}
 
@@ -36,6 +36,9 @@ LiesBefore column at = column_of at + 2048 < column
 
 abbrev pub LiesBehind : ℕ → CellRef → Type 0
 LiesBehind column at = column + 2048 < column_of at
+
+abbrev pub LiesAway : ℕ → CellRef → Type 0
+LiesAway column at = LiesBefore column at ⊎ LiesBehind column at
 
 -- a place comes before a column, in the order of cells: by z, then by x
 abbrev pub is_before : ℕ → ℕ → CellRef → Bool

@@ -4,7 +4,7 @@ ghost use Rattle.std.specs.Prelude.{◌≡◌, ℕ, ◌<◌, ◌≤◌, All, IfO
 ghost use Rattle.nav_ground.specs.declared.cell.CellRef.{CellRef};
 ghost use Rattle.nav_ground.specs.declared.shape.Shape.{Shape};
 ghost use Rattle.obstacle_mark.specs.AreasLeft.{area_left};
-ghost use Rattle.obstacle_mark.specs.Columns.{IsPlace, ArePlaces, IsPassed, LiesBefore, LiesBehind, column_of};
+ghost use Rattle.obstacle_mark.specs.Columns.{IsPlace, ArePlaces, IsPassed, LiesAway, LiesBefore, LiesBehind, column_of};
 ghost use Rattle.obstacle_mark.specs.Places.{places_blocked, level_kept, ArePassed};
 
 use nav_ground::{Cell, CellRef};
@@ -50,7 +50,7 @@ pub fn next_kept(blocked: &[CellRef], passed: &mut Passed, cell: &Cell) -> [Opti
     ensures passed { ArePassed blocked.now passed.new cell.now.at }
 {
     let column = column_of(cell.at);
-    if lie_before(blocked, column) || lie_behind(blocked, column) {
+    if are_away(blocked, column) {
         return [cell.next[0], cell.next[1], cell.next[2], cell.next[3]];
     }
     [
@@ -78,6 +78,15 @@ fn level_kept(blocked: &[CellRef], passed: &mut usize, cell: &Cell, dir: usize) 
     } else {
         Some(level)
     }
+}
+
+/// Whether all of the places come more than a row of columns before a column, or all behind it.
+fn are_away(places: &[CellRef], column: u32) -> bool
+    requires places { ArePlaces places.now }
+    requires column { column < 2099200 }
+    ensures { IsTrue result → All (LiesAway column) places.now }
+{
+    lie_before(places, column) || lie_behind(places, column)
 }
 
 /// Whether all of the places come more than a row of columns before a column.
