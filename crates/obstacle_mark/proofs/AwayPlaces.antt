@@ -1,5 +1,5 @@
 -- Blocked places more than a row of columns away take no neighbour from a cell.
-use Rattle.std.proofs.Common.{◌≡◌, ℕ, zero, suc, ◌+◌, ◌-◌, ◌<◌, ◌⊎◌, inl, inr, false, length, List, [], ◌∷◌, get_or, ap, ◌∙◌, sym, refl, subst, Option, None, arith}
+use Rattle.std.proofs.Common.{◌≡◌, ℕ, zero, suc, ◌+◌, ◌-◌, ◌<◌, ◌⊎◌, inl, inr, length, List, [], ◌∷◌, get_or, ap, ◌∙◌, sym, refl, subst, Option, None, arith}
 use Rattle.std.specs.Prelude.{All, ◌==◌, if◌then◌else◌, option_and_then, slice_get}
 use Rattle.std.specs.List.{list_any}
 use Rattle.std.proofs.lemmas.Bool.{and_left, ne_eqb}
