@@ -16,8 +16,7 @@ use Rattle.contour_mesh.proofs.build.mesh_over_regions.Goals as goal
 
 pub returns-in-None-clause-value : goal.returns-in-None-clause-value
 returns-in-None-clause-value c =
-    subst (IsMeshOrCells c.args.setting.now c.args.free) (sym c.not_cut.ensures)
-    (
+    subst (IsMeshOrCells c.args.setting.now c.args.free) (sym c.not_cut.ensures) (
       no_mesh c.args.setting.now c.args.free c.requires.cells c.requires.tile c.args.regions.now c.requires.regions c.args.table.window
           c.requires.window c.as_slice-cells.result.now c.as_slice-cells.ensures c.requires.all (sym c.in-None.is ∙ c.in_ok-parts.ensures.value),
       refl,
