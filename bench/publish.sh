@@ -33,8 +33,8 @@ timed() {
 
 least() { awk '{ print $1 + $2 }' "$work/$1.times" | sort -n | head -n 1; }
 
-# row SIDE TILE SPANS SETTLES: the times of both programs with the settles and without
-row() {
+# timed_level SIDE TILE SPANS SETTLES: the times of both programs with the settles and without
+timed_level() {
     rm -f "$work"/*.times
     level "$1" "$2" "$3" "$4" > "$work/many"
     awk '{ print } /^script / { exit }' "$work/many" > "$work/none"
@@ -51,12 +51,12 @@ each() { echo "$(least "$1.many") $(least "$1.none") $2" | awk '{ printf "%.1f",
 
 status=0
 for tile in 128 32 16 8; do
-    row 1024 $tile one 4000 ""
+    timed_level 1024 $tile one 4000 ""
     own=$(each own 4000)
     echo "an empty tile of $((1024 / tile * 1024 / tile)): $own us a settle"
     [ $tile -ne 32 ] || echo "$own" | awk '{ exit !($1 <= 60) }' || status=1
 done
-row 512 16 floor 20000 "$peer"
+timed_level 512 16 floor 20000 "$peer"
 own=$(each own 20000)
 if [ -z "$peer" ]; then
     echo "a block on a floor of 1024 tiles: $own us a settle"
