@@ -23,22 +23,21 @@ pub fn summary(
     ensures { IfOk result (λ text. text.items ≡ summary_text number size bytes lines totals.now) }
 {
     let mut text = Vec::with_capacity(alloc, SUMMARY_BYTES)?;
-    push_summary(&mut text, number, size, bytes, lines, totals)?;
+    push_summary(&mut text, (number, size), (bytes, lines), totals)?;
     Ok(text)
 }
 
+/// Appends the six lines for a number and a size, and an input of so many bytes and lines.
 fn push_summary(
     out: &mut Vec<u8>,
-    number: u32,
-    size: u32,
-    bytes: u32,
-    lines: u32,
+    made: (u32, u32),
+    input: (u32, u32),
     totals: &Totals,
 ) -> Result<(), AllocError>
-    ensures { OnOk result (out.new.items ≡ out.old.items ++ summary_text number size bytes lines totals.now) }
+    ensures { OnOk result (out.new.items ≡ out.old.items ++ summary_text made.0 made.1 input.0 input.1 totals.now) }
 {
-    push_line(out, b"gen", &[number, size])?;
-    push_line(out, b"input", &[bytes, lines])?;
+    push_line(out, b"gen", &[made.0, made.1])?;
+    push_line(out, b"input", &[input.0, input.1])?;
     push_history(out, totals)?;
     push_questions(out, totals)?;
     push_cost(out, totals.cost)?;

@@ -51,25 +51,24 @@ fn append_walk(out: &mut Vec<u8>, k: u32, answer: &WalkAnswer) -> Result<(), All
             y: _,
             cost,
             links,
-        } => append_walker(out, k, *at, *point, *cost, links.as_slice()),
+        } => append_walker(out, k, (*at, *point), *cost, links.as_slice()),
         WalkAnswer::NoStart => append_parts(out, b"nostart", &[Field::Number(k)], b"\n"),
         WalkAnswer::NoGoal => append_parts(out, b"nogoal", &[Field::Number(k)], b"\n"),
         WalkAnswer::NoPath => append_parts(out, b"nopath", &[Field::Number(k)], b"\n"),
     }
 }
 
-/// Appends the lines of a walker: its own, then one for each link.
+/// Appends the lines of a walker that stands in a polygon at a point: its own, then one for each link.
 fn append_walker(
     out: &mut Vec<u8>,
     k: u32,
-    at: PolyRef,
-    point: Point,
+    stand: (PolyRef, Point),
     cost: u64,
     links: &[Link],
 ) -> Result<(), AllocError>
-    ensures { Appends out.old out.new result (walker_text k at point cost links.now) }
+    ensures { Appends out.old out.new result (walker_text k stand.0 stand.1 cost links.now) }
 {
-    append_walker_line(out, k, at, point, cost, links.len())?;
+    append_walker_line(out, k, stand, cost, links.len())?;
     append_links(out, links)
 }
 
@@ -77,13 +76,13 @@ fn append_walker(
 fn append_walker_line(
     out: &mut Vec<u8>,
     k: u32,
-    at: PolyRef,
-    point: Point,
+    stand: (PolyRef, Point),
     cost: u64,
     links: usize,
 ) -> Result<(), AllocError>
-    ensures { Appends out.old out.new result (walker_line_text k at point cost links) }
+    ensures { Appends out.old out.new result (walker_line_text k stand.0 stand.1 cost links) }
 {
+    let (at, point) = stand;
     append_parts(
         out,
         b"walker",

@@ -32,21 +32,20 @@ fn pair(maker: u32, number: u32) -> Pair
     Pair { maker, number }
 }
 
-// Adds a pair by a pass whose number is the pair's maker, and looks how many there were before.
+// Adds a pair by a pass whose number is the pair's maker, when each pass before has added one.
 fn check_adding<R: Wait + Abort>(
     rt: &R,
     alloc: Global,
     lock: &TurnLock<Pairs>,
     pass: &mut Pass<Pairs>,
     pair: Pair,
-    before: u32,
 )
     requires of { IsOf lock.now pass.old }
     requires maker { pair.maker ≡ pass.old.number }
     ensures of { IsOf lock.now pass.new }
     ensures number { pass.new.number ≡ pass.old.number }
 {
-    same(rt, lock.length(pass), before);
+    same(rt, lock.length(pass), pair.maker);
     same(rt, lock.with(rt, alloc, pass, pair), Added::Yes);
 }
 
@@ -78,97 +77,107 @@ enum Doing {
     LookAt(u32),
 }
 
+// What the pass of a number does.
+#[derive(Clone, Copy)]
+struct Acting {
+    maker: usize,
+    doing: Doing,
+}
+
 fn act<R: Wait + Abort>(
     rt: &R,
     alloc: Global,
     lock: &TurnLock<Pairs>,
     pass: &mut Pass<Pairs>,
-    maker: usize,
-    doing: Doing,
+    acting: Acting,
 )
     requires of { IsOf lock.now pass.old }
-    requires maker { (maker ≡ pass.old.number) × (maker < 4294967296) }
+    requires maker { (acting.maker ≡ pass.old.number) × (acting.maker < 4294967296) }
     ensures of { IsOf lock.now pass.new }
     ensures number { pass.new.number ≡ pass.old.number }
 {
-    let number = if maker == 0 { 5 } else { 7 };
-    match doing {
-        Doing::AddOne => {
-            check_adding(
-                rt,
-                alloc,
-                lock,
-                pass,
-                pair(maker as u32, number),
-                maker as u32,
-            );
-        }
-        Doing::AddAll => add_all(rt, alloc, lock, pass, maker),
+    let number = if acting.maker == 0 { 5 } else { 7 };
+    match acting.doing {
+        Doing::AddOne => check_adding(rt, alloc, lock, pass, pair(acting.maker as u32, number)),
+        Doing::AddAll => add_all(rt, alloc, lock, pass, acting.maker),
         Doing::LookAt(count) => same(rt, lock.length(pass), count),
     }
 }
 
-// All passes act, on so many threads.
+// What all passes do, on so many threads, and how many pairs each then sees.
+#[derive(Clone, Copy)]
+struct Acts {
+    threads: usize,
+    doing: Doing,
+    count: u32,
+}
+
 fn each_acts<R: Threads + Wait + Abort + Sync>(
     rt: &R,
     alloc: Global,
     lock: &TurnLock<Pairs>,
     passes: &mut [Pass<Pairs>],
-    threads: usize,
-    doing: Doing,
+    acts: Acts,
 )
-    requires some { 0 < threads }
+    requires some { 0 < acts.threads }
     requires order { AreInOrder lock.now passes.old }
     requires few { length passes.old < 4294967296 }
     ensures { AreInOrder lock.now passes.new }
 {
+    let doing = acts.doing;
     thread::for_each_mut(
         rt,
         passes,
-        threads,
-        &|maker, pass| { act(rt, alloc, lock, pass, maker, doing) },
+        acts.threads,
+        &|maker, pass| { act(rt, alloc, lock, pass, Acting { maker, doing }) },
     );
 }
 
-// All passes act, on so many threads, and then see so many pairs.
+// All passes act, and then each looks how many pairs there are.
 fn all_act<R: Threads + Wait + Abort + Sync>(
     rt: &R,
     alloc: Global,
     lock: &TurnLock<Pairs>,
     passes: &mut [Pass<Pairs>],
-    threads: usize,
-    doing: Doing,
-    count: u32,
+    acts: Acts,
 )
-    requires some { 0 < threads }
+    requires some { 0 < acts.threads }
     requires order { AreInOrder lock.now passes.old }
     requires few { length passes.old < 4294967296 }
     ensures { AreAll lock.now passes.new }
 {
-    each_acts(rt, alloc, lock, passes, threads, doing);
-    each_acts(rt, alloc, lock, passes, 1, Doing::LookAt(count));
+    each_acts(rt, alloc, lock, passes, acts);
+    let looks = Acts {
+        threads: 1,
+        doing: Doing::LookAt(acts.count),
+        count: acts.count,
+    };
+    each_acts(rt, alloc, lock, passes, looks);
 }
 
-// What so many passes have added, and have then seen, on so many threads.
+// What so many passes have added.
 fn added<R: Threads + Wait + Abort + Sync>(
     rt: &R,
     alloc: Global,
     passes: u32,
-    threads: usize,
-    doing: Doing,
-    count: u32,
+    acts: Acts,
 ) -> Result<Pairs, AllocError>
     requires passes { 1 ≤ passes }
-    requires threads { 0 < threads }
+    requires threads { 0 < acts.threads }
 {
     let (lock, mut passes) = locked(alloc, passes)?;
-    all_act(rt, alloc, &lock, &mut passes, threads, doing, count);
+    all_act(rt, alloc, &lock, &mut passes, acts);
     Ok(lock.close(passes))
 }
 
 #[test]
 fn two_passes(rt: HostRuntime) -> Result<(), AllocError> {
-    let pairs = added(&rt, rt.alloc(), 2, 1, Doing::AddOne, 2)?;
+    let acts = Acts {
+        threads: 1,
+        doing: Doing::AddOne,
+        count: 2,
+    };
+    let pairs = added(&rt, rt.alloc(), 2, acts)?;
     same(&rt, pairs.as_slice(), [pair(0, 5), pair(1, 7)].as_slice());
     Ok(())
 }
@@ -197,7 +206,12 @@ fn check_orders(rt: &impl Abort, pairs: &[Pair]) {
 
 #[test]
 fn many_threads(rt: HostRuntime) -> Result<(), AllocError> {
-    let pairs = added(&rt, rt.alloc(), 8, 8, Doing::AddAll, 8000)?;
+    let acts = Acts {
+        threads: 8,
+        doing: Doing::AddAll,
+        count: 8000,
+    };
+    let pairs = added(&rt, rt.alloc(), 8, acts)?;
     check_orders(&rt, pairs.as_slice());
     Ok(())
 }

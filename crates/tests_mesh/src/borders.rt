@@ -76,24 +76,10 @@ pub(crate) fn tile(
     })
 }
 
-/// The edge of a polygon on the border at x = 4: its number, the side, the first position, and the levels along it.
-fn rim_edge(
-    alloc: Global,
-    poly: u32,
-    edge: u32,
-    side: u32,
-    first: u32,
-    pairs: &[LevelPair],
-) -> Result<RimEdge, AllocError>
-    ensures { IfOk result (λ made. made ≡ record { poly = poly; edge = edge; side = side; first = first; pairs = pairs.now }) }
+fn levels(alloc: Global, pairs: &[LevelPair]) -> Result<Items<LevelPair>, AllocError>
+    ensures { IfOk result (λ made. made.items ≡ pairs.now) }
 {
-    Ok(RimEdge {
-        poly,
-        edge,
-        side,
-        first,
-        pairs: Items::from_vec(Vec::from_slice(alloc, pairs)?),
-    })
+    Ok(Items::from_vec(Vec::from_slice(alloc, pairs)?))
 }
 
 /// Along the border it leads to level 0, twice to level 1, and to level 0 again.
@@ -107,7 +93,14 @@ fn left(alloc: Global) -> Result<TileMesh, AllocError>
         LevelPair { own: 0, other: 0 },
     ];
     let polys = Vec::from_array(alloc, [polygon(2)])?;
-    let rim = Vec::from_array(alloc, [rim_edge(alloc, 0, 1, 2, 0, &pairs)?])?;
+    let edge = RimEdge {
+        poly: 0,
+        edge: 1,
+        side: 2,
+        first: 0,
+        pairs: levels(alloc, &pairs)?,
+    };
+    let rim = Vec::from_array(alloc, [edge])?;
     tile(alloc, 0, 0, polys, rim)
 }
 
@@ -122,12 +115,24 @@ fn right_rim(alloc: Global) -> Result<Vec<RimEdge>, AllocError>
         LevelPair { own: 0, other: 5 },
         LevelPair { own: 0, other: 0 },
     ];
-    let lower = rim_edge(alloc, 0, 3, 0, 0, &pairs)?;
+    let lower = RimEdge {
+        poly: 0,
+        edge: 3,
+        side: 0,
+        first: 0,
+        pairs: levels(alloc, &pairs)?,
+    };
     let pairs = [
         LevelPair { own: 1, other: 0 },
         LevelPair { own: 1, other: 0 },
     ];
-    let upper = rim_edge(alloc, 1, 3, 0, 1, &pairs)?;
+    let upper = RimEdge {
+        poly: 1,
+        edge: 3,
+        side: 0,
+        first: 1,
+        pairs: levels(alloc, &pairs)?,
+    };
     Ok(Vec::from_array(alloc, [lower, upper])?)
 }
 

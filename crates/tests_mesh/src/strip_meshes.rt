@@ -38,20 +38,15 @@ fn mesh(alloc: Global) -> Result<TileMesh, AllocError> {
     strip_mesh(alloc, &free, &SETTING)
 }
 
-/// The rectangle over columns of a row.
-fn rectangle(x0: i32, end: i32, z: i32, area: u32, low: u32, high: u32) -> Polygon {
+/// The rectangle over columns of a row, from one to before another, with the least and the greatest floor.
+fn rectangle(x: (i32, i32), z: i32, area: u32, low: u32, high: u32) -> Polygon {
+    let end = z.saturating_add(1);
     Polygon {
         corners: Corners::from_slice(&[
-            Point { x: x0, z },
-            Point { x: end, z },
-            Point {
-                x: end,
-                z: z.saturating_add(1),
-            },
-            Point {
-                x: x0,
-                z: z.saturating_add(1),
-            },
+            Point { x: x.0, z },
+            Point { x: x.1, z },
+            Point { x: x.1, z: end },
+            Point { x: x.0, z: end },
         ]),
         area,
         low,
@@ -61,10 +56,10 @@ fn rectangle(x0: i32, end: i32, z: i32, area: u32, low: u32, high: u32) -> Polyg
 
 fn has_polygons(mesh: &TileMesh) -> bool {
     let polys = [
-        rectangle(1, 3, 0, 63, 10, 12),
-        rectangle(3, 4, 0, 7, 9, 9),
-        rectangle(1, 2, 1, 63, 8, 8),
-        rectangle(2, 3, 1, 63, 14, 14),
+        rectangle((1, 3), 0, 63, 10, 12),
+        rectangle((3, 4), 0, 7, 9, 9),
+        rectangle((1, 2), 1, 63, 8, 8),
+        rectangle((2, 3), 1, 63, 14, 14),
     ];
     mesh.polys.as_slice() == polys.as_slice()
 }

@@ -731,20 +731,19 @@ fn seen_by<R: Wait, L: Ledger>(
     rt: &R,
     alloc: Global,
     book: &mut Book,
-    first: &mut Eye,
-    second: &mut Eye,
+    eyes: &mut (Eye, Eye),
     steps: &mut Steps<L>,
 ) -> Seen
-    requires { second.old.pair ≡ book.old.pair }
+    requires { eyes.old.1.pair ≡ book.old.pair }
 {
-    let before = floors(first, alloc, 2, 1);
+    let before = floors(&mut eyes.0, alloc, 2, 1);
     let _answer = book.request(0, request_of(Asked::Block(2)));
     let _published = settled(rt, book, alloc, steps);
     let told = book.told();
     let length = told.length();
-    second.learn(told);
-    let after = floors(second, alloc, 2, 1);
-    let again = floors(first, alloc, 2, 1);
+    eyes.1.learn(told);
+    let after = floors(&mut eyes.1, alloc, 2, 1);
+    let again = floors(&mut eyes.0, alloc, 2, 1);
     ([before, after, again], length)
 }
 
@@ -759,10 +758,10 @@ fn watched<R: Wait, L: Ledger>(
     requires { eyes.1.pair ≡ book.pair }
 {
     let mut book = book;
-    let (mut first, mut second) = eyes;
-    let seen = seen_by(rt, alloc, &mut book, &mut first, &mut second, steps);
+    let mut eyes = eyes;
+    let seen = seen_by(rt, alloc, &mut book, &mut eyes, steps);
     book.end(rt);
-    (seen, floors(&mut first, alloc, 2, 1).is_none())
+    (seen, floors(&mut eyes.0, alloc, 2, 1).is_none())
 }
 
 /// The same of a book that is opened with two eyes.

@@ -194,21 +194,20 @@ fn seen_by<R: Wait>(
     rt: &R,
     alloc: Global,
     press: &mut Press,
-    first: &mut Eye,
-    second: &mut Eye,
+    eyes: &mut (Eye, Eye),
     patch: Patch,
 ) -> Option<Seen>
-    requires of { second.old.pair ≡ press.old.pair }
+    requires of { eyes.old.1.pair ≡ press.old.pair }
     requires patch { IsPatch press.old.ground press.old.entries patch }
 {
-    let before = floors(first, alloc, 2, 2);
+    let before = floors(&mut eyes.0, alloc, 2, 2);
     match press.publish(rt, alloc, patch) {
         Ok(told) => {
             let length = told.length();
-            second.learn(told);
-            let after = floors(second, alloc, 2, 2);
-            let again = floors(first, alloc, 2, 2);
-            Some(([before, after, again], [length, second.seen()]))
+            eyes.1.learn(told);
+            let after = floors(&mut eyes.1, alloc, 2, 2);
+            let again = floors(&mut eyes.0, alloc, 2, 2);
+            Some(([before, after, again], [length, eyes.1.seen()]))
         }
         Err((_patch, _refused)) => None,
     }
@@ -243,9 +242,7 @@ fn watched<R: Wait>(
 {
     let mut press = sent(press);
     let seen = match both(eyes) {
-        Some((mut first, mut second)) => {
-            seen_by(rt, alloc, &mut press, &mut first, &mut second, patch)
-        }
+        Some(mut eyes) => seen_by(rt, alloc, &mut press, &mut eyes, patch),
         None => None,
     };
     press.end(rt);

@@ -22,8 +22,7 @@ use std::sync::ledger::Blank;
 struct Told {
     k: u32,
     index: u32,
-    x: i32,
-    z: i32,
+    point: Point,
     cost: u64,
     links: usize,
 }
@@ -32,15 +31,18 @@ const START: Point = Point { x: 24, z: 24 };
 
 const GOAL: Point = Point { x: 72, z: 72 };
 
-fn walking(k: u32, index: u32, x: i32, z: i32, cost: u64, links: usize) -> Told {
+fn walking(k: u32, index: u32, point: Point, cost: u64, links: usize) -> Told {
     Told {
         k,
         index,
-        x,
-        z,
+        point,
         cost,
         links,
     }
+}
+
+fn no_walk(k: u32, index: u32) -> Told {
+    walking(k, index, Point { x: 0, z: 0 }, 0, 0)
 }
 
 fn told_of(k: u32, answer: &WalkAnswer) -> Told {
@@ -51,9 +53,9 @@ fn told_of(k: u32, answer: &WalkAnswer) -> Told {
             y: _,
             cost,
             links,
-        } => walking(k, at.index, point.x, point.z, *cost, links.len()),
-        WalkAnswer::NoPath => walking(k, 99, 0, 0, 0, 0),
-        WalkAnswer::NoStart | WalkAnswer::NoGoal => walking(k, 98, 0, 0, 0, 0),
+        } => walking(k, at.index, *point, *cost, links.len()),
+        WalkAnswer::NoPath => no_walk(k, 99),
+        WalkAnswer::NoStart | WalkAnswer::NoGoal => no_walk(k, 98),
     }
 }
 
@@ -111,9 +113,9 @@ fn watched<R: Wait>(
         Some(mut eye) => match walks(&mut eye, alloc) {
             Ok(all) => {
                 all == [
-                    walking(0, 0, 24, 24, 48, 3),
-                    walking(0, 1, 40, 40, 32, 2),
-                    walking(0, 3, 72, 72, 0, 0),
+                    walking(0, 0, START, 48, 3),
+                    walking(0, 1, Point { x: 40, z: 40 }, 32, 2),
+                    walking(0, 3, GOAL, 0, 0),
                 ]
             }
             Err(_) => false,
@@ -122,7 +124,7 @@ fn watched<R: Wait>(
     };
     let stops = match eyes.pop() {
         Some(mut eye) => match stopped(rt, alloc, &mut press, &mut eye, patch) {
-            Ok(all) => all == [walking(0, 0, 24, 24, 48, 3), walking(1, 99, 0, 0, 0, 0)],
+            Ok(all) => all == [walking(0, 0, START, 48, 3), no_walk(1, 99)],
             Err(_) => false,
         },
         None => false,

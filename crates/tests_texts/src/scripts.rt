@@ -16,9 +16,9 @@ enum Told {
     Fault(u32, u32),
 }
 
-/// A text is read as what is told of it.
-fn check_text(rt: &impl Abort, alloc: Global, text: &[u8], way: Way, wanted: Told, at: &str) {
-    let told = match read_script(alloc, text, 45, way) {
+/// What is told of a text that runs one way.
+fn told_of(rt: &impl Abort, alloc: Global, text: &[u8], way: Way) -> Told {
+    match read_script(alloc, text, 45, way) {
         Ok(script) => match script.lines.as_slice().last() {
             Some(line) => Told::Last(script.lines.len(), *line),
             None => Told::Script {
@@ -28,8 +28,7 @@ fn check_text(rt: &impl Abort, alloc: Global, text: &[u8], way: Way, wanted: Tol
         },
         Err(ScriptRefusal::Fault(fault)) => Told::Fault(fault.line, fault.kind),
         Err(ScriptRefusal::OutOfMemory) => panic!(rt; "memory"),
-    };
-    check(rt, told == wanted, at);
+    }
 }
 
 const FROM: Point = Point { x: 16384, z: 0 };
@@ -210,7 +209,8 @@ fn check_thirds(rt: &impl Abort, alloc: Global, behind: &str, rows: &[Third]) {
         append(rt, &mut text, line, 1);
         append(rt, &mut text, "\n", 1);
         append(rt, &mut text, behind, 1);
-        check_text(rt, alloc, text.as_slice(), *way, *wanted, line);
+        let told = told_of(rt, alloc, text.as_slice(), *way);
+        check(rt, told == *wanted, line);
     }
 }
 
@@ -416,7 +416,8 @@ static TEXTS: [(&str, Told); 19] = [
 
 fn check_texts(rt: &impl Abort, alloc: Global, rows: &[(&str, Told)]) {
     for (text, wanted) in rows {
-        check_text(rt, alloc, text.as_bytes(), Way::Play, *wanted, text);
+        let told = told_of(rt, alloc, text.as_bytes(), Way::Play);
+        check(rt, told == *wanted, text);
     }
 }
 
@@ -540,7 +541,8 @@ fn check_long_texts(rt: &impl Abort, alloc: Global, rows: &[(&str, u32, Way, &st
         append(rt, &mut text, "script 1 1\n", 1);
         append(rt, &mut text, line, *count);
         append(rt, &mut text, last, 1);
-        check_text(rt, alloc, text.as_slice(), *way, *wanted, last);
+        let told = told_of(rt, alloc, text.as_slice(), *way);
+        check(rt, told == *wanted, last);
     }
 }
 

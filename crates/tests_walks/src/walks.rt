@@ -92,7 +92,7 @@ fn place(x: i32, z: i32) -> Place
 }
 
 /// Whether a walker stands in a polygon at a point, with so many links left, which cost so much.
-fn stands(answer: &WalkAnswer, index: u32, x: i32, z: i32, cost: u64, count: usize) -> bool {
+fn stands(answer: &WalkAnswer, index: u32, p: Point, cost: u64, count: usize) -> bool {
     match answer {
         WalkAnswer::Walking {
             at,
@@ -102,7 +102,7 @@ fn stands(answer: &WalkAnswer, index: u32, x: i32, z: i32, cost: u64, count: usi
             links,
         } => {
             *at == PolyRef { tile: 0, index }
-                && *point == Point { x, z }
+                && *point == p
                 && *y == 10
                 && *left == cost
                 && links.len() == count
@@ -117,7 +117,7 @@ fn wrong_step(alloc: Global, mesh: &Mesh) -> Result<Option<usize>, AllocError>
     requires setting { mesh.now.setting ≡ SETTING }
 {
     let (walker, answer) = send_in(alloc, mesh, 0, place(0, 0), place(48, 17))?;
-    if !stands(&answer, 0, 0, 0, 46, 1) {
+    if !stands(&answer, 0, Point { x: 0, z: 0 }, 46, 1) {
         return Ok(Some(0));
     }
     let Some(walker) = walker else {
@@ -125,7 +125,7 @@ fn wrong_step(alloc: Global, mesh: &Mesh) -> Result<Option<usize>, AllocError>
     };
     // Half of the way to the corner.
     let (walker, answer) = march_in(alloc, mesh, 0, walker, 16)?;
-    if !stands(&answer, 0, 16, 8, 46, 1) {
+    if !stands(&answer, 0, Point { x: 16, z: 8 }, 46, 1) {
         return Ok(Some(2));
     }
     let Some(walker) = walker else {
@@ -133,14 +133,14 @@ fn wrong_step(alloc: Global, mesh: &Mesh) -> Result<Option<usize>, AllocError>
     };
     // To the corner, 16, and 8 of the 16 to the goal.
     let (walker, answer) = march_in(alloc, mesh, 0, walker, 24)?;
-    if !stands(&answer, 1, 40, 16, 0, 0) {
+    if !stands(&answer, 1, Point { x: 40, z: 16 }, 0, 0) {
         return Ok(Some(4));
     }
     let Some(walker) = walker else {
         return Ok(Some(5));
     };
     let (_, answer) = march_in(alloc, mesh, 0, walker, 100)?;
-    if !stands(&answer, 1, 48, 17, 0, 0) {
+    if !stands(&answer, 1, Point { x: 48, z: 17 }, 0, 0) {
         return Ok(Some(6));
     }
     Ok(None)
