@@ -5,3 +5,4 @@ pub mod Reaches
 pub mod Rounds
 pub mod WindowLaws
 pub mod Selected
+pub mod Marked

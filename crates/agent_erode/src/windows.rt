@@ -3,9 +3,8 @@
 ghost use Rattle.std.specs.Prelude.{◌≡◌, ◌&&◌, ◌+ℤ◌, ◌-ℤ◌, ◌<◌, ◌≤◌, ℕ, true, IfOk, int_le, length, pos, slice_index_or};
 ghost use Rattle.nav_ground.specs.declared.cell.Cell.{Cell};
 ghost use Rattle.nav_ground.specs.Cells.{IsCells};
-ghost use Rattle.nav_ground.specs.Tiling.{is_in_window};
+ghost use Rattle.nav_ground.specs.Tiling.{is_in_window, widened};
 ghost use Rattle.nav_ground.specs.Clearance.{cells_in};
-ghost use Rattle.agent_erode.specs.Windows.{widened};
 
 use nav_ground::{Cell, CellRef, Window};
 use std::alloc::{AllocError, Global};

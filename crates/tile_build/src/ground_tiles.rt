@@ -50,7 +50,6 @@ fn built<L: Ledger>(
 ) -> Result<Vec<Shared<TileMesh>>, AllocError>
     requires setting { IsSetting setting.now }
     requires layers { All (IsLayerOf setting.now) layers.now }
-    requires near { All (λ (layer : Layer). layer.radius ≡ 0) layers.now }
     requires shapes { All IsShape shapes.now }
     ensures tiles { IfOk result (λ tiles. tiles.items ≡ tiles_of setting.now shapes.now layers.now) }
     ensures steps { OnOk result (steps.new ≡ steps.old + length layers.now) }

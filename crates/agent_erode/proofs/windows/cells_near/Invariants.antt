@@ -1,6 +1,6 @@
 use Rattle.std.proofs.Common.{◌≡◌, take}
 use Rattle.nav_ground.specs.Clearance.{cells_in}
-use Rattle.agent_erode.specs.Windows.{widened}
+use Rattle.nav_ground.specs.Tiling.{widened}
 use Rattle.agent_erode.proofs.windows.cells_near.Given as goal
 
 -- the cells of the rectangle so far

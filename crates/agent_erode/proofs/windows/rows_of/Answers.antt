@@ -2,7 +2,7 @@ use Rattle.std.proofs.Common.{◌≡◌, true, arith}
 use Rattle.std.specs.Prelude.{ℤ, pos, ◌≤ℤ◌, ◌+ℤ◌, ◌-ℤ◌, ◌&&◌, int_le}
 use Rattle.std.proofs.lemmas.Bool.{and_parts}
 use Rattle.std.proofs.lemmas.Int.{ints, clamps}
-use Rattle.agent_erode.specs.Windows.{widened}
+use Rattle.nav_ground.specs.Tiling.{widened}
 use Rattle.agent_erode.proofs.windows.rows_of.Goals as goal
 
 -- a test as a fact

@@ -1,8 +1,7 @@
 use Rattle.std.proofs.Common.{◌∙◌, sym, get_or, arith}
 use Rattle.std.proofs.lemmas.Bool.{false_from_ne_true}
 use Rattle.nav_ground.specs.declared.field.Span.{Span}
-use Rattle.nav_ground.specs.Tiling.{is_in_window}
-use Rattle.agent_erode.specs.Windows.{widened}
+use Rattle.nav_ground.specs.Tiling.{is_in_window, widened}
 use Rattle.agent_erode.proofs.WindowLaws.{none_before, none_after}
 use Rattle.layer_cut.proofs.nearby.spans_near.Goals as goal
 

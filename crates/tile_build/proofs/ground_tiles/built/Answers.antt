@@ -10,10 +10,6 @@ pub build_tile-requires-clause-layer : goal.build_tile-requires-clause-layer
 build_tile-requires-clause-layer g c =
     subst (IsLayerOf c.args.setting.now) (sym c.layer-item.is) (c.requires.layers c.loop-layer.layer-index c.layer-item.result c.loop-layer-test.true)
 
-pub build_tile-requires-clause-near : goal.build_tile-requires-clause-near
-build_tile-requires-clause-near g c =
-    ap (λ (layer : Layer). layer.radius) c.layer-item.is ∙ c.requires.near c.loop-layer.layer-index c.layer-item.result c.loop-layer-test.true
-
 pub returns-in_err-tile-clause-most : goal.returns-in_err-tile-clause-most
 returns-in_err-tile-clause-most g c =
     record { least = omega (arith, c.build_tile.ensures.step, c.loop-layer.invariant.steps); most_risen = omega (arith, c.build_tile.ensures.step, c.loop-layer.invariant.steps, c.loop-layer-test.true) }

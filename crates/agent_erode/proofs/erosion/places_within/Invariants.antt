@@ -3,7 +3,7 @@ use Rattle.std.specs.List.{filter}
 use Rattle.nav_ground.specs.declared.cell.Cell.{Cell}
 use Rattle.nav_ground.specs.Tiling.{is_in_window}
 use Rattle.nav_ground.specs.Clearance.{places_of}
-use Rattle.agent_erode.proofs.kept.places_within.Given as goal
+use Rattle.agent_erode.proofs.erosion.places_within.Given as goal
 
 -- the places so far
 abbrev pub invariant-loop-i : goal.invariant-loop-i

@@ -11,8 +11,8 @@ use Rattle.nav_ground.proofs.Selections.{filter-filter}
 use Rattle.cell_table.proofs.Places.{no_cell}
 use Rattle.agent_erode.proofs.Selected.{one_more_place, one_less_place, mark_at}
 use Rattle.agent_erode.proofs.WindowLaws.{not_widened}
-use Rattle.agent_erode.proofs.kept.places_within.Goals as goal
-use Rattle.agent_erode.proofs.kept.places_within.Goals.{then-marks-i+then-is_near+in_ok-push, else-marks-i, else-marks-i-via-then-marks-i+else-is_near, else-marks-i-via-else-marks-i}
+use Rattle.agent_erode.proofs.erosion.places_within.Goals as goal
+use Rattle.agent_erode.proofs.erosion.places_within.Goals.{then-marks-i+then-is_near+in_ok-push, else-marks-i, else-marks-i-via-then-marks-i+else-is_near, else-marks-i-via-else-marks-i}
 
 pub loop-i-init : goal.loop-i-init
 loop-i-init c = λ p are. c.new-places.ensures.items

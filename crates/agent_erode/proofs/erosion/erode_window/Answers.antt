@@ -4,9 +4,10 @@ use Rattle.std.proofs.lemmas.Result.{IfOk-weaker}
 use Rattle.nav_ground.specs.declared.cell.Cell.{Cell}
 use Rattle.nav_ground.specs.Cells.{IsCells}
 use Rattle.nav_ground.specs.Clearance.{is_kept, kept_cells, cells_in, places_of}
-use Rattle.agent_erode.specs.Windows.{widened}
-use Rattle.agent_erode.proofs.WindowLaws.{cells_in_rules, kept_in_window}
-use Rattle.agent_erode.proofs.kept.erode_window.Goals as goal
+use Rattle.nav_ground.specs.Tiling.{widened}
+use Rattle.nav_ground.proofs.LayerLaws.{cells_in_rules}
+use Rattle.agent_erode.proofs.WindowLaws.{kept_in_window}
+use Rattle.agent_erode.proofs.erosion.erode_window.Goals as goal
 
 pub marks-requires : goal.marks-requires
 marks-requires c =

@@ -4,7 +4,7 @@ use Rattle.std.proofs.lemmas.Result.{IfOk-weaker}
 use Rattle.nav_ground.specs.declared.cell.Cell.{Cell}
 use Rattle.nav_ground.specs.Cells.{IsCells}
 use Rattle.nav_ground.specs.Clearance.{is_kept, kept_cells, places_of}
-use Rattle.agent_erode.proofs.kept.erode.Goals as goal
+use Rattle.agent_erode.proofs.erosion.erode.Goals as goal
 
 pub marks-requires : goal.marks-requires
 marks-requires c = subst IsCells (sym c.as_slice-cells.ensures) c.requires.rules

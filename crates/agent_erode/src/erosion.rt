@@ -2,8 +2,8 @@
 
 ghost use Rattle.std.specs.Prelude.{◌≡◌, Bool, IfOk, map, filter, length};
 ghost use Rattle.nav_ground.specs.declared.cell.Cell.{Cell};
-ghost use Rattle.nav_ground.specs.Cells.{IsCompact};
-ghost use Rattle.nav_ground.specs.Clearance.{is_kept, kept_cells, places_of, cells_in};
+ghost use Rattle.nav_ground.specs.Cells.{IsCells, IsCompact};
+ghost use Rattle.nav_ground.specs.Clearance.{is_kept, kept_cells, marked, places_of, cells_in};
 
 use crate::clearance::marks;
 use crate::windows::{cells_near, is_near};
@@ -59,6 +59,40 @@ pub fn erode_window(
     let cells = near.as_slice();
     let marks = marks(alloc, cells, radius)?;
     places_within(alloc, cells, marks.as_slice(), window)
+}
+
+/// The places of those cells of a list that are open, keep a radius in cells among the open ones, and lie in a window, in order. A cell is
+/// open where the truth value beside it is true; a boundary cell has fewer than four connections to open cells of the list. Connections may
+/// lead out of the list, and need not be named back.
+pub fn kept(
+    alloc: Global,
+    wide: &[Cell],
+    uncovered: &[bool],
+    window: Window,
+    radius: u32,
+) -> Result<Vec<CellRef>, AllocError>
+    requires cells { IsCells wide.now }
+    requires beside { length uncovered.now ≡ length wide.now }
+    ensures { IfOk result (λ kept. kept.items ≡ places_of (cells_in window (kept_cells (marked wide.now uncovered.now) radius))) }
+{
+    let open = open_cells(alloc, wide, uncovered)?;
+    let cells = open.as_slice();
+    let marks = marks(alloc, cells, radius)?;
+    places_within(alloc, cells, marks.as_slice(), window)
+}
+
+/// The cells beside which a truth value is true, in order.
+fn open_cells(alloc: Global, cells: &[Cell], uncovered: &[bool]) -> Result<Vec<Cell>, AllocError>
+    requires { length uncovered.now ≡ length cells.now }
+    ensures { IfOk result (λ open. open.items ≡ marked cells.now uncovered.now) }
+{
+    let mut open = Vec::new(alloc);
+    for (i, cell) in cells.iter().enumerate() {
+        if uncovered[i] {
+            open.push(*cell)?;
+        }
+    }
+    Ok(open)
 }
 
 /// The places of the cells that are marked and lie in a window, in order.

@@ -7,8 +7,8 @@ use Rattle.nav_ground.specs.declared.cell.CellRef.{CellRef}
 use Rattle.nav_ground.specs.Clearance.{places_of}
 use Rattle.cell_table.proofs.Places.{no_cell}
 use Rattle.agent_erode.proofs.Selected.{one_more_place, one_less_place, mark_at}
-use Rattle.agent_erode.proofs.kept.places_marked.Goals as goal
-use Rattle.agent_erode.proofs.kept.places_marked.Goals.{then-marks-i+in_ok-push, else-marks-i}
+use Rattle.agent_erode.proofs.erosion.places_marked.Goals as goal
+use Rattle.agent_erode.proofs.erosion.places_marked.Goals.{then-marks-i+in_ok-push, else-marks-i}
 
 pub loop-i-init : goal.loop-i-init
 loop-i-init c = λ p are. c.new-places.ensures.items
