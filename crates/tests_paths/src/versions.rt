@@ -104,7 +104,7 @@ pub(crate) fn opening<L: Ledger>(
     Ok(Version {
         ground: Arc::new(alloc, level)?,
         entries: Entries::new(alloc)?,
-        mesh: Tile::shared(alloc, mesh)?,
+        mesh: Shared::new(alloc, mesh)?,
     })
 }
 
