@@ -64,16 +64,6 @@ row-weight rows step row is below =
     ap (λ (arc : Arc). arc.weight) (sym (get_or-map pair_arc row step.place (0, 0) no_arc there))
     ∙ ap (λ (pairs : List Pair). (get_or (map pair_arc pairs) step.place no_arc).weight) is
 
--- one more arc's end
-pub ends_more : (before ends made : List Vertex) (row : List Pair) (i : ℕ) (d : Pair) (to : Vertex) → i < length row → ends ≡ before ++ ends_of (map pair_arc (take i row))
-    → to ≡ vertex_at (get_or row i d).0 → made ≡ ends ++ to ∷ [] → made ≡ before ++ ends_of (map pair_arc (take (i + 1) row))
-ends_more before ends made row i d to below so is more =
-    let arcs = map pair_arc (take i row) in
-    more ∙ ap (λ (vs : List Vertex). vs ++ to ∷ []) so ∙ append_assoc before (ends_of arcs) (to ∷ [])
-    ∙ ap (λ (v : Vertex). before ++ (ends_of arcs ++ v ∷ [])) is
-    ∙ ap (λ (vs : List Vertex). before ++ vs) (sym (map-append (λ (arc : Arc). arc.to) arcs (pair_arc (get_or row i d) ∷ [])))
-    ∙ ap (λ (more : List Arc). before ++ ends_of more) (sym (map_more pair_arc row i d below))
-
 -- the rows of the tests
 abbrev pub small_rows : List (List Pair)
 small_rows =

@@ -9,7 +9,7 @@ ghost use Rattle.nav_steps.specs.Counts.{HasRisenAtMost};
 ghost use Rattle.tile_build.specs.Meshes.{tiles_of, tiles_under};
 
 use crate::build::build_tile;
-use mesh_types::TileMesh;
+use mesh_types::Tile;
 use nav_ground::{Ground, Layer, Setting, Shape};
 use nav_list::Items;
 use nav_share::Shared;
@@ -23,7 +23,7 @@ pub fn build_tiles<L: Ledger>(
     whole: &Ground,
     shapes: &[Shape],
     steps: &mut Steps<L>,
-) -> Result<Items<Shared<TileMesh>>, AllocError>
+) -> Result<Items<Shared<Tile>>, AllocError>
     requires level { IsGround whole.now }
     requires shapes { All IsShape shapes.now }
     ensures tiles { IfOk result (λ tiles. tiles ≡ tiles_under whole.now shapes.now) }
@@ -47,7 +47,7 @@ fn built<L: Ledger>(
     setting: &Setting,
     shapes: &[Shape],
     steps: &mut Steps<L>,
-) -> Result<Vec<Shared<TileMesh>>, AllocError>
+) -> Result<Vec<Shared<Tile>>, AllocError>
     requires setting { IsSetting setting.now }
     requires layers { All (IsLayerOf setting.now) layers.now }
     requires shapes { All IsShape shapes.now }
@@ -58,7 +58,7 @@ fn built<L: Ledger>(
     let mut tiles = Vec::with_capacity(alloc, layers.len())?;
     for layer in layers {
         let tile = build_tile(alloc, layer, setting, shapes, steps)?;
-        tiles.push(Shared::new(alloc, tile)?)?;
+        tiles.push(Tile::shared(alloc, tile)?)?;
     }
     Ok(tiles)
 }
