@@ -7,7 +7,10 @@ ghost use Rattle.tests_mesh.specs.HandSettings.{plain_setting};
 ghost use Rattle.tests_mesh.specs.TwoTiles.{hand_polygon, hand_tile, left_tile, right_tile, lower_entry, upper_entry};
 
 use crate::rows::{all_hold, hold};
-use mesh_types::{Corners, LevelPair, Link, Links, Mesh, PolyRef, Polygon, Polygons, Portal, RimEdge, Tile, TileMesh};
+use mesh_types::{
+    Corners, LevelPair, Link, Links, Mesh, PolyRef, Polygon, Polygons, Portal, RimEdge, Tile,
+    TileMesh,
+};
 use nav_base::Point;
 use nav_ground::{AREAS, Agent, FreeLayer, MeshKind, Setting, TileNo};
 use nav_list::Items;

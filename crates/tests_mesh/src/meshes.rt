@@ -5,8 +5,8 @@ ghost use Rattle.std.specs.Prelude.{◌<◌};
 use crate::borders::tile;
 use crate::rows::{all_hold, hold};
 use mesh_types::{
-    Corners, Link, Links, Mesh, PolyRef, Polygon, Portal, Run, Tile, TileMesh, copy_mesh, copy_tile,
-    order_links, poly, runs,
+    Corners, Link, Links, Mesh, PolyRef, Polygon, Portal, Run, Tile, TileMesh, copy_mesh,
+    copy_tile, order_links, poly, runs,
 };
 use nav_base::Point;
 use nav_ground::{AREAS, Agent, MeshKind, Setting};

@@ -8,7 +8,9 @@ use crate::places::no_links;
 use crate::rows::all_hold;
 use crate::settings::PLAIN;
 use corridor_search::cheapest;
-use mesh_types::{Corners, Corridor, Link, Links, Mesh, PolyRef, Polygon, Polygons, Portal, Tile, TileMesh};
+use mesh_types::{
+    Corners, Corridor, Link, Links, Mesh, PolyRef, Polygon, Polygons, Portal, Tile, TileMesh,
+};
 use nav_base::Point;
 use nav_ground::{AREAS, FreeLayer, Setting};
 use nav_list::Items;

@@ -104,7 +104,7 @@ pub(crate) fn opening<L: Ledger>(
     Ok(Version {
         ground: Arc::new(alloc, level)?,
         entries: Entries::new(alloc)?,
-        mesh: Tile::shared(alloc, mesh)?,
+        mesh: Shared::new(alloc, mesh)?,
     })
 }
 
@@ -129,7 +129,7 @@ fn push_numbered(
     ensures { OnOk result (news.new.items ≡ news.old.items ++ (tile.now.tile, tile.now) ∷ []) }
 {
     let own = tile.share()?;
-    news.push((tile.get().tile, own))?;
+    news.push((tile.get().mesh().tile, own))?;
     Ok(())
 }
 

@@ -105,10 +105,7 @@ fn push_tile_after(
 }
 
 /// What stands in the place of a tile once the new ones have come.
-fn tile_after<'a>(
-    tile: &'a Shared<Tile>,
-    news: &'a [(TileNo, Shared<Tile>)],
-) -> &'a Shared<Tile>
+fn tile_after<'a>(tile: &'a Shared<Tile>, news: &'a [(TileNo, Shared<Tile>)]) -> &'a Shared<Tile>
     requires { AreRising news.now }
     ensures { result.now ≡ Rattle.tile_links.specs.NewTiles.tile_after news.now tile.now }
 {

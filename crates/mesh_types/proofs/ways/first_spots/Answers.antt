@@ -1,4 +1,4 @@
-use Rattle.std.proofs.Common.{◌≤◌, ◌+◌, List, ◌++◌, ◌∷◌, [], ap, sym, subst, ◌∙◌}
+use Rattle.std.proofs.Common.{◌≤◌, ◌+◌, ◌++◌, ◌∷◌, [], sym, subst, ◌∙◌}
 use Rattle.std.specs.List.{count_by}
 use Rattle.mesh_types.specs.declared.ways.Spot.{Spot}
 use Rattle.mesh_types.specs.LinkIndex.{is_before_polygon}
