@@ -5,7 +5,7 @@ use Rattle.nav_base.specs.declared.point.Point.{Point}
 use Rattle.mesh_types.specs.declared.links.PolyRef.{PolyRef}
 use Rattle.mesh_types.specs.LinkIndex.{entered_by}
 use Rattle.graph_search.specs.declared.arcs.Arc.{Arc}
-use Rattle.corridor_search.specs.MeshGraphs.{IsEntered, outer_links, arc_into, middle_at}
+use Rattle.corridor_search.specs.MeshGraphs.{IsEntered, outer_links, arc_into}
 use Rattle.corridor_search.proofs.Ways.{entered-outside, outer-arcs}
 use Rattle.corridor_search.proofs.arcs.push_outer_arcs.Goals as goal
 
