@@ -1,6 +1,6 @@
 -- What the extents of polygons say of their middles, of the estimates and of the weights.
-use Rattle.std.proofs.Common.{◌≡◌, ◌<◌, ◌*◌, max, ℤ, pos, ◌≤ℤ◌, length, map, sym, subst, ap, ◌∙◌, arith}
-use Rattle.std.specs.Prelude.{slice_index, slice_index_or, Option, Some}
+use Rattle.std.proofs.Common.{◌≡◌, ◌<◌, ℤ, pos, ◌≤ℤ◌, length, map, sym, subst, ap, ◌∙◌, arith}
+use Rattle.std.specs.Prelude.{slice_index_or, Option, Some}
 use Rattle.std.specs.Option.{option_map_or}
 use Rattle.std.proofs.lemmas.Int.{ints}
 use Rattle.std.proofs.lemmas.List.{get_or-map}

@@ -1,24 +1,21 @@
 -- A sound mesh is a graph that may be searched.
-use Rattle.std.proofs.Common.{◌≡◌, ◌<◌, ◌≤◌, ◌+◌, List, [], ◌∷◌, length, map, get_or, refl, sym, subst, ap, ◌∙◌, arith}
-use Rattle.std.specs.Prelude.{All, Contains, Some}
+use Rattle.std.proofs.Common.{◌≤◌, ◌+◌, length, get_or, subst, arith}
+use Rattle.std.specs.Prelude.{All, Contains}
 use Rattle.std.proofs.lemmas.Nat.{mul-le}
 use Rattle.std.proofs.lemmas.List.Elements.{All-map, Contains-get_or}
 use Rattle.nav_base.specs.declared.point.Point.{Point}
 use Rattle.mesh_types.specs.declared.links.PolyRef.{PolyRef}
 use Rattle.mesh_types.specs.declared.links.Link.{Link}
-use Rattle.mesh_types.specs.declared.polygon.Polygon.{Polygon}
 use Rattle.mesh_types.specs.declared.mesh.Mesh.{Mesh}
-use Rattle.mesh_types.specs.Corridors.{centre_of, weight_of}
-use Rattle.mesh_types.specs.WholeMesh.{poly_at}
+use Rattle.mesh_types.specs.Corridors.{weight_of}
 use Rattle.mesh_types.specs.Soundness.{IsSound}
 use Rattle.graph_search.specs.declared.arcs.Vertex.{Vertex}
 use Rattle.graph_search.specs.declared.arcs.Arc.{Arc}
-use Rattle.graph_search.specs.declared.arcs.Step.{Step}
 use Rattle.graph_search.specs.Walks.{IsSearchable}
-use Rattle.corridor_search.specs.MeshGraphs.{IsThere, IsSearched, vertex_of, polygon_of, vertices_of, links_from, arc_over, arcs_from, no_link, link_of, end_of, weight_from, estimate_from, estimates_of}
+use Rattle.corridor_search.specs.MeshGraphs.{IsThere, IsSearched, polygon_of, vertices_of, links_from, arc_over, arcs_from, estimate_from, estimates_of}
 use Rattle.corridor_search.proofs.Sound.{leads}
 use Rattle.corridor_search.proofs.Vertices.{vertices-count, there-contains}
-use Rattle.corridor_search.proofs.LinkWeights.{weight-by, weight-most, estimate-falls, estimate-most}
+use Rattle.corridor_search.proofs.LinkWeights.{weight-most, estimate-falls, estimate-most}
 
 -- the polygon that a link enters is there
 pub enters-there : (mesh : Mesh) (at : PolyRef) (link : Link) → IsSound mesh → Contains (links_from mesh at) link → IsThere mesh link.to

@@ -22,7 +22,7 @@ use Rattle.mesh_types.specs.Ways.{distance_of, middle_in, no_extent, extent_in, 
 use Rattle.mesh_types.specs.WholeMesh.{poly_at}
 use Rattle.mesh_types.proofs.WayLaws.{middle-same}
 use Rattle.corridor_search.specs.MeshGraphs.{IsThere, IsEntered, inner_links, outer_links, arc_over, middle_of, extent_at, middle_at, ways_at, way_arc, arc_into}
-use Rattle.corridor_search.proofs.Extents.{IsExtent, extent-is, extent-rules, box-of}
+use Rattle.corridor_search.proofs.Extents.{extent-is, extent-rules, box-of}
 use Rattle.corridor_search.proofs.LinkWeights.{weight-is}
 use Rattle.corridor_search.proofs.Lists.{kept_element}
 use Rattle.corridor_search.proofs.Sound.{tile-fit, tile-number, placed, polygon-rules, outer-leads}

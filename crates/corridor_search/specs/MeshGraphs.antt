@@ -1,5 +1,5 @@
 -- The mesh as a graph: its polygons are the vertices, by tile and place, and its links are the arcs.
-use Rattle.std.specs.Prelude.{◌≡◌, ℕ, ◌+◌, ◌*◌, ◌<◌, max, pos, ◌≤ℤ◌, ◌+ℤ◌, ◌*ℤ◌, List, [], ◌∷◌, ◌++◌, length, map, slice_get, slice_index, slice_index_or, Some}
+use Rattle.std.specs.Prelude.{◌≡◌, ℕ, ◌+◌, ◌*◌, ◌<◌, max, pos, ◌+ℤ◌, ◌*ℤ◌, List, [], ◌∷◌, ◌++◌, length, map, slice_get, slice_index, slice_index_or, Some}
 use Rattle.std.specs.List.{range_with_len}
 use Rattle.std.specs.Option.{option_map_or}
 use Rattle.nav_base.specs.declared.point.Point.{Point}
@@ -15,7 +15,7 @@ use Rattle.mesh_types.specs.declared.tile.TileMesh.{TileMesh}
 use Rattle.mesh_types.specs.declared.mesh.Mesh.{Mesh}
 use Rattle.mesh_types.specs.declared.extent.Extent.{Extent}
 use Rattle.mesh_types.specs.Extents.{extent_of}
-use Rattle.mesh_types.specs.LinkIndex.{leaving_of, entered_by}
+use Rattle.mesh_types.specs.LinkIndex.{leaving_of}
 use Rattle.mesh_types.specs.WholeMesh.{poly_at}
 use Rattle.mesh_types.specs.Corridors.{centre_of, weight_of, WalksTo}
 use Rattle.mesh_types.specs.Soundness.{IsSound}
@@ -84,12 +84,6 @@ no_link =
 -- the link that a step takes
 abbrev pub link_of : Mesh → Step → Link
 link_of mesh step = slice_index_or (links_from mesh (polygon_of step.from)) step.place no_link
-
--- what a step into a polygon costs from a point: the distance to its middle, rounded up and at least 1, times the cost of its area
-abbrev pub weight_from : Mesh → Point → PolyRef → ℕ
-weight_from mesh centre at =
-    option_map_or (λ (to : Polygon). max 1 (ceil_sqrt_of (square_of (from_to centre (centre_of to.corners)))) * slice_index mesh.setting.costs to.area)
-    (poly_at mesh at) 0
 
 -- the estimate of what is left to go from a polygon: the distance from its middle to the goal, rounded up
 abbrev pub estimate_from : Mesh → Point → PolyRef → ℕ

@@ -1,7 +1,7 @@
-use Rattle.std.proofs.Common.{◌++◌, List, map, ap, subst, sym, ◌∙◌}
+use Rattle.std.proofs.Common.{◌++◌, map, ap, subst, sym, ◌∙◌}
 use Rattle.std.proofs.lemmas.Result.{on_ok_weaker}
 use Rattle.mesh_types.specs.declared.links.PolyRef.{PolyRef}
-use Rattle.corridor_search.specs.MeshGraphs.{IsThere, links_from, arc_over, polygon_of}
+use Rattle.corridor_search.specs.MeshGraphs.{IsThere, links_from, arc_over}
 use Rattle.corridor_search.proofs.Vertices.{contains-there}
 use Rattle.bench_hops.proofs.plain.PlainGraph.push_arcs.Goals as goal
 
