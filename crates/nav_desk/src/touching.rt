@@ -1,13 +1,13 @@
 //! The shapes that touch a tile.
 
-ghost use Rattle.std.specs.Prelude.{◌≡◌, ◌↔◌, ◌<◌, ◌≤◌, IsTrue, IfOk, length, slice_index_or};
+ghost use Rattle.std.specs.Prelude.{◌≡◌, ◌↔◌, ◌<◌, IsTrue, IfOk, length, slice_index_or};
 ghost use Rattle.nav_ground.specs.Limits.{IsSetting};
 ghost use Rattle.nav_ground.specs.Tiling.{tile_count, tile_window, widened, margin_of};
 ghost use Rattle.nav_ground.specs.Touching.{touching_shapes};
 ghost use Rattle.nav_desk.specs.SameShapes.{are_same};
 
 use crate::bounded::Bounded;
-use nav_ground::{Setting, Shape, TileNo, Window, tile_bounds};
+use nav_ground::{Setting, Shape, TileNo, Window, margin_of, tile_bounds};
 use nav_list::Items;
 use std::alloc::{AllocError, Global};
 
@@ -71,19 +71,6 @@ fn tile_reach(setting: &Setting, tile: TileNo) -> Window
         x1: columns.x1 + margin,
         z0: columns.z0 - margin,
         z1: columns.z1 + margin,
-    }
-}
-
-/// How many columns agents keep from obstacles.
-fn margin_of(setting: &Setting) -> u32
-    requires { IsSetting setting.now }
-    ensures value { result ≡ margin_of setting.now }
-    ensures most { result ≤ 15 }
-{
-    if setting.clear {
-        setting.agent.radius
-    } else {
-        0
     }
 }
 
