@@ -131,7 +131,11 @@ fn read_making(sizes: Sizes, text: &[u8]) -> Result<(Setting, &[u8]), TextFault>
 /// The line of clearance, which texts of the second form have: the whole setting, how many lines are read, and the
 /// bytes behind them.
 #[tactic(auto, unfolding(nav_text::specs::Reading::read))]
-fn read_clear(form: TextForm, plain: Setting, text: &[u8]) -> Result<(Setting, u32, &[u8]), TextFault>
+fn read_clear(
+    form: TextForm,
+    plain: Setting,
+    text: &[u8],
+) -> Result<(Setting, u32, &[u8]), TextFault>
     ensures said { MatchResult result
         (λ x. read field_format (after_limit form plain) 7 (lines text.now) ≡ read field_format (AtBody x.0 0 []) x.1 (lines x.2.now))
         (λ fault. read field_format (after_limit form plain) 7 (lines text.now) ≡ Err fault) }
@@ -145,7 +149,9 @@ fn read_clear(form: TextForm, plain: Setting, text: &[u8]) -> Result<(Setting, u
         TextForm::First => Ok((plain, 7, text)),
         TextForm::Second => {
             let (line, rest) = line_at(8, text)?;
-            let clear = clear_line(plain.tile, plain.agent.radius, line).map_err(|kind| TextFault::new(8, kind))?;
+            let clear = clear_line(plain.tile, plain.agent.radius, line).map_err(
+                |kind| TextFault::new(8, kind),
+            )?;
             let mut setting = plain;
             setting.clear = clear;
             Ok((setting, 8, rest))
@@ -154,7 +160,12 @@ fn read_clear(form: TextForm, plain: Setting, text: &[u8]) -> Result<(Setting, u
 }
 
 /// The costs behind the setting's lines, of which there are `front_lines`, up to a line with another first word.
-fn read_costs(front: Setting, front_lines: u32, bytes: &[u8], body: &[u8]) -> Result<HeaderText, FieldRefusal>
+fn read_costs(
+    front: Setting,
+    front_lines: u32,
+    bytes: &[u8],
+    body: &[u8],
+) -> Result<HeaderText, FieldRefusal>
     requires header { header_of bytes.now ≡ read header_format (AtBody front 0 []) front_lines (lines body.now) }
     requires past { IsPast bytes.now body.now front_lines }
     requires few { front_lines ≤ 8 }
