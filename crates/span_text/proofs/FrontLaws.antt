@@ -25,7 +25,7 @@ use Rattle.span_text.specs.declared.field.FieldRefusal.TheVariants as refusals
 use Rattle.span_text.specs.declared.header.TextForm.{TextForm}
 use Rattle.span_text.specs.declared.header.TextForm.TheVariants.{First, Second}
 use Rattle.span_text.specs.FieldText as said
-use Rattle.span_text.specs.FieldText.{RiseAbove, costs_of, header_lines, cost_text, span_text, all_header_lines, IsHeaderText, GoesOn}
+use Rattle.span_text.specs.FieldText.{RiseAbove, header_lines, cost_text, span_text, all_header_lines, IsHeaderText, GoesOn}
 use Rattle.span_text.specs.Header.{nav_line, size_line, limited, agent_line, mesh_line, clear_line}
 use Rattle.span_text.specs.Body.{header_line}
 use Rattle.span_text.specs.FieldFormat.{Place, AtNav, AtSize, AtTile, AtAgent, AtError, AtMesh, AtLimit, AtClear, AtBody, plain_setting, after_limit, lead, set_cost, headed, costs_verdict, header_body, header_format, header_of}
