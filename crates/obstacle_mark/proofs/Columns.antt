@@ -45,7 +45,7 @@ naming_number dir level cell to small f t named =
     ∙ ap (λ o. column_of to == column_toward dir cell.at && option_map_or (λ l. l == to.level) o false) named
 
 -- two tests that agree at each element of a list agree on whether one passes
-list_any_same : {A : Type 0} (p q : A → Bool) (xs : List A) → All (λ x. p x ≡ q x) xs → list_any p xs ≡ list_any q xs
+pub list_any_same : {A : Type 0} (p q : A → Bool) (xs : List A) → All (λ x. p x ≡ q x) xs → list_any p xs ≡ list_any q xs
 list_any_same p q [] each = refl
 list_any_same p q (x ∷ xs) each =
     ap (λ b. b || list_any p xs) (All-head (λ y. p y ≡ q y) x xs each)
