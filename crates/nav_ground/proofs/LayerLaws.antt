@@ -213,13 +213,6 @@ layers_within setting field =
     each_layer (IsWideWithin setting) (layer_of setting field) (tile_count setting)
     (λ tile there. wide_within setting (cells_of setting field) (kept_cells_of setting field) tile)
 
--- where the setting does not say clear, no layer keeps a radius of its own from obstacles
-pub no_radius : (setting : Setting) (field : Field) → setting.clear ≡ false → All (λ (layer : Layer). layer.radius ≡ 0) (layers_of setting field)
-unfolding layers_of layer_of
-no_radius setting field plain =
-    each_layer (λ (layer : Layer). layer.radius ≡ 0) (layer_of setting field) (tile_count setting)
-    (λ tile there. ap (λ clear. if clear then setting.agent.radius else 0) plain)
-
 -- the layers of a ground keep the rules of layers
 pub IsLayerOf-from_ground : (whole : Ground) → IsGround whole → All (IsLayerOf whole.setting) whole.layers
 IsLayerOf-from_ground whole rules' =
@@ -230,11 +223,6 @@ pub IsWideWithin-from_ground : (whole : Ground) → IsGround whole → All (IsWi
 IsWideWithin-from_ground whole rules' =
     All-same (IsWideWithin whole.setting) whole.layers (layers_of whole.setting whole.field) rules'.layers
     (layers_within whole.setting whole.field)
-
-pub no_radius_of_ground : (whole : Ground) → IsGround whole → All (λ (layer : Layer). layer.radius ≡ 0) whole.layers
-no_radius_of_ground whole rules' =
-    All-same (λ (layer : Layer). layer.radius ≡ 0) whole.layers (layers_of whole.setting whole.field) rules'.layers
-    (no_radius whole.setting whole.field rules'.built.clear)
 
 -- there is one layer a tile, in order of tiles
 pub length-layers_of_ground : (whole : Ground) → IsGround whole → length whole.layers ≡ tile_count whole.setting

@@ -1,5 +1,5 @@
 -- Grounds: a setting, the field of its size, and the layers of its tiles.
-use Rattle.std.specs.Prelude.{◌≡◌, false, All}
+use Rattle.std.specs.Prelude.{◌≡◌, All}
 use Rattle.nav_ground.specs.declared.setting.Setting.{Setting}
 use Rattle.nav_ground.specs.declared.field.Field.{Field}
 use Rattle.nav_ground.specs.declared.cell.Cell.{Cell}
@@ -16,10 +16,6 @@ pub record IsSized (setting : Setting) (field : Field) : Type 0 where
   pub width : field.width ≡ setting.width
   pub depth : field.depth ≡ setting.depth
 
--- obstacles block only the cells that they cover, whatever the agent's radius; grounds are built for such settings only
-pub record IsBuiltFor (setting : Setting) : Type 0 where
-  pub clear : setting.clear ≡ false
-
 -- a layer of a ground with a setting keeps the rules of layers, its tile is one of the ground, and its cells lie in it
 pub record IsLayerOf (setting : Setting) (layer : Layer) : Type 0 where
   pub rules : IsLayer layer
@@ -30,11 +26,9 @@ abbrev pub IsWideWithin : Setting → Layer → Type 0
 IsWideWithin setting layer =
     All (λ (cell : Cell). IsInWindow (widened (tile_window setting layer.tile) (margin_of setting)) cell.at.x cell.at.z) layer.wide
 
--- a ground keeps the rules of its parts, its field has the size that the setting says, the setting is one that grounds are built for, and
--- its layers are those of its field
+-- a ground keeps the rules of its parts, its field has the size that the setting says, and its layers are those of its field
 pub record IsGround (whole : Ground) : Type 0 where
   pub setting : IsSetting whole.setting
   pub field : IsField whole.field
   pub sized : IsSized whole.setting whole.field
-  pub built : IsBuiltFor whole.setting
   pub layers : whole.layers ≡ layers_of whole.setting whole.field

@@ -32,8 +32,8 @@ pub fn touch_window(setting: &Setting, shape: &Shape) -> Window
     widened(bounds(shape), margin_of(setting))
 }
 
-/// How many columns agents keep from obstacles.
-fn margin_of(setting: &Setting) -> u32
+/// How many columns agents keep from obstacles: their radius where the setting says clear, else none.
+pub fn margin_of(setting: &Setting) -> u32
     requires { IsSetting setting.now }
     ensures value { result ≡ Rattle.nav_ground.specs.Tiling.margin_of setting.now }
     ensures most { result ≤ 15 }
