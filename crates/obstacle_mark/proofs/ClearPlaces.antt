@@ -1,6 +1,6 @@
 -- What marking with a radius stands on: the window of all columns, places by column and level, and the areas of taken cells.
-use Rattle.std.proofs.Common.{◌≡◌, ℕ, ◌+◌, ◌<◌, Bool, true, false, List, length, map, filter, get_or, ap, ◌∙◌, sym, subst, refl, Option, Some, None, pos, arith, inl, inr}
-use Rattle.std.specs.Prelude.{All, ◌&&◌, ◌||◌, ◌==◌, not, if◌then◌else◌, int_le}
+use Rattle.std.proofs.Common.{◌≡◌, ℕ, ◌+◌, ◌<◌, Bool, true, false, List, [], ◌∷◌, length, map, filter, get_or, ap, ◌∙◌, sym, subst, refl, Option, Some, None, pos, arith, inl, inr}
+use Rattle.std.specs.Prelude.{All, is_some, ◌&&◌, ◌||◌, ◌==◌, not, if◌then◌else◌, int_le}
 use Rattle.std.specs.List.{list_any}
 use Rattle.std.proofs.lemmas.Bool.{cases_lt, and_parts, and_from, eqb-true, eq-eqb}
 use Rattle.std.proofs.lemmas.Int.{ints}
@@ -20,7 +20,7 @@ use Rattle.agent_erode.proofs.Marked.{marked_by_test}
 use Rattle.obstacle_mark.specs.AreasLeft.{area_left, area_clear}
 use Rattle.obstacle_mark.specs.Columns.{IsPlace, ArePlaces, column_of}
 use Rattle.obstacle_mark.specs.Places.{is_there}
-use Rattle.obstacle_mark.proofs.Blocked.{area_beside, no_cell}
+use Rattle.obstacle_mark.proofs.Blocked.{area_beside, some_where, no_cell}
 use Rattle.obstacle_mark.proofs.Columns.{list_any_same}
 use Rattle.obstacle_mark.proofs.FreeCellsLeft.{blocked_are_places}
 
@@ -42,6 +42,13 @@ all_everywhere cells each =
     filter_all _ cells (λ k d there.
     let cell = each k d there in
     and_from _ _ (within_field (get_or cells k d).at.x cell.x) (within_field (get_or cells k d).at.z cell.z))
+
+-- a cell is left with an area exactly where no shape blocks it
+pub open_where : (cells : List Cell) (shapes : List Shape) → map is_some (map (area_left (is_blocked shapes) shapes) cells) ≡ map (is_unblocked shapes) cells
+open_where [] shapes = refl
+open_where (cell ∷ cells) shapes =
+    ap (λ b. b ∷ map is_some (map (area_left (is_blocked shapes) shapes) cells)) (some_where (is_blocked shapes cell) (area_under shapes cell))
+    ∙ ap (λ bs. is_unblocked shapes cell ∷ bs) (open_where cells shapes)
 
 -- the clear places of a list of cells, from the marks of those that no shape blocks
 pub clear_where : (wide : List Cell) (shapes : List Shape) (uncovered : List Bool) (radius : ℕ) → All IsCell wide
