@@ -1,9 +1,10 @@
 -- What marking with a radius stands on: the window of all columns, places by column and level, and the areas of taken cells.
-use Rattle.std.proofs.Common.{◌≡◌, ℕ, ◌+◌, ◌<◌, Bool, true, false, List, [], ◌∷◌, length, map, filter, get_or, ap, ◌∙◌, sym, subst, refl, Option, Some, None, pos, arith, inl, inr}
+use Rattle.std.proofs.Common.{◌≡◌, ℕ, ◌+◌, ◌<◌, Bool, true, false, List, length, map, filter, get_or, ap, ◌∙◌, sym, subst, refl, Option, Some, None, pos, arith, inl, inr}
 use Rattle.std.specs.Prelude.{All, is_some, ◌&&◌, ◌||◌, ◌==◌, not, if◌then◌else◌, int_le}
 use Rattle.std.specs.List.{list_any}
 use Rattle.std.proofs.lemmas.Bool.{cases_lt, and_parts, and_from, eqb-true, eq-eqb}
 use Rattle.std.proofs.lemmas.Int.{ints}
+use Rattle.std.proofs.lemmas.Simd.{map-map}
 use Rattle.std.proofs.lemmas.List.{same_lists, length-map, get_or-map, get_or_default}
 use Rattle.std.proofs.lemmas.List.Elements.{All-filter, All-weaker}
 use Rattle.nav_ground.specs.declared.cell.Cell.{Cell}
@@ -45,10 +46,9 @@ all_everywhere cells each =
 
 -- a cell is left with an area exactly where no shape blocks it
 pub open_where : (cells : List Cell) (shapes : List Shape) → map is_some (map (area_left (is_blocked shapes) shapes) cells) ≡ map (is_unblocked shapes) cells
-open_where [] shapes = refl
-open_where (cell ∷ cells) shapes =
-    ap (λ b. b ∷ map is_some (map (area_left (is_blocked shapes) shapes) cells)) (some_where (is_blocked shapes cell) (area_under shapes cell))
-    ∙ ap (λ bs. is_unblocked shapes cell ∷ bs) (open_where cells shapes)
+open_where cells shapes =
+    map-map is_some (area_left (is_blocked shapes) shapes) cells
+    ∙ (λ i. map (λ (cell : Cell). some_where (is_blocked shapes cell) (area_under shapes cell) i) cells)
 
 -- the clear places of a list of cells, from the marks of those that no shape blocks
 pub clear_where : (wide : List Cell) (shapes : List Shape) (uncovered : List Bool) (radius : ℕ) → All IsCell wide
