@@ -1,3 +1,4 @@
+use Rattle.std.proofs.Common.{◌∙◌}
 use Rattle.tile_links.proofs.TilesFit.{tile_fit, tile_few}
 use Rattle.tile_links.proofs.new_tiles.links_after.Goals as goal
 
