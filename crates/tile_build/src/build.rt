@@ -20,7 +20,7 @@ use nav_steps::Steps;
 use obstacle_mark::mark;
 use std::alloc::{AllocError, Global};
 use std::sync::ledger::Ledger;
-use strip_mesh::strip_mesh_over;
+use strip_mesh::{strip_mesh_of_table, strip_mesh_over};
 
 /// The mesh of a layer under a list of shapes. Where the wide cells of the layer lie as near its tile as those of a ground do, this is also
 /// its mesh under those of the shapes that touch its tile. Only memory can be refused, and it takes one step then too.
@@ -84,6 +84,6 @@ fn contour_or_strips(
 {
     match contour_mesh_over(alloc, free, setting)? {
         ContourMesh::Made(tile) => Ok(tile),
-        ContourMesh::NotCut(free) => strip_mesh_over(alloc, free, setting),
+        ContourMesh::NotCut { free, strips } => strip_mesh_of_table(alloc, free, strips, setting),
     }
 }
