@@ -1,4 +1,4 @@
-use Rattle.std.proofs.Common.{◌≡◌, ℕ, List, Option, None, true, false, get_or, set, length, ◌<◌, ◌∙◌, ap, sym, refl, arith}
+use Rattle.std.proofs.Common.{◌≡◌, ℕ, List, Option, None, true, false, get_or, ◌∙◌, ap, sym, arith}
 use Rattle.std.proofs.lemmas.List.{get_or-set_same, get_or-set_other, get_or_default}
 use Rattle.nav_ground.specs.declared.cell.Cell.{Cell}
 use Rattle.obstacle_mark.specs.AreasLeft.{area_clear}
