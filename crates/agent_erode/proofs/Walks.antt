@@ -54,7 +54,7 @@ any_direction p h =
       ]
     ]
 
-direction_any : (p : ℕ → Bool) (dir : ℕ) → dir < 4 → p dir ≡ true → list_any p directions ≡ true
+pub direction_any : (p : ℕ → Bool) (dir : ℕ) → dir < 4 → p dir ≡ true → list_any p directions ≡ true
 direction_any p zero small h = list_any_at p directions 0 0 (omega arith) h
 direction_any p (suc zero) small h = list_any_at p directions 1 0 (omega arith) h
 direction_any p (suc (suc zero)) small h = list_any_at p directions 2 0 (omega arith) h

@@ -4,18 +4,15 @@ use Rattle.std.specs.Prelude.{◌&&◌, ◌||◌, not, ℤ, pos, ◌+ℤ◌, ◌
 use Rattle.std.specs.List.{list_any, range_with_len}
 use Rattle.std.proofs.lemmas.Int.{ints}
 use Rattle.std.proofs.lemmas.Bool.{and_parts, and_from, and_right, or_cases, both_ways, false_from_ne_true, cases_lt}
-use Rattle.std.proofs.lemmas.List.Sums.{length-filter, count_by-le-length}
-use Rattle.std.proofs.lemmas.List.Elements.{All-filter, filter_agree, filter-append}
+use Rattle.std.proofs.lemmas.List.Elements.{filter_agree, filter-append}
 use Rattle.std.proofs.lemmas.List.{get_or-take, get_or-drop, length-take, length-drop, append-nil, take-append-drop}
 use Rattle.std.specs.List.Sorted.{IsNonDecreasingBy}
-use Rattle.std.proofs.lemmas.List.Kept.{AllPairs-filter}
 use Rattle.nav_ground.specs.declared.cell.Cell.{Cell}
 use Rattle.nav_ground.specs.declared.cell.CellRef.{CellRef}
 use Rattle.nav_ground.specs.declared.cell.Window.{Window}
-use Rattle.nav_ground.specs.Cells.{IsCellBefore, IsCell, IsCells, is_naming, is_toward}
-use Rattle.nav_ground.specs.Tiling.{is_in_window}
+use Rattle.nav_ground.specs.Cells.{IsCellBefore, IsCells, is_naming, is_toward}
+use Rattle.nav_ground.specs.Tiling.{is_in_window, widened}
 use Rattle.nav_ground.specs.Clearance.{has_neighbour, is_boundary, is_axis_step, is_turn, is_diagonal_step, is_walk_end, is_kept, kept_cells, cells_in}
-use Rattle.agent_erode.specs.Windows.{widened}
 use Rattle.cell_table.proofs.Places.{no_cell}
 use Rattle.agent_erode.proofs.Walks.{any_direction, hit_of}
 use Rattle.nav_ground.proofs.Directions.{both_equal}
@@ -279,16 +276,6 @@ kept_in_window window cells radius =
     in_window true near kept true within same = ap (λ b. b && true) (same refl)
     in_window false near kept true within same = absurd (both_ways false refl (within refl))
     in_window wide near kept false within same = and_right (wide && near) false refl ∙ sym (and_right kept false refl)
-
--- the cells of a rectangle keep the rules of cells
-pub cells_in_rules : (window : Window) (cells : List Cell) → IsCells cells → IsCells (cells_in window cells)
-cells_in_rules window cells rules' =
-    let inside = λ (cell : Cell). is_in_window window cell.at.x cell.at.z in
-    record {
-      few = omega (arith, length-filter inside cells, count_by-le-length inside cells, rules'.few);
-      order = AllPairs-filter (λ (a b : Cell). IsCellBefore a.at b.at) inside cells rules'.order;
-      each = All-filter inside IsCell cells rules'.each;
-    }
 
 -- a rectangle that is not widened
 pub not_widened : (window : Window) (x z : ℕ) → is_in_window (widened window 0) x z ≡ is_in_window window x z

@@ -1,3 +1,3 @@
 pub mod Reaching
 pub mod Clearances
-pub mod Windows
+pub mod Runs

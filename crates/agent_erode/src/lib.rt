@@ -9,9 +9,9 @@
 #![tactic(auto)]
 
 mod clearance;
-mod kept;
+mod erosion;
 mod reach;
 mod windows;
 
-pub use kept::{erode, erode_window, kept_marks};
-pub use windows::{Rows, is_near, rows_of};
+pub use erosion::{erode, erode_window, kept, kept_marks};
+pub use windows::{Rows, cells_near, is_near, rows_of};

@@ -4,9 +4,9 @@ ghost use Rattle.nav_ground.specs.Limits.{IsSetting};
 ghost use Rattle.mesh_types.specs.Soundness.{IsSound};
 ghost use Rattle.corridor_search.specs.MeshGraphs.{IsThere};
 
-use corridor_search::{extent_at, link_weight, polygon_at, push_link_ends, vertex_at};
-use graph_search::{Graph, Step, Vertex, cheapest_walk};
-use mesh_types::{Extent, Mesh, PolyRef};
+use corridor_search::{polygon_at, push_link_arcs, vertex_at};
+use graph_search::{Arc, Graph, Vertex, cheapest_walk};
+use mesh_types::{Mesh, PolyRef};
 use std::alloc::{AllocError, Global};
 
 /// A mesh that is searched without an estimate.
@@ -16,10 +16,8 @@ struct Plain<'a> {
 }
 
 impl Graph for Plain<'_> {
-    ghost use Rattle.corridor_search.specs.MeshGraphs.{vertices_of, arcs_from, extents_of};
+    ghost use Rattle.corridor_search.specs.MeshGraphs.{vertices_of, arcs_from};
     ghost use Rattle.bench_hops.specs.Plain.{IsPlain, no_estimate};
-
-    type Spot = Extent;
 
     ghost is_sound = { λ g. IsPlain g.mesh.now };
 
@@ -27,26 +25,16 @@ impl Graph for Plain<'_> {
 
     ghost arcs = { λ g. arcs_from g.mesh.now };
 
-    ghost spots = { λ g. extents_of g.mesh.now };
-
     ghost estimates = { λ _. no_estimate };
 
     ghost heaviest = { λ _. 2897000 };
 
-    fn push_ends(&self, from: Vertex, ends: &mut Vec<Vertex>) -> Result<(), AllocError> {
-        push_link_ends(self.mesh, polygon_at(from), ends)
+    fn push_arcs(&self, from: Vertex, found: &mut Vec<Arc>) -> Result<(), AllocError> {
+        push_link_arcs(self.mesh, polygon_at(from), found)
     }
 
-    fn spot(&self, of: Vertex) -> Extent {
-        extent_at(self.mesh, polygon_at(of))
-    }
-
-    fn weight(&self, step: Step, to: Vertex, left: Extent, entered: Extent) -> u64 {
-        link_weight(self.mesh, step, to, left, entered)
-    }
-
-    fn estimate(&self, from: Vertex, spot: Extent) -> u64 {
-        let _ = (from, spot);
+    fn estimate(&self, from: Vertex) -> u64 {
+        let _ = from;
         0
     }
 }

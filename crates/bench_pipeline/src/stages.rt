@@ -9,7 +9,7 @@ ghost use Rattle.tile_build.specs.Meshes.{tiles_under};
 
 use crate::outcome::{Made, Outcome};
 use layer_cut::ground;
-use mesh_types::{Mesh, TileMesh, copy_mesh};
+use mesh_types::{Mesh, Tile, copy_mesh};
 use nav_base::read_number;
 use nav_book::Book;
 use nav_ground::Ground;
@@ -114,7 +114,7 @@ fn booked<R: Wait>(
     rt: &R,
     alloc: Global,
     whole: Ground,
-    tiles: Items<Shared<TileMesh>>,
+    tiles: Items<Shared<Tile>>,
     made: Made,
     copies: u32,
 ) -> Result<Made, AllocError>
@@ -131,10 +131,10 @@ fn booked<R: Wait>(
     Ok(made)
 }
 
-fn count_tiles(made: &mut Made, tiles: &[Shared<TileMesh>]) {
+fn count_tiles(made: &mut Made, tiles: &[Shared<Tile>]) {
     for tile in tiles {
-        made.polygons = made.polygons.wrapping_add(tile.get().polys.len());
-        made.links = made.links.wrapping_add(tile.get().links.len());
+        made.polygons = made.polygons.wrapping_add(tile.get().mesh().polys.len());
+        made.links = made.links.wrapping_add(tile.get().mesh().links.len());
     }
 }
 

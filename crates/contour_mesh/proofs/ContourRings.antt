@@ -295,4 +295,4 @@ tile_shares setting tile fit parts made =
 
 pub made_shares : (setting : Setting) (made : ContourMesh) → IfMade (IsFit setting) made → IfMade (λ (tile : TileMesh). OutlinesShareEdges setting tile.free) made
 made_shares setting (Made tile) fit = tile_shares setting tile fit
-made_shares setting (NotCut free) fit = fit
+made_shares setting (NotCut free strips) fit = fit

@@ -9,6 +9,8 @@ ghost use Rattle.mesh_types.specs.Passages.{AreTwoWay, ListsCrossings};
 ghost use Rattle.mesh_types.specs.Soundness.{IsFit};
 ghost use Rattle.mesh_types.specs.ContourMeshes.{doors_of, door_links, door_rim, facet_polygon, facets_of, parts_mesh};
 ghost use Rattle.contour_walk.specs.Tables.{IsTableOf};
+ghost use Rattle.mono_regions.specs.Joining as strip_tables;
+ghost use Rattle.contour_mesh.specs.declared.outcome.ContourMesh.{ContourMesh};
 ghost use Rattle.contour_mesh.specs.Outcomes.{IsMeshOrCells, IfMade};
 ghost use Rattle.contour_mesh.specs.Linked.{LinksFacing};
 ghost use Rattle.contour_mesh.specs.Parts.{IsCutPart};
@@ -26,15 +28,15 @@ use crate::parts::parts;
 use crate::placed::side_tables;
 use crate::polygons::polygons;
 use crate::rim::door_rim;
-use contour_walk::{RegionTable, region_table};
+use contour_walk::{RegionTable, region_table_over};
 use mesh_types::{Door, Links, Part, Polygons, Regions, RimEdge, TileMesh};
-use mono_regions::regions;
+use mono_regions::{StripIndex, StripTable, regions_over, tabled_strips};
 use nav_ground::{Cell, FreeLayer, Setting, TileNo};
 use nav_list::Items;
 use std::alloc::{AllocError, Global};
 
 /// The mesh of a tile by the outlines of its regions, from its free cells, which it takes over: the pieces of each outline as polygons, the
-/// links between them, and the rim. Where some region has no outline, or one that cannot be cut, the free cells come back.
+/// links between them, and the rim. Where some region has no outline, or one that cannot be cut, the free cells come back, with their strips.
 pub fn contour_mesh_over(
     alloc: Global,
     free: FreeLayer,
@@ -56,26 +58,33 @@ pub fn contour_mesh_over(
     // Each free cell with a kept neighbour across a side of the tile is listed by exactly one entry of the rim.
     ensures listed { IfOk result (IfMade (ListsCrossings setting.now)) }
 {
-    let regions = regions(alloc, &free)?;
-    let table = region_table(alloc, &free, setting, &regions)?;
-    mesh_over_regions(alloc, free, setting, &regions, &table)
+    let strips = tabled_strips(alloc, free.cells.as_slice())?;
+    let regions = regions_over(alloc, free.cells.as_slice(), &strips)?;
+    let StripTable {
+        table: neighbours,
+        index,
+    } = strips;
+    let table = region_table_over(alloc, &free, setting, &regions, neighbours)?;
+    mesh_over_regions(alloc, free, setting, &regions, table, index)
 }
 
-/// The same by the regions of the tile and their table.
+/// The same by the regions of the tile and their table, which takes the neighbour table of the strips over.
 fn mesh_over_regions(
     alloc: Global,
     free: FreeLayer,
     setting: &Setting,
     regions: &Regions,
-    table: &RegionTable,
+    table: RegionTable,
+    index: StripIndex,
 ) -> Result<ContourMesh, AllocError>
     requires setting { IsSetting setting.now }
     requires cells { IsCut free.cells }
     requires tile { IsInTile setting.now free.tile free.cells }
     requires regions { AreRegionsOf free.cells regions.now }
     requires all { regions.now ≡ regions_of free.cells }
-    requires table { IsTableOf free.cells regions.now.regions table.now }
-    requires window { table.now.window ≡ tile_window setting.now free.tile }
+    requires table { IsTableOf free.cells regions.now.regions table }
+    requires strips { strip_tables.IsTableOf free.cells (record { table = table.neighbours; index = index }) }
+    requires window { table.window ≡ tile_window setting.now free.tile }
     ensures value { IfOk result (IsMeshOrCells setting.now free) }
     ensures fit { IfOk result (IfMade (IsFit setting.now)) }
     ensures linked { IfOk result (IfMade (LinksFacing setting.now)) }
@@ -83,13 +92,24 @@ fn mesh_over_regions(
     ensures listed { IfOk result (IfMade (ListsCrossings setting.now)) }
 {
     let cells = free.cells.as_slice();
-    match parts(alloc, cells, regions, table, setting.error)? {
-        None => Ok(ContourMesh::NotCut(free)),
+    match parts(alloc, cells, regions, &table, setting.error)? {
+        None => Ok(not_cut(free, table, index)),
         Some(parts) => {
-            let mesh = mesh(alloc, free, regions, table, parts.as_slice())?;
+            let mesh = mesh(alloc, free, regions, &table, parts.as_slice())?;
             Ok(ContourMesh::Made(mesh))
         }
     }
+}
+
+/// The free cells again, with their strips.
+fn not_cut(free: FreeLayer, table: RegionTable, index: StripIndex) -> ContourMesh
+    ensures { result ≡ ContourMesh.NotCut free (record { table = table.neighbours; index = index }) }
+{
+    let strips = StripTable {
+        table: table.neighbours,
+        index,
+    };
+    ContourMesh::NotCut { free, strips }
 }
 
 /// The mesh of a tile by the parts of its regions.

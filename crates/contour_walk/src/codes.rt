@@ -9,6 +9,7 @@ ghost use Rattle.nav_ground.specs.declared.cell.CellRef.{CellRef};
 ghost use Rattle.mesh_types.specs.StripMeshes.{corner, is_crossing};
 ghost use Rattle.mesh_types.specs.Regions.{AreRegionsOf};
 ghost use Rattle.mesh_types.specs.Contours.{cell_in, edge_of, code_beyond, region_beyond};
+ghost use Rattle.cell_table.specs.Table.{neighbour_table};
 ghost use Rattle.contour_walk.specs.Tables.{index_of, IsRim, IsTableOf};
 
 use crate::owners::owners;
@@ -34,11 +35,31 @@ pub fn region_table(
     ensures window { IfOk result (λ table. table.window ≡ tile_window setting.now free.now.tile) }
     ensures tables { IfOk result (λ table. IsTableOf free.now.cells regions.now.regions table) }
 {
-    let cells = free.cells.as_slice();
+    let neighbours = neighbour_table(alloc, free.cells.as_slice())?;
+    region_table_over(alloc, free, setting, regions, Items::from_vec(neighbours))
+}
+
+/// What `region_table` does, where the cells' neighbour table is at hand.
+pub fn region_table_over(
+    alloc: Global,
+    free: &FreeLayer,
+    setting: &Setting,
+    regions: &Regions,
+    neighbours: Items<[u32; 4]>,
+) -> Result<RegionTable, AllocError>
+    requires setting { IsSetting setting.now }
+    requires tile { free.now.tile < tile_count setting.now }
+    requires cells { IsCells free.now.cells }
+    requires regions { AreRegionsOf free.now.cells regions.now }
+    requires neighbours { neighbours ≡ neighbour_table free.now.cells }
+    ensures window { IfOk result (λ table. table.window ≡ tile_window setting.now free.now.tile) }
+    ensures tables { IfOk result (λ table. IsTableOf free.now.cells regions.now.regions table) }
+{
+    let owners = owners(alloc, free.cells.as_slice(), regions.regions.as_slice())?;
     Ok(RegionTable {
         window: tile_bounds(setting, free.tile),
-        neighbours: Items::from_vec(neighbour_table(alloc, cells)?),
-        owners: Items::from_vec(owners(alloc, cells, regions.regions.as_slice())?),
+        neighbours,
+        owners: Items::from_vec(owners),
     })
 }
 

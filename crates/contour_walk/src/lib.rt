@@ -14,6 +14,6 @@ mod round;
 mod sides;
 mod table;
 
-pub use codes::{is_crossing, region_table};
+pub use codes::{is_crossing, region_table, region_table_over};
 pub use round::{contour, contour_over};
 pub use table::RegionTable;

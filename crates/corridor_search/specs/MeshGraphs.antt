@@ -1,12 +1,13 @@
 -- The mesh as a graph: its polygons are the vertices, by tile and place, and its links are the arcs.
-use Rattle.std.specs.Prelude.{◌≡◌, ℕ, ◌+◌, ◌*◌, ◌<◌, max, pos, ◌≤ℤ◌, ◌+ℤ◌, ◌*ℤ◌, List, [], ◌∷◌, ◌++◌, length, map, slice_get, slice_index, slice_index_or, Some}
+use Rattle.std.specs.Prelude.{◌≡◌, ℕ, ◌+◌, ◌*◌, ◌<◌, max, pos, ◌+ℤ◌, ◌*ℤ◌, List, [], ◌∷◌, ◌++◌, length, map, slice_get, slice_index, slice_index_or, Some}
 use Rattle.std.specs.List.{range_with_len}
 use Rattle.std.specs.Option.{option_map_or}
 use Rattle.nav_base.specs.declared.point.Point.{Point}
 use Rattle.nav_base.specs.Point.{IsCellCorner, from_to}
 use Rattle.nav_base.specs.Deviation.{square_of}
 use Rattle.nav_base.specs.Root.{ceil_sqrt_of}
-use Rattle.nav_ground.specs.Limits.{IsSetting}
+use Rattle.nav_ground.specs.declared.setting.Setting.{Setting}
+use Rattle.nav_ground.specs.Limits.{IsSetting, IsArea}
 use Rattle.mesh_types.specs.declared.links.PolyRef.{PolyRef}
 use Rattle.mesh_types.specs.declared.links.Link.{Link}
 use Rattle.mesh_types.specs.declared.polygon.Polygon.{Polygon}
@@ -14,10 +15,12 @@ use Rattle.mesh_types.specs.declared.tile.TileMesh.{TileMesh}
 use Rattle.mesh_types.specs.declared.mesh.Mesh.{Mesh}
 use Rattle.mesh_types.specs.declared.extent.Extent.{Extent}
 use Rattle.mesh_types.specs.Extents.{extent_of}
-use Rattle.mesh_types.specs.LinkIndex.{leaving_of, entered_by}
+use Rattle.mesh_types.specs.LinkIndex.{leaving_of}
 use Rattle.mesh_types.specs.WholeMesh.{poly_at}
 use Rattle.mesh_types.specs.Corridors.{centre_of, weight_of, WalksTo}
 use Rattle.mesh_types.specs.Soundness.{IsSound}
+use Rattle.mesh_types.specs.declared.ways.Way.{Way}
+use Rattle.mesh_types.specs.Ways.{IsInField, distance_of, middle_in, extent_in, no_extent, extents_in, way_in}
 use Rattle.graph_search.specs.declared.arcs.Vertex.{Vertex}
 use Rattle.graph_search.specs.declared.arcs.Arc.{Arc}
 use Rattle.graph_search.specs.declared.arcs.Step.{Step}
@@ -82,12 +85,6 @@ no_link =
 abbrev pub link_of : Mesh → Step → Link
 link_of mesh step = slice_index_or (links_from mesh (polygon_of step.from)) step.place no_link
 
--- what a step into a polygon costs from a point: the distance to its middle, rounded up and at least 1, times the cost of its area
-abbrev pub weight_from : Mesh → Point → PolyRef → ℕ
-weight_from mesh centre at =
-    option_map_or (λ (to : Polygon). max 1 (ceil_sqrt_of (square_of (from_to centre (centre_of to.corners)))) * slice_index mesh.setting.costs to.area)
-    (poly_at mesh at) 0
-
 -- the estimate of what is left to go from a polygon: the distance from its middle to the goal, rounded up
 abbrev pub estimate_from : Mesh → Point → PolyRef → ℕ
 estimate_from mesh goal at = option_map_or (λ (polygon : Polygon). ceil_sqrt_of (square_of (from_to (centre_of polygon.corners) goal))) (poly_at mesh at) 0
@@ -104,35 +101,42 @@ extent_at mesh at = option_map_or (λ (tile : TileMesh). slice_index_or (map ext
 abbrev pub middle_of : Extent → Point
 middle_of extent = record { x = pos 8 *ℤ (extent.low.x +ℤ extent.high.x); z = pos 8 *ℤ (extent.low.z +ℤ extent.high.z) }
 
+-- the middle of the polygon that a reference names, as a search reads it
+abbrev pub middle_at : Mesh → PolyRef → Point
+middle_at mesh at = option_map_or (λ (tile : TileMesh). middle_in (extent_in (extents_in tile) at.index)) (slice_get mesh.tiles at.tile) (middle_in no_extent)
+
+-- the links that leave a polygon inside its tile, as a search reads them
+abbrev pub ways_at : Mesh → PolyRef → List Way
+ways_at mesh at = option_map_or (λ (tile : TileMesh). map (way_in tile) (leaving_of at.index tile.links)) (slice_get mesh.tiles at.tile) []
+
+-- the arc of a link inside a tile, and the arc that leads from a point into a polygon
+abbrev pub way_arc : Setting → ℕ → Way → Arc
+way_arc setting tile way = record { to = record { block = tile; place = way.to }; weight = way.length * slice_index setting.costs way.area }
+
+abbrev pub arc_into : Mesh → Point → PolyRef → Arc
+arc_into mesh from to =
+    let entered : Extent = extent_at mesh to in
+    record { to = vertex_of to; weight = max 1 (distance_of from (middle_of entered)) * slice_index mesh.setting.costs entered.area }
+
 -- both corners of the box lie in the largest field
 pub record IsBox (extent : Extent) : Type 0 where
   pub low : IsCellCorner extent.low
   pub high : IsCellCorner extent.high
 
--- the extents of all vertices
-abbrev pub extents_of : Mesh → Vertex → Extent
-extents_of mesh v = extent_at mesh (polygon_of v)
+-- a polygon that may be entered: its box lies in the largest field, and its area can be walked on
+pub record IsEntered (mesh : Mesh) (at : PolyRef) : Type 0 where
+  pub box : IsBox (extent_at mesh at)
+  pub area : IsArea (extent_at mesh at).area
 
 -- the estimates of all vertices
 abbrev pub estimates_of : Mesh → Point → Vertex → ℕ
 estimates_of mesh goal v = estimate_from mesh goal (polygon_of v)
-
--- a point between the corners (0, 0) and (1024, 1024) of the largest field, in sixteenths
-pub record IsInField (p : Point) : Type 0 where
-  pub left : pos 0 ≤ℤ p.x
-  pub right : p.x ≤ℤ pos 16384
-  pub bottom : pos 0 ≤ℤ p.z
-  pub top : p.z ≤ℤ pos 16384
 
 -- a mesh that is searched for walks to a goal: it is sound, its setting keeps the rules, and the goal lies in the field
 pub record IsSearched (mesh : Mesh) (goal : Point) : Type 0 where
   pub sound : IsSound mesh
   pub setting : IsSetting mesh.setting
   pub in_field : IsInField goal
-
--- the vertex of the polygon that a link enters
-abbrev pub end_of : Link → Vertex
-end_of link = vertex_of (entered_by link)
 
 -- a step takes a link that leaves its polygon
 pub record IsOver (mesh : Mesh) (step : Step) : Type 0 where

@@ -1,15 +1,13 @@
 //! The mesh as a graph.
 
-ghost use Rattle.std.specs.Prelude.{◌≡◌, ◌++◌, ◌+◌, ◌<◌, OnOk, IfSome, IfNone, map, length, Contains};
-ghost use Rattle.nav_ground.specs.Limits.{IsSetting};
+ghost use Rattle.std.specs.Prelude.{◌≡◌, ◌+◌, ◌<◌, IfSome, IfNone, map, length};
 ghost use Rattle.mesh_types.specs.LinkIndex.{entered_by};
-ghost use Rattle.mesh_types.specs.Soundness.{IsSound};
-ghost use Rattle.graph_search.specs.Walks.{arc_of};
-ghost use Rattle.corridor_search.specs.MeshGraphs.{vertex_of, vertices_of, polygon_of, inner_links, outer_links, links_from, link_of, end_of, arcs_from, extents_of};
+ghost use Rattle.corridor_search.specs.MeshGraphs.{vertex_of, polygon_of, inner_links, outer_links, links_from, link_of};
 
-use crate::weights::{distance, extent_at, middle, weight};
-use graph_search::{Graph, Step, Vertex};
-use mesh_types::{Extent, Link, Mesh, PolyRef};
+use crate::arcs::push_link_arcs;
+use crate::weights::{distance, middle_at};
+use graph_search::{Arc, Graph, Step, Vertex};
+use mesh_types::{Link, Mesh, PolyRef};
 use nav_base::Point;
 use std::alloc::AllocError;
 
@@ -38,7 +36,7 @@ fn inner(mesh: &Mesh, at: PolyRef) -> &[Link]
     ensures { result.now ≡ inner_links mesh.now at }
 {
     match mesh.tiles.get(at.tile as usize) {
-        Some(tile) => tile.get().links.leaving(at.index),
+        Some(tile) => tile.get().mesh().links.leaving(at.index),
         None => &[],
     }
 }
@@ -58,7 +56,7 @@ pub(crate) fn entered_inside(mesh: &Mesh, at: PolyRef) -> &[PolyRef]
     ensures { result.now ≡ map entered_by (inner_links mesh.now at) }
 {
     match mesh.tiles.get(at.tile as usize) {
-        Some(tile) => tile.get().links.entered_from(at.index),
+        Some(tile) => tile.get().mesh().links.entered_from(at.index),
         None => &[],
     }
 }
@@ -105,31 +103,6 @@ pub fn past_links(mesh: &Mesh, step: Step) -> Option<usize>
     Some(past - outside)
 }
 
-/// Appends the vertices of the polygons that the links which leave a polygon enter, in order of the links.
-pub fn push_link_ends(mesh: &Mesh, at: PolyRef, ends: &mut Vec<Vertex>) -> Result<(), AllocError>
-    ensures { OnOk result (ends.new.items ≡ ends.old.items ++ map end_of (links_from mesh.now at)) }
-{
-    push_vertices(entered_inside(mesh, at), ends)?;
-    push_vertices(entered_outside(mesh, at), ends)
-}
-
-/// What the link of a step weighs, which enters a given vertex: from the extents of the polygons that it leaves and enters, the distance of
-/// their middles in sixteenths of a cell, rounded up and at least 1, times the cost of the area that is entered. The step and the vertex say
-/// which link it is, in what is asked and promised; the extents are all that is read.
-pub fn link_weight(mesh: &Mesh, step: Step, to: Vertex, left: Extent, entered: Extent) -> u64
-    requires sound { IsSound mesh.now }
-    requires setting { IsSetting mesh.now.setting }
-    requires there { Contains (vertices_of mesh.now) step.from }
-    requires place { step.place < length (arcs_from mesh.now step.from) }
-    requires end { (arc_of (arcs_from mesh.now) step).to ≡ to }
-    requires left { left ≡ extents_of mesh.now step.from }
-    requires entered { entered ≡ extents_of mesh.now to }
-    ensures { result ≡ (arc_of (arcs_from mesh.now) step).weight }
-{
-    let _ = (step, to);
-    weight(&mesh.setting, middle(left), entered)
-}
-
 /// A mesh that is searched for walks to a goal.
 #[derive(Clone, Copy)]
 pub(crate) struct MeshGraph<'a> {
@@ -139,9 +112,7 @@ pub(crate) struct MeshGraph<'a> {
 }
 
 impl Graph for MeshGraph<'_> {
-    ghost use Rattle.corridor_search.specs.MeshGraphs.{IsSearched, vertices_of, arcs_from, extents_of, estimates_of};
-
-    type Spot = Extent;
+    ghost use Rattle.corridor_search.specs.MeshGraphs.{IsSearched, vertices_of, arcs_from, estimates_of};
 
     ghost is_sound = { λ g. IsSearched g.mesh.now g.goal };
 
@@ -149,38 +120,17 @@ impl Graph for MeshGraph<'_> {
 
     ghost arcs = { λ g. arcs_from g.mesh.now };
 
-    ghost spots = { λ g. extents_of g.mesh.now };
-
     ghost estimates = { λ g. estimates_of g.mesh.now g.goal };
 
     /// The middles of two linked polygons are at most the side of a tile apart along each axis: 128 cells, 2048 sixteenths. Rounded up, that
     /// is 2897 across, at a cost of at most 1000.
     ghost heaviest = { λ _. 2897000 };
 
-    fn push_ends(&self, from: Vertex, ends: &mut Vec<Vertex>) -> Result<(), AllocError> {
-        push_link_ends(self.mesh, polygon_at(from), ends)
+    fn push_arcs(&self, from: Vertex, found: &mut Vec<Arc>) -> Result<(), AllocError> {
+        push_link_arcs(self.mesh, polygon_at(from), found)
     }
 
-    fn spot(&self, of: Vertex) -> Extent {
-        extent_at(self.mesh, polygon_at(of))
+    fn estimate(&self, from: Vertex) -> u64 {
+        u64::from(distance(middle_at(self.mesh, polygon_at(from)), self.goal))
     }
-
-    fn weight(&self, step: Step, to: Vertex, left: Extent, entered: Extent) -> u64 {
-        link_weight(self.mesh, step, to, left, entered)
-    }
-
-    fn estimate(&self, from: Vertex, spot: Extent) -> u64 {
-        let _ = from;
-        u64::from(distance(middle(spot), self.goal))
-    }
-}
-
-/// Appends the vertices of polygons.
-fn push_vertices(polygons: &[PolyRef], ends: &mut Vec<Vertex>) -> Result<(), AllocError>
-    ensures { OnOk result (ends.new.items ≡ ends.old.items ++ map vertex_of polygons.now) }
-{
-    for at in polygons {
-        ends.push(vertex_at(*at))?;
-    }
-    Ok(())
 }

@@ -9,7 +9,7 @@ ghost use Rattle.graph_search.specs.Visited.{visit_at, IsClosed, IsWritten};
 ghost use Rattle.graph_search.specs.Entries.{entry};
 ghost use Rattle.graph_search.specs.Searching.{IsTree, IsRanked, IsKnown, IsClosing, AllRelaxed, AreBeingRelaxed, IsFollowing, KeepsRanks, IsBegun, IsWalkTo, closed_as};
 
-use crate::arcs::{Step, Vertex, Walk};
+use crate::arcs::{Arc, Step, Vertex, Walk};
 use crate::entry::Entry;
 use crate::graph::Graph;
 use crate::visits::{UNSEEN, Visit, Visits};
@@ -33,8 +33,8 @@ pub fn cheapest_walk<G: Graph>(
     ensures short { IfOk result (λ answer. IfSome answer (λ walk. length walk.steps.items < length (G.vertices graph.now))) }
     ensures none { IfOk result (λ answer. IfNone answer (IsApart (G.arcs graph.now) from to)) }
 {
-    let mut search = Search::begin(alloc, from, graph.estimate(from, graph.spot(from)))?;
-    let mut ends = Vec::new(alloc);
+    let mut search = Search::begin(alloc, from, graph.estimate(from))?;
+    let mut arcs = Vec::new(alloc);
     while let Some(first) = search.waiting.pop(alloc)? {
         let vertex = first.vertex;
         let visit = search.visits.get(vertex);
@@ -45,16 +45,9 @@ pub fn cheapest_walk<G: Graph>(
         if vertex == to {
             return Ok(Some(walk_to(alloc, &search.visits, from, to)?));
         }
-        search.relax(alloc, graph, vertex, visit.cost, &mut ends)?;
+        search.relax(alloc, graph, vertex, visit.cost, &mut arcs)?;
     }
     Ok(None)
-}
-
-/// What is known of the vertex that an arc leaves: what it costs, and its spot.
-#[derive(Clone, Copy)]
-struct Origin<S> {
-    cost: u64,
-    spot: S,
 }
 
 /// The state of a search.
@@ -109,14 +102,14 @@ impl Search {
         Ok(())
     }
 
-    /// Follows the arcs of a vertex that was just closed, which this costs. The ends are room to work in.
+    /// Follows the arcs of a vertex that was just closed, which this costs. The arcs are room to work in.
     fn relax<G: Graph>(
         &mut self,
         alloc: Global,
         graph: &G,
         from: Vertex,
         cost: u64,
-        ends: &mut Vec<Vertex>,
+        arcs: &mut Vec<Arc>,
     ) -> Result<(), AllocError>
         requires sound { G.is_sound graph.now }
         requires searchable { IsSearchable (G.vertices graph.now) (G.arcs graph.now) (G.estimates graph.now) (G.heaviest graph.now) }
@@ -139,35 +132,32 @@ impl Search {
             ≤ length self.old.waiting.entries + length (G.arcs graph.now from)) }
         ensures closed { self.new.closed ≡ self.old.closed }
     {
-        ends.clear();
-        graph.push_ends(from, ends)?;
-        let ends = ends.as_slice();
-        let spot = graph.spot(from);
-        for (place, to) in ends.iter().enumerate() {
-            let origin = Origin { cost, spot };
-            self.follow(alloc, graph, Step { from, place }, origin, *to)?;
+        arcs.clear();
+        graph.push_arcs(from, arcs)?;
+        let arcs = arcs.as_slice();
+        for (place, arc) in arcs.iter().enumerate() {
+            self.follow(alloc, graph, Step { from, place }, cost, *arc)?;
         }
         Ok(())
     }
 
-    /// Follows an arc of a vertex that was just closed: where it leads to a vertex at less cost than was known, that is written, and the
-    /// vertex waits with it.
+    /// Follows an arc of a vertex that was just closed, which this costs: where it leads to a vertex at less cost than was known, that is
+    /// written, and the vertex waits with it.
     fn follow<G: Graph>(
         &mut self,
         alloc: Global,
         graph: &G,
         last: Step,
-        origin: Origin<G::Spot>,
-        to: Vertex,
+        cost: u64,
+        arc: Arc,
     ) -> Result<(), AllocError>
         requires sound { G.is_sound graph.now }
         requires searchable { IsSearchable (G.vertices graph.now) (G.arcs graph.now) (G.estimates graph.now) (G.heaviest graph.now) }
         requires there { Contains (G.vertices graph.now) last.from }
         requires place { last.place < length (G.arcs graph.now last.from) }
-        requires end { (arc_of (G.arcs graph.now) last).to ≡ to }
-        requires cost { origin.cost ≡ (visit_at self.old.visits last.from).cost }
-        requires last { self.old.waiting.last ≤ origin.cost + G.estimates graph.now last.from }
-        requires spot { origin.spot ≡ G.spots graph.now last.from }
+        requires arc { arc_of (G.arcs graph.now) last ≡ arc }
+        requires cost { cost ≡ (visit_at self.old.visits last.from).cost }
+        requires last { self.old.waiting.last ≤ cost + G.estimates graph.now last.from }
         requires few { self.old.closed ≤ length (G.vertices graph.now) }
         requires known { IsKnown (G.vertices graph.now) (G.estimates graph.now) (visit_at self.old.visits)
             self.old.waiting.entries (self.old.closed * G.heaviest graph.now) self.old.closed }
@@ -180,12 +170,12 @@ impl Search {
         ensures closed { self.new.closed ≡ self.old.closed }
         ensures last { self.new.waiting.last ≡ self.old.waiting.last }
     {
+        let to = arc.to;
         let known = self.visits.get(to);
         if known.rank != 0 {
             return Ok(());
         }
-        let spot = graph.spot(to);
-        let through = origin.cost + graph.weight(last, to, origin.spot, spot);
+        let through = cost + arc.weight;
         if known.cost <= through {
             return Ok(());
         }
@@ -196,7 +186,7 @@ impl Search {
             last,
         };
         self.visits.set(alloc, to, better)?;
-        let key = through + graph.estimate(to, spot);
+        let key = through + graph.estimate(to);
         self.waiting.push(alloc, Entry { key, vertex: to })?;
         Ok(())
     }

@@ -65,16 +65,16 @@ cells_in_field_of setting field cells rules' sized same =
 
 -- the layers among the kept cells of a field are its layers
 pub layer_is : (setting : Setting) (field : Field) (cells : List Cell) (tile : ℕ) (layer : Layer) → cells ≡ cells_of setting field
-    → layer ≡ layer_among setting (kept_cells cells setting.agent.radius) tile → layer ≡ layer_of setting field tile
+    → layer ≡ layer_among setting cells (kept_cells cells setting.agent.radius) tile → layer ≡ layer_of setting field tile
 unfolding layer_of
 layer_is setting field cells tile layer same made =
-    made ∙ ap (λ (cs : List Cell). layer_among setting (kept_cells cs setting.agent.radius) tile) same
+    made ∙ ap (λ (cs : List Cell). layer_among setting cs (kept_cells cs setting.agent.radius) tile) same
 
 pub layers_are : (setting : Setting) (field : Field) (cells : List Cell) (layers : List Layer) → cells ≡ cells_of setting field
-    → layers ≡ map (layer_among setting (kept_cells cells setting.agent.radius)) (range_with_len 0 (tile_count setting)) → layers ≡ layers_of setting field
+    → layers ≡ map (layer_among setting cells (kept_cells cells setting.agent.radius)) (range_with_len 0 (tile_count setting)) → layers ≡ layers_of setting field
 unfolding layer_of layers_of
 layers_are setting field cells layers same made =
-    made ∙ ap (λ (cs : List Cell). map (layer_among setting (kept_cells cs setting.agent.radius)) (range_with_len 0 (tile_count setting))) same
+    made ∙ ap (λ (cs : List Cell). map (layer_among setting cs (kept_cells cs setting.agent.radius)) (range_with_len 0 (tile_count setting))) same
 
 -- so it keeps the rules of layers
 pub layer_rules_of : (setting : Setting) (field : Field) (tile : ℕ) (layer : Layer) → IsSetting setting → IsField field → tile < tile_count setting

@@ -11,14 +11,13 @@ use Rattle.nav_ground.specs.declared.cell.Cell.{Cell}
 use Rattle.nav_ground.specs.declared.cell.Window.{Window}
 use Rattle.nav_ground.specs.Limits.{IsAgent}
 use Rattle.nav_ground.specs.Fields.{IsField, IsSpan}
-use Rattle.nav_ground.specs.Tiling.{is_in_window}
+use Rattle.nav_ground.specs.Tiling.{is_in_window, widened}
 use Rattle.nav_ground.specs.Column.{stands_above, ceiling_of}
 use Rattle.nav_ground.specs.Filters.{areas_without, filtered_areas, is_ledge, is_low_ceiling, low_hanging_area}
 use Rattle.nav_ground.specs.Connection.{walkable_spans, unconnected_cell, unconnected_cells}
 use Rattle.nav_ground.specs.Clearance.{cells_in}
 use Rattle.nav_ground.proofs.Selections.{filter-filter, filter-map}
 use Rattle.nav_ground.proofs.Walkable.{IsAbove-from_test}
-use Rattle.agent_erode.specs.Windows.{widened}
 use Rattle.layer_cut.specs.Nearby.{spans_in, field_in}
 use Rattle.layer_cut.proofs.Restricted.{map_agree, map_kept_agree, count-restricted}
 use Rattle.layer_cut.proofs.NearbySpans.{filtered_area, inside_same, ceiling_nearby, area_nearby, area_at_edge, widened_inside}

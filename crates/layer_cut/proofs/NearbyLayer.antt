@@ -1,5 +1,5 @@
 -- The layer of a tile, from the spans near the tile alone.
-use Rattle.std.proofs.Common.{◌≡◌, ℕ, zero, suc, ◌+◌, ◌<◌, Bool, true, false, List, [], ◌∷◌, map, filter, refl, sym, ap, ◌∙◌, arith, Option, None, get_or}
+use Rattle.std.proofs.Common.{◌≡◌, ℕ, zero, suc, ◌+◌, ◌<◌, Bool, true, false, List, [], ◌∷◌, map, filter, refl, sym, subst, ap, ◌∙◌, arith, Option, None, get_or}
 use Rattle.std.specs.Prelude.{◌&&◌, ◌||◌, ◌==◌, not, if◌then◌else◌, All, ℤ, pos, ◌-ℤ◌, ◌+ℤ◌, ◌*◌}
 use Rattle.std.specs.List.{list_any}
 use Rattle.std.specs.Option.{option_map, option_map_or}
@@ -17,15 +17,14 @@ use Rattle.nav_ground.specs.declared.cell.Window.{Window}
 use Rattle.nav_ground.specs.Limits.{IsSetting}
 use Rattle.nav_ground.specs.Fields.{IsField}
 use Rattle.nav_ground.specs.Cells.{is_toward, is_naming, next_level}
-use Rattle.nav_ground.specs.Tiling.{is_in_window, tile_window}
+use Rattle.nav_ground.specs.Tiling.{is_in_window, tile_window, widened, margin_of}
 use Rattle.nav_ground.specs.Filters.{filtered_areas}
 use Rattle.nav_ground.specs.Connection.{unconnected_cells, is_connected, level_toward, connected_cell, compact_cells}
 use Rattle.nav_ground.specs.Clearance.{has_neighbour, is_boundary, is_axis_step, is_turn, is_diagonal_step, is_walk_end, is_kept, kept_cells, cells_in}
-use Rattle.nav_ground.specs.Layers.{cells_of, kept_level, layer_cell, layer_among, layer_of}
+use Rattle.nav_ground.specs.Layers.{cells_of, kept_level, layer_cell, layer_among, layer_of, wide_cells}
 use Rattle.nav_ground.proofs.Directions.{both_equal}
 use Rattle.nav_ground.proofs.Selections.{filter-filter, filter-map, list_any-map}
 use Rattle.nav_ground.proofs.Connected.{level_of_connected}
-use Rattle.agent_erode.specs.Windows.{widened}
 use Rattle.agent_erode.proofs.WindowLaws.{toward_beside, beside_back, deep_beside, deep_inside, inside_deep, either_same, and_same, any_range_same, kept_near}
 use Rattle.layer_cut.specs.Nearby.{field_in}
 use Rattle.layer_cut.proofs.Restricted.{any_agree, map_kept_agree, find-restricted, any-restricted}
@@ -161,6 +160,25 @@ where_inside : (v k k' t : Bool) → (t ≡ true → v ≡ true) → (t ≡ true
 where_inside v k k' true near same = ap (λ b. (b && k) && true) (near refl) ∙ ap (λ b. b && true) (same refl)
 where_inside v k k' false near same = and_right (v && k) false refl ∙ sym (and_right k' false refl)
 
+both_where : (v t : Bool) → (t ≡ true → v ≡ true) → (v && t) ≡ t
+both_where v true near = ap (λ b. b && true) (near refl)
+both_where v false near = and_right v false refl
+
+-- the four sides of a rectangle
+same_sides : (a b c d a' b' c' d' : ℤ) → a ≡ a' → b ≡ b' → c ≡ c' → d ≡ d'
+    → ◌≡◌ {A = Window} (record { x0 = a; x1 = b; z0 = c; z1 = d }) (record { x0 = a'; x1 = b'; z0 = c'; z1 = d' })
+same_sides a b c d a' b' c' d' e f g h =
+    ap (λ (n : ℤ). record { x0 = n; x1 = b; z0 = c; z1 = d }) e ∙ ap (λ (n : ℤ). record { x0 = a'; x1 = n; z0 = c; z1 = d }) f
+    ∙ ap (λ (n : ℤ). record { x0 = a'; x1 = b'; z0 = n; z1 = d }) g ∙ ap (λ (n : ℤ). record { x0 = a'; x1 = b'; z0 = c'; z1 = n }) h
+
+-- a rectangle that is widened twice, in either order
+widened_swap : (window : Window) (radius : ℕ) → widened (widened window radius) 1 ≡ widened (widened window 1) radius
+widened_swap window radius =
+    same_sides ((window.x0 -ℤ pos radius) -ℤ pos 1) ((window.x1 +ℤ pos radius) +ℤ pos 1) ((window.z0 -ℤ pos radius) -ℤ pos 1)
+    ((window.z1 +ℤ pos radius) +ℤ pos 1) ((window.x0 -ℤ pos 1) -ℤ pos radius) ((window.x1 +ℤ pos 1) +ℤ pos radius)
+    ((window.z0 -ℤ pos 1) -ℤ pos radius) ((window.z1 +ℤ pos 1) +ℤ pos radius)
+    (omega (arith, ints)) (omega (arith, ints)) (omega (arith, ints)) (omega (arith, ints))
+
 -- the kept cells of a rectangle, with their connections to kept cells, from the cells over it, as they were before they were connected, with
 -- one column more on each side and so many more as the radius
 module _ (window : Window) (agent : Agent) (cells : List Cell) (radius : ℕ) where
@@ -192,14 +210,44 @@ module _ (window : Window) (agent : Agent) (cells : List Cell) (radius : ℕ) wh
       ∙ ap (λ (l : List Cell). is_kept l radius (all cell)) (sym (filter-map is_wide all cells))
       ∙ kept_near (widened window 1) (map all cells) radius (all cell) inside
 
-  connected_nearby : (cell : Cell) → is_in_window window cell.at.x cell.at.z ≡ true → near cell ≡ all cell
-  connected_nearby cell inside =
-      let level = λ (dir : ℕ) (small : dir < 4). level_nearby wide agent cells dir cell
-      (λ other h. wider other (beside_inside window dir cell.at other.at small inside h)) in
+  connected_within : (cell : Cell)
+      → ((dir : ℕ) (b : CellRef) → dir < 4 → is_toward dir cell.at b ≡ true → is_in_window wide b.x b.z ≡ true) → near cell ≡ all cell
+  connected_within cell beside =
+      let level = λ (dir : ℕ) (small : dir < 4). level_nearby wide agent cells dir cell (λ other h. beside dir other.at small h) in
       with_levels cell (level_toward agent (cells_in wide cells) cell 0) (level_toward agent (cells_in wide cells) cell 1)
       (level_toward agent (cells_in wide cells) cell 2) (level_toward agent (cells_in wide cells) cell 3)
       (level_toward agent cells cell 0) (level_toward agent cells cell 1) (level_toward agent cells cell 2) (level_toward agent cells cell 3)
       (level 0 (omega arith)) (level 1 (omega arith)) (level 2 (omega arith)) (level 3 (omega arith))
+
+  connected_nearby : (cell : Cell) → is_in_window window cell.at.x cell.at.z ≡ true → near cell ≡ all cell
+  connected_nearby cell inside =
+      connected_within cell (λ dir b small h.
+      deep_inside wide radius b (inside_deep (widened window 1) radius b (beside_inside window dir cell.at b small inside h)))
+
+  -- the cells of the rectangle with so many more columns as the radius on each side, with all their connections
+  abbrev is_within : Cell → Bool
+  is_within cell = is_in_window (widened window radius) cell.at.x cell.at.z
+
+  one_more : (at : CellRef) → is_in_window (widened (widened window radius) 1) at.x at.z ≡ true → is_in_window wide at.x at.z ≡ true
+  one_more at h = let P : Window → Type 0 = λ (w : Window). is_in_window w at.x at.z ≡ true in subst P (widened_swap window radius) h
+
+  within_wide : (cell : Cell) → is_within cell ≡ true → is_wide cell ≡ true
+  within_wide cell inside =
+      one_more cell.at (deep_inside (widened (widened window radius) 1) 1 cell.at (inside_deep (widened window radius) 1 cell.at inside))
+
+  wide_nearby : cells_in (widened window radius) (map near (cells_in wide cells)) ≡ cells_in (widened window radius) (map all cells)
+  wide_nearby =
+      filter-map is_within near (cells_in wide cells)
+      ∙ ap (map near) (filter-filter is_within is_wide cells)
+      ∙ map_kept_agree near all (λ (cell : Cell). is_wide cell && is_within cell) is_within cells
+      (λ k d there. each_within (get_or cells k d))
+      ∙ sym (filter-map is_within all cells)
+    where
+      each_within : (cell : Cell) → ((is_wide cell && is_within cell) ≡ is_within cell) × (is_within cell ≡ true → near cell ≡ all cell)
+      each_within cell = (
+        both_where (is_wide cell) (is_within cell) (within_wide cell),
+        λ inside. connected_within cell (λ dir b small h. one_more b (beside_inside (widened window radius) dir cell.at b small inside h)),
+      )
 
   kept_neighbour : (dir : ℕ) (cell : Cell) → dir < 4 → is_in_window window cell.at.x cell.at.z ≡ true
       → has_neighbour (kept_cells (map near (cells_in wide cells)) radius) (all cell) dir ≡ has_neighbour (kept_cells (map all cells) radius) (all cell) dir
@@ -263,16 +311,18 @@ module _ (window : Window) (agent : Agent) (cells : List Cell) (radius : ℕ) wh
 -- a rectangle that is widened three times
 widened_thrice : (window : Window) (radius : ℕ) → widened window (radius + 2) ≡ widened (widened (widened window 1) radius) 1
 widened_thrice window radius =
-    sides (window.x0 -ℤ pos (radius + 2)) (window.x1 +ℤ pos (radius + 2)) (window.z0 -ℤ pos (radius + 2)) (window.z1 +ℤ pos (radius + 2))
+    same_sides (window.x0 -ℤ pos (radius + 2)) (window.x1 +ℤ pos (radius + 2)) (window.z0 -ℤ pos (radius + 2)) (window.z1 +ℤ pos (radius + 2))
     (((window.x0 -ℤ pos 1) -ℤ pos radius) -ℤ pos 1) (((window.x1 +ℤ pos 1) +ℤ pos radius) +ℤ pos 1)
     (((window.z0 -ℤ pos 1) -ℤ pos radius) -ℤ pos 1) (((window.z1 +ℤ pos 1) +ℤ pos radius) +ℤ pos 1)
     (omega (arith, ints)) (omega (arith, ints)) (omega (arith, ints)) (omega (arith, ints))
-  where
-    sides : (a b c d a' b' c' d' : ℤ) → a ≡ a' → b ≡ b' → c ≡ c' → d ≡ d'
-        → ◌≡◌ {A = Window} (record { x0 = a; x1 = b; z0 = c; z1 = d }) (record { x0 = a'; x1 = b'; z0 = c'; z1 = d' })
-    sides a b c d a' b' c' d' e f g h =
-        ap (λ (n : ℤ). record { x0 = n; x1 = b; z0 = c; z1 = d }) e ∙ ap (λ (n : ℤ). record { x0 = a'; x1 = n; z0 = c; z1 = d }) f
-        ∙ ap (λ (n : ℤ). record { x0 = a'; x1 = b'; z0 = n; z1 = d }) g ∙ ap (λ (n : ℤ). record { x0 = a'; x1 = b'; z0 = c'; z1 = n }) h
+
+-- the wide cells of a tile, where the setting says clear or not
+wide_same : (clear : Bool) (window : Window) (agent : Agent) (cells : List Cell) (radius : ℕ)
+    → (if clear then cells_in (widened window (if clear then radius else 0))
+    (map (connected_cell agent (cells_in (widened (widened window 1) radius) cells)) (cells_in (widened (widened window 1) radius) cells)) else [])
+    ≡ (if clear then cells_in (widened window (if clear then radius else 0)) (map (connected_cell agent cells) cells) else [])
+wide_same true window agent cells radius = wide_nearby window agent cells radius
+wide_same false window agent cells radius = refl
 
 layer_nearby_in : (setting : Setting) (field : Field) (tile : ℕ) → IsSetting setting → IsField field
     → layer_of setting (field_in (widened (widened (widened (tile_window setting tile) 1) setting.agent.radius) 1) field) tile ≡ layer_of setting field tile
@@ -281,9 +331,14 @@ layer_nearby_in setting field tile limits rules' =
     let agent = setting.agent in
     let window = tile_window setting tile in
     let cells = unconnected_cells field (filtered_areas field agent) in
-    ap (λ (l : List Cell). layer_among setting (kept_cells (map (connected_cell agent l) l) agent.radius) tile)
+    let some = map (connected_cell agent (cells_in (widened (widened window 1) agent.radius) cells)) (cells_in (widened (widened window 1) agent.radius) cells) in
+    let kept = kept_cells (map (connected_cell agent cells) cells) agent.radius in
+    ap (λ (l : List Cell). layer_among setting (map (connected_cell agent l) l) (kept_cells (map (connected_cell agent l) l) agent.radius) tile)
     (unconnected_nearby (widened (widened window 1) agent.radius) field agent limits.agent rules')
-    ∙ ap (λ (l : List Cell). record { tile = tile; cells = l; radius = 0; wide = [] }) (layer_cells_nearby window agent cells agent.radius)
+    ∙ ap (λ (l : List Cell). record { tile = tile; cells = l; radius = margin_of setting; wide = wide_cells setting some tile })
+    (layer_cells_nearby window agent cells agent.radius)
+    ∙ ap (λ (l : List Cell). record { tile = tile; cells = map (layer_cell kept) (cells_in window kept); radius = margin_of setting; wide = l })
+    (wide_same setting.clear window agent cells agent.radius)
 
 -- the layer of a tile, from the spans over the tile and over the columns within the radius and two more on each side: the radius is for the
 -- neighbours across the border and the walks to them, the two more are for the connections of the cells where those walks begin and for the

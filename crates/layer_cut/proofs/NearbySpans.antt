@@ -13,13 +13,12 @@ use Rattle.nav_ground.specs.declared.cell.CellRef.{CellRef}
 use Rattle.nav_ground.specs.declared.cell.Window.{Window}
 use Rattle.nav_ground.specs.Limits.{IsAgent}
 use Rattle.nav_ground.specs.Cells.{is_toward}
-use Rattle.nav_ground.specs.Tiling.{is_in_window}
+use Rattle.nav_ground.specs.Tiling.{is_in_window, widened}
 use Rattle.nav_ground.specs.Column.{Gap, gaps_of, stands_above, ceiling_of, foot_of, column_toward}
 use Rattle.nav_ground.specs.Filters.{low_hanging_area, is_open, gaps_beside, open_gaps, is_at_edge, is_drop, near_floors, is_steep, is_ledge, is_low_ceiling}
 use Rattle.nav_ground.proofs.Directions.{both_equal}
 use Rattle.nav_ground.proofs.Selections.{filter-filter, filter_none}
 use Rattle.nav_ground.proofs.Walkable.{IsAbove-from_test}
-use Rattle.agent_erode.specs.Windows.{widened}
 use Rattle.agent_erode.proofs.WindowLaws.{toward_beside, beside_back, deep_beside, deep_inside, inside_deep}
 use Rattle.layer_cut.specs.Nearby.{spans_in, field_in}
 use Rattle.layer_cut.proofs.Restricted.{find-restricted, filter-restricted, any-restricted}

@@ -4,7 +4,7 @@ ghost use Rattle.std.specs.Prelude.{◌≡◌, ◌<◌, ◌≤◌, ℕ, IfOk, Al
 ghost use Rattle.nav_ground.specs.declared.field.Span.{Span};
 ghost use Rattle.nav_ground.specs.Column;
 ghost use Rattle.nav_ground.specs.Fields.{IsField, IsSpanBefore};
-ghost use Rattle.agent_erode.specs.Windows.{widened};
+ghost use Rattle.nav_ground.specs.Tiling.{widened};
 ghost use Rattle.layer_cut.specs.Nearby.{spans_in, field_in};
 
 use agent_erode::{is_near, rows_of};

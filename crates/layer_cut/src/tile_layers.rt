@@ -2,15 +2,16 @@
 
 ghost use Rattle.std.specs.Prelude.{◌≡◌, ◌<◌, IfOk, List, [], map};
 ghost use Rattle.std.specs.List.{range_with_len};
-ghost use Rattle.nav_ground.specs.Cells.{IsCompact};
+ghost use Rattle.nav_ground.specs.Cells.{IsCells, IsCompact};
 ghost use Rattle.nav_ground.specs.Clearance.{is_kept, kept_cells};
-ghost use Rattle.nav_ground.specs.Layers.{layer_among};
+ghost use Rattle.nav_ground.specs.Layers.{layer_among, wide_cells};
 ghost use Rattle.nav_ground.specs.Limits.{IsSetting};
-ghost use Rattle.nav_ground.specs.Tiling.{tile_count, is_in_window};
+ghost use Rattle.nav_ground.specs.Tiling.{tile_count, margin_of, is_in_window};
 ghost use Rattle.layer_cut.specs.Tiles.{tile_at, IsInField, AreInField, layer_with};
 
 use crate::neighbours::layer_cell;
-use nav_ground::{Cell, CellRef, Layer, Setting, TileNo, Window, tile_bounds, tiles};
+use agent_erode::cells_near;
+use nav_ground::{Cell, CellRef, Layer, Setting, TileNo, Window, margin_of, tile_bounds, tiles};
 use nav_list::Items;
 use std::alloc::{AllocError, Global};
 
@@ -37,9 +38,9 @@ pub(crate) fn hand_out(
     requires inside { AreInField setting.now cells.now }
     requires marks { marks.now ≡ map (is_kept cells.now setting.now.agent.radius) cells.now }
     ensures { IfOk result (λ layers. layers.items
-        ≡ map (layer_among setting.now (kept_cells cells.now setting.now.agent.radius)) (range_with_len 0 (tile_count setting.now))) }
+        ≡ map (layer_among setting.now cells.now (kept_cells cells.now setting.now.agent.radius)) (range_with_len 0 (tile_count setting.now))) }
 {
-    let mut layers = empty_layers(alloc, setting)?;
+    let mut layers = empty_layers(alloc, setting, cells)?;
     let mut firsts = [0; 4];
     for (i, cell) in cells.iter().enumerate() {
         if marks[i] {
@@ -51,15 +52,17 @@ pub(crate) fn hand_out(
     Ok(layers)
 }
 
-/// The layers of all tiles without any cells.
-fn empty_layers(alloc: Global, setting: &Setting) -> Result<Vec<Layer>, AllocError>
-    requires { IsSetting setting.now }
-    ensures { (kept : List Cell) → IfOk result (λ layers. layers.items ≡ map (layer_with setting.now kept []) (range_with_len 0 (tile_count setting.now))) }
+/// The layers of all tiles before any cell is handed out: with what agents keep from obstacles and with their wide cells.
+fn empty_layers(alloc: Global, setting: &Setting, cells: &[Cell]) -> Result<Vec<Layer>, AllocError>
+    requires setting { IsSetting setting.now }
+    requires cells { IsCells cells.now }
+    ensures { (kept : List Cell) → IfOk result (λ layers. layers.items ≡ map (layer_with setting.now cells.now kept []) (range_with_len 0 (tile_count setting.now))) }
 {
     let count = tiles(setting);
     let mut layers = Vec::with_capacity(alloc, count as usize)?;
     for tile in 0..count {
-        layers.push(layer_of_cells(alloc, tile, Vec::new(alloc)))?;
+        let layer = layer_of_cells(alloc, setting, cells, tile, Vec::new(alloc))?;
+        layers.push(layer)?;
     }
     Ok(layers)
 }
@@ -76,7 +79,7 @@ pub(crate) fn cut(
     requires cells { IsCompact cells.now }
     requires marks { marks.now ≡ map (is_kept cells.now setting.now.agent.radius) cells.now }
     requires there { tile < tile_count setting.now }
-    ensures { IfOk result (λ layer. layer ≡ layer_among setting.now (kept_cells cells.now setting.now.agent.radius) tile) }
+    ensures { IfOk result (λ layer. layer ≡ layer_among setting.now cells.now (kept_cells cells.now setting.now.agent.radius) tile) }
 {
     let window = tile_bounds(setting, tile);
     let mut kept = Vec::new(alloc);
@@ -86,18 +89,47 @@ pub(crate) fn cut(
             kept.push(layer_cell(cells, marks, &mut firsts, cell))?;
         }
     }
-    Ok(layer_of_cells(alloc, tile, kept))
+    layer_of_cells(alloc, setting, cells, tile, kept)
 }
 
-/// A layer where obstacles block only what they cover.
-fn layer_of_cells(alloc: Global, tile: TileNo, cells: Vec<Cell>) -> Layer
-    ensures { result ≡ record { tile = tile; cells = cells.items; radius = 0; wide = [] } }
+/// The layer of a tile with some kept cells: what agents keep from obstacles, and its wide cells from those of the whole field.
+fn layer_of_cells(
+    alloc: Global,
+    setting: &Setting,
+    cells: &[Cell],
+    tile: TileNo,
+    kept: Vec<Cell>,
+) -> Result<Layer, AllocError>
+    requires setting { IsSetting setting.now }
+    requires cells { IsCells cells.now }
+    requires there { tile < tile_count setting.now }
+    ensures { IfOk result (λ layer. layer ≡ record { tile = tile; cells = kept.items; radius = margin_of setting.now; wide = wide_cells setting.now cells.now tile }) }
 {
-    Layer {
+    let wide = wide_cells(alloc, setting, cells, tile)?;
+    Ok(Layer {
         tile,
-        cells: Items::from_vec(cells),
-        radius: 0,
-        wide: Items::new(alloc),
+        cells: Items::from_vec(kept),
+        radius: margin_of(setting),
+        wide: Items::from_vec(wide),
+    })
+}
+
+/// The cells of a tile and of the columns that agents keep from obstacles on each side; none where they keep no distance.
+fn wide_cells(
+    alloc: Global,
+    setting: &Setting,
+    cells: &[Cell],
+    tile: TileNo,
+) -> Result<Vec<Cell>, AllocError>
+    requires setting { IsSetting setting.now }
+    requires cells { IsCells cells.now }
+    requires there { tile < tile_count setting.now }
+    ensures { IfOk result (λ wide. wide.items ≡ Rattle.nav_ground.specs.Layers.wide_cells setting.now cells.now tile) }
+{
+    if setting.clear {
+        cells_near(alloc, cells, tile_bounds(setting, tile), margin_of(setting))
+    } else {
+        Ok(Vec::new(alloc))
     }
 }
 

@@ -47,7 +47,7 @@ fn nearest_in_tile(mesh: &Mesh, tile: TileNo, p: Point, y: u32, best: Option<Nea
     ensures { IsNearestBefore mesh.now p y (tile + 1) 0 result }
 {
     let tiles = mesh.tiles.as_slice();
-    let polygons = &tiles[tile as usize].get().polys;
+    let polygons = &tiles[tile as usize].get().mesh().polys;
     let mut nearest = best;
     for i in 0..polygons.len() {
         let at = PolyRef {

@@ -15,7 +15,7 @@ use Rattle.nav_ground.specs.Tiling.{tile_count, tile_window, is_in_window}
 use Rattle.nav_ground.specs.Clearance.{is_kept, cells_in}
 use Rattle.nav_ground.specs.Layers.{cells_of, kept_cells_of, layer_cell, layer_of, layers_of}
 use Rattle.nav_ground.specs.Grounds.{IsGround}
-use Rattle.nav_ground.specs.FreeCells.{is_free, free_cell_of, free_layer_of}
+use Rattle.nav_ground.specs.FreeCells.{is_taken, is_free, free_cell_of, free_layer_of}
 use Rattle.nav_ground.proofs.Kept.{few_kept}
 use Rattle.nav_ground.proofs.LayerLaws.{cells_rules}
 use Rattle.mesh_types.proofs.Totals.{sum_by-map, sum_by-one, sum_by-shared, once_in_range}
@@ -52,4 +52,4 @@ few_cells_of_ground whole rules' =
 
 -- obstacles leave no more free cells than there are cells
 pub few_free : (layer : Layer) (shapes : List Shape) → length (free_layer_of layer shapes).cells ≤ length layer.cells
-few_free layer shapes = few_kept (free_cell_of layer.cells shapes) (is_free shapes) layer.cells
+few_free layer shapes = few_kept (free_cell_of (is_taken layer shapes) layer.cells shapes) (is_free layer shapes) layer.cells

@@ -51,3 +51,4 @@ pub mod DoorRims
 pub mod ContourFit
 pub mod RegionLaws
 mod ExtentLaws
+pub mod WayLaws

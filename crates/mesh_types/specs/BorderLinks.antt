@@ -1,5 +1,5 @@
 -- BorderLinks: the links from one tile to the tile across one of its sides.
-use Rattle.std.specs.Prelude.{ℕ, ◌+◌, ◌-◌, ℤ, pos, ◌*ℤ◌, Bool, false, nat_le, ◌==◌, ◌&&◌, if◌then◌else◌, List, map, filter, length, slice_get, slice_index_or, Option, Some, None}
+use Rattle.std.specs.Prelude.{◌≡◌, ℕ, ◌+◌, ◌-◌, ℤ, pos, ◌*ℤ◌, Bool, false, nat_le, ◌==◌, ◌&&◌, if◌then◌else◌, List, map, filter, length, slice_get, slice_index_or, Option, Some, None, All}
 use Rattle.std.specs.List.{flat_map, range_with_len}
 use Rattle.std.specs.Option.{option_map_or}
 use Rattle.nav_base.specs.declared.point.Point.{Point}
@@ -18,6 +18,14 @@ use Rattle.mesh_types.specs.LinkOrder.{ordered_links}
 -- the levels that a rim entry has at a position, if it has some there
 abbrev pub pair_at : RimEdge → ℕ → Option LevelPair
 pair_at entry position = if nat_le entry.first position then slice_get entry.pairs (position - entry.first) else None
+
+-- what an entry names is this, by its polygon, edge, side and position
+abbrev pub Names : (ℕ → ℕ → ℕ → ℕ → LevelPair) → RimEdge → Type 0
+Names pair entry = (position : ℕ) (found : LevelPair) → pair_at entry position ≡ Some found → found ≡ pair entry.poly entry.edge entry.side position
+
+-- the levels that a tile's rim names at a position of an edge are determined: all entries that have some there have the same
+abbrev pub HasOnePair : TileMesh → Type 0
+HasOnePair tile = (pair : ℕ → ℕ → ℕ → ℕ → LevelPair) × All (Names pair) tile.rim
 
 -- two pairs name each other: the own level of each is the other level of the other
 abbrev pub are_meeting : Option LevelPair → Option LevelPair → Bool

@@ -28,6 +28,8 @@ mod region;
 mod strip;
 mod tile;
 mod walks;
+mod way_tile;
+mod ways;
 
 pub use answers::{Answer, PathFound, RayAnswer};
 pub use asked::Asked;
@@ -49,3 +51,5 @@ pub use region::{Code, Region, Regions, UnitEdge};
 pub use strip::Strip;
 pub use tile::{LevelPair, RimEdge, TileMesh};
 pub use walks::WalkAnswer;
+pub use way_tile::Tile;
+pub use ways::{Spot, Way, distance};

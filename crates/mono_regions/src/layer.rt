@@ -6,7 +6,7 @@ ghost use Rattle.mesh_types.specs.Strips.{strips_of};
 ghost use Rattle.mono_regions.specs.Indices.{level_at, strip_at, index_runs, AreIndices};
 
 use crate::index_lists::IndexLists;
-use crate::touching::strip_table;
+use crate::touching::tabled_strips;
 use mesh_types::Strip;
 use nav_ground::{Cell, FreeLayer};
 use nav_list::Items;
@@ -19,7 +19,7 @@ pub fn strips(alloc: Global, free: &FreeLayer) -> Result<Vec<Strip>, AllocError>
     ensures { IfOk result (λ strips. strips.items ≡ strips_of free.now.cells) }
 {
     let cells = free.cells.as_slice();
-    let strips = strip_table(alloc, cells)?;
+    let strips = tabled_strips(alloc, cells)?;
     strips_along(alloc, cells, &strips.index.runs)
 }
 

@@ -22,4 +22,6 @@ mod touching;
 pub use index::{StripIndex, strip_index};
 pub use index_lists::IndexLists;
 pub use layer::strips;
-pub use tile_regions::regions;
+pub use strip_table::StripTable;
+pub use tile_regions::{regions, regions_over};
+pub use touching::tabled_strips;

@@ -10,7 +10,7 @@ use crate::joins::{is_unjoined, joined_strips};
 use crate::layer::strip;
 use crate::seen::Seen;
 use crate::strip_table::StripTable;
-use crate::touching::{strip_table, touched_strips};
+use crate::touching::{tabled_strips, touched_strips};
 use mesh_types::{Region, Regions};
 use nav_ground::{Cell, FreeLayer};
 use nav_list::Items;
@@ -28,14 +28,19 @@ pub fn regions(alloc: Global, free: &FreeLayer) -> Result<Regions, AllocError>
     ensures kept { IfOk result (AreRegionsOf free.now.cells) }
 {
     let cells = free.cells.as_slice();
-    let strips = strip_table(alloc, cells)?;
+    let strips = tabled_strips(alloc, cells)?;
     regions_over(alloc, cells, &strips)
 }
 
-/// The regions of the strips of cells.
-fn regions_over(alloc: Global, cells: &[Cell], strips: &StripTable) -> Result<Regions, AllocError>
+/// What `regions` does, of cells whose strips are at hand.
+pub fn regions_over(
+    alloc: Global,
+    cells: &[Cell],
+    strips: &StripTable,
+) -> Result<Regions, AllocError>
     requires { IsTableOf cells.now strips.now }
-    ensures { IfOk result (λ regions. regions ≡ regions_of cells.now) }
+    ensures regions { IfOk result (λ regions. regions ≡ regions_of cells.now) }
+    ensures kept { IfOk result (AreRegionsOf cells.now) }
 {
     let below = touched_strips(alloc, cells, strips, 3)?;
     let joined = joined_strips(alloc, cells, strips, below.as_slice())?;

@@ -16,8 +16,8 @@ use nav_ground::Cell;
 use nav_list::Items;
 use std::alloc::{AllocError, Global};
 
-/// The strips of a list of cells.
-pub fn strip_table(alloc: Global, cells: &[Cell]) -> Result<StripTable, AllocError>
+/// The strips of a list of cells, beside the neighbour table along which they are found.
+pub fn tabled_strips(alloc: Global, cells: &[Cell]) -> Result<StripTable, AllocError>
     requires { IsCut cells.now }
     ensures { IfOk result (λ strips. IsTableOf cells.now strips) }
 {

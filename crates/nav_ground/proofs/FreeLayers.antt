@@ -1,6 +1,6 @@
 -- The free cells of a layer keep the rules of cells.
 use Rattle.std.proofs.Common.{◌≡◌, ℕ, ◌+◌, ◌<◌, Bool, true, false, length, List, [], ◌∷◌, map, get_or, ap, ◌∙◌, sym, refl, subst, Option, Some, None, unwrap_or, arith, zero, suc, inl, inr}
-use Rattle.std.specs.Prelude.{All, IsTrue, ◌&&◌, ◌==◌, if◌then◌else◌}
+use Rattle.std.specs.Prelude.{All, Contains, IsTrue, ◌&&◌, ◌==◌, not, if◌then◌else◌}
 use Rattle.std.specs.List.{filter, filter_map, last_or, cons_option}
 use Rattle.std.specs.Option.{option_map_or}
 use Rattle.std.proofs.lemmas.Bool.{and_parts, and_left, and_right, not-true, both_ways, eqb-true, cases_lt}
@@ -16,7 +16,7 @@ use Rattle.nav_ground.specs.declared.shape.Shape.TheVariants.{Block, Cylinder, A
 use Rattle.nav_ground.specs.Limits.{IsArea, IsShape}
 use Rattle.nav_ground.specs.Cells.{IsCellBefore, IsCell, IsCells, IsCut, is_toward, is_naming, next_level, opposite}
 use Rattle.nav_ground.specs.Shapes.{area_set_by}
-use Rattle.nav_ground.specs.FreeCells.{is_over, is_blocked, is_free, is_lost, area_given, area_under, free_next, free_cell_of, free_layer_of}
+use Rattle.nav_ground.specs.FreeCells.{is_over, is_taken, is_free, is_lost, area_given, area_under, free_next, free_cell_of, free_layer_of}
 use Rattle.nav_ground.proofs.Kept.{few_kept, AllPairs-map, All-kept}
 use Rattle.nav_ground.proofs.Directions.{both_equal}
 
@@ -57,7 +57,7 @@ not_before_itself a b same (inr (row, inl left)) = omega (arith, left, ap (λ (c
 not_before_itself a b same (inr (row, inr (column, under))) = omega (arith, under, ap (λ (c : CellRef). c.level) same)
 
 -- a place of cells in order is that of one cell
-one_at_place : (cells : List Cell) → IsCells cells → (i j : ℕ) (d : Cell) → i < length cells → j < length cells
+pub one_at_place : (cells : List Cell) → IsCells cells → (i j : ℕ) (d : Cell) → i < length cells → j < length cells
     → (get_or cells i d).at ≡ (get_or cells j d).at → get_or cells i d ≡ get_or cells j d
 one_at_place cells rules' i j d here there same =
     elim (cases_lt i j) [
@@ -68,13 +68,21 @@ one_at_place cells rules' i j d here there same =
       ]
     ]
 
+pub same_at_place : (cells : List Cell) (a b : Cell) → IsCells cells → Contains cells a → Contains cells b → a.at ≡ b.at → a ≡ b
+same_at_place cells a b rules' has_a has_b same =
+    let moved = get_or_default cells has_b.0 a b has_b.1 in
+    sym has_a.2
+    ∙ one_at_place cells rules' has_a.0 has_b.0 a has_a.1 has_b.1
+    (ap (λ (c : Cell). c.at) has_a.2 ∙ same ∙ ap (λ (c : Cell). c.at) (sym (moved ∙ has_b.2)))
+    ∙ moved ∙ has_b.2
+
 -- a cell names one place in a direction
 level_named : (next : Option ℕ) (a b : ℕ) → option_map_or (λ level. level == a) next false ≡ true
     → option_map_or (λ level. level == b) next false ≡ true → a ≡ b
 level_named None a b ha hb = absurd cc
 level_named (Some level) a b ha hb = sym (eqb-true level a ha) ∙ eqb-true level b hb
 
-same_place : (a b : CellRef) → a.x ≡ b.x → a.z ≡ b.z → a.level ≡ b.level → a ≡ b
+pub same_place : (a b : CellRef) → a.x ≡ b.x → a.z ≡ b.z → a.level ≡ b.level → a ≡ b
 same_place a b x z level =
     ap (λ (n : ℕ). record a { x = n }) x ∙ ap (λ (n : ℕ). record a { x = b.x; z = n }) z
     ∙ ap (λ (n : ℕ). record { x = b.x; z = b.z; level = n }) level
@@ -102,61 +110,61 @@ names_one dir cell a b small ha hb =
     same_place a b columns.0 columns.1 (level_named (next_level cell dir) a.level b.level pa.1 pb.1)
 
 -- where a free cell names a place, the cell names it, and that neighbour is not lost; and the other way round
-level_of_free : (dir : ℕ) (cells : List Cell) (shapes : List Shape) (cell : Cell) → dir < 4
-    → next_level (free_cell_of cells shapes cell) dir ≡ free_next cells shapes cell dir
-level_of_free zero cells shapes cell small = refl
-level_of_free (suc zero) cells shapes cell small = refl
-level_of_free (suc (suc zero)) cells shapes cell small = refl
-level_of_free (suc (suc (suc zero))) cells shapes cell small = refl
-level_of_free (suc (suc (suc (suc n)))) cells shapes cell small = absurd (omega arith)
+level_of_free : (dir : ℕ) (taken : Cell → Bool) (cells : List Cell) (shapes : List Shape) (cell : Cell) → dir < 4
+    → next_level (free_cell_of taken cells shapes cell) dir ≡ free_next taken cells cell dir
+level_of_free zero taken cells shapes cell small = refl
+level_of_free (suc zero) taken cells shapes cell small = refl
+level_of_free (suc (suc zero)) taken cells shapes cell small = refl
+level_of_free (suc (suc (suc zero))) taken cells shapes cell small = refl
+level_of_free (suc (suc (suc (suc n)))) taken cells shapes cell small = absurd (omega arith)
 
 named_unlost : (toward lost : Bool) (f : ℕ → Bool) (next : Option ℕ)
     → (toward && option_map_or f (if lost then None else next) false) ≡ true → (lost ≡ false) × ((toward && option_map_or f next false) ≡ true)
 named_unlost toward true f next h = absurd (both_ways false refl (and_parts toward false h).1)
 named_unlost toward false f next h = (refl, h)
 
-free_names : (dir : ℕ) (cells : List Cell) (shapes : List Shape) (cell : Cell) (to : CellRef) → dir < 4
-    → is_naming dir (free_cell_of cells shapes cell) to ≡ true → (is_lost cells shapes cell dir ≡ false) × (is_naming dir cell to ≡ true)
-free_names dir cells shapes cell to small h =
-    named_unlost (is_toward dir cell.at to) (is_lost cells shapes cell dir) (λ level. level == to.level) (next_level cell dir)
-    (ap (λ next. is_toward dir cell.at to && option_map_or (λ level. level == to.level) next false) (sym (level_of_free dir cells shapes cell small)) ∙ h)
+free_names : (dir : ℕ) (taken : Cell → Bool) (cells : List Cell) (shapes : List Shape) (cell : Cell) (to : CellRef) → dir < 4
+    → is_naming dir (free_cell_of taken cells shapes cell) to ≡ true → (is_lost taken cells cell dir ≡ false) × (is_naming dir cell to ≡ true)
+free_names dir taken cells shapes cell to small h =
+    named_unlost (is_toward dir cell.at to) (is_lost taken cells cell dir) (λ level. level == to.level) (next_level cell dir)
+    (ap (λ next. is_toward dir cell.at to && option_map_or (λ level. level == to.level) next false) (sym (level_of_free dir taken cells shapes cell small)) ∙ h)
 
-names_free : (dir : ℕ) (cells : List Cell) (shapes : List Shape) (cell : Cell) (to : CellRef) → dir < 4
-    → is_lost cells shapes cell dir ≡ false → is_naming dir cell to ≡ true → is_naming dir (free_cell_of cells shapes cell) to ≡ true
-names_free dir cells shapes cell to small kept h =
+names_free : (dir : ℕ) (taken : Cell → Bool) (cells : List Cell) (shapes : List Shape) (cell : Cell) (to : CellRef) → dir < 4
+    → is_lost taken cells cell dir ≡ false → is_naming dir cell to ≡ true → is_naming dir (free_cell_of taken cells shapes cell) to ≡ true
+names_free dir taken cells shapes cell to small kept h =
     ap (λ next. is_toward dir cell.at to && option_map_or (λ level. level == to.level) next false)
-    (level_of_free dir cells shapes cell small ∙ ap (λ lost. if lost then None else next_level cell dir) kept)
+    (level_of_free dir taken cells shapes cell small ∙ ap (λ lost. if lost then None else next_level cell dir) kept)
     ∙ h
 
 -- a neighbour that is free is not lost
-not_lost : (dir : ℕ) (cells : List Cell) (shapes : List Shape) (cell : Cell) (i : ℕ) (d : Cell) → IsCells cells → dir < 4 → i < length cells
-    → is_naming dir cell (get_or cells i d).at ≡ true → is_blocked shapes (get_or cells i d) ≡ false → is_lost cells shapes cell dir ≡ false
-not_lost dir cells shapes cell i d rules' small there named open' =
-    list_any_none (λ (other : Cell). is_naming dir cell other.at && is_blocked shapes other) cells
+not_lost : (dir : ℕ) (taken : Cell → Bool) (cells : List Cell) (cell : Cell) (i : ℕ) (d : Cell) → IsCells cells → dir < 4 → i < length cells
+    → is_naming dir cell (get_or cells i d).at ≡ true → taken (get_or cells i d) ≡ false → is_lost taken cells cell dir ≡ false
+not_lost dir taken cells cell i d rules' small there named open' =
+    list_any_none (λ (other : Cell). is_naming dir cell other.at && taken other) cells
     (λ k e there'. by_naming k e there' (is_naming dir cell (get_or cells k e).at) refl)
   where
     by_naming : (k : ℕ) (e : Cell) → k < length cells → (b : Bool) → b ≡ is_naming dir cell (get_or cells k e).at
-        → (is_naming dir cell (get_or cells k e).at && is_blocked shapes (get_or cells k e)) ≡ false
+        → (is_naming dir cell (get_or cells k e).at && taken (get_or cells k e)) ≡ false
     by_naming k e there' false is = and_left (is_naming dir cell (get_or cells k e).at) _ (sym is)
     by_naming k e there' true is =
         let moved = get_or_default cells i d e there in
         let named' : is_naming dir cell (get_or cells i e).at ≡ true = sym (ap (λ (c : Cell). is_naming dir cell c.at) moved) ∙ named in
         let same = one_at_place cells rules' k i e there' there
         (names_one dir cell (get_or cells k e).at (get_or cells i e).at small (sym is) named') in
-        and_right (is_naming dir cell (get_or cells k e).at) _ (ap (is_blocked shapes) (same ∙ sym moved) ∙ open')
+        and_right (is_naming dir cell (get_or cells k e).at) _ (ap (taken) (same ∙ sym moved) ∙ open')
 
 -- a free cell is made from a cell of the list that is free
-pub record IsFromFree (cells : List Cell) (shapes : List Shape) (cell : Cell) : Type 0 where
+pub record IsFromFree (taken : Cell → Bool) (cells : List Cell) (shapes : List Shape) (cell : Cell) : Type 0 where
   pub origin : Cell
   pub place : ℕ
   pub there : place < length cells
   pub at : get_or cells place origin ≡ origin
-  pub free : is_free shapes origin ≡ true
-  pub is : cell ≡ free_cell_of cells shapes origin
+  pub free : not (taken origin) ≡ true
+  pub is : cell ≡ free_cell_of taken cells shapes origin
 
-from_free : (cells : List Cell) (shapes : List Shape) → All (IsFromFree cells shapes) (map (free_cell_of cells shapes) (filter (is_free shapes) cells))
-from_free cells shapes =
-    All-kept (IsFromFree cells shapes) (free_cell_of cells shapes) (is_free shapes) cells
+from_free : (taken : Cell → Bool) (cells : List Cell) (shapes : List Shape) → All (IsFromFree taken cells shapes) (map (free_cell_of taken cells shapes) (filter (λ (cell : Cell). not (taken cell)) cells))
+from_free taken cells shapes =
+    All-kept (IsFromFree taken cells shapes) (free_cell_of taken cells shapes) (λ (cell : Cell). not (taken cell)) cells
     (λ k d there passes. record {
       origin = get_or cells k d;
       place = k;
@@ -166,25 +174,25 @@ from_free cells shapes =
       is = refl;
     })
 
-names_back : (cells : List Cell) (shapes : List Shape) (dir : ℕ) (a b : Cell) → IsCut cells → dir < 4
-    → IsFromFree cells shapes a → IsFromFree cells shapes b → IsTrue (is_naming dir a b.at) → IsTrue (is_naming (opposite dir) b a.at)
-names_back cells shapes dir a b cut small free_a free_b named =
+names_back : (taken : Cell → Bool) (cells : List Cell) (shapes : List Shape) (dir : ℕ) (a b : Cell) → IsCut cells → dir < 4
+    → IsFromFree taken cells shapes a → IsFromFree taken cells shapes b → IsTrue (is_naming dir a b.at) → IsTrue (is_naming (opposite dir) b a.at)
+names_back taken cells shapes dir a b cut small free_a free_b named =
     let oa = free_a.origin in
     let ob = free_b.origin in
     let small' : opposite dir < 4 = omega arith in
     let P : Cell → Type 0 = λ (c : Cell). is_naming dir c b.at ≡ true in
-    let Q : Cell → Type 0 = λ (c : Cell). is_naming dir (free_cell_of cells shapes oa) c.at ≡ true in
-    let parts = free_names dir cells shapes oa ob.at small (subst Q free_b.is (subst P free_a.is named)) in
+    let Q : Cell → Type 0 = λ (c : Cell). is_naming dir (free_cell_of taken cells shapes oa) c.at ≡ true in
+    let parts = free_names dir taken cells shapes oa ob.at small (subst Q free_b.is (subst P free_a.is named)) in
     let back = cut.named_back dir oa ob small (free_a.place, free_a.there, free_a.at) (free_b.place, free_b.there, free_b.at) parts.1 in
-    let kept = not_lost (opposite dir) cells shapes ob free_a.place oa cut.rules small' free_a.there
+    let kept = not_lost (opposite dir) taken cells ob free_a.place oa cut.rules small' free_a.there
     (ap (λ (c : Cell). is_naming (opposite dir) ob c.at) free_a.at ∙ back)
-    (ap (is_blocked shapes) free_a.at ∙ not-true (is_blocked shapes oa) free_a.free) in
+    (ap (taken) free_a.at ∙ not-true (taken oa) free_a.free) in
     let R : Cell → Type 0 = λ (c : Cell). is_naming (opposite dir) c oa.at ≡ true in
     let S : Cell → Type 0 = λ (c : Cell). is_naming (opposite dir) b c.at ≡ true in
-    subst S (sym free_a.is) (subst R (sym free_b.is) (names_free (opposite dir) cells shapes ob oa.at small' kept back))
+    subst S (sym free_a.is) (subst R (sym free_b.is) (names_free (opposite dir) taken cells shapes ob oa.at small' kept back))
 
-free_is_cell : (cells : List Cell) (shapes : List Shape) → All IsShape shapes → (cell : Cell) → IsCell cell → IsCell (free_cell_of cells shapes cell)
-free_is_cell cells shapes limits cell rules' = record {
+free_is_cell : (taken : Cell → Bool) (cells : List Cell) (shapes : List Shape) → All IsShape shapes → (cell : Cell) → IsCell cell → IsCell (free_cell_of taken cells shapes cell)
+free_is_cell taken cells shapes limits cell rules' = record {
   x = rules'.x;
   z = rules'.z;
   area = area_walkable cell shapes rules'.area limits;
@@ -196,16 +204,16 @@ free_is_cell cells shapes limits cell rules' = record {
 -- the free cells of a layer keep the rules of cells
 pub free_layer_cut : (layer : Layer) (shapes : List Shape) → IsCut layer.cells → All IsShape shapes → IsCut (free_layer_of layer shapes).cells
 free_layer_cut layer shapes cut limits =
-    let from = from_free layer.cells shapes in
+    let from = from_free (is_taken layer shapes) layer.cells shapes in
     record {
       rules = record {
-        few = omega (arith, few_kept (free_cell_of layer.cells shapes) (is_free shapes) layer.cells, cut.rules.few);
-        order = AllPairs-map (λ (a b : Cell). IsCellBefore a.at b.at) (free_cell_of layer.cells shapes) (filter (is_free shapes) layer.cells)
-            (AllPairs-filter (λ (a b : Cell). IsCellBefore a.at b.at) (is_free shapes) layer.cells cut.rules.order);
-        each = All-kept IsCell (free_cell_of layer.cells shapes) (is_free shapes) layer.cells
-            (λ k d there free. free_is_cell layer.cells shapes limits (get_or layer.cells k d) (cut.rules.each k d there));
+        few = omega (arith, few_kept (free_cell_of (is_taken layer shapes) layer.cells shapes) (is_free layer shapes) layer.cells, cut.rules.few);
+        order = AllPairs-map (λ (a b : Cell). IsCellBefore a.at b.at) (free_cell_of (is_taken layer shapes) layer.cells shapes) (filter (is_free layer shapes) layer.cells)
+            (AllPairs-filter (λ (a b : Cell). IsCellBefore a.at b.at) (is_free layer shapes) layer.cells cut.rules.order);
+        each = All-kept IsCell (free_cell_of (is_taken layer shapes) layer.cells shapes) (is_free layer shapes) layer.cells
+            (λ k d there free. free_is_cell (is_taken layer shapes) layer.cells shapes limits (get_or layer.cells k d) (cut.rules.each k d there));
       };
-      named_back = λ dir a b small has_a has_b. names_back layer.cells shapes dir a b cut small
-          (All-contains (IsFromFree layer.cells shapes) (free_layer_of layer shapes).cells a from has_a)
-          (All-contains (IsFromFree layer.cells shapes) (free_layer_of layer shapes).cells b from has_b);
+      named_back = λ dir a b small has_a has_b. names_back (is_taken layer shapes) layer.cells shapes dir a b cut small
+          (All-contains (IsFromFree (is_taken layer shapes) layer.cells shapes) (free_layer_of layer shapes).cells a from has_a)
+          (All-contains (IsFromFree (is_taken layer shapes) layer.cells shapes) (free_layer_of layer shapes).cells b from has_b);
     }

@@ -1,6 +1,6 @@
 -- The layers of a field keep the rules of layers, and their cells lie in their tiles.
-use Rattle.std.proofs.Common.{◌≡◌, ◌<◌, ◌≤◌, ℕ, Bool, true, false, length, List, [], map, get_or, ap, ◌∙◌, sym, refl, subst, Option, None, arith, zero, suc, ℤ, pos, ◌≤ℤ◌, int_le}
-use Rattle.std.specs.Prelude.{All, AllPairs, Contains, IsTrue, ◌&&◌, ◌==◌, if◌then◌else◌}
+use Rattle.std.proofs.Common.{◌≡◌, ◌<◌, ℕ, Bool, true, false, length, List, [], map, get_or, ap, ◌∙◌, sym, refl, subst, Option, None, arith, zero, suc, ℤ, pos, ◌≤ℤ◌, int_le}
+use Rattle.std.specs.Prelude.{All, Contains, IsTrue, ◌&&◌, ◌==◌, if◌then◌else◌}
 use Rattle.std.specs.List.{filter, range_with_len}
 use Rattle.std.specs.Option.{option_map_or}
 use Rattle.std.proofs.lemmas.Bool.{and_parts, both_ways}
@@ -19,12 +19,12 @@ use Rattle.nav_ground.specs.declared.history.Ground.{Ground}
 use Rattle.nav_ground.specs.declared.setting.Setting.{Setting}
 use Rattle.nav_ground.specs.Fields.{IsField}
 use Rattle.nav_ground.specs.Limits.{IsSetting}
-use Rattle.nav_ground.specs.Cells.{IsCell, IsCells, IsCellBefore, IsCompact, IsCut, IsLayer, IsInTile, is_toward, is_naming, next_level, opposite}
-use Rattle.nav_ground.specs.Tiling.{tile_count, tile_window, IsInWindow, is_in_window}
-use Rattle.nav_ground.specs.Grounds.{IsSized, IsLayerOf, IsGround}
-use Rattle.nav_ground.specs.Clearance.{has_neighbour, is_kept, kept_cells, cells_in}
+use Rattle.nav_ground.specs.Cells.{IsCell, IsCells, IsCellBefore, IsCompact, IsCut, is_toward, is_naming, next_level, opposite}
+use Rattle.nav_ground.specs.Tiling.{tile_count, tile_window, widened, margin_of, IsInWindow, is_in_window}
+use Rattle.nav_ground.specs.Grounds.{IsLayerOf, IsWideWithin, IsGround}
+use Rattle.nav_ground.specs.Clearance.{has_neighbour, is_kept, cells_in}
 use Rattle.nav_ground.specs.Filters.{filtered_areas}
-use Rattle.nav_ground.specs.Layers.{cells_of, kept_cells_of, kept_level, layer_cell, layer_among, layer_of, layers_of}
+use Rattle.nav_ground.specs.Layers.{cells_of, kept_cells_of, kept_level, layer_cell, wide_cells, layer_among, layer_of, layers_of}
 use Rattle.nav_ground.proofs.Kept.{few_kept, AllPairs-map}
 use Rattle.nav_ground.proofs.CompactLaws.{compact_rules}
 use Rattle.nav_ground.proofs.FilterLaws.{filtered_are_areas, length-filtered_areas}
@@ -149,13 +149,39 @@ inside_from window x z h =
 none_are_cells : IsCells []
 none_are_cells = record { few = omega arith; order = λ i j d before there. absurd (omega arith); each = All-nil IsCell }
 
+-- the cells of a rectangle keep the rules of cells, and so do the wide cells of a tile
+pub cells_in_rules : (window : Window) (cells : List Cell) → IsCells cells → IsCells (cells_in window cells)
+cells_in_rules window cells rules' =
+    let inside = λ (cell : Cell). is_in_window window cell.at.x cell.at.z in
+    record {
+      few = omega (arith, length-filter inside cells, count_by-le-length inside cells, rules'.few);
+      order = AllPairs-filter (λ (a b : Cell). IsCellBefore a.at b.at) inside cells rules'.order;
+      each = All-filter inside IsCell cells rules'.each;
+    }
+
+wide_rules : (setting : Setting) (cells : List Cell) (tile : ℕ) → IsCells cells → IsCells (wide_cells setting cells tile)
+wide_rules setting cells tile rules' = by_clear setting.clear
+  where
+    by_clear : (clear : Bool) → IsCells (if clear then cells_in (widened (tile_window setting tile) (margin_of setting)) cells else [])
+    by_clear true = cells_in_rules (widened (tile_window setting tile) (margin_of setting)) cells rules'
+    by_clear false = none_are_cells
+
+-- and they lie in the tile or as near it as is said
+pub wide_within : (setting : Setting) (cells kept : List Cell) (tile : ℕ) → IsWideWithin setting (layer_among setting cells kept tile)
+wide_within setting cells kept tile = by_clear (widened (tile_window setting tile) (margin_of setting)) setting.clear
+  where
+    by_clear : (near : Window) (clear : Bool)
+        → All (λ (cell : Cell). IsInWindow near cell.at.x cell.at.z) (if clear then cells_in near cells else [])
+    by_clear near true = λ k d there. inside_from near _ _ (filter_passes (λ (cell : Cell). is_in_window near cell.at.x cell.at.z) cells k d there)
+    by_clear near false = All-nil (λ (cell : Cell). IsInWindow near cell.at.x cell.at.z)
+
 pub layer_among_rules : (setting : Setting) (cells : List Cell) (p : Cell → Bool) (tile : ℕ) → IsCompact cells → tile < tile_count setting
-    → IsLayerOf setting (layer_among setting (filter p cells) tile)
+    → IsLayerOf setting (layer_among setting cells (filter p cells) tile)
 layer_among_rules setting cells p tile compact there =
     let kept = filter p cells in
     let window = tile_window setting tile in
     record {
-      rules = record { cells = kept_cut window cells p compact; wide = none_are_cells };
+      rules = record { cells = kept_cut window cells p compact; wide = wide_rules setting cells tile compact.rules };
       inside = record {
         there = there;
         inside = All-map (λ (cell : Cell). IsInWindow window cell.at.x cell.at.z) (layer_cell kept) (cells_in window kept)
@@ -181,10 +207,11 @@ unfolding layers_of
 layers_rules setting field limits rules' =
     each_layer (IsLayerOf setting) (layer_of setting field) (tile_count setting) (λ tile there. layer_rules setting field tile limits rules' there)
 
--- no layer keeps a radius of its own from obstacles
-pub no_radius : (setting : Setting) (field : Field) → All (λ (layer : Layer). layer.radius ≡ 0) (layers_of setting field)
+pub layers_within : (setting : Setting) (field : Field) → All (IsWideWithin setting) (layers_of setting field)
 unfolding layers_of layer_of
-no_radius setting field = each_layer (λ (layer : Layer). layer.radius ≡ 0) (layer_of setting field) (tile_count setting) (λ tile there. refl)
+layers_within setting field =
+    each_layer (IsWideWithin setting) (layer_of setting field) (tile_count setting)
+    (λ tile there. wide_within setting (cells_of setting field) (kept_cells_of setting field) tile)
 
 -- the layers of a ground keep the rules of layers
 pub IsLayerOf-from_ground : (whole : Ground) → IsGround whole → All (IsLayerOf whole.setting) whole.layers
@@ -192,10 +219,10 @@ IsLayerOf-from_ground whole rules' =
     All-same (IsLayerOf whole.setting) whole.layers (layers_of whole.setting whole.field) rules'.layers
     (layers_rules whole.setting whole.field rules'.setting rules'.field)
 
-pub no_radius_of_ground : (whole : Ground) → IsGround whole → All (λ (layer : Layer). layer.radius ≡ 0) whole.layers
-no_radius_of_ground whole rules' =
-    All-same (λ (layer : Layer). layer.radius ≡ 0) whole.layers (layers_of whole.setting whole.field) rules'.layers
-    (no_radius whole.setting whole.field)
+pub IsWideWithin-from_ground : (whole : Ground) → IsGround whole → All (IsWideWithin whole.setting) whole.layers
+IsWideWithin-from_ground whole rules' =
+    All-same (IsWideWithin whole.setting) whole.layers (layers_of whole.setting whole.field) rules'.layers
+    (layers_within whole.setting whole.field)
 
 -- there is one layer a tile, in order of tiles
 pub length-layers_of_ground : (whole : Ground) → IsGround whole → length whole.layers ≡ tile_count whole.setting

@@ -15,4 +15,5 @@ pub mod ShapeLaws
 pub mod TouchLaws
 pub mod FreeLayers
 pub mod Locality
+pub mod Meeting
 pub mod Literals

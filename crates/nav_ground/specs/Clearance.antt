@@ -1,5 +1,5 @@
 -- Clearance: how far the cells of a list are from its boundary cells, by walks along their connections.
-use Rattle.std.specs.Prelude.{ℕ, zero, suc, ◌+◌, ◌*◌, ◌%◌, Bool, false, not, ◌&&◌, ◌||◌, List, [], ◌∷◌, map, filter}
+use Rattle.std.specs.Prelude.{ℕ, zero, suc, ◌+◌, ◌*◌, ◌%◌, Bool, false, not, ◌&&◌, ◌||◌, if◌then◌else◌, List, [], ◌∷◌, map, filter}
 use Rattle.std.specs.List.{list_any, range_with_len}
 use Rattle.nav_ground.specs.declared.cell.Cell.{Cell}
 use Rattle.nav_ground.specs.declared.cell.CellRef.{CellRef}
@@ -44,6 +44,12 @@ is_kept cells radius cell = not (list_any (λ cost. is_walk_end cells cost cell)
 
 abbrev pub kept_cells : List Cell → ℕ → List Cell
 kept_cells cells radius = filter (is_kept cells radius) cells
+
+-- the cells of a list beside which a mark is true
+abbrev pub marked : List Cell → List Bool → List Cell
+marked [] marks = []
+marked (cell ∷ cells) [] = []
+marked (cell ∷ cells) (mark ∷ marks) = if mark then cell ∷ marked cells marks else marked cells marks
 
 -- the places of cells
 abbrev pub places_of : List Cell → List CellRef

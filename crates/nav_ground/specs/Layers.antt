@@ -6,7 +6,7 @@ use Rattle.nav_ground.specs.declared.field.Field.{Field}
 use Rattle.nav_ground.specs.declared.cell.Cell.{Cell}
 use Rattle.nav_ground.specs.declared.cell.Layer.{Layer}
 use Rattle.nav_ground.specs.Cells.{next_level}
-use Rattle.nav_ground.specs.Tiling.{tile_count, tile_window}
+use Rattle.nav_ground.specs.Tiling.{tile_count, tile_window, widened, margin_of}
 use Rattle.nav_ground.specs.Filters.{filtered_areas}
 use Rattle.nav_ground.specs.Connection.{compact_cells}
 use Rattle.nav_ground.specs.Clearance.{has_neighbour, kept_cells, cells_in}
@@ -28,18 +28,23 @@ layer_cell kept cell = record cell {
   next = kept_level kept cell 0 ∷ kept_level kept cell 1 ∷ kept_level kept cell 2 ∷ kept_level kept cell 3 ∷ [];
 }
 
--- the layer of a tile: the kept cells of its columns, in order; its radius is 0 and it has no wide cells, as for every setting that grounds
--- are built for
-abbrev pub layer_among : Setting → List Cell → ℕ → Layer
-layer_among setting kept tile = record {
+-- the wide cells of a tile: where the setting says clear all cells of its columns and of those that agents keep from obstacles on each
+-- side, with all their connections; else none
+abbrev pub wide_cells : Setting → List Cell → ℕ → List Cell
+wide_cells setting cells tile = if setting.clear then cells_in (widened (tile_window setting tile) (margin_of setting)) cells else []
+
+-- the layer of a tile, from the cells of the field and the kept ones of them: the kept cells of its columns, in order, what agents keep from
+-- obstacles, and the wide cells
+abbrev pub layer_among : Setting → List Cell → List Cell → ℕ → Layer
+layer_among setting cells kept tile = record {
   tile = tile;
   cells = map (layer_cell kept) (cells_in (tile_window setting tile) kept);
-  radius = 0;
-  wide = [];
+  radius = margin_of setting;
+  wide = wide_cells setting cells tile;
 }
 
 unfoldable pub layer_of : Setting → Field → ℕ → Layer
-layer_of setting field tile = layer_among setting (kept_cells_of setting field) tile
+layer_of setting field tile = layer_among setting (cells_of setting field) (kept_cells_of setting field) tile
 
 -- the layers of all tiles, in order
 unfoldable pub layers_of : Setting → Field → List Layer

@@ -10,5 +10,6 @@ pub mod Layers
 pub mod Shapes
 pub mod Touching
 pub mod FreeCells
+pub mod WholeFree
 pub mod History
 pub mod Grounds

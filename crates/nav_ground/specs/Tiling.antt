@@ -1,5 +1,5 @@
 -- Tiles: squares of columns from the corner (0, 0), cut at the field's edge, numbered row by row.
-use Rattle.std.specs.Prelude.{ℕ, ◌+◌, ◌*◌, ◌-◌, ◌/◌, ◌%◌, min, pos, ◌≤ℤ◌, Bool, ◌&&◌, int_le}
+use Rattle.std.specs.Prelude.{ℕ, ◌+◌, ◌*◌, ◌-◌, ◌/◌, ◌%◌, min, pos, ◌+ℤ◌, ◌-ℤ◌, ◌≤ℤ◌, Bool, ◌&&◌, int_le, if◌then◌else◌}
 use Rattle.std.specs.Int.{div_ceil}
 use Rattle.nav_ground.specs.declared.setting.Setting.{Setting}
 use Rattle.nav_ground.specs.declared.cell.Window.{Window}
@@ -31,6 +31,19 @@ tile_window setting tile = record {
   z0 = pos (corner_z setting tile);
   z1 = pos (min setting.depth (corner_z setting tile + setting.tile) - 1);
 }
+
+-- a rectangle with so many more columns on each side
+abbrev pub widened : Window → ℕ → Window
+widened window margin = record {
+  x0 = window.x0 -ℤ pos margin;
+  x1 = window.x1 +ℤ pos margin;
+  z0 = window.z0 -ℤ pos margin;
+  z1 = window.z1 +ℤ pos margin;
+}
+
+-- how many columns agents keep from obstacles: their radius where the setting says clear, else none
+abbrev pub margin_of : Setting → ℕ
+margin_of setting = if setting.clear then setting.agent.radius else 0
 
 -- a column lies in a rectangle of columns
 pub record IsInWindow (window : Window) (x z : ℕ) : Type 0 where

@@ -5,8 +5,9 @@
 //! and which numbers they may hold are definitions of `specs/`.
 //!
 //! `tiles` and `tile_bounds` give the number of tiles and the columns of one. `covers`, `bounds` and `sets` say of an obstacle which cells it
-//! covers, how far it reaches and which area it sets; `touches` says whether it reaches into a tile, and it covers no cell of another. All of
-//! them answer exactly as defined, take constant time and no memory.
+//! covers, how far it reaches and which area it sets. `margin_of` gives how many columns agents keep from obstacles, `touch_window` the
+//! columns within which an obstacle can change what is free, and `touches` says whether a tile has one of them, so that it changes nothing in
+//! another tile. All of them answer exactly as defined, take constant time and no memory.
 //!
 //! Units: `x` and `z` count columns of the field (cells), heights count height units; a direction is 0 for x - 1, 1 for z + 1,
 //! 2 for x + 1 and 3 for z - 1. With x drawn to the right and z upward, tiles are squares numbered row by row from the corner (0, 0).
@@ -26,4 +27,4 @@ pub use history::{Entry, Ground, HISTORY_LIMIT, Reply, Request};
 pub use setting::{AREAS, Agent, MeshKind, Setting};
 pub use shape::{Shape, bounds, covers, sets};
 pub use tiling::{TileNo, tile_bounds, tiles};
-pub use touch::touches;
+pub use touch::{margin_of, touch_window, touches};

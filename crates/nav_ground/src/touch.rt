@@ -1,6 +1,6 @@
 //! Which tiles an obstacle touches.
 
-ghost use Rattle.std.specs.Prelude.{◌≡◌, ◌↔◌, ◌<◌, IsTrue};
+ghost use Rattle.std.specs.Prelude.{◌≡◌, ◌↔◌, ◌<◌, ◌≤◌, ◌≤ℤ◌, ◌+ℤ◌, pos, IsTrue};
 ghost use Rattle.nav_ground.specs.Limits.{IsSetting, IsShape};
 ghost use Rattle.nav_ground.specs.Tiling.{tile_count};
 ghost use Rattle.nav_ground.specs.Touching.{Touches, is_touching};
@@ -10,7 +10,8 @@ use crate::setting::Setting;
 use crate::shape::{Shape, bounds};
 use crate::tiling::{TileNo, tile_bounds};
 
-/// Whether the bounds of an obstacle and a tile have a column in common. An obstacle covers no cell of a tile that it does not touch.
+/// Whether an obstacle's bounds, with as many columns on each side as agents keep from obstacles, have a column in common with a tile. An
+/// obstacle that does not touch a tile changes none of its free cells.
 pub fn touches(setting: &Setting, tile: TileNo, shape: &Shape) -> bool
     requires setting { IsSetting setting.now }
     requires there { tile < tile_count setting.now }
@@ -18,7 +19,48 @@ pub fn touches(setting: &Setting, tile: TileNo, shape: &Shape) -> bool
     ensures test { result ≡ is_touching setting.now tile shape.now }
     ensures touched { IsTrue result ↔ Touches setting.now tile shape.now }
 {
-    are_meeting(bounds(shape), tile_bounds(setting, tile))
+    are_meeting(touch_window(setting, shape), tile_bounds(setting, tile))
+}
+
+/// The columns within which an obstacle can change which cells are free: its bounds, with as many columns on each side as agents keep from
+/// obstacles. They may lie outside the field.
+pub fn touch_window(setting: &Setting, shape: &Shape) -> Window
+    requires setting { IsSetting setting.now }
+    requires shape { IsShape shape.now }
+    ensures { result ≡ Rattle.nav_ground.specs.Touching.touch_window setting.now shape.now }
+{
+    widened(bounds(shape), margin_of(setting))
+}
+
+/// How many columns agents keep from obstacles: their radius where the setting says clear, else none.
+pub fn margin_of(setting: &Setting) -> u32
+    requires { IsSetting setting.now }
+    ensures value { result ≡ Rattle.nav_ground.specs.Tiling.margin_of setting.now }
+    ensures most { result ≤ 15 }
+{
+    if setting.clear {
+        setting.agent.radius
+    } else {
+        0
+    }
+}
+
+/// A rectangle in or near the largest field, with so many more columns on each side.
+fn widened(window: Window, margin: u32) -> Window
+    requires x0 { (pos 0 ≤ℤ (window.x0 +ℤ pos 1024)) × (window.x0 ≤ℤ pos 3071) }
+    requires x1 { (pos 0 ≤ℤ (window.x1 +ℤ pos 1024)) × (window.x1 ≤ℤ pos 3071) }
+    requires z0 { (pos 0 ≤ℤ (window.z0 +ℤ pos 1024)) × (window.z0 ≤ℤ pos 3071) }
+    requires z1 { (pos 0 ≤ℤ (window.z1 +ℤ pos 1024)) × (window.z1 ≤ℤ pos 3071) }
+    requires margin { margin ≤ 15 }
+    ensures { result ≡ Rattle.nav_ground.specs.Tiling.widened window margin }
+{
+    let margin = margin as i32;
+    Window {
+        x0: window.x0 - margin,
+        x1: window.x1 + margin,
+        z0: window.z0 - margin,
+        z1: window.z1 + margin,
+    }
 }
 
 /// Whether two rectangles, neither of them empty, have a column in common.

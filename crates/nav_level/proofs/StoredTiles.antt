@@ -8,11 +8,11 @@ use Rattle.nav_ground.specs.declared.history.Ground.{Ground}
 use Rattle.nav_ground.specs.declared.shape.Shape.{Shape}
 use Rattle.nav_ground.specs.Cells.{IsInTile}
 use Rattle.nav_ground.specs.Grounds.{IsGround, IsLayerOf}
-use Rattle.nav_ground.specs.Layers.{layer_of}
+use Rattle.nav_ground.specs.Layers.{layer_of, cells_of, kept_cells_of}
 use Rattle.nav_ground.specs.Limits.{IsShape}
 use Rattle.nav_ground.specs.Tiling.{tile_count}
 use Rattle.nav_ground.specs.Touching.{touching_shapes}
-use Rattle.nav_ground.proofs.LayerLaws.{IsLayerOf-from_ground, length-layers_of_ground, layer_of_ground, no_radius_of_ground}
+use Rattle.nav_ground.proofs.LayerLaws.{IsLayerOf-from_ground, length-layers_of_ground, layer_of_ground, wide_within}
 use Rattle.mesh_types.specs.declared.tile.TileMesh.{TileMesh}
 use Rattle.mesh_types.specs.Soundness.{AreTiles}
 use Rattle.tile_build.specs.Meshes.{tiles_under}
@@ -37,6 +37,7 @@ touched_tile : (whole : Ground) (shapes : List Shape) (t : ℕ) → IsGround who
 unfolding layer_of
 touched_tile whole shapes t rules' there =
     tile_mesh_local whole.setting (layer_of whole.setting whole.field t) shapes (inside_tile whole t rules' there)
+    (wide_within whole.setting (cells_of whole.setting whole.field) (kept_cells_of whole.setting whole.field) t)
 
 -- each stored list is that of the shapes that touch its tile
 abbrev pub AreTouching : Ground → List Shape → List (List Shape) → Type 0
@@ -98,7 +99,6 @@ stored_with whole stored fresh published tile shapes mesh ties in_stored in_fres
 -- what stands in the place of a tile among the layers is its layer
 pub record IsLayerAt (whole : Ground) (tile : ℕ) (layer : Layer) : Type 0 where
   pub rules : IsLayerOf whole.setting layer
-  pub near : layer.radius ≡ 0
   pub is : layer ≡ layer_of whole.setting whole.field tile
 
 pub layer_at : (whole : Ground) (tile : ℕ) (layer : Layer) → IsGround whole → tile < tile_count whole.setting → layer ≡ get_or whole.layers tile layer
@@ -107,6 +107,5 @@ layer_at whole tile layer rules' there found =
     let within : tile < length whole.layers = omega (arith, there, length-layers_of_ground whole rules') in
     record {
       rules = subst (IsLayerOf whole.setting) (sym found) (IsLayerOf-from_ground whole rules' tile layer within);
-      near = ap (λ (l : Layer). l.radius) found ∙ no_radius_of_ground whole rules' tile layer within;
       is = found ∙ layer_of_ground whole tile layer rules' there;
     }

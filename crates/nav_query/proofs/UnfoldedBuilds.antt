@@ -23,6 +23,7 @@ use Rattle.mesh_types.specs.declared.links.Portal.{Portal}
 use Rattle.mesh_types.specs.declared.mesh.Mesh.{Mesh}
 use Rattle.mesh_types.specs.declared.polygon.Polygon.{Polygon}
 use Rattle.mesh_types.specs.declared.tile.TileMesh.{TileMesh}
+use Rattle.mesh_types.specs.BorderLinks.{HasOnePair}
 use Rattle.mesh_types.specs.Builds.{build_of, mesh_under}
 use Rattle.mesh_types.specs.Chains.{IsFold, portal_at, some_portal}
 use Rattle.mesh_types.specs.Corridors.{IsCheapest, IsLinkOf}
@@ -41,7 +42,7 @@ use Rattle.tile_build.proofs.BuiltTiles.{are_tiles}
 use Rattle.tile_build.proofs.NoneOverSides.{none_over_side}
 use Rattle.tile_build.proofs.OneEdge.{Overlap, fold_on_edge, turned}
 use Rattle.tile_build.proofs.OneWay.{LeadsOneWay, tiles_one_way}
-use Rattle.tile_build.proofs.RimPairs.{HasOnePair, tiles_one_pair}
+use Rattle.tile_build.proofs.RimPairs.{tiles_one_pair}
 use Rattle.tile_build.proofs.TwoWayTiles.{tiles_two_way}
 use Rattle.tile_links.proofs.OneWayCrossings.{IsCrossing, crossing_of, crossings_one_way}
 use Rattle.tile_links.proofs.SoundMeshes.{IsSound-mesh_of}

@@ -10,12 +10,12 @@ use Rattle.nav_ground.specs.declared.cell.Cell.{Cell}
 use Rattle.nav_ground.specs.declared.cell.CellRef.{CellRef}
 use Rattle.nav_ground.specs.declared.shape.Shape.{Shape}
 use Rattle.nav_ground.specs.Cells.{IsCell, IsCells, IsCellBefore, is_naming, next_level}
-use Rattle.nav_ground.specs.FreeCells.{is_blocked, is_free, is_lost, area_under, free_next, free_cell_of}
+use Rattle.nav_ground.specs.FreeCells.{is_lost, area_under, free_next, free_cell_of}
 use Rattle.nav_ground.proofs.Kept.{AllPairs-map, All-kept}
 use Rattle.obstacle_mark.specs.declared.places.Passed.{Passed}
 use Rattle.obstacle_mark.specs.AreasLeft.{area_left}
 use Rattle.obstacle_mark.specs.Columns.{IsPlace, ArePlaces, IsPassed, column_of}
-use Rattle.obstacle_mark.specs.Places.{places_blocked, level_kept, next_kept, ArePassed}
+use Rattle.obstacle_mark.specs.Places.{places_taken, level_kept, next_kept, ArePassed}
 use Rattle.obstacle_mark.proofs.Rows.{IsNonDecreasingBy-from_pairs}
 
 -- a test of an element's image and of the element itself, over a list and over the images of those that pass the second
@@ -30,22 +30,22 @@ any_kept {X = X} {Y = Y} f p q (x ∷ xs) =
     by_test false ys = ap (λ c. c || list_any p (map f ys)) (and-false (p (f x)))
 
 -- a neighbour is lost exactly where it is one of the places of blocked cells
-lost_among : (cells : List Cell) (shapes : List Shape) (cell : Cell) (dir : ℕ)
-    → is_lost cells shapes cell dir ≡ list_any (λ (at : CellRef). is_naming dir cell at) (places_blocked shapes cells)
-lost_among cells shapes cell dir = any_kept (λ (other : Cell). other.at) (λ (at : CellRef). is_naming dir cell at) (is_blocked shapes) cells
+lost_among : (taken : Cell → Bool) (cells : List Cell) (shapes : List Shape) (cell : Cell) (dir : ℕ)
+    → is_lost taken cells cell dir ≡ list_any (λ (at : CellRef). is_naming dir cell at) (places_taken taken cells)
+lost_among taken cells shapes cell dir = any_kept (λ (other : Cell). other.at) (λ (at : CellRef). is_naming dir cell at) (taken) cells
 
-kept_next : (cells : List Cell) (shapes : List Shape) (cell : Cell) (dir : ℕ)
-    → level_kept (places_blocked shapes cells) cell dir ≡ free_next cells shapes cell dir
-kept_next cells shapes cell dir = ap (λ b. if b then None else next_level cell dir) (sym (lost_among cells shapes cell dir))
+kept_next : (taken : Cell → Bool) (cells : List Cell) (shapes : List Shape) (cell : Cell) (dir : ℕ)
+    → level_kept (places_taken taken cells) cell dir ≡ free_next taken cells cell dir
+kept_next taken cells shapes cell dir = ap (λ b. if b then None else next_level cell dir) (sym (lost_among taken cells shapes cell dir))
 
 four : (f g : ℕ → Option ℕ) → ((dir : ℕ) → f dir ≡ g dir) → f 0 ∷ f 1 ∷ f 2 ∷ f 3 ∷ [] ≡ g 0 ∷ g 1 ∷ g 2 ∷ g 3 ∷ []
 four f g same = cc (same 0, same 1, same 2, same 3)
 
 -- the neighbours that a cell keeps beside the blocked places are those that it keeps as a free cell
-next_free : (cells : List Cell) (shapes : List Shape) (cell : Cell)
-    → next_kept (places_blocked shapes cells) cell ≡ (free_cell_of cells shapes cell).next
-next_free cells shapes cell =
-    four (level_kept (places_blocked shapes cells) cell) (free_next cells shapes cell) (kept_next cells shapes cell)
+next_free : (taken : Cell → Bool) (cells : List Cell) (shapes : List Shape) (cell : Cell)
+    → next_kept (places_taken taken cells) cell ≡ (free_cell_of taken cells shapes cell).next
+next_free taken cells shapes cell =
+    four (level_kept (places_taken taken cells) cell) (free_next taken cells cell) (kept_next taken cells shapes cell)
 
 area_of_left : (blocked : Bool) (under area : ℕ) → (if blocked then None else Some under) ≡ Some area → (blocked ≡ false) × (under ≡ area)
 area_of_left true under area left = absurd cc
@@ -56,12 +56,12 @@ no_area_left true under left = refl
 no_area_left false under left = absurd cc
 
 -- a cell that is left with an area is free, and this is its free cell
-pub free_cell_left : (cells : List Cell) (shapes : List Shape) (cell : Cell) (area : ℕ) (next : List (Option ℕ))
-    → area_left shapes cell ≡ Some area → next ≡ next_kept (places_blocked shapes cells) cell
-    → record cell { area = area; next = next } ≡ free_cell_of cells shapes cell
-free_cell_left cells shapes cell area next left is =
-    let under = (area_of_left (is_blocked shapes cell) (area_under shapes cell) area left).1 in
-    let same = is ∙ next_free cells shapes cell in
+pub free_cell_left : (taken : Cell → Bool) (cells : List Cell) (shapes : List Shape) (cell : Cell) (area : ℕ) (next : List (Option ℕ))
+    → area_left taken shapes cell ≡ Some area → next ≡ next_kept (places_taken taken cells) cell
+    → record cell { area = area; next = next } ≡ free_cell_of taken cells shapes cell
+free_cell_left taken cells shapes cell area next left is =
+    let under = (area_of_left (taken cell) (area_under shapes cell) area left).1 in
+    let same = is ∙ next_free taken cells shapes cell in
     ap (λ (a : ℕ). record cell { area = a; next = next }) (sym under)
     ∙ ap (λ (n : List (Option ℕ)). record cell { area = area_under shapes cell; next = n }) same
 
@@ -73,25 +73,25 @@ kept_more f p xs i d b there is =
     ∙ ap (λ c. map f (filter p (take i xs)) ++ map f (cond c (get_or xs i d ∷ []) [])) is
 
 -- one more cell that is left with an area
-pub one_more_free : (cells : List Cell) (shapes : List Shape) (i : ℕ) (d : Cell) (area : ℕ) (free : List Cell) (cell : Cell)
-    → i < length cells → area_left shapes (get_or cells i d) ≡ Some area → cell ≡ free_cell_of cells shapes (get_or cells i d)
-    → free ≡ map (free_cell_of cells shapes) (filter (is_free shapes) (take i cells))
-    → free ++ cell ∷ [] ≡ map (free_cell_of cells shapes) (filter (is_free shapes) (take (i + 1) cells))
-one_more_free cells shapes i d area free cell there left is before =
-    let open' = (area_of_left (is_blocked shapes (get_or cells i d)) (area_under shapes (get_or cells i d)) area left).0 in
+pub one_more_free : (taken : Cell → Bool) (cells : List Cell) (shapes : List Shape) (i : ℕ) (d : Cell) (area : ℕ) (free : List Cell) (cell : Cell)
+    → i < length cells → area_left taken shapes (get_or cells i d) ≡ Some area → cell ≡ free_cell_of taken cells shapes (get_or cells i d)
+    → free ≡ map (free_cell_of taken cells shapes) (filter (λ (c : Cell). not (taken c)) (take i cells))
+    → free ++ cell ∷ [] ≡ map (free_cell_of taken cells shapes) (filter (λ (c : Cell). not (taken c)) (take (i + 1) cells))
+one_more_free taken cells shapes i d area free cell there left is before =
+    let open' = (area_of_left (taken (get_or cells i d)) (area_under shapes (get_or cells i d)) area left).0 in
     ap (λ (xs : List Cell). xs ++ cell ∷ []) before
-    ∙ ap (λ (c : Cell). map (free_cell_of cells shapes) (filter (is_free shapes) (take i cells)) ++ c ∷ []) is
-    ∙ sym (kept_more (free_cell_of cells shapes) (is_free shapes) cells i d true there (ap not open'))
+    ∙ ap (λ (c : Cell). map (free_cell_of taken cells shapes) (filter (λ (c : Cell). not (taken c)) (take i cells)) ++ c ∷ []) is
+    ∙ sym (kept_more (free_cell_of taken cells shapes) (λ (c : Cell). not (taken c)) cells i d true there (ap not open'))
 
 -- one more cell that is left without an area
-pub one_more_blocked_cell : (cells : List Cell) (shapes : List Shape) (i : ℕ) (d : Cell) (free : List Cell)
-    → i < length cells → area_left shapes (get_or cells i d) ≡ None
-    → free ≡ map (free_cell_of cells shapes) (filter (is_free shapes) (take i cells))
-    → free ≡ map (free_cell_of cells shapes) (filter (is_free shapes) (take (i + 1) cells))
-one_more_blocked_cell cells shapes i d free there left before =
-    let closed = no_area_left (is_blocked shapes (get_or cells i d)) (area_under shapes (get_or cells i d)) left in
-    before ∙ sym (append-nil (map (free_cell_of cells shapes) (filter (is_free shapes) (take i cells))))
-    ∙ sym (kept_more (free_cell_of cells shapes) (is_free shapes) cells i d false there (ap not closed))
+pub one_more_blocked_cell : (taken : Cell → Bool) (cells : List Cell) (shapes : List Shape) (i : ℕ) (d : Cell) (free : List Cell)
+    → i < length cells → area_left taken shapes (get_or cells i d) ≡ None
+    → free ≡ map (free_cell_of taken cells shapes) (filter (λ (c : Cell). not (taken c)) (take i cells))
+    → free ≡ map (free_cell_of taken cells shapes) (filter (λ (c : Cell). not (taken c)) (take (i + 1) cells))
+one_more_blocked_cell taken cells shapes i d free there left before =
+    let closed = no_area_left (taken (get_or cells i d)) (area_under shapes (get_or cells i d)) left in
+    before ∙ sym (append-nil (map (free_cell_of taken cells shapes) (filter (λ (c : Cell). not (taken c)) (take i cells))))
+    ∙ sym (kept_more (free_cell_of taken cells shapes) (λ (c : Cell). not (taken c)) cells i d false there (ap not closed))
 
 -- the places of the blocked cells are places in order of columns
 column_rises : (a b : CellRef) → IsPlace a → IsPlace b → IsCellBefore a b → column_of a ≤ column_of b
@@ -102,21 +102,21 @@ column_rises a b pa pb (inr (same, inr (same', under))) = omega (arith, same, sa
 pub place_of_cell : (cell : Cell) → IsCell cell → IsPlace cell.at
 place_of_cell cell rules' = record { x = rules'.x; z = rules'.z }
 
-columns_rise : (cells : List Cell) → IsCells cells → AllPairs (λ (a b : Cell). column_of a.at ≤ column_of b.at) cells
+pub columns_rise : (cells : List Cell) → IsCells cells → AllPairs (λ (a b : Cell). column_of a.at ≤ column_of b.at) cells
 columns_rise cells rules' i j d before there =
     column_rises (get_or cells i d).at (get_or cells j d).at
     (place_of_cell _ (rules'.each i d (omega arith))) (place_of_cell _ (rules'.each j d there)) (rules'.order i j d before there)
 
-pub blocked_are_places : (cells : List Cell) (shapes : List Shape) → IsCells cells → ArePlaces (places_blocked shapes cells)
-blocked_are_places cells shapes rules' = record {
-  each = All-kept IsPlace (λ (cell : Cell). cell.at) (is_blocked shapes) cells (λ k d there blocked. place_of_cell _ (rules'.each k d there));
-  order = IsNonDecreasingBy-from_pairs column_of (places_blocked shapes cells)
-      (AllPairs-map (λ a b. column_of a ≤ column_of b) (λ (cell : Cell). cell.at) (filter (is_blocked shapes) cells)
-      (AllPairs-filter (λ (a b : Cell). column_of a.at ≤ column_of b.at) (is_blocked shapes) cells (columns_rise cells rules')));
+pub blocked_are_places : (taken : Cell → Bool) (cells : List Cell) → IsCells cells → ArePlaces (places_taken taken cells)
+blocked_are_places taken cells rules' = record {
+  each = All-kept IsPlace (λ (cell : Cell). cell.at) (taken) cells (λ k d there blocked. place_of_cell _ (rules'.each k d there));
+  order = IsNonDecreasingBy-from_pairs column_of (places_taken taken cells)
+      (AllPairs-map (λ a b. column_of a ≤ column_of b) (λ (cell : Cell). cell.at) (filter (taken) cells)
+      (AllPairs-filter (λ (a b : Cell). column_of a.at ≤ column_of b.at) (taken) cells (columns_rise cells rules')));
 }
 
 -- what is passed before a column is passed before a later one
-passed_later : (places : List CellRef) (n column column' : ℕ) → column ≤ column' → IsPassed places n column → IsPassed places n column'
+pub passed_later : (places : List CellRef) (n column column' : ℕ) → column ≤ column' → IsPassed places n column → IsPassed places n column'
 passed_later places n column column' later passed = record {
   most = passed.most;
   before = λ k d below. let h = passed.before k d below in omega (arith, h, later);
@@ -132,7 +132,7 @@ passed_on places passed a b later before = record {
 }
 
 -- at first nothing is passed
-none_passed_yet : (places : List CellRef) (column : ℕ) → IsPassed places 0 column
+pub none_passed_yet : (places : List CellRef) (column : ℕ) → IsPassed places 0 column
 none_passed_yet places column = record { most = omega arith; before = λ k d below. absurd (omega arith) }
 
 pub all_unpassed : (places : List CellRef) (passed : Passed) (at : CellRef)

@@ -1,7 +1,8 @@
 -- What cells are left with under one more shape.
-use Rattle.std.proofs.Common.{◌≡◌, ℕ, ◌<◌, Bool, true, false, length, List, [], ◌∷◌, ◌++◌, map, get_or, ap, ◌∙◌, sym, refl, Option, Some, None, unwrap_or, arith}
+use Rattle.std.proofs.Common.{◌≡◌, ℕ, ◌<◌, Bool, true, false, length, List, [], ◌∷◌, ◌++◌, take, drop, map, get_or, ap, ◌∙◌, sym, refl, Option, Some, None, unwrap_or, arith}
 use Rattle.std.specs.Prelude.{if◌then◌else◌, ◌&&◌, ◌||◌, is_none, option_and_then}
 use Rattle.std.specs.List.{filter_map, last_or, cons_option}
+use Rattle.std.proofs.Math.Seq.{take-append_seam}
 use Rattle.std.proofs.lemmas.List.{append-nil, same_lists, length-map, get_or-map, get_or_default}
 use Rattle.std.proofs.lemmas.List.Elements.{filter_map-append}
 use Rattle.std.proofs.lemmas.List.Folds.{list_any-append}
@@ -39,7 +40,7 @@ left_more false false None area = refl
 left_more false false (Some other) area = refl
 
 area_left_more : (cell : Cell) (shapes : List Shape) (shape : Shape)
-    → area_left (shapes ++ shape ∷ []) cell ≡ area_after shape cell (area_left shapes cell)
+    → area_left (is_blocked (shapes ++ shape ∷ [])) (shapes ++ shape ∷ []) cell ≡ area_after shape cell (area_left (is_blocked shapes) shapes cell)
 area_left_more cell shapes shape =
     ap (λ blocked. if blocked then None else Some (area_under (shapes ++ shape ∷ []) cell))
     (list_any-append (λ (s : Shape). is_none (area_set_by s) && is_over cell s) shapes (shape ∷ []))
@@ -51,20 +52,20 @@ some_cell = record { at = record { x = 0; z = 0; level = 0 }; floor = 0; ceiling
 
 -- the areas that cells are left with under one more shape, cell by cell
 pub areas_left_more : (cells : List Cell) (shapes : List Shape) (shape : Shape) (old new : List (Option ℕ))
-    → old ≡ map (area_left shapes) cells → length new ≡ length old
+    → old ≡ map (area_left (is_blocked shapes) shapes) cells → length new ≡ length old
     → ((k : ℕ) (d : Cell) → k < length cells → get_or new k None ≡ area_after shape (get_or cells k d) (get_or old k None))
-    → new ≡ map (area_left (shapes ++ shape ∷ [])) cells
+    → new ≡ map (area_left (is_blocked (shapes ++ shape ∷ [])) (shapes ++ shape ∷ [])) cells
 areas_left_more cells shapes shape old new before same each =
-    let as_many : length old ≡ length cells = ap length before ∙ length-map cells (area_left shapes) in
-    same_lists new (map (area_left (shapes ++ shape ∷ [])) cells)
-    (same ∙ as_many ∙ sym (length-map cells (area_left (shapes ++ shape ∷ []))))
+    let as_many : length old ≡ length cells = ap length before ∙ length-map cells (area_left (is_blocked shapes) shapes) in
+    same_lists new (map (area_left (is_blocked (shapes ++ shape ∷ [])) (shapes ++ shape ∷ [])) cells)
+    (same ∙ as_many ∙ sym (length-map cells (area_left (is_blocked (shapes ++ shape ∷ [])) (shapes ++ shape ∷ []))))
     (λ k d there.
     let there' : k < length cells = omega arith in
-    let was : get_or old k None ≡ area_left shapes (get_or cells k some_cell) =
-    ap (λ xs. get_or xs k None) before ∙ get_or-map (area_left shapes) cells k some_cell None there' in
+    let was : get_or old k None ≡ area_left (is_blocked shapes) shapes (get_or cells k some_cell) =
+    ap (λ xs. get_or xs k None) before ∙ get_or-map (area_left (is_blocked shapes) shapes) cells k some_cell None there' in
     get_or_default new k d None there ∙ each k some_cell there' ∙ ap (area_after shape (get_or cells k some_cell)) was
     ∙ sym (area_left_more (get_or cells k some_cell) shapes shape)
-    ∙ sym (get_or-map (area_left (shapes ++ shape ∷ [])) cells k some_cell d there'))
+    ∙ sym (get_or-map (area_left (is_blocked (shapes ++ shape ∷ [])) (shapes ++ shape ∷ [])) cells k some_cell d there'))
 
 -- a shape that does not cover a cell leaves it as it was
 pub not_covered : (shape : Shape) (cell : Cell) (before : Option ℕ)
@@ -76,3 +77,8 @@ not_covered shape cell before not = left_alone (is_over cell shape) refl before
     left_alone true is before = absurd (not ((is_covering-Covers shape cell.at.x cell.at.z cell.floor).0 (sym is)))
     left_alone false is None = refl
     left_alone false is (Some area) = refl
+
+-- a vector all of whose elements were written through a slice
+pub written_back : (n : ℕ) (old new : List (Option ℕ)) → n ≡ length new → take n (new ++ drop (length new) old) ≡ new
+written_back n old new same =
+    ap (λ i. take i (new ++ drop (length new) old)) same ∙ take-append_seam new (drop (length new) old)

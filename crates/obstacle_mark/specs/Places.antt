@@ -1,25 +1,23 @@
--- The places of blocked cells, and the neighbours that cells keep beside them.
+-- The places of taken cells, and the neighbours that cells keep beside them.
 use Rattle.std.specs.Prelude.{ℕ, Bool, ◌&&◌, ◌==◌, if◌then◌else◌, List, [], ◌∷◌, map, filter, Option, None}
 use Rattle.std.specs.List.{list_any}
 use Rattle.nav_ground.specs.declared.cell.Cell.{Cell}
 use Rattle.nav_ground.specs.declared.cell.CellRef.{CellRef}
-use Rattle.nav_ground.specs.declared.shape.Shape.{Shape}
 use Rattle.nav_ground.specs.Cells.{is_naming, next_level}
-use Rattle.nav_ground.specs.FreeCells.{is_blocked}
 use Rattle.obstacle_mark.specs.declared.places.Passed.{Passed}
 use Rattle.obstacle_mark.specs.Columns.{column_of, column_toward, IsPassed}
 
--- the places of the cells that shapes block, in order
-abbrev pub places_blocked : List Shape → List Cell → List CellRef
-places_blocked shapes cells = map (λ (cell : Cell). cell.at) (filter (is_blocked shapes) cells)
+-- the places of the cells that are taken, in order
+abbrev pub places_taken : (Cell → Bool) → List Cell → List CellRef
+places_taken taken cells = map (λ (cell : Cell). cell.at) (filter taken cells)
 
 -- one of the places has a column and a level
 abbrev pub is_there : ℕ → ℕ → List CellRef → Bool
 is_there column level places = list_any (λ (at : CellRef). column_of at == column && level == at.level) places
 
--- the level that a cell names in a direction, unless that neighbour is one of the blocked places
+-- the level that a cell names in a direction, unless that neighbour is one of the taken places
 abbrev pub level_kept : List CellRef → Cell → ℕ → Option ℕ
-level_kept blocked cell dir = if list_any (λ (at : CellRef). is_naming dir cell at) blocked then None else next_level cell dir
+level_kept taken cell dir = if list_any (λ (at : CellRef). is_naming dir cell at) taken then None else next_level cell dir
 
 -- the same for each direction
 abbrev pub next_kept : List CellRef → Cell → List (Option ℕ)

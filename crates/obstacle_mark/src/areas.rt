@@ -5,6 +5,7 @@ ghost use Rattle.nav_ground.specs.declared.cell.Cell.{Cell};
 ghost use Rattle.nav_ground.specs.Limits.{IsShape};
 ghost use Rattle.nav_ground.specs.Cells.{IsCells};
 ghost use Rattle.nav_ground.specs.Shapes.{Covers};
+ghost use Rattle.nav_ground.specs.FreeCells.{is_blocked};
 ghost use Rattle.obstacle_mark.specs.AreasLeft.{area_left};
 ghost use Rattle.obstacle_mark.specs.Columns.{IsInRow};
 
@@ -19,7 +20,7 @@ pub fn areas_left(
 ) -> Result<Vec<Option<u32>>, AllocError>
     requires cells { IsCells cells.now }
     requires shapes { All IsShape shapes.now }
-    ensures { IfOk result (λ areas. areas.items ≡ map (area_left shapes.now) cells.now) }
+    ensures { IfOk result (λ areas. areas.items ≡ map (area_left (is_blocked shapes.now) shapes.now) cells.now) }
 {
     let mut areas = own_areas(alloc, cells)?;
     for shape in shapes {
@@ -30,7 +31,7 @@ pub fn areas_left(
 
 /// The area that each cell has by itself.
 fn own_areas(alloc: Global, cells: &[Cell]) -> Result<Vec<Option<u32>>, AllocError>
-    ensures { IfOk result (λ areas. areas.items ≡ map (area_left []) cells.now) }
+    ensures { IfOk result (λ areas. areas.items ≡ map (area_left (is_blocked []) []) cells.now) }
 {
     let mut areas = Vec::with_capacity(alloc, cells.len())?;
     for cell in cells {

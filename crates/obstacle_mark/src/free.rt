@@ -1,31 +1,41 @@
 //! The free cells of a layer.
 
-ghost use Rattle.std.specs.Prelude.{◌≡◌, ◌≤◌, IfOk, All, List, length, map, filter};
+ghost use Rattle.std.specs.Prelude.{◌≡◌, ◌≤◌, Bool, not, IfOk, All, List, length, map, filter};
+ghost use Rattle.nav_ground.specs.declared.cell.Cell.{Cell};
+ghost use Rattle.nav_ground.specs.declared.field.Field.{Field};
+ghost use Rattle.nav_ground.specs.declared.setting.Setting.{Setting};
 ghost use Rattle.nav_ground.specs.declared.shape.Shape.{Shape};
-ghost use Rattle.nav_ground.specs.Limits.{IsShape};
-ghost use Rattle.nav_ground.specs.Cells.{IsCells, IsCut};
-ghost use Rattle.nav_ground.specs.FreeCells.{is_free, free_cell_of, free_layer_of};
+ghost use Rattle.nav_ground.specs.Limits.{IsSetting, IsShape};
+ghost use Rattle.nav_ground.specs.Fields.{IsField};
+ghost use Rattle.nav_ground.specs.Cells.{IsCells, IsCut, IsLayer};
+ghost use Rattle.nav_ground.specs.Tiling.{tile_window};
+ghost use Rattle.nav_ground.specs.Clearance.{places_of, cells_in};
+ghost use Rattle.nav_ground.specs.Layers.{layer_of};
+ghost use Rattle.nav_ground.specs.FreeCells.{free_cell_of, free_layer_of};
+ghost use Rattle.nav_ground.specs.WholeFree.{whole_free};
 ghost use Rattle.obstacle_mark.specs.AreasLeft.{area_left};
 ghost use Rattle.obstacle_mark.specs.Columns.{ArePlaces};
-ghost use Rattle.obstacle_mark.specs.Places.{places_blocked};
+ghost use Rattle.obstacle_mark.specs.Places.{places_taken};
 
-use crate::areas::areas_left;
+use crate::clear::areas_clear;
 use crate::places::{Passed, blocked_places, next_kept};
 use nav_ground::{Cell, CellRef, FreeLayer, Layer, Shape};
 use nav_list::Items;
 use std::alloc::{AllocError, Global};
 
-/// The free cells of a layer whose radius is 0, for a list of obstacles: its cells that none of them blocks, each with the area of the
-/// last area shape that covers it, and with those neighbours that are free or lie in another tile. Only memory can be refused.
+/// The free cells of a layer, for a list of obstacles: its cells that none of them blocks and, where the layer has a radius, that keep it
+/// from every cell that one blocks, as from walls; each with the area of the last area shape that covers it, and with those neighbours that
+/// are free or lie in another tile. Only memory can be refused.
 pub fn mark(alloc: Global, layer: &Layer, shapes: &[Shape]) -> Result<FreeLayer, AllocError>
-    requires cells { IsCut layer.now.cells }
-    requires near { layer.now.radius ≡ 0 }
+    requires layer { IsLayer layer.now }
     requires shapes { All IsShape shapes.now }
     ensures free { IfOk result (λ free. free ≡ free_layer_of layer.now shapes.now) }
     ensures rules { IfOk result (λ free. IsCut free.cells) }
+    ensures whole { (setting : Setting) (field : Field) → IsSetting setting → IsField field → layer.now ≡ layer_of setting field layer.now.tile
+        → IfOk result (λ free. places_of free.cells ≡ places_of (cells_in (tile_window setting layer.now.tile) (whole_free setting field shapes.now))) }
 {
     let cells = layer.cells.as_slice();
-    let areas = areas_left(alloc, cells, shapes)?;
+    let areas = areas_clear(alloc, layer, shapes)?;
     let blocked = blocked_places(alloc, cells, areas.as_slice())?;
     let free = free_cells(alloc, cells, areas.as_slice(), blocked.as_slice())?;
     Ok(FreeLayer {
@@ -45,8 +55,8 @@ fn free_cells(
     requires beside { length areas.now ≡ length cells.now }
     requires blocked { ArePlaces blocked.now }
     requires few { length blocked.now ≤ length cells.now }
-    ensures { (shapes : List Shape) → areas.now ≡ map (area_left shapes) cells.now → blocked.now ≡ places_blocked shapes cells.now
-        → IfOk result (λ free. free.items ≡ map (free_cell_of cells.now shapes) (filter (is_free shapes) cells.now)) }
+    ensures { (taken : Cell → Bool) (shapes : List Shape) → areas.now ≡ map (area_left taken shapes) cells.now → blocked.now ≡ places_taken taken cells.now
+        → IfOk result (λ free. free.items ≡ map (free_cell_of taken cells.now shapes) (filter (λ (cell : Cell). not (taken cell)) cells.now)) }
 {
     let mut passed = Passed {
         left: 0,

@@ -5,6 +5,7 @@
 #![tactic(auto)]
 
 mod areas;
+mod clear;
 mod free;
 mod places;
 

@@ -1,17 +1,18 @@
-//! The places of blocked cells, and which neighbours are among them.
+//! The places of taken cells, and which neighbours are among them.
 
-ghost use Rattle.std.specs.Prelude.{◌≡◌, ℕ, ◌<◌, ◌≤◌, IfOk, List, map, length, slice_index_or, vec_len};
+ghost use Rattle.std.specs.Prelude.{◌≡◌, ℕ, ◌<◌, ◌≤◌, All, Bool, IfOk, IsTrue, List, map, length, slice_index_or, vec_len};
+ghost use Rattle.nav_ground.specs.declared.cell.Cell.{Cell};
 ghost use Rattle.nav_ground.specs.declared.cell.CellRef.{CellRef};
 ghost use Rattle.nav_ground.specs.declared.shape.Shape.{Shape};
 ghost use Rattle.obstacle_mark.specs.AreasLeft.{area_left};
-ghost use Rattle.obstacle_mark.specs.Columns.{IsPlace, ArePlaces, IsPassed, column_of};
-ghost use Rattle.obstacle_mark.specs.Places.{places_blocked, level_kept, ArePassed};
+ghost use Rattle.obstacle_mark.specs.Columns.{IsPlace, ArePlaces, IsPassed, LiesAway, LiesBefore, LiesBehind, column_of};
+ghost use Rattle.obstacle_mark.specs.Places.{places_taken, level_kept, ArePassed};
 
 use nav_ground::{Cell, CellRef};
 use std::alloc::{AllocError, Global};
 
-/// How many of the blocked places lie in columns before the neighbouring ones of a cell, direction by direction. As cells are gone
-/// through in order these numbers only rise, so all of them together pass each blocked place once a direction.
+/// How many of the taken places lie in columns before the neighbouring ones of a cell, direction by direction. As cells are gone
+/// through in order these numbers only rise, so all of them together pass each taken place once a direction.
 #[derive(Clone, Copy)]
 pub struct Passed {
     pub left: usize,
@@ -28,8 +29,8 @@ pub fn blocked_places(
 ) -> Result<Vec<CellRef>, AllocError>
     requires { length areas.now ≡ length cells.now }
     ensures few { IfOk result (λ places. vec_len places ≤ length cells.now) }
-    ensures places { (shapes : List Shape) → areas.now ≡ map (area_left shapes) cells.now
-        → IfOk result (λ places. places.items ≡ places_blocked shapes cells.now) }
+    ensures places { (taken : Cell → Bool) (shapes : List Shape) → areas.now ≡ map (area_left taken shapes) cells.now
+        → IfOk result (λ places. places.items ≡ places_taken taken cells.now) }
 {
     let mut places = Vec::new(alloc);
     for (i, cell) in cells.iter().enumerate() {
@@ -40,7 +41,8 @@ pub fn blocked_places(
     Ok(places)
 }
 
-/// The levels that a cell names in the four directions, without those neighbours that are among the blocked places.
+/// The levels that a cell names in the four directions, without those neighbours that are among the taken places. Where these lie more
+/// than a row of columns away, and so where there are none, none of the four is looked up.
 pub fn next_kept(blocked: &[CellRef], passed: &mut Passed, cell: &Cell) -> [Option<u32>; 4]
     requires cell { IsPlace cell.now.at }
     requires blocked { ArePlaces blocked.now }
@@ -48,6 +50,10 @@ pub fn next_kept(blocked: &[CellRef], passed: &mut Passed, cell: &Cell) -> [Opti
     ensures next { result ≡ Rattle.obstacle_mark.specs.Places.next_kept blocked.now cell.now }
     ensures passed { ArePassed blocked.now passed.new cell.now.at }
 {
+    let column = column_of(cell.at);
+    if are_away(blocked, column) {
+        return [cell.next[0], cell.next[1], cell.next[2], cell.next[3]];
+    }
     [
         level_kept(blocked, &mut passed.left, cell, 0),
         level_kept(blocked, &mut passed.above, cell, 1),
@@ -56,7 +62,7 @@ pub fn next_kept(blocked: &[CellRef], passed: &mut Passed, cell: &Cell) -> [Opti
     ]
 }
 
-/// The level that a cell names in a direction, unless that neighbour is one of the blocked places.
+/// The level that a cell names in a direction, unless that neighbour is one of the taken places.
 fn level_kept(blocked: &[CellRef], passed: &mut usize, cell: &Cell, dir: usize) -> Option<u32>
     requires dir { dir < 4 }
     requires cell { IsPlace cell.now.at }
@@ -75,8 +81,40 @@ fn level_kept(blocked: &[CellRef], passed: &mut usize, cell: &Cell, dir: usize) 
     }
 }
 
+/// Whether all of the places come more than a row of columns before a column, or all behind it.
+fn are_away(places: &[CellRef], column: u32) -> bool
+    requires places { ArePlaces places.now }
+    requires column { column < 2099200 }
+    ensures { IsTrue result → All (LiesAway column) places.now }
+{
+    lie_before(places, column) || lie_behind(places, column)
+}
+
+/// Whether all of the places come more than a row of columns before a column.
+fn lie_before(places: &[CellRef], column: u32) -> bool
+    requires { ArePlaces places.now }
+    ensures { IsTrue result → All (LiesBefore column) places.now }
+{
+    match places.last() {
+        Some(last) => column_of(*last) + 2048 < column,
+        None => true,
+    }
+}
+
+/// Whether all of the places come more than a row of columns behind a column.
+fn lie_behind(places: &[CellRef], column: u32) -> bool
+    requires places { ArePlaces places.now }
+    requires column { column < 2099200 }
+    ensures { IsTrue result → All (LiesBehind column) places.now }
+{
+    match places.first() {
+        Some(first) => column + 2048 < column_of(*first),
+        None => true,
+    }
+}
+
 /// How many of the places lie in columns before one, where so many are known to do.
-fn pass(places: &[CellRef], known: usize, column: u32) -> usize
+pub fn pass(places: &[CellRef], known: usize, column: u32) -> usize
     requires places { ArePlaces places.now }
     requires known { IsPassed places.now known column }
     ensures passed { IsPassed places.now result column }
@@ -90,7 +128,7 @@ fn pass(places: &[CellRef], known: usize, column: u32) -> usize
 }
 
 /// Whether one of the places has a column and a level, where the first of that column or of a later one is known.
-fn is_there(places: &[CellRef], first: usize, column: u32, level: u32) -> bool
+pub fn is_there(places: &[CellRef], first: usize, column: u32, level: u32) -> bool
     requires places { ArePlaces places.now }
     requires passed { IsPassed places.now first column }
     requires next { (d : CellRef) → first < length places.now → column ≤ column_of (slice_index_or places.now first d) }
@@ -107,7 +145,7 @@ fn is_there(places: &[CellRef], first: usize, column: u32, level: u32) -> bool
 }
 
 /// The number of a place's column.
-fn column_of(at: CellRef) -> u32
+pub fn column_of(at: CellRef) -> u32
     requires { IsPlace at }
     ensures value { result ≡ column_of at }
     ensures least { 2048 ≤ result }

@@ -2,15 +2,13 @@
 
 ghost use Rattle.std.specs.Prelude.{◌≡◌, ◌++◌, ◌<◌, OnOk, map, length};
 ghost use Rattle.mesh_types.specs.declared.hops.HopStep.{HopStep};
-ghost use Rattle.off_links.specs.HopGraphs.{IsHopped, hop_step, leap_end, steps_from};
+ghost use Rattle.off_links.specs.HopGraphs.{IsHopped, hop_step, leap_arc, steps_from};
 
 use crate::leaps::{Leap, leap_at};
 use crate::slots::leaving_by_slot;
-use corridor_search::{
-    extent_at, link_at, link_weight, past_links, polygon_at, push_link_ends, vertex_at,
-};
-use graph_search::{Graph, Step, Vertex};
-use mesh_types::{Extent, HopStep, Jump, Mesh};
+use corridor_search::{link_at, past_links, polygon_at, push_link_arcs, vertex_at};
+use graph_search::{Arc, Graph, Step, Vertex};
+use mesh_types::{HopStep, Jump, Mesh};
 use std::alloc::AllocError;
 
 /// A mesh that is searched with leaps.
@@ -25,10 +23,8 @@ pub(crate) struct HopGraph<'a> {
 }
 
 impl Graph for HopGraph<'_> {
-    ghost use Rattle.corridor_search.specs.MeshGraphs.{vertices_of, extents_of};
+    ghost use Rattle.corridor_search.specs.MeshGraphs.{vertices_of};
     ghost use Rattle.off_links.specs.HopGraphs.{IsSlotted, hop_arcs, no_estimate};
-
-    type Spot = Extent;
 
     ghost is_sound = { λ g. IsSlotted g.mesh.now g.jumps.now g.leaps.now g.slots.now };
 
@@ -36,45 +32,32 @@ impl Graph for HopGraph<'_> {
 
     ghost arcs = { λ g. hop_arcs g.mesh.now g.jumps.now g.leaps.now };
 
-    ghost spots = { λ g. extents_of g.mesh.now };
-
     ghost estimates = { λ _. no_estimate };
 
     /// What the costliest jump costs.
     ghost heaviest = { λ _. 4294967295 };
 
-    fn push_ends(&self, from: Vertex, ends: &mut Vec<Vertex>) -> Result<(), AllocError> {
+    fn push_arcs(&self, from: Vertex, found: &mut Vec<Arc>) -> Result<(), AllocError> {
         let at = polygon_at(from);
-        push_link_ends(self.mesh, at, ends)?;
-        push_leap_ends(leaving_by_slot(self.leaps, self.slots, at), ends)
+        push_link_arcs(self.mesh, at, found)?;
+        push_leap_arcs(leaving_by_slot(self.leaps, self.slots, at), found)
     }
 
-    fn spot(&self, of: Vertex) -> Extent {
-        extent_at(self.mesh, polygon_at(of))
-    }
-
-    fn weight(&self, step: Step, to: Vertex, left: Extent, entered: Extent) -> u64 {
-        match past_links(self.mesh, step) {
-            None => link_weight(self.mesh, step, to, left, entered),
-            Some(past) => {
-                let leap = leap_at(self.leaps, polygon_at(step.from), past);
-                u64::from(leap.cost)
-            }
-        }
-    }
-
-    fn estimate(&self, from: Vertex, spot: Extent) -> u64 {
-        let _ = (from, spot);
+    fn estimate(&self, from: Vertex) -> u64 {
+        let _ = from;
         0
     }
 }
 
-/// Appends the vertices of the polygons that leaps enter.
-fn push_leap_ends(leaps: &[Leap], ends: &mut Vec<Vertex>) -> Result<(), AllocError>
-    ensures { OnOk result (ends.new.items ≡ ends.old.items ++ map leap_end leaps.now) }
+/// Appends the arcs of leaps.
+fn push_leap_arcs(leaps: &[Leap], arcs: &mut Vec<Arc>) -> Result<(), AllocError>
+    ensures { OnOk result (arcs.new.items ≡ arcs.old.items ++ map leap_arc leaps.now) }
 {
     for leap in leaps {
-        ends.push(vertex_at(leap.to))?;
+        arcs.push(Arc {
+            to: vertex_at(leap.to),
+            weight: u64::from(leap.cost),
+        })?;
     }
     Ok(())
 }

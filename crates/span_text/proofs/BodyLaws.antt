@@ -24,7 +24,7 @@ pub record HasRead (bytes rest : List ℕ) (setting : Setting) (before : ℕ) (s
   pub reads : field_of bytes ≡ read field_format (AtBody setting before spans) count (lines rest)
   pub area : before ≤ 63
   pub few : length spans ≤ 2000000
-  pub counted : count ≤ 7 + before + length spans
+  pub counted : count ≤ 8 + before + length spans
 
 -- the next line behind the header
 next_line : (bytes rest : List ℕ) (setting : Setting) (before : ℕ) (spans : List Span) (count : ℕ) (line after : List ℕ) (said : BodyLine)
@@ -40,7 +40,7 @@ pub HasRead_cost : (bytes rest : List ℕ) (setting : Setting) (before : ℕ) (s
     → body_line setting.width setting.depth before spans line ≡ Cost area cost → before < area → area ≤ 63
     → HasRead bytes after (set_cost setting area cost) area spans (count + 1)
 HasRead_cost bytes rest setting before spans count line after area cost has those spelled is further most =
-    let counted : count ≤ 7 + before + length spans = has.counted in record {
+    let counted : count ≤ 8 + before + length spans = has.counted in record {
       past = IsPast_next bytes rest count line after has.past those spelled;
       reads = next_line bytes rest setting before spans count line after (Cost area cost) has those is;
       area = most;
@@ -53,7 +53,7 @@ pub HasRead_span : (bytes rest : List ℕ) (setting : Setting) (before : ℕ) (s
     → body_line setting.width setting.depth before spans line ≡ Spans span → length spans < 2000000
     → HasRead bytes after setting before (spans ++ span ∷ []) (count + 1)
 HasRead_span bytes rest setting before spans count line after span has those spelled is room =
-    let counted : count ≤ 7 + before + length spans = has.counted in
+    let counted : count ≤ 8 + before + length spans = has.counted in
     let longer = length_push spans span in record {
       past = IsPast_next bytes rest count line after has.past those spelled;
       reads = next_line bytes rest setting before spans count line after (Spans span) has those is;

@@ -156,7 +156,7 @@ pub cost_again : (width depth before area cost : ℕ) → before < area → area
 unfolding body_line other_line numbers_of
 cost_again width depth before area cost further most least few = cost_in_again before area cost further most least few
 
--- a line behind the seven lines of a header is a cost, or its first word is another, or it fails
+-- a line behind those of the setting is a cost, or its first word is another, or it fails
 abbrev pub HeaderSays : (before : ℕ) (line : List ℕ) → BodyLine → Type 0
 HeaderSays before line (Cost area cost) = (line ≡ line_text (codes "cost") (area ∷ cost ∷ [])) × (before < area) × (area ≤ 63) × (1 ≤ cost) × (cost ≤ 1000)
 HeaderSays before line (Spans span) = ⊥

@@ -46,7 +46,7 @@ read_lines bytes (Err refusal) told = tt
 pub read_only : (bytes : List ℕ) (result : Result FieldText FieldRefusal) → IsRead bytes result → (setting : Setting) (field : Field) (text rest : List ℕ)
     → IsSetting setting → IsField field → IsFieldText text setting field → bytes ≡ text ++ rest → Gives setting field (length text) result
 read_only bytes (Ok read) told setting field text rest limits fits spelling parts =
-    let all = field_lines setting spelling.costs field.spans in
+    let all = field_lines spelling.form setting spelling.costs field.spans in
     let same = ok_is (sym told.0 ∙ field_again bytes text rest setting field limits fits spelling parts) in
     let first : take read.lines (lines bytes) ≡ all =
     ap₂ (λ n ls. take n ls) (ap (λ p. p.1) same) (lines_begin bytes text rest setting field limits fits spelling parts) ∙ take_at all (lines rest) (length all) refl in
@@ -57,7 +57,7 @@ read_only bytes (Ok read) told setting field text rest limits fits spelling part
     )
 read_only bytes (Err (refusals.Fault fault)) told setting field text rest limits fits spelling parts =
     let again = field_again bytes text rest setting field limits fits spelling parts in
-    let both : ◌≡◌ {A = Result (Value × ℕ) TextFault} (Err fault) (Ok ((setting, field), length (field_lines setting spelling.costs field.spans))) = sym told ∙ again in
+    let both : ◌≡◌ {A = Result (Value × ℕ) TextFault} (Err fault) (Ok ((setting, field), length (field_lines spelling.form setting spelling.costs field.spans))) = sym told ∙ again in
     cc
 read_only bytes (Err refusals.OutOfMemory) told setting field text rest limits fits spelling parts = tt
 

@@ -1,5 +1,5 @@
 -- What is read of a field text is spelled so: the lines that lead to a place say what the place has.
-use Rattle.std.proofs.Common.{zero, suc, length-set, ◌≡◌, ℕ, ◌+◌, ◌-◌, ◌<◌, ◌≤◌, true, false, List, [], ◌∷◌, ◌++◌, length, take, get_or, map, replicate, set, codes, Some, Result, Ok, Err, All, AllPairs, IsTrue, sym, refl, ap, ap₂, ◌∙◌, subst, ⊎_elim, arith, append_assoc, append-nil}
+use Rattle.std.proofs.Common.{zero, suc, length-set, ◌≡◌, ℕ, ◌+◌, ◌-◌, ◌*◌, ◌<◌, ◌≤◌, Bool, true, false, List, [], ◌∷◌, ◌++◌, length, take, get_or, map, replicate, set, codes, Some, Result, Ok, Err, All, AllPairs, IsTrue, sym, refl, ap, ap₂, ◌∙◌, subst, ⊎_elim, arith, append_assoc, append-nil}
 use Rattle.std.specs.Prelude.{⊤}
 use Rattle.std.specs.List.{list_all}
 use Rattle.std.proofs.lemmas.Bool.{and_from, and_parts, cases_lt}
@@ -20,13 +20,15 @@ use Rattle.nav_text.specs.Forms.{line_text}
 use Rattle.nav_text.specs.Lines.{lines, text_of}
 use Rattle.nav_text.specs.Reading.{Verdict, Goes, Ends}
 use Rattle.nav_text.proofs.ReadingLaws.{EndsAt, read_takes, leads_keep}
+use Rattle.span_text.specs.declared.header.TextForm.{TextForm}
+use Rattle.span_text.specs.declared.header.TextForm.TheVariants.{First, Second}
 use Rattle.span_text.specs.declared.body.BodyLine.{BodyLine}
 use Rattle.span_text.specs.declared.body.BodyLine.TheVariants as said
-use Rattle.span_text.specs.FieldText.{Cost, RiseAbove, with_cost, costs_of, mesh_text, header_lines, cost_text, span_text, IsFieldText}
-use Rattle.span_text.specs.Header.{nav_line, size_line, limited, agent_line, mesh_line}
+use Rattle.span_text.specs.FieldText.{Cost, RiseAbove, with_cost, costs_of, mesh_text, nav_text, clear_lines, header_lines, cost_text, span_text, IsFieldText}
+use Rattle.span_text.specs.Header.{nav_line, size_line, limited, agent_line, mesh_line, clear_line}
 use Rattle.span_text.specs.Body.{body_line}
-use Rattle.span_text.specs.FieldFormat.{Place, AtNav, AtSize, AtTile, AtAgent, AtError, AtMesh, AtLimit, AtBody, Value, plain_setting, lead, set_cost, field_with, body_verdict, BodyVerdict, headed, field_body, field_format, field_of}
-use Rattle.span_text.proofs.HeaderLaws.{nav_takes, IsSize, size_takes, limited_takes, agent_takes, mesh_takes}
+use Rattle.span_text.specs.FieldFormat.{Place, AtNav, AtSize, AtTile, AtAgent, AtError, AtMesh, AtLimit, AtClear, AtBody, Value, plain_setting, after_limit, lead, set_cost, field_with, body_verdict, BodyVerdict, headed, field_body, field_format, field_of}
+use Rattle.span_text.proofs.HeaderLaws.{nav_takes, IsSize, size_takes, limited_takes, agent_takes, mesh_takes, clear_takes}
 use Rattle.span_text.proofs.BodyLineLaws.{IsAfter, last_of, Says, body_says}
 
 -- the area of the last cost line
@@ -36,15 +38,16 @@ last_area before (line ∷ more) = last_area line.area more
 
 -- what the lines before say at a place behind the header
 pub record HasSaid (setting : Setting) (before : ℕ) (spans : List Span) (those : List (List ℕ)) : Type 0 where
+  pub form : TextForm
   pub costs : List Cost
   pub rise : RiseAbove 0 costs
   pub last : before ≡ last_area 0 costs
   pub table : setting.costs ≡ costs_of costs
-  pub clear : setting.clear ≡ false
+  pub clear : form ≡ First → setting.clear ≡ false
   pub limits : IsSetting setting
   pub each : All (IsSpan setting.width setting.depth) spans
   pub order : AllPairs IsSpanBefore spans
-  pub spelled : those ≡ header_lines setting ++ map cost_text costs ++ map span_text spans
+  pub spelled : those ≡ header_lines form setting ++ map cost_text costs ++ map span_text spans
 
 abbrev IsTile : ℕ → Type 0
 IsTile tile = (4 ≤ tile) × (tile ≤ 128)
@@ -52,19 +55,21 @@ IsTile tile = (4 ≤ tile) × (tile ≤ 128)
 -- what the lines before say at each place
 abbrev pub Said : Place → List (List ℕ) → Type 0
 Said AtNav those = those ≡ []
-Said AtSize those = those ≡ codes "nav 1" ∷ []
-Said (AtTile width depth) those = IsSize width depth × (those ≡ codes "nav 1" ∷ line_text (codes "size") (width ∷ depth ∷ []) ∷ [])
-Said (AtAgent width depth tile) those = IsSize width depth × IsTile tile
-    × (those ≡ codes "nav 1" ∷ line_text (codes "size") (width ∷ depth ∷ []) ∷ line_text (codes "tile") (tile ∷ []) ∷ [])
-Said (AtError width depth tile agent) those = IsSize width depth × IsTile tile × IsAgent agent
-    × (those ≡ codes "nav 1" ∷ line_text (codes "size") (width ∷ depth ∷ []) ∷ line_text (codes "tile") (tile ∷ [])
+Said (AtSize form) those = those ≡ nav_text form ∷ []
+Said (AtTile form width depth) those = IsSize width depth × (those ≡ nav_text form ∷ line_text (codes "size") (width ∷ depth ∷ []) ∷ [])
+Said (AtAgent form width depth tile) those = IsSize width depth × IsTile tile
+    × (those ≡ nav_text form ∷ line_text (codes "size") (width ∷ depth ∷ []) ∷ line_text (codes "tile") (tile ∷ []) ∷ [])
+Said (AtError form width depth tile agent) those = IsSize width depth × IsTile tile × IsAgent agent
+    × (those ≡ nav_text form ∷ line_text (codes "size") (width ∷ depth ∷ []) ∷ line_text (codes "tile") (tile ∷ [])
     ∷ line_text (codes "agent") (agent.height ∷ agent.climb ∷ agent.radius ∷ []) ∷ [])
-Said (AtMesh width depth tile agent error) those = IsSize width depth × IsTile tile × IsAgent agent × (error ≤ 10000)
-    × (those ≡ codes "nav 1" ∷ line_text (codes "size") (width ∷ depth ∷ []) ∷ line_text (codes "tile") (tile ∷ [])
+Said (AtMesh form width depth tile agent error) those = IsSize width depth × IsTile tile × IsAgent agent × (error ≤ 10000)
+    × (those ≡ nav_text form ∷ line_text (codes "size") (width ∷ depth ∷ []) ∷ line_text (codes "tile") (tile ∷ [])
     ∷ line_text (codes "agent") (agent.height ∷ agent.climb ∷ agent.radius ∷ []) ∷ line_text (codes "error") (error ∷ []) ∷ [])
-Said (AtLimit width depth tile agent error mesh) those = IsSize width depth × IsTile tile × IsAgent agent × (error ≤ 10000)
-    × (those ≡ codes "nav 1" ∷ line_text (codes "size") (width ∷ depth ∷ []) ∷ line_text (codes "tile") (tile ∷ [])
+Said (AtLimit form width depth tile agent error mesh) those = IsSize width depth × IsTile tile × IsAgent agent × (error ≤ 10000)
+    × (those ≡ nav_text form ∷ line_text (codes "size") (width ∷ depth ∷ []) ∷ line_text (codes "tile") (tile ∷ [])
     ∷ line_text (codes "agent") (agent.height ∷ agent.climb ∷ agent.radius ∷ []) ∷ line_text (codes "error") (error ∷ []) ∷ mesh_text mesh ∷ [])
+Said (AtClear setting) those = IsSetting setting × (setting.costs ≡ costs_of [])
+    × ((clear : Bool) → those ++ clear_lines Second clear ≡ header_lines Second (record setting { clear = clear }))
 Said (AtBody setting before spans) those = (length spans ≤ 2000000) × HasSaid setting before spans those
 
 lead_goes : {A V : Type 0} (told : Result A FaultKind) (next : A → Place) (place : Place) → ◌≡◌ {A = Verdict Place V} (lead told next) (Goes place)
@@ -91,6 +96,23 @@ plain_limits width depth tile agent error mesh limit size is_tile is_agent few l
   areas = refl;
   costs = refl;
   clear = λ no. absurd cc;
+}
+
+clear_limits : (setting : Setting) (clear : Bool) → IsSetting setting → (clear ≡ true → 2 * setting.agent.radius ≤ setting.tile) → IsSetting (record setting { clear = clear })
+clear_limits setting clear limits wide = record {
+  wide = limits.wide;
+  width = limits.width;
+  deep = limits.deep;
+  depth = limits.depth;
+  tile_least = limits.tile_least;
+  tile_most = limits.tile_most;
+  agent = limits.agent;
+  error = limits.error;
+  limit_least = limits.limit_least;
+  limit_most = limits.limit_most;
+  areas = limits.areas;
+  costs = limits.costs;
+  clear = wide;
 }
 
 -- a span before another that is before a third is before the third
@@ -155,6 +177,7 @@ said_cost setting before spans those line area cost has says =
     let added : Cost = record { area = area; cost = cost } in
     let further : last_area 0 has.costs < area = subst (λ n. n < area) has.last says.2 in
     record {
+      form = has.form;
       costs = has.costs ++ added ∷ [];
       rise = rise_push 0 has.costs added has.rise further says.3 says.4 says.5;
       last = sym (last_area_push 0 has.costs added);
@@ -164,8 +187,8 @@ said_cost setting before spans those line area cost has says =
       each = has.each;
       order = has.order;
       spelled = ap (λ l. those ++ l ∷ []) says.1
-          ∙ (with_cost_line (header_lines setting) (map cost_text has.costs) (map span_text spans) those (cost_text added) (no_spans spans says.0) has.spelled
-          ∙ ap (λ c. header_lines setting ++ c ++ map span_text spans) (sym (map_push cost_text has.costs added)));
+          ∙ (with_cost_line (header_lines has.form setting) (map cost_text has.costs) (map span_text spans) those (cost_text added) (no_spans spans says.0) has.spelled
+          ∙ ap (λ c. header_lines has.form setting ++ c ++ map span_text spans) (sym (map_push cost_text has.costs added)));
     }
   where
     no_spans : (spans : List Span) → length spans ≡ 0 → map span_text spans ≡ []
@@ -175,6 +198,7 @@ said_cost setting before spans those line area cost has says =
 said_span : (setting : Setting) (before : ℕ) (spans : List Span) (those : List (List ℕ)) (line : List ℕ) (span : Span) → HasSaid setting before spans those
     → Says setting.width setting.depth before (length spans) (last_of spans) line (said.Spans span) → HasSaid setting before (spans ++ span ∷ []) (those ++ line ∷ [])
 said_span setting before spans those line span has says = record {
+  form = has.form;
   costs = has.costs;
   rise = has.rise;
   last = has.last;
@@ -184,8 +208,8 @@ said_span setting before spans those line span has says = record {
   each = All-push (IsSpan setting.width setting.depth) spans span has.each says.2;
   order = all_pairs_push IsSpanBefore spans span has.order (after_all setting.width setting.depth spans span has.each has.order says.3);
   spelled = ap₂ (λ ls l. ls ++ l ∷ []) has.spelled says.1
-      ∙ (append_assoc (header_lines setting ++ map cost_text has.costs) (map span_text spans) (span_text span ∷ [])
-      ∙ ap (λ s. header_lines setting ++ map cost_text has.costs ++ s) (sym (map_push span_text spans span)));
+      ∙ (append_assoc (header_lines has.form setting ++ map cost_text has.costs) (map span_text spans) (span_text span ∷ [])
+      ∙ ap (λ s. header_lines has.form setting ++ map cost_text has.costs ++ s) (sym (map_push span_text spans span)));
 }
 
 body_goes : (setting : Setting) (before : ℕ) (spans : List Span) (next : Place) (those : List (List ℕ)) (line : List ℕ) → length spans ≤ 2000000 → HasSaid setting before spans those
@@ -203,61 +227,81 @@ body_goes setting before spans next those line few has (said.Fails kind) says e 
 -- the spans that a place has
 abbrev pub spans_at : Place → List Span
 spans_at AtNav = []
-spans_at AtSize = []
-spans_at (AtTile width depth) = []
-spans_at (AtAgent width depth tile) = []
-spans_at (AtError width depth tile agent) = []
-spans_at (AtMesh width depth tile agent error) = []
-spans_at (AtLimit width depth tile agent error mesh) = []
+spans_at (AtSize form) = []
+spans_at (AtTile form width depth) = []
+spans_at (AtAgent form width depth tile) = []
+spans_at (AtError form width depth tile agent) = []
+spans_at (AtMesh form width depth tile agent error) = []
+spans_at (AtLimit form width depth tile agent error mesh) = []
+spans_at (AtClear setting) = []
 spans_at (AtBody setting before spans) = spans
 
--- a right line behind the seven lines of a header leads on to what it says, where the spans before are such
+-- a right line behind those of the setting leads on to what it says, where the spans before are such
 abbrev pub BodyGoes : {V : Type 0} → (List Span → Type 0) → BodyVerdict V → Type 0
 BodyGoes {V} Such body = (setting : Setting) (before : ℕ) (spans : List Span) (next : Place) (those : List (List ℕ)) (line : List ℕ) → Such spans → length spans ≤ 2000000
     → HasSaid setting before spans those → ◌≡◌ {A = Verdict Place V} (body setting before spans line) (Goes next) → Said next (those ++ line ∷ [])
+
+-- the lines of a setting are said, and none behind them
+begun : (form : TextForm) (setting : Setting) (those : List (List ℕ)) → IsSetting setting → setting.costs ≡ costs_of [] → (form ≡ First → setting.clear ≡ false)
+    → those ≡ header_lines form setting → HasSaid setting 0 [] those
+begun form setting those limits table clear spelled = record {
+  form = form;
+  costs = [];
+  rise = tt;
+  last = refl;
+  table = table;
+  clear = clear;
+  limits = limits;
+  each = All-nil (IsSpan setting.width setting.depth);
+  order = λ i j d lt within. absurd (omega arith);
+  spelled = spelled ∙ sym (append-nil (header_lines form setting ++ []) ∙ append-nil (header_lines form setting));
+}
+
+-- the seventh line
+said_limit : (form : TextForm) (setting : Setting) (those : List (List ℕ)) (line : List ℕ) → IsSetting setting → setting.costs ≡ costs_of [] → setting.clear ≡ false
+    → ((clear : Bool) → (those ++ line ∷ []) ++ clear_lines form clear ≡ header_lines form (record setting { clear = clear }))
+    → Said (after_limit form setting) (those ++ line ∷ [])
+said_limit First setting those line limits table plain spelled =
+    (omega arith, begun First setting (those ++ line ∷ []) limits table (λ first. plain) (sym (append-nil (those ++ line ∷ [])) ∙ spelled setting.clear))
+said_limit Second setting those line limits table plain spelled = (limits, table, spelled)
 
 -- a right line leads on to what it says
 pub header_goes : {V : Type 0} (Such : List Span → Type 0) (body : BodyVerdict V) → BodyGoes Such body → (place next : Place) (those : List (List ℕ)) (line : List ℕ)
     → Such (spans_at place) → Said place those → headed body place line ≡ Goes next → Said next (those ++ line ∷ [])
 header_goes Such body behind AtNav next those line such h e =
-    let told = lead_goes (nav_line line) (λ said. AtSize) next e in
+    let told = lead_goes (nav_line line) (λ form. AtSize form) next e in
     subst (λ p. Said p (those ++ line ∷ [])) told.2 (ap₂ (λ ls l. ls ++ l ∷ []) h (nav_takes line told.0 told.1))
-header_goes Such body behind AtSize next those line such h e =
-    let told = lead_goes (size_line line) (λ size. AtTile size.0 size.1) next e in
+header_goes Such body behind (AtSize form) next those line such h e =
+    let told = lead_goes (size_line line) (λ size. AtTile form size.0 size.1) next e in
     let size = size_takes line told.0 told.1 in
     subst (λ p. Said p (those ++ line ∷ [])) told.2 (size.1, ap₂ (λ ls l. ls ++ l ∷ []) h size.0)
-header_goes Such body behind (AtTile width depth) next those line such h e =
-    let told = lead_goes (limited (codes "tile") 4 128 line) (λ tile. AtAgent width depth tile) next e in
+header_goes Such body behind (AtTile form width depth) next those line such h e =
+    let told = lead_goes (limited (codes "tile") 4 128 line) (λ tile. AtAgent form width depth tile) next e in
     let tile = limited_takes (codes "tile") 4 128 line told.0 told.1 in
     subst (λ p. Said p (those ++ line ∷ [])) told.2 (h.0, (tile.1, tile.2), ap₂ (λ ls l. ls ++ l ∷ []) h.1 tile.0)
-header_goes Such body behind (AtAgent width depth tile) next those line such h e =
-    let told = lead_goes (agent_line line) (λ agent. AtError width depth tile agent) next e in
+header_goes Such body behind (AtAgent form width depth tile) next those line such h e =
+    let told = lead_goes (agent_line line) (λ agent. AtError form width depth tile agent) next e in
     let agent = agent_takes line told.0 told.1 in
     subst (λ p. Said p (those ++ line ∷ [])) told.2 (h.0, h.1, agent.1, ap₂ (λ ls l. ls ++ l ∷ []) h.2 agent.0)
-header_goes Such body behind (AtError width depth tile agent) next those line such h e =
-    let told = lead_goes (limited (codes "error") 0 10000 line) (λ error. AtMesh width depth tile agent error) next e in
+header_goes Such body behind (AtError form width depth tile agent) next those line such h e =
+    let told = lead_goes (limited (codes "error") 0 10000 line) (λ error. AtMesh form width depth tile agent error) next e in
     let error = limited_takes (codes "error") 0 10000 line told.0 told.1 in
     subst (λ p. Said p (those ++ line ∷ [])) told.2 (h.0, h.1, h.2, error.2, ap₂ (λ ls l. ls ++ l ∷ []) h.3 error.0)
-header_goes Such body behind (AtMesh width depth tile agent error) next those line such h e =
-    let told = lead_goes (mesh_line line) (λ mesh. AtLimit width depth tile agent error mesh) next e in
+header_goes Such body behind (AtMesh form width depth tile agent error) next those line such h e =
+    let told = lead_goes (mesh_line line) (λ mesh. AtLimit form width depth tile agent error mesh) next e in
     subst (λ p. Said p (those ++ line ∷ [])) told.2 (h.0, h.1, h.2, h.3, ap₂ (λ ls l. ls ++ l ∷ []) h.4 (mesh_takes line told.0 told.1))
-header_goes Such body behind (AtLimit width depth tile agent error mesh) next those line such h e =
-    let told = lead_goes (limited (codes "limit") 1 1024 line) (λ limit. AtBody (plain_setting width depth tile agent error mesh limit) 0 []) next e in
+header_goes Such body behind (AtLimit form width depth tile agent error mesh) next those line such h e =
+    let told = lead_goes (limited (codes "limit") 1 1024 line) (λ limit. after_limit form (plain_setting width depth tile agent error mesh limit)) next e in
     let limit = limited_takes (codes "limit") 1 1024 line told.0 told.1 in
-    subst (λ p. Said p (those ++ line ∷ [])) told.2 (
-      omega arith,
-      record {
-        costs = [];
-        rise = tt;
-        last = refl;
-        table = refl;
-        clear = refl;
-        limits = plain_limits width depth tile agent error mesh told.0 h.0 h.1 h.2 h.3 limit.1 limit.2;
-        each = All-nil (IsSpan width depth);
-        order = λ i j d lt within. absurd (omega arith);
-        spelled = ap₂ (λ ls l. ls ++ l ∷ []) h.4 limit.0;
-      },
-    )
+    let limits = plain_limits width depth tile agent error mesh told.0 h.0 h.1 h.2 h.3 limit.1 limit.2 in
+    subst (λ p. Said p (those ++ line ∷ [])) told.2
+    (said_limit form (plain_setting width depth tile agent error mesh told.0) those line limits refl refl (λ clear. ap₂ (λ ls l. (ls ++ l ∷ []) ++ clear_lines form clear) h.4 limit.0))
+header_goes Such body behind (AtClear setting) next those line such h e =
+    let told = lead_goes (clear_line setting.tile setting.agent.radius line) (λ clear. AtBody (record setting { clear = clear }) 0 []) next e in
+    let clear = clear_takes setting.tile setting.agent.radius line told.0 told.1 in
+    let with_line : those ++ line ∷ [] ≡ those ++ clear_lines Second told.0 = ap (λ l. those ++ l ∷ []) clear.0 in
+    subst (λ p. Said p (those ++ line ∷ [])) told.2
+    (omega arith, begun Second (record setting { clear = told.0 }) (those ++ line ∷ []) (clear_limits setting told.0 h.0 clear.1) h.1 (λ first. absurd cc) (with_line ∙ h.2 told.0))
 header_goes Such body behind (AtBody setting before spans) next those line such h e = behind setting before spans next those line such h.0 h.1 e
 
 field_goes : BodyGoes (λ spans. ⊤) field_body
@@ -286,6 +330,7 @@ whole_body setting before spans those line few has end = (
     order = has.order;
   },
   record {
+    form = has.form;
     costs = has.costs;
     rise = has.rise;
     table = has.table;
@@ -304,7 +349,7 @@ body_ends setting before spans value those line few has said.End says e =
     let is : (setting, field_with setting spans) ≡ value = cc in subst (λ v. IsWhole v (those ++ line ∷ [])) is (whole_body setting before spans those line few has says)
 body_ends setting before spans value those line few has (said.Fails kind) says e = absurd cc
 
--- a text ends behind the seven lines of its header
+-- a text ends behind the lines of its setting
 pub record EndsBehind {V : Type 0} (body : BodyVerdict V) (place : Place) (value : V) (line : List ℕ) : Type 0 where
   pub setting : Setting
   pub before : ℕ
@@ -313,15 +358,17 @@ pub record EndsBehind {V : Type 0} (body : BodyVerdict V) (place : Place) (value
   pub ends : body setting before spans line ≡ Ends value
 
 pub ends_behind : {V : Type 0} (body : BodyVerdict V) (place : Place) (value : V) (line : List ℕ) → headed body place line ≡ Ends value → EndsBehind body place value line
-ends_behind body AtNav value line e = absurd (lead_never_ends (nav_line line) (λ said. AtSize) value e)
-ends_behind body AtSize value line e = absurd (lead_never_ends (size_line line) (λ size. AtTile size.0 size.1) value e)
-ends_behind body (AtTile width depth) value line e = absurd (lead_never_ends (limited (codes "tile") 4 128 line) (λ tile. AtAgent width depth tile) value e)
-ends_behind body (AtAgent width depth tile) value line e = absurd (lead_never_ends (agent_line line) (λ agent. AtError width depth tile agent) value e)
-ends_behind body (AtError width depth tile agent) value line e =
-    absurd (lead_never_ends (limited (codes "error") 0 10000 line) (λ error. AtMesh width depth tile agent error) value e)
-ends_behind body (AtMesh width depth tile agent error) value line e = absurd (lead_never_ends (mesh_line line) (λ mesh. AtLimit width depth tile agent error mesh) value e)
-ends_behind body (AtLimit width depth tile agent error mesh) value line e =
-    absurd (lead_never_ends (limited (codes "limit") 1 1024 line) (λ limit. AtBody (plain_setting width depth tile agent error mesh limit) 0 []) value e)
+ends_behind body AtNav value line e = absurd (lead_never_ends (nav_line line) (λ form. AtSize form) value e)
+ends_behind body (AtSize form) value line e = absurd (lead_never_ends (size_line line) (λ size. AtTile form size.0 size.1) value e)
+ends_behind body (AtTile form width depth) value line e = absurd (lead_never_ends (limited (codes "tile") 4 128 line) (λ tile. AtAgent form width depth tile) value e)
+ends_behind body (AtAgent form width depth tile) value line e = absurd (lead_never_ends (agent_line line) (λ agent. AtError form width depth tile agent) value e)
+ends_behind body (AtError form width depth tile agent) value line e =
+    absurd (lead_never_ends (limited (codes "error") 0 10000 line) (λ error. AtMesh form width depth tile agent error) value e)
+ends_behind body (AtMesh form width depth tile agent error) value line e = absurd (lead_never_ends (mesh_line line) (λ mesh. AtLimit form width depth tile agent error mesh) value e)
+ends_behind body (AtLimit form width depth tile agent error mesh) value line e =
+    absurd (lead_never_ends (limited (codes "limit") 1 1024 line) (λ limit. after_limit form (plain_setting width depth tile agent error mesh limit)) value e)
+ends_behind body (AtClear setting) value line e =
+    absurd (lead_never_ends (clear_line setting.tile setting.agent.radius line) (λ clear. AtBody (record setting { clear = clear }) 0 []) value e)
 ends_behind body (AtBody setting before spans) value line e = record { setting = setting; before = before; spans = spans; at = refl; ends = e }
 
 place_ends : (place : Place) (value : Value) (those : List (List ℕ)) (line : List ℕ) → Said place those → headed field_body place line ≡ Ends value → IsWhole value (those ++ line ∷ [])

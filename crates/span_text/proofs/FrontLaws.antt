@@ -22,17 +22,19 @@ use Rattle.span_text.specs.declared.body.BodyLine.TheVariants.{Cost, Spans, End,
 use Rattle.span_text.specs.declared.front.HeaderText.{HeaderText}
 use Rattle.span_text.specs.declared.field.FieldRefusal.{FieldRefusal}
 use Rattle.span_text.specs.declared.field.FieldRefusal.TheVariants as refusals
+use Rattle.span_text.specs.declared.header.TextForm.{TextForm}
+use Rattle.span_text.specs.declared.header.TextForm.TheVariants.{First, Second}
 use Rattle.span_text.specs.FieldText as said
-use Rattle.span_text.specs.FieldText.{RiseAbove, costs_of, header_lines, cost_text, span_text, all_header_lines, IsHeaderText, GoesOn}
-use Rattle.span_text.specs.Header.{nav_line, size_line, limited, agent_line, mesh_line}
+use Rattle.span_text.specs.FieldText.{RiseAbove, header_lines, cost_text, span_text, all_header_lines, IsHeaderText, GoesOn}
+use Rattle.span_text.specs.Header.{nav_line, size_line, limited, agent_line, mesh_line, clear_line}
 use Rattle.span_text.specs.Body.{header_line}
-use Rattle.span_text.specs.FieldFormat.{Place, AtNav, AtSize, AtTile, AtAgent, AtError, AtMesh, AtLimit, AtBody, plain_setting, lead, set_cost, headed, costs_verdict, header_body, header_format, header_of}
+use Rattle.span_text.specs.FieldFormat.{Place, AtNav, AtSize, AtTile, AtAgent, AtError, AtMesh, AtLimit, AtClear, AtBody, plain_setting, after_limit, lead, set_cost, headed, costs_verdict, header_body, header_format, header_of}
 use Rattle.span_text.specs.Outcome.{IsHeaderRead, GivesHeader}
 use Rattle.span_text.proofs.BodyLineLaws.{HeaderSays, header_says, header_cost_again, header_end_again}
 use Rattle.span_text.proofs.FoundLaws.{HasSaid, Said, said_cost, last_area, spans_at, BodyGoes, header_goes, ends_behind}
 use Rattle.span_text.proofs.OnlyLaws.{said_by, after_costs, header_leads, header_plain, costs_plain, same_setting}
 
--- a line behind the seven lines leads on to what it says
+-- a line behind those of the setting leads on to what it says
 costs_go : (setting : Setting) (before : ℕ) (spans : List Span) (next : Place) (those : List (List ℕ)) (line : List ℕ) → spans ≡ [] → HasSaid setting before spans those
     → (told : BodyLine) → HeaderSays before line told → costs_verdict setting before spans told ≡ Goes next → Said next (those ++ line ∷ [])
 costs_go setting before spans next those line none has (Cost area cost) says e =
@@ -58,16 +60,22 @@ lead_spans : {A : Type 0} (told : Result A FaultKind) (on : A → Place) (next :
 lead_spans (Ok x) on next none e = let to : on x ≡ next = cc in subst (λ p. spans_at p ≡ []) to (none x)
 lead_spans (Err kind) on next none e = absurd cc
 
+none_behind : (form : TextForm) (setting : Setting) → spans_at (after_limit form setting) ≡ []
+none_behind First setting = refl
+none_behind Second setting = refl
+
 no_spans : (place next : Place) (line : List ℕ) → spans_at place ≡ [] → headed header_body place line ≡ Goes next → spans_at next ≡ []
-no_spans AtNav next line none e = lead_spans (nav_line line) (λ said. AtSize) next (λ x. refl) e
-no_spans AtSize next line none e = lead_spans (size_line line) (λ size. AtTile size.0 size.1) next (λ x. refl) e
-no_spans (AtTile width depth) next line none e = lead_spans (limited (codes "tile") 4 128 line) (λ tile. AtAgent width depth tile) next (λ x. refl) e
-no_spans (AtAgent width depth tile) next line none e = lead_spans (agent_line line) (λ agent. AtError width depth tile agent) next (λ x. refl) e
-no_spans (AtError width depth tile agent) next line none e =
-    lead_spans (limited (codes "error") 0 10000 line) (λ error. AtMesh width depth tile agent error) next (λ x. refl) e
-no_spans (AtMesh width depth tile agent error) next line none e = lead_spans (mesh_line line) (λ mesh. AtLimit width depth tile agent error mesh) next (λ x. refl) e
-no_spans (AtLimit width depth tile agent error mesh) next line none e =
-    lead_spans (limited (codes "limit") 1 1024 line) (λ limit. AtBody (plain_setting width depth tile agent error mesh limit) 0 []) next (λ x. refl) e
+no_spans AtNav next line none e = lead_spans (nav_line line) (λ form. AtSize form) next (λ x. refl) e
+no_spans (AtSize form) next line none e = lead_spans (size_line line) (λ size. AtTile form size.0 size.1) next (λ x. refl) e
+no_spans (AtTile form width depth) next line none e = lead_spans (limited (codes "tile") 4 128 line) (λ tile. AtAgent form width depth tile) next (λ x. refl) e
+no_spans (AtAgent form width depth tile) next line none e = lead_spans (agent_line line) (λ agent. AtError form width depth tile agent) next (λ x. refl) e
+no_spans (AtError form width depth tile agent) next line none e =
+    lead_spans (limited (codes "error") 0 10000 line) (λ error. AtMesh form width depth tile agent error) next (λ x. refl) e
+no_spans (AtMesh form width depth tile agent error) next line none e = lead_spans (mesh_line line) (λ mesh. AtLimit form width depth tile agent error mesh) next (λ x. refl) e
+no_spans (AtLimit form width depth tile agent error mesh) next line none e =
+    lead_spans (limited (codes "limit") 1 1024 line) (λ limit. after_limit form (plain_setting width depth tile agent error mesh limit)) next (λ x. none_behind form (plain_setting width depth tile agent error mesh x)) e
+no_spans (AtClear setting) next line none e =
+    lead_spans (clear_line setting.tile setting.agent.radius line) (λ clear. AtBody (record setting { clear = clear }) 0 []) next (λ x. refl) e
 no_spans (AtBody setting before spans) next line none e = costs_spans setting before spans next (header_line before line) e ∙ none
 
 abbrev Kept : Place → List (List ℕ) → Type 0
@@ -87,11 +95,12 @@ costs_end setting value before spans (Fails kind) e = absurd cc
 -- a text that was said is that of a header
 said_header : (setting : Setting) (before : ℕ) (spans : List Span) (those : List (List ℕ)) → spans ≡ [] → HasSaid setting before spans those → IsHeaderText (text_of those) setting
 said_header setting before spans those none has = record {
+  form = has.form;
   costs = has.costs;
   rise = has.rise;
   table = has.table;
   clear = has.clear;
-  spelled = ap text_of (has.spelled ∙ (ap (λ s. header_lines setting ++ map cost_text has.costs ++ map span_text s) none ∙ append-nil (header_lines setting ++ map cost_text has.costs)));
+  spelled = ap text_of (has.spelled ∙ (ap (λ s. header_lines has.form setting ++ map cost_text has.costs ++ map span_text s) none ∙ append-nil (header_lines has.form setting ++ map cost_text has.costs)));
 }
 
 -- What is read as a header is within its limits, and the lines before the one that ended it spell it.
@@ -130,38 +139,38 @@ costs_lead setting before (line ∷ more) rise = (
 
 -- The lines of a header are those of its text.
 lines_head : (bytes text rest : List ℕ) (setting : Setting) → IsSetting setting → (spelling : IsHeaderText text setting) → bytes ≡ text ++ rest
-    → lines bytes ≡ all_header_lines setting spelling.costs ++ lines rest
+    → lines bytes ≡ all_header_lines spelling.form setting spelling.costs ++ lines rest
 lines_head bytes text rest setting limits spelling parts =
-    let all = all_header_lines setting spelling.costs in
-    let plain : list_all is_line all ≡ true = list_all-append is_line (header_lines setting) (map cost_text spelling.costs)
-    ∙ and_from _ _ (header_plain setting limits) (costs_plain 0 spelling.costs spelling.rise) in
+    let all = all_header_lines spelling.form setting spelling.costs in
+    let plain : list_all is_line all ≡ true = list_all-append is_line (header_lines spelling.form setting) (map cost_text spelling.costs)
+    ∙ and_from _ _ (header_plain spelling.form setting limits) (costs_plain 0 spelling.costs spelling.rise) in
     ap lines (parts ∙ ap (λ t. t ++ rest) spelling.spelled) ∙ lines_again all rest plain
 
 -- The text of a header, behind which another line follows, is read as this.
 header_again : (bytes text rest : List ℕ) (setting : Setting) → IsSetting setting → (spelling : IsHeaderText text setting) → GoesOn rest → bytes ≡ text ++ rest
-    → header_of bytes ≡ Ok (setting, length (all_header_lines setting spelling.costs) + 1)
+    → header_of bytes ≡ Ok (setting, length (all_header_lines spelling.form setting spelling.costs) + 1)
 unfolding read
 header_again bytes text rest setting limits spelling on parts =
-    let header = header_lines setting in
+    let header = header_lines spelling.form setting in
     let costs = map cost_text spelling.costs in
     let said = after_costs (said_by setting) spelling.costs in
     let before = last_area 0 spelling.costs in
     let all : lines bytes ≡ header ++ (costs ++ lines rest) = lines_head bytes text rest setting limits spelling parts ∙ append_assoc header costs (lines rest) in
     let long : 0 + length header + length costs ≡ length (header ++ costs) = let sum = length-append header costs in omega (arith, sum) in
     ap (read header_format AtNav 0) all
-    ∙ (leads_read header_format AtNav 0 header (costs ++ lines rest) (AtBody (said_by setting) 0 []) (header_leads header_body setting limits)
+    ∙ (leads_read header_format AtNav 0 header (costs ++ lines rest) (AtBody (said_by setting) 0 []) (header_leads header_body spelling.form setting limits spelling.clear)
     ∙ (leads_read header_format (AtBody (said_by setting) 0 []) (0 + length header) costs (lines rest) (AtBody said before []) (costs_lead (said_by setting) 0 spelling.costs spelling.rise)
     ∙ (ap (read header_format (AtBody said before []) (0 + length header + length costs)) on.those
     ∙ (ap (λ b. read_on (costs_verdict said before [] b) (0 + length header + length costs) (λ next. read header_format next (0 + length header + length costs + 1) on.more))
     (header_end_again before on.line on.other)
-    ∙ ap₂ (λ s k. Ok (s, k + 1)) (same_setting setting spelling.costs spelling.table spelling.clear) long))))
+    ∙ ap₂ (λ s k. Ok (s, k + 1)) (same_setting setting spelling.costs spelling.table) long))))
 
--- reading has come to a line behind the seven lines: `count` lines are read, and reading goes on with the rest
+-- reading has come to a line behind those of the setting: `count` lines are read, and reading goes on with the rest
 pub record HasCosts (bytes rest : List ℕ) (setting : Setting) (before : ℕ) (count : ℕ) : Type 0 where
   pub past : IsPast bytes rest count
   pub reads : header_of bytes ≡ read header_format (AtBody setting before []) count (lines rest)
   pub area : before ≤ 63
-  pub counted : count ≤ 7 + before
+  pub counted : count ≤ 8 + before
 
 next_line : (bytes rest : List ℕ) (setting : Setting) (before count : ℕ) (line after : List ℕ) (told : BodyLine) → HasCosts bytes rest setting before count
     → lines rest ≡ line ∷ lines after → header_line before line ≡ told
@@ -175,7 +184,7 @@ pub HasCosts_more : (bytes rest : List ℕ) (setting : Setting) (before count : 
     → lines rest ≡ line ∷ lines after → rest ≡ line ++ 10 ∷ after → header_line before line ≡ Cost area cost → before < area → area ≤ 63
     → HasCosts bytes after (set_cost setting area cost) area (count + 1)
 HasCosts_more bytes rest setting before count line after area cost has those spelled is further most =
-    let counted : count ≤ 7 + before = has.counted in record {
+    let counted : count ≤ 8 + before = has.counted in record {
       past = IsPast_next bytes rest count line after has.past those spelled;
       reads = next_line bytes rest setting before count line after (Cost area cost) has those is;
       area = most;
@@ -245,14 +254,14 @@ pub head_on : (bytes : List ℕ) (result : Result HeaderText FieldRefusal) → I
 head_on bytes (Ok header) told = told.3
 head_on bytes (Err refusal) told = tt
 
-pub head_few : (bytes : List ℕ) (result : Result HeaderText FieldRefusal) → IsHeaderRead bytes result → IfOk result (λ header. header.lines ≤ 70)
+pub head_few : (bytes : List ℕ) (result : Result HeaderText FieldRefusal) → IsHeaderRead bytes result → IfOk result (λ header. header.lines ≤ 71)
 head_few bytes (Ok header) told = told.4
 head_few bytes (Err refusal) told = tt
 
 pub head_only : (bytes : List ℕ) (result : Result HeaderText FieldRefusal) → IsHeaderRead bytes result → (setting : Setting) (text rest : List ℕ) → IsSetting setting
     → IsHeaderText text setting → GoesOn rest → bytes ≡ text ++ rest → GivesHeader setting (length text) result
 head_only bytes (Ok header) told setting text rest limits spelling on parts =
-    let all = all_header_lines setting spelling.costs in
+    let all = all_header_lines spelling.form setting spelling.costs in
     let same = ok_is (sym told.0 ∙ header_again bytes text rest setting limits spelling on parts) in
     let count : header.lines + 1 ≡ length all + 1 = ap (λ p. p.1) same in
     let lined : header.lines ≡ length all = omega (arith, count) in
@@ -264,7 +273,7 @@ head_only bytes (Ok header) told setting text rest limits spelling on parts =
     )
 head_only bytes (Err (refusals.Fault fault)) told setting text rest limits spelling on parts =
     let again = header_again bytes text rest setting limits spelling on parts in
-    let both : ◌≡◌ {A = Result (Setting × ℕ) TextFault} (Err fault) (Ok (setting, length (all_header_lines setting spelling.costs) + 1)) = sym told ∙ again in
+    let both : ◌≡◌ {A = Result (Setting × ℕ) TextFault} (Err fault) (Ok (setting, length (all_header_lines spelling.form setting spelling.costs) + 1)) = sym told ∙ again in
     absurd cc
 head_only bytes (Err refusals.OutOfMemory) told setting text rest limits spelling on parts = absurd told
 

@@ -1,6 +1,6 @@
 -- The laws of the header's lines: what is read is spelled so, and what is spelled so is read.
-use Rattle.std.proofs.Common.{⊎_elim, inl, inr, ◌⊎◌, ◌≡◌, ℕ, ◌<◌, ◌≤◌, ◌^◌, Bool, true, false, cond, not, ◌||◌, nat_lt, nat_le, bytes_eq, List, [], ◌∷◌, slice_index, codes, Option, Some, None, Result, Ok, Err, refl, ap, ap₂, ◌∙◌, subst, arith}
-use Rattle.std.proofs.lemmas.Bool.{or_parts}
+use Rattle.std.proofs.Common.{zero, suc, ⊎_elim, inl, inr, ◌⊎◌, ◌≡◌, ℕ, ◌<◌, ◌≤◌, ◌*◌, ◌^◌, Bool, true, false, cond, not, ◌||◌, ◌&&◌, ◌==◌, nat_lt, nat_le, bytes_eq, List, [], ◌∷◌, slice_index, codes, Option, Some, None, Result, Ok, Err, refl, ap, ap₂, ◌∙◌, subst, arith}
+use Rattle.std.proofs.lemmas.Bool.{or_parts, ltb-false}
 use Rattle.std.proofs.lemmas.Bool.Decides.{nat_tests}
 use Rattle.std.proofs.lemmas.Slice.Eq.{bytes_eq-Decides}
 use Rattle.nav_ground.specs.declared.setting.Agent.{Agent}
@@ -12,8 +12,10 @@ use Rattle.nav_text.specs.declared.fault.FaultKind.TheVariants.{Form, Range, Cli
 use Rattle.nav_text.specs.Forms.{line_text, numbers_of}
 use Rattle.nav_text.proofs.FormLaws.{numbers_take, numbers_again}
 use Rattle.nav_text.proofs.Inversions.{ok_is, unless, one_is, two_is, three_is}
-use Rattle.span_text.specs.FieldText.{mesh_text}
-use Rattle.span_text.specs.Header.{is_in, nav_line, size_in, size_line, number_in, limited, agent_with, agent_in, agent_line, mesh_line}
+use Rattle.span_text.specs.declared.header.TextForm.{TextForm}
+use Rattle.span_text.specs.declared.header.TextForm.TheVariants.{First, Second}
+use Rattle.span_text.specs.FieldText.{mesh_text, nav_text}
+use Rattle.span_text.specs.Header.{is_in, nav_line, size_in, size_line, number_in, limited, agent_with, agent_in, agent_line, mesh_line, clear_in, clear_line}
 
 in_range : (low high n : ℕ) → not (is_in low high n) ≡ false → (low ≤ n) × (n ≤ high)
 in_range low high n h = grind (arith, nat_tests)
@@ -21,13 +23,30 @@ in_range low high n h = grind (arith, nat_tests)
 range_in : (low high n : ℕ) → low ≤ n → n ≤ high → not (is_in low high n) ≡ false
 range_in low high n least most = grind (arith, nat_tests)
 
--- `nav 1`
-pub nav_takes : (line : List ℕ) (said : Unit {0}) → nav_line line ≡ Ok said → line ≡ codes "nav 1"
-nav_takes line said e = (bytes_eq-Decides line (codes "nav 1")).0 (is_ok_when (bytes_eq line (codes "nav 1")) said e)
+-- a line that spells one of two values
+either_takes : {A : Type 0} (text : A → List ℕ) (first second value : A) (line : List ℕ)
+    → ◌≡◌ {A = Result A FaultKind} (cond (bytes_eq line (text first)) (Ok first) (cond (bytes_eq line (text second)) (Ok second) (Err Form))) (Ok value) → line ≡ text value
+either_takes {A} text first second value line e =
+    ⊎_elim
+    (λ one. (bytes_eq-Decides line (text first)).0 one.0 ∙ ap text one.1)
+    (λ two. (bytes_eq-Decides line (text second)).0 two.0 ∙ ap text two.1)
+    (by_tests (bytes_eq line (text first)) (bytes_eq line (text second)) e)
   where
-    is_ok_when : (b : Bool) (said : Unit {0}) → ◌≡◌ {A = Result (Unit {0}) FaultKind} (cond b (Ok tt) (Err Form)) (Ok said) → b ≡ true
-    is_ok_when true said e = refl
-    is_ok_when false said e = absurd cc
+    by_tests : (one two : Bool) → ◌≡◌ {A = Result A FaultKind} (cond one (Ok first) (cond two (Ok second) (Err Form))) (Ok value)
+        → ((one ≡ true) × (first ≡ value)) ⊎ ((two ≡ true) × (second ≡ value))
+    by_tests true two e = inl (refl, ok_is e)
+    by_tests false true e = inr (refl, ok_is e)
+    by_tests false false e = absurd cc
+
+-- `nav`
+pub nav_takes : (line : List ℕ) (form : TextForm) → nav_line line ≡ Ok form → line ≡ nav_text form
+unfolding nav_line
+nav_takes line form e = either_takes nav_text First Second form line e
+
+pub nav_again : (form : TextForm) → nav_line (nav_text form) ≡ Ok form
+unfolding nav_line
+nav_again First = refl
+nav_again Second = refl
 
 -- `size`
 pub record IsSize (width depth : ℕ) : Type 0 where
@@ -128,19 +147,47 @@ agent_again agent h =
 -- `mesh`
 pub mesh_takes : (line : List ℕ) (mesh : MeshKind) → mesh_line line ≡ Ok mesh → line ≡ mesh_text mesh
 unfolding mesh_line
-mesh_takes line mesh e =
-    ⊎_elim
-    (λ strips. (bytes_eq-Decides line (codes "mesh strips")).0 strips.0 ∙ ap mesh_text strips.1)
-    (λ contours. (bytes_eq-Decides line (codes "mesh contours")).0 contours.0 ∙ ap mesh_text contours.1)
-    (by_tests (bytes_eq line (codes "mesh strips")) (bytes_eq line (codes "mesh contours")) mesh e)
-  where
-    by_tests : (strips contours : Bool) (mesh : MeshKind) → ◌≡◌ {A = Result MeshKind FaultKind} (cond strips (Ok Strips) (cond contours (Ok Contours) (Err Form))) (Ok mesh)
-        → ((strips ≡ true) × (Strips ≡ mesh)) ⊎ ((contours ≡ true) × (Contours ≡ mesh))
-    by_tests true contours mesh e = inl (refl, ok_is e)
-    by_tests false true mesh e = inr (refl, ok_is e)
-    by_tests false false mesh e = absurd cc
+mesh_takes line mesh e = either_takes mesh_text Strips Contours mesh line e
 
 pub mesh_again : (mesh : MeshKind) → mesh_line (mesh_text mesh) ≡ Ok mesh
 unfolding mesh_line
 mesh_again Strips = refl
 mesh_again Contours = refl
+
+-- `clear`
+pub clear_takes : (tile radius : ℕ) (line : List ℕ) (clear : Bool) → clear_line tile radius line ≡ Ok clear
+    → (line ≡ line_text (codes "clear") (cond clear 1 0 ∷ [])) × (clear ≡ true → 2 * radius ≤ tile)
+unfolding clear_line
+clear_takes tile radius line clear e = of_numbers (numbers_of (codes "clear") 1 line) refl e
+  where
+    bit : (n : ℕ) → nat_lt 1 n ≡ false → n ≡ cond (n == 1) 1 0
+    bit zero most = refl
+    bit (suc zero) most = refl
+    bit (suc (suc n)) most = let few = ltb-false 1 (suc (suc n)) most in absurd (omega (arith, few))
+
+    wide_enough : (n : ℕ) → (n == 1 && nat_lt tile (2 * radius)) ≡ false → n == 1 ≡ true → 2 * radius ≤ tile
+    wide_enough n wide one = grind (arith, nat_tests)
+
+    of_numbers : (numbers : Option (List ℕ)) → numbers_of (codes "clear") 1 line ≡ numbers → clear_in tile radius numbers ≡ Ok clear
+        → (line ≡ line_text (codes "clear") (cond clear 1 0 ∷ [])) × (clear ≡ true → 2 * radius ≤ tile)
+    of_numbers None is h = absurd cc
+    of_numbers (Some numbers) is h =
+        let n = slice_index numbers 0 in
+        let form = numbers_take (codes "clear") 1 line numbers is in
+        let told = unless (nat_lt 1 n || n == 1 && nat_lt tile (2 * radius)) Range (Ok (n == 1)) clear h in
+        let tests = or_parts _ _ told.0 in
+        let P : Bool → Type 0 = λ c. (line ≡ line_text (codes "clear") (cond c 1 0 ∷ [])) × (c ≡ true → 2 * radius ≤ tile) in
+        subst P (ok_is told.1) (
+          form.0 ∙ ap (line_text (codes "clear")) (one_is numbers form.1 ∙ ap (λ k. k ∷ []) (bit n tests.0)),
+          wide_enough n tests.1,
+        )
+
+pub clear_again : (tile radius : ℕ) (clear : Bool) → (clear ≡ true → 2 * radius ≤ tile) → clear_line tile radius (line_text (codes "clear") (cond clear 1 0 ∷ [])) ≡ Ok clear
+unfolding clear_line
+clear_again tile radius false wide = ap (clear_in tile radius) (numbers_again (codes "clear") (0 ∷ []) (omega arith, tt))
+clear_again tile radius true wide =
+    let most : 2 * radius ≤ tile = wide refl in
+    ap (clear_in tile radius) (numbers_again (codes "clear") (1 ∷ []) (omega arith, tt)) ∙ ap (λ b. cond b (Err Range) (Ok true)) (fits most)
+  where
+    fits : 2 * radius ≤ tile → nat_lt tile (2 * radius) ≡ false
+    fits most = grind (arith, nat_tests)

@@ -1,5 +1,5 @@
 -- What is spelled as a field text is read so.
-use Rattle.std.proofs.Common.{suc, ◌≡◌, ℕ, ◌+◌, ◌-◌, ◌<◌, ◌≤◌, true, false, List, [], ◌∷◌, ◌++◌, length, drop, slice_get, map, fold, codes, Option, Some, None, Ok, All, AllPairs, sym, subst₂, refl, ap, ap₂, ◌∙◌, subst, arith, append_assoc, append-nil, length-append}
+use Rattle.std.proofs.Common.{suc, ◌≡◌, ℕ, ◌+◌, ◌-◌, ◌<◌, ◌≤◌, Bool, true, false, List, [], ◌∷◌, ◌++◌, length, drop, slice_get, map, fold, codes, Option, Some, None, Ok, All, AllPairs, sym, subst₂, refl, ap, ap₂, ◌∙◌, subst, arith, append_assoc, append-nil, length-append}
 use Rattle.std.specs.Prelude.{⊤}
 use Rattle.std.specs.List.{list_all}
 use Rattle.std.proofs.lemmas.Bool.{and_from}
@@ -19,46 +19,61 @@ use Rattle.nav_text.specs.Reading.{Leads, read, read_on}
 use Rattle.nav_text.proofs.LineLaws.{lines_again}
 use Rattle.nav_text.proofs.FormLaws.{is_line-line_text}
 use Rattle.nav_text.proofs.ReadingLaws.{leads_read}
-use Rattle.span_text.specs.FieldText.{Cost, RiseAbove, with_cost, costs_of, mesh_text, header_lines, cost_text, span_text, field_lines, IsFieldText}
-use Rattle.span_text.specs.FieldFormat.{AtNav, AtSize, AtTile, AtAgent, AtError, AtMesh, AtLimit, AtBody, plain_setting, lead, set_cost, field_with, BodyVerdict, body_verdict, headed_format, field_body, field_format, field_of}
-use Rattle.span_text.proofs.HeaderLaws.{size_again, limited_again, agent_again, mesh_again}
+use Rattle.span_text.specs.declared.header.TextForm.{TextForm}
+use Rattle.span_text.specs.declared.header.TextForm.TheVariants.{First, Second}
+use Rattle.span_text.specs.FieldText.{Cost, RiseAbove, with_cost, costs_of, mesh_text, nav_text, clear_lines, header_lines, cost_text, span_text, field_lines, IsFieldText}
+use Rattle.span_text.specs.FieldFormat.{AtNav, AtSize, AtTile, AtAgent, AtError, AtMesh, AtLimit, AtBody, plain_setting, after_limit, lead, set_cost, field_with, BodyVerdict, body_verdict, headed_format, field_body, field_format, field_of}
+use Rattle.span_text.proofs.HeaderLaws.{nav_again, size_again, limited_again, agent_again, mesh_again, clear_again}
 use Rattle.span_text.proofs.BodyLineLaws.{IsAfter, last_of, end_again, cost_again, span_again}
 use Rattle.span_text.proofs.FoundLaws.{last_area}
 
--- the setting that a header says
-abbrev pub said_by : Setting → Setting
-said_by setting = plain_setting setting.width setting.depth setting.tile setting.agent setting.error setting.mesh setting.limit
+-- the setting that seven lines say, and that a header says
+abbrev plain_of : Setting → Setting
+plain_of setting = plain_setting setting.width setting.depth setting.tile setting.agent setting.error setting.mesh setting.limit
 
-pub header_leads : {V : Type 0} (body : BodyVerdict V) (setting : Setting) → IsSetting setting
-    → Leads (headed_format body) AtNav (header_lines setting) (AtBody (said_by setting) 0 [])
-header_leads body setting h =
+abbrev pub said_by : Setting → Setting
+said_by setting = record (plain_of setting) { clear = setting.clear }
+
+clear_leads : {V : Type 0} (body : BodyVerdict V) (form : TextForm) (setting : Setting) → IsSetting setting → (form ≡ First → setting.clear ≡ false)
+    → Leads (headed_format body) (after_limit form (plain_of setting)) (clear_lines form setting.clear) (AtBody (said_by setting) 0 [])
+clear_leads body First setting h none = ap (λ c. AtBody (record (plain_of setting) { clear = c }) 0 []) (sym (none refl))
+clear_leads body Second setting h none = (
+  AtBody (said_by setting) 0 [],
+  ap (λ r. lead r (λ clear. AtBody (record (plain_of setting) { clear = clear }) 0 [])) (clear_again setting.tile setting.agent.radius setting.clear h.clear),
+  refl,
+)
+
+pub header_leads : {V : Type 0} (body : BodyVerdict V) (form : TextForm) (setting : Setting) → IsSetting setting → (form ≡ First → setting.clear ≡ false)
+    → Leads (headed_format body) AtNav (header_lines form setting) (AtBody (said_by setting) 0 [])
+header_leads body form setting h none =
     let w = setting.width in
     let d = setting.depth in
     let t = setting.tile in
     let a = setting.agent in
     let e = setting.error in
     let m = setting.mesh in (
-      AtSize,
-      refl,
+      AtSize form,
+      ap (λ r. lead r (λ f. AtSize f)) (nav_again form),
       (
-        AtTile w d,
-        ap (λ r. lead r (λ size. AtTile size.0 size.1)) (size_again w d (record { wide = h.wide; width_most = h.width; deep = h.deep; depth_most = h.depth })),
+        AtTile form w d,
+        ap (λ r. lead r (λ size. AtTile form size.0 size.1)) (size_again w d (record { wide = h.wide; width_most = h.width; deep = h.deep; depth_most = h.depth })),
         (
-          AtAgent w d t,
-          ap (λ r. lead r (λ tile. AtAgent w d tile)) (limited_again (codes "tile") 4 128 t h.tile_least h.tile_most (omega arith)),
+          AtAgent form w d t,
+          ap (λ r. lead r (λ tile. AtAgent form w d tile)) (limited_again (codes "tile") 4 128 t h.tile_least h.tile_most (omega arith)),
           (
-            AtError w d t a,
-            ap (λ r. lead r (λ agent. AtError w d t agent)) (agent_again a h.agent),
+            AtError form w d t a,
+            ap (λ r. lead r (λ agent. AtError form w d t agent)) (agent_again a h.agent),
             (
-              AtMesh w d t a e,
-              ap (λ r. lead r (λ error. AtMesh w d t a error)) (limited_again (codes "error") 0 10000 e (omega arith) h.error (omega arith)),
+              AtMesh form w d t a e,
+              ap (λ r. lead r (λ error. AtMesh form w d t a error)) (limited_again (codes "error") 0 10000 e (omega arith) h.error (omega arith)),
               (
-                AtLimit w d t a e m,
-                ap (λ r. lead r (λ mesh. AtLimit w d t a e mesh)) (mesh_again m),
+                AtLimit form w d t a e m,
+                ap (λ r. lead r (λ mesh. AtLimit form w d t a e mesh)) (mesh_again m),
                 (
-                  AtBody (said_by setting) 0 [],
-                  ap (λ r. lead r (λ limit. AtBody (plain_setting w d t a e m limit) 0 [])) (limited_again (codes "limit") 1 1024 setting.limit h.limit_least h.limit_most (omega arith)),
-                  refl,
+                  after_limit form (plain_of setting),
+                  ap (λ r. lead r (λ limit. after_limit form (plain_setting w d t a e m limit)))
+                      (limited_again (codes "limit") 1 1024 setting.limit h.limit_least h.limit_most (omega arith)),
+                  clear_leads body form setting h none,
                 ),
               ),
             ),
@@ -124,9 +139,18 @@ plain_mesh : (mesh : MeshKind) → is_line (mesh_text mesh) ≡ true
 plain_mesh Strips = refl
 plain_mesh Contours = refl
 
-pub header_plain : (setting : Setting) → IsSetting setting → list_all is_line (header_lines setting) ≡ true
-header_plain setting h =
-    let all = header_lines setting in
+plain_nav : (form : TextForm) → is_line (nav_text form) ≡ true
+plain_nav First = refl
+plain_nav Second = refl
+
+plain_clear : (form : TextForm) (clear : Bool) → list_all is_line (clear_lines form clear) ≡ true
+plain_clear First clear = refl
+plain_clear Second true = plain_cons (line_text (codes "clear") (1 ∷ [])) [] (is_line-line_text (codes "clear") (1 ∷ []) refl (omega arith, tt)) refl
+plain_clear Second false = plain_cons (line_text (codes "clear") (0 ∷ [])) [] (is_line-line_text (codes "clear") (0 ∷ []) refl (omega arith, tt)) refl
+
+pub header_plain : (form : TextForm) (setting : Setting) → IsSetting setting → list_all is_line (header_lines form setting) ≡ true
+header_plain form setting h =
+    let all = header_lines form setting in
     let agent = setting.agent in
     let width : setting.width ≤ 1024 = h.width in
     let depth : setting.depth ≤ 1024 = h.depth in
@@ -136,14 +160,15 @@ header_plain setting h =
     let radius : agent.radius ≤ 15 = h.agent.radius in
     let error : setting.error ≤ 10000 = h.error in
     let limit : setting.limit ≤ 1024 = h.limit_most in
-    plain_cons (codes "nav 1") (drop 1 all) refl
+    plain_cons (nav_text form) (drop 1 all) (plain_nav form)
     (plain_cons (line_text (codes "size") (setting.width ∷ setting.depth ∷ [])) (drop 2 all) (is_line-line_text (codes "size") (setting.width ∷ setting.depth ∷ []) refl (omega arith, (omega arith, tt)))
     (plain_cons (line_text (codes "tile") (setting.tile ∷ [])) (drop 3 all) (is_line-line_text (codes "tile") (setting.tile ∷ []) refl (omega arith, tt))
     (plain_cons (line_text (codes "agent") (agent.height ∷ agent.climb ∷ agent.radius ∷ [])) (drop 4 all)
     (is_line-line_text (codes "agent") (agent.height ∷ agent.climb ∷ agent.radius ∷ []) refl (omega arith, (omega arith, (omega arith, tt))))
     (plain_cons (line_text (codes "error") (setting.error ∷ [])) (drop 5 all) (is_line-line_text (codes "error") (setting.error ∷ []) refl (omega arith, tt))
     (plain_cons (mesh_text setting.mesh) (drop 6 all) (plain_mesh setting.mesh)
-    (plain_cons (line_text (codes "limit") (setting.limit ∷ [])) [] (is_line-line_text (codes "limit") (setting.limit ∷ []) refl (omega arith, tt)) refl))))))
+    (plain_cons (line_text (codes "limit") (setting.limit ∷ [])) (clear_lines form setting.clear) (is_line-line_text (codes "limit") (setting.limit ∷ []) refl (omega arith, tt))
+    (plain_clear form setting.clear)))))))
 
 pub costs_plain : (before : ℕ) (costs : List Cost) → RiseAbove before costs → list_all is_line (map cost_text costs) ≡ true
 costs_plain before [] rise = refl
@@ -179,8 +204,8 @@ count_all : (header costs spans : List (List ℕ)) (end : List ℕ) → 0 + leng
 count_all header costs spans end =
     omega (arith, length-append (header ++ costs ++ spans) (end ∷ []), length-append (header ++ costs) spans, length-append header costs)
 
-pub same_setting : (setting : Setting) (costs : List Cost) → setting.costs ≡ costs_of costs → setting.clear ≡ false → after_costs (said_by setting) costs ≡ setting
-same_setting setting costs table clear = ap₂ (λ t c. record setting { costs = t; clear = c }) (sym table) (sym clear)
+pub same_setting : (setting : Setting) (costs : List Cost) → setting.costs ≡ costs_of costs → after_costs (said_by setting) costs ≡ setting
+same_setting setting costs table = ap (λ t. record setting { costs = t }) (sym table)
 
 same_field : (setting : Setting) (field : Field) → field.width ≡ setting.width → field.depth ≡ setting.depth → field_with setting field.spans ≡ field
 same_field setting field width depth = ap₂ (λ w d. record field { width = w; depth = d }) (sym width) (sym depth)
@@ -193,18 +218,18 @@ end_read setting before spans count rest =
 
 -- The first lines of bytes that begin with a field text are those of the text.
 pub lines_begin : (bytes text rest : List ℕ) (setting : Setting) (field : Field) → IsSetting setting → IsField field → (spelling : IsFieldText text setting field) → bytes ≡ text ++ rest
-    → lines bytes ≡ field_lines setting spelling.costs field.spans ++ lines rest
+    → lines bytes ≡ field_lines spelling.form setting spelling.costs field.spans ++ lines rest
 lines_begin bytes text rest setting field limits fits spelling parts =
     let each : All (IsSpan setting.width setting.depth) field.spans = subst₂ (λ w d. All (IsSpan w d) field.spans) spelling.width spelling.depth fits.spans in
-    let plain = plain_all (header_lines setting) (map cost_text spelling.costs) (map span_text field.spans) (header_plain setting limits) (costs_plain 0 spelling.costs spelling.rise)
+    let plain = plain_all (header_lines spelling.form setting) (map cost_text spelling.costs) (map span_text field.spans) (header_plain spelling.form setting limits) (costs_plain 0 spelling.costs spelling.rise)
     (spans_plain setting.width setting.depth field.spans limits.width limits.depth each) in
-    ap lines (parts ∙ ap (λ t. t ++ rest) spelling.spelled) ∙ lines_again (field_lines setting spelling.costs field.spans) rest plain
+    ap lines (parts ∙ ap (λ t. t ++ rest) spelling.spelled) ∙ lines_again (field_lines spelling.form setting spelling.costs field.spans) rest plain
 
 -- The text of a setting and a field is read as these, with all its lines.
 pub field_again : (bytes text rest : List ℕ) (setting : Setting) (field : Field) → IsSetting setting → IsField field → (spelling : IsFieldText text setting field) → bytes ≡ text ++ rest
-    → field_of bytes ≡ Ok ((setting, field), length (field_lines setting spelling.costs field.spans))
+    → field_of bytes ≡ Ok ((setting, field), length (field_lines spelling.form setting spelling.costs field.spans))
 field_again bytes text rest setting field limits fits spelling parts =
-    let header = header_lines setting in
+    let header = header_lines spelling.form setting in
     let costs = map cost_text spelling.costs in
     let spans = map span_text field.spans in
     let few : length field.spans ≤ 2000000 = fits.few in
@@ -214,12 +239,12 @@ field_again bytes text rest setting field limits fits spelling parts =
     let said = after_costs (said_by setting) spelling.costs in
     let before = last_area 0 spelling.costs in
     ap (read field_format AtNav 0) all
-    ∙ (leads_read field_format AtNav 0 header (costs ++ (spans ++ codes "end" ∷ lines rest)) (AtBody (said_by setting) 0 []) (header_leads field_body setting limits)
+    ∙ (leads_read field_format AtNav 0 header (costs ++ (spans ++ codes "end" ∷ lines rest)) (AtBody (said_by setting) 0 []) (header_leads field_body spelling.form setting limits spelling.clear)
     ∙ (leads_read field_format (AtBody (said_by setting) 0 []) (0 + length header) costs (spans ++ codes "end" ∷ lines rest) (AtBody said before [])
     (costs_lead (said_by setting) 0 spelling.costs spelling.rise)
     ∙ (leads_read field_format (AtBody said before []) (0 + length header + length costs) spans (codes "end" ∷ lines rest) (AtBody said before field.spans)
     (spans_lead said before [] field.spans limits.width limits.depth each (follows_all field.spans fits.order) (omega arith))
     ∙ (end_read said before field.spans (0 + length header + length costs + length spans) (lines rest)
     ∙ ap₂ (λ v k. Ok (v, k))
-    (ap₂ (λ s f. (s, f)) (same_setting setting spelling.costs spelling.table spelling.clear) (same_field setting field spelling.width spelling.depth))
+    (ap₂ (λ s f. (s, f)) (same_setting setting spelling.costs spelling.table) (same_field setting field spelling.width spelling.depth))
     (count_all header costs spans (codes "end"))))))

@@ -61,7 +61,7 @@ body_line width depth before spans line =
     if length spans == 2000000 && has_word (codes "span") line then lines.Fails TooMany
     else span_or_other width depth before spans line (numbers_of (codes "span") 5 line)
 
--- a line behind the seven lines of a header, where only costs are asked for: a cost, or the header's end at a line with another first word
+-- a line behind those of the setting, where only costs are asked for: a cost, or the header's end at a line with another first word
 unfoldable pub header_line : ℕ → List ℕ → BodyLine
 header_line before line = if has_word (codes "cost") line then cost_in before (numbers_of (codes "cost") 2 line) else lines.End
 

@@ -1,19 +1,21 @@
 -- What each line of the header says, in the order of the tests that it can fail.
-use Rattle.std.specs.Prelude.{ℕ, Bool, not, ◌&&◌, ◌||◌, nat_lt, nat_le, if◌then◌else◌, List, Option, Some, None, Result, Ok, Err, bytes_eq, slice_index, codes}
+use Rattle.std.specs.Prelude.{ℕ, ◌*◌, Bool, not, ◌&&◌, ◌||◌, ◌==◌, nat_lt, nat_le, if◌then◌else◌, List, Option, Some, None, Result, Ok, Err, bytes_eq, slice_index, codes}
 use Rattle.nav_ground.specs.declared.setting.Agent.{Agent}
 use Rattle.nav_ground.specs.declared.setting.MeshKind.{MeshKind}
 use Rattle.nav_ground.specs.declared.setting.MeshKind.TheVariants.{Strips, Contours}
 use Rattle.nav_text.specs.declared.fault.FaultKind.{FaultKind}
 use Rattle.nav_text.specs.declared.fault.FaultKind.TheVariants.{Form, Range, Climb}
 use Rattle.nav_text.specs.Forms.{numbers_of}
+use Rattle.span_text.specs.declared.header.TextForm.{TextForm}
+use Rattle.span_text.specs.declared.header.TextForm.TheVariants.{First, Second}
 
 -- a number lies in a closed range
 abbrev pub is_in : ℕ → ℕ → ℕ → Bool
 is_in low high number = nat_le low number && nat_le number high
 
--- the words `nav 1`
-abbrev pub nav_line : List ℕ → Result (Unit {0}) FaultKind
-nav_line line = if bytes_eq line (codes "nav 1") then Ok tt else Err Form
+-- `nav 1` or `nav 2`
+unfoldable pub nav_line : List ℕ → Result TextForm FaultKind
+nav_line line = if bytes_eq line (codes "nav 1") then Ok First else (if bytes_eq line (codes "nav 2") then Ok Second else Err Form)
 
 -- `size` and two numbers, 1 to 1024 each
 abbrev pub size_in : Option (List ℕ) → Result (ℕ × ℕ) FaultKind
@@ -49,3 +51,12 @@ agent_line line = agent_in (numbers_of (codes "agent") 3 line)
 unfoldable pub mesh_line : List ℕ → Result MeshKind FaultKind
 mesh_line line =
     if bytes_eq line (codes "mesh strips") then Ok Strips else (if bytes_eq line (codes "mesh contours") then Ok Contours else Err Form)
+
+-- `clear` and 0 or 1, where 1 says that agents keep their radius from obstacles too: then a tile is at least twice as wide as that
+abbrev pub clear_in : (tile radius : ℕ) → Option (List ℕ) → Result Bool FaultKind
+clear_in tile radius None = Err Form
+clear_in tile radius (Some numbers) =
+    if nat_lt 1 (slice_index numbers 0) || slice_index numbers 0 == 1 && nat_lt tile (2 * radius) then Err Range else Ok (slice_index numbers 0 == 1)
+
+unfoldable pub clear_line : (tile radius : ℕ) → List ℕ → Result Bool FaultKind
+clear_line tile radius line = clear_in tile radius (numbers_of (codes "clear") 1 line)

@@ -33,7 +33,7 @@ Gives setting field used (Err OutOfMemory) = ⊤
 abbrev pub IsHeaderRead : List ℕ → Result HeaderText FieldRefusal → Type 0
 IsHeaderRead bytes (Ok header) = (header_of bytes ≡ Ok (header.setting, header.lines + 1))
     × (take header.used bytes ≡ text_of (take header.lines (lines bytes))) × (header.used ≤ length bytes)
-    × GoesOn (drop header.used bytes) × (header.lines ≤ 70)
+    × GoesOn (drop header.used bytes) × (header.lines ≤ 71)
 IsHeaderRead bytes (Err (Fault fault)) = header_of bytes ≡ Err fault
 IsHeaderRead bytes (Err OutOfMemory) = ⊥
 

@@ -14,7 +14,7 @@ use nav_text::{FaultKind, first_line, has_word, number_after, numbers_of};
 /// The most spans that a field can have.
 pub const MAX_SPANS: usize = 2000000;
 
-/// What a line behind the seven lines of a header is.
+/// What a line behind those of the setting is.
 #[derive(Clone, Copy)]
 pub enum BodyLine {
     /// What a unit of way costs in an area.
@@ -138,8 +138,8 @@ fn cost_line(before: u32, line: &[u8]) -> BodyLine
     }
 }
 
-/// A line behind the seven lines of a header, where only costs are asked for: a cost, or the header's end where the line's first word is
-/// another.
+/// A line behind those of the setting, where only costs are asked for: a cost, or the header's end where the line's
+/// first word is another.
 #[tactic(auto, unfolding(crate::specs::Body::header_line))]
 pub fn header_line(before: u32, line: &[u8]) -> BodyLine
     ensures value { result ≡ header_line before line.now }

@@ -56,21 +56,23 @@ fn field_text(setting: Setting, spans: Vec<Span>, used: usize, lines: u32) -> Fi
     }
 }
 
-/// The lines behind the header: costs, then spans, then the end.
+/// The lines behind those of the setting, of which there are `front_lines`: costs, then spans, then the end.
 fn read_body(
     alloc: Global,
-    header: Setting,
+    front: Setting,
+    front_lines: u32,
     bytes: &[u8],
     body: &[u8],
 ) -> Result<FieldText, FieldRefusal>
-    requires said { field_of bytes.now ≡ read field_format (AtBody header 0 []) 7 (lines body.now) }
-    requires past { IsPast bytes.now body.now 7 }
+    requires said { field_of bytes.now ≡ read field_format (AtBody front 0 []) front_lines (lines body.now) }
+    requires past { IsPast bytes.now body.now front_lines }
+    requires few { front_lines ≤ 8 }
     ensures { IsRead bytes.now result }
 {
-    let mut setting = header;
+    let mut setting = front;
     let mut spans: Vec<Span> = Vec::new(alloc);
     let mut before = 0;
-    let mut count = 7;
+    let mut count = front_lines;
     let mut rest = body;
     while let Some((said, after)) = next_line(
         setting.width,
@@ -108,7 +110,7 @@ fn read_text(alloc: Global, bytes: &[u8]) -> Result<FieldText, FieldRefusal>
     ensures { IsRead bytes.now result }
 {
     match read_front(bytes) {
-        Ok((setting, body)) => read_body(alloc, setting, bytes, body),
+        Ok((setting, count, body)) => read_body(alloc, setting, count, bytes, body),
         Err(fault) => Err(FieldRefusal::Fault(fault)),
     }
 }

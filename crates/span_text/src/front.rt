@@ -1,4 +1,4 @@
-//! The header that a field text, as other texts, begins with: seven lines and costs.
+//! The header that a field text, as other texts, begins with: the lines of a setting, and costs.
 ghost use Rattle.std.specs.Prelude.{◌≡◌, ℕ, ◌≤◌, List, [], ◌∷◌, ◌++◌, take, drop, length, MatchResult, IfOk, Err};
 ghost use Rattle.nav_ground.specs.declared.setting.Setting.{Setting};
 ghost use Rattle.nav_ground.specs.Limits.{IsSetting};
@@ -8,12 +8,12 @@ ghost use Rattle.nav_text.specs.Faults.{fault_at};
 ghost use Rattle.nav_text.specs.Lines.{lines, IsPast};
 ghost use Rattle.nav_text.specs.Reading.{read, IsFirstFault};
 ghost use Rattle.span_text.specs.FieldText.{IsHeaderText, GoesOn};
-ghost use Rattle.span_text.specs.FieldFormat.{field_of, field_format, header_of, header_format, AtNav, AtError, AtBody};
+ghost use Rattle.span_text.specs.FieldFormat.{field_of, field_format, header_of, header_format, after_limit, AtNav, AtError, AtBody};
 ghost use Rattle.span_text.specs.Outcome.{IsHeaderRead, GivesHeader};
 
 use crate::body::{BodyLine, header_line};
 use crate::field::FieldRefusal;
-use crate::header::{agent_line, limited, mesh_line, nav_line, size_line};
+use crate::header::{TextForm, agent_line, clear_line, limited, mesh_line, nav_line, size_line};
 use nav_ground::{AREAS, Agent, Setting};
 use nav_text::{FaultKind, TextFault, first_line};
 
@@ -39,23 +39,27 @@ fn line_at(number: u32, text: &[u8]) -> Result<(&[u8], &[u8]), TextFault>
     }
 }
 
-/// The seven lines that a header begins with: its setting, in which every area costs 1, and the bytes behind them.
-pub(crate) fn read_front(bytes: &[u8]) -> Result<(Setting, &[u8]), TextFault>
+/// The lines that a header begins with: its setting, in which every area costs 1, how many lines these are, and the
+/// bytes behind them.
+pub(crate) fn read_front(bytes: &[u8]) -> Result<(Setting, u32, &[u8]), TextFault>
     ensures said { MatchResult result
-        (λ x. field_of bytes.now ≡ read field_format (AtBody x.0 0 []) 7 (lines x.1.now))
+        (λ x. field_of bytes.now ≡ read field_format (AtBody x.0 0 []) x.1 (lines x.2.now))
         (λ fault. field_of bytes.now ≡ Err fault) }
     ensures header { MatchResult result
-        (λ x. header_of bytes.now ≡ read header_format (AtBody x.0 0 []) 7 (lines x.1.now))
+        (λ x. header_of bytes.now ≡ read header_format (AtBody x.0 0 []) x.1 (lines x.2.now))
         (λ fault. header_of bytes.now ≡ Err fault) }
-    ensures past { IfOk result (λ x. IsPast bytes.now x.1.now 7) }
+    ensures past { IfOk result (λ x. IsPast bytes.now x.2.now x.1) }
+    ensures few { IfOk result (λ x. x.1 ≤ 8) }
 {
     let (sizes, rest) = read_sizes(bytes)?;
-    read_making(sizes, rest)
+    let (setting, rest) = read_making(sizes, rest)?;
+    read_clear(sizes.form, setting, rest)
 }
 
-/// What the first four lines say: the field's size, the tiles' side and the agent.
+/// What the first four lines say: the text's form, the field's size, the tiles' side and the agent.
 #[derive(Clone, Copy)]
 struct Sizes {
+    form: TextForm,
     width: u32,
     depth: u32,
     tile: u32,
@@ -66,15 +70,15 @@ struct Sizes {
 #[tactic(auto, unfolding(nav_text::specs::Reading::read))]
 fn read_sizes(bytes: &[u8]) -> Result<(Sizes, &[u8]), TextFault>
     ensures said { MatchResult result
-        (λ x. field_of bytes.now ≡ read field_format (AtError x.0.width x.0.depth x.0.tile x.0.agent) 4 (lines x.1.now))
+        (λ x. field_of bytes.now ≡ read field_format (AtError x.0.form x.0.width x.0.depth x.0.tile x.0.agent) 4 (lines x.1.now))
         (λ fault. field_of bytes.now ≡ Err fault) }
     ensures header { MatchResult result
-        (λ x. header_of bytes.now ≡ read header_format (AtError x.0.width x.0.depth x.0.tile x.0.agent) 4 (lines x.1.now))
+        (λ x. header_of bytes.now ≡ read header_format (AtError x.0.form x.0.width x.0.depth x.0.tile x.0.agent) 4 (lines x.1.now))
         (λ fault. header_of bytes.now ≡ Err fault) }
     ensures past { IfOk result (λ x. IsPast bytes.now x.1.now 4) }
 {
     let (line, rest) = line_at(1, bytes)?;
-    nav_line(line).map_err(|kind| TextFault::new(1, kind))?;
+    let form = nav_line(line).map_err(|kind| TextFault::new(1, kind))?;
     let (line, rest) = line_at(2, rest)?;
     let (width, depth) = size_line(line).map_err(|kind| TextFault::new(2, kind))?;
     let (line, rest) = line_at(3, rest)?;
@@ -82,6 +86,7 @@ fn read_sizes(bytes: &[u8]) -> Result<(Sizes, &[u8]), TextFault>
     let (line, rest) = line_at(4, rest)?;
     let agent = agent_line(line).map_err(|kind| TextFault::new(4, kind))?;
     let sizes = Sizes {
+        form,
         width,
         depth,
         tile,
@@ -90,17 +95,17 @@ fn read_sizes(bytes: &[u8]) -> Result<(Sizes, &[u8]), TextFault>
     Ok((sizes, rest))
 }
 
-/// The other three lines, which say how meshes are made: the whole setting, and the bytes behind them.
+/// The next three lines, which say how meshes are made: the setting without clearance, and the bytes behind them.
 #[tactic(auto, unfolding(nav_text::specs::Reading::read))]
 fn read_making(sizes: Sizes, text: &[u8]) -> Result<(Setting, &[u8]), TextFault>
     ensures said { MatchResult result
-        (λ x. read field_format (AtError sizes.width sizes.depth sizes.tile sizes.agent) 4 (lines text.now)
-        ≡ read field_format (AtBody x.0 0 []) 7 (lines x.1.now))
-        (λ fault. read field_format (AtError sizes.width sizes.depth sizes.tile sizes.agent) 4 (lines text.now) ≡ Err fault) }
+        (λ x. read field_format (AtError sizes.form sizes.width sizes.depth sizes.tile sizes.agent) 4 (lines text.now)
+        ≡ read field_format (after_limit sizes.form x.0) 7 (lines x.1.now))
+        (λ fault. read field_format (AtError sizes.form sizes.width sizes.depth sizes.tile sizes.agent) 4 (lines text.now) ≡ Err fault) }
     ensures header { MatchResult result
-        (λ x. read header_format (AtError sizes.width sizes.depth sizes.tile sizes.agent) 4 (lines text.now)
-        ≡ read header_format (AtBody x.0 0 []) 7 (lines x.1.now))
-        (λ fault. read header_format (AtError sizes.width sizes.depth sizes.tile sizes.agent) 4 (lines text.now) ≡ Err fault) }
+        (λ x. read header_format (AtError sizes.form sizes.width sizes.depth sizes.tile sizes.agent) 4 (lines text.now)
+        ≡ read header_format (after_limit sizes.form x.0) 7 (lines x.1.now))
+        (λ fault. read header_format (AtError sizes.form sizes.width sizes.depth sizes.tile sizes.agent) 4 (lines text.now) ≡ Err fault) }
     ensures past { IfOk result (λ x. (whole : List ℕ) → IsPast whole text.now 4 → IsPast whole x.1.now 7) }
 {
     let (line, rest) = line_at(5, text)?;
@@ -123,15 +128,52 @@ fn read_making(sizes: Sizes, text: &[u8]) -> Result<(Setting, &[u8]), TextFault>
     Ok((setting, rest))
 }
 
-/// The costs behind the seven lines, up to a line with another first word.
-fn read_costs(front: Setting, bytes: &[u8], body: &[u8]) -> Result<HeaderText, FieldRefusal>
-    requires header { header_of bytes.now ≡ read header_format (AtBody front 0 []) 7 (lines body.now) }
-    requires past { IsPast bytes.now body.now 7 }
+/// The line of clearance, which texts of the second form have: the whole setting, how many lines are read, and the
+/// bytes behind them.
+#[tactic(auto, unfolding(nav_text::specs::Reading::read))]
+fn read_clear(
+    form: TextForm,
+    plain: Setting,
+    text: &[u8],
+) -> Result<(Setting, u32, &[u8]), TextFault>
+    ensures said { MatchResult result
+        (λ x. read field_format (after_limit form plain) 7 (lines text.now) ≡ read field_format (AtBody x.0 0 []) x.1 (lines x.2.now))
+        (λ fault. read field_format (after_limit form plain) 7 (lines text.now) ≡ Err fault) }
+    ensures header { MatchResult result
+        (λ x. read header_format (after_limit form plain) 7 (lines text.now) ≡ read header_format (AtBody x.0 0 []) x.1 (lines x.2.now))
+        (λ fault. read header_format (after_limit form plain) 7 (lines text.now) ≡ Err fault) }
+    ensures past { IfOk result (λ x. (whole : List ℕ) → IsPast whole text.now 7 → IsPast whole x.2.now x.1) }
+    ensures few { IfOk result (λ x. x.1 ≤ 8) }
+{
+    match form {
+        TextForm::First => Ok((plain, 7, text)),
+        TextForm::Second => {
+            let (line, rest) = line_at(8, text)?;
+            let clear = clear_line(plain.tile, plain.agent.radius, line).map_err(
+                |kind| TextFault::new(8, kind),
+            )?;
+            let mut setting = plain;
+            setting.clear = clear;
+            Ok((setting, 8, rest))
+        }
+    }
+}
+
+/// The costs behind the setting's lines, of which there are `front_lines`, up to a line with another first word.
+fn read_costs(
+    front: Setting,
+    front_lines: u32,
+    bytes: &[u8],
+    body: &[u8],
+) -> Result<HeaderText, FieldRefusal>
+    requires header { header_of bytes.now ≡ read header_format (AtBody front 0 []) front_lines (lines body.now) }
+    requires past { IsPast bytes.now body.now front_lines }
+    requires few { front_lines ≤ 8 }
     ensures { IsHeaderRead bytes.now result }
 {
     let mut setting = front;
     let mut before = 0;
-    let mut count = 7;
+    let mut count = front_lines;
     let mut rest = body;
     while let Some((line, after)) = first_line(rest) {
         match header_line(before, line) {
@@ -161,13 +203,13 @@ fn read_whole(bytes: &[u8]) -> Result<HeaderText, FieldRefusal>
     ensures { IsHeaderRead bytes.now result }
 {
     match read_front(bytes) {
-        Ok((setting, body)) => read_costs(setting, bytes, body),
+        Ok((setting, count, body)) => read_costs(setting, count, bytes, body),
         Err(fault) => Err(FieldRefusal::Fault(fault)),
     }
 }
 
-/// Reads the header that the bytes begin with, which are the seven lines and the costs of a field text, and leaves what follows: one more line
-/// at least, whose first word is not `cost`. No memory is taken, and so none is refused.
+/// Reads the header that the bytes begin with, which are the lines of a field text's setting and its costs, and leaves
+/// what follows: one more line at least, whose first word is not `cost`. No memory is taken, and so none is refused.
 pub fn read_header(bytes: &[u8]) -> Result<HeaderText, FieldRefusal>
     // What is read is within its limits, the bytes that it used spell it, and another line follows.
     ensures setting { IfOk result (λ header. IsSetting header.setting) }
@@ -175,7 +217,7 @@ pub fn read_header(bytes: &[u8]) -> Result<HeaderText, FieldRefusal>
     ensures used { IfOk result (λ header. header.used ≤ length bytes.now) }
     ensures lines { IfOk result (λ header. header.lines ≡ length (lines (take header.used bytes.now))) }
     ensures on { IfOk result (λ header. GoesOn (drop header.used bytes.now)) }
-    ensures few { IfOk result (λ header. header.lines ≤ 70) }
+    ensures few { IfOk result (λ header. header.lines ≤ 71) }
 
     // Bytes that begin with a header, behind which another line follows, are read as that header.
     ensures only { (setting : Setting) (text rest : List ℕ) → IsSetting setting → IsHeaderText text setting → GoesOn rest

@@ -1,18 +1,31 @@
-//! The seven lines that a field text begins with.
+//! The lines of a setting that a field text begins with: seven in the first form, eight in the second.
 ghost use Rattle.std.specs.Prelude.{◌≡◌, ℕ};
-ghost use Rattle.span_text.specs.Header.{nav_line, size_line, limited, agent_line, mesh_line};
+ghost use Rattle.span_text.specs.Header.{nav_line, size_line, limited, agent_line, mesh_line, clear_line};
 
 use nav_ground::{Agent, MeshKind};
 use nav_text::{FaultKind, numbers_of};
 
-/// The line that says what text this is.
-pub fn nav_line(line: &[u8]) -> Result<(), FaultKind>
+/// The two forms of a field text.
+#[derive(Clone, Copy)]
+pub enum TextForm {
+    /// `nav 1`: agents keep no distance from obstacles.
+    First,
+    /// `nav 2`: a line says whether agents keep their radius from obstacles.
+    Second,
+}
+
+/// The line that says of which form the text is.
+#[tactic(auto, unfolding(crate::specs::Header::nav_line))]
+pub fn nav_line(line: &[u8]) -> Result<TextForm, FaultKind>
     ensures { result ≡ nav_line line.now }
 {
-    if line != b"nav 1".as_slice() {
-        return Err(FaultKind::Form);
+    if line == b"nav 1".as_slice() {
+        Ok(TextForm::First)
+    } else if line == b"nav 2".as_slice() {
+        Ok(TextForm::Second)
+    } else {
+        Err(FaultKind::Form)
     }
-    Ok(())
 }
 
 /// The width and the depth of the field, in columns.
@@ -78,6 +91,21 @@ pub fn mesh_line(line: &[u8]) -> Result<MeshKind, FaultKind>
     } else {
         Err(FaultKind::Form)
     }
+}
+
+/// Whether agents keep their radius from obstacles too. Where they do, a tile is at least twice as wide as the radius.
+#[tactic(auto, unfolding(crate::specs::Header::clear_line))]
+pub fn clear_line(tile: u32, radius: u32, line: &[u8]) -> Result<bool, FaultKind>
+    ensures { result ≡ clear_line tile radius line.now }
+{
+    let Some(numbers) = numbers_of::<1>(b"clear", line) else {
+        return Err(FaultKind::Form);
+    };
+    let clear = numbers[0];
+    if clear > 1 || clear == 1 && u64::from(tile) < 2 * u64::from(radius) {
+        return Err(FaultKind::Range);
+    }
+    Ok(clear == 1)
 }
 
 /// Whether a number lies in a closed range.

@@ -1,16 +1,15 @@
 -- A strip whose first cell does not lie along a side of the tile has no cell along it, but for the side toward x + 1.
-use Rattle.std.proofs.Common.{◌≡◌, ℕ, zero, suc, ◌+◌, ◌<◌, ◌≤◌, Bool, true, false, List, [], ◌∷◌, length, map, get_or, ap, ◌∙◌, sym, refl, arith, ℤ, pos, int_le, inl, inr, Option}
-use Rattle.std.specs.Prelude.{None, Some, All, ◌&&◌}
+use Rattle.std.proofs.Common.{◌≡◌, ℕ, zero, suc, ◌+◌, ◌<◌, Bool, true, false, List, [], ◌∷◌, length, map, get_or, ap, ◌∙◌, sym, refl, arith, ℤ, pos, int_le, inl, inr, Option}
+use Rattle.std.specs.Prelude.{None, All, ◌&&◌}
 use Rattle.std.proofs.lemmas.Bool.{cases_lt}
 use Rattle.std.proofs.lemmas.Int.{ints}
 use Rattle.std.proofs.lemmas.List.{get_or-map, get_or_past, length-map}
 use Rattle.std.proofs.lemmas.Option.{none-some}
 use Rattle.nav_ground.specs.declared.cell.Cell.{Cell}
 use Rattle.nav_ground.specs.declared.cell.Window.{Window}
-use Rattle.mesh_types.specs.declared.label_runs.Run.{Run}
 use Rattle.mesh_types.specs.Runs.{runs_of, label_if}
 use Rattle.mesh_types.specs.StripMeshes.{first_of, is_at_side, is_crossing, some_cell}
-use Rattle.mesh_types.proofs.RunLaws.{IsRunOf, runs_are_runs}
+use Rattle.mesh_types.proofs.RunLaws.{runs_are_runs}
 use Rattle.strip_mesh.proofs.RowLaws.{IsRow}
 
 none_there : {X : Type 0} (xs : List X) → All (λ x. ⊥) xs → xs ≡ []

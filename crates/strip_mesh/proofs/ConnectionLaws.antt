@@ -1,6 +1,6 @@
 -- Each connection between two strips is linked, and each link has its reverse.
-use Rattle.std.proofs.Common.{◌≡◌, ℕ, zero, suc, ◌+◌, ◌-◌, ◌<◌, ◌≤◌, true, List, [], map, length, get_or, ap, ◌∙◌, sym, refl, subst, arith, inl, inr, Option}
-use Rattle.std.specs.Prelude.{All, Some, None, Contains, ◌==◌, if◌then◌else◌, slice_get, option_and_then}
+use Rattle.std.proofs.Common.{◌≡◌, ℕ, zero, suc, ◌+◌, ◌<◌, ◌≤◌, true, List, [], map, length, get_or, ap, ◌∙◌, sym, refl, subst, arith, inl, inr, Option}
+use Rattle.std.specs.Prelude.{Some, None, Contains, ◌==◌, if◌then◌else◌, slice_get, option_and_then}
 use Rattle.std.specs.List.{flat_map, position, range_with_len}
 use Rattle.std.proofs.lemmas.Bool.{cases_lt, cond-false, ne_eqb}
 use Rattle.std.proofs.lemmas.List.{get_or_default, get_or_past, get_or-map, length-map}

@@ -1,9 +1,9 @@
 -- Rectangles along the axes, and ways along their edges.
-use Rattle.std.proofs.Common.{◌≡◌, ℕ, ◌+◌, ◌*◌, ◌<◌, ◌≤◌, ◌⊎◌, ℤ, pos, ◌≤ℤ◌, ◌<ℤ◌, ◌+ℤ◌, ◌-ℤ◌, ◌*ℤ◌, List, [], ◌∷◌, length, ap, ◌∙◌, sym, refl, subst, arith, zero, suc, inl, inr}
+use Rattle.std.proofs.Common.{◌≡◌, ℕ, ◌*◌, ◌<◌, ◌≤◌, ℤ, pos, ◌≤ℤ◌, ◌<ℤ◌, ◌+ℤ◌, ◌-ℤ◌, ◌*ℤ◌, List, [], ◌∷◌, sym, refl, subst, arith, zero, suc}
 use Rattle.std.proofs.lemmas.Int.{ints}
 use Rattle.nav_base.specs.declared.point.Point.{Point}
-use Rattle.nav_base.specs.Point.{orient_of, cross_of, dot_of, from_to}
-use Rattle.nav_base.specs.Convex.{IsStrictlyConvex, LiesLeft, corner_at, place_after}
+use Rattle.nav_base.specs.Point.{orient_of, cross_of, dot_of}
+use Rattle.nav_base.specs.Convex.{IsStrictlyConvex, LiesLeft}
 use Rattle.nav_base.proofs.Polynomials.{Term, at, number, sum, difference, product, equal}
 use Rattle.nav_base.proofs.PointTerms.{Place, orient_term, dot_term, from_to_term}
 use Rattle.nav_base.proofs.Signs.{product-not_negative, product-positive}

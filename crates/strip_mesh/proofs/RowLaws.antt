@@ -1,8 +1,8 @@
 -- Where the cells of a strip lie, and which strip lies beyond.
-use Rattle.std.proofs.Common.{◌≡◌, ℕ, ◌+◌, ◌-◌, ◌<◌, ◌≤◌, Bool, true, false, length, List, [], ◌∷◌, map, get_or, ap, ◌∙◌, sym, refl, subst, arith, zero, suc, inl, inr, Option}
-use Rattle.std.specs.Prelude.{All, Some, None, ◌==◌, if◌then◌else◌, option_and_then}
-use Rattle.std.specs.List.{position, list_any}
-use Rattle.std.proofs.lemmas.Bool.{eq-eqb, eqb-false}
+use Rattle.std.proofs.Common.{◌≡◌, ℕ, ◌+◌, ◌<◌, Bool, true, false, length, List, [], map, get_or, ap, ◌∙◌, sym, refl, subst, arith}
+use Rattle.std.specs.Prelude.{All, Some, None, ◌==◌, if◌then◌else◌}
+use Rattle.std.specs.List.{position}
+use Rattle.std.proofs.lemmas.Bool.{eqb-false}
 use Rattle.std.proofs.lemmas.List.{get_or-map, get_or_default, length-map}
 use Rattle.std.proofs.lemmas.List.Elements.{All-map, Contains-get_or}
 use Rattle.std.proofs.lemmas.List.Folds.{Any-from_list_any}
@@ -13,7 +13,7 @@ use Rattle.nav_ground.specs.Cells.{IsCell, IsCells, IsCut, is_naming, opposite}
 use Rattle.mesh_types.specs.StripMeshes.{some_cell, first_of, strip_runs, strip_beyond, holds_named}
 use Rattle.mono_regions.specs.Indices.{cell_at, index_runs, AreIndices}
 use Rattle.mono_regions.proofs.RunLaws.{runs_are, runs_indices}
-use Rattle.mono_regions.proofs.StripLaws.{IsAt, run_columns, ends_meet}
+use Rattle.mono_regions.proofs.StripLaws.{run_columns, ends_meet}
 
 -- cells stand one beside the other in a row
 pub record IsRow (own : List Cell) : Type 0 where

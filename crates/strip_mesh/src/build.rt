@@ -7,6 +7,7 @@ ghost use Rattle.mesh_types.specs.Passages.{AreTwoWay, LinksConnected, ListsCros
 ghost use Rattle.mesh_types.specs.Soundness.{IsFit};
 ghost use Rattle.mesh_types.specs.StripCover.{CoversCells};
 ghost use Rattle.mesh_types.specs.StripMeshes.{strip_polygon, strip_links, strip_rim, strip_mesh_of};
+ghost use Rattle.mono_regions.specs.Joining.{IsTableOf};
 ghost use Rattle.strip_mesh.specs.Indexed.{AreIndexed, runs_in};
 
 use crate::inner::inner_links;
@@ -14,6 +15,7 @@ use crate::polygons::polygons;
 use crate::rim::rim;
 use crate::tile_strips::TileStrips;
 use mesh_types::{Links, Polygons, RimEdge, TileMesh};
+use mono_regions::{StripTable, tabled_strips};
 use nav_ground::{FreeLayer, Setting, Window, tile_bounds};
 use nav_list::{Duplicate, Items};
 use std::alloc::{AllocError, Global};
@@ -36,8 +38,7 @@ pub fn strip_mesh(
     ensures listed { IfOk result (ListsCrossings setting.now) }
 {
     let free = free.duplicate(alloc)?;
-    let mesh = mesh(alloc, free, setting)?;
-    Ok(mesh)
+    strip_mesh_over(alloc, free, setting)
 }
 
 /// What `strip_mesh` does, of free cells that the mesh takes over.
@@ -56,21 +57,42 @@ pub fn strip_mesh_over(
     ensures back { IfOk result (λ tile. AreTwoWay tile.links) }
     ensures listed { IfOk result (ListsCrossings setting.now) }
 {
-    let mesh = mesh(alloc, free, setting)?;
+    let strips = tabled_strips(alloc, free.cells.as_slice())?;
+    strip_mesh_of_table(alloc, free, strips, setting)
+}
+
+/// What `strip_mesh` does, of free cells and their strips that the mesh takes over.
+pub fn strip_mesh_of_table(
+    alloc: Global,
+    free: FreeLayer,
+    strips: StripTable,
+    setting: &Setting,
+) -> Result<TileMesh, AllocError>
+    requires setting { IsSetting setting.now }
+    requires cells { IsCut free.cells }
+    requires tile { IsInTile setting.now free.tile free.cells }
+    requires strips { IsTableOf free.cells strips }
+    ensures value { IfOk result (λ tile. tile ≡ strip_mesh_of setting.now free) }
+    ensures fit { IfOk result (IsFit setting.now) }
+    ensures cover { IfOk result CoversCells }
+    ensures linked { IfOk result LinksConnected }
+    ensures back { IfOk result (λ tile. AreTwoWay tile.links) }
+    ensures listed { IfOk result (ListsCrossings setting.now) }
+{
+    let mesh = mesh(alloc, TileStrips::from_parts(free, strips), setting)?;
     Ok(mesh)
 }
 
 /// The mesh: its parts beside the free cells that they were made from.
 #[tactic(auto, unfolding(mesh_types::specs::StripMeshes::strip_mesh_of))]
-fn mesh(alloc: Global, free: FreeLayer, setting: &Setting) -> Result<TileMesh, AllocError>
+fn mesh(alloc: Global, strips: TileStrips, setting: &Setting) -> Result<TileMesh, AllocError>
     requires setting { IsSetting setting.now }
-    requires cells { IsCut free.cells }
-    requires tile { IsInTile setting.now free.tile free.cells }
-    ensures { IfOk result (λ tile. tile ≡ strip_mesh_of setting.now free) }
+    requires rules { AreIndexed strips }
+    requires tile { IsInTile setting.now strips.free.tile strips.free.cells }
+    ensures { IfOk result (λ tile. tile ≡ strip_mesh_of setting.now strips.free) }
 {
-    let tile = free.tile;
+    let tile = strips.free.tile;
     let window = tile_bounds(setting, tile);
-    let strips = TileStrips::new(alloc, free)?;
     let StripParts { polys, links, rim } = strip_parts(alloc, &strips, &window)?;
     Ok(TileMesh {
         tile,

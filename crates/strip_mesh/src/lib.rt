@@ -14,4 +14,4 @@ mod portals;
 mod rim;
 mod tile_strips;
 
-pub use build::{strip_mesh, strip_mesh_over};
+pub use build::{strip_mesh, strip_mesh_of_table, strip_mesh_over};

@@ -3,11 +3,9 @@
 ghost use Rattle.std.specs.Prelude.{◌≡◌, ◌<◌, ◌==◌, if◌then◌else◌, None, Some, option_and_then};
 ghost use Rattle.cell_table.specs.Table.{neighbour};
 
-use cell_table::neighbour_table;
-use mono_regions::{StripIndex, strip_index};
+use mono_regions::{StripIndex, StripTable};
 use nav_ground::{Cell, FreeLayer};
 use nav_list::Items;
-use std::alloc::{AllocError, Global};
 
 /// What a mesh of strips is made from.
 #[derive(Drop)]
@@ -20,25 +18,20 @@ pub struct TileStrips {
 }
 
 impl TileStrips {
-    ghost use Rattle.std.specs.Prelude.{◌≤◌, IfOk, length, map};
-    ghost use Rattle.nav_ground.specs.Cells.{IsCut};
+    ghost use Rattle.std.specs.Prelude.{◌≤◌, length, map};
     ghost use Rattle.mesh_types.specs.StripMeshes.{strip_beyond, first_of};
     ghost use Rattle.mono_regions.specs.Indices.{cell_at, AreIndices};
+    ghost use Rattle.mono_regions.specs.Joining.{IsTableOf};
     ghost use Rattle.strip_mesh.specs.Indexed.{AreIndexed, runs_in, run_in};
 
-    /// The strips of a tile from its free cells, which it takes over.
-    pub fn new(alloc: Global, free: FreeLayer) -> Result<TileStrips, AllocError>
-        requires { IsCut free.cells }
-        ensures rules { IfOk result (λ strips. AreIndexed strips) }
-        ensures free { IfOk result (λ strips. strips.free ≡ free) }
+    /// The strips of a tile from its free cells and their strips, both of which it takes over.
+    pub fn from_parts(free: FreeLayer, strips: StripTable) -> TileStrips
+        requires { IsTableOf free.cells strips }
+        ensures rules { AreIndexed result }
+        ensures free { result.free ≡ free }
     {
-        let table = neighbour_table(alloc, free.cells.as_slice())?;
-        let index = strip_index(alloc, free.cells.as_slice(), table.as_slice())?;
-        Ok(TileStrips {
-            free,
-            table: Items::from_vec(table),
-            index,
-        })
+        let StripTable { table, index } = strips;
+        TileStrips { free, table, index }
     }
 
     /// The tile's free cells again; the rest is given up.

@@ -182,7 +182,7 @@ fn check_rim(rt: &impl Abort, rim: &[RimEdge]) {
 fn made(rt: &impl Abort, mesh: ContourMesh) -> TileMesh {
     match mesh {
         ContourMesh::Made(mesh) => mesh,
-        ContourMesh::NotCut(_) => panic!(rt; "some region has no outline that can be cut"),
+        ContourMesh::NotCut { .. } => panic!(rt; "some region has no outline that can be cut"),
     }
 }
 
@@ -202,7 +202,7 @@ fn thin_rows(rt: HostRuntime) -> Result<(), AllocError> {
 fn outlines_that_cannot_be_cut(rt: HostRuntime) -> Result<(), AllocError> {
     let mesh = wide(rt.alloc())?;
     match mesh {
-        ContourMesh::NotCut(free) => same(&rt, free.cells.len(), RING.len()),
+        ContourMesh::NotCut { free, .. } => same(&rt, free.cells.len(), RING.len()),
         ContourMesh::Made(_) => panic!(rt; "an outline crosses itself"),
     }
     Ok(())

@@ -6,7 +6,7 @@ use Rattle.nav_ground.specs.declared.cell.Layer.{Layer}
 use Rattle.nav_ground.specs.declared.setting.Setting.{Setting}
 use Rattle.nav_ground.specs.declared.shape.Shape.{Shape}
 use Rattle.nav_ground.specs.Cells.{IsInTile}
-use Rattle.nav_ground.specs.FreeCells.{is_free, free_cell_of, free_layer_of}
+use Rattle.nav_ground.specs.FreeCells.{is_taken, is_free, free_cell_of, free_layer_of}
 use Rattle.nav_ground.specs.Tiling.{tile_window, IsInWindow}
 
 pub free_in_tile : (setting : Setting) (layer : Layer) (shapes : List Shape) → IsInTile setting layer.tile layer.cells
@@ -15,5 +15,5 @@ free_in_tile setting layer shapes rules =
     let P = λ (cell : Cell). IsInWindow (tile_window setting layer.tile) cell.at.x cell.at.z in
     record {
       there = rules.there;
-      inside = All-map P (free_cell_of layer.cells shapes) (filter (is_free shapes) layer.cells) (All-filter (is_free shapes) P layer.cells rules.inside);
+      inside = All-map P (free_cell_of (is_taken layer shapes) layer.cells shapes) (filter (is_free layer shapes) layer.cells) (All-filter (is_free layer shapes) P layer.cells rules.inside);
     }

@@ -29,7 +29,7 @@ use Rattle.mesh_types.specs.declared.region.Regions.{Regions}
 use Rattle.mesh_types.specs.declared.tile.LevelPair.{LevelPair}
 use Rattle.mesh_types.specs.declared.tile.RimEdge.{RimEdge}
 use Rattle.mesh_types.specs.declared.tile.TileMesh.{TileMesh}
-use Rattle.mesh_types.specs.BorderLinks.{pair_at}
+use Rattle.mesh_types.specs.BorderLinks.{HasOnePair, Names, pair_at}
 use Rattle.mesh_types.specs.Builds.{tile_mesh_of}
 use Rattle.mesh_types.specs.ContourMeshes.{Facet, contour_mesh_of, crossing_pair, door_entries, door_entry, door_over, door_rim, doors_of, facet_doors, facets_of, is_listed, parts_mesh, parts_of, positions_of, side_entries, side_of}
 use Rattle.mesh_types.specs.Regions.{regions_of}
@@ -45,14 +45,6 @@ use Rattle.strip_mesh.proofs.RimTotals.{crossings, positions_rise}
 use Rattle.strip_mesh.proofs.RowLaws.{IsRow, own_all, row_is}
 use Rattle.tile_build.specs.Meshes.{tiles_under}
 use Rattle.tile_build.proofs.FreeInTile.{free_in_tile}
-
--- what entries name is this, by their polygon, edge, side and position
-abbrev pub Names : (ℕ → ℕ → ℕ → ℕ → LevelPair) → RimEdge → Type 0
-Names pair entry = (position : ℕ) (found : LevelPair) → pair_at entry position ≡ Some found → found ≡ pair entry.poly entry.edge entry.side position
-
--- the levels at a position of an edge are determined
-abbrev pub HasOnePair : TileMesh → Type 0
-HasOnePair tile = (pair : ℕ → ℕ → ℕ → ℕ → LevelPair) × All (Names pair) tile.rim
 
 -- ---- the pair of an entry
 

@@ -2,7 +2,7 @@
 
 ghost use Rattle.std.specs.Prelude.{◌≡◌, ◌+◌, IfOk, All, unwrap_or};
 ghost use Rattle.nav_ground.specs.Cells.{IsCut, IsInTile};
-ghost use Rattle.nav_ground.specs.Grounds.{IsLayerOf};
+ghost use Rattle.nav_ground.specs.Grounds.{IsLayerOf, IsWideWithin};
 ghost use Rattle.nav_ground.specs.Limits.{IsSetting, IsShape};
 ghost use Rattle.nav_ground.specs.Touching.{touching_shapes};
 ghost use Rattle.mesh_types.specs.Builds.{tile_mesh_of};
@@ -20,10 +20,10 @@ use nav_steps::Steps;
 use obstacle_mark::mark;
 use std::alloc::{AllocError, Global};
 use std::sync::ledger::Ledger;
-use strip_mesh::strip_mesh_over;
+use strip_mesh::{strip_mesh_of_table, strip_mesh_over};
 
-/// The mesh of a layer under a list of shapes, which is also its mesh under those of them that touch its tile. Only memory can be refused,
-/// and it takes one step then too.
+/// The mesh of a layer under a list of shapes. Where the wide cells of the layer lie as near its tile as those of a ground do, this is also
+/// its mesh under those of the shapes that touch its tile. Only memory can be refused, and it takes one step then too.
 pub fn build_tile<L: Ledger>(
     alloc: Global,
     layer: &Layer,
@@ -33,10 +33,10 @@ pub fn build_tile<L: Ledger>(
 ) -> Result<TileMesh, AllocError>
     requires setting { IsSetting setting.now }
     requires layer { IsLayerOf setting.now layer.now }
-    requires near { layer.now.radius ≡ 0 }
     requires shapes { All IsShape shapes.now }
     ensures value { IfOk result (λ tile. tile ≡ tile_mesh_of setting.now layer.now shapes.now) }
-    ensures local { IfOk result (λ tile. tile ≡ tile_mesh_of setting.now layer.now (touching_shapes setting.now layer.now.tile shapes.now)) }
+    ensures local { IsWideWithin setting.now layer.now
+        → IfOk result (λ tile. tile ≡ tile_mesh_of setting.now layer.now (touching_shapes setting.now layer.now.tile shapes.now)) }
     ensures fit { IfOk result (IsFit setting.now) }
     ensures cover { IfOk result (λ tile. IsOfStrips setting.now tile → CoversCells tile) }
     ensures linked { IfOk result (λ tile. IsOfStrips setting.now tile → LinksConnected tile) }
@@ -84,6 +84,6 @@ fn contour_or_strips(
 {
     match contour_mesh_over(alloc, free, setting)? {
         ContourMesh::Made(tile) => Ok(tile),
-        ContourMesh::NotCut(free) => strip_mesh_over(alloc, free, setting),
+        ContourMesh::NotCut { free, strips } => strip_mesh_of_table(alloc, free, strips, setting),
     }
 }

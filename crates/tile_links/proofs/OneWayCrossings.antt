@@ -23,7 +23,7 @@ use Rattle.mesh_types.specs.declared.tile.LevelPair.{LevelPair}
 use Rattle.mesh_types.specs.declared.tile.RimEdge.{RimEdge}
 use Rattle.mesh_types.specs.declared.tile.TileMesh.{TileMesh}
 use Rattle.mesh_types.specs.Runs.{runs_of}
-use Rattle.mesh_types.specs.BorderLinks.{along_side, are_meeting, border_link, line_of, meetings, pair_at, side_portal}
+use Rattle.mesh_types.specs.BorderLinks.{HasOnePair, along_side, are_meeting, border_link, line_of, meetings, pair_at, side_portal}
 use Rattle.mesh_types.specs.Soundness.{AreTiles, IsRimOf, LiesOnSide, RunsOver, edge_begin, edge_end}
 use Rattle.mesh_types.specs.WholeMesh.{cross_links, tile_across}
 use Rattle.mesh_types.proofs.Counted.{once_apart}
@@ -142,12 +142,6 @@ named_there entry position level pair there same =
     ap (λ (o : Option LevelPair). option_map_or (λ (p : LevelPair). level == p.own) o false) there ∙ eq-eqb level pair.own same
 
 -- ---- two links over one edge
-
--- the levels that a tile's rim names at a position of an edge are determined: all entries that have some there have the same
-abbrev pub HasOnePair : TileMesh → Type 0
-HasOnePair tile =
-    (pair : ℕ → ℕ → ℕ → ℕ → LevelPair)
-    × All (λ (entry : RimEdge). (position : ℕ) (found : LevelPair) → pair_at entry position ≡ Some found → found ≡ pair entry.poly entry.edge entry.side position) tile.rim
 
 -- an edge lies on one side of a tile at most
 one_side : (window : Window) (s t : ℕ) (u v : Point) (first end first' end' : ℕ) → s < 4 → t < 4 → first < end → first' < end'

@@ -10,7 +10,7 @@ ghost use Rattle.mesh_types.specs.WholeMesh.{tile_across, cross_links, mesh_of};
 ghost use Rattle.tile_links.specs.Loose.{loose_over, HasGained};
 
 use crate::rim::push_links;
-use mesh_types::{Link, Links, Mesh, TileMesh, order_links};
+use mesh_types::{Link, Links, Mesh, Tile, TileMesh, order_links};
 use nav_ground::{Setting, TileNo};
 use nav_list::Items;
 use nav_share::Shared;
@@ -32,7 +32,7 @@ pub fn whole(alloc: Global, setting: &Setting, tiles: Vec<TileMesh>) -> Result<M
 pub fn joined(
     alloc: Global,
     setting: &Setting,
-    tiles: Items<Shared<TileMesh>>,
+    tiles: Items<Shared<Tile>>,
 ) -> Result<Mesh, AllocError>
     requires setting { IsSetting setting.now }
     requires tiles { AreTiles setting.now tiles }
@@ -52,7 +52,7 @@ pub fn joined(
 fn all_cross_links(
     alloc: Global,
     setting: &Setting,
-    tiles: &[Shared<TileMesh>],
+    tiles: &[Shared<Tile>],
 ) -> Result<Vec<Shared<Links>>, AllocError>
     requires setting { IsSetting setting.now }
     requires tiles { AreTiles setting.now tiles.now }
@@ -60,7 +60,7 @@ fn all_cross_links(
 {
     let mut cross = Vec::with_capacity(alloc, tiles.len())?;
     for tile in tiles {
-        cross.push(shared_cross_links(alloc, setting, tiles, tile.get())?)?;
+        cross.push(shared_cross_links(alloc, setting, tiles, tile.get().mesh())?)?;
     }
     Ok(cross)
 }
@@ -69,7 +69,7 @@ fn all_cross_links(
 pub fn shared_cross_links(
     alloc: Global,
     setting: &Setting,
-    tiles: &[Shared<TileMesh>],
+    tiles: &[Shared<Tile>],
     tile: &TileMesh,
 ) -> Result<Shared<Links>, AllocError>
     requires setting { IsSetting setting.now }
@@ -83,12 +83,12 @@ pub fn shared_cross_links(
 }
 
 /// Tiles as values that several meshes can share.
-fn shared(alloc: Global, tiles: Vec<TileMesh>) -> Result<Items<Shared<TileMesh>>, AllocError>
+fn shared(alloc: Global, tiles: Vec<TileMesh>) -> Result<Items<Shared<Tile>>, AllocError>
     ensures { IfOk result (λ shared. shared ≡ tiles.items) }
 {
     let mut shared = Vec::with_capacity(alloc, tiles.len())?;
     for tile in tiles {
-        shared.push(Shared::new(alloc, tile)?)?;
+        shared.push(Tile::shared(alloc, tile)?)?;
     }
     Ok(Items::from_vec(shared))
 }
@@ -97,7 +97,7 @@ fn shared(alloc: Global, tiles: Vec<TileMesh>) -> Result<Items<Shared<TileMesh>>
 pub fn cross_links(
     alloc: Global,
     setting: &Setting,
-    tiles: &[Shared<TileMesh>],
+    tiles: &[Shared<Tile>],
     tile: &TileMesh,
 ) -> Result<Links, AllocError>
     requires setting { IsSetting setting.now }
@@ -119,7 +119,7 @@ fn push_side_links(
     alloc: Global,
     links: &mut Vec<Link>,
     setting: &Setting,
-    tiles: &[Shared<TileMesh>],
+    tiles: &[Shared<Tile>],
     tile: &TileMesh,
     side: u32,
 ) -> Result<(), AllocError>
@@ -130,7 +130,7 @@ fn push_side_links(
     ensures { OnOk result (HasGained links.old.items (loose_over setting.now tiles.now tile.now side) links.new.items) }
 {
     if let Some(other) = across(setting, tile.tile, side) {
-        push_links(alloc, links, tile, tiles[other as usize].get(), side)?;
+        push_links(alloc, links, tile, tiles[other as usize].get().mesh(), side)?;
     }
     Ok(())
 }

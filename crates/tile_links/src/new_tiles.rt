@@ -13,7 +13,7 @@ ghost use Rattle.tile_links.specs.NewTiles.{AreNew, AreRising, IsWhole, New, is_
 ghost use Rattle.tile_links.specs.NearTiles.{IsMarked, IsMarkedAcross};
 
 use crate::join::{across, shared_cross_links};
-use mesh_types::{Links, Mesh, TileMesh};
+use mesh_types::{Links, Mesh, Tile};
 use nav_ground::{Setting, TileNo, tiles};
 use nav_list::Items;
 use nav_share::Shared;
@@ -25,8 +25,8 @@ use std::alloc::{AllocError, Global};
 pub fn replace(
     mesh: &mut Mesh,
     alloc: Global,
-    news: Vec<(TileNo, Shared<TileMesh>)>,
-) -> Result<(), (Vec<(TileNo, Shared<TileMesh>)>, AllocError)>
+    news: Vec<(TileNo, Shared<Tile>)>,
+) -> Result<(), (Vec<(TileNo, Shared<Tile>)>, AllocError)>
     requires setting { IsSetting mesh.old.setting }
     requires mesh { IsWhole mesh.old }
     requires news { AreNew mesh.old.setting news.items }
@@ -50,7 +50,7 @@ pub fn replace(
 pub fn replaced(
     alloc: Global,
     mesh: &Mesh,
-    news: &[(TileNo, Shared<TileMesh>)],
+    news: &[(TileNo, Shared<Tile>)],
 ) -> Result<Mesh, AllocError>
     requires setting { IsSetting mesh.now.setting }
     requires mesh { IsWhole mesh.now }
@@ -78,9 +78,9 @@ pub fn replaced(
 /// Tiles with the new ones in place.
 fn tiles_after(
     alloc: Global,
-    tiles: &[Shared<TileMesh>],
-    news: &[(TileNo, Shared<TileMesh>)],
-) -> Result<Vec<Shared<TileMesh>>, AllocError>
+    tiles: &[Shared<Tile>],
+    news: &[(TileNo, Shared<Tile>)],
+) -> Result<Vec<Shared<Tile>>, AllocError>
     requires { AreRising news.now }
     ensures { IfOk result (λ after. after.items ≡ Rattle.tile_links.specs.NewTiles.tiles_after news.now tiles.now) }
 {
@@ -93,9 +93,9 @@ fn tiles_after(
 
 /// Appends what stands in the place of a tile once the new ones have come.
 fn push_tile_after(
-    after: &mut Vec<Shared<TileMesh>>,
-    tile: &Shared<TileMesh>,
-    news: &[(TileNo, Shared<TileMesh>)],
+    after: &mut Vec<Shared<Tile>>,
+    tile: &Shared<Tile>,
+    news: &[(TileNo, Shared<Tile>)],
 ) -> Result<(), AllocError>
     requires { AreRising news.now }
     ensures { OnOk result (after.new.items ≡ after.old.items ++ Rattle.tile_links.specs.NewTiles.tile_after news.now tile.now ∷ []) }
@@ -105,14 +105,11 @@ fn push_tile_after(
 }
 
 /// What stands in the place of a tile once the new ones have come.
-fn tile_after<'a>(
-    tile: &'a Shared<TileMesh>,
-    news: &'a [(TileNo, Shared<TileMesh>)],
-) -> &'a Shared<TileMesh>
+fn tile_after<'a>(tile: &'a Shared<Tile>, news: &'a [(TileNo, Shared<Tile>)]) -> &'a Shared<Tile>
     requires { AreRising news.now }
     ensures { result.now ≡ Rattle.tile_links.specs.NewTiles.tile_after news.now tile.now }
 {
-    match new_tile(news, tile.get().tile) {
+    match new_tile(news, tile.get().mesh().tile) {
         Some(new) => new,
         None => tile,
     }
@@ -123,8 +120,8 @@ fn cross_after(
     alloc: Global,
     setting: &Setting,
     cross: &[Shared<Links>],
-    tiles: &[Shared<TileMesh>],
-    news: &[(TileNo, Shared<TileMesh>)],
+    tiles: &[Shared<Tile>],
+    news: &[(TileNo, Shared<Tile>)],
 ) -> Result<Vec<Shared<Links>>, AllocError>
     requires setting { IsSetting setting.now }
     requires tiles { AreTiles setting.now tiles.now }
@@ -147,7 +144,7 @@ fn links_after(
     alloc: Global,
     setting: &Setting,
     cross: &[Shared<Links>],
-    tiles: &[Shared<TileMesh>],
+    tiles: &[Shared<Tile>],
     near: &[bool],
     place: usize,
 ) -> Result<Shared<Links>, AllocError>
@@ -162,7 +159,7 @@ fn links_after(
         ≡ Rattle.mesh_types.specs.WholeMesh.cross_links setting.now tiles.now (get_or tiles.now place e)) }
 {
     if near[place] {
-        Ok(shared_cross_links(alloc, setting, tiles, tiles[place].get())?)
+        Ok(shared_cross_links(alloc, setting, tiles, tiles[place].get().mesh())?)
     } else {
         Ok(cross[place].share()?)
     }
@@ -172,7 +169,7 @@ fn links_after(
 fn near_new(
     alloc: Global,
     setting: &Setting,
-    news: &[(TileNo, Shared<TileMesh>)],
+    news: &[(TileNo, Shared<Tile>)],
 ) -> Result<Vec<bool>, AllocError>
     requires setting { IsSetting setting.now }
     requires news { All (λ (new : New). new.0 < tile_count setting.now) news.now }
@@ -186,7 +183,7 @@ fn near_new(
 }
 
 /// Marks the tiles that are replaced, and those across their sides.
-fn mark_all(near: &mut [bool], setting: &Setting, news: &[(TileNo, Shared<TileMesh>)])
+fn mark_all(near: &mut [bool], setting: &Setting, news: &[(TileNo, Shared<Tile>)])
     requires setting { IsSetting setting.now }
     requires news { All (λ (new : New). new.0 < tile_count setting.now) news.now }
     requires places { length near.old ≡ tile_count setting.now }
@@ -229,7 +226,7 @@ fn mark_across(near: &mut [bool], setting: &Setting, tile: TileNo, side: u32)
 }
 
 /// The new tile mesh with a number, if there is one.
-fn new_tile(news: &[(TileNo, Shared<TileMesh>)], number: TileNo) -> Option<&Shared<TileMesh>>
+fn new_tile(news: &[(TileNo, Shared<Tile>)], number: TileNo) -> Option<&Shared<Tile>>
     requires { AreRising news.now }
     ensures { option_copied result ≡ Rattle.tile_links.specs.NewTiles.new_tile news.now number }
 {

@@ -1,4 +1,4 @@
-use Rattle.std.proofs.Common.{◌≡◌, Bool, true, false, not, ◌+◌, ◌++◌, ◌∷◌, [], List, length, ap, ◌∙◌, refl, sym, subst, arith}
+use Rattle.std.proofs.Common.{◌≡◌, Bool, true, false, not, ◌++◌, ◌∷◌, [], List, length, ap, ◌∙◌, refl, sym, subst, arith}
 use Rattle.std.proofs.lemmas.List.{length-append, length-reverse}
 use Rattle.graph_search.specs.declared.arcs.Step.{Step}
 use Rattle.graph_search.specs.declared.visits.Visit.{Visit}

@@ -1,5 +1,5 @@
 use Rattle.std.proofs.Common.{◌≡◌, take}
-use Rattle.agent_erode.specs.Windows.{widened}
+use Rattle.nav_ground.specs.Tiling.{widened}
 use Rattle.layer_cut.specs.Nearby.{spans_in}
 use Rattle.layer_cut.proofs.nearby.spans_near.Given as goal
 

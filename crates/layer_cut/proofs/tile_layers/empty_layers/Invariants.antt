@@ -6,4 +6,4 @@ use Rattle.layer_cut.proofs.tile_layers.empty_layers.Given as goal
 
 -- the layers so far
 abbrev pub invariant-loop-tile : goal.invariant-loop-tile
-invariant-loop-tile l = (kept : List Cell) → l.layers.items ≡ map (layer_with l.setting kept []) (range_with_len 0 l.tile)
+invariant-loop-tile l = (kept : List Cell) → l.layers.items ≡ map (layer_with l.setting l.cells kept []) (range_with_len 0 l.tile)

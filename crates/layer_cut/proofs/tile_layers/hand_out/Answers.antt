@@ -35,7 +35,7 @@ loop-i-preserved c =
     let p = is_kept cells setting.agent.radius in
     elim c.if-marks-i.branch [
       | then-marks-i+in_ok-push w ↦
-          kept_step setting kept cells p c.loop-i.i _ c.loop-i.layers.items c.if-marks-i.layers.items w.tile_of-tile.result
+          kept_step setting cells kept cells p c.loop-i.i _ c.loop-i.layers.items c.if-marks-i.layers.items w.tile_of-tile.result
           w.index_mut.result.now w.layer_cell-kept.result w.push.new.self
           c.requires.setting c.requires.inside c.loop-i-test.true
           (mark_is cells c.args.marks.now p c.loop-i.i _ false true c.requires.marks c.loop-i-test.true w.if-marks-i.true)
@@ -43,6 +43,6 @@ loop-i-preserved c =
           w.index_mut.ensures.value w.in_ok-push.ensures.ok (ap (λ v. v.items) w.layers-is) c.loop-i.invariant
       | else-marks-i w ↦
           (ap (λ v. v.items) w.layers-is)
-          ∙ unkept_step setting kept cells c.args.marks.now p c.loop-i.i c.loop-i.layers.items c.requires.marks c.loop-i-test.true w.if-marks-i.false
+          ∙ unkept_step setting cells kept cells c.args.marks.now p c.loop-i.i c.loop-i.layers.items c.requires.marks c.loop-i-test.true w.if-marks-i.false
           c.loop-i.invariant
     ]

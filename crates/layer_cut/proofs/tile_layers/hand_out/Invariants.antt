@@ -8,5 +8,5 @@ use Rattle.layer_cut.proofs.tile_layers.hand_out.Given as goal
 -- the layers with the kept cells so far
 abbrev pub invariant-loop-i : goal.invariant-loop-i
 invariant-loop-i l = l.layers.items
-    ≡ map (layer_with l.setting (kept_cells l.cells l.setting.agent.radius) (filter (is_kept l.cells l.setting.agent.radius) (take l.i l.cells)))
+    ≡ map (layer_with l.setting l.cells (kept_cells l.cells l.setting.agent.radius) (filter (is_kept l.cells l.setting.agent.radius) (take l.i l.cells)))
     (range_with_len 0 (tile_count l.setting))

@@ -4,8 +4,8 @@ use Rattle.nav_ground.specs.Cells.{IsCut}
 use Rattle.mesh_types.specs.Strips.{strips_of}
 use Rattle.mono_regions.proofs.layer.strips.Goals as goal
 
-pub strip_table-requires : goal.strip_table-requires
-strip_table-requires c = subst IsCut (sym c.as_slice-cells.ensures) c.requires
+pub tabled_strips-requires : goal.tabled_strips-requires
+tabled_strips-requires c = subst IsCut (sym c.as_slice-cells.ensures) c.requires
 
 pub strips_along-requires-clause-cells : goal.strips_along-requires-clause-cells
 strips_along-requires-clause-cells c = subst IsCut (sym c.as_slice-cells.ensures) c.requires

@@ -4,7 +4,7 @@ use Rattle.nav_ground.proofs.TouchLaws.{is_touching_Touches}
 use Rattle.nav_ground.proofs.touch.touches.Goals as goal
 
 pub returns-clause-test : goal.returns-clause-test
-returns-clause-test c = c.are_meeting.ensures ∙ (λ i. are_meeting (c.bounds.ensures.value i) (c.tile_bounds.ensures i))
+returns-clause-test c = c.are_meeting.ensures ∙ (λ i. are_meeting (c.touch_window.ensures i) (c.tile_bounds.ensures i))
 
 pub returns-clause-touched : goal.returns-clause-touched
 returns-clause-touched c =

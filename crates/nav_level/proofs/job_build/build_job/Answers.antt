@@ -14,14 +14,9 @@ build_tile-requires-clause-layer g c =
     (layer_at c.args.level.now c.args.job.now.tile c.index-as_slice-job.result c.requires.level c.requires.job.there
     (rw c.as_slice.ensures at c.index-as_slice-job.is)).rules
 
-pub build_tile-requires-clause-near : goal.build_tile-requires-clause-near
-build_tile-requires-clause-near g c =
-    (layer_at c.args.level.now c.args.job.now.tile c.index-as_slice-job.result c.requires.level c.requires.job.there
-    (rw c.as_slice.ensures at c.index-as_slice-job.is)).near
-
 pub returns-clause-mesh : goal.returns-clause-mesh
 returns-clause-mesh g c =
     let at = layer_at c.args.level.now c.args.job.now.tile c.index-as_slice-job.result c.requires.level c.requires.job.there
     (rw c.as_slice.ensures at c.index-as_slice-job.is) in
     let built = rw c.as_slice-2.ensures at c.in_ok-mesh.ensures.value in
-    c.in_ok-new.ensures.ok ∙ built ∙ ap (λ (layer : Layer). tile_mesh_of c.args.level.now.setting layer c.args.job.now.shapes) at.is
+    c.in_ok-shared.ensures ∙ built ∙ ap (λ (layer : Layer). tile_mesh_of c.args.level.now.setting layer c.args.job.now.shapes) at.is

@@ -1,10 +1,11 @@
 use Rattle.std.proofs.Common.{◌≡◌, ℕ, List, Option, Some, None, map, get_or, ◌∙◌, sym, ap, subst, refl, arith}
+use Rattle.std.specs.Prelude.{not}
 use Rattle.std.specs.Global.{Vec}
 use Rattle.std.specs.List.{filter}
 use Rattle.std.proofs.lemmas.List.{take_all}
 use Rattle.nav_ground.specs.declared.cell.Cell.{Cell}
 use Rattle.nav_ground.specs.declared.cell.CellRef.{CellRef}
-use Rattle.nav_ground.specs.FreeCells.{is_free, free_cell_of}
+use Rattle.nav_ground.specs.FreeCells.{free_cell_of}
 use Rattle.obstacle_mark.specs.Places.{next_kept, ArePassed}
 use Rattle.obstacle_mark.specs.declared.places.Passed.{Passed}
 use Rattle.obstacle_mark.proofs.Blocked.{area_beside, no_cell}
@@ -18,7 +19,7 @@ none_where (Some x) not = absurd (not x refl)
 
 pub loop-i-init : goal.loop-i-init
 loop-i-init c = record {
-  free = λ shapes left places. c.in_ok-free.ensures.items;
+  free = λ taken shapes left places. c.in_ok-free.ensures.items;
   passed = λ j d later there. all_unpassed c.args.blocked.now _ (get_or c.args.cells.now j d).at refl;
 }
 
@@ -43,24 +44,24 @@ loop-i-preserved c =
     let cell : Cell = get_or cells i no_cell in
     elim c.match-areas-i.branch [
       | in-Some+in_ok-push w ↦ record {
-        free = λ shapes left places.
+        free = λ taken shapes left places.
             let area = w.in-Some.area in
-            let is_left = sym (area_beside shapes cells areas i no_cell left c.loop-i-test.true) ∙ w.in-Some.is in
+            let is_left = sym (area_beside taken shapes cells areas i no_cell left c.loop-i-test.true) ∙ w.in-Some.is in
             let next = w.next_kept.ensures.next ∙ ap (λ (ps : List CellRef). next_kept ps cell) places in
-            let is_free_cell = free_cell_left cells shapes cell area w.next_kept.result is_left next in
+            let is_free_cell = free_cell_left taken cells shapes cell area w.next_kept.result is_left next in
             ap (λ (v : Vec Cell). v.items) w.free-is ∙ w.in_ok-push.ensures.items
-            ∙ one_more_free cells shapes i no_cell area c.loop-i.free.items _ c.loop-i-test.true is_left is_free_cell (c.loop-i.invariant.free shapes left places);
+            ∙ one_more_free taken cells shapes i no_cell area c.loop-i.free.items _ c.loop-i-test.true is_left is_free_cell (c.loop-i.invariant.free taken shapes left places);
         passed = λ j d later there.
             let P : Passed → Type 0 = λ (p : Passed). ArePassed blocked p (get_or cells j d).at in
             subst P (sym w.passed-is)
             (passed_after cells blocked w.next_kept.new.passed i no_cell c.requires.cells c.loop-i-test.true w.next_kept.ensures.passed j d later there);
       }
       | in_default w ↦ record {
-        free = λ shapes left places.
-            let beside = area_beside shapes cells areas i no_cell left c.loop-i-test.true in
+        free = λ taken shapes left places.
+            let beside = area_beside taken shapes cells areas i no_cell left c.loop-i-test.true in
             ap (λ (v : Vec Cell). v.items) w.free-is
-            ∙ one_more_blocked_cell cells shapes i no_cell c.loop-i.free.items c.loop-i-test.true
-            (sym beside ∙ none_where (get_or areas i None) w.in_default.not-Some) (c.loop-i.invariant.free shapes left places);
+            ∙ one_more_blocked_cell taken cells shapes i no_cell c.loop-i.free.items c.loop-i-test.true
+            (sym beside ∙ none_where (get_or areas i None) w.in_default.not-Some) (c.loop-i.invariant.free taken shapes left places);
         passed = λ j d later there.
             let P : Passed → Type 0 = λ (p : Passed). ArePassed blocked p (get_or cells j d).at in
             subst P (sym w.passed-is) (c.loop-i.invariant.passed j d (omega (arith, later)) there);
@@ -68,6 +69,6 @@ loop-i-preserved c =
     ]
 
 pub returns : goal.returns
-returns c = λ shapes left places.
-    c.loop-i.invariant.free shapes left places
-    ∙ ap (λ (xs : List Cell). map (free_cell_of c.args.cells.now shapes) (filter (is_free shapes) xs)) (take_all c.loop-i.i c.args.cells.now c.loop-i-test.false)
+returns c = λ taken shapes left places.
+    c.loop-i.invariant.free taken shapes left places
+    ∙ ap (λ (xs : List Cell). map (free_cell_of taken c.args.cells.now shapes) (filter (λ (cell : Cell). not (taken cell)) xs)) (take_all c.loop-i.i c.args.cells.now c.loop-i-test.false)

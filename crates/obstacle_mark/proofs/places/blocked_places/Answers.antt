@@ -13,14 +13,14 @@ loop-i-preserved c = elim c.if-is_none.branch [
       let items = ap (λ (v : Vec CellRef). v.items) w.places-is ∙ w.in_ok-push.ensures.items in
       record {
         few = omega (arith, ap length items, length-append c.loop-i.places.items ((get_or c.args.cells.now c.loop-i.i no_cell).at ∷ []), c.loop-i.invariant.few);
-        places = λ shapes left. items ∙ one_more_blocked shapes c.args.cells.now c.args.areas.now c.loop-i.i no_cell c.loop-i.places.items left c.loop-i-test.true
-            (c.is_none.ensures ∙ ap not w.if-is_none.true) (c.loop-i.invariant.places shapes left);
+        places = λ taken shapes left. items ∙ one_more_blocked taken shapes c.args.cells.now c.args.areas.now c.loop-i.i no_cell c.loop-i.places.items left c.loop-i-test.true
+            (c.is_none.ensures ∙ ap not w.if-is_none.true) (c.loop-i.invariant.places taken shapes left);
       }
   | else-is_none w ↦
       let items = ap (λ (v : Vec CellRef). v.items) w.places-is in
       record {
         few = omega (arith, ap length items, c.loop-i.invariant.few);
-        places = λ shapes left. items ∙ one_more_open shapes c.args.cells.now c.args.areas.now c.loop-i.i no_cell c.loop-i.places.items left c.loop-i-test.true
-            (c.is_none.ensures ∙ ap not w.if-is_none.false) (c.loop-i.invariant.places shapes left);
+        places = λ taken shapes left. items ∙ one_more_open taken shapes c.args.cells.now c.args.areas.now c.loop-i.i no_cell c.loop-i.places.items left c.loop-i-test.true
+            (c.is_none.ensures ∙ ap not w.if-is_none.false) (c.loop-i.invariant.places taken shapes left);
       }
 ]

@@ -1,20 +1,9 @@
-use Rattle.std.proofs.Common.{◌∙◌, ap}
+use Rattle.std.proofs.Common.{◌≡◌, ◌∙◌, ap}
+use Rattle.std.proofs.lemmas.Result.{IfOk-weaker}
 use Rattle.mesh_types.specs.StripMeshes.{strip_mesh_of}
-use Rattle.strip_mesh.proofs.FitLaws.{fits}
-use Rattle.strip_mesh.proofs.StripTiles.{built_as_strips, tile_covers, tile_linked, tile_back, tile_lists}
 use Rattle.strip_mesh.proofs.build.strip_mesh.Goals as goal
 
-pub returns-clause-fit : goal.returns-clause-fit
-returns-clause-fit c = fits c.args.setting.now c.args.free.now c.in_ok-mesh.mesh c.requires.cells c.requires.tile (c.in_ok-mesh.ensures ∙ ap (strip_mesh_of c.args.setting.now) c.in_ok-free.ensures)
-
-pub returns-clause-cover : goal.returns-clause-cover
-returns-clause-cover c = tile_covers c.args.setting.now c.in_ok-mesh.mesh (returns-clause-fit c) (built_as_strips c.args.setting.now c.args.free.now c.in_ok-mesh.mesh (c.in_ok-mesh.ensures ∙ ap (strip_mesh_of c.args.setting.now) c.in_ok-free.ensures))
-
-pub returns-clause-linked : goal.returns-clause-linked
-returns-clause-linked c = tile_linked c.args.setting.now c.in_ok-mesh.mesh (returns-clause-fit c) (built_as_strips c.args.setting.now c.args.free.now c.in_ok-mesh.mesh (c.in_ok-mesh.ensures ∙ ap (strip_mesh_of c.args.setting.now) c.in_ok-free.ensures))
-
-pub returns-clause-back : goal.returns-clause-back
-returns-clause-back c = tile_back c.args.setting.now c.in_ok-mesh.mesh (returns-clause-fit c) (built_as_strips c.args.setting.now c.args.free.now c.in_ok-mesh.mesh (c.in_ok-mesh.ensures ∙ ap (strip_mesh_of c.args.setting.now) c.in_ok-free.ensures))
-
-pub returns-clause-listed : goal.returns-clause-listed
-returns-clause-listed c = tile_lists c.args.setting.now c.in_ok-mesh.mesh (returns-clause-fit c) (built_as_strips c.args.setting.now c.args.free.now c.in_ok-mesh.mesh (c.in_ok-mesh.ensures ∙ ap (strip_mesh_of c.args.setting.now) c.in_ok-free.ensures))
+pub returns-clause-value : goal.returns-clause-value
+returns-clause-value c =
+    IfOk-weaker c.strip_mesh_over.result _ (λ tile. tile ≡ strip_mesh_of c.args.setting.now c.args.free.now)
+    (λ tile is. is ∙ ap (strip_mesh_of c.args.setting.now) c.in_ok-free.ensures) c.strip_mesh_over.ensures.value

@@ -1,18 +1,8 @@
-use Rattle.strip_mesh.proofs.FitLaws.{fits}
-use Rattle.strip_mesh.proofs.StripTiles.{built_as_strips, tile_covers, tile_linked, tile_back, tile_lists}
+use Rattle.std.proofs.Common.{List, subst}
+use Rattle.nav_ground.specs.declared.cell.Cell.{Cell}
+use Rattle.mono_regions.specs.Joining.{IsTableOf}
 use Rattle.strip_mesh.proofs.build.strip_mesh_over.Goals as goal
 
-pub returns-clause-fit : goal.returns-clause-fit
-returns-clause-fit c = fits c.args.setting.now c.args.free c.in_ok-mesh.mesh c.requires.cells c.requires.tile c.in_ok-mesh.ensures
-
-pub returns-clause-cover : goal.returns-clause-cover
-returns-clause-cover c = tile_covers c.args.setting.now c.in_ok-mesh.mesh (returns-clause-fit c) (built_as_strips c.args.setting.now c.args.free c.in_ok-mesh.mesh c.in_ok-mesh.ensures)
-
-pub returns-clause-linked : goal.returns-clause-linked
-returns-clause-linked c = tile_linked c.args.setting.now c.in_ok-mesh.mesh (returns-clause-fit c) (built_as_strips c.args.setting.now c.args.free c.in_ok-mesh.mesh c.in_ok-mesh.ensures)
-
-pub returns-clause-back : goal.returns-clause-back
-returns-clause-back c = tile_back c.args.setting.now c.in_ok-mesh.mesh (returns-clause-fit c) (built_as_strips c.args.setting.now c.args.free c.in_ok-mesh.mesh c.in_ok-mesh.ensures)
-
-pub returns-clause-listed : goal.returns-clause-listed
-returns-clause-listed c = tile_lists c.args.setting.now c.in_ok-mesh.mesh (returns-clause-fit c) (built_as_strips c.args.setting.now c.args.free c.in_ok-mesh.mesh c.in_ok-mesh.ensures)
+pub strip_mesh_of_table-requires-clause-strips : goal.strip_mesh_of_table-requires-clause-strips
+strip_mesh_of_table-requires-clause-strips c =
+    subst (λ (cells : List Cell). IsTableOf cells c.in_ok-strips.strips) c.as_slice.ensures c.in_ok-strips.ensures

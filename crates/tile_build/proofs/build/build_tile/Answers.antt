@@ -25,12 +25,12 @@ returns-clause-value g c =
     (λ tile is. is ∙ ap (mesh_of_free c.args.setting.now) c.in_ok-free.ensures.free) c.free_mesh.ensures.value
 
 pub returns-clause-local : goal.returns-clause-local
-returns-clause-local g c =
+returns-clause-local g c = λ within.
     let setting = c.args.setting.now in
     let layer = c.args.layer.now in
     let shapes = c.args.shapes.now in
     IfOk-weaker c.free_mesh.result _ (λ tile. tile ≡ tile_mesh_of setting layer (touching_shapes setting layer.tile shapes))
-    (λ tile is. is ∙ ap (mesh_of_free setting) c.in_ok-free.ensures.free ∙ sym (tile_mesh_local setting layer shapes c.requires.layer.inside))
+    (λ tile is. is ∙ ap (mesh_of_free setting) c.in_ok-free.ensures.free ∙ sym (tile_mesh_local setting layer shapes c.requires.layer.inside within))
     c.free_mesh.ensures.value
 
 pub returns-clause-cover : goal.returns-clause-cover

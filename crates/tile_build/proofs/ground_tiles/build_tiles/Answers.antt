@@ -1,13 +1,10 @@
 use Rattle.std.proofs.Common.{◌+◌, ◌∙◌, ap, length}
-use Rattle.nav_ground.proofs.LayerLaws.{IsLayerOf-from_ground, no_radius_of_ground, length-layers_of_ground}
+use Rattle.nav_ground.proofs.LayerLaws.{IsLayerOf-from_ground, length-layers_of_ground}
 use Rattle.tile_build.proofs.GroundTiles.{for_tiles}
 use Rattle.tile_build.proofs.ground_tiles.build_tiles.Goals as goal
 
 pub built-requires-clause-layers : goal.built-requires-clause-layers
 built-requires-clause-layers g c = rw c.as_slice.ensures (IsLayerOf-from_ground c.args.whole.now c.requires.level)
-
-pub built-requires-clause-near : goal.built-requires-clause-near
-built-requires-clause-near g c = rw c.as_slice.ensures (no_radius_of_ground c.args.whole.now c.requires.level)
 
 pub returns-in_err-tiles-clause-most : goal.returns-in_err-tiles-clause-most
 returns-in_err-tiles-clause-most g c = for_tiles c.args.whole.now _ _ _ c.requires.level c.as_slice.ensures c.built.ensures.most

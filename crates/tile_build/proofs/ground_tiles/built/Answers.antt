@@ -10,10 +10,6 @@ pub build_tile-requires-clause-layer : goal.build_tile-requires-clause-layer
 build_tile-requires-clause-layer g c =
     subst (IsLayerOf c.args.setting.now) (sym c.layer-item.is) (c.requires.layers c.loop-layer.layer-index c.layer-item.result c.loop-layer-test.true)
 
-pub build_tile-requires-clause-near : goal.build_tile-requires-clause-near
-build_tile-requires-clause-near g c =
-    ap (λ (layer : Layer). layer.radius) c.layer-item.is ∙ c.requires.near c.loop-layer.layer-index c.layer-item.result c.loop-layer-test.true
-
 pub returns-in_err-tile-clause-most : goal.returns-in_err-tile-clause-most
 returns-in_err-tile-clause-most g c =
     record { least = omega (arith, c.build_tile.ensures.step, c.loop-layer.invariant.steps); most_risen = omega (arith, c.build_tile.ensures.step, c.loop-layer.invariant.steps, c.loop-layer-test.true) }
@@ -29,7 +25,7 @@ returns-in_err-push-clause-most g c =
 pub loop-layer-preserved : goal.loop-layer-preserved
 loop-layer-preserved g c =
     let f = λ (layer : Layer). tile_mesh_of c.args.setting.now layer c.args.shapes.now in
-    let made = c.in_ok-new.ensures.ok ∙ c.in_ok-tile.ensures.value ∙ ap f c.layer-item.is in
+    let made = c.in_ok-shared.ensures ∙ c.in_ok-tile.ensures.value ∙ ap f c.layer-item.is in
     record {
       tiles = c.in_ok-push.ensures.items ∙ (λ i. c.loop-layer.invariant.tiles i ++ made i ∷ [])
           ∙ sym (map_more f c.args.layers.now c.loop-layer.layer-index c.layer-item.result c.loop-layer-test.true);
