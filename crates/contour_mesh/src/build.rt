@@ -8,7 +8,7 @@ ghost use Rattle.mesh_types.specs.Regions.{AreRegionsOf, regions_of};
 ghost use Rattle.mesh_types.specs.Passages.{AreTwoWay, ListsCrossings};
 ghost use Rattle.mesh_types.specs.Soundness.{IsFit};
 ghost use Rattle.mesh_types.specs.ContourMeshes.{doors_of, door_links, door_rim, facet_polygon, facets_of, parts_mesh};
-ghost use Rattle.contour_walk.specs.Tables.{IsTableOf};
+ghost use Rattle.contour_walk.specs.Tables.{IsRim, IsTableOf};
 ghost use Rattle.mono_regions.specs.Joining as strip_tables;
 ghost use Rattle.contour_mesh.specs.declared.outcome.ContourMesh.{ContourMesh};
 ghost use Rattle.contour_mesh.specs.Outcomes.{IsMeshOrCells, IfMade};
@@ -28,10 +28,10 @@ use crate::parts::parts;
 use crate::placed::side_tables;
 use crate::polygons::polygons;
 use crate::rim::door_rim;
-use contour_walk::{RegionTable, region_table_over};
+use contour_walk::{RegionTable, Rim, region_table_over};
 use mesh_types::{Door, Links, Part, Polygons, Regions, RimEdge, TileMesh};
 use mono_regions::{StripIndex, StripTable, regions_over, tabled_strips};
-use nav_ground::{Cell, FreeLayer, Setting, TileNo};
+use nav_ground::{FreeLayer, Setting, TileNo};
 use nav_list::Items;
 use std::alloc::{AllocError, Global};
 
@@ -65,26 +65,36 @@ pub fn contour_mesh_over(
         index,
     } = strips;
     let table = region_table_over(alloc, &free, setting, &regions, neighbours)?;
-    mesh_over_regions(alloc, free, setting, &regions, table, index)
+    let tables = TileTables {
+        regions: table,
+        strips: index,
+    };
+    mesh_over_regions(alloc, free, setting, &regions, tables)
 }
 
-/// The same by the regions of the tile and their table, which takes the neighbour table of the strips over.
+/// The tables of a tile: that of its regions, which has the neighbour table too, and where its strips begin.
+#[derive(Drop)]
+struct TileTables {
+    regions: RegionTable,
+    strips: StripIndex,
+}
+
+/// The same by the regions of the tile and the tables.
 fn mesh_over_regions(
     alloc: Global,
     free: FreeLayer,
     setting: &Setting,
     regions: &Regions,
-    table: RegionTable,
-    index: StripIndex,
+    tables: TileTables,
 ) -> Result<ContourMesh, AllocError>
     requires setting { IsSetting setting.now }
     requires cells { IsCut free.cells }
     requires tile { IsInTile setting.now free.tile free.cells }
     requires regions { AreRegionsOf free.cells regions.now }
     requires all { regions.now ≡ regions_of free.cells }
-    requires table { IsTableOf free.cells regions.now.regions table }
-    requires strips { strip_tables.IsTableOf free.cells (record { table = table.neighbours; index = index }) }
-    requires window { table.window ≡ tile_window setting.now free.tile }
+    requires table { IsTableOf free.cells regions.now.regions tables.regions }
+    requires strips { strip_tables.IsTableOf free.cells (record { table = tables.regions.neighbours; index = tables.strips }) }
+    requires window { tables.regions.window ≡ tile_window setting.now free.tile }
     ensures value { IfOk result (IsMeshOrCells setting.now free) }
     ensures fit { IfOk result (IfMade (IsFit setting.now)) }
     ensures linked { IfOk result (IfMade (LinksFacing setting.now)) }
@@ -92,21 +102,30 @@ fn mesh_over_regions(
     ensures listed { IfOk result (IfMade (ListsCrossings setting.now)) }
 {
     let cells = free.cells.as_slice();
-    match parts(alloc, cells, regions, &table, setting.error)? {
-        None => Ok(not_cut(free, table, index)),
+    let source = Rim {
+        cells,
+        regions,
+        table: &tables.regions,
+    };
+    match parts(alloc, source, setting.error)? {
+        None => Ok(not_cut(free, tables)),
         Some(parts) => {
-            let mesh = mesh(alloc, free, regions, &table, parts.as_slice())?;
+            let mesh = mesh(alloc, free, regions, &tables.regions, parts.as_slice())?;
             Ok(ContourMesh::Made(mesh))
         }
     }
 }
 
 /// The free cells again, with their strips.
-fn not_cut(free: FreeLayer, table: RegionTable, index: StripIndex) -> ContourMesh
-    ensures { result ≡ ContourMesh.NotCut free (record { table = table.neighbours; index = index }) }
+fn not_cut(free: FreeLayer, tables: TileTables) -> ContourMesh
+    ensures { result ≡ ContourMesh.NotCut free (record { table = tables.regions.neighbours; index = tables.strips }) }
 {
+    let TileTables {
+        regions,
+        strips: index,
+    } = tables;
     let strips = StripTable {
-        table: table.neighbours,
+        table: regions.neighbours,
         index,
     };
     ContourMesh::NotCut { free, strips }
@@ -130,9 +149,14 @@ fn mesh(
     ensures { IfOk result (λ mesh. (setting : Setting) → table.now.window ≡ tile_window setting free.tile → mesh ≡ parts_mesh setting free regions.now parts.now) }
 {
     let cells = free.cells.as_slice();
-    let polys = part_polygons(alloc, cells, regions, table, parts)?;
+    let source = Rim {
+        cells,
+        regions,
+        table,
+    };
+    let polys = part_polygons(alloc, source, parts)?;
     let count = polys.len() as u32;
-    let WaysOut { links, rim } = part_ways(alloc, cells, regions, table, parts, free.tile, count)?;
+    let WaysOut { links, rim } = part_ways(alloc, source, parts, free.tile, count)?;
     Ok(TileMesh {
         tile: free.tile,
         free,
@@ -145,17 +169,15 @@ fn mesh(
 /// The polygons of parts.
 fn part_polygons(
     alloc: Global,
-    cells: &[Cell],
-    regions: &Regions,
-    table: &RegionTable,
+    source: Rim,
     parts: &[Part],
 ) -> Result<Polygons, AllocError>
-    requires table { IsTableOf cells.now regions.now.regions table.now }
+    requires rim { IsRim source }
     requires parts { All IsCutPart parts.now }
-    requires each { length parts.now ≤ length regions.now.regions }
-    ensures { IfOk result (λ polys. polys ≡ map (facet_polygon cells.now regions.now) (facets_of parts.now)) }
+    requires each { length parts.now ≤ length source.regions.now.regions }
+    ensures { IfOk result (λ polys. polys ≡ map (facet_polygon source.entry.cells.now source.entry.regions.now) (facets_of parts.now)) }
 {
-    let footings = footings(alloc, cells, regions, table)?;
+    let footings = footings(alloc, source.cells, source.regions, source.table)?;
     polygons(alloc, parts, footings.as_slice())
 }
 
@@ -169,44 +191,38 @@ struct WaysOut {
 /// The ways out of the polygons of parts, of which there are so many.
 fn part_ways(
     alloc: Global,
-    cells: &[Cell],
-    regions: &Regions,
-    table: &RegionTable,
+    source: Rim,
     parts: &[Part],
     tile: TileNo,
     polygons: u32,
 ) -> Result<WaysOut, AllocError>
-    requires cells { IsCells cells.now }
-    requires regions { AreRegionsOf cells.now regions.now }
-    requires table { IsTableOf cells.now regions.now.regions table.now }
-    requires window { IsFieldWindow table.now.window }
+    requires rim { IsRim source }
+    requires regions { AreRegionsOf source.cells.now source.regions.now }
+    requires window { IsFieldWindow source.table.now.window }
     requires parts { All IsCutPart parts.now }
-    requires each { length parts.now ≤ length regions.now.regions }
+    requires each { length parts.now ≤ length source.regions.now.regions }
     requires few { polygons ≤ 8000000 }
     requires polygons { polygons ≡ length (facets_of parts.now) }
     ensures links { IfOk result (λ ways. ways.links ≡ door_links tile (doors_of (facets_of parts.now))) }
-    ensures rim { IfOk result (λ ways. ways.rim ≡ door_rim table.now.window cells.now regions.now (doors_of (facets_of parts.now))) }
+    ensures rim { IfOk result (λ ways. ways.rim ≡ door_rim source.entry.table.now.window source.entry.cells.now source.entry.regions.now (doors_of (facets_of parts.now))) }
 {
     let doors = doors(alloc, parts)?;
     let doors = doors.as_slice();
     let links = door_links(alloc, doors, tile, polygons)?;
-    let rim = rim(alloc, cells, regions, table, doors)?;
+    let rim = rim(alloc, source, doors)?;
     Ok(WaysOut { links, rim })
 }
 
 /// What the rim lists for doors.
 fn rim(
     alloc: Global,
-    cells: &[Cell],
-    regions: &Regions,
-    table: &RegionTable,
+    source: Rim,
     doors: &[Door],
 ) -> Result<Items<RimEdge>, AllocError>
-    requires cells { IsCells cells.now }
-    requires table { IsTableOf cells.now regions.now.regions table.now }
-    requires window { IsFieldWindow table.now.window }
-    ensures { IfOk result (λ rim. rim ≡ door_rim table.now.window cells.now regions.now doors.now) }
+    requires rim { IsRim source }
+    requires window { IsFieldWindow source.table.now.window }
+    ensures { IfOk result (λ rim. rim ≡ door_rim source.entry.table.now.window source.entry.cells.now source.entry.regions.now doors.now) }
 {
-    let tables = side_tables(alloc, cells, regions, table, doors)?;
-    door_rim(alloc, &table.window, &tables, doors)
+    let tables = side_tables(alloc, source.cells, source.regions, source.table, doors)?;
+    door_rim(alloc, &source.table.window, &tables, doors)
 }

@@ -1,45 +1,40 @@
 //! The parts of a tile's regions: their outlines, cut into pieces.
 
 ghost use Rattle.std.specs.Prelude.{◌≡◌, ◌<◌, [], true, None, IfOk, IfSome, All, length, unwrap_or};
-ghost use Rattle.nav_ground.specs.Cells.{IsCells};
 ghost use Rattle.mesh_types.specs.Regions.{AreRegionsOf};
 ghost use Rattle.mesh_types.specs.Simplified.{IsOutline};
 ghost use Rattle.mesh_types.specs.Ears.{ears_of};
 ghost use Rattle.mesh_types.specs.ContourMeshes.{cut_part, region_part, parts_of};
-ghost use Rattle.contour_walk.specs.Tables.{IsTableOf};
+ghost use Rattle.contour_walk.specs.Tables.{IsRim};
 ghost use Rattle.contour_mesh.specs.Parts.{IsCutPart};
 
 use contour_simplify::simplify;
-use contour_walk::{RegionTable, contour_over};
+use contour_walk::{Rim, contour_over};
 use ear_cut::{EarRefusal, ears};
-use mesh_types::{Outline, Part, Region, Regions, Simplified};
-use nav_ground::Cell;
+use mesh_types::{Outline, Part, Region, Simplified};
 use nav_list::Items;
 use poly_merge::merge;
 use std::alloc::{AllocError, Global};
 
-/// The parts of a tile's regions, in order; none where some region has no outline, or one that cannot be cut. Outlines keep to the contours
+/// The parts of a tile's regions, in order, from what the edges of their contours are read from; none where some region has no outline, or one that cannot be cut. Outlines keep to the contours
 /// within an error, in hundredths of a squared cell.
 pub fn parts(
     alloc: Global,
-    cells: &[Cell],
-    regions: &Regions,
-    table: &RegionTable,
+    source: Rim,
     error: u32,
 ) -> Result<Option<Items<Part>>, AllocError>
-    requires cells { IsCells cells.now }
-    requires regions { AreRegionsOf cells.now regions.now }
-    requires table { IsTableOf cells.now regions.now.regions table.now }
-    ensures value { IfOk result (λ parts. parts ≡ parts_of table.now.window error cells.now regions.now) }
+    requires rim { IsRim source }
+    requires regions { AreRegionsOf source.cells.now source.regions.now }
+    ensures value { IfOk result (λ parts. parts ≡ parts_of source.entry.table.now.window error source.entry.cells.now source.entry.regions.now) }
     ensures each { IfOk result (λ parts. IfSome parts (All IsCutPart)) }
 {
-    let flat = has_small_flat(alloc, cells, regions, table, error)?;
+    let flat = has_small_flat(alloc, source, error)?;
     if flat {
         return Ok(None);
     }
     let mut parts = Vec::new(alloc);
-    for id in 0..regions.regions.len() as u32 {
-        let Some(part) = region_part(alloc, cells, regions, table, error, id)? else {
+    for id in 0..source.regions.regions.len() as u32 {
+        let Some(part) = region_part(alloc, source, error, id)? else {
             return Ok(None);
         };
         parts.push(part)?;
@@ -51,18 +46,15 @@ pub fn parts(
 /// are looked at before any outline is cut.
 fn has_small_flat(
     alloc: Global,
-    cells: &[Cell],
-    regions: &Regions,
-    table: &RegionTable,
+    source: Rim,
     error: u32,
 ) -> Result<bool, AllocError>
-    requires cells { IsCells cells.now }
-    requires regions { AreRegionsOf cells.now regions.now }
-    requires table { IsTableOf cells.now regions.now.regions table.now }
-    ensures { IfOk result (λ found. found ≡ true → None ≡ parts_of table.now.window error cells.now regions.now) }
+    requires rim { IsRim source }
+    requires regions { AreRegionsOf source.cells.now source.regions.now }
+    ensures { IfOk result (λ found. found ≡ true → None ≡ parts_of source.entry.table.now.window error source.entry.cells.now source.entry.regions.now) }
 {
-    for id in 0..regions.regions.len() as u32 {
-        let found = is_small_flat(alloc, cells, regions, table, error, id)?;
+    for id in 0..source.regions.regions.len() as u32 {
+        let found = is_small_flat(alloc, source, error, id)?;
         if found {
             return Ok(true);
         }
@@ -73,22 +65,19 @@ fn has_small_flat(
 /// Whether the region with a number has one or two cells and no outline.
 fn is_small_flat(
     alloc: Global,
-    cells: &[Cell],
-    regions: &Regions,
-    table: &RegionTable,
+    source: Rim,
     error: u32,
     id: u32,
 ) -> Result<bool, AllocError>
-    requires cells { IsCells cells.now }
-    requires regions { AreRegionsOf cells.now regions.now }
-    requires table { IsTableOf cells.now regions.now.regions table.now }
-    requires there { id < length regions.now.regions }
-    ensures { IfOk result (λ found. found ≡ true → None ≡ region_part table.now.window error cells.now regions.now id) }
+    requires rim { IsRim source }
+    requires regions { AreRegionsOf source.cells.now source.regions.now }
+    requires there { id < length source.regions.now.regions }
+    ensures { IfOk result (λ found. found ≡ true → None ≡ region_part source.entry.table.now.window error source.entry.cells.now source.entry.regions.now id) }
 {
-    if !is_small(&regions.regions.as_slice()[id as usize]) {
+    if !is_small(&source.regions.regions.as_slice()[id as usize]) {
         return Ok(false);
     }
-    is_flat(alloc, cells, regions, table, error, id)
+    is_flat(alloc, source, error, id)
 }
 
 /// Whether a region has one or two cells.
@@ -103,20 +92,17 @@ fn is_small(region: &Region) -> bool {
 /// Whether the region with a number has no outline.
 fn is_flat(
     alloc: Global,
-    cells: &[Cell],
-    regions: &Regions,
-    table: &RegionTable,
+    source: Rim,
     error: u32,
     id: u32,
 ) -> Result<bool, AllocError>
-    requires cells { IsCells cells.now }
-    requires regions { AreRegionsOf cells.now regions.now }
-    requires table { IsTableOf cells.now regions.now.regions table.now }
-    requires there { id < length regions.now.regions }
-    ensures { IfOk result (λ found. found ≡ true → None ≡ region_part table.now.window error cells.now regions.now id) }
+    requires rim { IsRim source }
+    requires regions { AreRegionsOf source.cells.now source.regions.now }
+    requires there { id < length source.regions.now.regions }
+    ensures { IfOk result (λ found. found ≡ true → None ≡ region_part source.entry.table.now.window error source.entry.cells.now source.entry.regions.now id) }
 {
-    let rim = contour_over(alloc, cells, regions, table, id)?;
-    match simplify(alloc, rim.as_slice(), error)? {
+    let contour = contour_over(alloc, source, id)?;
+    match simplify(alloc, contour.as_slice(), error)? {
         Simplified::Flat => Ok(true),
         Simplified::Outline(_) => Ok(false),
     }
@@ -125,20 +111,17 @@ fn is_flat(
 /// The part of the region with a number; none where it has no outline, or one that cannot be cut.
 fn region_part(
     alloc: Global,
-    cells: &[Cell],
-    regions: &Regions,
-    table: &RegionTable,
+    source: Rim,
     error: u32,
     id: u32,
 ) -> Result<Option<Part>, AllocError>
-    requires cells { IsCells cells.now }
-    requires regions { AreRegionsOf cells.now regions.now }
-    requires table { IsTableOf cells.now regions.now.regions table.now }
-    requires there { id < length regions.now.regions }
-    ensures value { IfOk result (λ part. part ≡ region_part table.now.window error cells.now regions.now id) }
+    requires rim { IsRim source }
+    requires regions { AreRegionsOf source.cells.now source.regions.now }
+    requires there { id < length source.regions.now.regions }
+    ensures value { IfOk result (λ part. part ≡ region_part source.entry.table.now.window error source.entry.cells.now source.entry.regions.now id) }
     ensures part { IfOk result (λ part. IfSome part IsCutPart) }
 {
-    let edges = contour_over(alloc, cells, regions, table, id)?;
+    let edges = contour_over(alloc, source, id)?;
     match simplify(alloc, edges.as_slice(), error)? {
         Simplified::Flat => Ok(None),
         Simplified::Outline(outline) => cut_part(alloc, outline),

@@ -32,93 +32,78 @@ pub fn door_rim(
     let mut labels = Vec::new(alloc);
     let mut rim = Vec::new(alloc);
     for door in doors {
-        let side = side_of(window, door);
-        push_entries(alloc, tables, door, side, &mut labels, &mut rim)?;
+        if let Some(side) = side_of(window, door) {
+            let on = DoorSide { tables, door, side };
+            push_entries(alloc, on, &mut labels, &mut rim)?;
+        }
     }
     Ok(Items::from_vec(rim))
 }
 
-/// Appends what the rim lists for a door, if it lies on a side. The labels are room to work in.
-fn push_entries(
-    alloc: Global,
-    tables: &SideTables,
-    door: &Door,
-    side: Option<u32>,
-    labels: &mut Vec<Option<u32>>,
-    rim: &mut Vec<RimEdge>,
-) -> Result<(), AllocError>
-    requires order { AreInOrder tables.now }
-    requires side { IfSome side (λ s. s < 4) }
-    ensures { OnOk result (rim.new.items ≡ rim.old.items ++ option_map_or (entries_on tables.now door.now) side []) }
-{
-    if let Some(side) = side {
-        push_entries_on(alloc, tables, door, side, labels, rim)?;
-    }
-    Ok(())
+/// A door on a side, with the tables of the tile's sides.
+#[derive(Clone, Copy)]
+struct DoorSide<'a> {
+    tables: &'a SideTables,
+    door: &'a Door,
+    side: u32,
 }
 
-/// Appends what the rim lists for a door on a side.
-fn push_entries_on(
+/// Appends what the rim lists for a door on a side. The labels are room to work in.
+fn push_entries(
     alloc: Global,
-    tables: &SideTables,
-    door: &Door,
-    side: u32,
+    on: DoorSide,
     labels: &mut Vec<Option<u32>>,
     rim: &mut Vec<RimEdge>,
 ) -> Result<(), AllocError>
-    requires order { AreInOrder tables.now }
-    requires side { side < 4 }
-    ensures { OnOk result (rim.new.items ≡ rim.old.items ++ entries_on tables.now door.now side) }
+    requires order { AreInOrder on.tables.now }
+    requires side { on.side < 4 }
+    ensures { OnOk result (rim.new.items ≡ rim.old.items ++ entries_on on.entry.tables.now on.entry.door.now on.entry.side) }
 {
-    label_positions(tables, door, side, labels)?;
+    label_positions(on, labels)?;
     let parts = runs(alloc, labels.as_slice())?;
-    push_runs(alloc, tables, door, side, parts.as_slice(), rim)
+    push_runs(alloc, on, parts.as_slice(), rim)
 }
 
 /// Appends what the rim lists for a door on a side along runs of its positions.
 fn push_runs(
     alloc: Global,
-    tables: &SideTables,
-    door: &Door,
-    side: u32,
+    on: DoorSide,
     parts: &[Run],
     rim: &mut Vec<RimEdge>,
 ) -> Result<(), AllocError>
-    requires order { AreInOrder tables.now }
-    requires side { side < 4 }
-    requires runs { All (IsRunAlong side door.now) parts.now }
-    ensures { OnOk result (rim.new.items ≡ rim.old.items ++ map (entry_in tables.now door.now side) parts.now) }
+    requires order { AreInOrder on.tables.now }
+    requires side { on.side < 4 }
+    requires runs { All (IsRunAlong on.side on.door.now) parts.now }
+    ensures { OnOk result (rim.new.items ≡ rim.old.items ++ map (entry_in on.entry.tables.now on.entry.door.now on.entry.side) parts.now) }
 {
     for part in parts {
-        rim.push(entry(alloc, tables, door, side, *part)?)?;
+        rim.push(entry(alloc, on, *part)?)?;
     }
     Ok(())
 }
 
 /// Which of the positions over which a door runs belong to it and have a cell with a kept neighbour across.
 fn label_positions(
-    tables: &SideTables,
-    door: &Door,
-    side: u32,
+    on: DoorSide,
     labels: &mut Vec<Option<u32>>,
 ) -> Result<(), AllocError>
-    requires order { AreInOrder tables.now }
-    ensures value { OnOk result (labels.new.items ≡ labels_in tables.now door.now side) }
-    ensures inside { OnOk result (first_position side door.now + length labels.new.items < 2 ^ 32) }
+    requires order { AreInOrder on.tables.now }
+    ensures value { OnOk result (labels.new.items ≡ labels_in on.entry.tables.now on.entry.door.now on.entry.side) }
+    ensures inside { OnOk result (first_position on.entry.side on.entry.door.now + length labels.new.items < 2 ^ 32) }
 {
     labels.clear();
-    for position in first_position(side, door)..end_position(side, door) {
-        labels.push(label(tables, door, side, position))?;
+    for position in first_position(on.side, on.door)..end_position(on.side, on.door) {
+        labels.push(label(on, position))?;
     }
     Ok(())
 }
 
 /// The one label, for a position that belongs to a door and has a cell with a kept neighbour across.
-fn label(tables: &SideTables, door: &Door, side: u32, position: u32) -> Option<u32>
-    requires { AreInOrder tables.now }
-    ensures { result ≡ label_if (is_listed_in tables.now door.now side position) }
+fn label(on: DoorSide, position: u32) -> Option<u32>
+    requires { AreInOrder on.tables.now }
+    ensures { result ≡ label_if (is_listed_in on.entry.tables.now on.entry.door.now on.entry.side position) }
 {
-    if is_listed(tables, door, side, position) {
+    if is_listed(on, position) {
         Some(0)
     } else {
         None
@@ -126,17 +111,17 @@ fn label(tables: &SideTables, door: &Door, side: u32, position: u32) -> Option<u
 }
 
 /// Whether a position belongs to a door and has a cell with a kept neighbour across.
-fn is_listed(tables: &SideTables, door: &Door, side: u32, position: u32) -> bool
-    requires { AreInOrder tables.now }
-    ensures { result ≡ is_listed_in tables.now door.now side position }
+fn is_listed(on: DoorSide, position: u32) -> bool
+    requires { AreInOrder on.tables.now }
+    ensures { result ≡ is_listed_in on.entry.tables.now on.entry.door.now on.entry.side position }
 {
     let place = SidePlace {
-        region: door.region,
-        side,
+        region: on.door.region,
+        side: on.side,
         position,
     };
-    is_door(first_at(tables.doors.as_slice(), place), door)
-        && first_at(tables.cells.as_slice(), place).is_some()
+    is_door(first_at(on.tables.doors.as_slice(), place), on.door)
+        && first_at(on.tables.cells.as_slice(), place).is_some()
 }
 
 /// Whether a door is there and the same as another.
@@ -152,61 +137,57 @@ fn is_door(found: Option<Door>, door: &Door) -> bool
 /// What the rim lists for a door on a side along a run of its positions.
 fn entry(
     alloc: Global,
-    tables: &SideTables,
-    door: &Door,
-    side: u32,
+    on: DoorSide,
     part: Run,
 ) -> Result<RimEdge, AllocError>
-    requires tables { AreInOrder tables.now }
-    requires side { side < 4 }
-    requires run { IsRunAlong side door.now part }
-    ensures { IfOk result (λ entry. entry ≡ entry_in tables.now door.now side part) }
+    requires tables { AreInOrder on.tables.now }
+    requires side { on.side < 4 }
+    requires run { IsRunAlong on.side on.door.now part }
+    ensures { IfOk result (λ entry. entry ≡ entry_in on.entry.tables.now on.entry.door.now on.entry.side part) }
 {
-    let first = first_position(side, door) + part.first;
+    let first = first_position(on.side, on.door) + part.first;
     let count = part.last + 1 - part.first;
     Ok(RimEdge {
-        poly: door.polygon,
-        edge: door.edge,
-        side,
+        poly: on.door.polygon,
+        edge: on.door.edge,
+        side: on.side,
         first,
-        pairs: pairs(alloc, tables, door, side, first, count)?,
+        pairs: pairs(alloc, on, first, count)?,
     })
 }
 
 /// The levels at successive positions of a door.
 fn pairs(
     alloc: Global,
-    tables: &SideTables,
-    door: &Door,
-    side: u32,
+    on: DoorSide,
     first: u32,
     count: u32,
 ) -> Result<Items<LevelPair>, AllocError>
-    requires tables { AreInOrder tables.now }
-    requires side { side < 4 }
+    requires tables { AreInOrder on.tables.now }
+    requires side { on.side < 4 }
     requires inside { first + count ≤ 2 ^ 32 }
-    ensures { IfOk result (λ pairs. pairs ≡ map (pair_in tables.now door.now side) (range_with_len first count)) }
+    ensures { IfOk result (λ pairs. pairs ≡ map (pair_in on.entry.tables.now on.entry.door.now on.entry.side) (range_with_len first count)) }
 {
     let mut pairs = Vec::with_capacity(alloc, count as usize)?;
     for place in 0..count {
-        pairs.push(pair(tables, door, side, first + place))?;
+        pairs.push(pair(on, first + place))?;
     }
     Ok(Items::from_vec(pairs))
 }
 
 /// The levels of the first cell that stands at a position in the region of a door.
-fn pair(tables: &SideTables, door: &Door, side: u32, position: u32) -> LevelPair
-    requires tables { AreInOrder tables.now }
-    requires side { side < 4 }
-    ensures { result ≡ pair_in tables.now door.now side position }
+fn pair(on: DoorSide, position: u32) -> LevelPair
+    requires tables { AreInOrder on.tables.now }
+    requires side { on.side < 4 }
+    ensures { result ≡ pair_in on.entry.tables.now on.entry.door.now on.entry.side position }
 {
     let place = SidePlace {
-        region: door.region,
-        side,
+        region: on.door.region,
+        side: on.side,
         position,
     };
-    match first_at(tables.cells.as_slice(), place) {
-        Some(cell) => level_pair(side, &cell),
+    match first_at(on.tables.cells.as_slice(), place) {
+        Some(cell) => level_pair(on.side, &cell),
         None => LevelPair { own: 0, other: 0 },
     }
 }

@@ -16,4 +16,4 @@ mod table;
 
 pub use codes::{is_crossing, region_table, region_table_over};
 pub use round::{contour, contour_over};
-pub use table::RegionTable;
+pub use table::{RegionTable, Rim};

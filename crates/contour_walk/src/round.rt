@@ -9,15 +9,15 @@ ghost use Rattle.mesh_types.specs.Regions.{AreRegionsOf};
 ghost use Rattle.mesh_types.specs.Contours.{IsContour};
 ghost use Rattle.mesh_types.specs.LinkOrder.{is_point_before};
 ghost use Rattle.mesh_types.specs.Rings.{IsRing};
-ghost use Rattle.contour_walk.specs.Tables.{IsFit, IsRim, IsTableOf};
+ghost use Rattle.contour_walk.specs.Tables.{IsFit, IsRim};
 ghost use Rattle.contour_walk.specs.Walk.{edge_at, round, AreUpon};
 
 use crate::codes::region_table;
 use crate::sides::{push_bottoms, push_left_side, push_right_side, push_tops};
-use crate::table::{RegionTable, Rim};
+use crate::table::Rim;
 use mesh_types::{Regions, Strip, UnitEdge};
 use nav_base::Point;
-use nav_ground::{Cell, FreeLayer, Setting};
+use nav_ground::{FreeLayer, Setting};
 use nav_list::Items;
 use std::alloc::{AllocError, Global};
 
@@ -76,27 +76,15 @@ fn is_before(a: Point, b: Point) -> bool
 
 /// The contour of the region with a number, by the tables of its tile: the edges at its rim in whole cells, counterclockwise, from the
 /// least corner by x and then z.
-pub fn contour_over(
-    alloc: Global,
-    cells: &[Cell],
-    regions: &Regions,
-    table: &RegionTable,
-    id: u32,
-) -> Result<Items<UnitEdge>, AllocError>
-    requires cells { IsCells cells.now }
-    requires regions { AreRegionsOf cells.now regions.now }
-    requires table { IsTableOf cells.now regions.now.regions table.now }
-    requires there { id < length regions.now.regions }
-    ensures contour { IfOk result (IsContour table.now.window cells.now regions.now id) }
+pub fn contour_over(alloc: Global, rim: Rim, id: u32) -> Result<Items<UnitEdge>, AllocError>
+    requires rim { IsRim rim }
+    requires regions { AreRegionsOf rim.cells.now rim.regions.now }
+    requires there { id < length rim.regions.now.regions }
+    ensures contour { IfOk result (IsContour rim.entry.table.now.window rim.entry.cells.now rim.entry.regions.now id) }
     ensures ring { IfOk result IsRing }
-    ensures few { IfOk result (λ edges. length edges ≤ 4 * length cells.now) }
+    ensures few { IfOk result (λ edges. length edges ≤ 4 * length rim.entry.cells.now) }
 {
-    let rim = Rim {
-        cells,
-        regions,
-        table,
-    };
-    let strips = regions.regions.as_slice()[id as usize].strips.as_slice();
+    let strips = rim.regions.regions.as_slice()[id as usize].strips.as_slice();
     let mut edges = walk(alloc, rim, strips)?;
     let least = least_beginning(edges.as_slice());
     turn(edges.as_mut_slice(), least);
@@ -131,5 +119,10 @@ pub fn contour(
     ensures few { IfOk result (λ edges. length edges ≤ 4 * length free.now.cells) }
 {
     let table = region_table(alloc, free, setting, regions)?;
-    contour_over(alloc, free.cells.as_slice(), regions, &table, id)
+    let rim = Rim {
+        cells: free.cells.as_slice(),
+        regions,
+        table: &table,
+    };
+    contour_over(alloc, rim, id)
 }

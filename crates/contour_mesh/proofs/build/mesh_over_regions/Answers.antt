@@ -17,7 +17,7 @@ use Rattle.contour_mesh.proofs.build.mesh_over_regions.Goals as goal
 pub returns-in-None-clause-value : goal.returns-in-None-clause-value
 returns-in-None-clause-value c =
     subst (IsMeshOrCells c.args.setting.now c.args.free) (sym c.not_cut.ensures) (
-      no_mesh c.args.setting.now c.args.free c.requires.cells c.requires.tile c.args.regions.now c.requires.regions c.args.table.window
+      no_mesh c.args.setting.now c.args.free c.requires.cells c.requires.tile c.args.regions.now c.requires.regions c.args.tables.regions.window
           c.requires.window c.as_slice-cells.result.now c.as_slice-cells.ensures c.requires.all (sym c.in-None.is ∙ c.in_ok-parts.ensures.value),
       refl,
       c.requires.strips,
@@ -36,7 +36,7 @@ pub returns-in-None-clause-listed : goal.returns-in-None-clause-listed
 returns-in-None-clause-listed c = subst (IfMade (ListsCrossings c.args.setting.now)) (sym c.not_cut.ensures) tt
 
 pub mesh-requires-clause-window : goal.mesh-requires-clause-window
-mesh-requires-clause-window c = window_fits c.args.setting.now c.args.free.tile c.args.table.window c.requires.setting c.requires.window
+mesh-requires-clause-window c = window_fits c.args.setting.now c.args.free.tile c.args.tables.regions.window c.requires.setting c.requires.window
 
 pub mesh-requires-clause-parts : goal.mesh-requires-clause-parts
 mesh-requires-clause-parts c =
@@ -46,19 +46,19 @@ mesh-requires-clause-parts c =
 -- the parts as they were handed over
 pub mesh-requires-clause-each : goal.mesh-requires-clause-each
 mesh-requires-clause-each c =
-    no_more_parts c.args.setting.now c.args.free c.requires.cells c.requires.tile c.args.regions.now c.requires.regions c.args.table.window
+    no_more_parts c.args.setting.now c.args.free c.requires.cells c.requires.tile c.args.regions.now c.requires.regions c.args.tables.regions.window
     c.requires.window c.as_slice-cells.result.now c.as_slice-cells.ensures c.as_slice.result.now
     (ap (λ (parts : List Part). Some parts) c.as_slice.ensures ∙ sym c.in-Some.is ∙ c.in_ok-parts.ensures.value)
 
 pub mesh-requires-clause-few : goal.mesh-requires-clause-few
 mesh-requires-clause-few c =
-    few_polygons c.args.setting.now c.args.free c.requires.cells c.requires.tile c.args.regions.now c.requires.regions c.args.table.window
+    few_polygons c.args.setting.now c.args.free c.requires.cells c.requires.tile c.args.regions.now c.requires.regions c.args.tables.regions.window
     c.requires.window c.as_slice-cells.result.now c.as_slice-cells.ensures c.as_slice.result.now
     (ap (λ (parts : List Part). Some parts) c.as_slice.ensures ∙ sym c.in-Some.is ∙ c.in_ok-parts.ensures.value)
 
 pub returns-in_ok-mesh-in-Some-clause-value : goal.returns-in_ok-mesh-in-Some-clause-value
 returns-in_ok-mesh-in-Some-clause-value c =
-    mesh_is c.args.setting.now c.args.free c.requires.cells c.requires.tile c.args.regions.now c.requires.regions c.args.table.window
+    mesh_is c.args.setting.now c.args.free c.requires.cells c.requires.tile c.args.regions.now c.requires.regions c.args.tables.regions.window
     c.requires.window c.as_slice-cells.result.now c.as_slice-cells.ensures c.as_slice.result.now c.in_ok-mesh-in-Some.mesh c.requires.all
     (ap (λ (parts : List Part). Some parts) c.as_slice.ensures ∙ sym c.in-Some.is ∙ c.in_ok-parts.ensures.value)
     (c.in_ok-mesh-in-Some.ensures c.args.setting.now c.requires.window)

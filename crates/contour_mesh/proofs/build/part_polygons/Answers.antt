@@ -12,5 +12,5 @@ returns c =
     let P : List Polygon → Type 0 = λ wanted. IfOk c.polygons.result (λ polys. polys ≡ wanted) in
     subst P
     (ap (λ (footings : List (Option Footing)). map (facet_over_footing footings) (facets_of c.args.parts.now)) c.as_slice.ensures.value
-    ∙ polygons_are c.args.cells.now c.args.regions.now c.in_ok-footings.footings.items c.in_ok-footings.ensures (facets_of c.args.parts.now))
+    ∙ polygons_are c.args.source.cells.now c.args.source.regions.now c.in_ok-footings.footings.items c.in_ok-footings.ensures (facets_of c.args.parts.now))
     c.polygons.ensures

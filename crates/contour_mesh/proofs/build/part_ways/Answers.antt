@@ -20,8 +20,8 @@ doors-requires-clause-regions c =
     omega (
       arith,
       c.requires.each,
-      few_regions c.args.cells.now c.requires.cells c.args.regions.now c.requires.regions,
-      c.requires.cells.few,
+      few_regions c.args.source.cells.now c.requires.rim.cells c.args.source.regions.now c.requires.regions,
+      c.requires.rim.cells.few,
     )
 
 pub door_links-requires-clause-meet : goal.door_links-requires-clause-meet

@@ -7,4 +7,4 @@ use Rattle.contour_mesh.proofs.build.rim.Goals as goal
 pub returns : goal.returns
 returns c =
     let P : List RimEdge → Type 0 = λ wanted. IfOk c.door_rim.result (λ rim. rim ≡ wanted) in
-    subst P (rim_is c.args.table.now.window c.args.cells.now c.args.regions.now c.args.doors.now c.in_ok-tables.tables c.in_ok-tables.ensures) c.door_rim.ensures
+    subst P (rim_is c.args.source.table.now.window c.args.source.cells.now c.args.source.regions.now c.args.doors.now c.in_ok-tables.tables c.in_ok-tables.ensures) c.door_rim.ensures

@@ -8,11 +8,11 @@ overflow_cast-id-end c =
     omega (
       arith,
       c.len-id-end.ensures,
-      few_regions c.args.cells.now c.requires.cells c.args.regions.now c.requires.regions,
-      c.requires.cells.few,
+      few_regions c.args.source.cells.now c.requires.rim.cells c.args.source.regions.now c.requires.regions,
+      c.requires.rim.cells.few,
     )
 
 pub returns-then-found : goal.returns-then-found
 returns-then-found c = λ yes.
-    parts_stop c.args.table.now.window c.args.error c.args.cells.now c.args.regions.now c.loop-id.id (omega (arith, c.loop-id-test.true, c.len-id-end.ensures))
+    parts_stop c.args.source.table.now.window c.args.error c.args.source.cells.now c.args.source.regions.now c.loop-id.id (omega (arith, c.loop-id-test.true, c.len-id-end.ensures))
     (c.in_ok-found.ensures c.if-found.true)

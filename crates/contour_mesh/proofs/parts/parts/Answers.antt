@@ -12,8 +12,8 @@ overflow_cast-id-end c =
     omega (
       arith,
       c.len-id-end.ensures,
-      few_regions c.args.cells.now c.requires.cells c.args.regions.now c.requires.regions,
-      c.requires.cells.few,
+      few_regions c.args.source.cells.now c.requires.rim.cells c.args.source.regions.now c.requires.regions,
+      c.requires.rim.cells.few,
     )
 
 pub returns-then-flat-clause-value : goal.returns-then-flat-clause-value
@@ -21,18 +21,18 @@ returns-then-flat-clause-value c = c.in_ok-flat.ensures c.if-flat.true
 
 pub returns-in_default-clause-value : goal.returns-in_default-clause-value
 returns-in_default-clause-value c =
-    parts_stop c.args.table.now.window c.args.error c.args.cells.now c.args.regions.now c.loop-id.id (omega (arith, c.loop-id-test.true, c.len-id-end.ensures))
+    parts_stop c.args.source.table.now.window c.args.error c.args.source.cells.now c.args.source.regions.now c.loop-id.id (omega (arith, c.loop-id-test.true, c.len-id-end.ensures))
     (sym c.in_default.is ∙ c.in_ok-part.ensures.value)
 
 pub loop-id-preserved : goal.loop-id-preserved
 loop-id-preserved c =
     let P : Option Part → Type 0 = λ found. IfSome found IsCutPart in
-    parts_more (region_part c.args.table.now.window c.args.error c.args.cells.now c.args.regions.now) c.loop-id.id c.loop-id.parts.items c.push.new.self.items
+    parts_more (region_part c.args.source.table.now.window c.args.error c.args.source.cells.now c.args.source.regions.now) c.loop-id.id c.loop-id.parts.items c.push.new.self.items
     c.in-Some.part c.loop-id.invariant (sym c.in-Some.is ∙ c.in_ok-part.ensures.value) (subst P c.in-Some.is c.in_ok-part.ensures.part)
     c.in_ok-push.ensures.items
 
 pub returns-clause-value : goal.returns-clause-value
 returns-clause-value c =
     ap (λ (parts : List Part). Some parts) c.from_vec.ensures
-    ∙ parts_all c.args.table.now.window c.args.error c.args.cells.now c.args.regions.now c.loop-id.id c.loop-id.parts.items
+    ∙ parts_all c.args.source.table.now.window c.args.error c.args.source.cells.now c.args.source.regions.now c.loop-id.id c.loop-id.parts.items
     (omega (arith, c.loop-id-test.false, c.loop-id.auto.id-end, c.len-id-end.ensures)) c.loop-id.invariant

@@ -4,4 +4,4 @@ use Rattle.contour_mesh.proofs.parts.parts.Given as goal
 
 -- the parts of the regions so far, each of which has one
 abbrev pub invariant-loop-id : goal.invariant-loop-id
-invariant-loop-id l = ArePartsSoFar (region_part l.table.window l.error l.cells l.regions) l.id l.parts.items
+invariant-loop-id l = ArePartsSoFar (region_part l.source.table.now.window l.error l.source.cells.now l.source.regions.now) l.id l.parts.items

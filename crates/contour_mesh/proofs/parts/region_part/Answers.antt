@@ -6,14 +6,14 @@ use Rattle.contour_mesh.proofs.parts.region_part.Goals as goal
 
 pub returns-in-Flat-clause-value : goal.returns-in-Flat-clause-value
 returns-in-Flat-clause-value c =
-    part_flat c.args.table.now.window c.args.error c.args.cells.now c.args.regions.now c.args.id c.in_ok-edges.edges c.as_slice.result.now
+    part_flat c.args.source.table.now.window c.args.error c.args.source.cells.now c.args.source.regions.now c.args.id c.in_ok-edges.edges c.as_slice.result.now
     c.in_ok-simplify.field-0 c.in_ok-edges.ensures.contour c.in_ok-edges.ensures.ring c.as_slice.ensures c.in_ok-simplify.ensures.value c.in-Flat.is
 
 pub returns-clause-value : goal.returns-clause-value
 returns-clause-value c =
     let P : Option Part → Type 0 = λ found. IfOk c.cut_part.result (λ part. part ≡ found) in
     subst P
-    (part_outline c.args.table.now.window c.args.error c.args.cells.now c.args.regions.now c.args.id c.in_ok-edges.edges c.as_slice.result.now
+    (part_outline c.args.source.table.now.window c.args.error c.args.source.cells.now c.args.source.regions.now c.args.id c.in_ok-edges.edges c.as_slice.result.now
     c.in_ok-simplify.field-0 c.in-Outline.outline c.in_ok-edges.ensures.contour c.in_ok-edges.ensures.ring c.as_slice.ensures c.in_ok-simplify.ensures.value
     c.in-Outline.is)
     c.cut_part.ensures.value

@@ -8,5 +8,5 @@ use Rattle.contour_mesh.proofs.rim.label_positions.Given as goal
 -- the labels of the positions so far
 abbrev pub invariant-loop-position : goal.invariant-loop-position
 invariant-loop-position l =
-    AreMadeUpTo (λ position. label_if (is_listed_in l.tables l.door l.side position)) [] (first_position l.side l.door) (end_position l.side l.door) l.position
+    AreMadeUpTo (λ position. label_if (is_listed_in l.on.tables.now l.on.door.now l.on.side position)) [] (first_position l.on.side l.on.door.now) (end_position l.on.side l.on.door.now) l.position
     l.labels.items

@@ -5,4 +5,4 @@ use Rattle.contour_mesh.proofs.rim.pairs.Given as goal
 
 -- the levels at the places so far
 abbrev pub invariant-loop-place : goal.invariant-loop-place
-invariant-loop-place l = l.pairs.items ≡ map (pair_in l.tables l.door l.side) (range_with_len l.first l.place)
+invariant-loop-place l = l.pairs.items ≡ map (pair_in l.on.tables.now l.on.door.now l.on.side) (range_with_len l.first l.place)

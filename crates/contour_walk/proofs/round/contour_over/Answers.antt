@@ -14,16 +14,16 @@ use Rattle.contour_walk.proofs.round.contour_over.Goals as goal
 pub walk-requires-clause-fit : goal.walk-requires-clause-fit
 walk-requires-clause-fit c =
     let P : List Strip → Type 0 = All IsFit in
-    subst P (sym (strips_read c.args.cells.now c.requires.cells c.args.regions.now c.requires.regions c.args.id c.requires.there c.as_slice.result.now
+    subst P (sym (strips_read c.args.rim.cells.now c.requires.rim.cells c.args.rim.regions.now c.requires.regions c.args.id c.requires.there c.as_slice.result.now
     c.index-as_slice-id.result c.as_slice-strips.result.now c.as_slice.ensures c.as_slice-strips.ensures))
-    (region_fits c.args.cells.now c.requires.cells c.args.regions.now c.requires.regions c.args.id c.requires.there)
+    (region_fits c.args.rim.cells.now c.requires.rim.cells c.args.rim.regions.now c.requires.regions c.args.id c.requires.there)
 
 -- the walk of the code, and what becomes of it
-walked : (c : goal.After-from_vec) → c.in_ok-edges.edges.items ≡ round (edge_at c.args.table.now.window c.args.cells.now c.args.regions.now) (strips_in c.args.regions.now c.args.id)
+walked : (c : goal.After-from_vec) → c.in_ok-edges.edges.items ≡ round (edge_at c.args.rim.table.now.window c.args.rim.cells.now c.args.rim.regions.now) (strips_in c.args.rim.regions.now c.args.id)
 walked c =
     c.in_ok-edges.ensures
-    ∙ ap (round (edge_at c.args.table.now.window c.args.cells.now c.args.regions.now))
-    (strips_read c.args.cells.now c.requires.cells c.args.regions.now c.requires.regions c.args.id c.requires.there c.as_slice.result.now
+    ∙ ap (round (edge_at c.args.rim.table.now.window c.args.rim.cells.now c.args.rim.regions.now))
+    (strips_read c.args.rim.cells.now c.requires.rim.cells c.args.rim.regions.now c.requires.regions c.args.id c.requires.there c.as_slice.result.now
     c.index-as_slice-id.result c.as_slice-strips.result.now c.as_slice.ensures c.as_slice-strips.ensures)
 
 turned : (c : goal.After-from_vec)
@@ -43,14 +43,14 @@ returns-clause-contour c =
     let P : List UnitEdge → Type 0 = λ es. (0 < length es → m < length es)
     × ((k : ℕ) (d : UnitEdge) → k < length es → IsNoLater (get_or es m d).from (get_or es k d).from) in
     let least = subst P c.as_slice-2.ensures.value (c.least_beginning-least.ensures.there, c.least_beginning-least.ensures.least) in
-    walk_contour c.args.cells.now c.requires.cells c.args.regions.now c.requires.regions c.args.id c.requires.there c.args.table.now.window
+    walk_contour c.args.rim.cells.now c.requires.rim.cells c.args.rim.regions.now c.requires.regions c.args.id c.requires.there c.args.rim.table.now.window
     c.in_ok-edges.edges.items c.from_vec.result m (walked c) (turned c) least.0 least.1
 
 pub returns-clause-ring : goal.returns-clause-ring
 returns-clause-ring c =
-    walk_ring c.args.cells.now c.requires.cells c.args.regions.now c.requires.regions c.args.id c.requires.there c.args.table.now.window
+    walk_ring c.args.rim.cells.now c.requires.rim.cells c.args.rim.regions.now c.requires.regions c.args.id c.requires.there c.args.rim.table.now.window
     c.in_ok-edges.edges.items c.from_vec.result c.least_beginning-least.result (walked c) (turned c)
 
 pub returns-clause-few : goal.returns-clause-few
 returns-clause-few c =
-    contour_few c.args.table.now.window c.args.cells.now c.args.regions.now c.requires.regions c.args.id c.requires.there c.from_vec.result (returns-clause-contour c)
+    contour_few c.args.rim.table.now.window c.args.rim.cells.now c.args.rim.regions.now c.requires.regions c.args.id c.requires.there c.from_vec.result (returns-clause-contour c)

@@ -5,7 +5,7 @@ use Rattle.mesh_types.specs.declared.label_runs.Run.{Run}
 use Rattle.mesh_types.specs.Runs.{runs_of}
 use Rattle.mesh_types.proofs.RunLaws.{IsRunOf, runs_are_runs}
 use Rattle.contour_mesh.specs.RimTables.{entry_in}
-use Rattle.contour_mesh.proofs.rim.push_entries_on.Goals as goal
+use Rattle.contour_mesh.proofs.rim.push_entries.Goals as goal
 
 -- the runs that are found are runs of the labels
 runs_inside : (labels : List (Option ℕ)) (found : List Run) → found ≡ runs_of labels → All (IsRunOf labels) found
@@ -25,6 +25,6 @@ pub returns : goal.returns
 returns c =
     on_ok_weaker c.push_runs.result
     (λ is. is
-    ∙ ap (λ (parts : List Run). c.args.rim.now.items ++ map (entry_in c.args.tables.now c.args.door.now c.args.side) parts)
+    ∙ ap (λ (parts : List Run). c.args.rim.now.items ++ map (entry_in c.args.on.tables.now c.args.on.door.now c.args.on.side) parts)
     (c.as_slice-2.ensures.value ∙ c.in_ok-parts.ensures ∙ ap runs_of (c.as_slice.ensures.value ∙ c.in_ok-label_positions.ensures.value)))
     c.push_runs.ensures
