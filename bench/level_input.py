@@ -4,10 +4,11 @@ steps, hanging spans and low ceilings, for an agent with a radius; and LINES scr
 and settles. MESH is strips or contours, with its ERROR. With WORKERS of at least 1 the script also has rays and the workers' single steps:
 aims, claims, submits, backs and publishes. With KIND `smooth` the field has few holes, areas in patches, and ramps between the two floors,
 so that regions are large and most questions are answered by paths. With AREAS `areas` two obstacles in five set an area. With HOPS `hops`
-the script begins with 60 jumps, and one line in four asks for a hop walk or declares a further jump, up to 256. The same arguments give the
-same bytes.
+the script begins with 60 jumps, and one line in four asks for a hop walk or declares a further jump, up to 256. With CLEAR 0 or 1 the field
+text is of the second form and says so of clearance; with 1 the agent has a radius of at least 1. The same arguments give the same bytes.
 
-usage: level_input.py [SIDE [LINES [SEED [MESH [ERROR [WORKERS [KIND [AREAS [HOPS]]]]]]]]]     (defaults 40 300 1 strips 169 0 rough none none)
+usage: level_input.py [SIDE [LINES [SEED [MESH [ERROR [WORKERS [KIND [AREAS [HOPS [CLEAR]]]]]]]]]]
+       (defaults 40 300 1 strips 169 0 rough none none none)
 """
 import random
 import sys
@@ -20,6 +21,7 @@ error, workers = [int(word) for word in sys.argv[5:7]] + [169, 0][len(sys.argv[5
 kind = sys.argv[7] if len(sys.argv) > 7 else "rough"
 areas = sys.argv[8:9] == ["areas"]
 hops = sys.argv[9:10] == ["hops"]
+clear = [f"clear {word}" for word in sys.argv[10:11] if word in ("0", "1")]
 
 
 def rough_column(x, z):
@@ -54,8 +56,11 @@ def smooth_column(x, z):
 
 tile = random.choice([4, 7, 16, 48])
 climb, radius = (random.randrange(6), random.randrange(4)) if kind == "rough" else (random.choice([2, 3, 4]), random.choice([0, 0, 1, 2]))
-out = ["nav 1", f"size {side} {side - 3}", f"tile {tile}", f"agent 10 {climb} {radius}",
-       f"error {error}", f"mesh {mesh}", f"limit {random.choice([3, 64])}"] + [["cost 5 3"], []][random.randrange(2)] + ["cost 20 7"] * areas
+if clear == ["clear 1"]:
+    radius = max(1, radius)
+    tile = max(2 * radius, tile)
+out = [f"nav {len(clear) + 1}", f"size {side} {side - 3}", f"tile {tile}", f"agent 10 {climb} {radius}", f"error {error}", f"mesh {mesh}",
+       f"limit {random.choice([3, 64])}", *clear] + [["cost 5 3"], []][random.randrange(2)] + ["cost 20 7"] * areas
 floors = []
 for z in range(side - 3):
     for x in range(side):

@@ -17,7 +17,9 @@ import tempfile
 
 
 def level(size, tile, rng):
-    lines = ["nav 1", f"size {size} {size}", f"tile {tile}", "agent 10 4 2", "error 169", rng.choice(["mesh strips", "mesh contours"]), "limit 24", "cost 20 3", "cost 30 7"]
+    form = rng.randrange(3)
+    lines = [f"nav {min(form + 1, 2)}", f"size {size} {size}", f"tile {tile}", "agent 10 4 2", "error 169", rng.choice(["mesh strips", "mesh contours"]), "limit 24"]
+    lines += [f"clear {form - 1}"] * (form > 0) + ["cost 20 3", "cost 30 7"]
     for z in range(size):
         for x in range(size):
             lines.append(f"span {x} {z} 0 {40 if rng.random() < 1 / 64 else 10} 63")

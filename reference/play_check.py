@@ -1,10 +1,11 @@
 #!/usr/bin/env python3
 """A plain second program for `navd play`: works an input out and compares what `navd` wrote for it, line by line. It finds the ground from the
-rules, over dictionaries of columns and cells with a queue for the clearance, tests every shape against every cell, and builds tiles by
-strips or by outlines with `contours.py`. Of a path or a hop walk it finds the least cost by a search of its own, and tests that the links
-and jumps are a walk of that cost and that the turns of each stretch of links are taut, part by part of the rule. It follows a ray from
-polygon to polygon with reduced fractions and sorted lists. The published mesh is made from scratch from the shapes that were alive, and the
-book of tiles that await a build has nothing but lists of shapes. It shares nothing with `navd`, and is slow.
+rules, over dictionaries of columns and cells with a queue for the clearance, tests every shape against every cell, measures the clearance
+from obstacles among all cells of a tile and round it, and builds tiles by strips or by outlines with `contours.py`. Of a path or a hop walk
+it finds the least cost by a search of its own, and tests that the links and jumps are a walk of that cost and that the turns of each stretch
+of links are taut, part by part of the rule. It follows a ray from polygon to polygon with reduced fractions and sorted lists. The published
+mesh is made from scratch from the shapes that were alive, and the book of tiles that await a build has nothing but lists of shapes. It
+shares nothing with `navd`, and is slow.
 
 usage: play_check.py INPUT OUTPUT [SUMMARY]      ends with 1 and says where, at the first line that is wrong
 With SUMMARY it also compares what `navd gen` wrote, of which INPUT is the made input, with what it counted.
@@ -28,6 +29,10 @@ height, climb, radius = map(int, lines[3].split()[1:])
 error = int(lines[4].split()[1]) if lines[5] == "mesh contours" else None
 limit = int(lines[6].split()[1])
 at, costs = 7, {}
+clear = lines[0] == "nav 2" and lines[7] == "clear 1"
+if lines[0] == "nav 2":
+    at = 8
+margin = radius if clear else 0
 while lines[at].startswith("cost "):
     area, cost = map(int, lines[at].split()[1:])
     costs[area] = cost
@@ -89,26 +94,43 @@ for (x, z), column in cells.items():
                 if fits(cell, other) and abs(cell[0] - other[0]) <= climb:
                     cell[3][dir] = other
 
-# The clearance of each cell, by its identity.
-clearance, queue = {}, []
-for column in cells.values():
-    for cell in column:
-        if None in cell[3]:
-            clearance[id(cell)] = 0
-            queue.append((0, id(cell), cell))
-heapq.heapify(queue)
-while queue:
-    cost, key, cell = heapq.heappop(queue)
-    if cost > clearance[key]:
-        continue
-    for dir, by in enumerate(cell[3]):
-        if by is None:
+
+
+def clearances(those):
+    """The clearance of each of these cells among them, by its identity: the least cost of a walk over them from one that has not four
+    neighbours among them. A cell to which no such walk leads has none."""
+    there = {id(cell) for cell in those}
+
+    def next_of(cell, dir):
+        by = cell[3][dir]
+        return by if id(by) in there else None
+
+    found = {id(cell): 0 for cell in those if any(next_of(cell, dir) is None for dir in range(4))}
+    queue = [(0, id(cell), cell) for cell in those if id(cell) in found]
+    heapq.heapify(queue)
+    while queue:
+        cost, key, cell = heapq.heappop(queue)
+        if cost > found[key]:
             continue
-        for further, to in [(2, by), (3, by[3][(dir + 1) % 4]), (3, by[3][(dir + 3) % 4])]:
-            if to is not None and cost + further < clearance.get(id(to), 10 ** 9):
-                clearance[id(to)] = cost + further
-                heapq.heappush(queue, (cost + further, id(to), to))
-kept = {(x, z): [cell for cell in column if clearance.get(id(cell), 10 ** 9) >= 2 * radius] for (x, z), column in cells.items()}
+        for dir in range(4):
+            by = next_of(cell, dir)
+            if by is None:
+                continue
+            for further, to in [(2, by), (3, next_of(by, (dir + 1) % 4)), (3, next_of(by, (dir + 3) % 4))]:
+                if to is not None and cost + further < found.get(id(to), 10 ** 9):
+                    found[id(to)] = cost + further
+                    heapq.heappush(queue, (cost + further, id(to), to))
+    return found
+
+
+def well_clear(those):
+    """The identities of these cells whose clearance among them is at least twice the radius."""
+    found = clearances(those)
+    return {id(cell) for cell in those if found.get(id(cell), 10 ** 9) >= 2 * radius}
+
+
+far_from_walls = well_clear([cell for column in cells.values() for cell in column])
+kept = {(x, z): [cell for cell in column if id(cell) in far_from_walls] for (x, z), column in cells.items()}
 place_of = {id(cell): (x, z, level) for (x, z), column in cells.items() for level, cell in enumerate(column)}
 kept_at = {place_of[id(cell)]: cell for column in kept.values() for cell in column}
 
@@ -121,7 +143,7 @@ tile_count = -(-width // tile_side) * -(-depth // tile_side)
 stored, claimed, held = [[] for _ in range(tile_count)], set(), [None] * workers
 adds = [[] for _ in range(lanes)]
 jumps = []
-mesh_kept, built_kept = None, {}
+free_kept, mesh_kept, built_kept = None, None, {}
 said = 0
 counts = {"path": 0, "nopath": 0, "nostart": 0, "nogoal": 0, "cost": 0}
 
@@ -170,14 +192,30 @@ def area_under(shapes, x, z, cell):
 
 
 def touches(shape, tile):
-    """Whether the bounds of a shape have a column of the field in common with a tile."""
+    """Whether the bounds of a shape, widened by the columns that agents keep from obstacles, have a column in common with a tile."""
     x0, x1, z0, z1 = window(tile)
     kind, n, _ = shape
     if kind == "block":
-        return n[0] <= x1 and x0 <= n[1] and n[4] <= z1 and z0 <= n[5]
+        return n[0] - margin <= x1 and x0 <= n[1] + margin and n[4] - margin <= z1 and z0 <= n[5] + margin
     cx, cz, r = n[:3]
-    return (any(abs(2 * x + 1 - cx) <= 2 * r + 1 for x in range(x0, x1 + 1))
-            and any(abs(2 * z + 1 - cz) <= 2 * r + 1 for z in range(z0, z1 + 1)))
+    return (any(abs(2 * x + 1 - cx) <= 2 * r + 1 for x in range(x0 - margin, x1 + margin + 1))
+            and any(abs(2 * z + 1 - cz) <= 2 * r + 1 for z in range(z0 - margin, z1 + margin + 1)))
+
+
+def free_in(tile, shapes):
+    """The free cells of a tile under these shapes: the floor and the area of each, by its place. Where agents keep their radius from obstacles
+    they are those whose clearance is right among all cells of the tile and as many columns round it that no shape blocks."""
+    x0, x1, z0, z1 = window(tile)
+    if clear:
+        wide = [cell for z in range(z0 - margin, z1 + margin + 1) for x in range(x0 - margin, x1 + margin + 1) for cell in cells.get((x, z), [])]
+        right = well_clear([cell for cell in wide if not is_blocked(shapes, *place_of[id(cell)][:2], cell[0])])
+    free = {}
+    for z in range(z0, z1 + 1):
+        for x in range(x0, x1 + 1):
+            for cell in kept[x, z]:
+                if not is_blocked(shapes, x, z, cell[0]) and (not clear or id(cell) in right):
+                    free[place_of[id(cell)]] = cell[0], area_under(shapes, x, z, cell)
+    return free
 
 
 def touching(tile):
@@ -267,11 +305,7 @@ def built(tile, free):
 def published_mesh():
     """The polygons under the published shapes, by tile and place, and the links that leave each of them: edge, polygon entered, left end,
     right end. Over borders a link goes where two tiles have a connected pair of free cells on their rims."""
-    shapes = [shape for _, shape in sorted(published.items())]
-    free = [{} for _ in range(tile_count)]
-    for (x, z, level), cell in kept_at.items():
-        if not is_blocked(shapes, x, z, cell[0]):
-            free[tile_of(x, z)][x, z, level] = (cell[0], area_under(shapes, x, z, cell))
+    free = free_now()
     polygons, links, rims = {}, {}, {}
     for tile in range(tile_count):
         made, inner, rim = built(tile, free[tile])
@@ -494,6 +528,15 @@ def check_ray(words):
         here = min(onward)[1]
 
 
+def free_now():
+    """The free cells of each tile under the published shapes."""
+    global free_kept
+    if free_kept is None or free_kept[0] != published:
+        shapes = [shape for _, shape in sorted(published.items())]
+        free_kept = (dict(published), [free_in(tile, shapes) for tile in range(tile_count)])
+    return free_kept[1]
+
+
 def mesh_now():
     global mesh_kept
     if mesh_kept is None or mesh_kept[0] != published:
@@ -529,9 +572,8 @@ for line in lines[at + 2:]:
         expect(step(words[0], int(words[1])))
     elif words[0] == "floor":
         x, z = int(words[1]), int(words[2])
-        shapes = [shape for _, shape in sorted(published.items())]
-        free = [cell for cell in kept.get((x, z), []) if not is_blocked(shapes, x, z, cell[0])]
-        expect(f"floors {published_length} {len(free)}" + "".join(f" {cell[0]} {area_under(shapes, x, z, cell)}" for cell in free))
+        free = [it for place, it in sorted(free_now()[tile_of(x, z)].items()) if place[:2] == (x, z)] if (x, z) in kept else []
+        expect(f"floors {published_length} {len(free)}" + "".join(f" {floor} {area}" for floor, area in free))
     elif words[0] == "path":
         check_walk(words, {})
     elif words[0] == "jump":

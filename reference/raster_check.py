@@ -12,7 +12,7 @@ import sys
 from fractions import Fraction
 
 FORM, RANGE, ORDER, CLIMB, UNFINISHED = 1, 2, 3, 5, 7
-LIMITS = {"size": [(1, 1024)] * 2, "tile": [(4, 128)], "agent": [(1, 255), (0, 254), (0, 15)], "error": [(0, 10000)], "limit": [(1, 1024)],
+LIMITS = {"size": [(1, 1024)] * 2, "tile": [(4, 128)], "agent": [(1, 255), (0, 254), (0, 15)], "error": [(0, 10000)], "limit": [(1, 1024)], "clear": [(0, 1)],
     "cost": [(1, 63), (1, 1000)], "tri": [(0, 16384), (0, 8190), (0, 16384)] * 3 + [(0, 63)]}
 
 
@@ -81,15 +81,15 @@ def fault_of(text):
     """The line and the kind of a text's first fault, or None."""
     lines = text.split("\n")
     rest = lines.pop()
-    places = ["nav", "size", "tile", "agent", "error", "mesh", "limit", "body"]
-    place, area, tris = 0, 0, 0
+    places = ["nav", "size", "tile", "agent", "error", "mesh", "limit"] + ["clear"] * (lines[:1] == ["nav 2"]) + ["body"]
+    place, area, tris, said = 0, 0, 0, {}
     for at, line in enumerate(lines, 1):
         name = places[place]
         first = line.split(" ")[0]
         if name == "after":
             return at, FORM
         if name == "nav" or name == "mesh":
-            if line not in (["nav 1"] if name == "nav" else ["mesh strips", "mesh contours"]):
+            if line not in (["nav 1", "nav 2"] if name == "nav" else ["mesh strips", "mesh contours"]):
                 return at, FORM
             place += 1
             continue
@@ -106,14 +106,17 @@ def fault_of(text):
             return at, FORM
         if not all(least <= it <= most for it, (least, most) in zip(found, LIMITS[name])):
             return at, RANGE
+        if name == "clear" and found[0] and said["tile"][0] < 2 * said["agent"][2]:
+            return at, RANGE
         if name == "agent" and found[1] >= found[0]:
             return at, CLIMB
+        said[name] = found
         if name == "cost":
             if found[0] <= area:
                 return at, ORDER
             area = found[0]
         tris += name == "tri"
-        place += place < 7
+        place += places[place] != "body"
     return None if places[place] == "after" and not rest else (len(lines) + 1, UNFINISHED)
 
 
@@ -148,8 +151,11 @@ def random_text(rng):
     width, depth, high = rng.randrange(1, 7), rng.randrange(1, 7), rng.choice([3, 12, 60, 8191])
     climb = rng.choice([0, 0, 1, 4, 30])
     triangles = [triangle(rng, width, depth, high) for _ in range(rng.randrange(9))]
-    head = ["nav 1", f"size {width} {depth}", f"tile {rng.randrange(4, 129)}", f"agent {climb + rng.randrange(1, 20)} {climb} {rng.randrange(16)}",
+    tile, radius, form = rng.randrange(4, 129), rng.randrange(16), rng.choice(["nav 1", "nav 2"])
+    head = [form, f"size {width} {depth}", f"tile {tile}", f"agent {climb + rng.randrange(1, 20)} {climb} {radius}",
         f"error {rng.randrange(10001)}", rng.choice(["mesh strips", "mesh contours"]), f"limit {rng.randrange(1, 1025)}"]
+    if form == "nav 2":
+        head.append(f"clear {int(tile >= 2 * radius) * rng.randrange(2)}")
     head += [f"cost {area} {rng.randrange(1, 1001)}" for area in sorted(rng.sample(range(1, 64), rng.choice([0, 0, 1, 3])))]
     return head, (width, depth, climb), triangles
 
@@ -169,7 +175,7 @@ def broken(rng, text):
         lines[at] = lines[at].replace(" ", rng.choice(["  ", "\t", " 0", " -", " +"]), 1)
     elif draw == 4:
         words = lines[at].split(" ")
-        words[rng.randrange(len(words))] = rng.choice(["8191", "16385", "64", "0", "4294967296", "1025", "x", ""])
+        words[rng.randrange(len(words))] = rng.choice(["8191", "16385", "64", "0", "1", "2", "4294967296", "1025", "x", ""])
         lines[at] = " ".join(words).rstrip("\n") + "\n"
     elif draw == 5:
         lines[at] = rng.choice(["tri 0 0 0 0 0 0 0 0 0 0\n", "cost 63 1\n", "span 0 0 0 1 63\n", "end\n", "\n", "script 1 1\n"])

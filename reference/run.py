@@ -81,18 +81,41 @@ def made_inputs():
             summary.unlink()
 
 
+def second_form(lines, clear):
+    """The lines of an input of the first form as those of one of the second, which says this of clearance."""
+    return ["nav 2", *lines[1:7], f"clear {clear}", *lines[7:]]
+
+
+def without_clearance():
+    """Inputs that say `clear 0` are played as the examples of the first form, and so are ones with `clear 1` that have no obstacles."""
+    for path in sorted((TOP / "examples").glob("*.nav")):
+        out, lines = path.with_suffix(".out"), path.read_text().split("\n")
+        if lines[0] == "nav 1" and out.exists() and not out.read_text().startswith("fault "):
+            ran = subprocess.run([navd, "play"], input="\n".join(second_form(lines, 0)).encode(), capture_output=True)
+            told(f"{path.name} with clear 0", ran.returncode == 0 and ran.stdout == out.read_bytes(), "the same")
+    for n in range(seed, seed + 4):
+        words = [40, 60, n, ("strips", "contours")[n % 2], 169, 0, ("rough", "smooth")[n // 2 % 2], "none", "none", 1]
+        path = made("level_input.py", *words)
+        lines = [line for line in path.read_text().split("\n") if not line.startswith(("add ", "drop "))]
+        texts = ["\n".join([*lines[:7], f"clear {clear}", *lines[8:]]) for clear in (0, 1)]
+        ran = [subprocess.run([navd, "play"], input=text.encode(), capture_output=True) for text in texts]
+        told(f"level {n} without obstacles", ran[0].returncode == 0 and ran[0].stdout == ran[1].stdout, "the same with clear 0 and with clear 1")
+        path.unlink()
+
+
 def random_levels():
     """Rough and smooth levels by turns, as strips and by outlines, without workers and with them, some with obstacles that set areas, some with
-    jumps and hop walks."""
+    jumps and hop walks, some where agents keep their radius from obstacles."""
     for n in range(seed, seed + levels):
         mesh = ("strips", "contours")[n % 2]
         words = [(20, 40, 56)[n % 3], 120, n, mesh, (0, 49, 169, 400)[n % 4], (0, 3)[n // 2 % 2], ("rough", "smooth")[n // 4 % 2]]
-        words += ["areas" if n % 5 < 2 else "none", "hops" if n % 3 == 1 else "none"]
+        words += ["areas" if n % 5 < 2 else "none", "hops" if n % 3 == 1 else "none", ("none", 1, 1, 0, 1, 1, "none")[n % 7]]
         play("level " + " ".join(map(str, words)), made("level_input.py", *words))
 
 
 examples()
 made_inputs()
+without_clearance()
 random_levels()
 live(f"{levels // 2} live runs, seed {seed}", levels // 2, seed)
 if failed:

@@ -7,6 +7,7 @@ use Rattle.std.proofs.lemmas.List.FromFn.{length-map-range_with_len, get_or-map-
 use Rattle.nav_ground.specs.declared.field.Span.{Span}
 use Rattle.nav_ground.specs.Limits.{IsSetting}
 use Rattle.nav_ground.specs.Fields.{IsSpan, IsSpanBefore, IsField}
+use Rattle.span_text.specs.declared.header.TextForm.TheVariants.{First}
 use Rattle.span_text.specs.FieldText.{IsFieldText}
 use Rattle.nav_gen.specs.Draws.{draw}
 use Rattle.nav_gen.specs.MadeField.{IsMadeSize, made_setting, made_span, made_spans, made_field}
@@ -86,4 +87,4 @@ field_rules number size fits =
 
 unfoldable pub field_text : (number size : ℕ) → IsFieldText (made_field_text number size) (made_setting size) (made_field number size)
 unfolding made_field_text
-field_text number size = record { costs = []; rise = tt; table = refl; clear = refl; width = refl; depth = refl; spelled = refl }
+field_text number size = record { form = First; costs = []; rise = tt; table = refl; clear = λ first. refl; width = refl; depth = refl; spelled = refl }

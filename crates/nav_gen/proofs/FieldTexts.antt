@@ -6,6 +6,7 @@ use Rattle.std.specs.Fmt.{digits}
 use Rattle.nav_ground.specs.declared.field.Span.{Span}
 use Rattle.nav_text.specs.Lines.{ended, text_of}
 use Rattle.nav_text.specs.Forms.{line_text}
+use Rattle.span_text.specs.declared.header.TextForm.TheVariants.{First}
 use Rattle.span_text.specs.FieldText.{header_lines, span_text}
 use Rattle.nav_script.specs.Spelling.{line_of}
 use Rattle.nav_gen.specs.Draws.{next_state, state_after, draw}
@@ -24,7 +25,7 @@ setting_text = refl
 pub header_written : {E : Type 0} (r : Result (Unit {0}) E) (old one two new : List ℕ) (size : ℕ) → one ≡ old ++ codes "nav 1\n"
     → two ≡ one ++ ended (line_text (codes "size") (size ∷ size ∷ []))
     → new ≡ cond (is_ok r) (two ++ codes "tile 32\nagent 10 4 2\nerror 169\nmesh contours\nlimit 64\n") two
-    → OnOk r (new ≡ old ++ text_of (header_lines (made_setting size)))
+    → OnOk r (new ≡ old ++ text_of (header_lines First (made_setting size)))
 header_written (Err error) old one two new size first second third = tt
 header_written (Ok done) old one two new size first second third =
     let sized = ended (line_text (codes "size") (size ∷ size ∷ [])) in
@@ -62,13 +63,13 @@ spans_written start made state size column so_far most least =
     ∙ ap (λ t. start ++ t) (text_of-made span_text (λ k. made_span size k (draw state k)) (range_with_len 0 (size * size)))
 
 -- the header, the spans and the end
-pub field_written : {E : Type 0} (r : Result (Unit {0}) E) (old one two new : List ℕ) (state size : ℕ) → one ≡ old ++ text_of (header_lines (made_setting size))
+pub field_written : {E : Type 0} (r : Result (Unit {0}) E) (old one two new : List ℕ) (state size : ℕ) → one ≡ old ++ text_of (header_lines First (made_setting size))
     → two ≡ one ++ text_of (map span_text (made_spans state size)) → new ≡ cond (is_ok r) (two ++ codes "end\n") two
     → OnOk r (new ≡ old ++ made_field_text state size)
 unfolding made_field_text
 field_written (Err error) old one two new state size first second third = tt
 field_written (Ok done) old one two new state size first second third =
-    let header = header_lines (made_setting size) in
+    let header = header_lines First (made_setting size) in
     let those = map span_text (made_spans state size) in
     third
     ∙ ap (λ t. t ++ codes "end\n") (second ∙ ap (λ t. t ++ text_of those) first)

@@ -5,6 +5,7 @@ use Rattle.std.proofs.lemmas.List.FromFn.{length-map-range_with_len}
 use Rattle.std.proofs.lemmas.Nat.{mul-le}
 use Rattle.nav_text.specs.Lines.{lines, text_of}
 use Rattle.nav_text.proofs.LineLaws.{lines_again}
+use Rattle.span_text.specs.declared.header.TextForm.TheVariants.{First}
 use Rattle.span_text.specs.FieldText.{header_lines, span_text, field_lines}
 use Rattle.span_text.proofs.OnlyLaws.{lines_begin}
 use Rattle.nav_script.specs.declared.script.Way.TheVariants.{Play}
@@ -35,14 +36,14 @@ count_spans : (number size : ℕ) → length (map span_text (made_spans number s
 count_spans number size =
     length-map (made_spans number size) span_text ∙ length-map-range_with_len (λ column. made_span size column (draw number column)) 0 (size * size)
 
-count_field : (number size : ℕ) → length (field_lines (made_setting size) [] (made_spans number size)) ≡ size * size + 8
+count_field : (number size : ℕ) → length (field_lines First (made_setting size) [] (made_spans number size)) ≡ size * size + 8
 count_field number size =
     omega (
       arith,
       count_spans number size,
-      length-append (header_lines (made_setting size) ++ [] ++ map span_text (made_spans number size)) (codes "end" ∷ []),
-      length-append (header_lines (made_setting size) ++ []) (map span_text (made_spans number size)),
-      length-append (header_lines (made_setting size)) [],
+      length-append (header_lines First (made_setting size) ++ [] ++ map span_text (made_spans number size)) (codes "end" ∷ []),
+      length-append (header_lines First (made_setting size) ++ []) (map span_text (made_spans number size)),
+      length-append (header_lines First (made_setting size)) [],
     )
 
 count_script : (number size : ℕ) → length (script_lines (made_script number size)) ≡ 1337
@@ -61,14 +62,14 @@ script_again number size fits =
 pub count_lines : (number size : ℕ) → IsMadeSize size → size * size + 1345 ≡ length (lines (made_text number size))
 unfolding field_text
 count_lines number size fits =
-    let field = field_lines (made_setting size) [] (made_spans number size) in
+    let field = field_lines First (made_setting size) [] (made_spans number size) in
     let all : lines (made_text number size) ≡ field ++ script_lines (made_script number size) =
     lines_begin (made_text number size) (made_field_text number size) (made_script_text number size) (made_setting size) (made_field number size)
     (setting_rules size fits) (field_rules number size fits) (field_text number size) refl
     ∙ ap (λ those. field ++ those) (script_again number size fits) in
     omega (arith, ap length all, length-append field (script_lines (made_script number size)), count_field number size, count_script number size)
 
-header_short : (size : ℕ) → IsMadeSize size → AreShort (header_lines (made_setting size))
+header_short : (size : ℕ) → IsMadeSize size → AreShort (header_lines First (made_setting size))
 header_short size fits =
     let most : size ≤ 512 = fits.1 in (
       (let e : 5 ≤ 99 = omega arith in e),
@@ -87,9 +88,9 @@ header_short size fits =
       ),
     )
 
-field_short : (number size : ℕ) → IsMadeSize size → AreShort (field_lines (made_setting size) [] (made_spans number size))
+field_short : (number size : ℕ) → IsMadeSize size → AreShort (field_lines First (made_setting size) [] (made_spans number size))
 field_short number size fits =
-    let header = header_lines (made_setting size) in
+    let header = header_lines First (made_setting size) in
     let spans = map span_text (made_spans number size) in
     let most : size ≤ 512 = fits.1 in
     let rules = field_rules number size fits in
@@ -115,7 +116,7 @@ made_short number size fits =
       arith,
       columns,
       length-append (made_field_text number size) (made_script_text number size),
-      text_short (field_lines (made_setting size) [] (made_spans number size)) (field_short number size fits),
+      text_short (field_lines First (made_setting size) [] (made_spans number size)) (field_short number size fits),
       count_field number size,
       text_short (script_lines (made_script number size)) (script_short number size fits),
       count_script number size,

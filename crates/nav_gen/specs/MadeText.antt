@@ -3,6 +3,7 @@ use Rattle.std.specs.Prelude.{ℕ, List, [], ◌++◌}
 use Rattle.nav_ground.specs.Limits.{IsSetting}
 use Rattle.nav_ground.specs.Fields.{IsField}
 use Rattle.nav_text.specs.Lines.{text_of}
+use Rattle.span_text.specs.declared.header.TextForm.TheVariants.{First}
 use Rattle.span_text.specs.FieldText.{field_lines, IsFieldText}
 use Rattle.nav_script.specs.declared.script.Way.TheVariants.{Play}
 use Rattle.nav_script.specs.Spelling.{script_text}
@@ -10,9 +11,9 @@ use Rattle.nav_script.specs.Limits.{IsScriptText}
 use Rattle.nav_gen.specs.MadeField.{made_setting, made_spans, made_field}
 use Rattle.nav_gen.specs.MadeScript.{made_script}
 
--- the field text: the setting's lines, no costs, and a line for each span
+-- the field text, of the first form: the setting's lines, no costs, and a line for each span
 unfoldable pub made_field_text : (number size : ℕ) → List ℕ
-made_field_text number size = text_of (field_lines (made_setting size) [] (made_spans number size))
+made_field_text number size = text_of (field_lines First (made_setting size) [] (made_spans number size))
 
 -- the script text
 unfoldable pub made_script_text : (number size : ℕ) → List ℕ

@@ -1,6 +1,7 @@
 //! The text of a made level.
 ghost use Rattle.std.specs.Prelude.{◌≡◌, ◌*◌, ◌++◌, map, OnOk};
 ghost use Rattle.nav_text.specs.Lines.{text_of};
+ghost use Rattle.span_text.specs.declared.header.TextForm.TheVariants.{First};
 ghost use Rattle.span_text.specs.FieldText.{header_lines, span_text};
 ghost use Rattle.nav_gen.specs.Draws.{state_after};
 ghost use Rattle.nav_gen.specs.MadeField.{IsMadeSize, made_setting, made_spans};
@@ -27,7 +28,7 @@ pub fn push_field(out: &mut Vec<u8>, draws: &mut Draws, size: u32) -> Result<(),
 }
 
 fn push_header(out: &mut Vec<u8>, size: u32) -> Result<(), AllocError>
-    ensures { OnOk result (out.new.items ≡ out.old.items ++ text_of (header_lines (made_setting size))) }
+    ensures { OnOk result (out.new.items ≡ out.old.items ++ text_of (header_lines First (made_setting size))) }
 {
     out.extend_from_slice(b"nav 1\n")?;
     push_line(out, b"size", &[size, size])?;

@@ -42,6 +42,8 @@ fn main(rt: HostRuntime) -> ExitCode {
 }
 
 #[cfg(test)]
+mod test_clears;
+#[cfg(test)]
 mod test_lives;
 #[cfg(test)]
 mod test_plays;

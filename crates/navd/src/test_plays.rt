@@ -8,9 +8,9 @@ use std::sync::Wait;
 use std::thread::Threads;
 
 /// The level, the script; the play text.
-type Play = (SquareField, &'static str, &'static str);
+pub(crate) type Play = (SquareField, &'static str, &'static str);
 
-fn check_plays<R: Abort + Threads + Wait + Sync>(rt: &R, alloc: Global, plays: &[Play]) {
+pub(crate) fn check_plays<R: Abort + Threads + Wait + Sync>(rt: &R, alloc: Global, plays: &[Play]) {
     for (level, script, text) in plays {
         let ran = played(rt, alloc, level, script, (100, 0), (100, 0));
         check(rt, &ran, Status::Ok, text.as_bytes());
@@ -277,7 +277,7 @@ fn finds_paths(rt: HostRuntime) {
 }
 
 /// The level, the script; how the play text begins, and how it ends.
-type Frame = (SquareField, &'static str, &'static str, &'static str);
+pub(crate) type Frame = (SquareField, &'static str, &'static str, &'static str);
 
 static OUTLINES: [Frame; 4] = [
     // One region, whose outline is one polygon.
@@ -318,7 +318,11 @@ static OUTLINES: [Frame; 4] = [
     ),
 ];
 
-fn check_frames<R: Abort + Threads + Wait + Sync>(rt: &R, alloc: Global, plays: &[Frame]) {
+pub(crate) fn check_frames<R: Abort + Threads + Wait + Sync>(
+    rt: &R,
+    alloc: Global,
+    plays: &[Frame],
+) {
     for (level, script, first, last) in plays {
         let ran = played(rt, alloc, level, script, (100, 0), (100, 0));
         check_ends(rt, &ran, first, last);

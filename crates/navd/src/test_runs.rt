@@ -111,12 +111,15 @@ pub(crate) enum Over {
     Walls,
     /// A floor at height 14 from row 3 on.
     Step,
+    /// A second floor at height 40 over the whole field.
+    Storey,
 }
 
-/// A square field: its side and that of its tiles, the agent's radius, the lines of the error and of the mesh, how many obstacles at once, the
-/// `cost` lines, what stands there, and the lanes and workers of the script.
+/// A square field: the form of its text, its side and that of its tiles, the agent's radius, the lines of the error and of the mesh, how many
+/// obstacles at once, the `clear` and `cost` lines, what stands there, and the lanes and workers of the script.
 #[derive(Clone, Copy)]
 pub(crate) struct SquareField {
+    pub(crate) form: u32,
     pub(crate) side: u8,
     pub(crate) tile: u32,
     pub(crate) radius: u32,
@@ -130,6 +133,7 @@ pub(crate) struct SquareField {
 
 /// A flat field of 6 by 6 columns in one tile.
 pub(crate) const ROOM: SquareField = SquareField {
+    form: 1,
     side: 6,
     tile: 6,
     radius: 0,
@@ -173,7 +177,7 @@ fn push_text(rt: &impl Abort, text: &mut Vec<u8>, more: &str) {
 }
 
 fn push_header(rt: &impl Abort, text: &mut Vec<u8>, level: &SquareField) {
-    push_line(rt, text, "nav", &[1]);
+    push_line(rt, text, "nav", &[level.form]);
     let side = u32::from(level.side);
     push_line(rt, text, "size", &[side, side]);
     push_line(rt, text, "tile", &[level.tile]);
@@ -195,6 +199,7 @@ fn push_column(rt: &impl Abort, text: &mut Vec<u8>, over: Over, x: u32, z: u32) 
     match over {
         Over::Spans(spans) if x == 2 && z == 2 => push_text(rt, text, spans),
         Over::Deck if 1 <= z && z <= 3 => push_line(rt, text, "span", &[x, z, 30, 40, 63]),
+        Over::Storey => push_line(rt, text, "span", &[x, z, 30, 40, 63]),
         _ => (),
     }
 }

@@ -37,7 +37,7 @@ fn fault_of(alloc: Global, text: &[u8]) -> (u32, u32) {
     }
 }
 
-/// Every form of line, and the first line of a script behind it.
+/// Every line of the first form, and the first line of a script behind it.
 const EVERY_FORM: &str =
     "nav 1\nsize 1024 1\ntile 128\nagent 255 254 15\nerror 10000\nmesh contours\nlimit 1024\ncost 1 1\ncost 3 7\ncost 63 1000\nspan 0 0 0 5 0\nspan 0 0 5 8191 63\nspan 1023 0 7 8 1\nend\nscript 1 1\n";
 
@@ -119,7 +119,7 @@ static HEADER_FAULTS: [FirstFault; 31] = [
     (0, "", 1, FaultKind::Unfinished),
     (0, "\n", 1, FaultKind::Form),
     (0, "nav 1", 1, FaultKind::Unfinished),
-    (0, "nav 2\n", 1, FaultKind::Form),
+    (0, "nav 3\n", 1, FaultKind::Form),
     (0, "nav 01\n", 1, FaultKind::Form),
     (0, "nav 1 \n", 1, FaultKind::Form),
     (0, "nav 1\r\n", 1, FaultKind::Form),
@@ -150,13 +150,14 @@ static HEADER_FAULTS: [FirstFault; 31] = [
 ];
 
 /// The same behind a whole header.
-static BODY_FAULTS: [FirstFault; 31] = [
+static BODY_FAULTS: [FirstFault; 32] = [
     (7, "", 8, FaultKind::Unfinished),
     (7, "end", 8, FaultKind::Unfinished),
     (7, "end \n", 8, FaultKind::Form),
     (7, "ends\n", 8, FaultKind::Form),
     (7, "script 1 1\n", 8, FaultKind::Form),
     (7, "nav 1\n", 8, FaultKind::Form),
+    (7, "clear 0\n", 8, FaultKind::Form),
     (7, "cost 1\n", 8, FaultKind::Form),
     (7, "cost 0 1\n", 8, FaultKind::Range),
     (7, "cost 64 1\n", 8, FaultKind::Range),
@@ -230,6 +231,87 @@ fn tells_the_first_fault(rt: HostRuntime) {
 #[test]
 fn tells_the_first_fault_behind_the_header(rt: HostRuntime) {
     check_faults(&rt, rt.alloc(), &BODY_FAULTS);
+}
+
+/// Texts of the second form: what stands between `nav 2` and its size and the line `error`, what stands behind the line `limit`, and the line and
+/// the kind of the first fault, zeros where there is none.
+type SecondForm = (&'static str, &'static str, (u32, u32));
+
+static SECOND_FORMS: [SecondForm; 18] = [
+    ("tile 4\nagent 10 4 3\n", "clear 0\nend\n", (0, 0)),
+    ("tile 4\nagent 10 4 2\n", "clear 1\nend\n", (0, 0)),
+    (
+        "tile 30\nagent 10 4 15\n",
+        "clear 1\ncost 3 4\nend\n",
+        (0, 0),
+    ),
+    ("tile 29\nagent 10 4 15\n", "clear 1\nend\n", (8, 2)),
+    ("tile 4\nagent 10 4 3\n", "clear 1\nend\n", (8, 2)),
+    ("tile 5\nagent 10 4 3\n", "clear 1\nend\n", (8, 2)),
+    ("tile 6\nagent 10 4 3\n", "clear 1\nend\n", (0, 0)),
+    ("tile 6\nagent 10 4 0\n", "clear 2\nend\n", (8, 2)),
+    ("tile 6\nagent 10 4 0\n", "clear\nend\n", (8, 1)),
+    ("tile 6\nagent 10 4 0\n", "clear 01\nend\n", (8, 1)),
+    ("tile 6\nagent 10 4 0\n", "clear 1 1\nend\n", (8, 1)),
+    ("tile 6\nagent 10 4 0\n", "clears 1\nend\n", (8, 1)),
+    ("tile 6\nagent 10 4 0\n", "end\n", (8, 1)),
+    ("tile 6\nagent 10 4 0\n", "cost 1 2\nclear 1\nend\n", (8, 1)),
+    ("tile 6\nagent 10 4 0\n", "", (8, 7)),
+    ("tile 6\nagent 10 4 0\n", "clear 1", (8, 7)),
+    ("tile 6\nagent 10 4 0\n", "clear 1\nclear 1\nend\n", (9, 1)),
+    ("tile 6\nagent 10 4 0\n", "clear 1\ncost 1 0\nend\n", (9, 2)),
+];
+
+/// A text of the second form.
+pub(crate) fn second_form(rt: &impl Abort, alloc: Global, sizes: &str, tail: &str) -> Vec<u8> {
+    let mut text = Vec::new(alloc);
+    append(rt, &mut text, "nav 2\nsize 6 6\n", 1);
+    append(rt, &mut text, sizes, 1);
+    append(rt, &mut text, "error 169\nmesh strips\nlimit 4\n", 1);
+    append(rt, &mut text, tail, 1);
+    text
+}
+
+fn check_second_forms(rt: &impl Abort, alloc: Global, rows: &[SecondForm]) {
+    for (sizes, tail, wanted) in rows {
+        let text = second_form(rt, alloc, sizes, tail);
+        check(rt, fault_of(alloc, text.as_slice()) == *wanted, tail);
+    }
+}
+
+#[test]
+fn tells_the_first_fault_of_clearance(rt: HostRuntime) {
+    check_second_forms(&rt, rt.alloc(), &SECOND_FORMS);
+}
+
+/// What the line of clearance says, and how many lines the text has.
+static CLEARANCES: [(&str, bool, u32); 3] = [
+    ("clear 0\nend\n", false, 9),
+    ("clear 1\nend\n", true, 9),
+    (
+        "clear 1\ncost 1 2\nspan 0 0 0 1 63\nend\nscript 1 1\n",
+        true,
+        11,
+    ),
+];
+
+fn check_clearances(rt: &impl Abort, alloc: Global, rows: &[(&str, bool, u32)]) {
+    for (tail, clear, lines) in rows {
+        let text = second_form(rt, alloc, "tile 6\nagent 10 4 3\n", tail);
+        match read_field(alloc, text.as_slice()) {
+            Ok(read) => check(
+                rt,
+                read.setting.clear == *clear && read.lines == *lines,
+                tail,
+            ),
+            Err(_) => check(rt, false, tail),
+        }
+    }
+}
+
+#[test]
+fn reads_what_is_said_of_clearance(rt: HostRuntime) {
+    check_clearances(&rt, rt.alloc(), &CLEARANCES);
 }
 
 fn append_span(rt: &impl Abort, text: &mut Vec<u8>, x: u32, bottom: u32) {

@@ -1,6 +1,6 @@
 //! Headers that are read for what follows them, and the lines of spans that are written.
 
-use crate::fields::text_with;
+use crate::fields::{second_form, text_with};
 use crate::texts::check;
 use nav_ground::Span;
 use span_text::{FieldRefusal, read_header, write_span};
@@ -43,6 +43,28 @@ fn check_headers(rt: &impl Abort, alloc: Global, rows: &[(&str, Told)]) {
 #[test]
 fn reads_headers(rt: HostRuntime) {
     check_headers(&rt, rt.alloc(), &HEADERS);
+}
+
+/// What follows the seven lines of a header of the second form, and what is told.
+static SECOND_HEADERS: [(&str, Told); 6] = [
+    ("clear 1\nend\n", (0, 73, 8)),
+    ("clear 0\ncost 2 5\ntri\n", (0, 82, 9)),
+    ("clear 1\nclear 1\n", (0, 73, 8)),
+    ("end\n", (1, 8, 0)),
+    ("clear 2\nend\n", (2, 8, 0)),
+    ("clear 1\n", (7, 9, 0)),
+];
+
+fn check_second_headers(rt: &impl Abort, alloc: Global, rows: &[(&str, Told)]) {
+    for (behind, wanted) in rows {
+        let text = second_form(rt, alloc, "tile 6\nagent 10 4 3\n", behind);
+        check(rt, told_of(text.as_slice()) == *wanted, behind);
+    }
+}
+
+#[test]
+fn reads_headers_of_the_second_form(rt: HostRuntime) {
+    check_second_headers(&rt, rt.alloc(), &SECOND_HEADERS);
 }
 
 #[test]

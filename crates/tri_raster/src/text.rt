@@ -132,7 +132,7 @@ fn read_end(rest: &[u8], tris: Vec<Tri>, count: u32) -> Result<Items<Tri>, Field
 
 /// The lines behind the header, which has so many lines.
 fn read_tris(alloc: Global, text: &[u8], header: u32) -> Result<Items<Tri>, FieldRefusal>
-    requires { header ≤ 70 }
+    requires { header ≤ 71 }
     ensures { IsReading (read (tri_format (is_ended text.now)) (AtTris []) header (lines text.now)) result }
 {
     let mut tris: Vec<Tri> = Vec::new(alloc);
