@@ -107,14 +107,7 @@ pub fn cross_links(
     requires few { length tile.now.polys ≤ 8000000 }
     ensures { IfOk result (λ links. links ≡ cross_links setting.now tiles.now tile.now) }
 {
-    links_with(
-        alloc,
-        Vec::new(alloc),
-        setting,
-        tiles,
-        tile,
-        &[0, 1, 2, 3],
-    )
+    links_with(alloc, Vec::new(alloc), setting, tiles, tile, &[0, 1, 2, 3])
 }
 
 /// The links that leave a tile over its four sides, in the order of links, given some of them and the sides over which the others lead.
