@@ -4,5 +4,6 @@ pub mod Walks
 pub mod Reaches
 pub mod Rounds
 pub mod WindowLaws
+mod RunLaws
 pub mod Selected
 pub mod Marked

@@ -75,8 +75,8 @@ pub fn kept(
     requires beside { length uncovered.now ≡ length wide.now }
     ensures { IfOk result (λ kept. kept.items ≡ places_of (cells_in window (kept_cells (marked wide.now uncovered.now) radius))) }
 {
-    let open = open_cells(alloc, wide, uncovered)?;
-    let cells = open.as_slice();
+    let chosen = open_cells(alloc, wide, uncovered)?;
+    let cells = chosen.as_slice();
     let marks = marks(alloc, cells, radius)?;
     places_within(alloc, cells, marks.as_slice(), window)
 }
@@ -84,15 +84,15 @@ pub fn kept(
 /// The cells beside which a truth value is true, in order.
 fn open_cells(alloc: Global, cells: &[Cell], uncovered: &[bool]) -> Result<Vec<Cell>, AllocError>
     requires { length uncovered.now ≡ length cells.now }
-    ensures { IfOk result (λ open. open.items ≡ marked cells.now uncovered.now) }
+    ensures { IfOk result (λ chosen. chosen.items ≡ marked cells.now uncovered.now) }
 {
-    let mut open = Vec::new(alloc);
+    let mut chosen = Vec::new(alloc);
     for (i, cell) in cells.iter().enumerate() {
         if uncovered[i] {
-            open.push(*cell)?;
+            chosen.push(*cell)?;
         }
     }
-    Ok(open)
+    Ok(chosen)
 }
 
 /// The places of the cells that are marked and lie in a window, in order.

@@ -1,15 +1,18 @@
 //! The cells in a rectangle of columns.
 
-ghost use Rattle.std.specs.Prelude.{◌≡◌, ◌&&◌, ◌+ℤ◌, ◌-ℤ◌, ◌<◌, ◌≤◌, ℕ, true, IfOk, int_le, length, pos, slice_index_or};
+ghost use Rattle.std.specs.Prelude.{◌≡◌, ◌&&◌, ◌+ℤ◌, ◌-ℤ◌, ◌<◌, ◌≤◌, ℕ, true, false, filter, IfOk, int_le, length, pos, slice_range};
+ghost use Rattle.std.specs.List.Sorted.{IsPartitionPoint};
 ghost use Rattle.nav_ground.specs.declared.cell.Cell.{Cell};
 ghost use Rattle.nav_ground.specs.Cells.{IsCells};
 ghost use Rattle.nav_ground.specs.Tiling.{is_in_window, widened};
 ghost use Rattle.nav_ground.specs.Clearance.{cells_in};
+ghost use Rattle.agent_erode.specs.Runs.{is_in_run, IsBetween};
 
 use nav_ground::{Cell, CellRef, Window};
 use std::alloc::{AllocError, Global};
 
-/// The cells in a rectangle with a margin of so many columns on each side. Only the cells of its rows are looked at.
+/// The cells in a rectangle with a margin of so many columns on each side. Of each of its rows only the cells in the rectangle are gone
+/// through; where they begin and end is found by halving.
 pub fn cells_near(
     alloc: Global,
     cells: &[Cell],
@@ -20,13 +23,31 @@ pub fn cells_near(
     ensures { IfOk result (λ near. near.items ≡ cells_in (widened window margin) cells.now) }
 {
     let rows = rows_of(window, margin);
+    let (first, end) = ends_of(window.x0, window.x1, margin);
     let mut near = Vec::new(alloc);
-    for i in cells_before(cells, rows.first)..cells_before(cells, rows.end) {
-        if is_near(window, margin, cells[i].at) {
-            near.push(cells[i])?;
-        }
+    for row in rows.first..rows.end {
+        near.extend_from_slice(run_of(cells, row, first, end))?;
     }
     Ok(near)
+}
+
+/// The cells of a row from a first column on and before an end, which stand one after the other.
+fn run_of(cells: &[Cell], row: u32, first: u32, end: u32) -> &[Cell]
+    requires cells { IsCells cells.now }
+    requires ends { first ≤ end }
+    ensures { result.now ≡ filter (is_in_run row first end) cells.now }
+{
+    let from = cells_before(cells, row, first);
+    let to = cells_before(cells, row, end);
+    between(cells, from, to)
+}
+
+/// The cells from one place of a list up to another.
+fn between(cells: &[Cell], from: usize, to: usize) -> &[Cell]
+    requires { (from ≤ to) × (to ≤ length cells.now) }
+    ensures { result.now ≡ slice_range cells.now from to }
+{
+    &cells[from..to]
 }
 
 /// Rows of columns of a field, those with z from `first` on and before `end`.
@@ -38,25 +59,40 @@ pub struct Rows {
 
 /// The rows that a rectangle with a margin of so many columns on each side has of the largest field.
 pub fn rows_of(window: Window, margin: u32) -> Rows
-    ensures { (x z : ℕ) → z < 1024 → is_in_window (widened window margin) x z ≡ true → (result.first ≤ z) × (z < result.end) }
+    ensures all { (x z : ℕ) → z < 1024 → is_in_window (widened window margin) x z ≡ true → (result.first ≤ z) × (z < result.end) }
+    ensures only { (z : ℕ) → result.first ≤ z → z < result.end → IsBetween (window.z0 -ℤ pos margin) z (window.z1 +ℤ pos margin) }
 {
-    let margin = i64::from(margin);
-    let first = i64::from(window.z0) - margin;
-    let end = i64::from(window.z1) + margin + 1;
-    Rows {
-        first: first.clamp(0, 1024) as u32,
-        end: end.clamp(0, 1024) as u32,
-    }
+    let (first, end) = ends_of(window.z0, window.z1, margin);
+    Rows { first, end }
 }
 
-/// How many of the cells lie in rows before one.
-fn cells_before(cells: &[Cell], row: u32) -> usize
+/// The first of the numbers below 1024 that lie from a least one to a greatest one or past them by a margin at most, and the one behind the last.
+fn ends_of(least: i32, most: i32, margin: u32) -> (u32, u32)
+    ensures order { result.0 ≤ result.1 }
+    ensures all { (n : ℕ) → n < 1024 → IsBetween (least -ℤ pos margin) n (most +ℤ pos margin) → (result.0 ≤ n) × (n < result.1) }
+    ensures only { (n : ℕ) → result.0 ≤ n → n < result.1 → IsBetween (least -ℤ pos margin) n (most +ℤ pos margin) }
+{
+    let margin = i64::from(margin);
+    let first = (i64::from(least) - margin).clamp(0, 1024);
+    let end = (i64::from(most) + margin + 1).clamp(first, 1024);
+    (first as u32, end as u32)
+}
+
+/// How many of the cells lie before a column of a row, in that row or in rows before it.
+fn cells_before(cells: &[Cell], row: u32, x: u32) -> usize
     requires { IsCells cells.now }
     ensures most { result ≤ length cells.now }
-    ensures before { (k : ℕ) (d : Cell) → k < result → (slice_index_or cells.now k d).at.z < row }
-    ensures after { (k : ℕ) (d : Cell) → result ≤ k → k < length cells.now → row ≤ (slice_index_or cells.now k d).at.z }
+    ensures parted { IsPartitionPoint (λ (cell : Cell). Rattle.agent_erode.specs.Runs.is_before_column row x cell.at ≡ true)
+        (λ (cell : Cell). Rattle.agent_erode.specs.Runs.is_before_column row x cell.at ≡ false) cells.now result }
 {
-    cells.partition_point(|cell| cell.at.z < row)
+    cells.partition_point(|cell| is_before_column(cell.at, row, x))
+}
+
+/// Whether a place lies before a column of a row, in that row or in a row before it.
+fn is_before_column(at: CellRef, row: u32, x: u32) -> bool
+    ensures { result ≡ Rattle.agent_erode.specs.Runs.is_before_column row x at }
+{
+    at.z < row || (at.z == row && at.x < x)
 }
 
 /// Whether a place lies in a rectangle with a margin of so many columns on each side.

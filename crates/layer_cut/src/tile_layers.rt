@@ -11,7 +11,7 @@ ghost use Rattle.layer_cut.specs.Tiles.{tile_at, IsInField, AreInField, layer_wi
 
 use crate::neighbours::layer_cell;
 use agent_erode::cells_near;
-use nav_ground::{Cell, CellRef, Layer, Setting, TileNo, Window, tile_bounds, tiles};
+use nav_ground::{Cell, CellRef, Layer, Setting, TileNo, Window, margin_of, tile_bounds, tiles};
 use nav_list::Items;
 use std::alloc::{AllocError, Global};
 
@@ -130,17 +130,6 @@ fn wide_cells(
         cells_near(alloc, cells, tile_bounds(setting, tile), margin_of(setting))
     } else {
         Ok(Vec::new(alloc))
-    }
-}
-
-/// How many columns agents keep from obstacles.
-fn margin_of(setting: &Setting) -> u32
-    ensures { result ≡ Rattle.nav_ground.specs.Tiling.margin_of setting.now }
-{
-    if setting.clear {
-        setting.agent.radius
-    } else {
-        0
     }
 }
 

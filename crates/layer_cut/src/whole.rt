@@ -3,7 +3,7 @@
 ghost use Rattle.std.specs.Prelude.{◌≡◌, ◌<◌, IfOk, All};
 ghost use Rattle.nav_ground.specs.Cells.{IsCompact};
 ghost use Rattle.nav_ground.specs.Fields.{IsField};
-ghost use Rattle.nav_ground.specs.Grounds.{IsSized, IsBuiltFor, IsGround, IsLayerOf};
+ghost use Rattle.nav_ground.specs.Grounds.{IsSized, IsGround, IsLayerOf};
 ghost use Rattle.nav_ground.specs.Layers.{cells_of, layer_of, layers_of};
 ghost use Rattle.nav_ground.specs.Limits.{IsSetting};
 ghost use Rattle.nav_ground.specs.Tiling.{tile_count};
@@ -19,12 +19,12 @@ use span_filters::filtered;
 use std::alloc::{AllocError, Global};
 
 /// The ground that a field makes for a setting: its layers have the kept cells of each tile, in order of tiles, each connected to its
-/// kept neighbours in its own tile and across the border. It takes one pass over the field for each stage. Only memory can be refused.
+/// kept neighbours in its own tile and across the border; where the setting says clear they also have the agent's radius and all cells so
+/// near the tile. It takes one pass over the field for each stage. Only memory can be refused.
 pub fn ground(alloc: Global, setting: Setting, field: Field) -> Result<Ground, AllocError>
     requires setting { IsSetting setting }
     requires field { IsField field }
     requires sized { IsSized setting field }
-    requires built { IsBuiltFor setting }
     ensures value { IfOk result (λ whole. whole ≡ record { setting = setting; field = field; layers = layers_of setting field }) }
     ensures rules { IfOk result IsGround }
     ensures layers { IfOk result (λ whole. All (IsLayerOf whole.setting) whole.layers) }
@@ -40,7 +40,8 @@ pub fn ground(alloc: Global, setting: Setting, field: Field) -> Result<Ground, A
 /// The layer of one tile: exactly what `ground` makes of that tile. It works on the spans over the tile's columns and over those within the
 /// agent's radius and two more on each side of it, and searches the list of spans for where their rows begin. The radius is for the
 /// neighbours across the border and the walks to them, the two more are for the connections of the cells where those walks begin and for
-/// the filters of the cells so connected; where the radius is 0 they are for the neighbours and their filters. Only memory can be refused.
+/// the filters of the cells so connected; where the radius is 0 they are for the neighbours and their filters. The wide cells lie no
+/// further away. Only memory can be refused.
 pub fn layer(
     alloc: Global,
     field: &Field,
@@ -50,7 +51,6 @@ pub fn layer(
     requires setting { IsSetting setting.now }
     requires field { IsField field.now }
     requires sized { IsSized setting.now field.now }
-    requires built { IsBuiltFor setting.now }
     requires there { tile < tile_count setting.now }
     ensures value { IfOk result (λ layer. layer ≡ layer_of setting.now field.now tile) }
     ensures rules { IfOk result (λ layer. IsLayerOf setting.now layer) }

@@ -1,4 +1,4 @@
--- A tile that a shape touches stands in a row and in a column of tiles that the shape's bounds reach.
+-- A tile that a shape touches stands in a row and in a column of tiles that the columns reach within which the shape can change what is free.
 use Rattle.std.proofs.Common.{◌≡◌, ℕ, ℤ, pos, ◌+◌, ◌*◌, ◌-◌, ◌/◌, ◌%◌, ◌<◌, ◌≤◌, true, ⊎_elim, arith}
 use Rattle.std.specs.Prelude.{◌≤ℤ◌, int_le, min}
 use Rattle.std.proofs.Math.Nat.{div-lt_iff_lt-mul}
@@ -7,9 +7,8 @@ use Rattle.std.proofs.lemmas.Int.{ints}
 use Rattle.nav_ground.specs.declared.setting.Setting.{Setting}
 use Rattle.nav_ground.specs.declared.shape.Shape.{Shape}
 use Rattle.nav_ground.specs.Limits.{IsSetting}
-use Rattle.nav_ground.specs.Shapes.{bounds_of}
 use Rattle.nav_ground.specs.Tiling.{tiles_in_row, tile_window}
-use Rattle.nav_ground.specs.Touching.{are_overlapping, is_touching}
+use Rattle.nav_ground.specs.Touching.{are_overlapping, touch_window, is_touching}
 
 no_more : (a b : ℤ) → int_le a b ≡ true → a ≤ℤ b
 no_more a b h = grind (arith, ints)
@@ -33,17 +32,17 @@ met from to place tile edge some is =
     }
 
 pub met_across : (setting : Setting) (tile : ℕ) (shape : Shape) → IsSetting setting → is_touching setting tile shape ≡ true
-    → IsMet (bounds_of shape).x0 (bounds_of shape).x1 (tile % tiles_in_row setting) setting.tile
+    → IsMet (touch_window setting shape).x0 (touch_window setting shape).x1 (tile % tiles_in_row setting) setting.tile
 met_across setting tile shape limits is =
-    let window = bounds_of shape in
+    let window = touch_window setting shape in
     let square = tile_window setting tile in
     met window.x0 window.x1 (tile % tiles_in_row setting) setting.tile setting.width (omega (arith, limits.tile_least))
     (and_parts (are_overlapping window.x0 window.x1 square.x0 square.x1) (are_overlapping window.z0 window.z1 square.z0 square.z1) is).0
 
 pub met_along : (setting : Setting) (tile : ℕ) (shape : Shape) → IsSetting setting → is_touching setting tile shape ≡ true
-    → IsMet (bounds_of shape).z0 (bounds_of shape).z1 (tile / tiles_in_row setting) setting.tile
+    → IsMet (touch_window setting shape).z0 (touch_window setting shape).z1 (tile / tiles_in_row setting) setting.tile
 met_along setting tile shape limits is =
-    let window = bounds_of shape in
+    let window = touch_window setting shape in
     let square = tile_window setting tile in
     met window.z0 window.z1 (tile / tiles_in_row setting) setting.tile setting.depth (omega (arith, limits.tile_least))
     (and_parts (are_overlapping window.x0 window.x1 square.x0 square.x1) (are_overlapping window.z0 window.z1 square.z0 square.z1) is).1

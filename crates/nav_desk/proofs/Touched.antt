@@ -8,15 +8,17 @@ use Rattle.nav_ground.specs.declared.setting.Setting.{Setting}
 use Rattle.nav_ground.specs.declared.shape.Shape.{Shape}
 use Rattle.nav_ground.specs.declared.shape.Shape.TheVariants.{Block}
 use Rattle.nav_ground.specs.Shapes.{bounds_of}
-use Rattle.nav_ground.specs.Tiling.{tile_window}
+use Rattle.nav_ground.specs.Tiling.{tile_window, widened, margin_of}
 use Rattle.nav_ground.specs.Touching.{are_meeting, is_touching}
+use Rattle.nav_ground.proofs.Meeting.{meeting_widened}
 use Rattle.nav_desk.specs.SameShapes.{is_same_shape, are_same}
 use Rattle.nav_desk.proofs.SameShapes.{same_shape_decides}
 
--- a shape whose bounds meet the columns of a tile touches it
+-- a shape whose bounds meet the columns of a tile, with as many more on each side as agents keep from obstacles, touches it
 pub met : (setting : Setting) (tile : ℕ) (shape : Shape) (columns : Window) (b : Bool) → b ≡ are_meeting (bounds_of shape) columns
-    → columns ≡ tile_window setting tile → is_touching setting tile shape ≡ b
-met setting tile shape columns b is window = sym (is ∙ ap (are_meeting (bounds_of shape)) window)
+    → columns ≡ widened (tile_window setting tile) (margin_of setting) → is_touching setting tile shape ≡ b
+met setting tile shape columns b is near =
+    meeting_widened (bounds_of shape) (tile_window setting tile) (margin_of setting) ∙ sym (is ∙ ap (are_meeting (bounds_of shape)) near)
 
 -- one more element of the first ones, kept or left
 taken : {A : Type 0} (p : A → Bool) (xs : List A) (i : ℕ) (x : A) (b : Bool) → i < length xs → x ≡ get_or xs i x → p x ≡ b

@@ -50,13 +50,6 @@ impl Bounded {
         &self.shape
     }
 
-    /// Its bounds.
-    pub(crate) fn bounds(&self) -> Window
-        ensures { result ≡ bounds_of self.now }
-    {
-        self.bounds
-    }
-
     /// Whether its bounds and a rectangle of columns, neither of them empty, have a column in common.
     pub(crate) fn meets(&self, columns: Window) -> bool
         ensures { result ≡ are_meeting (bounds_of self.now) columns }

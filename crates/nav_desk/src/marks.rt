@@ -13,7 +13,7 @@ use crate::least_set::LeastSet;
 use crate::reach::{TileRange, places, tiles_along};
 use crate::touching::is_touching_list;
 use crate::waiting::WaitingTiles;
-use nav_ground::{Setting, Shape, TileNo};
+use nav_ground::{Setting, Shape, TileNo, touch_window};
 use nav_list::Items;
 
 /// Marks the tiles that a shape touches, if one has come or gone.
@@ -42,7 +42,7 @@ fn mark(setting: &Setting, dirty: &mut LeastSet, shape: &Bounded)
 {
     let columns = tiles_along(setting.width, setting.tile);
     let rows = tiles_along(setting.depth, setting.tile);
-    let window = shape.bounds();
+    let window = touch_window(setting, shape.get());
     let across = places(window.x0, window.x1, setting.tile, columns);
     let along = places(window.z0, window.z1, setting.tile, rows);
     mark_rows(dirty, columns, along, across);

@@ -2,12 +2,12 @@
 
 ghost use Rattle.std.specs.Prelude.{◌≡◌, ◌↔◌, ◌<◌, IsTrue, IfOk, length, slice_index_or};
 ghost use Rattle.nav_ground.specs.Limits.{IsSetting};
-ghost use Rattle.nav_ground.specs.Tiling.{tile_count};
+ghost use Rattle.nav_ground.specs.Tiling.{tile_count, tile_window, widened, margin_of};
 ghost use Rattle.nav_ground.specs.Touching.{touching_shapes};
 ghost use Rattle.nav_desk.specs.SameShapes.{are_same};
 
 use crate::bounded::Bounded;
-use nav_ground::{Setting, Shape, TileNo, tile_bounds};
+use nav_ground::{Setting, Shape, TileNo, Window, margin_of, tile_bounds};
 use nav_list::Items;
 use std::alloc::{AllocError, Global};
 
@@ -22,7 +22,7 @@ pub(crate) fn touching_list(
     requires there { tile < tile_count setting.now }
     ensures { IfOk result (λ list. list ≡ touching_shapes setting.now tile shapes.now) }
 {
-    let columns = tile_bounds(setting, tile);
+    let columns = tile_reach(setting, tile);
     let mut list = Vec::new(alloc);
     for shape in shapes {
         if shape.meets(columns) {
@@ -44,7 +44,7 @@ pub(crate) fn is_touching_list(
     ensures test { result ≡ are_same list.now (touching_shapes setting.now tile shapes.now) }
     ensures own { IsTrue result ↔ (list.now ≡ touching_shapes setting.now tile shapes.now) }
 {
-    let columns = tile_bounds(setting, tile);
+    let columns = tile_reach(setting, tile);
     let mut place = 0;
     for shape in shapes {
         if shape.meets(columns) {
@@ -55,6 +55,23 @@ pub(crate) fn is_touching_list(
         }
     }
     place == list.len()
+}
+
+/// The columns of a tile, with as many more on each side as agents keep from obstacles: a shape touches the tile where its bounds have one of
+/// these.
+fn tile_reach(setting: &Setting, tile: TileNo) -> Window
+    requires setting { IsSetting setting.now }
+    requires there { tile < tile_count setting.now }
+    ensures { result ≡ widened (tile_window setting.now tile) (margin_of setting.now) }
+{
+    let columns = tile_bounds(setting, tile);
+    let margin = margin_of(setting) as i32;
+    Window {
+        x0: columns.x0 - margin,
+        x1: columns.x1 + margin,
+        z0: columns.z0 - margin,
+        z1: columns.z1 + margin,
+    }
 }
 
 /// Whether a list has a shape at a place.

@@ -2,7 +2,7 @@
 
 ghost use Rattle.std.specs.Prelude.{◌≡◌, ◌<◌, ◌⊎◌, None, Some, IfOk};
 ghost use Rattle.nav_ground.specs.Fields.{IsField};
-ghost use Rattle.nav_ground.specs.Grounds.{IsBuiltFor, IsSized};
+ghost use Rattle.nav_ground.specs.Grounds.{IsSized};
 ghost use Rattle.nav_ground.specs.Limits.{IsSetting};
 ghost use Rattle.nav_ground.specs.declared.field.Field.{Field};
 ghost use Rattle.nav_ground.specs.declared.setting.Setting.{Setting};
@@ -35,7 +35,6 @@ fn level_of<L: Ledger>(
     requires setting { IsSetting text.setting }
     requires field { IsField text.field }
     requires sized { IsSized text.setting text.field }
-    requires built { IsBuiltFor text.setting }
     requires name { blank.name ≡ L.name }
     requires parts { blank.parts ≡ L.parts }
     requires some { 0 < blank.parts }

@@ -4,7 +4,7 @@ ghost use Rattle.std.specs.Prelude.{◌≡◌, ◌+◌, ◌*◌, Err, IfOk, OnOk
 ghost use Rattle.turn_lock.specs.Locks.{LockId, AreAll};
 ghost use Rattle.nav_ground.specs.Limits.{IsSetting};
 ghost use Rattle.nav_ground.specs.Fields.{IsField};
-ghost use Rattle.nav_ground.specs.Grounds.{IsBuiltFor, IsSized};
+ghost use Rattle.nav_ground.specs.Grounds.{IsSized};
 ghost use Rattle.nav_ground.specs.Tiling.{tile_count};
 ghost use Rattle.nav_script.specs.Limits.{IsScript};
 ghost use Rattle.nav_script.specs.declared.script.Way.TheVariants.{Live};
@@ -59,7 +59,6 @@ pub fn live<R: Threads + Wait + Sync, G: Gate + Sync, L: Ledger>(
     requires field { IsField field }
     requires sized { IsSized setting field }
     requires script { IsScript Live script.now }
-    requires built { IsBuiltFor setting }
     ensures text { IfOk result (λ text. LiveRecord (ground_of setting field) script.now text.bytes.items) }
     ensures most { HasRisenAtMost (2 * tile_count setting) steps.old steps.new }
 {

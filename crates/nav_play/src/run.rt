@@ -3,7 +3,7 @@
 ghost use Rattle.std.specs.Prelude.{◌≡◌, ◌+◌, [], IfOk, OnOk};
 ghost use Rattle.nav_ground.specs.Limits.{IsSetting};
 ghost use Rattle.nav_ground.specs.Fields.{IsField};
-ghost use Rattle.nav_ground.specs.Grounds.{IsBuiltFor, IsGround, IsSized};
+ghost use Rattle.nav_ground.specs.Grounds.{IsGround, IsSized};
 ghost use Rattle.nav_ground.specs.Tiling.{tile_count};
 ghost use Rattle.nav_play.specs.PlayRecord.{IsPlayText, first_state_of, opening_state, state_after_all};
 ghost use Rattle.nav_play.specs.PlayTotals.{AreTotals};
@@ -63,7 +63,6 @@ pub fn play<R: Wait, L: Ledger>(
     requires field { IsField field }
     requires sized { IsSized setting field }
     requires script { IsScript Play script.now }
-    requires built { IsBuiltFor setting }
     ensures text { IfOk result (λ text. IsPlayText setting field script.now text.bytes.items) }
     ensures totals { IfOk result (λ text. AreTotals setting field script.now text.totals) }
 
@@ -90,7 +89,6 @@ pub fn play_to_end<R: Wait, L: Ledger>(
     requires field { IsField field }
     requires sized { IsSized setting field }
     requires script { IsScript Play script.now }
-    requires built { IsBuiltFor setting }
     ensures book { IfOk result (λ played. played.book.state ≡ (state_after_all (first_state_of setting field script.now) script.now.lines).book) }
     ensures text { IfOk result (λ played. IsPlayText setting field script.now played.text.bytes.items) }
     ensures totals { IfOk result (λ played. AreTotals setting field script.now played.text.totals) }
@@ -120,7 +118,6 @@ fn begin<R: Wait, L: Ledger>(
     requires field { IsField field }
     requires sized { IsSized setting field }
     requires script { IsScript Play script.now }
-    requires built { IsBuiltFor setting }
     ensures state { IfOk result (λ player. player_state player ≡ first_state_of setting field script.now) }
     ensures begun { IfOk result (HasBegun script.now) }
     ensures steps { OnOk result (steps.new ≡ steps.old + tile_count setting) }

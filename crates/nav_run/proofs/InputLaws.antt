@@ -122,7 +122,6 @@ runnable_of way bytes setting field script there = record {
   setting_rules = there.front.setting_rules;
   field_rules = there.front.field_rules;
   sized = record { width = there.front.spelled.width; depth = there.front.spelled.depth };
-  built = record { clear = there.front.spelled.clear };
   script_rules = there.script_text.1;
 }
 

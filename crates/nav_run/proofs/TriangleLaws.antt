@@ -68,6 +68,7 @@ pub raster_text_reads : (bytes text : List ℕ) (setting : Setting) (header : �
     → IsRaster setting tris field → text ≡ field_text (take header bytes) field.spans → IsFieldText text setting field
 raster_text_reads bytes text setting header tris field there raster spelled =
     record {
+      form = lines.form;
       costs = lines.costs;
       rise = lines.rise;
       table = lines.table;
@@ -84,7 +85,7 @@ raster_text_reads bytes text setting header tris field there raster spelled =
     lines = there.begins.spelled
 
     those : List (List ℕ)
-    those = all_header_lines setting lines.costs
+    those = all_header_lines lines.form setting lines.costs
 
     behind : List (List ℕ)
     behind = map span_text spans ++ codes "end" ∷ []
@@ -92,7 +93,7 @@ raster_text_reads bytes text setting header tris field there raster spelled =
     front : take header bytes ≡ text_of those
     front = ap (λ (xs : List ℕ). take header xs) there.begins.parts ∙ take_at there.front there.back header (sym there.used) ∙ lines.spelled
 
-    whole : text_of those ++ text_of behind ≡ text_of (field_lines setting lines.costs spans)
+    whole : text_of those ++ text_of behind ≡ text_of (field_lines lines.form setting lines.costs spans)
     whole =
         sym (text_of_two those behind)
         ∙ ap (λ (all : List (List ℕ)). text_of all) (sym (append_assoc those (map span_text spans) (codes "end" ∷ [])))

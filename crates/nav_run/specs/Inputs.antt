@@ -4,7 +4,7 @@ use Rattle.nav_ground.specs.declared.setting.Setting.{Setting}
 use Rattle.nav_ground.specs.declared.field.Field.{Field}
 use Rattle.nav_ground.specs.Limits.{IsSetting}
 use Rattle.nav_ground.specs.Fields.{IsField}
-use Rattle.nav_ground.specs.Grounds.{IsBuiltFor, IsSized}
+use Rattle.nav_ground.specs.Grounds.{IsSized}
 use Rattle.nav_book.specs.Openings.{ground_of}
 use Rattle.nav_live.specs.LiveRecord.{LiveRecord}
 use Rattle.nav_play.specs.PlayRecord.{IsPlayText}
@@ -44,12 +44,11 @@ pub record IsInputFor (way : Way) (input : List ℕ) : Type 0 where
   pub script : Script
   pub there : IsInput way input setting field script
 
--- a script can be run this way over a field of a setting: all three are within their limits, and grounds are built for the setting
+-- a script can be run this way over a field of a setting: all three are within their limits, and the field has the size that the setting says
 pub record IsRunnable (way : Way) (setting : Setting) (field : Field) (script : Script) : Type 0 where
   pub setting_rules : IsSetting setting
   pub field_rules : IsField field
   pub sized : IsSized setting field
-  pub built : IsBuiltFor setting
   pub script_rules : IsScript way script
 
 -- what a run of a script over a field may write: a play text where its lines are played, a live text where its lanes run

@@ -3,7 +3,7 @@
 ghost use Rattle.std.specs.Prelude.{◌≡◌, ◌+◌, IfOk, OnOk};
 ghost use Rattle.nav_ground.specs.Limits.{IsSetting};
 ghost use Rattle.nav_ground.specs.Fields.{IsField};
-ghost use Rattle.nav_ground.specs.Grounds.{IsBuiltFor, IsSized};
+ghost use Rattle.nav_ground.specs.Grounds.{IsSized};
 ghost use Rattle.nav_play.specs.Work.{builds_of};
 ghost use Rattle.nav_script.specs.Limits.{IsScript};
 ghost use Rattle.nav_script.specs.declared.script.Way.TheVariants.{Play};
@@ -33,7 +33,6 @@ pub fn scene<R: Wait, L: Ledger>(
     requires field { IsField field }
     requires sized { IsSized setting field }
     requires script { IsScript Play script.now }
-    requires built { IsBuiltFor setting }
     ensures text { IfOk result (λ text. IsSceneText setting field script.now text.items) }
     ensures steps { OnOk result (steps.new ≡ steps.old + builds_of setting field script.now) }
     ensures most { HasRisenAtMost (builds_of setting field script.now) steps.old steps.new }

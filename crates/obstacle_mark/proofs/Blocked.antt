@@ -22,7 +22,7 @@ pub area_beside : (taken : Cell → Bool) (shapes : List Shape) (cells : List Ce
 area_beside taken shapes cells areas i d left there = ap (λ xs. get_or xs i None) left ∙ get_or-map (area_left taken shapes) cells i d None there
 
 -- a cell is left with an area exactly where it is not taken
-some_where : (blocked : Bool) (area : ℕ) → is_some (if blocked then None else Some area) ≡ not blocked
+pub some_where : (blocked : Bool) (area : ℕ) → is_some (if blocked then None else Some area) ≡ not blocked
 some_where true area = refl
 some_where false area = refl
 

@@ -21,7 +21,7 @@ same_test false true there back = back refl
 same_test false false there back = refl
 
 -- the neighbouring column in a direction is the one with the number of that direction
-toward_number : (dir : ℕ) (from to : CellRef) → dir < 4 → IsPlace from → IsPlace to
+pub toward_number : (dir : ℕ) (from to : CellRef) → dir < 4 → IsPlace from → IsPlace to
     → is_toward dir from to ≡ (column_of to == column_toward dir from)
 toward_number zero from to small f t = same_test _ _
     (λ h. let e = both_equal (to.x + 1) from.x to.z from.z h in eq-eqb _ _ (omega (arith, e.0, e.1)))
@@ -45,7 +45,7 @@ naming_number dir level cell to small f t named =
     ∙ ap (λ o. column_of to == column_toward dir cell.at && option_map_or (λ l. l == to.level) o false) named
 
 -- two tests that agree at each element of a list agree on whether one passes
-list_any_same : {A : Type 0} (p q : A → Bool) (xs : List A) → All (λ x. p x ≡ q x) xs → list_any p xs ≡ list_any q xs
+pub list_any_same : {A : Type 0} (p q : A → Bool) (xs : List A) → All (λ x. p x ≡ q x) xs → list_any p xs ≡ list_any q xs
 list_any_same p q [] each = refl
 list_any_same p q (x ∷ xs) each =
     ap (λ b. b || list_any p xs) (All-head (λ y. p y ≡ q y) x xs each)

@@ -102,7 +102,7 @@ column_rises a b pa pb (inr (same, inr (same', under))) = omega (arith, same, sa
 pub place_of_cell : (cell : Cell) → IsCell cell → IsPlace cell.at
 place_of_cell cell rules' = record { x = rules'.x; z = rules'.z }
 
-columns_rise : (cells : List Cell) → IsCells cells → AllPairs (λ (a b : Cell). column_of a.at ≤ column_of b.at) cells
+pub columns_rise : (cells : List Cell) → IsCells cells → AllPairs (λ (a b : Cell). column_of a.at ≤ column_of b.at) cells
 columns_rise cells rules' i j d before there =
     column_rises (get_or cells i d).at (get_or cells j d).at
     (place_of_cell _ (rules'.each i d (omega arith))) (place_of_cell _ (rules'.each j d there)) (rules'.order i j d before there)
@@ -116,7 +116,7 @@ blocked_are_places taken cells rules' = record {
 }
 
 -- what is passed before a column is passed before a later one
-passed_later : (places : List CellRef) (n column column' : ℕ) → column ≤ column' → IsPassed places n column → IsPassed places n column'
+pub passed_later : (places : List CellRef) (n column column' : ℕ) → column ≤ column' → IsPassed places n column → IsPassed places n column'
 passed_later places n column column' later passed = record {
   most = passed.most;
   before = λ k d below. let h = passed.before k d below in omega (arith, h, later);
@@ -132,7 +132,7 @@ passed_on places passed a b later before = record {
 }
 
 -- at first nothing is passed
-none_passed_yet : (places : List CellRef) (column : ℕ) → IsPassed places 0 column
+pub none_passed_yet : (places : List CellRef) (column : ℕ) → IsPassed places 0 column
 none_passed_yet places column = record { most = omega arith; before = λ k d below. absurd (omega arith) }
 
 pub all_unpassed : (places : List CellRef) (passed : Passed) (at : CellRef)

@@ -6,3 +6,4 @@ pub mod FreeCellsLeft
 pub mod FewerCells
 pub mod WholeFree
 pub mod ClearPlaces
+pub mod AwayPlaces

@@ -1,7 +1,8 @@
 -- What cells are left with under one more shape.
-use Rattle.std.proofs.Common.{◌≡◌, ℕ, ◌<◌, Bool, true, false, length, List, [], ◌∷◌, ◌++◌, map, get_or, ap, ◌∙◌, sym, refl, Option, Some, None, unwrap_or, arith}
+use Rattle.std.proofs.Common.{◌≡◌, ℕ, ◌<◌, Bool, true, false, length, List, [], ◌∷◌, ◌++◌, take, drop, map, get_or, ap, ◌∙◌, sym, refl, Option, Some, None, unwrap_or, arith}
 use Rattle.std.specs.Prelude.{if◌then◌else◌, ◌&&◌, ◌||◌, is_none, option_and_then}
 use Rattle.std.specs.List.{filter_map, last_or, cons_option}
+use Rattle.std.proofs.Math.Seq.{take-append_seam}
 use Rattle.std.proofs.lemmas.List.{append-nil, same_lists, length-map, get_or-map, get_or_default}
 use Rattle.std.proofs.lemmas.List.Elements.{filter_map-append}
 use Rattle.std.proofs.lemmas.List.Folds.{list_any-append}
@@ -76,3 +77,8 @@ not_covered shape cell before not = left_alone (is_over cell shape) refl before
     left_alone true is before = absurd (not ((is_covering-Covers shape cell.at.x cell.at.z cell.floor).0 (sym is)))
     left_alone false is None = refl
     left_alone false is (Some area) = refl
+
+-- a vector all of whose elements were written through a slice
+pub written_back : (n : ℕ) (old new : List (Option ℕ)) → n ≡ length new → take n (new ++ drop (length new) old) ≡ new
+written_back n old new same =
+    ap (λ i. take i (new ++ drop (length new) old)) same ∙ take-append_seam new (drop (length new) old)

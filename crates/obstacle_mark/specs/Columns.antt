@@ -1,5 +1,5 @@
 -- Columns by number, so that places in order have columns in order.
-use Rattle.std.specs.Prelude.{◌≡◌, ℕ, ◌+◌, ◌-◌, ◌*◌, ◌<◌, ◌≤◌, ◌==◌, nat_lt, Bool, ◌&&◌, ◌||◌, if◌then◌else◌, List, length, All, slice_index_or}
+use Rattle.std.specs.Prelude.{◌≡◌, ℕ, ◌+◌, ◌-◌, ◌*◌, ◌<◌, ◌≤◌, ◌⊎◌, ◌==◌, nat_lt, Bool, ◌&&◌, ◌||◌, if◌then◌else◌, List, length, All, slice_index_or}
 use Rattle.std.specs.List.Sorted.{IsNonDecreasingBy}
 use Rattle.nav_ground.specs.declared.cell.CellRef.{CellRef}
 
@@ -29,6 +29,16 @@ pub record ArePlaces (places : List CellRef) : Type 0 where
 pub record IsPassed (places : List CellRef) (n column : ℕ) : Type 0 where
   pub most : n ≤ length places
   pub before : (k : ℕ) (d : CellRef) → k < n → column_of (slice_index_or places k d) < column
+
+-- a place comes more than a row of columns before a column, or behind it; so it is in none of the columns beside that one
+abbrev pub LiesBefore : ℕ → CellRef → Type 0
+LiesBefore column at = column_of at + 2048 < column
+
+abbrev pub LiesBehind : ℕ → CellRef → Type 0
+LiesBehind column at = column + 2048 < column_of at
+
+abbrev pub LiesAway : ℕ → CellRef → Type 0
+LiesAway column at = LiesBefore column at ⊎ LiesBehind column at
 
 -- a place comes before a column, in the order of cells: by z, then by x
 abbrev pub is_before : ℕ → ℕ → CellRef → Bool

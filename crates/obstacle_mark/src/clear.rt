@@ -1,13 +1,11 @@
 //! The areas that the cells of a layer are left with where agents keep a radius from obstacles.
 
-ghost use Rattle.std.specs.Prelude.{◌≡◌, Bool, not, ◌||◌, IfOk, All, List, length, map, filter, is_some};
-ghost use Rattle.std.specs.List.{list_any};
+ghost use Rattle.std.specs.Prelude.{◌≡◌, ℕ, ◌<◌, ◌==◌, IfOk, All, List, length, map, filter, slice_index_or, None, is_some};
 ghost use Rattle.nav_ground.specs.declared.cell.Cell.{Cell};
-ghost use Rattle.nav_ground.specs.declared.shape.Shape.{Shape};
 ghost use Rattle.nav_ground.specs.Limits.{IsShape};
 ghost use Rattle.nav_ground.specs.Cells.{IsCells, IsLayer};
 ghost use Rattle.nav_ground.specs.Clearance.{kept_cells, places_of};
-ghost use Rattle.nav_ground.specs.FreeCells.{is_same_place, is_taken, is_unblocked};
+ghost use Rattle.nav_ground.specs.FreeCells.{is_taken, is_unblocked};
 ghost use Rattle.obstacle_mark.specs.AreasLeft.{area_left};
 ghost use Rattle.obstacle_mark.specs.Columns.{ArePlaces};
 
@@ -26,18 +24,30 @@ const EVERYWHERE: Window = Window {
 };
 
 /// The area that each cell of a layer is left with; none where the cell is taken.
-pub fn areas_clear(alloc: Global, layer: &Layer, shapes: &[Shape]) -> Result<Vec<Option<u32>>, AllocError>
+pub fn areas_clear(
+    alloc: Global,
+    layer: &Layer,
+    shapes: &[Shape],
+) -> Result<Vec<Option<u32>>, AllocError>
     requires layer { IsLayer layer.now }
     requires shapes { All IsShape shapes.now }
     ensures { IfOk result (λ areas. areas.items ≡ map (area_left (is_taken layer.now shapes.now) shapes.now) layer.now.cells) }
 {
     let cells = layer.cells.as_slice();
     let mut areas = areas_left(alloc, cells, shapes)?;
-    if layer.radius != 0 {
-        let clear = clear_places(alloc, layer.wide.as_slice(), shapes, layer.radius)?;
-        leave_clear(cells, areas.as_mut_slice(), clear.as_slice());
+    if is_plain(layer) {
+        return Ok(areas);
     }
+    let clear = clear_places(alloc, layer.wide.as_slice(), shapes, layer.radius)?;
+    leave_clear(cells, areas.as_mut_slice(), clear.as_slice());
     Ok(areas)
+}
+
+/// Whether agents keep no radius from the obstacles of a layer.
+fn is_plain(layer: &Layer) -> bool
+    ensures { result ≡ (layer.now.radius == 0) }
+{
+    layer.radius == 0
 }
 
 /// The places of those cells that no obstacle blocks and that keep a radius among the cells that none blocks, in order.
@@ -51,22 +61,29 @@ fn clear_places(
     requires shapes { All IsShape shapes.now }
     ensures { IfOk result (λ clear. clear.items ≡ places_of (kept_cells (filter (is_unblocked shapes.now) wide.now) radius)) }
 {
-    let open = are_open(alloc, wide, shapes)?;
-    kept(alloc, wide, open.as_slice(), EVERYWHERE, radius)
+    let uncovered = are_open(alloc, wide, shapes)?;
+    kept(alloc, wide, uncovered.as_slice(), EVERYWHERE, radius)
 }
 
 /// For each cell whether no obstacle blocks it.
 fn are_open(alloc: Global, cells: &[Cell], shapes: &[Shape]) -> Result<Vec<bool>, AllocError>
     requires cells { IsCells cells.now }
     requires shapes { All IsShape shapes.now }
-    ensures { IfOk result (λ open. open.items ≡ map (is_unblocked shapes.now) cells.now) }
+    ensures { IfOk result (λ marks. marks.items ≡ map (is_unblocked shapes.now) cells.now) }
 {
     let areas = areas_left(alloc, cells, shapes)?;
-    let mut open = Vec::with_capacity(alloc, cells.len())?;
-    for area in areas.as_slice() {
-        open.push(area.is_some())?;
+    marks_of(alloc, areas.as_slice())
+}
+
+/// For each area whether there is one.
+fn marks_of(alloc: Global, areas: &[Option<u32>]) -> Result<Vec<bool>, AllocError>
+    ensures { IfOk result (λ marks. marks.items ≡ map is_some areas.now) }
+{
+    let mut marks = Vec::with_capacity(alloc, areas.len())?;
+    for area in areas {
+        marks.push(area.is_some())?;
     }
-    Ok(open)
+    Ok(marks)
 }
 
 /// Takes its area from each cell whose place is not among the clear ones.
@@ -74,8 +91,8 @@ fn leave_clear(cells: &[Cell], areas: &mut [Option<u32>], clear: &[CellRef])
     requires cells { IsCells cells.now }
     requires beside { length areas.old ≡ length cells.now }
     requires clear { ArePlaces clear.now }
-    ensures { (taken : Cell → Bool) (shapes : List Shape) → areas.old ≡ map (area_left taken shapes) cells.now
-        → areas.new ≡ map (area_left (λ (cell : Cell). not (list_any (is_same_place cell.at) clear.now) || taken cell) shapes) cells.now }
+    ensures { (k : ℕ) (d : Cell) → k < length cells.now → slice_index_or areas.new k None
+        ≡ Rattle.obstacle_mark.specs.AreasLeft.area_clear clear.now (slice_index_or cells.now k d) (slice_index_or areas.old k None) }
 {
     let mut passed = 0;
     for (i, cell) in cells.iter().enumerate() {

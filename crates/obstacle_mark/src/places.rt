@@ -1,11 +1,11 @@
 //! The places of taken cells, and which neighbours are among them.
 
-ghost use Rattle.std.specs.Prelude.{◌≡◌, ℕ, ◌<◌, ◌≤◌, Bool, IfOk, List, map, length, slice_index_or, vec_len};
+ghost use Rattle.std.specs.Prelude.{◌≡◌, ℕ, ◌<◌, ◌≤◌, All, Bool, IfOk, IsTrue, List, map, length, slice_index_or, vec_len};
 ghost use Rattle.nav_ground.specs.declared.cell.Cell.{Cell};
 ghost use Rattle.nav_ground.specs.declared.cell.CellRef.{CellRef};
 ghost use Rattle.nav_ground.specs.declared.shape.Shape.{Shape};
 ghost use Rattle.obstacle_mark.specs.AreasLeft.{area_left};
-ghost use Rattle.obstacle_mark.specs.Columns.{IsPlace, ArePlaces, IsPassed, column_of};
+ghost use Rattle.obstacle_mark.specs.Columns.{IsPlace, ArePlaces, IsPassed, LiesAway, LiesBefore, LiesBehind, column_of};
 ghost use Rattle.obstacle_mark.specs.Places.{places_taken, level_kept, ArePassed};
 
 use nav_ground::{Cell, CellRef};
@@ -41,7 +41,8 @@ pub fn blocked_places(
     Ok(places)
 }
 
-/// The levels that a cell names in the four directions, without those neighbours that are among the taken places.
+/// The levels that a cell names in the four directions, without those neighbours that are among the taken places. Where these lie more
+/// than a row of columns away, and so where there are none, none of the four is looked up.
 pub fn next_kept(blocked: &[CellRef], passed: &mut Passed, cell: &Cell) -> [Option<u32>; 4]
     requires cell { IsPlace cell.now.at }
     requires blocked { ArePlaces blocked.now }
@@ -49,6 +50,10 @@ pub fn next_kept(blocked: &[CellRef], passed: &mut Passed, cell: &Cell) -> [Opti
     ensures next { result ≡ Rattle.obstacle_mark.specs.Places.next_kept blocked.now cell.now }
     ensures passed { ArePassed blocked.now passed.new cell.now.at }
 {
+    let column = column_of(cell.at);
+    if are_away(blocked, column) {
+        return [cell.next[0], cell.next[1], cell.next[2], cell.next[3]];
+    }
     [
         level_kept(blocked, &mut passed.left, cell, 0),
         level_kept(blocked, &mut passed.above, cell, 1),
@@ -73,6 +78,38 @@ fn level_kept(blocked: &[CellRef], passed: &mut usize, cell: &Cell, dir: usize) 
         None
     } else {
         Some(level)
+    }
+}
+
+/// Whether all of the places come more than a row of columns before a column, or all behind it.
+fn are_away(places: &[CellRef], column: u32) -> bool
+    requires places { ArePlaces places.now }
+    requires column { column < 2099200 }
+    ensures { IsTrue result → All (LiesAway column) places.now }
+{
+    lie_before(places, column) || lie_behind(places, column)
+}
+
+/// Whether all of the places come more than a row of columns before a column.
+fn lie_before(places: &[CellRef], column: u32) -> bool
+    requires { ArePlaces places.now }
+    ensures { IsTrue result → All (LiesBefore column) places.now }
+{
+    match places.last() {
+        Some(last) => column_of(*last) + 2048 < column,
+        None => true,
+    }
+}
+
+/// Whether all of the places come more than a row of columns behind a column.
+fn lie_behind(places: &[CellRef], column: u32) -> bool
+    requires places { ArePlaces places.now }
+    requires column { column < 2099200 }
+    ensures { IsTrue result → All (LiesBehind column) places.now }
+{
+    match places.first() {
+        Some(first) => column + 2048 < column_of(*first),
+        None => true,
     }
 }
 

@@ -1,7 +1,7 @@
 //! Square fields cut by hand: flat but for a few spans over the column (2, 2), so that every layer can be said by its floors.
 
 ghost use Rattle.std.specs.Prelude.{◌≡◌, ◌<◌, ◌≤◌, IfOk, IsTrue};
-ghost use Rattle.nav_ground.specs.Grounds.{IsBuiltFor, IsGround};
+ghost use Rattle.nav_ground.specs.Grounds.{IsGround};
 ghost use Rattle.nav_ground.specs.Limits.{IsSetting};
 ghost use Rattle.nav_ground.specs.Tiling.{tile_count};
 
@@ -79,7 +79,6 @@ fn setting_of(case: &Case) -> Setting
     requires tile { (4 ≤ case.now.tile) × (case.now.tile ≤ 16) }
     requires radius { case.now.radius ≤ 15 }
     ensures rules { IsSetting result }
-    ensures built { IsBuiltFor result }
     ensures width { result.width ≡ case.now.side }
     ensures depth { result.depth ≡ case.now.side }
 {

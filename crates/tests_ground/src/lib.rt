@@ -7,6 +7,8 @@
 #[cfg(test)]
 mod checks;
 #[cfg(test)]
+mod clear_marks;
+#[cfg(test)]
 mod connections;
 #[cfg(test)]
 mod cuts;

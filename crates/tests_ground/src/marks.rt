@@ -1,8 +1,8 @@
 //! Free cells by hand.
 
-ghost use Rattle.std.specs.Prelude.{◌≡◌, IfOk, All};
+ghost use Rattle.std.specs.Prelude.{IfOk, All};
 ghost use Rattle.nav_ground.specs.Limits.{IsShape};
-ghost use Rattle.nav_ground.specs.Cells.{IsCut};
+ghost use Rattle.nav_ground.specs.Cells.{IsLayer};
 
 use crate::checks::same;
 use crate::rows::{CellRow, NO, check_cells};
@@ -64,8 +64,7 @@ const FOURTH: Cell = Cell {
 static CELLS: [Cell; 4] = [FIRST, SECOND, THIRD, FOURTH];
 
 fn layer(alloc: Global) -> Result<Layer, AllocError>
-    ensures cut { IfOk result (λ layer. IsCut layer.cells) }
-    ensures near { IfOk result (λ layer. layer.radius ≡ 0) }
+    ensures { IfOk result IsLayer }
 {
     Ok(Layer {
         tile: 5,

@@ -9,3 +9,4 @@ pub mod RimPairs
 pub mod GroundTiles
 pub mod TileFits
 pub mod TwoWayTiles
+mod PlainMeshes

@@ -22,9 +22,8 @@ use std::alloc::{AllocError, Global};
 use std::sync::ledger::Ledger;
 use strip_mesh::strip_mesh_over;
 
-/// The mesh of a layer under a list of shapes; where its wide cells lie as near its tile as those of a ground do, this is also its mesh under
-/// those of the shapes that touch its tile. Only memory can be refused,
-/// and it takes one step then too.
+/// The mesh of a layer under a list of shapes. Where the wide cells of the layer lie as near its tile as those of a ground do, this is also
+/// its mesh under those of the shapes that touch its tile. Only memory can be refused, and it takes one step then too.
 pub fn build_tile<L: Ledger>(
     alloc: Global,
     layer: &Layer,

@@ -1,4 +1,4 @@
-use Rattle.std.proofs.Common.{◌≡◌, ◌++◌, List, [], ◌∷◌, take, ap, ◌∙◌, sym, false, arith}
+use Rattle.std.proofs.Common.{◌<◌, length, ◌++◌, List, [], ◌∷◌, take, get_or, ap, ◌∙◌, sym, false, arith}
 use Rattle.std.specs.Global.{Vec}
 use Rattle.std.proofs.lemmas.List.{take_all}
 use Rattle.nav_ground.specs.declared.cell.Cell.{Cell}
@@ -8,19 +8,18 @@ use Rattle.agent_erode.proofs.Marked.{one_more_marked, one_less_marked}
 use Rattle.agent_erode.proofs.erosion.open_cells.Goals as goal
 use Rattle.agent_erode.proofs.erosion.open_cells.Goals.{then-uncovered-i+in_ok-push, else-uncovered-i}
 
--- written, not checked yet: the names of steps are by guess from those of `places_marked`
 pub loop-i-preserved : goal.loop-i-preserved
 loop-i-preserved c =
     let cells = c.args.cells.now in
     let marks = c.args.uncovered.now in
-    let beside = omega (arith, c.loop-i-test.true, c.requires) in
+    let beside : c.loop-i.i < length marks = omega (arith, c.loop-i-test.true, c.requires) in
     elim c.if-uncovered-i.branch [
       | then-uncovered-i+in_ok-push w ↦
-          ap (λ (v : Vec Cell). v.items) w.open-is ∙ w.in_ok-push.ensures.items
-          ∙ ap (λ (cs : List Cell). cs ++ _ ∷ []) c.loop-i.invariant
+          ap (λ (v : Vec Cell). v.items) w.chosen-is ∙ w.in_ok-push.ensures.items
+          ∙ ap (λ (cs : List Cell). cs ++ get_or cells c.loop-i.i no_cell ∷ []) c.loop-i.invariant
           ∙ sym (one_more_marked cells marks c.loop-i.i no_cell false c.loop-i-test.true beside w.if-uncovered-i.true)
       | else-uncovered-i w ↦
-          ap (λ (v : Vec Cell). v.items) w.open-is ∙ c.loop-i.invariant
+          ap (λ (v : Vec Cell). v.items) w.chosen-is ∙ c.loop-i.invariant
           ∙ sym (one_less_marked cells marks c.loop-i.i false c.loop-i-test.true beside w.if-uncovered-i.false)
     ]
 

@@ -4,4 +4,4 @@ use Rattle.agent_erode.proofs.erosion.open_cells.Given as goal
 
 -- the open cells so far
 abbrev pub invariant-loop-i : goal.invariant-loop-i
-invariant-loop-i l = l.open.items ≡ marked (take l.i l.cells) (take l.i l.uncovered)
+invariant-loop-i l = l.chosen.items ≡ marked (take l.i l.cells) (take l.i l.uncovered)

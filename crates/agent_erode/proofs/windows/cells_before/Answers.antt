@@ -1,22 +1,11 @@
-use Rattle.std.proofs.Common.{◌≡◌, ltb, true, false, arith, rules}
-use Rattle.std.specs.List.Sorted.{IsPartitionPoint}
-use Rattle.std.proofs.lemmas.Bool.{ltb-true, ltb-false}
-use Rattle.std.proofs.lemmas.List.Sorted.{IsPartitionPoint-from_clause, IsPartitionedBy-ltb}
+use Rattle.std.proofs.Common.{rules}
+use Rattle.std.proofs.lemmas.List.Sorted.{IsPartitionPoint-from_clause}
 use Rattle.nav_ground.specs.declared.cell.Cell.{Cell}
-use Rattle.agent_erode.proofs.WindowLaws.{rows_rise}
+use Rattle.agent_erode.specs.Runs.{is_before_column}
+use Rattle.agent_erode.proofs.RunLaws.{columns_parted}
 use Rattle.agent_erode.proofs.windows.cells_before.Goals as goal
 
--- the search finds where the row begins, since cells stand row by row
-point : (c : goal.After-partition_point)
-    → IsPartitionPoint (λ (cell : Cell). ltb cell.at.z c.args.row ≡ true) (λ (cell : Cell). ltb cell.at.z c.args.row ≡ false)
-    c.args.cells.now c.partition_point.result
-point c =
-    let parted = IsPartitionedBy-ltb (λ (cell : Cell). cell.at.z) c.args.cells.now c.args.row (rows_rise c.args.cells.now c.requires) in
-    IsPartitionPoint-from_clause (λ (cell : Cell). ltb cell.at.z c.args.row) _ _ c.partition_point.ensures.partitioned parted
-    (λ a r q k. search rules)
-
-pub returns-clause-before : goal.returns-clause-before
-returns-clause-before c = λ k d below. ltb-true _ _ ((point c).0 k d (omega arith) below)
-
-pub returns-clause-after : goal.returns-clause-after
-returns-clause-after c = λ k d above there. ltb-false _ _ ((point c).1 k d above there)
+pub returns-clause-parted : goal.returns-clause-parted
+returns-clause-parted c =
+    IsPartitionPoint-from_clause (λ (cell : Cell). is_before_column c.args.row c.args.x cell.at) _ _ c.partition_point.ensures.partitioned
+    (columns_parted c.args.cells.now c.args.row c.args.x c.requires) (λ a r q k. search rules)

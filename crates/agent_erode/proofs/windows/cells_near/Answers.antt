@@ -1,27 +1,46 @@
-use Rattle.std.proofs.Common.{◌∙◌, sym, get_or, arith}
-use Rattle.std.proofs.lemmas.Bool.{false_from_ne_true}
+use Rattle.std.proofs.Common.{◌++◌, List, filter, get_or, ap, ◌∙◌, sym, arith, tests, lt-ltb}
+use Rattle.std.specs.Prelude.{◌&&◌, ◌==◌, nat_lt}
+use Rattle.std.proofs.lemmas.Int.{ints}
+use Rattle.std.proofs.lemmas.Bool.{and_parts, false_from_ne_true}
 use Rattle.nav_ground.specs.declared.cell.Cell.{Cell}
 use Rattle.nav_ground.specs.Tiling.{is_in_window, widened}
-use Rattle.agent_erode.proofs.WindowLaws.{none_before, none_after}
+use Rattle.nav_ground.proofs.Selections.{filter_none, filter_same}
+use Rattle.agent_erode.proofs.RunLaws.{next_number, run_in_window, only_true}
+use Rattle.agent_erode.proofs.WindowLaws.{rows_rise}
 use Rattle.agent_erode.proofs.windows.cells_near.Goals as goal
 
-pub loop-i-init : goal.loop-i-init
-loop-i-init c =
+pub loop-row-init : goal.loop-row-init
+loop-row-init c =
     let inside = λ (cell : Cell). is_in_window (widened c.args.window c.args.margin) cell.at.x cell.at.z in
-    c.new-near.ensures.items ∙ sym (none_before inside c.args.cells.now c.cells_before-i.result (λ k d small there.
-    false_from_ne_true (inside (get_or c.args.cells.now k d)) (λ h.
-    let rows = c.rows_of-rows.ensures _ _ (c.requires.each k d there).z h in
-    let before = c.cells_before-i.ensures.before k d small in
-    omega (arith, rows.0, before))))
+    let cells = c.args.cells.now in
+    c.new-near.ensures.items ∙ sym (filter_none (λ (cell : Cell). nat_lt cell.at.z c.rows_of-rows.result.first && inside cell) cells (λ k d there.
+    false_from_ne_true _ (λ h.
+    let parts = and_parts (nat_lt (get_or cells k d).at.z c.rows_of-rows.result.first) (inside (get_or cells k d)) h in
+    let rows = c.rows_of-rows.ensures.all _ _ (c.requires.each k d there).z parts.1 in
+    omega (arith, tests, parts.0, rows.0))))
 
-pub bounds-cells-i : goal.bounds-cells-i
-bounds-cells-i c = omega (arith, c.cells_before-i-end.ensures.most, c.loop-i-test.true)
+pub loop-row-preserved : goal.loop-row-preserved
+loop-row-preserved c =
+    let wide = widened c.args.window c.args.margin in
+    let cells = c.args.cells.now in
+    let row = c.loop-row.row in
+    let in_z = c.rows_of-rows.ensures.only row (omega arith) c.loop-row-test.true in
+    c.in_ok-extend_from_slice.ensures.items
+    ∙ (λ i. c.loop-row.invariant i ++ c.run_of.ensures i)
+    ∙ ap (λ (run : List Cell). filter (λ (cell : Cell). nat_lt cell.at.z row && is_in_window wide cell.at.x cell.at.z) cells ++ run)
+    (filter_same _ (λ (cell : Cell). cell.at.z == row && is_in_window wide cell.at.x cell.at.z) cells (λ k d there.
+    run_in_window wide (get_or cells k d) row _ _ in_z
+    (λ in_x. c.ends_of-first.ensures.all _ (c.requires.each k d there).x (omega (arith, ints, in_x.0), omega (arith, ints, in_x.1)))
+    (λ least most.
+    let between = c.ends_of-first.ensures.only _ least most in
+    (omega (arith, ints, between.0), omega (arith, ints, between.1)))))
+    ∙ sym (next_number (λ (cell : Cell). cell.at.z) (λ (cell : Cell). is_in_window wide cell.at.x cell.at.z) cells row (rows_rise cells c.requires))
 
 pub returns : goal.returns
 returns c =
-    let inside = λ (cell : Cell). is_in_window (widened c.args.window c.args.margin) cell.at.x cell.at.z in
-    c.loop-i.invariant ∙ none_after inside c.args.cells.now c.loop-i.i (λ k d large there.
-    false_from_ne_true (inside (get_or c.args.cells.now k d)) (λ h.
-    let rows = c.rows_of-rows.ensures _ _ (c.requires.each k d there).z h in
-    let after = c.cells_before-i-end.ensures.after k d (omega (arith, large, c.loop-i-test.false)) there in
-    omega (arith, rows.1, after)))
+    let wide = widened c.args.window c.args.margin in
+    let cells = c.args.cells.now in
+    c.loop-row.invariant ∙ filter_same _ (λ (cell : Cell). is_in_window wide cell.at.x cell.at.z) cells (λ k d there.
+    only_true (nat_lt (get_or cells k d).at.z c.loop-row.row) _ (λ h.
+    let rows = c.rows_of-rows.ensures.all _ _ (c.requires.each k d there).z h in
+    lt-ltb _ _ (omega (arith, rows.1, c.loop-row-test.false))))

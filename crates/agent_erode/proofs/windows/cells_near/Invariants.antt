@@ -1,8 +1,10 @@
-use Rattle.std.proofs.Common.{◌≡◌, take}
-use Rattle.nav_ground.specs.Clearance.{cells_in}
-use Rattle.nav_ground.specs.Tiling.{widened}
+use Rattle.std.proofs.Common.{◌≡◌, filter}
+use Rattle.std.specs.Prelude.{◌&&◌, nat_lt}
+use Rattle.nav_ground.specs.declared.cell.Cell.{Cell}
+use Rattle.nav_ground.specs.Tiling.{widened, is_in_window}
 use Rattle.agent_erode.proofs.windows.cells_near.Given as goal
 
--- the cells of the rectangle so far
-abbrev pub invariant-loop-i : goal.invariant-loop-i
-invariant-loop-i l = l.near.items ≡ cells_in (widened l.window l.margin) (take l.i l.cells)
+-- the cells of the rectangle in the rows so far
+abbrev pub invariant-loop-row : goal.invariant-loop-row
+invariant-loop-row l =
+    l.near.items ≡ filter (λ (cell : Cell). nat_lt cell.at.z l.row && is_in_window (widened l.fn.window l.margin) cell.at.x cell.at.z) l.cells

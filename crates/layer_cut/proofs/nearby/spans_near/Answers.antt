@@ -10,7 +10,7 @@ loop-i-init c =
     let inside = λ (span : Span). is_in_window (widened c.args.window c.args.margin) span.x span.z in
     c.new-near.ensures.items ∙ sym (none_before inside c.args.spans.now c.spans_before-i.result (λ k d small there.
     false_from_ne_true (inside (get_or c.args.spans.now k d)) (λ h.
-    let rows = c.rows_of-rows.ensures _ _ (c.requires.rows k d there) h in
+    let rows = c.rows_of-rows.ensures.all _ _ (c.requires.rows k d there) h in
     let before = c.spans_before-i.ensures.before k d small in
     omega (arith, rows.0, before))))
 
@@ -22,6 +22,6 @@ returns c =
     let inside = λ (span : Span). is_in_window (widened c.args.window c.args.margin) span.x span.z in
     c.loop-i.invariant ∙ none_after inside c.args.spans.now c.loop-i.i (λ k d large there.
     false_from_ne_true (inside (get_or c.args.spans.now k d)) (λ h.
-    let rows = c.rows_of-rows.ensures _ _ (c.requires.rows k d there) h in
+    let rows = c.rows_of-rows.ensures.all _ _ (c.requires.rows k d there) h in
     let after = c.spans_before-i-end.ensures.after k d (omega (arith, large, c.loop-i-test.false)) there in
     omega (arith, rows.1, after)))

@@ -1,5 +1,6 @@
 use Rattle.std.proofs.Common.{List, [], filter, map, ap, ◌∙◌, sym, arith}
 use Rattle.std.proofs.lemmas.List.{take_all}
+use Rattle.std.proofs.lemmas.Result.{IfOk-weaker}
 use Rattle.std.proofs.lemmas.List.Elements.{Contains-get_or}
 use Rattle.nav_ground.specs.declared.cell.Cell.{Cell}
 use Rattle.nav_ground.specs.Clearance.{is_kept, kept_cells, cells_in}
@@ -57,7 +58,9 @@ returns c =
     let cells = c.args.cells.now in
     let p = is_kept cells c.args.setting.now.agent.radius in
     let all = take_all c.loop-i.i cells c.loop-i-test.false in
-    c.layer_of_cells.ensures
+    IfOk-weaker c.layer_of_cells.result _ _
+    (λ layer made. made
     ∙ ap (λ (cs : List Cell). record { tile = c.args.tile; cells = cs; radius = margin_of c.args.setting.now; wide = wide_cells c.args.setting.now cells c.args.tile })
     (c.loop-i.invariant
-    ∙ (λ i. map (layer_cell (kept_cells cells c.args.setting.now.agent.radius)) (cells_in (c.tile_bounds-window.ensures i) (filter p (all i)))))
+    ∙ (λ i. map (layer_cell (kept_cells cells c.args.setting.now.agent.radius)) (cells_in (c.tile_bounds-window.ensures i) (filter p (all i))))))
+    c.layer_of_cells.ensures

@@ -1,9 +1,10 @@
-use Rattle.std.proofs.Common.{◌/◌, ◌%◌, ◌<◌, sym, subst, arith}
+use Rattle.std.proofs.Common.{◌≡◌, ◌/◌, ◌%◌, ◌<◌, ap, sym, subst, ◌∙◌, arith}
 use Rattle.std.proofs.Math.Nat.{mod-lt, mul-le-mul_right}
 use Rattle.std.proofs.lemmas.Int.{to_z-of_z}
 use Rattle.nav_ground.specs.declared.cell.Window.{Window}
 use Rattle.nav_ground.specs.declared.setting.Setting.{Setting}
 use Rattle.nav_ground.specs.Tiling.{tiles_in_row, tile_rows}
+use Rattle.nav_ground.specs.Touching.{touch_window}
 use Rattle.nav_ground.proofs.Places.{some_columns, row_is}
 use Rattle.nav_desk.proofs.Meetings.{IsMet, met_across, met_along}
 use Rattle.nav_desk.proofs.marks.mark.Goals as goal
@@ -17,8 +18,9 @@ pub returns-clause-marked : goal.returns-clause-marked
 returns-clause-marked c = λ tile there is.
     let setting : Setting = c.args.setting.now in
     let some = some_columns (tiles_in_row setting) (tile_rows setting) tile there in
-    let x = subst (λ (w : Window). IsMet w.x0 w.x1 (tile % tiles_in_row setting) setting.tile) (sym c.bounds-window.ensures) (met_across setting tile c.args.shape.now c.requires.setting is) in
-    let z = subst (λ (w : Window). IsMet w.z0 w.z1 (tile / tiles_in_row setting) setting.tile) (sym c.bounds-window.ensures) (met_along setting tile c.args.shape.now c.requires.setting is) in
+    let window : c.touch_window-window.result ≡ touch_window setting c.args.shape.now = c.touch_window-window.ensures ∙ ap (touch_window setting) c.get.ensures in
+    let x = subst (λ (w : Window). IsMet w.x0 w.x1 (tile % tiles_in_row setting) setting.tile) (sym window) (met_across setting tile c.args.shape.now c.requires.setting is) in
+    let z = subst (λ (w : Window). IsMet w.z0 w.z1 (tile / tiles_in_row setting) setting.tile) (sym window) (met_along setting tile c.args.shape.now c.requires.setting is) in
     let x_begins = x.begins in
     let x_ends = x.ends in
     let z_begins = z.begins in

@@ -13,7 +13,7 @@ pub returns-then-not-is_at-clause-test : goal.returns-then-not-is_at-clause-test
 returns-then-not-is_at-clause-test c =
     let stands = rw c.get.ensures at c.is_at.ensures in
     stops (is_touching c.args.setting.now c.args.tile) c.args.shapes.now c.args.list.now c.loop-shape.shape-index c.loop-shape.place c.shape-item.result _ c.loop-shape-test.true
-    c.shape-item.is (met c.args.setting.now c.args.tile c.shape-item.result _ _ c.meets.ensures c.tile_bounds-columns.ensures ∙ c.if-meets.true)
+    c.shape-item.is (met c.args.setting.now c.args.tile c.shape-item.result _ _ c.meets.ensures c.tile_reach-columns.ensures ∙ c.if-meets.true)
     (λ next. both_ways _ c.if-not-is_at.true (stands.1 next)) c.loop-shape.invariant.rest
 
 pub loop-shape-preserved : goal.loop-shape-preserved
@@ -26,14 +26,14 @@ loop-shape-preserved c = elim c.if-meets.branch [
         rest = subst (λ (n : ℕ). are_same (drop n c.args.list.now) (touching_shapes c.args.setting.now c.args.tile (drop (c.loop-shape.shape-index + 1) c.args.shapes.now)) ≡ are_same c.args.list.now (touching_shapes c.args.setting.now c.args.tile c.args.shapes.now))
             (sym w.place-is)
             (goes_on (is_touching c.args.setting.now c.args.tile) c.args.shapes.now c.args.list.now c.loop-shape.shape-index c.loop-shape.place c.shape-item.result _ c.loop-shape-test.true
-            c.shape-item.is (met c.args.setting.now c.args.tile c.shape-item.result _ _ c.meets.ensures c.tile_bounds-columns.ensures ∙ w.if-meets.true) next c.loop-shape.invariant.rest);
+            c.shape-item.is (met c.args.setting.now c.args.tile c.shape-item.result _ _ c.meets.ensures c.tile_reach-columns.ensures ∙ w.if-meets.true) next c.loop-shape.invariant.rest);
       }
   | else-meets w ↦ record {
     within = omega (arith, w.place-is, c.loop-shape.invariant.within);
     rest = subst (λ (n : ℕ). are_same (drop n c.args.list.now) (touching_shapes c.args.setting.now c.args.tile (drop (c.loop-shape.shape-index + 1) c.args.shapes.now)) ≡ are_same c.args.list.now (touching_shapes c.args.setting.now c.args.tile c.args.shapes.now))
         (sym w.place-is)
         (passes_by (is_touching c.args.setting.now c.args.tile) c.args.shapes.now c.args.list.now c.loop-shape.shape-index c.loop-shape.place c.shape-item.result _ c.loop-shape-test.true
-        c.shape-item.is (met c.args.setting.now c.args.tile c.shape-item.result _ _ c.meets.ensures c.tile_bounds-columns.ensures ∙ w.if-meets.false) c.loop-shape.invariant.rest);
+        c.shape-item.is (met c.args.setting.now c.args.tile c.shape-item.result _ _ c.meets.ensures c.tile_reach-columns.ensures ∙ w.if-meets.false) c.loop-shape.invariant.rest);
   }
 ]
 

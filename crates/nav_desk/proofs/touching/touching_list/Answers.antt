@@ -9,10 +9,10 @@ pub loop-shape-preserved : goal.loop-shape-preserved
 loop-shape-preserved c = elim c.if-meets.branch [
   | then-meets+in_ok-push w ↦ rw (w.list-is, w.in_ok-push.ensures.items, w.get.ensures)
       (kept_more (is_touching c.args.setting.now c.args.tile) c.args.shapes.now c.loop-shape.shape-index c.shape-item.result c.loop-shape.list.items c.loop-shape-test.true
-      c.shape-item.is (met c.args.setting.now c.args.tile c.shape-item.result _ _ c.meets.ensures c.tile_bounds-columns.ensures ∙ w.if-meets.true) c.loop-shape.invariant)
+      c.shape-item.is (met c.args.setting.now c.args.tile c.shape-item.result _ _ c.meets.ensures c.tile_reach-columns.ensures ∙ w.if-meets.true) c.loop-shape.invariant)
   | else-meets w ↦ rw w.list-is
       (left_more (is_touching c.args.setting.now c.args.tile) c.args.shapes.now c.loop-shape.shape-index c.shape-item.result c.loop-shape.list.items c.loop-shape-test.true
-      c.shape-item.is (met c.args.setting.now c.args.tile c.shape-item.result _ _ c.meets.ensures c.tile_bounds-columns.ensures ∙ w.if-meets.false) c.loop-shape.invariant)
+      c.shape-item.is (met c.args.setting.now c.args.tile c.shape-item.result _ _ c.meets.ensures c.tile_reach-columns.ensures ∙ w.if-meets.false) c.loop-shape.invariant)
 ]
 
 pub returns : goal.returns

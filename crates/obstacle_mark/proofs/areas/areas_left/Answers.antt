@@ -1,16 +1,10 @@
-use Rattle.std.proofs.Common.{◌≡◌, ℕ, ◌++◌, List, Option, take, drop, map, length, ap, ◌∙◌, sym}
-use Rattle.std.proofs.Math.Seq.{take-append_seam}
+use Rattle.std.proofs.Common.{◌≡◌, List, take, map, length, ap, ◌∙◌, sym}
 use Rattle.std.proofs.lemmas.List.{take_more}
 use Rattle.nav_ground.specs.declared.shape.Shape.{Shape}
 use Rattle.nav_ground.specs.FreeCells.{is_blocked}
 use Rattle.obstacle_mark.specs.AreasLeft.{area_left}
-use Rattle.obstacle_mark.proofs.OneMoreShape.{areas_left_more}
+use Rattle.obstacle_mark.proofs.OneMoreShape.{areas_left_more, written_back}
 use Rattle.obstacle_mark.proofs.areas.areas_left.Goals as goal
-
--- a vector all of whose elements were written through a slice
-written_back : (n : ℕ) (old new : List (Option ℕ)) → n ≡ length new → take n (new ++ drop (length new) old) ≡ new
-written_back n old new same =
-    ap (λ i. take i (new ++ drop (length new) old)) same ∙ take-append_seam new (drop (length new) old)
 
 pub loop-shape-preserved : goal.loop-shape-preserved
 loop-shape-preserved c =

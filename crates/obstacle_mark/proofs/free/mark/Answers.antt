@@ -14,7 +14,6 @@ use Rattle.obstacle_mark.proofs.FreeCellsLeft.{blocked_are_places}
 use Rattle.obstacle_mark.proofs.WholeFree.{free_of_whole}
 use Rattle.obstacle_mark.proofs.free.mark.Goals as goal
 
--- written, not checked yet
 pub blocked_places-requires : goal.blocked_places-requires
 blocked_places-requires c =
     ap length (c.as_slice.ensures.value ∙ c.in_ok-areas.ensures)

@@ -1,7 +1,10 @@
 use Rattle.std.proofs.Common.{◌∙◌, sym, subst, refl}
-use Rattle.nav_ground.specs.Cells.{IsCut}
-use Rattle.nav_ground.proofs.Literals.{IsCut-shown}
+use Rattle.nav_ground.specs.Cells.{IsCells, IsCut}
+use Rattle.nav_ground.proofs.Literals.{IsCells-shown, IsCut-shown}
 use Rattle.tests_ground.proofs.marks.layer.Goals as goal
 
-pub returns-clause-cut : goal.returns-clause-cut
-returns-clause-cut c = subst IsCut (sym (c.from_vec.ensures ∙ c.in_ok-from_array.ensures.items)) (IsCut-shown _ refl)
+pub returns : goal.returns
+returns c = record {
+  cells = subst IsCut (sym (c.from_vec.ensures ∙ c.in_ok-from_array.ensures.items)) (IsCut-shown _ refl);
+  wide = subst IsCells (sym c.new.ensures) (IsCells-shown _ refl);
+}

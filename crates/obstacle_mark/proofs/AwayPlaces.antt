@@ -1,0 +1,69 @@
+-- Taken places more than a row of columns away take no neighbour from a cell.
+use Rattle.std.proofs.Common.{◌≡◌, ℕ, zero, suc, ◌+◌, ◌-◌, ◌<◌, ◌⊎◌, inl, inr, length, List, [], ◌∷◌, get_or, ap, ◌∙◌, sym, refl, subst, Option, None, arith}
+use Rattle.std.specs.Prelude.{All, ◌==◌, if◌then◌else◌, option_and_then, slice_get}
+use Rattle.std.proofs.lemmas.Bool.{and_left, ne_eqb}
+use Rattle.std.proofs.lemmas.List.Folds.{list_any_none}
+use Rattle.nav_ground.specs.declared.cell.Cell.{Cell}
+use Rattle.nav_ground.specs.declared.cell.CellRef.{CellRef}
+use Rattle.nav_ground.specs.Cells.{is_naming, next_level}
+use Rattle.obstacle_mark.specs.Columns.{IsPlace, ArePlaces, LiesAway, LiesBefore, LiesBehind, column_of}
+use Rattle.obstacle_mark.specs.Places.{level_kept, next_kept}
+use Rattle.obstacle_mark.proofs.Columns.{toward_number}
+
+-- a number more than 2048 away is none of the four beside
+none_beside : (dir own other : ℕ) → dir < 4 → (other + 2048 < own) ⊎ (own + 2048 < other)
+    → other ≡ (if dir == 0 then own - 1 else (if dir == 1 then own + 2048 else (if dir == 2 then own + 1 else own - 2048))) → ⊥
+none_beside zero own other small (inl before) same = omega (arith, before, same)
+none_beside zero own other small (inr behind) same = omega (arith, behind, same)
+none_beside (suc zero) own other small (inl before) same = omega (arith, before, same)
+none_beside (suc zero) own other small (inr behind) same = omega (arith, behind, same)
+none_beside (suc (suc zero)) own other small (inl before) same = omega (arith, before, same)
+none_beside (suc (suc zero)) own other small (inr behind) same = omega (arith, behind, same)
+none_beside (suc (suc (suc zero))) own other small (inl before) same = omega (arith, before, same)
+none_beside (suc (suc (suc zero))) own other small (inr behind) same = omega (arith, behind, same)
+none_beside (suc (suc (suc (suc dir)))) own other small away same = absurd (omega (arith, small))
+
+-- a cell names none of such places, and keeps the level that it names
+kept_away : (dir : ℕ) (cell : Cell) (blocked : List CellRef) → dir < 4 → IsPlace cell.at → All IsPlace blocked
+    → All (LiesAway (column_of cell.at)) blocked → next_level cell dir ≡ level_kept blocked cell dir
+kept_away dir cell blocked small f each away =
+    sym (ap (λ b. if b then None else next_level cell dir)
+    (list_any_none (λ (at : CellRef). is_naming dir cell at) blocked
+    (λ k d there.
+    and_left _ _ (toward_number dir cell.at (get_or blocked k d) small f (each k d there)
+    ∙ ne_eqb _ _ (none_beside dir (column_of cell.at) (column_of (get_or blocked k d)) small (away k d there))))))
+
+-- the level that stands at a place
+level_at : (nexts : List (Option ℕ)) (dir : ℕ) → get_or nexts dir None ≡ option_and_then (λ (next : Option ℕ). next) (slice_get nexts dir)
+level_at [] dir = refl
+level_at (next ∷ nexts) zero = refl
+level_at (next ∷ nexts) (suc dir) = level_at nexts dir
+
+all_kept : (cell : Cell) (blocked : List CellRef) → IsPlace cell.at → All IsPlace blocked → All (LiesAway (column_of cell.at)) blocked
+    → get_or cell.next 0 None ∷ get_or cell.next 1 None ∷ get_or cell.next 2 None ∷ get_or cell.next 3 None ∷ [] ≡ next_kept blocked cell
+all_kept cell blocked f each away =
+    let same : (dir : ℕ) → dir < 4 → get_or cell.next dir None ≡ level_kept blocked cell dir =
+    λ dir small. level_at cell.next dir ∙ kept_away dir cell blocked small f each away in
+    cc (same 0 (omega arith), same 1 (omega arith), same 2 (omega arith), same 3 (omega arith))
+
+-- what a cell keeps where all places lie more than a row of columns away from its column
+pub kept_all : (cell : Cell) (blocked : List CellRef) (column : ℕ) → IsPlace cell.at → ArePlaces blocked → column ≡ column_of cell.at
+    → All (LiesAway column) blocked
+    → get_or cell.next 0 None ∷ get_or cell.next 1 None ∷ get_or cell.next 2 None ∷ get_or cell.next 3 None ∷ [] ≡ next_kept blocked cell
+kept_all cell blocked column f rules' same away =
+    all_kept cell blocked f rules'.each (subst (λ (n : ℕ). All (LiesAway n) blocked) same away)
+
+-- places in order come before a column where the last of them does, and behind it where the first of them does
+pub all_before : (places : List CellRef) (column : ℕ) → ArePlaces places
+    → ((d : CellRef) → 0 < length places → LiesBefore column (get_or places (length places - 1) d)) → All (LiesBefore column) places
+all_before places column rules' last k d there =
+    let rises = rules'.order k (length places - 1) d (omega (arith, there)) (omega (arith, there)) in
+    let end = last d (omega (arith, there)) in
+    omega (arith, rises, end)
+
+pub all_behind : (places : List CellRef) (column : ℕ) → ArePlaces places
+    → ((d : CellRef) → 0 < length places → LiesBehind column (get_or places 0 d)) → All (LiesBehind column) places
+all_behind places column rules' first k d there =
+    let rises = rules'.order 0 k d (omega arith) there in
+    let start = first d (omega (arith, there)) in
+    omega (arith, rises, start)
