@@ -17,8 +17,8 @@ LIVE_CHECK = os.path.join(os.path.dirname(os.path.abspath(__file__)), "../refere
 OUT_OF_MEMORY = 6
 
 
-def flat(size, tile, agent, mesh, limit, script):
-    lines = ["nav 1", f"size {size} {size}", f"tile {tile}", f"agent {agent}", "error 169", f"mesh {mesh}", f"limit {limit}"]
+def flat(size, tile, agent, mesh, limit, script, clear=False):
+    lines = [f"nav {1 + clear}", f"size {size} {size}", f"tile {tile}", f"agent {agent}", "error 169", f"mesh {mesh}", f"limit {limit}"] + ["clear 1"] * clear
     return lines + [f"span {x} {z} 0 10 63" for z in range(size) for x in range(size)] + ["end"], script
 
 
@@ -29,6 +29,8 @@ RUNS = {
         "submit 0", "publish", "settle", "publish", "path 40 56 10 88 72 10", "ray 24 24 10 88 72"])),
     "play, jumps and a hop walk": (["play"], flat(8, 8, "10 4 0", "strips", 4, ["script 1 1", "add block 3 3 0 100 1 6", "settle", "jump 40 24 10 72 24 10 7",
         "jump 999 24 10 72 24 10 1", "add block 5 5 0 100 1 5", "settle", "hop 40 104 10 104 24 10"])),
+    "play, clearance": (["play"], flat(16, 8, "10 4 2", "contours", 4, ["script 1 1", "add block 9 9 0 100 4 4", "aim", "claim 0", "submit 0", "settle",
+        "floor 7 4", "path 72 72 10 184 184 10"], clear=True)),
     "live, three lanes": (["live"], flat(96, 48, "10 4 2", "contours", 64, ["script 3 2", "lane 0", "add block 40 55 0 100 40 55", "drop 1", "settle",
         "path 160 160 10 1400 1400 10", "lane 1", "add cylinder 96 96 4 0 100", "settle", "drop 1", "lane 2", "path 160 160 10 1400 1400 10"])),
     "live, two small lanes": (["live"], flat(12, 4, "10 4 0", "strips", 8, ["script 2 3", "lane 0", "add block 3 4 0 30 7 8", "settle", "floor 3 7",

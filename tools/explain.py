@@ -31,13 +31,14 @@ KINDS = {
 
 # The forms of lines, with their limits.
 FORMS = {
-    "nav": "nav 1",
+    "nav": "nav 1 or nav 2",
     "size": "size WIDTH DEPTH, each 1 to 1024",
     "tile": "tile SIDE, 4 to 128",
     "agent": "agent HEIGHT CLIMB RADIUS, HEIGHT 1 to 255, CLIMB 0 to 254 and below HEIGHT, RADIUS 0 to 15",
     "error": "error E, 0 to 10000",
     "mesh": "mesh strips or mesh contours",
     "limit": "limit LIVE, 1 to 1024",
+    "clear": "clear V, 0 or 1, and 1 only where the side of a tile is at least twice the radius",
     "cost": "cost AREA COST, AREA 1 to 63 and above the one before, COST 1 to 1000",
     "span": "span X Z BOTTOM TOP AREA, X and Z in the field, BOTTOM below TOP, TOP at most 8191, AREA 0 to 63",
     "end": "end",
@@ -70,6 +71,7 @@ AFTER = {
     "error": ["mesh"],
     "mesh": ["limit"],
     "limit": ["cost", "span", "end"],
+    "clear": ["cost", "span", "end"],
     "cost": ["cost", "span", "end"],
     "span": ["span", "end"],
     "end": ["script"],
@@ -87,6 +89,8 @@ def expected(lines, number, live):
     before = first_word(lines[number - 2]) if 2 <= number <= len(lines) + 1 else None
     if number > 1 and any(line.startswith(b"script ") for line in lines[: number - 1]):
         return LIVED if live else PLAYED
+    if before == "limit" and lines[0] == b"nav 2":
+        return ["clear"]
     return AFTER.get(before, [])
 
 

@@ -43,6 +43,7 @@ def arguments():
     parser.add_argument("--agent-height", type=float, default=2.0, help="(default %(default)s)")
     parser.add_argument("--agent-climb", type=float, default=0.9, help="the highest step (default %(default)s)")
     parser.add_argument("--agent-radius", type=float, default=0.6, help="(default %(default)s)")
+    parser.add_argument("--clear", action="store_true", help="agents keep their radius from obstacles too")
     parser.add_argument("--error", type=float, default=1.3, help="how far outlines may stray, in cells (default %(default)s)")
     parser.add_argument("--tile", type=int, default=48, help="columns a tile's side, 4 to 128 (default %(default)s)")
     parser.add_argument("--mesh", choices=("contours", "strips"), default="contours", help="(default %(default)s)")
@@ -124,12 +125,13 @@ def header(width, depth, given):
         ("--agent-climb in height units, which must be below the height,", climb, 0, min(254, height - 1)),
         ("--agent-radius in cells", radius, 0, 15),
         ("--error, squared, in hundredths,", error, 0, 10000),
-        ("--tile", given.tile, 4, 128),
+        ("--tile", given.tile, max(4, 2 * radius * given.clear), 128),
         ("--limit", given.limit, 1, 1024),
     ):
         if not least <= value <= most:
             fail(f"{what} is {value} and must be {least} to {most}")
-    lines = ["nav 1", f"size {width} {depth}", f"tile {given.tile}", f"agent {height} {climb} {radius}", f"error {error}", f"mesh {given.mesh}", f"limit {given.limit}"]
+    lines = [f"nav {1 + given.clear}", f"size {width} {depth}", f"tile {given.tile}", f"agent {height} {climb} {radius}", f"error {error}", f"mesh {given.mesh}",
+             f"limit {given.limit}"] + ["clear 1"] * given.clear
     costs = {}
     for area, cost in given.cost:
         if not area.isdigit() or not 1 <= int(area) <= 63 or not 1 <= cost <= 1000:

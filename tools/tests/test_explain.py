@@ -16,14 +16,19 @@ sys.path.insert(0, os.path.join(HERE, ".."))
 import explain
 
 HEADER = ["nav 1", "size 6 6", "tile 6", "agent 10 4 0", "error 169", "mesh strips", "limit 4"]
+SECOND = ["nav 2", "size 6 6", "tile 5", "agent 10 4 3", "error 169", "mesh strips", "limit 4"]
 SPAN = "span 0 0 0 10 63"
 SCRIPT = [*HEADER, SPAN, "end", "script 1 1"]
 
 # Kind, the lines of an input, the line of its fault, a part of what is said of it, and a part of what is expected there.
 ROWS = [
     (1, ["nav 1", "size 6"], 2, "none of the forms that may stand here", "size WIDTH DEPTH"),
+    (1, ["nav 3"], 1, "none of the forms that may stand here", "nav 1 or nav 2"),
+    (1, [*HEADER, "clear 0"], 8, "none of the forms that may stand here", "cost AREA COST"),
+    (1, [*SECOND, "cost 20 3"], 8, "none of the forms that may stand here", "clear V"),
     (1, [*HEADER, SPAN, "cost 20 3"], 9, "none of the forms that may stand here", "span X Z BOTTOM TOP AREA"),
     (2, ["nav 1", "size 6 6", "tile 3"], 3, "outside its limits", "tile SIDE, 4 to 128"),
+    (2, [*SECOND, "clear 1"], 8, "outside its limits", "at least twice the radius"),
     (3, [*HEADER, "span 1 0 0 10 63", "span 0 0 0 10 63"], 9, "spans stand by Z, then by X", "span X Z BOTTOM TOP AREA"),
     (4, [*HEADER, SPAN, "span 0 0 9 12 0"], 9, "below the top of the span before it", "span X Z BOTTOM TOP AREA"),
     (5, ["nav 1", "size 6 6", "tile 6", "agent 10 10 0"], 4, "not below the height", "agent HEIGHT CLIMB RADIUS"),

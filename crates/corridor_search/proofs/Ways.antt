@@ -75,7 +75,7 @@ module _ (mesh : Mesh) (at : PolyRef) (tile : TileMesh) (sound : IsSound mesh) (
       let weight : (way_in tile link).length * slice_index mesh.setting.costs (way_in tile link).area ≡ weight_of mesh link =
       (λ i. max 1 (distance_of (middle_in (left i)) (middle_in (entered i))) * slice_index mesh.setting.costs (entered i).area)
       ∙ (λ i. max 1 (distance_of (middle-in leaves (polygon-rules mesh link.from leaves sound from) i) (middle-in enters (polygon-rules mesh link.to enters sound to) i))
-          * slice_index mesh.setting.costs enters.area)
+      * slice_index mesh.setting.costs enters.area)
       ∙ sym (weight-is mesh link leaves enters from to) in
       λ i. record { to = record { block = sym here i; place = link.to.index }; weight = weight i }
 

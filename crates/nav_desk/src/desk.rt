@@ -271,6 +271,14 @@ impl Desk {
         &self.level
     }
 
+    /// A further owner of the ground. It takes no memory; it is refused only where the count of owners has reached its end.
+    pub fn shared_level(&self) -> Result<Arc<Ground>, AllocError>
+        ensures value { IfOk result (λ level. arc_value level ≡ self.now.whole) }
+        ensures rules { IsBook self.now }
+    {
+        Ok(Arc::try_clone(&self.level)?)
+    }
+
     /// How many entries the history has.
     pub fn length(&self) -> u32
         ensures { result ≡ length self.now.history }

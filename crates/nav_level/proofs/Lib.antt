@@ -3,6 +3,6 @@ pub mod FreshTiles
 pub mod StoredTiles
 pub mod KeptTiles
 pub mod Settled
-mod StepLaws
+pub mod StepLaws
 pub mod JobLaws
 mod Passing

@@ -1,5 +1,5 @@
 -- The meshes that a level shows and takes in.
-use Rattle.std.specs.Prelude.{ℕ, List, take}
+use Rattle.std.specs.Prelude.{ℕ, List, take, ⊤}
 use Rattle.nav_ground.specs.declared.history.Entry.{Entry}
 use Rattle.nav_ground.specs.declared.history.Ground.{Ground}
 use Rattle.nav_ground.specs.declared.shape.Shape.{Shape}
@@ -7,6 +7,8 @@ use Rattle.nav_ground.specs.Layers.{layer_of}
 use Rattle.mesh_types.specs.declared.mesh.Mesh.{Mesh}
 use Rattle.mesh_types.specs.declared.tile.TileMesh.{TileMesh}
 use Rattle.mesh_types.specs.Builds.{build_of, tile_mesh_of}
+use Rattle.nav_desk.specs.declared.answers.Published.{Published}
+use Rattle.nav_desk.specs.declared.answers.Published.TheVariants.{New, Same, NotYet}
 use Rattle.nav_desk.specs.BookState.{BookState}
 
 -- the mesh that is shown: that of the ground with the obstacles that are alive after the published entries
@@ -24,3 +26,9 @@ published_entries state = take state.published state.history
 -- the mesh of a tile of a ground under a list of shapes
 abbrev pub tile_under : Ground → ℕ → List Shape → TileMesh
 tile_under whole tile shapes = tile_mesh_of whole.setting (layer_of whole.setting whole.field tile) shapes
+
+-- a publish shows what was not shown before
+abbrev pub IsNew : Published → Type 0
+IsNew (New k) = ⊤
+IsNew (Same k) = ⊥
+IsNew (NotYet tile) = ⊥

@@ -14,7 +14,7 @@ ghost use Rattle.nav_query.specs.Questions.{HasLowCost, HasUnfoldedWay, IsAnswer
 ghost use Rattle.nav_desk.specs.BookState.{IsBook, first_state, least_awaited};
 ghost use Rattle.nav_desk.specs.Renewal.{AddsAgain, IsAllShown, IsRenewed};
 ghost use Rattle.nav_desk.specs.Steps.{IsJob, next_reply, request_answer, requested, after_request, after_aim, next_job, after_claim, after_put_back, after_put_back_all, submission, after_submit, after_publish};
-ghost use Rattle.nav_level.specs.Results.{published_mesh, target_mesh, tile_under};
+ghost use Rattle.nav_level.specs.Results.{IsNew, published_mesh, target_mesh, tile_under};
 ghost use Rattle.nav_level.specs.Settling.{IsUnclaimed};
 
 use crate::counts::{links, polygons};
@@ -202,11 +202,13 @@ impl Level {
     }
 
     /// Publishes the target. It is not yet to be where a tile is awaited, of which the least is named, and it is published already where the
-    /// target is the published length; then nothing changes, and no memory is taken. Where memory is refused, nothing has changed.
+    /// target is the published length; then nothing changes, and no memory is taken. Memory may be refused only where the target is to be
+    /// published, and then nothing has changed.
     pub fn publish(&mut self, alloc: Global) -> Result<Published, AllocError>
         ensures answer { IfOk result (λ answer. answer ≡ Rattle.nav_desk.specs.Steps.publication self.old) }
         ensures published { OnOk result (self.new ≡ after_publish self.old) }
         ensures refused { OnErr result (self.new ≡ self.old) }
+        ensures wanted { OnErr result (IsNew (Rattle.nav_desk.specs.Steps.publication self.old)) }
     {
         let answer = self.publication();
         match answer {
@@ -295,6 +297,15 @@ impl Level {
         ensures rules { IsBook self.now }
     {
         self.desk.level()
+    }
+
+    /// A further owner of the ground, for one who builds its tiles beside whoever changes the level. It takes no memory; it is refused only
+    /// where the count of owners has reached its end.
+    pub fn shared_level(&self) -> Result<Arc<Ground>, AllocError>
+        ensures value { IfOk result (λ level. arc_value level ≡ self.now.whole) }
+        ensures rules { IsBook self.now }
+    {
+        self.desk.shared_level()
     }
 
     /// The mesh as it was last published. It is also that of every longer history at that length.

@@ -62,8 +62,7 @@ turn_steps : (from by to : Cell) → is_turn from by to ≡ true → (is_axis_st
 turn_steps from by to turn =
     let hit = any_direction (λ dir. is_naming dir from by.at && (is_naming ((dir + 1) % 4) by to.at || is_naming ((dir + 3) % 4) by to.at)) turn in
     let dir = hit.0 in
-    let parts = and_parts (is_naming dir from by.at) _ hit.2 in
-    (
+    let parts = and_parts (is_naming dir from by.at) _ hit.2 in (
       direction_any (λ d. is_naming d from by.at) dir hit.1 parts.0,
       elim (or_cases (is_naming ((dir + 1) % 4) by to.at) (is_naming ((dir + 3) % 4) by to.at) parts.1) [
         | inl one ↦ direction_any (λ d. is_naming d by to.at) ((dir + 1) % 4) (omega arith) one

@@ -1,6 +1,6 @@
 //! Searches in a small graph.
 
-ghost use Rattle.std.specs.Prelude.{◌≡◌, ◌++◌, map, OnOk};
+ghost use Rattle.std.specs.Prelude.{◌≡◌, ◌<◌, ◌++◌, map, OnOk};
 ghost use Rattle.tests_base.specs.Rows.{vertex_at, pair_arc};
 
 use crate::checks::same;

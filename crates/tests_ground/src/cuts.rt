@@ -1,6 +1,7 @@
 //! Square fields cut by hand: flat but for a few spans over the column (2, 2), so that every layer can be said by its floors.
 
-ghost use Rattle.std.specs.Prelude.{◌≡◌, ◌<◌, ◌≤◌, IfOk, IsTrue};
+ghost use Rattle.std.specs.Prelude.{◌≡◌, ◌<◌, ◌≤◌, ◌*◌, true, IfOk, IsTrue};
+ghost use Rattle.nav_ground.specs.Cells.{IsLayer};
 ghost use Rattle.nav_ground.specs.Grounds.{IsGround};
 ghost use Rattle.nav_ground.specs.Limits.{IsSetting};
 ghost use Rattle.nav_ground.specs.Tiling.{tile_count};
@@ -9,7 +10,8 @@ use crate::checks::same;
 use crate::rules::keeps_rules;
 use layer_cut::{ground, layer, tile_of};
 use nav_ground::{
-    AREAS, Agent, Cell, CellRef, Field, Ground, Layer, MeshKind, Setting, Span, TileNo, tiles,
+    AREAS, Agent, Cell, CellRef, Field, Ground, Layer, MeshKind, Setting, Span, TileNo, Window,
+    tile_bounds, tiles,
 };
 use nav_list::Items;
 use std::alloc::{AllocError, Global};
@@ -25,13 +27,15 @@ enum Over {
     LowBeam,
 }
 
-/// A square field with its floor at height 10 and spans over it, the tiles and the agent's radius, and what the cells are to be:
-/// none in so many columns along the edge, one of its own height over the column (2, 2), and one at height 10 over each other column.
+/// A square field with its floor at height 10 and spans over it, the tiles and the agent's radius, whether it is kept from obstacles too,
+/// and what the cells are to be: none in so many columns along the edge, one of its own height over the column (2, 2), and one at height
+/// 10 over each other column.
 #[derive(Clone, Copy)]
 struct Case {
     side: u32,
     tile: u32,
     radius: u32,
+    clear: bool,
     over: Over,
     edge: u32,
     height: u32,
@@ -78,6 +82,7 @@ fn setting_of(case: &Case) -> Setting
     requires side { (1 ≤ case.now.side) × (case.now.side ≤ 16) }
     requires tile { (4 ≤ case.now.tile) × (case.now.tile ≤ 16) }
     requires radius { case.now.radius ≤ 15 }
+    requires clear { case.now.clear ≡ true → 2 * case.now.radius ≤ case.now.tile }
     ensures rules { IsSetting result }
     ensures width { result.width ≡ case.now.side }
     ensures depth { result.depth ≡ case.now.side }
@@ -95,7 +100,7 @@ fn setting_of(case: &Case) -> Setting
         mesh: MeshKind::Strips,
         limit: 4,
         costs: [1; AREAS],
-        clear: false,
+        clear: case.clear,
     }
 }
 
@@ -210,6 +215,49 @@ fn check_cells(rt: &impl Abort, case: &Case, setting: &Setting, tile: TileNo, ce
     }
 }
 
+/// How many columns agents keep from obstacles.
+fn margin_wanted(case: &Case) -> u32 {
+    if case.clear { case.radius } else { 0 }
+}
+
+/// Whether a number lies between two others, or past them by a margin at most.
+fn is_beside(least: i32, most: i32, margin: u32, number: u32) -> bool {
+    let margin = i64::from(margin);
+    let number = i64::from(number);
+    i64::from(least) <= number + margin && number <= i64::from(most) + margin
+}
+
+/// Whether there is a wide cell over a column for a tile of these columns: one that stands there before erosion, so near the tile.
+fn is_wide_cell(case: &Case, window: &Window, x: u32, z: u32) -> bool {
+    let margin = margin_wanted(case);
+    case.clear
+        && floor_wanted(&Case { edge: 1, ..*case }, x, z) > 0
+        && is_beside(window.x0, window.x1, margin, x)
+        && is_beside(window.z0, window.z1, margin, z)
+}
+
+/// The places of the wide cells of a tile of these columns.
+fn wide_wanted(alloc: Global, case: &Case, window: &Window) -> Result<Vec<CellRef>, AllocError> {
+    let mut places = Vec::new(alloc);
+    for i in 0..256 {
+        let (x, z) = (i % 16, i / 16);
+        if is_wide_cell(case, window, x, z) {
+            places.push(at_ground(x, z))?;
+        }
+    }
+    Ok(places)
+}
+
+/// The radius and the wide cells of a layer are as wanted.
+fn check_wide(rt: &impl Abort, case: &Case, layer: &Layer, places: &[CellRef]) {
+    same(rt, layer.radius, margin_wanted(case));
+    same(rt, layer.wide.len(), places.len());
+    for (cell, place) in layer.wide.iter().zip(places.iter()) {
+        same(rt, cell.at, *place);
+        check_cell(rt, &Case { edge: 1, ..*case }, cell);
+    }
+}
+
 /// Whether the layer of a tile alone is the one that is there.
 fn is_cut_alone(
     alloc: Global,
@@ -239,9 +287,28 @@ fn check_layers(
         let there = &layers[tile as usize];
         assert!(rt; there.tile == tile);
         check_cells(rt, case, setting, tile, there.cells.as_slice());
+        let wide = wide_wanted(alloc, case, &tile_bounds(setting, tile))?;
+        check_wide(rt, case, there, wide.as_slice());
         assert!(rt; is_cut_alone(alloc, whole, tile, there)?);
     }
     Ok(())
+}
+
+/// The one layer of a flat field of 13 columns a side, whose wide cells stand over the inner 11 by 11 columns.
+pub(crate) fn flat_layer(rt: &impl Abort, alloc: Global) -> Result<Layer, AllocError>
+    ensures { IfOk result IsLayer }
+{
+    let case = Case {
+        side: 13,
+        tile: 16,
+        clear: true,
+        ..FLAT
+    };
+    let field = field_of(alloc, &case)?;
+    let setting = setting_of(&case);
+    assert!(rt; keeps_rules(&field) && 0 < tiles(&setting));
+    let layer = layer(alloc, &field, &setting, 0)?;
+    Ok(layer)
 }
 
 /// The ground that a case is about.
@@ -249,6 +316,7 @@ fn ground_of(rt: &impl Abort, alloc: Global, case: &Case) -> Result<Ground, Allo
     requires side { (1 ≤ case.now.side) × (case.now.side ≤ 16) }
     requires tile { (4 ≤ case.now.tile) × (case.now.tile ≤ 16) }
     requires radius { case.now.radius ≤ 15 }
+    requires clear { case.now.clear ≡ true → 2 * case.now.radius ≤ case.now.tile }
     ensures { IfOk result IsGround }
 {
     let field = field_of(alloc, case)?;
@@ -260,6 +328,7 @@ fn check(rt: &impl Abort, alloc: Global, case: &Case) -> Result<(), AllocError>
     requires side { (1 ≤ case.now.side) × (case.now.side ≤ 16) }
     requires tile { (4 ≤ case.now.tile) × (case.now.tile ≤ 16) }
     requires radius { case.now.radius ≤ 15 }
+    requires clear { case.now.clear ≡ true → 2 * case.now.radius ≤ case.now.tile }
 {
     let whole = ground_of(rt, alloc, case)?;
     same(rt, cells_in(whole.layers.as_slice()), cells_wanted(case));
@@ -270,12 +339,13 @@ const FLAT: Case = Case {
     side: 6,
     tile: 6,
     radius: 0,
+    clear: false,
     over: Over::Nothing,
     edge: 1,
     height: 10,
 };
 
-static CASES: [Case; 7] = [
+static CASES: [Case; 10] = [
     // Four tiles; cells beside a border name those across it.
     Case {
         side: 8,
@@ -319,6 +389,29 @@ static CASES: [Case; 7] = [
         edge: 2,
         ..FLAT
     },
+    // Wide cells of tiles that are just wide enough, of tiles that the edge cuts, and with no radius.
+    Case {
+        side: 16,
+        tile: 4,
+        radius: 2,
+        clear: true,
+        edge: 3,
+        ..FLAT
+    },
+    Case {
+        side: 14,
+        tile: 6,
+        radius: 2,
+        clear: true,
+        edge: 3,
+        ..FLAT
+    },
+    Case {
+        side: 8,
+        tile: 4,
+        clear: true,
+        ..FLAT
+    },
 ];
 
 /// Whether a case is small enough.
@@ -326,8 +419,22 @@ fn is_small(case: &Case) -> bool
     ensures side { IsTrue result → (1 ≤ case.now.side) × (case.now.side ≤ 16) }
     ensures tile { IsTrue result → (4 ≤ case.now.tile) × (case.now.tile ≤ 16) }
     ensures radius { IsTrue result → case.now.radius ≤ 15 }
+    ensures clear { IsTrue result → case.now.clear ≡ true → 2 * case.now.radius ≤ case.now.tile }
 {
-    1 <= case.side && case.side <= 16 && 4 <= case.tile && case.tile <= 16 && case.radius <= 15
+    1 <= case.side
+        && case.side <= 16
+        && 4 <= case.tile
+        && case.tile <= 16
+        && case.radius <= 15
+        && is_wide(case)
+}
+
+/// Whether the tiles are wide enough.
+fn is_wide(case: &Case) -> bool
+    requires { case.now.radius ≤ 15 }
+    ensures { IsTrue result → case.now.clear ≡ true → 2 * case.now.radius ≤ case.now.tile }
+{
+    !case.clear || 2 * case.radius <= case.tile
 }
 
 fn check_all(rt: &impl Abort, alloc: Global, cases: &[Case]) -> Result<(), AllocError> {

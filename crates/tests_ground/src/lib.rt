@@ -23,6 +23,8 @@ mod marks;
 #[cfg(test)]
 mod neighbours;
 #[cfg(test)]
+mod open_cells;
+#[cfg(test)]
 mod rows;
 #[cfg(test)]
 mod rules;

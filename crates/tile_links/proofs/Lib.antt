@@ -15,3 +15,4 @@ pub mod NearTiles
 pub mod TwoWayMeshes
 pub mod AxisOrders
 pub mod OneWayCrossings
+pub mod KeptLinks

@@ -83,7 +83,7 @@ AreTiles-after setting news tiles new are few = record {
 }
 
 -- a tile for which there is no new one stays
-stays : (news : List New) (tile : TileMesh) → is_new news tile.tile ≡ false → tile_after news tile ≡ tile
+pub stays : (news : List New) (tile : TileMesh) → is_new news tile.tile ≡ false → tile_after news tile ≡ tile
 stays news tile old = by_found (new_tile news tile.tile) old
   where
     by_found : (found : Option TileMesh) → is_some found ≡ false → unwrap_or found tile ≡ tile
@@ -91,7 +91,7 @@ stays news tile old = by_found (new_tile news tile.tile) old
     by_found (Some new) none = absurd (both_ways true none refl)
 
 -- and so does what is found at its number
-same_at : (setting : Setting) (news : List New) (tiles : List TileMesh) (place : ℕ) → AreTiles setting tiles → is_new news place ≡ false
+pub same_at : (setting : Setting) (news : List New) (tiles : List TileMesh) (place : ℕ) → AreTiles setting tiles → is_new news place ≡ false
     → slice_get (tiles_after news tiles) place ≡ slice_get tiles place
 same_at setting news tiles place are old = slice_get-map (tile_after news) tiles place ∙ by_tile (slice_get tiles place) refl
   where

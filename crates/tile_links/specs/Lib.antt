@@ -3,3 +3,4 @@ pub mod RimPlaces
 pub mod Loose
 pub mod NewTiles
 pub mod NearTiles
+pub mod KeptLinks

@@ -1,6 +1,7 @@
 //! Tiles joined into one mesh.
 
-ghost use Rattle.std.specs.Prelude.{◌≡◌, ◌≤◌, ◌<◌, ◌++◌, All, IfOk, OnOk, length, map};
+ghost use Rattle.std.specs.Prelude.{◌≡◌, ℕ, ◌≤◌, ◌<◌, ◌++◌, All, IfOk, OnOk, length, map};
+ghost use Rattle.std.specs.List.{flat_map, range_with_len};
 ghost use Rattle.nav_ground.specs.Limits.{IsSetting};
 ghost use Rattle.nav_ground.specs.Tiling.{tile_count};
 ghost use Rattle.mesh_types.specs.declared.tile.TileMesh.{TileMesh};
@@ -66,7 +67,7 @@ fn all_cross_links(
 }
 
 /// The links that leave a tile for other tiles, as a value that several meshes can share.
-pub fn shared_cross_links(
+fn shared_cross_links(
     alloc: Global,
     setting: &Setting,
     tiles: &[Shared<Tile>],
@@ -106,9 +107,30 @@ pub fn cross_links(
     requires few { length tile.now.polys ≤ 8000000 }
     ensures { IfOk result (λ links. links ≡ cross_links setting.now tiles.now tile.now) }
 {
-    let mut links = Vec::new(alloc);
-    for side in 0..4 {
-        push_side_links(alloc, &mut links, setting, tiles, tile, side)?;
+    links_with(alloc, Vec::new(alloc), setting, tiles, tile, &[0, 1, 2, 3])
+}
+
+/// The links that leave a tile over its four sides, in the order of links, given some of them and the sides over which the others lead.
+pub fn links_with(
+    alloc: Global,
+    known: Vec<Link>,
+    setting: &Setting,
+    tiles: &[Shared<Tile>],
+    tile: &TileMesh,
+    sides: &[u32],
+) -> Result<Links, AllocError>
+    requires setting { IsSetting setting.now }
+    requires tiles { AreTiles setting.now tiles.now }
+    requires tile { IsFit setting.now tile.now }
+    requires few { length tile.now.polys ≤ 8000000 }
+    requires sides { All (λ (side : ℕ). side < 4) sides.now }
+    requires others { HasGained known.items (flat_map (loose_over setting.now tiles.now tile.now) sides.now)
+        (flat_map (loose_over setting.now tiles.now tile.now) (range_with_len 0 4)) }
+    ensures { IfOk result (λ links. links ≡ cross_links setting.now tiles.now tile.now) }
+{
+    let mut links = known;
+    for side in sides {
+        push_side_links(alloc, &mut links, setting, tiles, tile, *side)?;
     }
     order_links(links.as_mut_slice());
     Links::new(alloc, links, tile.polys.len() as u32)

@@ -1,27 +1,29 @@
 //! Tiles replaced in a mesh.
 
-ghost use Rattle.std.specs.Prelude.{◌≡◌, ◌≤◌, ◌<◌, ◌++◌, ◌∷◌, [], ℕ, IfOk, IfErr, OnOk, OnErr, All, length, map, get_or, slice_index_or, false, true, List};
+ghost use Rattle.std.specs.Prelude.{◌≡◌, ◌≤◌, ◌<◌, ◌++◌, ◌∷◌, [], ℕ, IfOk, IfErr, OnOk, OnErr, All, if◌then◌else◌, length, map, get_or, slice_index_or, false, true, List};
+ghost use Rattle.std.specs.List.{filter};
 ghost use Rattle.std.specs.Option.{option_copied};
 ghost use Rattle.nav_ground.specs.Limits.{IsSetting};
 ghost use Rattle.nav_ground.specs.Tiling.{tile_count};
 ghost use Rattle.mesh_types.specs.declared.links.Link.{Link};
 ghost use Rattle.mesh_types.specs.declared.tile.TileMesh.{TileMesh};
 ghost use Rattle.mesh_types.specs.Passages.{AreTwoWay, IsTwoWay};
-ghost use Rattle.mesh_types.specs.Soundness.{AreTiles, IsSound, polygon_count};
+ghost use Rattle.mesh_types.specs.Soundness.{AreTiles, IsFit, IsSound, polygon_count};
 ghost use Rattle.mesh_types.specs.WholeMesh.{mesh_of};
 ghost use Rattle.tile_links.specs.NewTiles.{AreNew, AreRising, IsWhole, New, is_near_new, tiles_after};
 ghost use Rattle.tile_links.specs.NearTiles.{IsMarked, IsMarkedAcross};
+ghost use Rattle.tile_links.specs.KeptLinks.{KeepsOld};
 
-use crate::join::{across, shared_cross_links};
-use mesh_types::{Links, Mesh, Tile};
+use crate::join::{across, cross_links, links_with};
+use mesh_types::{Link, Links, Mesh, Tile, TileMesh};
 use nav_ground::{Setting, TileNo, tiles};
 use nav_list::Items;
 use nav_share::Shared;
 use std::alloc::{AllocError, Global};
 
-/// Puts new tile meshes into a mesh, each with the number of its tile. The links over the borders of those tiles and of the tiles beside
-/// them are made again; all other tiles and lists of links are shared with the mesh as it was. Where memory is refused, the mesh is
-/// unchanged and the new tile meshes come back.
+/// Puts new tile meshes into a mesh, each with the number of its tile. The links over the borders of those tiles are made again, from
+/// either side; the tiles beside them keep their other links, and all other tiles and lists of links are shared with the mesh as it was.
+/// Where memory is refused, the mesh is unchanged and the new tile meshes come back.
 pub fn replace(
     mesh: &mut Mesh,
     alloc: Global,
@@ -126,43 +128,204 @@ fn cross_after(
     requires setting { IsSetting setting.now }
     requires tiles { AreTiles setting.now tiles.now }
     requires news { All (λ (new : New). new.0 < tile_count setting.now) news.now }
+    requires rising { AreRising news.now }
     requires beside { length cross.now ≡ length tiles.now }
     requires kept { (t : ℕ) (d : List Link) (e : TileMesh) → t < length tiles.now → is_near_new setting.now news.now t ≡ false
         → get_or cross.now t d ≡ Rattle.mesh_types.specs.WholeMesh.cross_links setting.now tiles.now (get_or tiles.now t e) }
+    requires old { (t : ℕ) (d : List Link) (e : TileMesh) → t < length tiles.now
+        → Rattle.tile_links.specs.NewTiles.is_new news.now t ≡ false
+        → KeepsOld setting.now news.now tiles.now (get_or tiles.now t e) (get_or cross.now t d) }
     ensures { IfOk result (λ after. after.items ≡ map (Rattle.mesh_types.specs.WholeMesh.cross_links setting.now tiles.now) tiles.now) }
 {
     let near = near_new(alloc, setting, news)?;
+    let changes = Changes {
+        news,
+        near: near.as_slice(),
+    };
     let mut after = Vec::with_capacity(alloc, tiles.len())?;
     for place in 0..tiles.len() {
-        after.push(links_after(alloc, setting, cross, tiles, near.as_slice(), place)?)?;
+        after.push(links_after(alloc, setting, cross, tiles, changes, place)?)?;
     }
     Ok(after)
 }
 
-/// The links that leave the tile at a place, given those that left the tiles before the new ones came, and which tiles are near a new one.
+/// New tile meshes, and for each tile whether one of them is its own or lies across a side of it.
+#[derive(Clone, Copy)]
+struct Changes<'a> {
+    news: &'a [(TileNo, Shared<Tile>)],
+    near: &'a [bool],
+}
+
+/// The links that leave the tile at a place, given those that left the tiles before the new ones came.
 fn links_after(
     alloc: Global,
     setting: &Setting,
     cross: &[Shared<Links>],
     tiles: &[Shared<Tile>],
-    near: &[bool],
+    changes: Changes,
     place: usize,
 ) -> Result<Shared<Links>, AllocError>
     requires setting { IsSetting setting.now }
     requires tiles { AreTiles setting.now tiles.now }
+    requires rising { AreRising changes.news.now }
     requires beside { length cross.now ≡ length tiles.now }
-    requires near { length near.now ≡ length tiles.now }
+    requires near { length changes.near.now ≡ length tiles.now }
     requires there { place < length tiles.now }
-    requires kept { (d : List Link) (e : TileMesh) → slice_index_or near.now place false ≡ false
+    requires kept { (d : List Link) (e : TileMesh) → slice_index_or changes.near.now place false ≡ false
         → get_or cross.now place d ≡ Rattle.mesh_types.specs.WholeMesh.cross_links setting.now tiles.now (get_or tiles.now place e) }
+    requires old { (d : List Link) (e : TileMesh) → Rattle.tile_links.specs.NewTiles.is_new changes.news.now place ≡ false
+        → KeepsOld setting.now changes.news.now tiles.now (get_or tiles.now place e) (get_or cross.now place d) }
     ensures { (e : TileMesh) → IfOk result (λ links. links
         ≡ Rattle.mesh_types.specs.WholeMesh.cross_links setting.now tiles.now (get_or tiles.now place e)) }
 {
-    if near[place] {
-        Ok(shared_cross_links(alloc, setting, tiles, tiles[place].get().mesh())?)
+    if changes.near[place] {
+        Ok(shared_near_links(
+            alloc,
+            setting,
+            tiles,
+            changes.news,
+            cross[place].get(),
+            tiles[place].get().mesh(),
+        )?)
     } else {
         Ok(cross[place].share()?)
     }
+}
+
+/// What `near_links` gives, as a value that several meshes can share.
+fn shared_near_links(
+    alloc: Global,
+    setting: &Setting,
+    tiles: &[Shared<Tile>],
+    news: &[(TileNo, Shared<Tile>)],
+    old: &Links,
+    tile: &TileMesh,
+) -> Result<Shared<Links>, AllocError>
+    requires setting { IsSetting setting.now }
+    requires tiles { AreTiles setting.now tiles.now }
+    requires tile { IsFit setting.now tile.now }
+    requires few { length tile.now.polys ≤ 8000000 }
+    requires rising { AreRising news.now }
+    requires old { Rattle.tile_links.specs.NewTiles.is_new news.now tile.now.tile ≡ false
+        → KeepsOld setting.now news.now tiles.now tile.now old.now }
+    ensures { IfOk result (λ links. links ≡ Rattle.mesh_types.specs.WholeMesh.cross_links setting.now tiles.now tile.now) }
+{
+    let links = near_links(alloc, setting, tiles, news, old, tile)?;
+    Ok(Shared::new(alloc, links)?)
+}
+
+/// The links that leave a tile near a new one, given those that left it before: all of them again where the tile is new itself, and else
+/// those over the sides across which one is.
+fn near_links(
+    alloc: Global,
+    setting: &Setting,
+    tiles: &[Shared<Tile>],
+    news: &[(TileNo, Shared<Tile>)],
+    old: &Links,
+    tile: &TileMesh,
+) -> Result<Links, AllocError>
+    requires setting { IsSetting setting.now }
+    requires tiles { AreTiles setting.now tiles.now }
+    requires tile { IsFit setting.now tile.now }
+    requires few { length tile.now.polys ≤ 8000000 }
+    requires rising { AreRising news.now }
+    requires old { Rattle.tile_links.specs.NewTiles.is_new news.now tile.now.tile ≡ false
+        → KeepsOld setting.now news.now tiles.now tile.now old.now }
+    ensures { IfOk result (λ links. links ≡ Rattle.mesh_types.specs.WholeMesh.cross_links setting.now tiles.now tile.now) }
+{
+    if is_new(news, tile.tile) {
+        return cross_links(alloc, setting, tiles, tile);
+    }
+    let kept = kept_links(alloc, old.as_slice(), news)?;
+    let sides = new_sides(alloc, setting, news, tile.tile)?;
+    links_with(alloc, kept, setting, tiles, tile, sides.as_slice())
+}
+
+/// Of links those that lead to tiles that are not replaced.
+fn kept_links(
+    alloc: Global,
+    links: &[Link],
+    news: &[(TileNo, Shared<Tile>)],
+) -> Result<Vec<Link>, AllocError>
+    requires { AreRising news.now }
+    ensures { IfOk result (λ kept. kept.items ≡ filter (Rattle.tile_links.specs.KeptLinks.leads_to_old news.now) links.now) }
+{
+    let mut kept = Vec::with_capacity(alloc, links.len())?;
+    for link in links {
+        push_kept(&mut kept, link, news)?;
+    }
+    Ok(kept)
+}
+
+/// Appends a link, unless it leads to a tile that is replaced.
+fn push_kept(
+    kept: &mut Vec<Link>,
+    link: &Link,
+    news: &[(TileNo, Shared<Tile>)],
+) -> Result<(), AllocError>
+    requires { AreRising news.now }
+    ensures { OnOk result (kept.new.items ≡ kept.old.items
+        ++ (if Rattle.tile_links.specs.KeptLinks.leads_to_old news.now link.now then link.now ∷ [] else [])) }
+{
+    if leads_to_old(news, link) {
+        kept.push(*link)?;
+    }
+    Ok(())
+}
+
+/// Whether a link leads to a tile that is not replaced.
+fn leads_to_old(news: &[(TileNo, Shared<Tile>)], link: &Link) -> bool
+    requires { AreRising news.now }
+    ensures { result ≡ Rattle.tile_links.specs.KeptLinks.leads_to_old news.now link.now }
+{
+    !is_new(news, link.to.tile)
+}
+
+/// The sides of a tile across which a tile is replaced.
+fn new_sides(
+    alloc: Global,
+    setting: &Setting,
+    news: &[(TileNo, Shared<Tile>)],
+    tile: TileNo,
+) -> Result<Vec<u32>, AllocError>
+    requires setting { IsSetting setting.now }
+    requires there { tile < tile_count setting.now }
+    requires rising { AreRising news.now }
+    ensures { IfOk result (λ sides. sides.items ≡ Rattle.tile_links.specs.KeptLinks.new_sides setting.now news.now tile) }
+{
+    let mut sides = Vec::with_capacity(alloc, 4)?;
+    for beside in 0..4 {
+        if is_new_across(setting, news, tile, beside) {
+            sides.push(beside)?;
+        }
+    }
+    Ok(sides)
+}
+
+/// Whether the tile across a side of a tile is replaced.
+fn is_new_across(
+    setting: &Setting,
+    news: &[(TileNo, Shared<Tile>)],
+    tile: TileNo,
+    side: u32,
+) -> bool
+    requires setting { IsSetting setting.now }
+    requires there { tile < tile_count setting.now }
+    requires rising { AreRising news.now }
+    ensures { result ≡ Rattle.tile_links.specs.NewTiles.is_new_across setting.now news.now tile side }
+{
+    match across(setting, tile, side) {
+        Some(other) => is_new(news, other),
+        None => false,
+    }
+}
+
+/// Whether the tile with a number is replaced.
+fn is_new(news: &[(TileNo, Shared<Tile>)], number: TileNo) -> bool
+    requires { AreRising news.now }
+    ensures { result ≡ Rattle.tile_links.specs.NewTiles.is_new news.now number }
+{
+    new_tile(news, number).is_some()
 }
 
 /// For each tile whether it is replaced, or one across a side of it is.

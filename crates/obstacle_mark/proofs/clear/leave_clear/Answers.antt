@@ -25,19 +25,17 @@ loop-i-preserved c =
     ap (λ column. is_there column cell.at.level clear) (sym c.column_of-column.ensures.value) ∙ sym c.is_there.ensures in
     let changes : (get_or new i None ≡ area_clear clear cell (get_or old i None)) × ((k : ℕ) → (k ≡ i → ⊥) → get_or new k None ≡ get_or areas k None) =
     elim c.if-not-is_there.branch [
-      | then-not-is_there w ↦
-          (
-            ap (λ (xs : List (Option ℕ)). get_or xs i None) w.areas-is
+      | then-not-is_there w ↦ (
+        ap (λ (xs : List (Option ℕ)). get_or xs i None) w.areas-is
             ∙ get_or-set_same areas i None None (omega (arith, c.loop-i-test.true))
             ∙ found_clear cell clear (get_or old i None) false place c.requires.clear.each (there ∙ w.if-not-is_there.true),
-            λ k apart. ap (λ (xs : List (Option ℕ)). get_or xs k None) w.areas-is ∙ get_or-set_other areas i k None None apart,
-          )
-      | else-not-is_there w ↦
-          (
-            ap (λ (xs : List (Option ℕ)). get_or xs i None) w.areas-is ∙ before
+        λ k apart. ap (λ (xs : List (Option ℕ)). get_or xs k None) w.areas-is ∙ get_or-set_other areas i k None None apart,
+      )
+      | else-not-is_there w ↦ (
+        ap (λ (xs : List (Option ℕ)). get_or xs i None) w.areas-is ∙ before
             ∙ found_clear cell clear (get_or old i None) true place c.requires.clear.each (there ∙ w.if-not-is_there.false),
-            λ k apart. ap (λ (xs : List (Option ℕ)). get_or xs k None) w.areas-is,
-          )
+        λ k apart. ap (λ (xs : List (Option ℕ)). get_or xs k None) w.areas-is,
+      )
     ] in
     record {
       passed = λ j d later there.

@@ -1,6 +1,11 @@
-use Rattle.std.proofs.Common.{◌+◌, ◌∙◌, ap, length}
+use Rattle.std.proofs.Common.{◌≡◌, ◌+◌, [], List, ◌∙◌, ap, sym, subst, length}
 use Rattle.nav_ground.proofs.LayerLaws.{IsLayerOf-from_ground, length-layers_of_ground}
+use Rattle.mesh_types.specs.declared.tile.TileMesh.{TileMesh}
+use Rattle.mesh_types.specs.Builds.{mesh_under}
+use Rattle.mesh_types.specs.WholeMesh.{mesh_of}
+use Rattle.tile_build.specs.Meshes.{tiles_of, tiles_under, plain_ground, HasSameParts}
 use Rattle.tile_build.proofs.GroundTiles.{for_tiles}
+use Rattle.tile_build.proofs.PlainMeshes.{plain_parts}
 use Rattle.tile_build.proofs.ground_tiles.build_tiles.Goals as goal
 
 pub built-requires-clause-layers : goal.built-requires-clause-layers
@@ -15,3 +20,11 @@ returns-clause-steps g c =
 
 pub returns-clause-most : goal.returns-clause-most
 returns-clause-most g c = for_tiles c.args.whole.now _ _ _ c.requires.level c.as_slice.ensures c.built.ensures.most
+
+pub returns-clause-plain : goal.returns-clause-plain
+returns-clause-plain g c = λ none.
+    let whole = c.args.whole.now in
+    let are : c.from_vec.result ≡ tiles_under whole [] =
+    c.from_vec.ensures ∙ c.in_ok-tiles.ensures.tiles ∙ ap (tiles_of whole.setting c.args.shapes.now) c.as_slice.ensures ∙ ap (tiles_under whole) none in
+    subst (λ (tiles : List TileMesh). HasSameParts (mesh_of whole.setting tiles) (mesh_under (plain_ground whole) [])) (sym are)
+    (plain_parts whole c.requires.level)

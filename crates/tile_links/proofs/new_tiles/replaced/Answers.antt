@@ -6,6 +6,7 @@ use Rattle.mesh_types.specs.Passages.{IsTwoWay}
 use Rattle.mesh_types.specs.Soundness.{AreTiles, IsSound}
 use Rattle.mesh_types.specs.WholeMesh.{cross_links, mesh_of}
 use Rattle.tile_links.specs.NewTiles.{tile_after, tiles_after}
+use Rattle.tile_links.proofs.KeptLinks.{links_keep_old}
 use Rattle.tile_links.proofs.ReplacedTiles.{AreTiles-after, links_kept, links_of_whole}
 use Rattle.tile_links.proofs.SoundMeshes.{IsSound-mesh_of}
 use Rattle.tile_links.proofs.TwoWayMeshes.{two_way}
@@ -35,6 +36,11 @@ pub cross_after-requires-clause-kept : goal.cross_after-requires-clause-kept
 cross_after-requires-clause-kept c =
     rw (after_are c, links_are c)
     (λ t d e. links_kept c.args.mesh.now.setting c.args.news.now c.args.mesh.now.tiles t d e c.requires.mesh.tiles)
+
+pub cross_after-requires-clause-old : goal.cross_after-requires-clause-old
+cross_after-requires-clause-old c =
+    rw (after_are c, links_are c)
+    (λ t d e. links_keep_old c.args.mesh.now.setting c.args.news.now c.args.mesh.now.tiles t d e c.requires.mesh.tiles)
 
 -- the mesh that is handed out
 made : (c : goal.After-from_vec-2) → ◌≡◌ {A = Mesh} (record { setting = c.args.mesh.now.setting; tiles = c.from_vec.result; cross = c.from_vec-2.result })

@@ -1,0 +1,25 @@
+use Rattle.std.proofs.Common.{ℕ, true, ap, ◌∙◌, sym, arith}
+use Rattle.std.specs.Global.{Vec}
+use Rattle.std.specs.List.{filter, range_with_len}
+use Rattle.tile_links.specs.NewTiles.{is_new_across}
+use Rattle.tile_links.proofs.KeptLinks.{one_more_side, no_more_side}
+use Rattle.tile_links.proofs.new_tiles.new_sides.Goals as goal
+use Rattle.tile_links.proofs.new_tiles.new_sides.Goals.{then-is_new_across+in_ok-push, else-is_new_across}
+
+pub loop-beside-preserved : goal.loop-beside-preserved
+loop-beside-preserved c =
+    let q = is_new_across c.args.setting.now c.args.news.now c.args.tile in
+    elim c.if-is_new_across.branch [
+      | then-is_new_across+in_ok-push w ↦
+          ap (λ (v : Vec ℕ). v.items) w.sides-is ∙ w.in_ok-push.ensures.items
+          ∙ one_more_side q c.loop-beside.beside true c.loop-beside.sides.items c.loop-beside.invariant (sym c.is_new_across.ensures ∙ w.if-is_new_across.true)
+      | else-is_new_across w ↦
+          ap (λ (v : Vec ℕ). v.items) w.sides-is
+          ∙ no_more_side q c.loop-beside.beside c.loop-beside.sides.items c.loop-beside.invariant (sym c.is_new_across.ensures ∙ w.if-is_new_across.false)
+    ]
+
+pub returns : goal.returns
+returns c =
+    c.loop-beside.invariant
+    ∙ ap (λ (n : ℕ). filter (is_new_across c.args.setting.now c.args.news.now c.args.tile) (range_with_len 0 n)) {x = c.loop-beside.beside} {y = 4}
+    (omega (arith, c.loop-beside-test.false, c.loop-beside.auto.beside-end))
