@@ -1,19 +1,25 @@
-use Rattle.std.proofs.Common.{ℕ, ◌∙◌, ◌++◌, [], Option, ap, get_or}
+use Rattle.std.proofs.Common.{ℕ, ◌∙◌, ◌++◌, [], List, Option, ap, get_or, sym}
 use Rattle.std.specs.List.{flat_map}
 use Rattle.std.specs.Option.{option_map_or}
-use Rattle.std.proofs.lemmas.List.{take_all}
+use Rattle.std.proofs.lemmas.List.{append-nil, take_all}
+use Rattle.mesh_types.specs.declared.tile.RimEdge.{RimEdge}
 use Rattle.contour_mesh.specs.RimTables.{entries_in, entries_on}
 use Rattle.contour_mesh.proofs.FacingLaws.{no_door}
 use Rattle.contour_mesh.proofs.Steps.{one_more_gathered}
 use Rattle.contour_mesh.proofs.rim.door_rim.Goals as goal
+use Rattle.contour_mesh.proofs.rim.door_rim.Goals.{in-Some+in_ok-push_entries, in_default}
 
 pub loop-door-preserved : goal.loop-door-preserved
 loop-door-preserved c =
     let door = get_or c.args.doors.now c.loop-door.door-index no_door in
-    one_more_gathered (entries_in c.args.window.now c.args.tables.now) c.args.doors.now c.loop-door.door-index no_door c.loop-door.rim.items
-    c.push_entries.new.rim.items c.loop-door-test.true c.loop-door.invariant
-    (c.in_ok-push_entries.ensures
-    ∙ ap (λ (side : Option ℕ). c.loop-door.rim.items ++ option_map_or (entries_on c.args.tables.now door) side []) c.side_of-side.ensures.value)
+    let before = c.loop-door.rim.items in
+    let listed : Option ℕ → List RimEdge = λ side. before ++ option_map_or (entries_on c.args.tables.now door) side [] in
+    one_more_gathered (entries_in c.args.window.now c.args.tables.now) c.args.doors.now c.loop-door.door-index no_door before _ c.loop-door-test.true
+    c.loop-door.invariant
+    (elim c.match-side_of.branch [
+      | in-Some+in_ok-push_entries w ↦ (λ i. (w.rim-is i).items) ∙ w.in_ok-push_entries.ensures ∙ ap listed (sym w.in-Some.is ∙ c.side_of.ensures.value)
+      | in_default w ↦ (λ i. (w.rim-is i).items) ∙ sym (append-nil before) ∙ ap listed (sym w.in_default.is ∙ c.side_of.ensures.value)
+    ])
 
 pub returns : goal.returns
 returns c =
