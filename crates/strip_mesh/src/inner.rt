@@ -30,26 +30,33 @@ fn links(alloc: Global, strips: &TileStrips) -> Result<Vec<Link>, AllocError>
     let mut labels = Vec::new(alloc);
     let mut links = Vec::new(alloc);
     for strip in 0..strips.count() {
-        push_links(alloc, strips, strip, &mut labels, &mut links)?;
+        let one = OneStrip { strips, strip };
+        push_links(alloc, one, &mut labels, &mut links)?;
     }
     Ok(links)
+}
+
+/// One of the strips of a tile.
+#[derive(Clone, Copy)]
+struct OneStrip<'a> {
+    strips: &'a TileStrips,
+    strip: u32,
 }
 
 /// Appends the links from a strip. The labels are room to work in.
 fn push_links(
     alloc: Global,
-    strips: &TileStrips,
-    strip: u32,
+    one: OneStrip,
     labels: &mut Vec<Option<u32>>,
     links: &mut Vec<Link>,
 ) -> Result<(), AllocError>
-    requires rules { AreIndexed strips.now }
-    requires there { strip < length (runs_in strips.now) }
+    requires rules { AreIndexed one.strips.now }
+    requires there { one.strip < length (runs_in one.strips.now) }
     ensures { OnOk result (links.new.items
-        ≡ links.old.items ++ flat_map (strip_links_over strips.now.free.tile (runs_in strips.now) strip) (range_with_len 0 4)) }
+        ≡ links.old.items ++ flat_map (strip_links_over one.entry.strips.now.free.tile (runs_in one.entry.strips.now) one.entry.strip) (range_with_len 0 4)) }
 {
     for edge in 0..4 {
-        push_links_over(alloc, strips, strip, edge, labels, links)?;
+        push_links_over(alloc, one, edge, labels, links)?;
     }
     Ok(())
 }
@@ -57,42 +64,40 @@ fn push_links(
 /// Appends the links over an edge of a strip.
 fn push_links_over(
     alloc: Global,
-    strips: &TileStrips,
-    strip: u32,
+    one: OneStrip,
     edge: u32,
     labels: &mut Vec<Option<u32>>,
     links: &mut Vec<Link>,
 ) -> Result<(), AllocError>
-    requires rules { AreIndexed strips.now }
-    requires there { strip < length (runs_in strips.now) }
+    requires rules { AreIndexed one.strips.now }
+    requires there { one.strip < length (runs_in one.strips.now) }
     requires edge { edge < 4 }
-    ensures { OnOk result (links.new.items ≡ links.old.items ++ strip_links_over strips.now.free.tile (runs_in strips.now) strip edge) }
+    ensures { OnOk result (links.new.items ≡ links.old.items ++ strip_links_over one.entry.strips.now.free.tile (runs_in one.entry.strips.now) one.entry.strip edge) }
 {
-    label_beyond(strips, strip, edge, labels)?;
+    label_beyond(one, edge, labels)?;
     let parts = runs(alloc, labels.as_slice())?;
     let parts = parts.as_slice();
     for part in parts {
-        links.push(link(strips, strip, edge, *part))?;
+        links.push(link(one.strips, one.strip, edge, *part))?;
     }
     Ok(())
 }
 
 /// The strips that lie beyond an edge of a strip, cell by cell.
 fn label_beyond(
-    strips: &TileStrips,
-    strip: u32,
+    one: OneStrip,
     edge: u32,
     labels: &mut Vec<Option<u32>>,
 ) -> Result<(), AllocError>
-    requires rules { AreIndexed strips.now }
-    requires there { strip < length (runs_in strips.now) }
+    requires rules { AreIndexed one.strips.now }
+    requires there { one.strip < length (runs_in one.strips.now) }
     requires edge { edge < 4 }
-    ensures { OnOk result (labels.new.items ≡ map (strip_beyond (runs_in strips.now) strip (outside_of edge)) (run_in strips.now strip)) }
+    ensures { OnOk result (labels.new.items ≡ map (strip_beyond (runs_in one.entry.strips.now) one.entry.strip (outside_of edge)) (run_in one.entry.strips.now one.entry.strip)) }
 {
-    let run = strips.run(strip);
+    let run = one.strips.run(one.strip);
     labels.clear();
     for at in run {
-        labels.push(strips.beyond(strip, 3 - edge, *at))?;
+        labels.push(one.strips.beyond(one.strip, 3 - edge, *at))?;
     }
     Ok(())
 }

@@ -29,26 +29,37 @@ pub fn rim(
     let mut labels = Vec::new(alloc);
     let mut rim = Vec::new(alloc);
     for strip in 0..strips.count() {
-        push_rim(alloc, strips, window, strip, &mut labels, &mut rim)?;
+        let of = StripRim {
+            strips,
+            window,
+            strip,
+        };
+        push_rim(alloc, of, &mut labels, &mut rim)?;
     }
     Ok(Items::from_vec(rim))
+}
+
+/// A strip, of which the rim of its tile is to list the edges.
+#[derive(Clone, Copy)]
+struct StripRim<'a> {
+    strips: &'a TileStrips,
+    window: &'a Window,
+    strip: u32,
 }
 
 /// Appends what the rim lists for a strip. The labels are room to work in.
 fn push_rim(
     alloc: Global,
-    strips: &TileStrips,
-    window: &Window,
-    strip: u32,
+    of: StripRim,
     labels: &mut Vec<Option<u32>>,
     rim: &mut Vec<RimEdge>,
 ) -> Result<(), AllocError>
-    requires rules { AreIndexed strips.now }
-    requires there { strip < length (runs_in strips.now) }
-    ensures { OnOk result (rim.new.items ≡ rim.old.items ++ flat_map (strip_rim_over window.now (runs_in strips.now) strip) (range_with_len 0 4)) }
+    requires rules { AreIndexed of.strips.now }
+    requires there { of.strip < length (runs_in of.strips.now) }
+    ensures { OnOk result (rim.new.items ≡ rim.old.items ++ flat_map (strip_rim_over of.entry.window.now (runs_in of.entry.strips.now) of.entry.strip) (range_with_len 0 4)) }
 {
     for edge in 0..4 {
-        push_rim_over(alloc, strips, window, strip, edge, labels, rim)?;
+        push_rim_over(alloc, of, edge, labels, rim)?;
     }
     Ok(())
 }
@@ -56,60 +67,56 @@ fn push_rim(
 /// Appends what the rim lists for an edge of a strip.
 fn push_rim_over(
     alloc: Global,
-    strips: &TileStrips,
-    window: &Window,
-    strip: u32,
+    of: StripRim,
     edge: u32,
     labels: &mut Vec<Option<u32>>,
     rim: &mut Vec<RimEdge>,
 ) -> Result<(), AllocError>
-    requires rules { AreIndexed strips.now }
-    requires there { strip < length (runs_in strips.now) }
+    requires rules { AreIndexed of.strips.now }
+    requires there { of.strip < length (runs_in of.strips.now) }
     requires edge { edge < 4 }
-    ensures { OnOk result (rim.new.items ≡ rim.old.items ++ strip_rim_over window.now (runs_in strips.now) strip edge) }
+    ensures { OnOk result (rim.new.items ≡ rim.old.items ++ strip_rim_over of.entry.window.now (runs_in of.entry.strips.now) of.entry.strip edge) }
 {
-    if !may_reach(strips, window, strip, 3 - edge) {
+    if !may_reach(of, 3 - edge) {
         return Ok(());
     }
-    label_crossing(strips, window, strip, edge, labels)?;
+    label_crossing(of, edge, labels)?;
     let parts = runs(alloc, labels.as_slice())?;
     let parts = parts.as_slice();
     for part in parts {
-        rim.push(rim_edge(alloc, strips, strip, edge, *part)?)?;
+        rim.push(rim_edge(alloc, of.strips, of.strip, edge, *part)?)?;
     }
     Ok(())
 }
 
 /// Whether a strip may have cells along the side of the tile in a direction: where its first cell does not lie there no other does, but
 /// for the side toward x + 1, which the last cell comes to.
-fn may_reach(strips: &TileStrips, window: &Window, strip: u32, dir: u32) -> bool
-    requires rules { AreIndexed strips.now }
-    requires there { strip < length (runs_in strips.now) }
+fn may_reach(of: StripRim, dir: u32) -> bool
+    requires rules { AreIndexed of.strips.now }
+    requires there { of.strip < length (runs_in of.strips.now) }
     requires dir { dir < 4 }
-    ensures { result ≡ false → runs_of (map (λ (cell : Cell). label_if (is_crossing window.now dir cell)) (run_in strips.now strip)) ≡ [] }
+    ensures { result ≡ false → runs_of (map (λ (cell : Cell). label_if (is_crossing of.entry.window.now dir cell)) (run_in of.entry.strips.now of.entry.strip)) ≡ [] }
 {
-    dir == 2 || is_at_side(window, dir, strips.first(strip).at)
+    dir == 2 || is_at_side(of.window, dir, of.strips.first(of.strip).at)
 }
 
 /// Which cells of a strip have a kept neighbour across the side of the tile that an edge lies on.
 fn label_crossing(
-    strips: &TileStrips,
-    window: &Window,
-    strip: u32,
+    of: StripRim,
     edge: u32,
     labels: &mut Vec<Option<u32>>,
 ) -> Result<(), AllocError>
-    requires rules { AreIndexed strips.now }
-    requires there { strip < length (runs_in strips.now) }
+    requires rules { AreIndexed of.strips.now }
+    requires there { of.strip < length (runs_in of.strips.now) }
     requires edge { edge < 4 }
     ensures { OnOk result (labels.new.items
-        ≡ map (λ (cell : Cell). label_if (is_crossing window.now (outside_of edge) cell)) (run_in strips.now strip)) }
+        ≡ map (λ (cell : Cell). label_if (is_crossing of.entry.window.now (outside_of edge) cell)) (run_in of.entry.strips.now of.entry.strip)) }
 {
-    let cells = strips.free.cells.as_slice();
-    let run = strips.run(strip);
+    let cells = of.strips.free.cells.as_slice();
+    let run = of.strips.run(of.strip);
     labels.clear();
     for at in run {
-        labels.push(label(window, 3 - edge, &cells[*at as usize]))?;
+        labels.push(label(of.window, 3 - edge, &cells[*at as usize]))?;
     }
     Ok(())
 }

@@ -9,5 +9,5 @@ use Rattle.strip_mesh.proofs.rim.label_crossing.Goals as goal
 pub returns : goal.returns
 returns c =
     c.loop-at.invariant
-    ∙ made_of_cells (λ (cell : Cell). label_if (is_crossing c.args.window.now (outside_of c.args.edge) cell)) c.args.strips.now.free.cells c.run-run.result.now
-    (run_in c.args.strips.now c.args.strip) c.loop-at.at-index c.loop-at-test.false c.run-run.ensures.cells
+    ∙ made_of_cells (λ (cell : Cell). label_if (is_crossing c.args.of.window.now (outside_of c.args.edge) cell)) c.args.of.strips.now.free.cells c.run-run.result.now
+    (run_in c.args.of.strips.now c.args.of.strip) c.loop-at.at-index c.loop-at-test.false c.run-run.ensures.cells

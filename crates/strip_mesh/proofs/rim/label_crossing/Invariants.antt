@@ -7,4 +7,4 @@ use Rattle.strip_mesh.proofs.rim.label_crossing.Given as goal
 -- the labels of the cells so far
 abbrev pub invariant-loop-at : goal.invariant-loop-at
 invariant-loop-at l =
-    l.labels.items ≡ map (λ i. label_if (is_crossing l.window (outside_of l.edge) (cell_at l.strips.free.cells i))) (take l.at-index l.run)
+    l.labels.items ≡ map (λ i. label_if (is_crossing l.of.window.now (outside_of l.edge) (cell_at l.of.strips.now.free.cells i))) (take l.at-index l.run)

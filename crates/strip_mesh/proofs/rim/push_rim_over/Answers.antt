@@ -11,20 +11,20 @@ use Rattle.strip_mesh.proofs.rim.push_rim_over.Goals as goal
 
 pub runs-requires : goal.runs-requires
 runs-requires c =
-    let strips = c.args.strips.now in
-    let crossing = λ (cell : Cell). label_if (is_crossing c.args.window.now (outside_of c.args.edge) cell) in
+    let strips = c.args.of.strips.now in
+    let crossing = λ (cell : Cell). label_if (is_crossing c.args.of.window.now (outside_of c.args.edge) cell) in
     omega (
       arith,
       ap length (c.as_slice.ensures.value ∙ c.in_ok-label_crossing.ensures),
-      length-map (run_in strips c.args.strip) crossing,
-      own_few strips c.requires.rules c.args.strip c.requires.there,
+      length-map (run_in strips c.args.of.strip) crossing,
+      own_few strips c.requires.rules c.args.of.strip c.requires.there,
     )
 
 pub rim_edge-requires : goal.rim_edge-requires
 rim_edge-requires c =
-    let strips = c.args.strips.now in
-    let own = run_in strips c.args.strip in
-    let inside = part_inside (λ (cell : Cell). label_if (is_crossing c.args.window.now (outside_of c.args.edge) cell)) own c.as_slice.result.now c.as_slice-parts.result.now
+    let strips = c.args.of.strips.now in
+    let own = run_in strips c.args.of.strip in
+    let inside = part_inside (λ (cell : Cell). label_if (is_crossing c.args.of.window.now (outside_of c.args.edge) cell)) own c.as_slice.result.now c.as_slice-parts.result.now
     (c.as_slice.ensures.value ∙ c.in_ok-label_crossing.ensures) (c.as_slice-parts.ensures.value ∙ c.in_ok-parts.ensures)
     c.loop-part.part-index (record { first = 0; last = 0; label = 0 }) c.loop-part-test.true in
     record {
@@ -37,14 +37,14 @@ rim_edge-requires c =
 
 pub loop-part-preserved : goal.loop-part-preserved
 loop-part-preserved c =
-    one_more_after (rim_edge c.args.strip c.args.edge (run_in c.args.strips.now c.args.strip)) c.as_slice-parts.result.now
+    one_more_after (rim_edge c.args.of.strip c.args.edge (run_in c.args.of.strips.now c.args.of.strip)) c.as_slice-parts.result.now
     c.loop-part.part-index (record { first = 0; last = 0; label = 0 }) c.args.rim.now.items c.loop-part.rim.items c.push.new.self.items c.in_ok-rim_edge.field-0
     c.loop-part-test.true c.loop-part.invariant c.in_ok-push.ensures.items c.in_ok-rim_edge.ensures
 
 pub returns : goal.returns
 returns c =
-    let strips = c.args.strips.now in
+    let strips = c.args.of.strips.now in
     c.loop-part.invariant
-    ∙ ap (λ (parts : List Run). c.args.rim.now.items ++ map (rim_edge c.args.strip c.args.edge (run_in strips c.args.strip)) parts)
+    ∙ ap (λ (parts : List Run). c.args.rim.now.items ++ map (rim_edge c.args.of.strip c.args.edge (run_in strips c.args.of.strip)) parts)
     (take_all c.loop-part.part-index c.as_slice-parts.result.now c.loop-part-test.false
     ∙ c.as_slice-parts.ensures.value ∙ c.in_ok-parts.ensures ∙ ap runs_of (c.as_slice.ensures.value ∙ c.in_ok-label_crossing.ensures))

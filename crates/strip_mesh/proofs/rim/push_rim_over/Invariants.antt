@@ -5,4 +5,4 @@ use Rattle.strip_mesh.proofs.rim.push_rim_over.Given as goal
 
 -- the entries along the parts so far
 abbrev pub invariant-loop-part : goal.invariant-loop-part
-invariant-loop-part l = l.rim.items ≡ l.initial.rim.items ++ map (rim_edge l.strip l.edge (run_in l.strips l.strip)) (take l.part-index l.parts)
+invariant-loop-part l = l.rim.items ≡ l.initial.rim.items ++ map (rim_edge l.of.strip l.edge (run_in l.of.strips.now l.of.strip)) (take l.part-index l.parts)
