@@ -107,30 +107,37 @@ pub fn cross_links(
     requires few { length tile.now.polys ≤ 8000000 }
     ensures { IfOk result (λ links. links ≡ cross_links setting.now tiles.now tile.now) }
 {
-    links_with(alloc, Vec::new(alloc), setting, tiles, tile, &[0, 1, 2, 3])
+    let tiled = Tiled { setting, tiles };
+    links_with(alloc, Vec::new(alloc), tiled, tile, &[0, 1, 2, 3])
+}
+
+/// The tiles of a ground, by their numbers.
+#[derive(Clone, Copy)]
+pub struct Tiled<'a> {
+    pub setting: &'a Setting,
+    pub tiles: &'a [Shared<Tile>],
 }
 
 /// The links that leave a tile over its four sides, in the order of links, given some of them and the sides over which the others lead.
 pub fn links_with(
     alloc: Global,
     known: Vec<Link>,
-    setting: &Setting,
-    tiles: &[Shared<Tile>],
+    tiled: Tiled,
     tile: &TileMesh,
     sides: &[u32],
 ) -> Result<Links, AllocError>
-    requires setting { IsSetting setting.now }
-    requires tiles { AreTiles setting.now tiles.now }
-    requires tile { IsFit setting.now tile.now }
+    requires setting { IsSetting tiled.setting.now }
+    requires tiles { AreTiles tiled.setting.now tiled.tiles.now }
+    requires tile { IsFit tiled.setting.now tile.now }
     requires few { length tile.now.polys ≤ 8000000 }
     requires sides { All (λ (side : ℕ). side < 4) sides.now }
-    requires others { HasGained known.items (flat_map (loose_over setting.now tiles.now tile.now) sides.now)
-        (flat_map (loose_over setting.now tiles.now tile.now) (range_with_len 0 4)) }
-    ensures { IfOk result (λ links. links ≡ cross_links setting.now tiles.now tile.now) }
+    requires others { HasGained known.items (flat_map (loose_over tiled.setting.now tiled.tiles.now tile.now) sides.now)
+        (flat_map (loose_over tiled.setting.now tiled.tiles.now tile.now) (range_with_len 0 4)) }
+    ensures { IfOk result (λ links. links ≡ cross_links tiled.entry.setting.now tiled.entry.tiles.now tile.now) }
 {
     let mut links = known;
     for side in sides {
-        push_side_links(alloc, &mut links, setting, tiles, tile, *side)?;
+        push_side_links(alloc, &mut links, tiled, tile, *side)?;
     }
     order_links(links.as_mut_slice());
     Links::new(alloc, links, tile.polys.len() as u32)
@@ -140,18 +147,18 @@ pub fn links_with(
 fn push_side_links(
     alloc: Global,
     links: &mut Vec<Link>,
-    setting: &Setting,
-    tiles: &[Shared<Tile>],
+    tiled: Tiled,
     tile: &TileMesh,
     side: u32,
 ) -> Result<(), AllocError>
-    requires setting { IsSetting setting.now }
-    requires tiles { AreTiles setting.now tiles.now }
-    requires tile { IsFit setting.now tile.now }
+    requires setting { IsSetting tiled.setting.now }
+    requires tiles { AreTiles tiled.setting.now tiled.tiles.now }
+    requires tile { IsFit tiled.setting.now tile.now }
     requires side { side < 4 }
-    ensures { OnOk result (HasGained links.old.items (loose_over setting.now tiles.now tile.now side) links.new.items) }
+    ensures { OnOk result (HasGained links.old.items (loose_over tiled.entry.setting.now tiled.entry.tiles.now tile.now side) links.new.items) }
 {
-    if let Some(other) = across(setting, tile.tile, side) {
+    let tiles = tiled.tiles;
+    if let Some(other) = across(tiled.setting, tile.tile, side) {
         push_links(alloc, links, tile, tiles[other as usize].get().mesh(), side)?;
     }
     Ok(())

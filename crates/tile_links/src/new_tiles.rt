@@ -14,7 +14,7 @@ ghost use Rattle.tile_links.specs.NewTiles.{AreNew, AreRising, IsWhole, New, is_
 ghost use Rattle.tile_links.specs.NearTiles.{IsMarked, IsMarkedAcross};
 ghost use Rattle.tile_links.specs.KeptLinks.{KeepsOld};
 
-use crate::join::{across, cross_links, links_with};
+use crate::join::{Tiled, across, cross_links, links_with};
 use mesh_types::{Link, Links, Mesh, Tile, TileMesh};
 use nav_ground::{Setting, TileNo, tiles};
 use nav_list::Items;
@@ -142,9 +142,10 @@ fn cross_after(
         news,
         near: near.as_slice(),
     };
+    let tiled = Tiled { setting, tiles };
     let mut after = Vec::with_capacity(alloc, tiles.len())?;
     for place in 0..tiles.len() {
-        after.push(links_after(alloc, setting, cross, tiles, changes, place)?)?;
+        after.push(links_after(alloc, tiled, cross, changes, place)?)?;
     }
     Ok(after)
 }
@@ -159,34 +160,28 @@ struct Changes<'a> {
 /// The links that leave the tile at a place, given those that left the tiles before the new ones came.
 fn links_after(
     alloc: Global,
-    setting: &Setting,
+    tiled: Tiled,
     cross: &[Shared<Links>],
-    tiles: &[Shared<Tile>],
     changes: Changes,
     place: usize,
 ) -> Result<Shared<Links>, AllocError>
-    requires setting { IsSetting setting.now }
-    requires tiles { AreTiles setting.now tiles.now }
+    requires setting { IsSetting tiled.setting.now }
+    requires tiles { AreTiles tiled.setting.now tiled.tiles.now }
     requires rising { AreRising changes.news.now }
-    requires beside { length cross.now ≡ length tiles.now }
-    requires near { length changes.near.now ≡ length tiles.now }
-    requires there { place < length tiles.now }
+    requires beside { length cross.now ≡ length tiled.tiles.now }
+    requires near { length changes.near.now ≡ length tiled.tiles.now }
+    requires there { place < length tiled.tiles.now }
     requires kept { (d : List Link) (e : TileMesh) → slice_index_or changes.near.now place false ≡ false
-        → get_or cross.now place d ≡ Rattle.mesh_types.specs.WholeMesh.cross_links setting.now tiles.now (get_or tiles.now place e) }
+        → get_or cross.now place d ≡ Rattle.mesh_types.specs.WholeMesh.cross_links tiled.setting.now tiled.tiles.now (get_or tiled.tiles.now place e) }
     requires old { (d : List Link) (e : TileMesh) → Rattle.tile_links.specs.NewTiles.is_new changes.news.now place ≡ false
-        → KeepsOld setting.now changes.news.now tiles.now (get_or tiles.now place e) (get_or cross.now place d) }
+        → KeepsOld tiled.setting.now changes.news.now tiled.tiles.now (get_or tiled.tiles.now place e) (get_or cross.now place d) }
     ensures { (e : TileMesh) → IfOk result (λ links. links
-        ≡ Rattle.mesh_types.specs.WholeMesh.cross_links setting.now tiles.now (get_or tiles.now place e)) }
+        ≡ Rattle.mesh_types.specs.WholeMesh.cross_links tiled.entry.setting.now tiled.entry.tiles.now (get_or tiled.entry.tiles.now place e)) }
 {
     if changes.near[place] {
-        Ok(shared_near_links(
-            alloc,
-            setting,
-            tiles,
-            changes.news,
-            cross[place].get(),
-            tiles[place].get().mesh(),
-        )?)
+        let tiles = tiled.tiles;
+        let tile = tiles[place].get().mesh();
+        Ok(shared_near_links(alloc, tiled, changes.news, cross[place].get(), tile)?)
     } else {
         Ok(cross[place].share()?)
     }
@@ -195,22 +190,21 @@ fn links_after(
 /// What `near_links` gives, as a value that several meshes can share.
 fn shared_near_links(
     alloc: Global,
-    setting: &Setting,
-    tiles: &[Shared<Tile>],
+    tiled: Tiled,
     news: &[(TileNo, Shared<Tile>)],
     old: &Links,
     tile: &TileMesh,
 ) -> Result<Shared<Links>, AllocError>
-    requires setting { IsSetting setting.now }
-    requires tiles { AreTiles setting.now tiles.now }
-    requires tile { IsFit setting.now tile.now }
+    requires setting { IsSetting tiled.setting.now }
+    requires tiles { AreTiles tiled.setting.now tiled.tiles.now }
+    requires tile { IsFit tiled.setting.now tile.now }
     requires few { length tile.now.polys ≤ 8000000 }
     requires rising { AreRising news.now }
     requires old { Rattle.tile_links.specs.NewTiles.is_new news.now tile.now.tile ≡ false
-        → KeepsOld setting.now news.now tiles.now tile.now old.now }
-    ensures { IfOk result (λ links. links ≡ Rattle.mesh_types.specs.WholeMesh.cross_links setting.now tiles.now tile.now) }
+        → KeepsOld tiled.setting.now news.now tiled.tiles.now tile.now old.now }
+    ensures { IfOk result (λ links. links ≡ Rattle.mesh_types.specs.WholeMesh.cross_links tiled.entry.setting.now tiled.entry.tiles.now tile.now) }
 {
-    let links = near_links(alloc, setting, tiles, news, old, tile)?;
+    let links = near_links(alloc, tiled, news, old, tile)?;
     Ok(Shared::new(alloc, links)?)
 }
 
@@ -218,27 +212,26 @@ fn shared_near_links(
 /// those over the sides across which one is.
 fn near_links(
     alloc: Global,
-    setting: &Setting,
-    tiles: &[Shared<Tile>],
+    tiled: Tiled,
     news: &[(TileNo, Shared<Tile>)],
     old: &Links,
     tile: &TileMesh,
 ) -> Result<Links, AllocError>
-    requires setting { IsSetting setting.now }
-    requires tiles { AreTiles setting.now tiles.now }
-    requires tile { IsFit setting.now tile.now }
+    requires setting { IsSetting tiled.setting.now }
+    requires tiles { AreTiles tiled.setting.now tiled.tiles.now }
+    requires tile { IsFit tiled.setting.now tile.now }
     requires few { length tile.now.polys ≤ 8000000 }
     requires rising { AreRising news.now }
     requires old { Rattle.tile_links.specs.NewTiles.is_new news.now tile.now.tile ≡ false
-        → KeepsOld setting.now news.now tiles.now tile.now old.now }
-    ensures { IfOk result (λ links. links ≡ Rattle.mesh_types.specs.WholeMesh.cross_links setting.now tiles.now tile.now) }
+        → KeepsOld tiled.setting.now news.now tiled.tiles.now tile.now old.now }
+    ensures { IfOk result (λ links. links ≡ Rattle.mesh_types.specs.WholeMesh.cross_links tiled.entry.setting.now tiled.entry.tiles.now tile.now) }
 {
     if is_new(news, tile.tile) {
-        return cross_links(alloc, setting, tiles, tile);
+        return cross_links(alloc, tiled.setting, tiled.tiles, tile);
     }
     let kept = kept_links(alloc, old.as_slice(), news)?;
-    let sides = new_sides(alloc, setting, news, tile.tile)?;
-    links_with(alloc, kept, setting, tiles, tile, sides.as_slice())
+    let sides = new_sides(alloc, tiled.setting, news, tile.tile)?;
+    links_with(alloc, kept, tiled, tile, sides.as_slice())
 }
 
 /// Of links those that lead to tiles that are not replaced.

@@ -27,7 +27,7 @@ push_side_links-requires-clause-side c = c.requires.sides c.loop-side.side-index
 
 pub loop-side-preserved : goal.loop-side-preserved
 loop-side-preserved c =
-    let f = loose_over c.args.setting.now c.args.tiles.now c.args.tile.now in
+    let f = loose_over c.args.tiled.setting.now c.args.tiled.tiles.now c.args.tile.now in
     let sides = c.args.sides.now in
     let i = c.loop-side.side-index in
     let more = gained_more c.args.known.items (flat_map f (take i sides)) (f (get_or sides i 0)) c.loop-side.links.items c.push_side_links.new.links.items
@@ -38,26 +38,26 @@ loop-side-preserved c =
 pub new-requires-clause-order : goal.new-requires-clause-order
 new-requires-clause-order c =
     let tile = c.args.tile.now in
-    subst AreOrderedLinks (sym (made (loose_over c.args.setting.now c.args.tiles.now c.args.tile.now) c.args.sides.now c.loop-side.side-index c.loop-side.links.len c.args.known.items
+    subst AreOrderedLinks (sym (made (loose_over c.args.tiled.setting.now c.args.tiled.tiles.now c.args.tile.now) c.args.sides.now c.loop-side.side-index c.loop-side.links.len c.args.known.items
     c.loop-side.links.items c.as_mut_slice.result.now c.order_links.new.links c.loop-side.links.ok.0 c.as_mut_slice.ensures.value c.order_links.auto.links
     c.order_links.ensures c.loop-side-test.false c.loop-side.invariant c.requires.others))
     (ordered_links-polygons tile.tile _
     (All-weaker (λ (link : Link). (link.from.tile ≡ tile.tile) × (link.from.index < length tile.polys)) (λ (link : Link). link.from.tile ≡ tile.tile)
-    (λ link facts. facts.0) _ (all_leave_tile c.args.setting.now c.args.tiles.now tile (range_with_len 0 4) c.requires.tile)))
+    (λ link facts. facts.0) _ (all_leave_tile c.args.tiled.setting.now c.args.tiled.tiles.now tile (range_with_len 0 4) c.requires.tile)))
 
 pub new-requires-clause-within : goal.new-requires-clause-within
 new-requires-clause-within c =
     let tile = c.args.tile.now in
-    subst (AreBelow c.len.result) (sym (made (loose_over c.args.setting.now c.args.tiles.now c.args.tile.now) c.args.sides.now c.loop-side.side-index c.loop-side.links.len c.args.known.items
+    subst (AreBelow c.len.result) (sym (made (loose_over c.args.tiled.setting.now c.args.tiled.tiles.now c.args.tile.now) c.args.sides.now c.loop-side.side-index c.loop-side.links.len c.args.known.items
     c.loop-side.links.items c.as_mut_slice.result.now c.order_links.new.links c.loop-side.links.ok.0 c.as_mut_slice.ensures.value c.order_links.auto.links
     c.order_links.ensures c.loop-side-test.false c.loop-side.invariant c.requires.others))
     (All-ordered_links (λ (link : Link). link.from.index < c.len.result) _
     (All-weaker (λ (link : Link). (link.from.tile ≡ tile.tile) × (link.from.index < length tile.polys)) (λ (link : Link). link.from.index < c.len.result)
-    (λ link facts. let below = facts.1 in omega (arith, below, c.len.ensures)) _ (all_leave_tile c.args.setting.now c.args.tiles.now tile (range_with_len 0 4) c.requires.tile)))
+    (λ link facts. let below = facts.1 in omega (arith, below, c.len.ensures)) _ (all_leave_tile c.args.tiled.setting.now c.args.tiled.tiles.now tile (range_with_len 0 4) c.requires.tile)))
 
 pub returns : goal.returns
 returns c =
-    IfOk-weaker c.new.result _ (λ links. links ≡ cross_links c.args.setting.now c.args.tiles.now c.args.tile.now)
-    (λ links is. is ∙ made (loose_over c.args.setting.now c.args.tiles.now c.args.tile.now) c.args.sides.now c.loop-side.side-index c.loop-side.links.len c.args.known.items
+    IfOk-weaker c.new.result _ (λ links. links ≡ cross_links c.args.tiled.setting.now c.args.tiled.tiles.now c.args.tile.now)
+    (λ links is. is ∙ made (loose_over c.args.tiled.setting.now c.args.tiled.tiles.now c.args.tile.now) c.args.sides.now c.loop-side.side-index c.loop-side.links.len c.args.known.items
     c.loop-side.links.items c.as_mut_slice.result.now c.order_links.new.links c.loop-side.links.ok.0 c.as_mut_slice.ensures.value c.order_links.auto.links
-    c.order_links.ensures c.loop-side-test.false c.loop-side.invariant c.requires.others ∙ cross_links_found c.args.setting.now c.args.tiles.now c.args.tile.now) c.new.ensures
+    c.order_links.ensures c.loop-side-test.false c.loop-side.invariant c.requires.others ∙ cross_links_found c.args.tiled.setting.now c.args.tiled.tiles.now c.args.tile.now) c.new.ensures

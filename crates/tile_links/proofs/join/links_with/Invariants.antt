@@ -5,4 +5,4 @@ use Rattle.tile_links.proofs.join.links_with.Given as goal
 
 -- the links that were known, and those over the sides so far
 abbrev pub invariant-loop-side : goal.invariant-loop-side
-invariant-loop-side l = HasGained l.fn.known.items (flat_map (loose_over l.setting l.tiles l.tile) (take l.side-index l.sides)) l.links.items
+invariant-loop-side l = HasGained l.fn.known.items (flat_map (loose_over l.tiled.setting.now l.tiled.tiles.now l.tile) (take l.side-index l.sides)) l.links.items

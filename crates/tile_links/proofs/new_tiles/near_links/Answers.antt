@@ -10,14 +10,14 @@ use Rattle.tile_links.proofs.new_tiles.near_links.Goals as goal
 pub links_with-requires-clause-sides : goal.links_with-requires-clause-sides
 links_with-requires-clause-sides c =
     subst (All (λ (side : ℕ). side < 4)) (sym (c.as_slice-2.ensures.value ∙ c.in_ok-sides.ensures))
-    (sides_below c.args.setting.now c.args.news.now c.args.tile.now.tile)
+    (sides_below c.args.tiled.setting.now c.args.news.now c.args.tile.now.tile)
 
 pub links_with-requires-clause-others : goal.links_with-requires-clause-others
 links_with-requires-clause-others c =
-    let setting = c.args.setting.now in
+    let setting = c.args.tiled.setting.now in
     let news = c.args.news.now in
     let tile = c.args.tile.now in
-    let f = loose_over setting c.args.tiles.now tile in
+    let f = loose_over setting c.args.tiled.tiles.now tile in
     let held = c.requires.old (sym c.is_new.ensures ∙ c.if-is_new.false) in
     let kept = c.in_ok-kept.ensures ∙ ap (filter (leads_to_old news)) c.as_slice.ensures.value in
     others_gained f (is_new_across setting news tile.tile) (range_with_len 0 4) c.in_ok-kept.kept.items (flat_map f c.as_slice-2.result.now)
