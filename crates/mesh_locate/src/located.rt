@@ -7,6 +7,7 @@ ghost use Rattle.mesh_types.specs.Located.{IsLocated};
 ghost use Rattle.mesh_types.specs.Right.{IsNowhere};
 ghost use Rattle.mesh_types.specs.Soundness.{IsSound};
 
+use crate::near::Sought;
 use crate::places::reached_places;
 use crate::tiles::nearest_in_row;
 use mesh_types::{Mesh, PolyRef};
@@ -28,7 +29,7 @@ pub fn locate(mesh: &Mesh, p: Point, y: u32) -> Option<PolyRef>
     let rows = reached_places(p.z, 16 * tile, mesh.setting.depth.div_ceil(tile));
     let mut nearest = None;
     for row in rows.first..rows.end {
-        nearest = nearest_in_row(mesh, row, columns, p, y, nearest);
+        nearest = nearest_in_row(mesh, row, columns, Sought { p, y }, nearest);
     }
     let near = nearest?;
     Some(near.at)

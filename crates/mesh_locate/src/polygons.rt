@@ -9,7 +9,7 @@ ghost use Rattle.mesh_types.specs.Soundness.{IsPolygon};
 ghost use Rattle.mesh_types.specs.WholeMesh.{poly_at};
 ghost use Rattle.mesh_locate.specs.Nearest.{IsFrom, IsInBox, IsNearestBefore, is_nearer};
 
-use crate::near::Near;
+use crate::near::{Near, Sought};
 use mesh_types::{Extent, Mesh, PolyRef, Polygon, Polygons};
 use nav_base::{Point, orient};
 
@@ -19,22 +19,21 @@ pub fn nearer_at(
     mesh: &Mesh,
     at: PolyRef,
     polygons: &Polygons,
-    p: Point,
-    y: u32,
+    sought: Sought,
     best: Option<Near>,
 ) -> Option<Near>
     requires listed { poly_at mesh.now at ≡ slice_get polygons.now at.index }
     requires there { at.index < length polygons.now }
     requires polygons { All IsPolygon polygons.now }
-    requires point { HasCoordinates p }
-    requires best { IsNearestBefore mesh.now p y at.tile at.index best }
-    ensures { IsNearestBefore mesh.now p y at.tile (at.index + 1) result }
+    requires point { HasCoordinates sought.p }
+    requires best { IsNearestBefore mesh.now sought.p sought.y at.tile at.index best }
+    ensures { IsNearestBefore mesh.now sought.p sought.y at.tile (at.index + 1) result }
 {
     let place = at.index as usize;
-    if !is_in_box(polygons.extents()[place], p) {
+    if !is_in_box(polygons.extents()[place], sought.p) {
         return best;
     }
-    nearer(mesh, at, &polygons.as_slice()[place], p, y, best)
+    nearer(mesh, at, &polygons.as_slice()[place], sought, best)
 }
 
 /// Whether a point lies in a box of cells or on its border.
@@ -58,24 +57,23 @@ fn nearer(
     mesh: &Mesh,
     at: PolyRef,
     polygon: &Polygon,
-    p: Point,
-    y: u32,
+    sought: Sought,
     best: Option<Near>,
 ) -> Option<Near>
     requires there { poly_at mesh.now at ≡ Some polygon.now }
     requires corners { All IsCellCorner polygon.now.corners }
-    requires point { HasCoordinates p }
-    requires best { IsNearestBefore mesh.now p y at.tile at.index best }
-    ensures { IsNearestBefore mesh.now p y at.tile (at.index + 1) result }
+    requires point { HasCoordinates sought.p }
+    requires best { IsNearestBefore mesh.now sought.p sought.y at.tile at.index best }
+    ensures { IsNearestBefore mesh.now sought.p sought.y at.tile (at.index + 1) result }
 {
-    let gap = height_gap(polygon, y);
+    let gap = height_gap(polygon, sought.y);
     if gap > mesh.setting.agent.climb {
         return best;
     }
     if !is_nearer(gap, best) {
         return best;
     }
-    if !holds(polygon, p) {
+    if !holds(polygon, sought.p) {
         return best;
     }
     Some(Near { gap, at })

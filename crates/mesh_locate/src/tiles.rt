@@ -7,10 +7,9 @@ ghost use Rattle.nav_ground.specs.Tiling.{tiles_in_row, tile_rows};
 ghost use Rattle.mesh_types.specs.Soundness.{IsSound};
 ghost use Rattle.mesh_locate.specs.Nearest.{AreColumns, IsNearestBefore};
 
-use crate::near::{Near, Places};
+use crate::near::{Near, Places, Sought};
 use crate::polygons::nearer_at;
 use mesh_types::{Mesh, PolyRef};
-use nav_base::Point;
 use nav_ground::TileNo;
 
 /// What was found in the rows of tiles before this one, or a nearer polygon of this row; the row's tiles in these columns alone are looked at.
@@ -18,33 +17,32 @@ pub fn nearest_in_row(
     mesh: &Mesh,
     row: u32,
     columns: Places,
-    p: Point,
-    y: u32,
+    sought: Sought,
     best: Option<Near>,
 ) -> Option<Near>
     requires sound { IsSound mesh.now }
     requires setting { IsSetting mesh.now.setting }
     requires there { row < tile_rows mesh.now.setting }
-    requires columns { AreColumns mesh.now p y columns }
-    requires point { HasCoordinates p }
-    requires best { IsNearestBefore mesh.now p y (row * tiles_in_row mesh.now.setting) 0 best }
-    ensures { IsNearestBefore mesh.now p y ((row + 1) * tiles_in_row mesh.now.setting) 0 result }
+    requires columns { AreColumns mesh.now sought.p sought.y columns }
+    requires point { HasCoordinates sought.p }
+    requires best { IsNearestBefore mesh.now sought.p sought.y (row * tiles_in_row mesh.now.setting) 0 best }
+    ensures { IsNearestBefore mesh.now sought.p sought.y ((row + 1) * tiles_in_row mesh.now.setting) 0 result }
 {
     let first = row * mesh.setting.width.div_ceil(mesh.setting.tile);
     let mut nearest = best;
     for column in columns.first..columns.end {
-        nearest = nearest_in_tile(mesh, first + column, p, y, nearest);
+        nearest = nearest_in_tile(mesh, first + column, sought, nearest);
     }
     nearest
 }
 
 /// What was found in the tiles before this one, or a nearer polygon of this tile.
-fn nearest_in_tile(mesh: &Mesh, tile: TileNo, p: Point, y: u32, best: Option<Near>) -> Option<Near>
+fn nearest_in_tile(mesh: &Mesh, tile: TileNo, sought: Sought, best: Option<Near>) -> Option<Near>
     requires sound { IsSound mesh.now }
     requires there { tile < length mesh.now.tiles }
-    requires point { HasCoordinates p }
-    requires best { IsNearestBefore mesh.now p y tile 0 best }
-    ensures { IsNearestBefore mesh.now p y (tile + 1) 0 result }
+    requires point { HasCoordinates sought.p }
+    requires best { IsNearestBefore mesh.now sought.p sought.y tile 0 best }
+    ensures { IsNearestBefore mesh.now sought.p sought.y (tile + 1) 0 result }
 {
     let tiles = mesh.tiles.as_slice();
     let polygons = &tiles[tile as usize].get().mesh().polys;
@@ -54,7 +52,7 @@ fn nearest_in_tile(mesh: &Mesh, tile: TileNo, p: Point, y: u32, best: Option<Nea
             tile,
             index: i as u32,
         };
-        nearest = nearer_at(mesh, at, polygons, p, y, nearest);
+        nearest = nearer_at(mesh, at, polygons, sought, nearest);
     }
     nearest
 }

@@ -15,27 +15,33 @@ use nav_base::orient;
 use std::alloc::AllocError;
 use std::collections::BTreeSet;
 
+/// A ray in a polygon, and an exit of least fraction from it.
+#[derive(Clone, Copy)]
+pub(crate) struct Inside<'a> {
+    pub(crate) polygon: &'a Polygon,
+    pub(crate) ray: Ray,
+    pub(crate) exit: Exit,
+}
+
 /// Of the links that leave a polygon over an exit of least fraction, through a portal that the ray meets, and into a polygon not yet visited,
 /// the first in the order of links. It is found in `onward`, whose memory serves again.
 pub(crate) fn next_link(
     mesh: &Mesh,
     at: PolyRef,
-    polygon: &Polygon,
-    ray: Ray,
-    exit: Exit,
+    inside: Inside,
     visited: &BTreeSet<(u32, u32)>,
     onward: &mut Vec<Link>,
 ) -> Result<Option<Link>, AllocError>
     requires sound { IsSound mesh.now }
-    requires there { poly_at mesh.now at ≡ Some polygon.now }
-    requires ray { HasEnds ray }
-    requires entered { IsEntered polygon.now ray }
-    requires exit { IsFirstOf polygon.now ray exit }
-    ensures { IfOk result (IsFirstAmong (λ link. Contains (links_from mesh.now at) link × IsOnward polygon.now ray visited.now link)) }
+    requires there { poly_at mesh.now at ≡ Some inside.polygon.now }
+    requires ray { HasEnds inside.ray }
+    requires entered { IsEntered inside.polygon.now inside.ray }
+    requires exit { IsFirstOf inside.polygon.now inside.ray inside.exit }
+    ensures { IfOk result (IsFirstAmong (λ link. Contains (links_from mesh.now at) link × IsOnward inside.entry.polygon.now inside.entry.ray visited.now link)) }
 {
     onward.clear();
-    push_onward(onward, inner(mesh, at), polygon, ray, exit, visited)?;
-    push_onward(onward, outer(mesh, at), polygon, ray, exit, visited)?;
+    push_onward(onward, inner(mesh, at), inside, visited)?;
+    push_onward(onward, outer(mesh, at), inside, visited)?;
     order_links(onward.as_mut_slice());
     Ok(onward.first().copied())
 }
@@ -44,20 +50,18 @@ pub(crate) fn next_link(
 fn push_onward(
     onward: &mut Vec<Link>,
     links: &[Link],
-    polygon: &Polygon,
-    ray: Ray,
-    exit: Exit,
+    inside: Inside,
     visited: &BTreeSet<(u32, u32)>,
 ) -> Result<(), AllocError>
-    requires links { All (IsOutward polygon.now) links.now }
-    requires corners { All IsCellCorner polygon.now.corners }
-    requires ray { HasEnds ray }
-    requires entered { IsEntered polygon.now ray }
-    requires exit { IsFirstOf polygon.now ray exit }
-    ensures { OnOk result (Gathers (IsOnward polygon.now ray visited.now) onward.old.items links.now onward.new.items) }
+    requires links { All (IsOutward inside.polygon.now) links.now }
+    requires corners { All IsCellCorner inside.polygon.now.corners }
+    requires ray { HasEnds inside.ray }
+    requires entered { IsEntered inside.polygon.now inside.ray }
+    requires exit { IsFirstOf inside.polygon.now inside.ray inside.exit }
+    ensures { OnOk result (Gathers (IsOnward inside.entry.polygon.now inside.entry.ray visited.now) onward.old.items links.now onward.new.items) }
 {
     for link in links {
-        if is_onward(link, polygon, ray, exit, visited) {
+        if is_onward(link, inside, visited) {
             onward.push(*link)?;
         }
     }
@@ -67,22 +71,20 @@ fn push_onward(
 /// Whether a link of a polygon leads a ray on.
 fn is_onward(
     link: &Link,
-    polygon: &Polygon,
-    ray: Ray,
-    exit: Exit,
+    inside: Inside,
     visited: &BTreeSet<(u32, u32)>,
 ) -> bool
-    requires link { IsOutward polygon.now link.now }
-    requires corners { All IsCellCorner polygon.now.corners }
-    requires ray { HasEnds ray }
-    requires entered { IsEntered polygon.now ray }
-    requires exit { IsFirstOf polygon.now ray exit }
-    ensures { IsTrue result ↔ IsOnward polygon.now ray visited.now link.now }
+    requires link { IsOutward inside.polygon.now link.now }
+    requires corners { All IsCellCorner inside.polygon.now.corners }
+    requires ray { HasEnds inside.ray }
+    requires entered { IsEntered inside.polygon.now inside.ray }
+    requires exit { IsFirstOf inside.polygon.now inside.ray inside.exit }
+    ensures { IsTrue result ↔ IsOnward inside.entry.polygon.now inside.entry.ray visited.now link.now }
 {
-    if !meets(ray, link.portal) {
+    if !meets(inside.ray, link.portal) {
         return false;
     }
-    if !is_least(polygon, link.edge as usize, ray, exit) {
+    if !is_least(inside.polygon, link.edge as usize, inside.ray, inside.exit) {
         return false;
     }
     !visited.contains(&(link.to.tile, link.to.index))

@@ -9,7 +9,7 @@ ghost use Rattle.mesh_types.specs.WholeMesh.{poly_at};
 ghost use Rattle.ray_walk.specs.Walking.{IsProper, IsThere, wall_of};
 
 use crate::exits::{edge_ends, first_exit};
-use crate::onward::next_link;
+use crate::onward::{Inside, next_link};
 use crate::ray::{Exit, Ray};
 use mesh_types::{Mesh, PolyRef, Polygon, poly};
 use nav_base::Point;
@@ -46,7 +46,8 @@ pub fn walk(
         let Some(exit) = first_exit(polygon, ray) else {
             return Ok(mesh_types::RayAnswer::Reached(at));
         };
-        let next = next_link(mesh, at, polygon, ray, exit, &visited, &mut onward)?;
+        let inside = Inside { polygon, ray, exit };
+        let next = next_link(mesh, at, inside, &visited, &mut onward)?;
         let Some(link) = next else {
             return Ok(wall(polygon, exit));
         };

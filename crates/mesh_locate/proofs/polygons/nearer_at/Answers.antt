@@ -18,8 +18,8 @@ is_in_box-requires-clause-high c =
 
 pub returns-then-not-is_in_box : goal.returns-then-not-is_in_box
 returns-then-not-is_in_box c =
-    passed_over c.args.mesh.now c.args.p c.args.y c.args.at c.args.best
-    (not_in_box c.args.polygons.now c.extents.result.now c.args.at.index _ c.extents.ensures c.requires.polygons c.requires.there c.args.mesh.now c.args.p c.args.y
+    passed_over c.args.mesh.now c.args.sought.p c.args.sought.y c.args.at c.args.best
+    (not_in_box c.args.polygons.now c.extents.result.now c.args.at.index _ c.extents.ensures c.requires.polygons c.requires.there c.args.mesh.now c.args.sought.p c.args.sought.y
     c.args.at c.requires.listed (iff_false c.is_in_box.ensures c.if-not-is_in_box.true)) c.requires.best
 
 pub nearer-requires-clause-there : goal.nearer-requires-clause-there

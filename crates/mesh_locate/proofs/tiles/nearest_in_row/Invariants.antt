@@ -5,4 +5,4 @@ use Rattle.mesh_locate.proofs.tiles.nearest_in_row.Given as goal
 
 -- the nearest of the tiles so far
 abbrev pub invariant-loop-column : goal.invariant-loop-column
-invariant-loop-column l = IsNearestBefore l.mesh l.p l.y (l.row * tiles_in_row l.mesh.setting + l.column) 0 l.nearest
+invariant-loop-column l = IsNearestBefore l.mesh l.sought.p l.sought.y (l.row * tiles_in_row l.mesh.setting + l.column) 0 l.nearest

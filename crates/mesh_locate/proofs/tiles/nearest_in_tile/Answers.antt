@@ -31,5 +31,5 @@ returns c =
     let there = slice_get_read mesh.tiles (length mesh.tiles) c.args.tile tile refl c.requires.there is in
     let polys = c.len-i-end.ensures ∙ ap (λ (d : TileMesh). length d.polys) (c.mesh.ensures ∙ c.get.ensures) in
     let last : c.loop-i.i ≡ length tile.polys = omega (arith, c.loop-i-test.false, c.loop-i.auto.i-end, polys) in
-    tile_done mesh c.args.p c.args.y c.args.tile tile c.loop-i.nearest there
-    (subst (λ (n : ℕ). IsNearestBefore mesh c.args.p c.args.y c.args.tile n c.loop-i.nearest) last c.loop-i.invariant)
+    tile_done mesh c.args.sought.p c.args.sought.y c.args.tile tile c.loop-i.nearest there
+    (subst (λ (n : ℕ). IsNearestBefore mesh c.args.sought.p c.args.sought.y c.args.tile n c.loop-i.nearest) last c.loop-i.invariant)

@@ -14,24 +14,24 @@ written_back n old new same = ap (λ i. take i (new ++ drop (length new) old)) s
 
 pub push_onward-requires-clause-links : goal.push_onward-requires-clause-links
 push_onward-requires-clause-links c =
-    subst (λ (links : List Link). All (IsOutward c.args.polygon.now) links) (sym c.inner.ensures)
-    (inner_outward c.args.mesh.now c.args.at c.args.polygon.now c.requires.sound c.requires.there)
+    subst (λ (links : List Link). All (IsOutward c.args.inside.polygon.now) links) (sym c.inner.ensures)
+    (inner_outward c.args.mesh.now c.args.at c.args.inside.polygon.now c.requires.sound c.requires.there)
 
 pub push_onward-requires-clause-corners : goal.push_onward-requires-clause-corners
-push_onward-requires-clause-corners c = its_corners c.args.mesh.now c.args.at c.args.polygon.now c.requires.sound c.requires.there
+push_onward-requires-clause-corners c = its_corners c.args.mesh.now c.args.at c.args.inside.polygon.now c.requires.sound c.requires.there
 
 pub push_onward-requires-2-clause-links : goal.push_onward-requires-2-clause-links
 push_onward-requires-2-clause-links c =
-    subst (λ (links : List Link). All (IsOutward c.args.polygon.now) links) (sym c.outer.ensures)
-    (outer_outward c.args.mesh.now c.args.at c.args.polygon.now c.requires.sound c.requires.there)
+    subst (λ (links : List Link). All (IsOutward c.args.inside.polygon.now) links) (sym c.outer.ensures)
+    (outer_outward c.args.mesh.now c.args.at c.args.inside.polygon.now c.requires.sound c.requires.there)
 
 pub push_onward-requires-2-clause-corners : goal.push_onward-requires-2-clause-corners
-push_onward-requires-2-clause-corners c = its_corners c.args.mesh.now c.args.at c.args.polygon.now c.requires.sound c.requires.there
+push_onward-requires-2-clause-corners c = its_corners c.args.mesh.now c.args.at c.args.inside.polygon.now c.requires.sound c.requires.there
 
 pub returns : goal.returns
 returns c =
     let mesh = c.args.mesh.now in
-    let P = IsOnward c.args.polygon.now c.args.ray c.args.visited.now in
+    let P = IsOnward c.args.inside.polygon.now c.args.inside.ray c.args.visited.now in
     let first = c.push_onward.new.onward.items in
     let both = c.push_onward-2.new.onward.items in
     let some : Gathers P [] (inner_links mesh c.args.at) first =

@@ -10,18 +10,18 @@ use Rattle.ray_walk.proofs.onward.push_onward.Goals as goal
 pub loop-link-preserved : goal.loop-link-preserved
 loop-link-preserved c = elim c.if-is_onward.branch [
   | then-is_onward+in_ok-push w ↦
-      subst (λ (links : List Link). Gathers (IsOnward c.args.polygon.now c.args.ray c.args.visited.now) c.args.onward.now.items (take (c.loop-link.link-index + 1) c.args.links.now) links)
+      subst (λ (links : List Link). Gathers (IsOnward c.args.inside.polygon.now c.args.inside.ray c.args.visited.now) c.args.onward.now.items (take (c.loop-link.link-index + 1) c.args.links.now) links)
       (sym (ap (λ v. v.items) w.onward-is ∙ w.in_ok-push.ensures.items))
-      (one_more (IsOnward c.args.polygon.now c.args.ray c.args.visited.now) c.args.onward.now.items c.loop-link.onward.items c.args.links.now c.loop-link.link-index _
+      (one_more (IsOnward c.args.inside.polygon.now c.args.inside.ray c.args.visited.now) c.args.onward.now.items c.loop-link.onward.items c.args.links.now c.loop-link.link-index _
       c.loop-link-test.true c.loop-link.invariant (c.is_onward.ensures.0 w.if-is_onward.true))
   | else-is_onward w ↦
-      subst (λ (links : List Link). Gathers (IsOnward c.args.polygon.now c.args.ray c.args.visited.now) c.args.onward.now.items (take (c.loop-link.link-index + 1) c.args.links.now) links)
+      subst (λ (links : List Link). Gathers (IsOnward c.args.inside.polygon.now c.args.inside.ray c.args.visited.now) c.args.onward.now.items (take (c.loop-link.link-index + 1) c.args.links.now) links)
       (sym (ap (λ v. v.items) w.onward-is))
-      (one_less (IsOnward c.args.polygon.now c.args.ray c.args.visited.now) c.args.onward.now.items c.loop-link.onward.items c.args.links.now c.loop-link.link-index _
+      (one_less (IsOnward c.args.inside.polygon.now c.args.inside.ray c.args.visited.now) c.args.onward.now.items c.loop-link.onward.items c.args.links.now c.loop-link.link-index _
       c.loop-link-test.true c.loop-link.invariant (iff_false c.is_onward.ensures w.if-is_onward.false))
 ]
 
 pub returns : goal.returns
 returns c =
-    subst (λ (seen : List Link). Gathers (IsOnward c.args.polygon.now c.args.ray c.args.visited.now) c.args.onward.now.items seen c.loop-link.onward.items)
+    subst (λ (seen : List Link). Gathers (IsOnward c.args.inside.polygon.now c.args.inside.ray c.args.visited.now) c.args.onward.now.items seen c.loop-link.onward.items)
     (take_all c.loop-link.link-index c.args.links.now c.loop-link-test.false) c.loop-link.invariant
