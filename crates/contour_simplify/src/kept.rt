@@ -45,32 +45,26 @@ pub(crate) fn kept_corners(
 {
     let mut corners = Vec::new(alloc);
     for run in 0..stops.len() - 1 {
-        push_run(
-            alloc,
-            &mut corners,
-            round,
-            stops[run],
-            stops[run + 1],
-            error,
-        )?;
+        let ends = (stops[run], stops[run + 1]);
+        push_run(alloc, &mut corners, round, ends, error)?;
     }
     Ok(corners)
 }
 
-/// Appends the corners that a run leaves, without its last.
+/// Appends the corners that the run between two stops leaves, without its last.
 fn push_run(
     alloc: Global,
     corners: &mut Vec<Point>,
     round: &[Point],
-    from: usize,
-    to: usize,
+    ends: (usize, usize),
     error: u32,
 ) -> Result<(), AllocError>
     requires inside { All IsCellCorner round.now }
-    requires order { from < to }
-    requires there { to < length round.now }
-    ensures { OnOk result (corners.new.items ≡ corners.old.items ++ left_of_run error round.now (from, to)) }
+    requires order { ends.0 < ends.1 }
+    requires there { ends.1 < length round.now }
+    ensures { OnOk result (corners.new.items ≡ corners.old.items ++ left_of_run error round.now ends) }
 {
+    let (from, to) = ends;
     let kept = simplify_run(alloc, round[from], &round[from + 1..to], round[to], error)?;
     corners.push(round[from])?;
     corners.extend_from_slice(kept.as_slice())?;

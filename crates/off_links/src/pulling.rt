@@ -45,46 +45,31 @@ pub(crate) fn turns(
             HopStep::Link(link) => portals.push(link.portal)?,
             HopStep::Jump { number, to: _ } => {
                 let jump = jumps[number as usize];
-                push_turns(
-                    alloc,
-                    &mut turns,
-                    from,
-                    portals.as_slice(),
-                    jump.from,
-                    first,
-                )?;
+                push_turns(alloc, &mut turns, (from, jump.from), portals.as_slice(), first)?;
                 portals.clear();
                 from = jump.to;
                 first = place as u32 + 1;
             }
         }
     }
-    push_turns(
-        alloc,
-        &mut turns,
-        from,
-        portals.as_slice(),
-        question.to,
-        first,
-    )?;
+    push_turns(alloc, &mut turns, (from, question.to), portals.as_slice(), first)?;
     Ok(Items::from_vec(turns))
 }
 
-/// Appends the corners of a taut line through portals, which are counted from a place.
+/// Appends the corners of a taut line from one point to another through portals, which are counted from a place.
 fn push_turns(
     alloc: Global,
     turns: &mut Vec<Corner>,
-    from: Point,
+    ends: (Point, Point),
     portals: &[Portal],
-    to: Point,
     first: u32,
 ) -> Result<(), AllocError>
-    requires chain { IsChain from portals.now to }
+    requires chain { IsChain ends.0 portals.now ends.1 }
     requires few { first + length portals.now < 8000000 }
-    requires coordinates { HasChainCoordinates from portals.now to }
-    ensures { OnOk result (IsPulled from portals.now to first turns.old.items turns.new.items) }
+    requires coordinates { HasChainCoordinates ends.0 portals.now ends.1 }
+    ensures { OnOk result (IsPulled ends.0 portals.now ends.1 first turns.old.items turns.new.items) }
 {
-    let corners = pull(alloc, from, portals, to)?;
+    let corners = pull(alloc, ends.0, portals, ends.1)?;
     push_counted(turns, corners.as_slice(), first)
 }
 

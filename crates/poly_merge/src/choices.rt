@@ -180,7 +180,7 @@ fn push_between(
         return Ok(());
     }
     for edge in 0..edges {
-        push_over(choices, corners, pieces, first, second, edge)?;
+        push_over(choices, corners, pieces, (first, second), edge)?;
     }
     Ok(())
 }
@@ -190,19 +190,19 @@ fn push_over(
     choices: &mut Vec<Merge>,
     corners: &[Point],
     pieces: &[Piece],
-    first: usize,
-    second: usize,
+    two: (usize, usize),
     edge: usize,
 ) -> Result<(), AllocError>
     requires coordinates { All HasCoordinates corners.now }
     requires pieces { All (IsPieceOf corners.now) pieces.now }
-    requires first { first < second }
-    requires second { second < length pieces.now }
-    requires edge { edge < length (places_at pieces.now first) }
-    requires few { length (places_at pieces.now first) + length (places_at pieces.now second) ≤ 8 }
+    requires first { two.0 < two.1 }
+    requires second { two.1 < length pieces.now }
+    requires edge { edge < length (places_at pieces.now two.0) }
+    requires few { length (places_at pieces.now two.0) + length (places_at pieces.now two.1) ≤ 8 }
     ensures { OnOk result (map seen choices.new.items ≡ map seen choices.old.items
-        ++ admissible_of corners.now pieces.now (cons_option (merge_over pieces.now first second edge) [])) }
+        ++ admissible_of corners.now pieces.now (cons_option (merge_over pieces.now two.0 two.1 edge) [])) }
 {
+    let (first, second) = two;
     let Some(facing) = facing(places_at(pieces, first), edge, places_at(pieces, second)) else {
         return Ok(());
     };

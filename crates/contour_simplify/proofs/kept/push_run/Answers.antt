@@ -7,7 +7,7 @@ use Rattle.contour_simplify.proofs.kept.push_run.Goals as goal
 pub returns : goal.returns
 unfolding left_of_run
 returns c =
-    let first : Point = get_or c.args.round.now c.args.from origin in
+    let first : Point = get_or c.args.round.now c.args.ends.0 origin in
     c.in_ok-extend_from_slice.ensures.items
     ∙ ap (λ (ps : List Point). ps ++ c.as_slice.result.now) c.in_ok-push.ensures.items
     ∙ append_assoc c.args.corners.now.items (first ∷ []) c.as_slice.result.now

@@ -8,7 +8,7 @@ use Rattle.off_links.proofs.pulling.push_turns.Goals as goal
 pub push_counted-requires : goal.push_counted-requires
 push_counted-requires c =
     subst (λ (corners : List Corner). All (λ (corner : Corner). corner.portal + c.args.first < 8000000) corners) (sym c.as_slice.ensures.value)
-    (counted_few c.args.from c.args.portals.now c.args.to c.args.first c.in_ok-corners.corners.items c.requires.few c.in_ok-corners.ensures)
+    (counted_few c.args.ends.0 c.args.portals.now c.args.ends.1 c.args.first c.in_ok-corners.corners.items c.requires.few c.in_ok-corners.ensures)
 
 pub returns : goal.returns
 returns c =
