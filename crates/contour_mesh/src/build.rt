@@ -167,11 +167,7 @@ fn mesh(
 }
 
 /// The polygons of parts.
-fn part_polygons(
-    alloc: Global,
-    source: Rim,
-    parts: &[Part],
-) -> Result<Polygons, AllocError>
+fn part_polygons(alloc: Global, source: Rim, parts: &[Part]) -> Result<Polygons, AllocError>
     requires rim { IsRim source }
     requires parts { All IsCutPart parts.now }
     requires each { length parts.now ≤ length source.regions.now.regions }
@@ -214,11 +210,7 @@ fn part_ways(
 }
 
 /// What the rim lists for doors.
-fn rim(
-    alloc: Global,
-    source: Rim,
-    doors: &[Door],
-) -> Result<Items<RimEdge>, AllocError>
+fn rim(alloc: Global, source: Rim, doors: &[Door]) -> Result<Items<RimEdge>, AllocError>
     requires rim { IsRim source }
     requires window { IsFieldWindow source.table.now.window }
     ensures { IfOk result (λ rim. rim ≡ door_rim source.entry.table.now.window source.entry.cells.now source.entry.regions.now doors.now) }

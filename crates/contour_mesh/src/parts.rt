@@ -18,11 +18,7 @@ use std::alloc::{AllocError, Global};
 
 /// The parts of a tile's regions, in order, from what the edges of their contours are read from; none where some region has no outline, or one that cannot be cut. Outlines keep to the contours
 /// within an error, in hundredths of a squared cell.
-pub fn parts(
-    alloc: Global,
-    source: Rim,
-    error: u32,
-) -> Result<Option<Items<Part>>, AllocError>
+pub fn parts(alloc: Global, source: Rim, error: u32) -> Result<Option<Items<Part>>, AllocError>
     requires rim { IsRim source }
     requires regions { AreRegionsOf source.cells.now source.regions.now }
     ensures value { IfOk result (λ parts. parts ≡ parts_of source.entry.table.now.window error source.entry.cells.now source.entry.regions.now) }
@@ -44,11 +40,7 @@ pub fn parts(
 
 /// Whether some region of one or two cells has no outline. Where a region of a tile has none, one of these has none nearly always; so they
 /// are looked at before any outline is cut.
-fn has_small_flat(
-    alloc: Global,
-    source: Rim,
-    error: u32,
-) -> Result<bool, AllocError>
+fn has_small_flat(alloc: Global, source: Rim, error: u32) -> Result<bool, AllocError>
     requires rim { IsRim source }
     requires regions { AreRegionsOf source.cells.now source.regions.now }
     ensures { IfOk result (λ found. found ≡ true → None ≡ parts_of source.entry.table.now.window error source.entry.cells.now source.entry.regions.now) }
@@ -63,12 +55,7 @@ fn has_small_flat(
 }
 
 /// Whether the region with a number has one or two cells and no outline.
-fn is_small_flat(
-    alloc: Global,
-    source: Rim,
-    error: u32,
-    id: u32,
-) -> Result<bool, AllocError>
+fn is_small_flat(alloc: Global, source: Rim, error: u32, id: u32) -> Result<bool, AllocError>
     requires rim { IsRim source }
     requires regions { AreRegionsOf source.cells.now source.regions.now }
     requires there { id < length source.regions.now.regions }
@@ -90,12 +77,7 @@ fn is_small(region: &Region) -> bool {
 }
 
 /// Whether the region with a number has no outline.
-fn is_flat(
-    alloc: Global,
-    source: Rim,
-    error: u32,
-    id: u32,
-) -> Result<bool, AllocError>
+fn is_flat(alloc: Global, source: Rim, error: u32, id: u32) -> Result<bool, AllocError>
     requires rim { IsRim source }
     requires regions { AreRegionsOf source.cells.now source.regions.now }
     requires there { id < length source.regions.now.regions }
@@ -109,12 +91,7 @@ fn is_flat(
 }
 
 /// The part of the region with a number; none where it has no outline, or one that cannot be cut.
-fn region_part(
-    alloc: Global,
-    source: Rim,
-    error: u32,
-    id: u32,
-) -> Result<Option<Part>, AllocError>
+fn region_part(alloc: Global, source: Rim, error: u32, id: u32) -> Result<Option<Part>, AllocError>
     requires rim { IsRim source }
     requires regions { AreRegionsOf source.cells.now source.regions.now }
     requires there { id < length source.regions.now.regions }

@@ -83,10 +83,7 @@ fn push_runs(
 }
 
 /// Which of the positions over which a door runs belong to it and have a cell with a kept neighbour across.
-fn label_positions(
-    on: DoorSide,
-    labels: &mut Vec<Option<u32>>,
-) -> Result<(), AllocError>
+fn label_positions(on: DoorSide, labels: &mut Vec<Option<u32>>) -> Result<(), AllocError>
     requires order { AreInOrder on.tables.now }
     ensures value { OnOk result (labels.new.items ≡ labels_in on.entry.tables.now on.entry.door.now on.entry.side) }
     ensures inside { OnOk result (first_position on.entry.side on.entry.door.now + length labels.new.items < 2 ^ 32) }
@@ -135,11 +132,7 @@ fn is_door(found: Option<Door>, door: &Door) -> bool
 }
 
 /// What the rim lists for a door on a side along a run of its positions.
-fn entry(
-    alloc: Global,
-    on: DoorSide,
-    part: Run,
-) -> Result<RimEdge, AllocError>
+fn entry(alloc: Global, on: DoorSide, part: Run) -> Result<RimEdge, AllocError>
     requires tables { AreInOrder on.tables.now }
     requires side { on.side < 4 }
     requires run { IsRunAlong on.side on.door.now part }

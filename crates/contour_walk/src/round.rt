@@ -84,7 +84,9 @@ pub fn contour_over(alloc: Global, rim: Rim, id: u32) -> Result<Items<UnitEdge>,
     ensures ring { IfOk result IsRing }
     ensures few { IfOk result (λ edges. length edges ≤ 4 * length rim.entry.cells.now) }
 {
-    let strips = rim.regions.regions.as_slice()[id as usize].strips.as_slice();
+    let strips = rim.regions.regions.as_slice()[id as usize]
+        .strips
+        .as_slice();
     let mut edges = walk(alloc, rim, strips)?;
     let least = least_beginning(edges.as_slice());
     turn(edges.as_mut_slice(), least);

@@ -45,14 +45,26 @@ pub(crate) fn turns(
             HopStep::Link(link) => portals.push(link.portal)?,
             HopStep::Jump { number, to: _ } => {
                 let jump = jumps[number as usize];
-                push_turns(alloc, &mut turns, (from, jump.from), portals.as_slice(), first)?;
+                push_turns(
+                    alloc,
+                    &mut turns,
+                    (from, jump.from),
+                    portals.as_slice(),
+                    first,
+                )?;
                 portals.clear();
                 from = jump.to;
                 first = place as u32 + 1;
             }
         }
     }
-    push_turns(alloc, &mut turns, (from, question.to), portals.as_slice(), first)?;
+    push_turns(
+        alloc,
+        &mut turns,
+        (from, question.to),
+        portals.as_slice(),
+        first,
+    )?;
     Ok(Items::from_vec(turns))
 }
 

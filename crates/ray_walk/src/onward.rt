@@ -69,11 +69,7 @@ fn push_onward(
 }
 
 /// Whether a link of a polygon leads a ray on.
-fn is_onward(
-    link: &Link,
-    inside: Inside,
-    visited: &BTreeSet<(u32, u32)>,
-) -> bool
+fn is_onward(link: &Link, inside: Inside, visited: &BTreeSet<(u32, u32)>) -> bool
     requires link { IsOutward inside.polygon.now link.now }
     requires corners { All IsCellCorner inside.polygon.now.corners }
     requires ray { HasEnds inside.ray }

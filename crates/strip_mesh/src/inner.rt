@@ -84,11 +84,7 @@ fn push_links_over(
 }
 
 /// The strips that lie beyond an edge of a strip, cell by cell.
-fn label_beyond(
-    one: OneStrip,
-    edge: u32,
-    labels: &mut Vec<Option<u32>>,
-) -> Result<(), AllocError>
+fn label_beyond(one: OneStrip, edge: u32, labels: &mut Vec<Option<u32>>) -> Result<(), AllocError>
     requires rules { AreIndexed one.strips.now }
     requires there { one.strip < length (runs_in one.strips.now) }
     requires edge { edge < 4 }

@@ -101,11 +101,7 @@ fn may_reach(of: StripRim, dir: u32) -> bool
 }
 
 /// Which cells of a strip have a kept neighbour across the side of the tile that an edge lies on.
-fn label_crossing(
-    of: StripRim,
-    edge: u32,
-    labels: &mut Vec<Option<u32>>,
-) -> Result<(), AllocError>
+fn label_crossing(of: StripRim, edge: u32, labels: &mut Vec<Option<u32>>) -> Result<(), AllocError>
     requires rules { AreIndexed of.strips.now }
     requires there { of.strip < length (runs_in of.strips.now) }
     requires edge { edge < 4 }
