@@ -109,18 +109,19 @@ static ROWS: [Row; 17] = [
     ),
 ];
 
-/// A header of this size, and lines behind it.
-fn level(rt: &impl Abort, alloc: Global, size: &str, lines: &str) -> Vec<u8> {
+/// These parts of a text, one behind the other.
+fn joined(rt: &impl Abort, alloc: Global, parts: &[&str]) -> Vec<u8> {
     let mut text = Vec::new(alloc);
-    for part in [
-        "nav 1\n",
-        size,
-        "agent 10 4 0\nerror 169\nmesh strips\nlimit 4\n",
-        lines,
-    ] {
+    for part in parts {
         text.extend_from_slice(part.as_bytes()).expect(rt, "memory");
     }
     text
+}
+
+/// A header of this size, and lines behind it.
+fn level(rt: &impl Abort, alloc: Global, size: &str, lines: &str) -> Vec<u8> {
+    let making = "agent 10 4 0\nerror 169\nmesh strips\nlimit 4\n";
+    joined(rt, alloc, &["nav 1\n", size, making, lines])
 }
 
 fn check_rows<R: Abort + Threads + Wait + Sync>(rt: &R, alloc: Global, rows: &[Row]) {
@@ -143,4 +144,18 @@ fn check_rows<R: Abort + Threads + Wait + Sync>(rt: &R, alloc: Global, rows: &[R
 #[test]
 fn writes_the_field_of_triangles(rt: HostRuntime) {
     check_rows(&rt, rt.alloc(), &ROWS);
+}
+
+/// A header of the second form.
+const SECOND: &str =
+    "nav 2\nsize 1 1\ntile 6\nagent 10 4 3\nerror 169\nmesh strips\nlimit 4\nclear 1\n";
+
+#[test]
+fn keeps_the_line_of_clearance(rt: HostRuntime) {
+    let alloc = rt.alloc();
+    let triangle = "tri 0 10 0 16 10 0 16 10 16 5\nend\n";
+    let input = joined(&rt, alloc, &[SECOND, triangle]);
+    let ran = run_once(&rt, alloc, &["raster"], input, (100, 0), (8, 0));
+    let held = joined(&rt, alloc, &[SECOND, "span 0 0 10 11 5\nend\n"]);
+    check(&rt, &ran, Status::Ok, held.as_slice());
 }
