@@ -154,8 +154,8 @@ void navd_close(navd_level *level);
  * Each makes one entry in the history, whose number, from 1, is left at `entry`; 0 where none was made. What is published stays. No memory is
  * taken. */
 
-/* Adds an obstacle. With the area 0 it stops agents; with an area, 1 to 63, it gives that area to the cells that it covers. Its number is that of
- * the entry.
+/* Adds an obstacle. With the area 0 it stops agents, which keep their radius from it where the field text says `clear 1`; with an area, 1 to 63,
+ * it gives that area to the cells that it covers. Its number is that of the entry.
  * NAVD_OK. NAVD_TOO_MANY. NAVD_OUT_OF_RANGE: before all others. NAVD_EMPTY. NAVD_HISTORY_FULL. */
 uint32_t navd_add_block(navd_level *level, const navd_block *block, uint32_t area, uint32_t *entry);
 uint32_t navd_add_cylinder(navd_level *level, const navd_cylinder *cylinder, uint32_t area, uint32_t *entry);
