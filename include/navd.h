@@ -245,7 +245,7 @@ uint32_t navd_remove(navd_level *level, uint32_t number, uint32_t *entry);
 
 /* == Building == */
 
-/* Builds all that the history asks for and publishes it; how many entries that are is left at `published`.
+/* Builds all that the history asks for and publishes it; how many entries that are is left at `published`. All claims of jobs are ended.
  * NAVD_OK. NAVD_EMPTY. NAVD_NO_MEMORY: the whole history may be the target, and some of its tiles built, and navd_step builds on from there;
  * what is published, and the history, are as they were. */
 uint32_t navd_settle(navd_level *level, uint32_t *published);

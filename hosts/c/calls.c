@@ -207,8 +207,10 @@ static void of_view(void) {
     status = navd_view_send(&view, &way, links, pick(3), &walker);
     if (is_way(&way)) ENDS(status, "navd_view_send", NAVD_OK, NAVD_NO_START, NAVD_NO_GOAL, NAVD_NO_PATH);
     else ENDS(status, "navd_view_send", NAVD_OUT_OF_RANGE);
-    for (int i = 0; i < 3 && status == NAVD_OK; i++)
-        ENDS(navd_view_march(&view, &walker, number(64), links, pick(3)), "navd_view_march", NAVD_OK);
+    for (int i = 0; i < 3 && status == NAVD_OK; i++) {
+        status = navd_view_march(&view, &walker, number(64), links, pick(3));
+        ENDS(status, "navd_view_march", NAVD_OK, NAVD_NO_PATH);
+    }
     if (!pick(8)) navd_view_close(&view);
 }
 
