@@ -319,6 +319,7 @@ static void of_empty(void) {
     navd_step_taken steps[1];
     uint32_t costs[64];
     for (size_t i = 0; i < 64; i++) costs[i] = 1;
+    told = 7;
     ENDS(navd_polygons(&empty, 0, &face, 1, &count), "an empty handle", NAVD_EMPTY);
     ENDS(navd_inner_links(&empty, 0, links, 1, &count), "an empty handle", NAVD_EMPTY);
     ENDS(navd_border_links(&empty, 0, links, 1, &count), "an empty handle", NAVD_EMPTY);
