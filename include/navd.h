@@ -11,8 +11,8 @@
  * changes a handle, and no byte of it is copied or read by the host. What it holds is on the heap; `navd_close` frees it.
  *
  * Threads. A handle is in one call at a time, questions too; it may go from thread to thread, by a lock or by the start or the end of a thread.
- * Calls of two handles may run side by side, also of a level and of views of it: so one thread changes a level while others ask views, each its
- * own. A view is brought up to a level by navd_look, which is a call of both.
+ * Calls of two handles may run side by side, also of a level and of views and jobs of it: so one thread changes a level while others ask views, each
+ * its own, or build jobs. A view is brought up to a level by navd_look, and a job is claimed, handed in and put back by calls that are of both.
  *
  * Arrays. An array is given by its address and by how many elements it has room for; the address is not null, also where there is room for
  * none. As much is laid into it as there is room for, and what is behind that stays as it was; how many there are is told beside it.
@@ -54,6 +54,10 @@ extern "C" {
 #define NAVD_NO_PATH 12u      /* both places are held, and no walk joins them */
 #define NAVD_WALL 13u         /* the ray ends at an edge */
 #define NAVD_NO_ROOM 14u      /* there is too little room for what is told; nothing was done */
+#define NAVD_STALE 15u        /* the build is wanted no more; it was let go */
+#define NAVD_FOREIGN 16u      /* the job is of a ground that is another there; nothing was done */
+#define NAVD_BUSY 17u         /* the job's handle holds a job; nothing was done */
+#define NAVD_TOO_MANY_SPANS 18u /* the triangles give more than 2000000 spans, the most that a field can have */
 
 /* A handle of a level. Zeroed, it holds nothing: navd_level level = {0}; */
 typedef struct {
@@ -66,6 +70,12 @@ typedef struct {
     void *at;
     uint32_t full;
 } navd_view;
+
+/* A handle of a job: a tile that is claimed of a level, and all that it is built from. Zeroed, it holds nothing. */
+typedef struct {
+    void *at;
+    uint32_t full;
+} navd_job;
 
 /* A point, in sixteenths of a cell. */
 typedef struct {
@@ -104,6 +114,64 @@ typedef struct {
     navd_point left, right;
 } navd_link;
 
+/* A corner of a polygon, in whole cells. */
+typedef struct {
+    int32_t x, z;
+} navd_corner;
+
+/* A polygon as it is drawn: how many corners it has, 3 to 6, and these, counterclockwise, those behind them 0; its area, 1 to 63; and the least
+ * and the greatest floor of its cells. */
+typedef struct {
+    uint32_t corners;
+    navd_corner corner[6];
+    uint32_t area, low, high;
+} navd_face;
+
+/* An obstacle: its number, the area that it gives, or 0 where it stops agents, and what it is: a block (0) or a cylinder (1). The numbers of the
+ * other one are 0. */
+typedef struct {
+    uint32_t number, area, kind;
+    navd_block block;
+    navd_cylinder cylinder;
+} navd_obstacle;
+
+/* A one-way jump from a place to another, as down a ledge or up a ladder, and what it costs, in the unit of paths. */
+typedef struct {
+    navd_point from;
+    uint32_t from_y;
+    navd_point to;
+    uint32_t to_y;
+    uint32_t cost;
+} navd_jump;
+
+/* A step of a walk over links and jumps: over a link (kind 0), or by a jump (kind 1), which is named by its place among the jumps that were handed
+ * in, from 0; of a jump, `link.to` alone says something: the polygon that it enters. */
+typedef struct {
+    uint32_t kind, jump;
+    navd_link link;
+} navd_step_taken;
+
+/* A walk over links and jumps. The host writes `way`; the call leaves what the walk costs, the polygon in which it begins, and how many steps and
+ * turns it has. */
+typedef struct {
+    navd_way way;
+    uint64_t cost;
+    navd_polygon first;
+    size_t steps, turns;
+} navd_hop;
+
+/* An agent on its way: the polygon in which it stands, its point and height, its goal and that one's height, what the way that is left costs, and
+ * how many links that has. It is the host's own: nothing of it is kept behind the border. */
+typedef struct {
+    navd_polygon polygon;
+    navd_point at;
+    uint32_t y;
+    navd_point goal;
+    uint32_t goal_y;
+    uint64_t cost;
+    size_t links;
+} navd_walker;
+
 /* A turn of a path: round the left end (side 0) or the right end (side 1) of the portal of a link, which is named by its place from 0. */
 typedef struct {
     navd_point at;
@@ -140,12 +208,23 @@ typedef struct {
     uint32_t history, target, published, tiles, polygons, links;
 } navd_counts;
 
+/* How many entries a view shows, and how many tiles there are. */
+typedef struct {
+    uint32_t published, tiles;
+} navd_shown;
+
 /* == A level == */
 
 /* Opens the level of the field text with which the bytes begin, its line `end` included (docs/FORMATS.md has the lines), with no obstacles,
  * all of it built and published; what stands behind that text is not looked at. A level that the handle held is closed then.
  * NAVD_OK. NAVD_FAULTY: the fault is told, and the handle holds what it held. NAVD_NO_MEMORY: the handle holds what it held. */
 uint32_t navd_open(navd_level *level, const uint8_t *text, size_t length, navd_fault *fault);
+
+/* Opens the level of a triangle text, which is all of the bytes: the lines of a field text up to its spans, a line for each triangle, and `end`
+ * (docs/FORMATS.md has the lines). The triangles leave spans in the columns exactly as `navd raster` says. A level that the handle held is closed
+ * then.
+ * NAVD_OK. NAVD_FAULTY: the fault is told. NAVD_TOO_MANY_SPANS. NAVD_NO_MEMORY. In these three the handle holds what it held. */
+uint32_t navd_open_triangles(navd_level *level, const uint8_t *text, size_t length, navd_fault *fault);
 
 /* Closes the level, if the handle holds one; the handle holds nothing then. */
 void navd_close(navd_level *level);
@@ -166,7 +245,7 @@ uint32_t navd_remove(navd_level *level, uint32_t number, uint32_t *entry);
 
 /* == Building == */
 
-/* Builds all that the history asks for and publishes it; how many entries that are is left at `published`.
+/* Builds all that the history asks for and publishes it; how many entries that are is left at `published`. All claims of jobs are ended.
  * NAVD_OK. NAVD_EMPTY. NAVD_NO_MEMORY: the whole history may be the target, and some of its tiles built, and navd_step builds on from there;
  * what is published, and the history, are as they were. */
 uint32_t navd_settle(navd_level *level, uint32_t *published);
@@ -181,7 +260,7 @@ uint32_t navd_step(navd_level *level, uint32_t *tile);
 
 /* Publishes the target, once no tile is awaited. At `number` is left how many entries are published now.
  * NAVD_OK. NAVD_SAME: the target was published before. NAVD_NOT_YET: at `number` is left the least tile that is awaited. NAVD_EMPTY.
- * NAVD_NO_MEMORY: nothing was done. */
+ * NAVD_NO_MEMORY: only where the target is to be published; nothing was done. */
 uint32_t navd_publish(navd_level *level, uint32_t *number);
 
 /* Begins the history again, where all of it is published: it has one entry then for each obstacle that is alive, in the order of their numbers,
@@ -190,6 +269,37 @@ uint32_t navd_publish(navd_level *level, uint32_t *number);
  * that runs for long does this before its history is full.
  * NAVD_OK. NAVD_NOT_YET: not all of the history is published. NAVD_NO_ROOM: only `count` was left. NAVD_EMPTY. NAVD_NO_MEMORY. */
 uint32_t navd_renew(navd_level *level, uint32_t *numbers, size_t room, size_t *count);
+
+/* == Jobs ==
+ * Worker threads of the host build tiles beside whoever changes the level: a job is claimed (a call of both handles), built from its own handle
+ * alone, as long as it likes, and handed in or put back (calls of both handles). A tile that is claimed is given to no other claim, and navd_step
+ * passes it by, until its job is handed in or put back, or navd_settle, navd_renew or navd_put_back_all ends all claims; then a job may
+ * still be handed in. */
+
+/* Claims the least tile that is awaited and not claimed; the job's handle holds the job then, and its tile is left at `tile`.
+ * NAVD_OK. NAVD_SAME: there is no such tile. NAVD_EMPTY: the level's handle holds none. NAVD_BUSY. NAVD_NO_MEMORY: nothing was done. */
+uint32_t navd_claim(navd_level *level, navd_job *job, uint32_t *tile);
+
+/* Builds a job's tile.
+ * NAVD_OK. NAVD_SAME: it was built before. NAVD_EMPTY. NAVD_NO_MEMORY: nothing was done. */
+uint32_t navd_build(navd_job *job);
+
+/* Hands a job in that is built; the job's handle holds nothing then.
+ * NAVD_OK: it is published with the next publish. NAVD_STALE: its tile is not awaited, or was built under other obstacles than touch it at the target.
+ * With the next, the job stays: NAVD_NOT_YET: it is not built. NAVD_FOREIGN: the level has another setting, or another ground in the tile.
+ * NAVD_EMPTY: one of the handles holds nothing. No memory is taken. */
+uint32_t navd_submit(navd_level *level, navd_job *job);
+
+/* Puts a job back; the job's handle holds nothing then.
+ * NAVD_OK. NAVD_FOREIGN, NAVD_EMPTY: as above. No memory is taken. */
+uint32_t navd_put_back(navd_level *level, navd_job *job);
+
+/* Ends all claims of a level.
+ * NAVD_OK. NAVD_EMPTY. No memory is taken. */
+uint32_t navd_put_back_all(navd_level *level);
+
+/* Closes the job, if the handle holds one; the handle holds nothing then, and the tile stays claimed. */
+void navd_job_close(navd_job *job);
 
 /* == Questions, which are answered from what is published ==
  * They change nothing. */
@@ -208,24 +318,76 @@ uint32_t navd_find_path(navd_level *level, const navd_way *way, navd_link *links
  * NAVD_NO_MEMORY. */
 uint32_t navd_cast_ray(navd_level *level, const navd_way *way, navd_ray *ray);
 
+/* A cheapest walk over links and jumps from hop->way.from to hop->way.to, and taut lines between its jumps. A jump is taken where its two points are
+ * held by polygons. There are at most 256 jumps, and their points are in the limits of ways; what `hop` says besides, and the two arrays, are left
+ * as for a path: hop->steps and hop->turns tell how many there are.
+ * NAVD_OK. NAVD_NO_START, NAVD_NO_GOAL, NAVD_NO_PATH: there is none. NAVD_OUT_OF_RANGE: before all others. NAVD_EMPTY. NAVD_NO_MEMORY. */
+uint32_t navd_find_hop(navd_level *level, navd_hop *hop, const navd_jump *jumps, size_t count, navd_step_taken *steps, size_t steps_room,
+                       navd_turn *turns, size_t turns_room);
+
+/* Places a walker at way->from, on its way to way->to. The links of its way are laid into `links`, and walker->links tells how many there are.
+ * NAVD_OK. NAVD_NO_START, NAVD_NO_GOAL, NAVD_NO_PATH: there is no way. NAVD_OUT_OF_RANGE: before all others. NAVD_EMPTY. NAVD_NO_MEMORY. */
+uint32_t navd_send(navd_level *level, const navd_way *way, navd_link *links, size_t room, navd_walker *walker);
+
+/* Moves a walker toward its goal by up to `length`, in sixteenths of a cell along the longer axis of each leg, on a cheapest way in the mesh as it is
+ * published now; of the walker, its point, height and goal are read. After the call it stands in a polygon that holds its point, and its links lead
+ * on to the goal.
+ * NAVD_OK. NAVD_NO_START: no polygon holds it any more. NAVD_NO_GOAL, NAVD_NO_PATH. NAVD_OUT_OF_RANGE: before all others. NAVD_EMPTY.
+ * NAVD_NO_MEMORY. In all but the first the walker is as it was. */
+uint32_t navd_march(navd_level *level, navd_walker *walker, uint32_t length, navd_link *links, size_t room);
+
+/* == What there is, to draw it ==
+ * Tiles are numbered row by row, from 0 up to below the count of tiles. These calls change nothing, and take no memory but in navd_obstacles. */
+
+/* The polygons of a tile, in the order of their places; how many there are is left at `count`.
+ * NAVD_OK. NAVD_OUT_OF_RANGE: there is no such tile. NAVD_EMPTY. */
+uint32_t navd_polygons(navd_level *level, uint32_t tile, navd_face *polygons, size_t room, size_t *count);
+
+/* The links between polygons of a tile, and those that lead from it to other tiles, each by the polygons that they leave.
+ * NAVD_OK. NAVD_OUT_OF_RANGE: there is no such tile. NAVD_EMPTY. */
+uint32_t navd_inner_links(navd_level *level, uint32_t tile, navd_link *links, size_t room, size_t *count);
+uint32_t navd_border_links(navd_level *level, uint32_t tile, navd_link *links, size_t room, size_t *count);
+
+/* The obstacles that are alive after the whole history, whether that is published or not, by rising numbers.
+ * NAVD_OK. NAVD_EMPTY. NAVD_NO_MEMORY. */
+uint32_t navd_obstacles(navd_level *level, navd_obstacle *obstacles, size_t room, size_t *count);
+
 /* The counts of a level.
  * NAVD_OK. NAVD_EMPTY. */
 uint32_t navd_count(navd_level *level, navd_counts *counts);
 
 /* == Views == */
 
-/* Brings a view up to what the level has published now; how many entries that are is left at `published`. What the view showed is let go.
+/* Brings a view up to what the level has published now; how many entries that are is left at `published`. What the view showed is let go. Where the
+ * view has costs of its own it keeps them, and the call goes over the tiles, else it copies nothing and takes a few words of memory.
  * NAVD_OK. NAVD_EMPTY: the level's handle holds none. NAVD_NO_MEMORY: the view shows what it showed. */
 uint32_t navd_look(navd_view *view, navd_level *level, uint32_t *published);
 
 /* Closes the view, if the handle holds one; the handle holds nothing then. A view may be closed after its level. */
 void navd_view_close(navd_view *view);
 
+/* Gives a view costs of its own: what a sixteenth of a cell costs in each area, 64 numbers by the area's number, each 1 to 1000 (that of the area 0 means
+ * nothing). From then on its questions are answered with these in place of the level's, also after it was brought up; another call gives it others,
+ * and a view that was closed has none. So one mesh serves many kinds of agent, each with a view of its own.
+ * NAVD_OK. NAVD_OUT_OF_RANGE: before all others. NAVD_EMPTY: the handle holds no view. NAVD_NO_MEMORY: it has the costs that it had. */
+uint32_t navd_view_set_costs(navd_view *view, const uint32_t *costs, size_t count);
+
+/* What the view shows.
+ * NAVD_OK. NAVD_EMPTY. */
+uint32_t navd_view_count(navd_view *view, navd_shown *shown);
+
 /* The questions of a level, asked of what the view shows; NAVD_EMPTY: the handle holds no view. */
 uint32_t navd_view_floors(navd_view *view, uint32_t x, uint32_t z, navd_floor *floors, size_t room, size_t *count);
 uint32_t navd_view_find_path(navd_view *view, const navd_way *way, navd_link *links, size_t links_room, navd_turn *turns, size_t turns_room,
                              navd_path *path);
 uint32_t navd_view_cast_ray(navd_view *view, const navd_way *way, navd_ray *ray);
+uint32_t navd_view_find_hop(navd_view *view, navd_hop *hop, const navd_jump *jumps, size_t count, navd_step_taken *steps, size_t steps_room,
+                            navd_turn *turns, size_t turns_room);
+uint32_t navd_view_send(navd_view *view, const navd_way *way, navd_link *links, size_t room, navd_walker *walker);
+uint32_t navd_view_march(navd_view *view, navd_walker *walker, uint32_t length, navd_link *links, size_t room);
+uint32_t navd_view_polygons(navd_view *view, uint32_t tile, navd_face *polygons, size_t room, size_t *count);
+uint32_t navd_view_inner_links(navd_view *view, uint32_t tile, navd_link *links, size_t room, size_t *count);
+uint32_t navd_view_border_links(navd_view *view, uint32_t tile, navd_link *links, size_t room, size_t *count);
 
 #ifdef __cplusplus
 }

@@ -3,7 +3,8 @@
  *     calls TEXT CALLS SEED
  *
  * Two levels of one field text are held. The first gets CALLS random calls: numbers out of their limits, too little room, calls of an empty
- * handle, requests, builds and questions. The second gets the requests alone that made entries, and is settled at the end. Each call has to
+ * handle, requests, builds, jobs and questions, also of a view with costs of its own. A third level has another limit, so that jobs of the first are
+ * not its own. The second gets the requests alone that made entries, and is settled at the end. Each call has to
  * end with a status that the header allows there, and the two levels must agree at the end on their counts, floors and paths. */
 #include <inttypes.h>
 #include <stdbool.h>
@@ -45,8 +46,11 @@ static bool is_one_of(uint32_t status, const char *name, const uint32_t *allowed
 #define ENDS(status, name, ...) \
     is_one_of(status, name, (const uint32_t[]){__VA_ARGS__}, sizeof((const uint32_t[]){__VA_ARGS__}) / sizeof(uint32_t))
 
-static navd_level first, second, empty;
-static uint32_t entries, made_by[NAVD_NO_ROOM + 1];
+static navd_level first, second, third, empty;
+static navd_view view, empty_view;
+static navd_job jobs[3];
+static bool holds[3], is_built[3];
+static uint32_t entries, made_by[NAVD_TOO_MANY_SPANS + 1];
 static uint32_t alive[1024], alive_count;
 
 static bool is_block(const navd_block *b) {
@@ -106,6 +110,110 @@ static void build(void) {
     }
 }
 
+/* A job is claimed, built, handed in, put back or let go, also where that cannot be. */
+static void job(void) {
+    uint32_t place = pick(3), tile = 0, status;
+    navd_job *it = &jobs[place];
+    switch (pick(8)) {
+    case 0: case 1:
+        status = navd_claim(&first, it, &tile);
+        if (holds[place]) ENDS(status, "navd_claim into a full handle", NAVD_BUSY); else ENDS(status, "navd_claim", NAVD_OK, NAVD_SAME);
+        if (status == NAVD_OK) holds[place] = true, is_built[place] = false;
+        break;
+    case 2: case 3:
+        status = navd_build(it);
+        if (holds[place]) ENDS(status, "navd_build", is_built[place] ? NAVD_SAME : NAVD_OK); else ENDS(status, "navd_build of nothing", NAVD_EMPTY);
+        is_built[place] = holds[place];
+        break;
+    case 4: case 5:
+        status = navd_submit(&third, it);
+        if (holds[place]) ENDS(status, "navd_submit to another level", NAVD_FOREIGN); else ENDS(status, "navd_submit of nothing", NAVD_EMPTY);
+        made_by[status]++;
+        status = navd_submit(&first, it);
+        if (!holds[place]) ENDS(status, "navd_submit of nothing", NAVD_EMPTY);
+        else if (is_built[place]) ENDS(status, "navd_submit", NAVD_OK, NAVD_STALE);
+        else ENDS(status, "navd_submit of what is not built", NAVD_NOT_YET);
+        if (is_built[place]) holds[place] = is_built[place] = false;
+        break;
+    case 6:
+        status = navd_put_back(&third, it);
+        if (holds[place]) ENDS(status, "navd_put_back to another level", NAVD_FOREIGN); else ENDS(status, "navd_put_back of nothing", NAVD_EMPTY);
+        status = navd_put_back(&first, it);
+        if (holds[place]) ENDS(status, "navd_put_back", NAVD_OK); else ENDS(status, "navd_put_back of nothing", NAVD_EMPTY);
+        holds[place] = is_built[place] = false;
+        break;
+    default:
+        status = navd_put_back_all(&first);
+        ENDS(status, "navd_put_back_all", NAVD_OK);
+        if (pick(2)) navd_job_close(it), holds[place] = is_built[place] = false;
+    }
+    made_by[status]++;
+}
+
+/* What is to be drawn, with too little room now and then: as much of it as there is room for is what there is with enough. */
+static void look(void) {
+    static navd_face faces[4096], few_faces[8];
+    static navd_link links[16384], few_links[8];
+    static navd_obstacle obstacles[1024], few_obstacles[8];
+    navd_counts counts;
+    size_t all = 0, count = 0, room = pick(8);
+    ENDS(navd_count(&first, &counts), "navd_count", NAVD_OK);
+    uint32_t tile = number(counts.tiles - 1);
+    uint32_t allowed = tile < counts.tiles ? NAVD_OK : NAVD_OUT_OF_RANGE;
+    memset(few_faces, 7, sizeof few_faces);
+    memset(few_links, 7, sizeof few_links);
+    ENDS(navd_polygons(&first, tile, faces, 4096, &all), "navd_polygons", allowed);
+    ENDS(navd_polygons(&first, tile, few_faces, room, &count), "navd_polygons", allowed);
+    size_t laid = count < room ? count : room;
+    if (all != count || memcmp(faces, few_faces, laid * sizeof *faces)) ENDS(1, "the polygons of a small room", 0);
+    for (size_t i = 0; i < all; i++)
+        if (faces[i].corners < 3 || faces[i].corners > 6 || faces[i].low > faces[i].high || !faces[i].area) ENDS(1, "a polygon", 0);
+    for (int over = 0; over < 2; over++) {
+        uint32_t (*call)(navd_level *, uint32_t, navd_link *, size_t, size_t *) = over ? navd_border_links : navd_inner_links;
+        size_t most = 0;
+        count = 0;
+        ENDS(call(&first, tile, links, 16384, &most), "links of a tile", allowed);
+        ENDS(call(&first, tile, few_links, room, &count), "links of a tile", allowed);
+        laid = count < room ? count : room;
+        if (most != count || memcmp(links, few_links, laid * sizeof *links)) ENDS(1, "the links of a small room", 0);
+        for (size_t i = 0; i < most; i++)
+            if (links[i].from.tile != tile || links[i].from.index >= all || (links[i].to.tile == tile) == over) ENDS(1, "a link", 0);
+    }
+    ENDS(navd_obstacles(&first, obstacles, 1024, &all), "navd_obstacles", NAVD_OK);
+    ENDS(navd_obstacles(&first, few_obstacles, room, &count), "navd_obstacles", NAVD_OK);
+    laid = count < room ? count : room;
+    if (all != alive_count || count != all || memcmp(obstacles, few_obstacles, laid * sizeof *obstacles)) ENDS(1, "the obstacles of a small room", 0);
+}
+
+/* A view, which has costs of its own now and then. */
+static void of_view(void) {
+    uint32_t costs[64], shows = 0, status;
+    size_t count = pick(6) ? 64 : pick(64);
+    navd_shown shown;
+    navd_way way = {{coordinate(), coordinate()}, height(), {coordinate(), coordinate()}, height()};
+    navd_walker walker = {0};
+    navd_link links[2];
+    bool are_costs = count == 64;
+    for (size_t i = 0; i < 64; i++) {
+        costs[i] = pick(600) ? 1 + pick(1000) : pick(2) ? 0 : 1001;
+        are_costs &= i >= count || (costs[i] && costs[i] <= 1000);
+    }
+    ENDS(navd_look(&view, &first, &shows), "navd_look", NAVD_OK);
+    status = navd_view_set_costs(&view, costs, count);
+    ENDS(status, "navd_view_set_costs", are_costs ? NAVD_OK : NAVD_OUT_OF_RANGE);
+    made_by[status]++;
+    ENDS(navd_view_count(&view, &shown), "navd_view_count", NAVD_OK);
+    if (shown.published != shows) ENDS(shown.published, "the length of a view", shows);
+    status = navd_view_send(&view, &way, links, pick(3), &walker);
+    if (is_way(&way)) ENDS(status, "navd_view_send", NAVD_OK, NAVD_NO_START, NAVD_NO_GOAL, NAVD_NO_PATH);
+    else ENDS(status, "navd_view_send", NAVD_OUT_OF_RANGE);
+    for (int i = 0; i < 3 && status == NAVD_OK; i++) {
+        status = navd_view_march(&view, &walker, number(64), links, pick(3));
+        ENDS(status, "navd_view_march", NAVD_OK, NAVD_NO_PATH);
+    }
+    if (!pick(8)) navd_view_close(&view);
+}
+
 /* Now and then both histories begin again. */
 static void renew(void) {
     uint32_t numbers[1024], others[1024], told;
@@ -115,6 +223,7 @@ static void renew(void) {
     ENDS(status, "navd_renew", NAVD_OK, NAVD_NOT_YET, NAVD_NO_ROOM);
     if (status == NAVD_NO_ROOM && (count != alive_count || count <= room)) ENDS(status, "the count of a renewal", NAVD_OK);
     if (status != NAVD_OK) return;
+    /* what jobs were claimed is claimed no more, and they may still be handed in */
     ENDS(navd_settle(&second, &told), "the second level", NAVD_OK);
     ENDS(navd_renew(&second, others, 1024, &other), "the second level", NAVD_OK);
     if (count != alive_count || count != other || memcmp(numbers, others, count * sizeof *numbers)) ENDS(status, "the numbers of a renewal", NAVD_EMPTY);
@@ -131,7 +240,37 @@ static void question(void) {
     size_t count = 0;
     navd_way way = {{coordinate(), coordinate()}, height(), {coordinate(), coordinate()}, height()};
     uint32_t status;
-    switch (pick(3)) {
+    navd_walker walker = {{0, 0}, way.from, way.from_y, way.to, way.to_y, 0, 0};
+    navd_jump some[300];
+    navd_step_taken steps[3];
+    navd_hop hop = {0};
+    bool are_jumps = true;
+    hop.way = way;
+    switch (pick(6)) {
+    case 3:
+        count = pick(4) ? pick(4) : pick(300);
+        are_jumps = count <= 256;
+        for (size_t i = 0; i < count; i++) {
+            some[i] = (navd_jump){{(int32_t)pick(200), (int32_t)pick(200)}, 10, {(int32_t)pick(200), (int32_t)pick(200)}, 10, pick(500)};
+            if (!pick(400)) some[i].to.z = 65537, are_jumps = false;
+        }
+        status = navd_find_hop(&first, &hop, some, count, steps, pick(4), turns, pick(3));
+        if (is_way(&way) && are_jumps) ENDS(status, "navd_find_hop", NAVD_OK, NAVD_NO_START, NAVD_NO_GOAL, NAVD_NO_PATH);
+        else ENDS(status, "navd_find_hop", NAVD_OUT_OF_RANGE);
+        made_by[status]++;
+        break;
+    case 4:
+        status = navd_send(&first, &way, links, pick(4), &walker);
+        if (is_way(&way)) ENDS(status, "navd_send", NAVD_OK, NAVD_NO_START, NAVD_NO_GOAL, NAVD_NO_PATH);
+        else ENDS(status, "navd_send", NAVD_OUT_OF_RANGE);
+        made_by[status]++;
+        break;
+    case 5:
+        status = navd_march(&first, &walker, number(200), links, pick(4));
+        if (is_way(&way)) ENDS(status, "navd_march", NAVD_OK, NAVD_NO_START, NAVD_NO_GOAL, NAVD_NO_PATH);
+        else ENDS(status, "navd_march", NAVD_OUT_OF_RANGE);
+        made_by[status]++;
+        break;
     case 0: ENDS(navd_floors(&first, number(14), number(14), floors, pick(3), &count), "navd_floors", NAVD_OK); break;
     case 1:
         status = navd_find_path(&first, &way, links, pick(4), turns, pick(3), &path);
@@ -170,6 +309,40 @@ static void of_empty(void) {
     ENDS(navd_cast_ray(&empty, &way, &ray), "an empty handle", NAVD_EMPTY);
     ENDS(navd_count(&empty, &counts), "an empty handle", NAVD_EMPTY);
     ENDS(navd_renew(&empty, &told, 1, &count), "an empty handle", NAVD_EMPTY);
+    navd_face face;
+    navd_obstacle obstacle;
+    navd_shown shown;
+    navd_job nothing = {0};
+    navd_walker walker = {{0, 0}, {1, 1}, 0, {2, 2}, 0, 0, 0};
+    navd_hop hop = {0};
+    navd_jump jump = {{1, 1}, 0, {2, 2}, 0, 1};
+    navd_step_taken steps[1];
+    uint32_t costs[64];
+    for (size_t i = 0; i < 64; i++) costs[i] = 1;
+    told = 7;
+    ENDS(navd_polygons(&empty, 0, &face, 1, &count), "an empty handle", NAVD_EMPTY);
+    ENDS(navd_inner_links(&empty, 0, links, 1, &count), "an empty handle", NAVD_EMPTY);
+    ENDS(navd_border_links(&empty, 0, links, 1, &count), "an empty handle", NAVD_EMPTY);
+    ENDS(navd_obstacles(&empty, &obstacle, 1, &count), "an empty handle", NAVD_EMPTY);
+    ENDS(navd_send(&empty, &way, links, 1, &walker), "an empty handle", NAVD_EMPTY);
+    ENDS(navd_march(&empty, &walker, 5, links, 1), "an empty handle", NAVD_EMPTY);
+    ENDS(navd_find_hop(&empty, &hop, &jump, 1, steps, 1, turns, 1), "an empty handle", NAVD_EMPTY);
+    ENDS(navd_claim(&empty, &nothing, &told), "an empty handle", NAVD_EMPTY);
+    ENDS(navd_build(&nothing), "an empty handle", NAVD_EMPTY);
+    ENDS(navd_submit(&first, &nothing), "an empty handle", NAVD_EMPTY);
+    ENDS(navd_put_back(&first, &nothing), "an empty handle", NAVD_EMPTY);
+    ENDS(navd_put_back_all(&empty), "an empty handle", NAVD_EMPTY);
+    navd_job_close(&nothing);
+    ENDS(navd_look(&empty_view, &empty, &told), "an empty handle", NAVD_EMPTY);
+    ENDS(navd_view_count(&empty_view, &shown), "an empty handle", NAVD_EMPTY);
+    ENDS(navd_view_set_costs(&empty_view, costs, 64), "an empty handle", NAVD_EMPTY);
+    ENDS(navd_view_polygons(&empty_view, 0, &face, 1, &count), "an empty handle", NAVD_EMPTY);
+    ENDS(navd_view_inner_links(&empty_view, 0, links, 1, &count), "an empty handle", NAVD_EMPTY);
+    ENDS(navd_view_border_links(&empty_view, 0, links, 1, &count), "an empty handle", NAVD_EMPTY);
+    ENDS(navd_view_find_hop(&empty_view, &hop, &jump, 1, steps, 1, turns, 1), "an empty handle", NAVD_EMPTY);
+    ENDS(navd_view_send(&empty_view, &way, links, 1, &walker), "an empty handle", NAVD_EMPTY);
+    ENDS(navd_view_march(&empty_view, &walker, 5, links, 1), "an empty handle", NAVD_EMPTY);
+    if (told != 7 || count != 7) ENDS(told, "what an empty handle told", 7);
 }
 
 /* The two levels show the same. */
@@ -205,23 +378,36 @@ int main(int argc, char **words) {
     fclose(file);
     navd_fault fault;
     seed = strtoull(words[3], NULL, 10);
-    for (size_t cut = 0; cut < 40; cut++)
+    for (size_t cut = 0; cut < 40; cut++) {
         ENDS(navd_open(&empty, (const uint8_t *)text, cut, &fault), "navd_open of a part", NAVD_FAULTY);
+        ENDS(navd_open_triangles(&empty, (const uint8_t *)text, cut, &fault), "navd_open_triangles of a part", NAVD_FAULTY);
+    }
+    ENDS(navd_open_triangles(&empty, (const uint8_t *)text, length, &fault), "navd_open_triangles of spans", NAVD_FAULTY);
+    char *limit = strstr(text, "\nlimit ");
+    if (!limit) return 2;
+    limit[7] ^= 1;
+    ENDS(navd_open(&third, (const uint8_t *)text, length, &fault), "navd_open", NAVD_OK);
+    limit[7] ^= 1;
     ENDS(navd_open(&first, (const uint8_t *)text, length, &fault), "navd_open", NAVD_OK);
     ENDS(navd_open(&first, (const uint8_t *)text, length, &fault), "navd_open once more", NAVD_OK);
     ENDS(navd_open(&second, (const uint8_t *)text, length, &fault), "navd_open", NAVD_OK);
-    for (long calls = atol(words[2]); calls > 0; calls--) switch (pick(8)) {
+    for (long calls = atol(words[2]); calls > 0; calls--) switch (pick(12)) {
         case 0: of_empty(); break;
-        case 1: case 2: case 3: request(); break;
-        case 4: case 5: pick(5) ? build() : renew(); break;
+        case 1: case 2: case 3: case 4: request(); break;
+        case 5: case 6: pick(5) ? build() : renew(); break;
+        case 7: case 8: job(); break;
+        case 9: pick(4) ? look() : of_view(); break;
         default: question();
         }
     agree();
     printf("%" PRIu32 " entries alike; ended so often with each status:", entries);
-    for (size_t i = 0; i <= NAVD_NO_ROOM; i++) printf(" %" PRIu32, made_by[i]);
+    for (size_t i = 0; i <= NAVD_TOO_MANY_SPANS; i++) printf(" %" PRIu32, made_by[i]);
     putchar('\n');
+    for (size_t i = 0; i < 3; i++) navd_job_close(&jobs[i]);
+    navd_view_close(&view);
     navd_close(&first);
     navd_close(&second);
     navd_close(&second);
+    navd_close(&third);
     return 0;
 }

@@ -4,7 +4,7 @@
  *     play N < input          the same with the Nth allocation refused; where that ends a call, the call is made once more. How many
  *                             allocations were asked for goes to standard error
  *
- * Lines of workers (claim, back, submit) are not played: the library builds tile by tile with navd_step. */
+ * A worker of the script is a job's handle here, whose tile is built as it is claimed. */
 #include <inttypes.h>
 #include <stdbool.h>
 #include <stdio.h>
@@ -163,6 +163,77 @@ static uint32_t step_on(uint32_t *number) {
     return AGAIN(navd_publish(&level, number));
 }
 
+/* == Workers, and walks over jumps == */
+
+static struct {
+    navd_job job;
+    bool holds;
+    uint32_t tile;
+} workers[8];
+
+static void let_go(uint32_t w) {
+    navd_job_close(&workers[w].job);
+    workers[w].holds = false;
+}
+
+static void claim(uint32_t w) {
+    uint32_t status;
+    if (workers[w].holds) {
+        printf("busy %" PRIu32 "\n", w);
+    } else if (AGAIN(navd_claim(&level, &workers[w].job, &workers[w].tile)) == NAVD_OK) {
+        workers[w].holds = true;
+        AGAIN(navd_build(&workers[w].job));
+        printf("claim %" PRIu32 " tile %" PRIu32 "\n", w, workers[w].tile);
+    } else {
+        printf("claim %" PRIu32 " none\n", w);
+    }
+}
+
+static void hand_in(uint32_t w, bool is_back) {
+    if (!workers[w].holds) {
+        printf("idle %" PRIu32 "\n", w);
+        return;
+    }
+    workers[w].holds = false;
+    if (is_back) {
+        navd_put_back(&level, &workers[w].job);
+        printf("back %" PRIu32 " tile %" PRIu32 "\n", w, workers[w].tile);
+    } else {
+        const char *word = navd_submit(&level, &workers[w].job) == NAVD_OK ? "taken" : "stale";
+        printf("submit %" PRIu32 " %s %" PRIu32 "\n", w, word, workers[w].tile);
+    }
+}
+
+static navd_jump jumps[256];
+static size_t jump_count;
+static navd_step_taken *steps;
+static size_t steps_room;
+
+static void find_hop(const navd_way *way) {
+    uint32_t status;
+    navd_hop hop = {0};
+    hop.way = *way;
+    while (AGAIN(navd_find_hop(&level, &hop, jumps, jump_count, steps, steps_room, turns, turns_room)) == NAVD_OK
+           && (hop.steps > steps_room || hop.turns > turns_room)) {
+        steps = resized(steps, hop.steps, sizeof *steps);
+        turns = resized(turns, hop.turns, sizeof *turns);
+        steps_room = hop.steps;
+        turns_room = hop.turns;
+    }
+    if (is_refusal(status)) return;
+    printf("hop %" PRIu32 " %" PRIu64 " %" PRIu32 " %" PRIu32 " %zu %zu\n", published, hop.cost, hop.first.tile, hop.first.index, hop.steps, hop.turns);
+    for (size_t i = 0; i < hop.steps; i++) {
+        navd_link *link = &steps[i].link;
+        if (steps[i].kind)
+            printf("jump %" PRIu32 " %" PRIu32 " %" PRIu32 "\n", steps[i].jump, link->to.tile, link->to.index);
+        else
+            printf("link %" PRIu32 " %" PRIu32 " %" PRId32 " %" PRId32 " %" PRId32 " %" PRId32 "\n", link->to.tile, link->to.index, link->left.x,
+                   link->left.z, link->right.x, link->right.z);
+    }
+    for (size_t i = 0; i < hop.turns; i++)
+        printf("turn %" PRId32 " %" PRId32 " %c %" PRIu32 "\n", turns[i].at.x, turns[i].at.z, turns[i].side ? 'R' : 'L', turns[i].link);
+}
+
 static void build(const char *word) {
     uint32_t status, number = 0;
     if (!strcmp(word, "aim")) {
@@ -171,6 +242,7 @@ static void build(const char *word) {
     } else if (!strcmp(word, "settle")) {
         if (navd_settle(&level, &number) == NAVD_NO_MEMORY) step_on(&number);
         published = number;
+        for (uint32_t w = 0; w < 8; w++) let_go(w);
         printf("settled %" PRIu32 "\n", number);
     } else {
         AGAIN(navd_publish(&level, &number));
@@ -184,6 +256,7 @@ static bool play(const char *line) {
     uint32_t n, x, z;
     int at = 0;
     navd_way way = {{0, 0}, 0, {0, 0}, 0};
+    navd_jump jump;
     if (sscanf(line, "add area %u %n", &n, &at) == 1 && at) return add(line + at, n);
     if (!strncmp(line, "add ", 4)) return add(line + 4, 0);
     if (sscanf(line, "remove %u", &n) == 1)
@@ -200,6 +273,16 @@ static bool play(const char *line) {
         find_path(&way);
     else if (sscanf(line, "ray %d %d %u %d %d", &way.from.x, &way.from.z, &way.from_y, &way.to.x, &way.to.z) == 5)
         cast_ray(&way);
+    else if (sscanf(line, "claim %u", &n) == 1)
+        claim(n % 8);
+    else if (sscanf(line, "back %u", &n) == 1)
+        hand_in(n % 8, true);
+    else if (sscanf(line, "submit %u", &n) == 1)
+        hand_in(n % 8, false);
+    else if (sscanf(line, "jump %d %d %u %d %d %u %u", &jump.from.x, &jump.from.z, &jump.from_y, &jump.to.x, &jump.to.z, &jump.to_y, &jump.cost) == 7)
+        jumps[jump_count++ % 256] = jump;
+    else if (sscanf(line, "hop %d %d %u %d %d %u", &way.from.x, &way.from.z, &way.from_y, &way.to.x, &way.to.z, &way.to_y) == 6)
+        find_hop(&way);
     else
         return false;
     return true;
@@ -225,6 +308,7 @@ int main(int argc, char **words) {
     floors = resized(NULL, 0, sizeof *floors);
     links = resized(NULL, 0, sizeof *links);
     turns = resized(NULL, 0, sizeof *turns);
+    steps = resized(NULL, 0, sizeof *steps);
     if (AGAIN(navd_open(&level, (const uint8_t *)text, length, &fault)) != NAVD_OK) {
         if (status == NAVD_FAULTY) printf("fault %" PRIu32 " %" PRIu32 "\n", fault.line, fault.kind);
         free(text);
@@ -241,11 +325,13 @@ int main(int argc, char **words) {
         line = end;
     }
     printf("done %" PRIu32 " %" PRIu32 "\n", published, entries);
+    for (uint32_t w = 0; w < 8; w++) let_go(w);
     navd_close(&level);
     if (refused_one) fprintf(stderr, "%ld\n", allocations);
     free(floors);
     free(links);
     free(turns);
+    free(steps);
     for (size_t i = 0; i < 16; i++) free(lanes[i].added);
     free(text);
     return 0;

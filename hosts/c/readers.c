@@ -4,7 +4,7 @@
  *
  * Each reader asks QUESTIONS questions of a view of its own and looks again after every eight, under a lock that it shares with the main thread.
  * Afterwards a second level is taken through the same requests, and each answer is compared with what that level answers at the length that the
- * answer's view had. The time of the readers alone and beside the changes is written to standard error. */
+ * answer's view had. The time of the readers alone and beside the changes is written to standard error, and how many times that is. */
 #define _POSIX_C_SOURCE 200809L
 
 #include <inttypes.h>
@@ -13,6 +13,7 @@
 #include <stdbool.h>
 #include <stdio.h>
 #include <stdlib.h>
+#include <string.h>
 #include <time.h>
 
 #include "../../include/navd.h"
@@ -27,7 +28,8 @@ typedef struct {
 
 static navd_level level, second;
 static pthread_mutex_t lock = PTHREAD_MUTEX_INITIALIZER;
-static atomic_bool is_over;
+static atomic_int reading;
+static uint32_t width, depth;
 static navd_block blocks[MOST_REQUESTS];
 static uint32_t requests;
 static long questions;
@@ -55,7 +57,8 @@ static void *read_on(void *number) {
             want(navd_look(&view, &level, &length) == NAVD_OK, "a look");
             pthread_mutex_unlock(&lock);
         }
-        navd_way way = {{(int32_t)pick(&seed, 192), (int32_t)pick(&seed, 160)}, 10, {(int32_t)pick(&seed, 192), (int32_t)pick(&seed, 160)}, 10};
+        navd_way way = {{(int32_t)pick(&seed, 16 * width), (int32_t)pick(&seed, 16 * depth)}, 10,
+                        {(int32_t)pick(&seed, 16 * width), (int32_t)pick(&seed, 16 * depth)}, 10};
         navd_link links[64];
         navd_turn turns[64];
         navd_path path = {0};
@@ -63,6 +66,7 @@ static void *read_on(void *number) {
         answers[me][i] = (answer){length, status, status == NAVD_OK ? path.cost : 0, way};
     }
     navd_view_close(&view);
+    atomic_fetch_sub(&reading, 1);
     return NULL;
 }
 
@@ -85,15 +89,14 @@ static void change(navd_level *of, uint32_t number) {
 static double run_readers(bool with_changes) {
     pthread_t threads[READERS];
     double start = seconds();
-    is_over = false;
+    reading = READERS;
     for (size_t i = 0; i < READERS; i++) want(!pthread_create(&threads[i], NULL, read_on, (void *)(uintptr_t)i), "a thread");
-    while (with_changes && requests < MOST_REQUESTS && !is_over) {
+    while (with_changes && requests < MOST_REQUESTS && (reading || requests < 40)) {
         pthread_mutex_lock(&lock);
         change(&level, requests++);
         pthread_mutex_unlock(&lock);
         struct timespec rest = {0, 200000};
         nanosleep(&rest, NULL);
-        if (requests >= 40 && requests % 2 == 0) is_over = true;
     }
     for (size_t i = 0; i < READERS; i++) want(!pthread_join(threads[i], NULL), "a thread's end");
     return seconds() - start;
@@ -118,23 +121,26 @@ static void compare(void) {
 }
 
 int main(int argc, char **words) {
-    static uint8_t text[1 << 20];
+    static uint8_t text[1 << 24];
     FILE *file = argc == 3 ? fopen(words[1], "rb") : NULL;
     if (!file) return 2;
-    size_t size = fread(text, 1, sizeof text, file);
+    size_t size = fread(text, 1, sizeof text - 1, file);
     fclose(file);
+    char *line = strstr((char *)text, "\nsize ");
+    want(line && sscanf(line, "\nsize %" SCNu32 " %" SCNu32, &width, &depth) == 2, "a size");
     questions = atol(words[2]);
     uint64_t seed = 3;
     navd_fault fault;
     want(navd_open(&level, text, size, &fault) == NAVD_OK && navd_open(&second, text, size, &fault) == NAVD_OK, "an open");
     for (size_t i = 0; i < MOST_REQUESTS; i++) {
-        uint32_t x = pick(&seed, 10), z = pick(&seed, 8);
-        blocks[i] = (navd_block){x, x + pick(&seed, 3), 0, 100, z, z + pick(&seed, 3)};
+        uint32_t x = pick(&seed, width), z = pick(&seed, depth);
+        uint32_t to_x = x + pick(&seed, 3), to_z = z + pick(&seed, 3);
+        blocks[i] = (navd_block){x, to_x < 1023 ? to_x : 1023, 0, 100, z, to_z < 1023 ? to_z : 1023};
     }
     for (size_t i = 0; i < READERS; i++) want((answers[i] = calloc((size_t)questions, sizeof(answer))) != NULL, "memory");
     double alone = run_readers(false), beside = run_readers(true);
     compare();
-    fprintf(stderr, "readers alone %.3f s, beside %" PRIu32 " changes %.3f s\n", alone, requests, beside);
+    fprintf(stderr, "readers alone %.3f s, beside %" PRIu32 " changes %.3f s, %.2f times\n", alone, requests, beside, beside / alone);
     printf("%ld answers of %d readers, each right at its length\n", questions * READERS, READERS);
     for (size_t i = 0; i < READERS; i++) free(answers[i]);
     navd_close(&level);

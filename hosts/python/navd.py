@@ -16,10 +16,12 @@ from ctypes import POINTER, Structure, byref, c_int32, c_int64, c_size_t, c_uint
 from dataclasses import dataclass
 from pathlib import Path
 
-OK, NO_MEMORY, EMPTY, FAULTY, OUT_OF_RANGE, TOO_MANY, DEAD, HISTORY_FULL, NOT_YET, SAME, NO_START, NO_GOAL, NO_PATH, WALL, NO_ROOM = range(15)
+OK, NO_MEMORY, EMPTY, FAULTY, OUT_OF_RANGE, TOO_MANY, DEAD, HISTORY_FULL, NOT_YET, SAME, NO_START, NO_GOAL, NO_PATH, WALL, NO_ROOM, \
+    STALE, FOREIGN, BUSY, TOO_MANY_SPANS = range(19)
 
 NAMES = ("ok", "no memory", "empty handle", "faulty text", "number out of range", "too many obstacles", "no such obstacle", "history full",
-         "a tile is awaited", "same as before", "no start", "no goal", "no path", "wall", "no room")
+         "a tile is awaited", "same as before", "no start", "no goal", "no path", "wall", "no room", "the build is wanted no more",
+         "the job is of another ground", "the handle holds a job", "too many spans")
 
 
 class NavdError(Exception):
@@ -72,6 +74,39 @@ class _Path(Structure):
 
 class _Ray(Structure):
     _fields_ = [("last", _Polygon), ("a", _Point), ("b", _Point), ("num", c_int64), ("den", c_int64)]
+
+
+class _Corner(Structure):
+    _fields_ = [("x", c_int32), ("z", c_int32)]
+
+
+class _Face(Structure):
+    _fields_ = [("corners", c_uint32), ("corner", _Corner * 6), ("area", c_uint32), ("low", c_uint32), ("high", c_uint32)]
+
+
+class _Obstacle(Structure):
+    _fields_ = [("number", c_uint32), ("area", c_uint32), ("kind", c_uint32), ("block", _Block), ("cylinder", _Cylinder)]
+
+
+class _Jump(Structure):
+    _fields_ = [("from_", _Point), ("from_y", c_uint32), ("to", _Point), ("to_y", c_uint32), ("cost", c_uint32)]
+
+
+class _Step(Structure):
+    _fields_ = [("kind", c_uint32), ("jump", c_uint32), ("link", _Link)]
+
+
+class _Hop(Structure):
+    _fields_ = [("way", _Way), ("cost", c_uint64), ("first", _Polygon), ("steps", c_size_t), ("turns", c_size_t)]
+
+
+class _Walker(Structure):
+    _fields_ = [("polygon", _Polygon), ("at", _Point), ("y", c_uint32), ("goal", _Point), ("goal_y", c_uint32), ("cost", c_uint64),
+                ("links", c_size_t)]
+
+
+class _Shown(Structure):
+    _fields_ = [("published", c_uint32), ("tiles", c_uint32)]
 
 
 class _Fault(Structure):
@@ -166,6 +201,57 @@ class Wall:
 
 
 @dataclass(frozen=True)
+class Face:
+    """A polygon as it is drawn: its corners in whole cells, counterclockwise, its area, and its least and greatest floor."""
+    corners: list[tuple[int, int]]
+    area: int
+    low: int
+    high: int
+
+
+@dataclass(frozen=True)
+class Obstacle:
+    """A Block or a Cylinder under its number, with the area that it gives, or 0 where it stops agents."""
+    number: int
+    area: int
+    shape: Block | Cylinder
+
+
+@dataclass(frozen=True)
+class Jump:
+    """A one-way jump and what it costs."""
+    start: Place
+    end: Place
+    cost: int
+
+
+@dataclass(frozen=True)
+class Jumped:
+    """A step by the jump with a number, from 0, into a polygon."""
+    number: int
+    end: Polygon
+
+
+@dataclass(frozen=True)
+class Hop:
+    """A walk over links and jumps: its steps are Links and Jumpeds."""
+    cost: int
+    first: Polygon
+    steps: list[Link | Jumped]
+    turns: list[Turn]
+
+
+@dataclass(frozen=True)
+class Walker:
+    """An agent on its way: where it stands, its goal, what the way that is left costs, and the links of that way."""
+    polygon: Polygon
+    at: Place
+    goal: Place
+    cost: int
+    links: list[Link]
+
+
+@dataclass(frozen=True)
 class Counts:
     history: int
     target: int
@@ -177,9 +263,26 @@ class Counts:
 
 def _library():
     found = ctypes.CDLL(os.environ.get("NAVD_LIBRARY", str(Path(__file__).with_name("libnavd.so"))))
-    handle, number = POINTER(_Handle), POINTER(c_uint32)
+    handle, number, count = POINTER(_Handle), POINTER(c_uint32), POINTER(c_size_t)
+    hop = [handle, POINTER(_Hop), POINTER(_Jump), c_size_t, POINTER(_Step), c_size_t, POINTER(_Turn), c_size_t]
+    send = [handle, POINTER(_Way), POINTER(_Link), c_size_t, POINTER(_Walker)]
+    march = [handle, POINTER(_Walker), c_uint32, POINTER(_Link), c_size_t]
+    faces = [handle, c_uint32, POINTER(_Face), c_size_t, count]
+    links = [handle, c_uint32, POINTER(_Link), c_size_t, count]
     for name, words in {
         "navd_open": [handle, ctypes.c_char_p, c_size_t, POINTER(_Fault)],
+        "navd_open_triangles": [handle, ctypes.c_char_p, c_size_t, POINTER(_Fault)],
+        "navd_find_hop": hop, "navd_view_find_hop": hop, "navd_send": send, "navd_view_send": send, "navd_march": march, "navd_view_march": march,
+        "navd_polygons": faces, "navd_view_polygons": faces, "navd_inner_links": links, "navd_view_inner_links": links,
+        "navd_border_links": links, "navd_view_border_links": links,
+        "navd_obstacles": [handle, POINTER(_Obstacle), c_size_t, count],
+        "navd_view_count": [handle, POINTER(_Shown)],
+        "navd_view_set_costs": [handle, number, c_size_t],
+        "navd_claim": [handle, handle, number],
+        "navd_build": [handle],
+        "navd_submit": [handle, handle],
+        "navd_put_back": [handle, handle],
+        "navd_put_back_all": [handle],
         "navd_add_block": [handle, POINTER(_Block), c_uint32, number],
         "navd_add_cylinder": [handle, POINTER(_Cylinder), c_uint32, number],
         "navd_remove": [handle, c_uint32, number],
@@ -199,7 +302,7 @@ def _library():
     }.items():
         call = getattr(found, name)
         call.argtypes, call.restype = words, c_uint32
-    for call in (found.navd_close, found.navd_view_close):
+    for call in (found.navd_close, found.navd_view_close, found.navd_job_close):
         call.argtypes, call.restype = [handle], None
     return found
 
@@ -210,6 +313,31 @@ def _polygon(at):
 
 def _point(p):
     return p.x, p.z
+
+
+def _link(it):
+    return Link(_polygon(it.from_), it.edge, _polygon(it.to), _point(it.left), _point(it.right))
+
+
+def _turn(it):
+    return Turn(_point(it.at), bool(it.side), it.link)
+
+
+def _way(start, goal):
+    return _Way(_Point(start.x, start.z), start.y, _Point(goal.x, goal.z), goal.y)
+
+
+def _all(kind, call):
+    """All that a call tells that lays into a room of this kind, and tells how many there are."""
+    room = (kind * 64)()
+    while True:
+        count = c_size_t()
+        status = call(room, len(room), byref(count))
+        if status:
+            raise NavdError(status)
+        if count.value <= len(room):
+            return room[:count.value]
+        room = (kind * count.value)()
 
 
 class _Asked:
@@ -241,8 +369,7 @@ class _Asked:
 
     def find_path(self, start, goal):
         """A Path_, or a NoPath."""
-        way = _Way(_Point(start.x, start.z), start.y, _Point(goal.x, goal.z), goal.y)
-        found = _Path()
+        way, found = _way(start, goal), _Path()
         while True:
             status = self._call("find_path")(byref(self._handle), byref(way), self._links, len(self._links), self._turns, len(self._turns),
                                                 byref(found))
@@ -253,9 +380,62 @@ class _Asked:
             if found.links <= len(self._links) and found.turns <= len(self._turns):
                 break
             self._links, self._turns = (_Link * max(1, found.links))(), (_Turn * max(1, found.turns))()
-        links = [Link(_polygon(it.from_), it.edge, _polygon(it.to), _point(it.left), _point(it.right)) for it in self._links[:found.links]]
-        turns = [Turn(_point(it.at), bool(it.side), it.link) for it in self._turns[:found.turns]]
-        return Path_(found.cost, _polygon(found.first), links, turns)
+        return Path_(found.cost, _polygon(found.first), [_link(it) for it in self._links[:found.links]],
+                     [_turn(it) for it in self._turns[:found.turns]])
+
+    def find_hop(self, start, goal, jumps):
+        """A Hop over links and these Jumps, or a NoPath."""
+        told = (_Jump * max(1, len(jumps)))(*(_Jump(_Point(it.start.x, it.start.z), it.start.y, _Point(it.end.x, it.end.z), it.end.y, it.cost)
+                                              for it in jumps))
+        hop, steps = _Hop(_way(start, goal)), (_Step * 64)()
+        while True:
+            status = self._call("find_hop")(byref(self._handle), byref(hop), told, len(jumps), steps, len(steps), self._turns, len(self._turns))
+            if status in (NO_START, NO_GOAL, NO_PATH):
+                return NoPath(status)
+            if status:
+                raise NavdError(status)
+            if hop.steps <= len(steps) and hop.turns <= len(self._turns):
+                break
+            steps, self._turns = (_Step * max(1, hop.steps))(), (_Turn * max(1, hop.turns))()
+        return Hop(hop.cost, _polygon(hop.first), [Jumped(it.jump, _polygon(it.link.to)) if it.kind else _link(it.link) for it in steps[:hop.steps]],
+                   [_turn(it) for it in self._turns[:hop.turns]])
+
+    def _walk(self, call, walker):
+        """Places or moves a walker, once more from where it was where its links had too little room."""
+        while True:
+            now = _Walker.from_buffer_copy(walker)
+            status = call(now)
+            if status in (NO_START, NO_GOAL, NO_PATH):
+                return NoPath(status)
+            if status:
+                raise NavdError(status)
+            if now.links <= len(self._links):
+                return Walker(_polygon(now.polygon), Place(now.at.x, now.at.z, now.y), Place(now.goal.x, now.goal.z, now.goal_y), now.cost,
+                              [_link(it) for it in self._links[:now.links]])
+            self._links = (_Link * now.links)()
+
+    def send(self, start, goal):
+        """A Walker at a place, on its way to another, or a NoPath."""
+        way = _way(start, goal)
+        return self._walk(lambda now: self._call("send")(byref(self._handle), byref(way), self._links, len(self._links), byref(now)), _Walker())
+
+    def march(self, walker, length):
+        """The Walker once it went on for a length, in sixteenths of a cell, or a NoPath."""
+        told = _Walker(at=_Point(walker.at.x, walker.at.z), y=walker.at.y, goal=_Point(walker.goal.x, walker.goal.z), goal_y=walker.goal.y)
+        return self._walk(lambda now: self._call("march")(byref(self._handle), byref(now), length, self._links, len(self._links)), told)
+
+    def polygons(self, tile):
+        """The Faces of a tile."""
+        found = _all(_Face, lambda *room: self._call("polygons")(byref(self._handle), tile, *room))
+        return [Face([_point(it.corner[i]) for i in range(it.corners)], it.area, it.low, it.high) for it in found]
+
+    def inner_links(self, tile):
+        """The Links between polygons of a tile."""
+        return [_link(it) for it in _all(_Link, lambda *room: self._call("inner_links")(byref(self._handle), tile, *room))]
+
+    def border_links(self, tile):
+        """The Links that lead from a tile to others."""
+        return [_link(it) for it in _all(_Link, lambda *room: self._call("border_links")(byref(self._handle), tile, *room))]
 
     def cast_ray(self, start, goal):
         """A Reached, a Wall or a NoPath."""
@@ -276,12 +456,17 @@ class Level(_Asked):
 
     _names = "navd_"
 
-    def __init__(self, field_text):
+    def __init__(self, text, call="navd_open"):
         super().__init__()
         fault = _Fault()
-        status = self._calls.navd_open(byref(self._handle), field_text, len(field_text), byref(fault))
+        status = getattr(self._calls, call)(byref(self._handle), text, len(text), byref(fault))
         if status:
             raise NavdError(status, fault=(fault.line, fault.kind) if status == FAULTY else None)
+
+    @classmethod
+    def of_triangles(cls, text):
+        """The level of a triangle text."""
+        return cls(text, "navd_open_triangles")
 
     def close(self):
         self._calls.navd_close(byref(self._handle))
@@ -332,6 +517,16 @@ class Level(_Asked):
             raise NavdError(status)
         return list(numbers[:count.value])
 
+    def obstacles(self):
+        """The Obstacles that are alive."""
+        found = _all(_Obstacle, lambda *room: self._calls.navd_obstacles(byref(self._handle), *room))
+        return [Obstacle(it.number, it.area, Cylinder(it.cylinder.cx, it.cylinder.cz, it.cylinder.r, (it.cylinder.y0, it.cylinder.y1)) if it.kind
+                         else Block((it.block.x0, it.block.x1), (it.block.y0, it.block.y1), (it.block.z0, it.block.z1))) for it in found]
+
+    def put_back_all(self):
+        """Ends all claims."""
+        self._calls.navd_put_back_all(byref(self._handle))
+
     def counts(self):
         told = _Counts()
         status = self._calls.navd_count(byref(self._handle), byref(told))
@@ -355,3 +550,62 @@ class View(_Asked):
         if status:
             raise NavdError(status)
         return published.value
+
+    def set_costs(self, costs):
+        """Has it answer with costs of its own, 64 numbers by area, from now on."""
+        status = self._calls.navd_view_set_costs(byref(self._handle), (c_uint32 * max(1, len(costs)))(*costs), len(costs))
+        if status:
+            raise NavdError(status)
+
+    def shown(self):
+        """How many entries it shows, and how many tiles there are."""
+        told = _Shown()
+        status = self._calls.navd_view_count(byref(self._handle), byref(told))
+        if status:
+            raise NavdError(status)
+        return told.published, told.tiles
+
+
+class Job:
+    """A tile that is claimed of a level, and built on any thread. `claim`, `submit` and `put_back` are calls of both."""
+
+    def __init__(self):
+        self._calls, self._handle, self.tile = _library(), _Handle(), None
+
+    def __enter__(self):
+        return self
+
+    def __exit__(self, *_):
+        self.close()
+
+    def claim(self, level):
+        """The tile that is to be built, or None where none is awaited that is not claimed."""
+        tile = c_uint32()
+        status = self._calls.navd_claim(byref(level._handle), byref(self._handle), byref(tile))
+        if status not in (OK, SAME):
+            raise NavdError(status)
+        self.tile = tile.value if status == OK else None
+        return self.tile
+
+    def build(self):
+        status = self._calls.navd_build(byref(self._handle))
+        if status not in (OK, SAME):
+            raise NavdError(status)
+
+    def submit(self, level):
+        """Whether the build was still wanted."""
+        status = self._calls.navd_submit(byref(level._handle), byref(self._handle))
+        if status not in (OK, STALE):
+            raise NavdError(status)
+        self.tile = None
+        return status == OK
+
+    def put_back(self, level):
+        status = self._calls.navd_put_back(byref(level._handle), byref(self._handle))
+        if status:
+            raise NavdError(status)
+        self.tile = None
+
+    def close(self):
+        self._calls.navd_job_close(byref(self._handle))
+        self.tile = None

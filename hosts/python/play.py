@@ -1,7 +1,7 @@
 """Plays an input of navd over the library: a field text and a script, from standard input to standard output, as `navd play` does."""
 import sys
 
-from navd import Block, Cylinder, DEAD, HISTORY_FULL, Level, NO_GOAL, NO_START, NOT_YET, NavdError, NoPath, Place, Reached, TOO_MANY
+from navd import Block, Cylinder, DEAD, HISTORY_FULL, Job, Jump, Jumped, Level, NO_GOAL, NO_START, NOT_YET, NavdError, NoPath, Place, Reached, TOO_MANY
 
 WORDS = {NO_START: "nostart", NO_GOAL: "nogoal"}
 
@@ -10,6 +10,7 @@ class Player:
     def __init__(self, level, limit):
         self.level, self.limit, self.published, self.lane = level, limit, 0, 0
         self.lanes = [[] for _ in range(16)]
+        self.jobs, self.jumps = [Job() for _ in range(8)], []
 
     def entry(self, call, done, number=0):
         """Plays a request, and gives the number of its entry where it added an obstacle."""
@@ -75,6 +76,42 @@ class Player:
             for turn in found.turns:
                 print("turn", *turn.at, "R" if turn.is_right else "L", turn.link)
 
+    def work(self, word, worker):
+        """A worker is a job here, whose tile is built as it is claimed."""
+        job = self.jobs[worker]
+        if word == "claim":
+            if job.tile is not None:
+                print("busy", worker)
+            elif job.claim(self.level) is None:
+                print("claim", worker, "none")
+            else:
+                job.build()
+                print("claim", worker, "tile", job.tile)
+            return
+        tile = job.tile
+        if tile is None:
+            print("idle", worker)
+        elif word == "back":
+            job.put_back(self.level)
+            print("back", worker, "tile", tile)
+        else:
+            print("submit", worker, "taken" if job.submit(self.level) else "stale", tile)
+
+    def hop(self, numbers):
+        x, z, y, *rest = numbers
+        found = self.level.find_hop(Place(x, z, y), Place(*rest), self.jumps)
+        if isinstance(found, NoPath):
+            print(WORDS.get(found.status, "nopath"), self.published)
+            return
+        print("hop", self.published, found.cost, found.first.tile, found.first.index, len(found.steps), len(found.turns))
+        for step in found.steps:
+            if isinstance(step, Jumped):
+                print("jump", step.number, step.end.tile, step.end.index)
+            else:
+                print("link", step.end.tile, step.end.index, *step.left, *step.right)
+        for turn in found.turns:
+            print("turn", *turn.at, "R" if turn.is_right else "L", turn.link)
+
     def play(self, line):
         word, *words = line.split()
         if word == "add":
@@ -90,9 +127,18 @@ class Player:
             print("aim", self.level.aim())
         elif word == "settle":
             self.published = self.level.settle()
+            for job in self.jobs:
+                job.close()
             print("settled", self.published)
         elif word == "publish":
             self.publish()
+        elif word in ("claim", "back", "submit"):
+            self.work(word, int(words[0]))
+        elif word == "jump":
+            x, z, y, u, w, v, cost = map(int, words)
+            self.jumps.append(Jump(Place(x, z, y), Place(u, w, v), cost))
+        elif word == "hop":
+            self.hop([int(number) for number in words])
         else:
             self.ask(word, [int(number) for number in words])
 

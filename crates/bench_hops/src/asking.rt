@@ -10,6 +10,7 @@ ghost use Rattle.off_links.specs.Leaps.{HasJumpCoordinates};
 ghost use Rattle.off_links.specs.Questions.{CanHop};
 
 use crate::ends::{has_coordinates, links_between_ends};
+use crate::inside::{aims, floors_found};
 use crate::level::level;
 use crate::plain::steps_of_plain;
 use crate::random::Random;
@@ -67,7 +68,7 @@ pub fn measured<L: Ledger>(alloc: Global, input: &[u8], blank: Blank) -> Outcome
         return Outcome::Fault;
     };
     let wanted = Wanted {
-        way: read_number(way, 5).unwrap_or(1),
+        way: read_number(way, 7).unwrap_or(1),
         count: read_number(count, 1000000).unwrap_or(0),
         jumps: read_number(jumps, 256).unwrap_or(0),
     };
@@ -97,6 +98,14 @@ fn built<L: Ledger>(
     requires some { 0 < blank.parts }
 {
     let whole = ground(alloc, read.setting, read.field)?;
+    if wanted.way == 7 {
+        let seen = aims::<L>(alloc, whole, wanted.count, blank)?;
+        return Ok(Made {
+            polygons: 0,
+            walks: wanted.count,
+            steps: seen,
+        });
+    }
     let mesh = level::<L>(alloc, &whole, blank)?;
     asked(alloc, &mesh, wanted)
 }
@@ -137,6 +146,7 @@ fn steps_of(
     match wanted.way {
         4 => links_between_ends(alloc, mesh, None),
         5 => links_between_ends(alloc, mesh, Some(random.length(&mesh.setting))),
+        6 => floors_found(alloc, mesh, random),
         way => {
             let question = question(alloc, random, &mesh.setting, wanted.jumps)?;
             steps_by(alloc, mesh, &question, way)

@@ -1,3 +1,5 @@
 mod Laying
 mod EndLaws
 mod Opened
+mod JumpLaws
+mod Rastered

@@ -20,17 +20,20 @@ seen_in None = None
 seen_in (Some seen) = Some seen.mesh
 
 -- where there is a mesh there is an answer that is right in it, unless memory is refused; else there is none
-abbrev pub IsReplied : Option Mesh → Question → Result Answer ℕ → Type 0
-IsReplied None question (Ok answer) = ⊥
-IsReplied None question (Err why) = why ≡ status.EMPTY
-IsReplied (Some mesh) question (Ok answer) = IsRight mesh question answer
-IsReplied (Some mesh) question (Err why) = why ≡ status.NO_MEMORY
+abbrev pub IsRepliedBy : {A : Type 0} → (Mesh → A → Type 0) → Option Mesh → Result A ℕ → Type 0
+IsRepliedBy right None (Ok answer) = ⊥
+IsRepliedBy right None (Err why) = why ≡ status.EMPTY
+IsRepliedBy right (Some mesh) (Ok answer) = right mesh answer
+IsRepliedBy right (Some mesh) (Err why) = why ≡ status.NO_MEMORY
 
--- there is an answer that is right in the mesh: the question ends with its status, and it is told in the host's places
-pub record IsAnswered {Room : Type 0} (told : Answer → Room → Room) (mesh : Mesh) (question : Question) (before after : Room) (ended : ℕ) : Type 0 where
-  pub answer : Answer
-  pub right : IsRight mesh question answer
-  pub status : ended ≡ answer_status answer
+abbrev pub IsReplied : Option Mesh → Question → Result Answer ℕ → Type 0
+IsReplied held question = IsRepliedBy (λ mesh answer. IsRight mesh question answer) held
+
+-- there is a right answer: the question ends with its status, and it is told in the host's places
+pub record IsAnswered {A Room : Type 0} (right : A → Type 0) (status_of : A → ℕ) (told : A → Room → Room) (before after : Room) (ended : ℕ) : Type 0 where
+  pub answer : A
+  pub is_right : right answer
+  pub status : ended ≡ status_of answer
   pub rooms : after ≡ told answer before
 
 -- a call ended in this way and told nothing
@@ -38,6 +41,10 @@ abbrev pub EndsSo : {Room : Type 0} → ℕ → Room → Room → ℕ → Type 0
 EndsSo why before after ended = (ended ≡ why) × (after ≡ before)
 
 -- a question: the mesh answers it, unless memory is refused; where there is none it ends so
+abbrev pub IsAskedBy : {A Room : Type 0} → (Mesh → A → Type 0) → (A → ℕ) → (A → Room → Room) → Option Mesh → Room → Room → ℕ → Type 0
+IsAskedBy right status_of told None before after ended = EndsSo status.EMPTY before after ended
+IsAskedBy right status_of told (Some mesh) before after ended =
+    IsAnswered (right mesh) status_of told before after ended ⊎ EndsSo status.NO_MEMORY before after ended
+
 abbrev pub IsAsked : {Room : Type 0} → (Answer → Room → Room) → Option Mesh → Question → Room → Room → ℕ → Type 0
-IsAsked told None question before after ended = EndsSo status.EMPTY before after ended
-IsAsked told (Some mesh) question before after ended = IsAnswered told mesh question before after ended ⊎ EndsSo status.NO_MEMORY before after ended
+IsAsked told held question before after ended = IsAskedBy (λ mesh answer. IsRight mesh question answer) answer_status told held before after ended

@@ -7,3 +7,8 @@ pub mod Opening
 pub mod Counts
 pub mod Renewing
 pub mod Viewing
+pub mod Looking
+pub mod Jobs
+pub mod Hopping
+pub mod Triangles
+pub mod Walking

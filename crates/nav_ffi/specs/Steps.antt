@@ -4,6 +4,7 @@ use Rattle.nav_desk.specs.declared.answers.Published.{Published}
 use Rattle.nav_desk.specs.declared.answers.Published.TheVariants.{New, Same, NotYet}
 use Rattle.nav_desk.specs.BookState.{BookState, least_claimable}
 use Rattle.nav_desk.specs.Steps.{after_aim, after_publish, publication}
+use Rattle.nav_level.specs.Results.{IsNew}
 use Rattle.nav_level.specs.Settling.{IsUnclaimed, after_job, after_settle}
 use Rattle.nav_ffi.specs.declared.status.TheConstants as status
 
@@ -31,9 +32,11 @@ published_by state (New k) = done status.OK k (after_publish state)
 published_by state (Same k) = done status.SAME k state
 published_by state (NotYet tile) = done status.NOT_YET tile state
 
-abbrev pub published : Option BookState → ℕ → Ended
-published None before = not_done status.EMPTY before None
-published (Some state) before = published_by state (publication state)
+-- a publish of what a handle holds; memory may be refused only where something new is to be published, and then nothing was done
+abbrev pub IsPublishing : Option BookState → ℕ → Ended → Type 0
+IsPublishing None before ended = ended ≡ not_done status.EMPTY before None
+IsPublishing (Some state) before ended =
+    (ended ≡ published_by state (publication state)) ⊎ (IsNew (publication state) × (ended ≡ not_done status.NO_MEMORY before (Some state)))
 
 -- a step by one tile: the least that is awaited and not claimed is built and handed in, and told; where there is none, nothing is done
 abbrev pub stepped_by : BookState → ℕ → Option ℕ → Ended

@@ -4,8 +4,6 @@ ghost use Rattle.std.specs.Prelude.{◌≡◌, ◌<◌, ◌⊎◌, None, Some, I
 ghost use Rattle.nav_ground.specs.Fields.{IsField};
 ghost use Rattle.nav_ground.specs.Grounds.{IsSized};
 ghost use Rattle.nav_ground.specs.Limits.{IsSetting};
-ghost use Rattle.nav_ground.specs.declared.field.Field.{Field};
-ghost use Rattle.nav_ground.specs.declared.setting.Setting.{Setting};
 ghost use Rattle.nav_text.specs.Lines.{lines};
 ghost use Rattle.nav_text.specs.Reading.{IsFirstFault};
 ghost use Rattle.span_text.specs.FieldFormat.{AtNav, field_format};
@@ -16,32 +14,34 @@ ghost use Rattle.nav_ffi.specs.Opening.{BeginsWith, HoldsOpened, fault_of};
 use crate::status::{FAULTY, NO_MEMORY, OK};
 use crate::wire::NavdFault;
 use layer_cut::ground;
+use nav_ground::{Field, Setting};
 use nav_handle::NavdLevel;
 use nav_level::Level;
 use nav_steps::Steps;
-use span_text::{FieldRefusal, FieldText, read_field};
+use span_text::{FieldRefusal, read_field};
 use std::alloc::{AllocError, Global};
 use std::marker::Brand;
 use std::sync::Arc;
 use std::sync::ledger::{Blank, Ledger};
 use tile_build::build_tiles;
 
-/// The level of a field text, on the heap.
-fn level_of<L: Ledger>(
+/// The level of a setting and a field, on the heap.
+pub(crate) fn level_of<L: Ledger>(
     alloc: Global,
-    text: FieldText,
+    setting: Setting,
+    field: Field,
     blank: Blank,
 ) -> Result<Box<Level, Global>, AllocError>
-    requires setting { IsSetting text.setting }
-    requires field { IsField text.field }
-    requires sized { IsSized text.setting text.field }
+    requires setting { IsSetting setting }
+    requires field { IsField field }
+    requires sized { IsSized setting field }
     requires name { blank.name ≡ L.name }
     requires parts { blank.parts ≡ L.parts }
     requires some { 0 < blank.parts }
-    ensures { IfOk result (λ level. level.value ≡ first_state (ground_of text.setting text.field)) }
+    ensures { IfOk result (λ level. level.value ≡ first_state (ground_of setting field)) }
 {
     let mut steps = Steps::<L>::new(blank);
-    let ground = ground(alloc, text.setting, text.field)?;
+    let ground = ground(alloc, setting, field)?;
     let tiles = build_tiles(alloc, &ground, &[], &mut steps)?;
     let level = Level::begin(alloc, Arc::new(alloc, ground)?, tiles)?;
     Ok(Box::new(alloc, level)?)
@@ -74,7 +74,7 @@ pub extern "C" fn navd_open(
         }
         Err(FieldRefusal::OutOfMemory) => return NO_MEMORY,
     };
-    match level_of::<Brand>(alloc, text, Blank::new(1)) {
+    match level_of::<Brand>(alloc, text.setting, text.field, Blank::new(1)) {
         Ok(made) => {
             level.put(made);
             OK

@@ -30,3 +30,11 @@ pub const NO_PATH: u32 = 12;
 pub const WALL: u32 = 13;
 /// There is too little room for what is told.
 pub const NO_ROOM: u32 = 14;
+/// The build is wanted no more: it was let go.
+pub const STALE: u32 = 15;
+/// The job is of another ground.
+pub const FOREIGN: u32 = 16;
+/// The job's handle holds a job.
+pub const BUSY: u32 = 17;
+/// The triangles give more spans than a field can have.
+pub const TOO_MANY_SPANS: u32 = 18;

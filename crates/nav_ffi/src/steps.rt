@@ -3,7 +3,7 @@
 ghost use Rattle.std.specs.Prelude.{◌≡◌, ◌<◌, length, IfOk, OnErr, OnOk};
 ghost use Rattle.nav_desk.specs.BookState.{least_claimable};
 ghost use Rattle.nav_level.specs.Settling.{IsUnclaimed, after_settle, after_step};
-ghost use Rattle.nav_ffi.specs.Steps.{IsSettled, UnlessRefused, aimed, stepped};
+ghost use Rattle.nav_ffi.specs.Steps.{IsPublishing, IsSettled, UnlessRefused, aimed, stepped};
 
 use crate::status::{EMPTY, NO_MEMORY, NOT_YET, OK, SAME};
 use nav_handle::NavdLevel;
@@ -29,8 +29,7 @@ pub extern "C" fn navd_aim(alloc: Global, level: &mut NavdLevel, target: &mut u3
 /// Publishes the target, once no tile is awaited. How many entries are published, or the least tile that is awaited, is left at `number`.
 #[unsafe(no_mangle)]
 pub extern "C" fn navd_publish(alloc: Global, level: &mut NavdLevel, number: &mut u32) -> u32
-    ensures { UnlessRefused (Rattle.nav_ffi.specs.Steps.published level.old.level number.old) level.old.level number.old
-        (record { status = result; number = number.new; held = level.new.level }) }
+    ensures { IsPublishing level.old.level number.old (record { status = result; number = number.new; held = level.new.level }) }
 {
     let Some(mut held) = level.take(alloc) else {
         return EMPTY;

@@ -9,13 +9,13 @@ use crate::wire::{NavdFloor, NavdLink, NavdPath, NavdPoint, NavdPolygon, NavdRay
 use mesh_types::{Answer, Corner, Link, PolyRef, Side};
 use nav_base::{FloorAt, Point};
 
-fn point_told(p: Point) -> NavdPoint
+pub(crate) fn point_told(p: Point) -> NavdPoint
     ensures { result ≡ Rattle.nav_ffi.specs.Wire.point_told p }
 {
     NavdPoint { x: p.x, z: p.z }
 }
 
-fn polygon_told(at: PolyRef) -> NavdPolygon
+pub(crate) fn polygon_told(at: PolyRef) -> NavdPolygon
     ensures { result ≡ Rattle.nav_ffi.specs.Wire.polygon_told at }
 {
     NavdPolygon {
@@ -24,7 +24,7 @@ fn polygon_told(at: PolyRef) -> NavdPolygon
     }
 }
 
-fn link_told(link: &Link) -> NavdLink
+pub(crate) fn link_told(link: &Link) -> NavdLink
     ensures { result ≡ Rattle.nav_ffi.specs.Wire.link_told link.now }
 {
     NavdLink {
@@ -65,7 +65,7 @@ fn floor_told(floor: FloorAt) -> NavdFloor
 }
 
 /// Lays links into a room.
-fn lay_links(links: &[Link], room: &mut [NavdLink])
+pub(crate) fn lay_links(links: &[Link], room: &mut [NavdLink])
     ensures { room.new ≡ laid (map Rattle.nav_ffi.specs.Wire.link_told links.now) room.old }
 {
     let count = links.len().min(room.len());
@@ -75,7 +75,7 @@ fn lay_links(links: &[Link], room: &mut [NavdLink])
 }
 
 /// Lays turns into a room.
-fn lay_turns(turns: &[Corner], room: &mut [NavdTurn])
+pub(crate) fn lay_turns(turns: &[Corner], room: &mut [NavdTurn])
     ensures { room.new ≡ laid (map Rattle.nav_ffi.specs.Wire.turn_told turns.now) room.old }
 {
     let count = turns.len().min(room.len());

@@ -2,10 +2,10 @@
 
 ghost use Rattle.std.specs.Prelude.{◌≡◌, None, IfOk};
 ghost use Rattle.nav_query.specs.Questions.{IsAnswerable};
-ghost use Rattle.nav_handle.specs.Views.{shown_by};
+ghost use Rattle.nav_handle.specs.Views.{shown_to};
 ghost use Rattle.nav_ffi.specs.Answers.{EndsSo, IsAsked, IsReplied, seen_in};
 ghost use Rattle.nav_ffi.specs.Telling.{PathRoom, told_floors, told_path, told_ray};
-ghost use Rattle.nav_ffi.specs.Viewing.{IsLooked};
+ghost use Rattle.nav_ffi.specs.Viewing.{IsLooked, own_in};
 ghost use Rattle.nav_ffi.specs.Wire.{path_asked, ray_asked};
 
 use crate::ends::{end_floors, end_path, end_ray};
@@ -18,15 +18,25 @@ use nav_handle::{NavdLevel, NavdView, View};
 use nav_level::Level;
 use std::alloc::{AllocError, Global};
 
-/// A view of what a level has published, on the heap.
-fn view_of(alloc: Global, level: &Level) -> Result<Box<View, Global>, AllocError>
-    ensures { IfOk result (λ view. view.value ≡ shown_by level.now) }
+/// A view of what a level has published, on the heap, with the costs that the handle's view has of its own, if it holds one that has some.
+fn next_view(
+    alloc: Global,
+    view: &mut NavdView,
+    level: &Level,
+) -> Result<Box<View, Global>, AllocError>
+    ensures made { IfOk result (λ made. made.value ≡ shown_to (own_in view.old.view) level.now) }
+    ensures same { view.new.view ≡ view.old.view }
 {
-    let view = View::of(level)?;
-    Ok(Box::new(alloc, view)?)
+    let Some(held) = view.take(alloc) else {
+        return Ok(Box::new(alloc, View::of(level)?)?);
+    };
+    let made = held.again(alloc, level);
+    view.put(held);
+    Ok(Box::new(alloc, made?)?)
 }
 
-/// Brings a view up to what the level has published now, whose length is left at `published`. What the view showed before is let go.
+/// Brings a view up to what the level has published now, whose length is left at `published`. What the view showed before is let go; costs
+/// of its own stay.
 #[unsafe(no_mangle)]
 pub extern "C" fn navd_look(
     alloc: Global,
@@ -42,7 +52,7 @@ pub extern "C" fn navd_look(
         return EMPTY;
     };
     let length = held.published();
-    let made = view_of(alloc, &held);
+    let made = next_view(alloc, view, &held);
     level.put(held);
     match made {
         Ok(made) => {

@@ -8,7 +8,7 @@ use crate::wire::{NavdPoint, NavdWay};
 use nav_base::{Point, Question};
 
 /// Whether both parts of a point are coordinates.
-fn has_coordinates(p: NavdPoint) -> bool
+pub(crate) fn has_coordinates(p: NavdPoint) -> bool
     ensures { IsTrue result ↔ HasCoordinates (point_of p) }
 {
     -65536 <= p.x && p.x <= 65536 && -65536 <= p.z && p.z <= 65536
@@ -21,7 +21,7 @@ pub(crate) fn is_way(way: &NavdWay) -> bool
     has_coordinates(way.from) && has_coordinates(way.to)
 }
 
-fn point_of(p: NavdPoint) -> Point
+pub(crate) fn point_of(p: NavdPoint) -> Point
     ensures { result ≡ Rattle.nav_ffi.specs.Wire.point_of p }
 {
     Point { x: p.x, z: p.z }

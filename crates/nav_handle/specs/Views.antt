@@ -1,25 +1,52 @@
 -- What a reader has of a level.
-use Rattle.std.specs.Prelude.{ℕ}
-use Rattle.nav_ground.specs.Limits.{IsSetting}
+use Rattle.std.specs.Prelude.{◌≡◌, ℕ, IsTrue, List, length, Option, Some, None, ⊤}
+use Rattle.std.specs.List.{list_all}
+use Rattle.nav_ground.specs.Limits.{IsSetting, is_cost}
 use Rattle.mesh_types.specs.declared.mesh.Mesh.{Mesh}
 use Rattle.mesh_types.specs.Soundness.{IsSound}
 use Rattle.nav_desk.specs.BookState.{BookState}
 use Rattle.nav_level.specs.Results.{published_mesh}
 use Rattle.nav_handle.specs.declared.view.View.TheInside.{Inside}
 
--- a published length, and the mesh that was published with it
+-- a published length, the mesh that was published with it, and the costs of areas that the reader has of its own, if there are some: then they are
+-- those of the mesh
 pub record Seen : Type 0 where
   pub length : ℕ
   pub mesh : Mesh
+  pub own : Option (List ℕ)
 
 -- what a level shows now
 abbrev pub shown_by : BookState → Seen
-shown_by state = record { length = state.published; mesh = published_mesh state }
+shown_by state = record { length = state.published; mesh = published_mesh state; own = None }
+
+-- a table of costs: one an area, each from 1 to 1000
+pub record AreCosts (costs : List ℕ) : Type 0 where
+  pub areas : length costs ≡ 64
+  pub each : IsTrue (list_all is_cost costs)
+
+-- a mesh with other costs of areas; its tiles and links are the same
+abbrev pub with_costs : List ℕ → Mesh → Mesh
+with_costs costs mesh = record mesh { setting = record mesh.setting { costs = costs } }
+
+-- what is seen, with other costs
+abbrev pub seen_at : List ℕ → Seen → Seen
+seen_at costs seen = record { length = seen.length; mesh = with_costs costs seen.mesh; own = Some costs }
+
+-- what a level shows now to a reader who may have costs of its own
+abbrev pub shown_to : Option (List ℕ) → BookState → Seen
+shown_to None state = shown_by state
+shown_to (Some costs) state = seen_at costs (shown_by state)
 
 -- what a view is seen as, and what it keeps
 abbrev pub seen_of : Inside → Seen
-seen_of inside = record { length = inside.length; mesh = inside.mesh }
+seen_of inside = record { length = inside.length; mesh = inside.mesh; own = inside.own }
+
+-- a table that it may have keeps its rules
+abbrev pub MayCost : Option (List ℕ) → Type 0
+MayCost None = ⊤
+MayCost (Some costs) = AreCosts costs
 
 pub record IsView (inside : Inside) : Type 0 where
   pub sound : IsSound inside.mesh
   pub setting : IsSetting inside.mesh.setting
+  pub own : MayCost inside.own

@@ -1,12 +1,15 @@
 //! What one reader has of a level, to ask beside whoever changes it.
 
 ghost use Rattle.std.specs.Prelude.{◌≡◌, IfOk};
+ghost use Rattle.nav_ground.specs.Tiling.{tile_count};
 ghost use Rattle.mesh_types.specs.Right.{IsRight};
 ghost use Rattle.nav_query.specs.Questions.{HasLowCost, IsAnswerable};
-ghost use Rattle.nav_handle.specs.Views.{shown_by};
+ghost use Rattle.nav_handle.specs.Views.{AreCosts, seen_at, shown_by, shown_to};
 
+use crate::costs::with_costs;
 use mesh_types::{Answer, Asked, Mesh};
 use nav_base::Question;
+use nav_ground::{AREAS, tiles};
 use nav_level::Level;
 use nav_query::Asking;
 use nav_share::Shared;
@@ -14,11 +17,12 @@ use std::alloc::{AllocError, Global};
 use std::marker::Model;
 
 /// A mesh that a level had published, with the length that it was published with. It is an owner of the mesh, which stays as it is whatever
-/// comes of the level.
+/// comes of the level. It may have costs of areas of its own, which then stand in its mesh in place of the level's.
 #[derive(Drop)]
 pub struct View {
     length: u32,
     mesh: Shared<Mesh>,
+    own: Option<[u32; AREAS]>,
 }
 
 impl Model for View {
@@ -41,6 +45,32 @@ impl View {
         Ok(View {
             length: level.published(),
             mesh,
+            own: None,
+        })
+    }
+
+    /// A view of what a level has published, with the costs that this one has of its own, if it has some.
+    pub fn again(&self, alloc: Global, level: &Level) -> Result<View, AllocError>
+        ensures { IfOk result (λ view. view ≡ shown_to self.now.own level.now) }
+    {
+        let view = View::of(level)?;
+        match self.own {
+            Some(costs) => view.costing(alloc, costs),
+            None => Ok(view),
+        }
+    }
+
+    /// The same view with other costs of areas: what a sixteenth of a cell of way costs in each, by its number. All that it shares with the
+    /// level but the list of tiles stays shared.
+    pub fn costing(&self, alloc: Global, costs: [u32; AREAS]) -> Result<View, AllocError>
+        requires { AreCosts costs }
+        ensures { IfOk result (λ view. view ≡ seen_at costs self.now) }
+    {
+        let mesh = with_costs(alloc, self.mesh.get(), costs)?;
+        Ok(View {
+            length: self.length,
+            mesh: Shared::new(alloc, mesh)?,
+            own: Some(costs),
         })
     }
 
@@ -49,6 +79,20 @@ impl View {
         ensures { result ≡ self.now.length }
     {
         self.length
+    }
+
+    /// The mesh that it shows.
+    pub fn mesh(&self) -> &Mesh
+        ensures { result.now ≡ self.now.mesh }
+    {
+        self.mesh.get()
+    }
+
+    /// How many tiles it has.
+    pub fn tiles(&self) -> u32
+        ensures { result ≡ tile_count self.now.mesh.setting }
+    {
+        tiles(&self.mesh.get().setting)
     }
 
     /// An answer that is right in its mesh.
@@ -61,5 +105,13 @@ impl View {
             question: *question,
         };
         asking.ask(alloc, self.mesh.get())
+    }
+
+    /// An answer to a question of any kind that is right in its mesh.
+    pub fn ask_by<Q: Asked>(&self, alloc: Global, question: &Q) -> Result<Q::Answer, AllocError>
+        requires question { Q.can_ask question.now }
+        ensures right { IfOk result (λ answer. Q.is_right question.now self.now.mesh answer) }
+    {
+        question.ask(alloc, self.mesh.get())
     }
 }

@@ -2,7 +2,7 @@
 
 ghost use Rattle.std.specs.Prelude.{◌<◌};
 
-use nav_handle::{NavdLevel, NavdView};
+use nav_handle::{NavdJob, NavdLevel, NavdView};
 use std::alloc::{AllocError, Global};
 use std::thread;
 use std::thread::Threads;
@@ -34,6 +34,19 @@ fn empty_views<R: Threads + Sync>(rt: &R, alloc: Global, views: &mut [NavdView],
     );
 }
 
+fn empty_jobs<R: Threads + Sync>(rt: &R, alloc: Global, jobs: &mut [NavdJob], threads: usize)
+    requires some { 0 < threads }
+{
+    thread::for_each_mut(
+        rt,
+        jobs,
+        threads,
+        &|_place, job| {
+            let _ = job.take(alloc);
+        },
+    );
+}
+
 #[test]
 fn handles_go_to_other_threads(rt: HostRuntime) -> Result<(), AllocError> {
     let alloc = rt.alloc();
@@ -41,5 +54,7 @@ fn handles_go_to_other_threads(rt: HostRuntime) -> Result<(), AllocError> {
     empty_levels(&rt, alloc, &mut levels, 2);
     let mut views = vec![in alloc; NavdView::empty(alloc), NavdView::empty(alloc)]?;
     empty_views(&rt, alloc, &mut views, 2);
+    let mut jobs = vec![in alloc; NavdJob::empty(alloc), NavdJob::empty(alloc)]?;
+    empty_jobs(&rt, alloc, &mut jobs, 2);
     Ok(())
 }

@@ -13,11 +13,17 @@
 //! # }
 //! ```
 mod heap;
+mod jobs;
+mod looks;
 mod sys;
+mod walks;
 
 use std::fmt;
 use std::ptr::null_mut;
-pub use sys::{Block, Counts, Cylinder, Floor, Link, Point, Polygon, Turn};
+pub use jobs::Job;
+pub use looks::{Obstacle, Shape};
+pub use sys::{Block, Corner, Counts, Cylinder, Face, Floor, Jump, Link, Point, Polygon, Shown, Turn};
+pub use walks::{Hop, Step, Walker};
 
 /// Why a call was refused.
 #[derive(Clone, Copy, Debug, PartialEq, Eq)]
@@ -33,6 +39,11 @@ pub enum Error {
     NotYet { tile: u32 },
     /// Not all of the history is published.
     NotPublished,
+    /// The job is not built.
+    NotBuilt,
+    /// The job is of a ground that is another in its tile.
+    Foreign,
+    TooManySpans,
 }
 
 impl fmt::Display for Error {
@@ -46,6 +57,9 @@ impl fmt::Display for Error {
             Error::HistoryFull => write!(f, "the history is full"),
             Error::NotYet { tile } => write!(f, "tile {tile} is still awaited"),
             Error::NotPublished => write!(f, "not all of the history is published"),
+            Error::NotBuilt => write!(f, "the job is not built"),
+            Error::Foreign => write!(f, "the job is of another ground"),
+            Error::TooManySpans => write!(f, "the triangles give too many spans"),
         }
     }
 }
@@ -59,6 +73,8 @@ fn error_of(status: u32) -> Error {
         sys::TOO_MANY => Error::TooManyObstacles,
         sys::DEAD => Error::NoSuchObstacle,
         sys::HISTORY_FULL => Error::HistoryFull,
+        sys::FOREIGN => Error::Foreign,
+        sys::TOO_MANY_SPANS => Error::TooManySpans,
         sys::EMPTY => unreachable!("a level's handle is never empty"),
         other => unreachable!("a call that does not end with {other}"),
     }
@@ -109,10 +125,22 @@ pub struct Level {
 impl Level {
     /// The level of the field text with which the bytes begin, with no obstacles.
     pub fn open(text: &[u8]) -> Result<Level, Error> {
+        Level::open_by(sys::navd_open, text)
+    }
+
+    /// The level of a triangle text, with no obstacles.
+    pub fn of_triangles(text: &[u8]) -> Result<Level, Error> {
+        Level::open_by(sys::navd_open_triangles, text)
+    }
+
+    fn open_by(
+        call: unsafe extern "C" fn(*mut sys::Handle, *const u8, usize, *mut sys::Fault) -> u32,
+        text: &[u8],
+    ) -> Result<Level, Error> {
         let mut level = Level { handle: sys::Handle { at: null_mut(), full: 0 } };
         let mut fault = sys::Fault::default();
         // SAFETY: the handle is zeroed, and the bytes are those of a slice, which has an address also where it is empty.
-        match unsafe { sys::navd_open(&mut level.handle, text.as_ptr(), text.len(), &mut fault) } {
+        match unsafe { call(&mut level.handle, text.as_ptr(), text.len(), &mut fault) } {
             sys::OK => Ok(level),
             sys::FAULTY => Err(Error::Fault { line: fault.line, kind: fault.kind }),
             status => Err(error_of(status)),

@@ -17,6 +17,9 @@ pub const NO_START: u32 = 10;
 pub const NO_GOAL: u32 = 11;
 pub const NO_PATH: u32 = 12;
 pub const WALL: u32 = 13;
+pub const STALE: u32 = 15;
+pub const FOREIGN: u32 = 16;
+pub const TOO_MANY_SPANS: u32 = 18;
 
 #[repr(C)]
 pub struct Handle {
@@ -112,6 +115,84 @@ pub struct Ray {
     pub den: i64,
 }
 
+/// A corner of a polygon, in whole cells.
+#[repr(C)]
+#[derive(Clone, Copy, Default, Debug, PartialEq, Eq)]
+pub struct Corner {
+    pub x: i32,
+    pub z: i32,
+}
+
+/// A polygon as it is drawn: of its corners the first `corners` count.
+#[repr(C)]
+#[derive(Clone, Copy, Default, Debug, PartialEq, Eq)]
+pub struct Face {
+    pub corners: u32,
+    pub corner: [Corner; 6],
+    pub area: u32,
+    pub low: u32,
+    pub high: u32,
+}
+
+#[repr(C)]
+#[derive(Clone, Copy)]
+pub struct Obstacle {
+    pub number: u32,
+    pub area: u32,
+    pub kind: u32,
+    pub block: Block,
+    pub cylinder: Cylinder,
+}
+
+/// A one-way jump and what it costs.
+#[repr(C)]
+#[derive(Clone, Copy, Debug, PartialEq, Eq)]
+pub struct Jump {
+    pub from: Point,
+    pub from_y: u32,
+    pub to: Point,
+    pub to_y: u32,
+    pub cost: u32,
+}
+
+#[repr(C)]
+#[derive(Clone, Copy, Default)]
+pub struct Step {
+    pub kind: u32,
+    pub jump: u32,
+    pub link: Link,
+}
+
+#[repr(C)]
+#[derive(Clone, Copy)]
+pub struct Hop {
+    pub way: Way,
+    pub cost: u64,
+    pub first: Polygon,
+    pub steps: usize,
+    pub turns: usize,
+}
+
+#[repr(C)]
+#[derive(Clone, Copy, Default)]
+pub struct Walker {
+    pub polygon: Polygon,
+    pub at: Point,
+    pub y: u32,
+    pub goal: Point,
+    pub goal_y: u32,
+    pub cost: u64,
+    pub links: usize,
+}
+
+/// How many entries a view shows, and how many tiles there are.
+#[repr(C)]
+#[derive(Clone, Copy, Default, Debug, PartialEq, Eq)]
+pub struct Shown {
+    pub published: u32,
+    pub tiles: u32,
+}
+
 #[repr(C)]
 #[derive(Clone, Copy, Default)]
 pub struct Fault {
@@ -153,6 +234,46 @@ extern "C" {
     ) -> u32;
     pub fn navd_cast_ray(level: *mut Handle, way: *const Way, ray: *mut Ray) -> u32;
     pub fn navd_count(level: *mut Handle, counts: *mut Counts) -> u32;
+    pub fn navd_open_triangles(level: *mut Handle, text: *const u8, length: usize, fault: *mut Fault) -> u32;
+    pub fn navd_find_hop(
+        level: *mut Handle,
+        hop: *mut Hop,
+        jumps: *const Jump,
+        count: usize,
+        steps: *mut Step,
+        steps_room: usize,
+        turns: *mut Turn,
+        turns_room: usize,
+    ) -> u32;
+    pub fn navd_send(level: *mut Handle, way: *const Way, links: *mut Link, room: usize, walker: *mut Walker) -> u32;
+    pub fn navd_march(level: *mut Handle, walker: *mut Walker, length: u32, links: *mut Link, room: usize) -> u32;
+    pub fn navd_polygons(level: *mut Handle, tile: u32, polygons: *mut Face, room: usize, count: *mut usize) -> u32;
+    pub fn navd_inner_links(level: *mut Handle, tile: u32, links: *mut Link, room: usize, count: *mut usize) -> u32;
+    pub fn navd_border_links(level: *mut Handle, tile: u32, links: *mut Link, room: usize, count: *mut usize) -> u32;
+    pub fn navd_obstacles(level: *mut Handle, obstacles: *mut Obstacle, room: usize, count: *mut usize) -> u32;
+    pub fn navd_claim(level: *mut Handle, job: *mut Handle, tile: *mut u32) -> u32;
+    pub fn navd_build(job: *mut Handle) -> u32;
+    pub fn navd_submit(level: *mut Handle, job: *mut Handle) -> u32;
+    pub fn navd_put_back(level: *mut Handle, job: *mut Handle) -> u32;
+    pub fn navd_put_back_all(level: *mut Handle) -> u32;
+    pub fn navd_job_close(job: *mut Handle);
+    pub fn navd_view_set_costs(view: *mut Handle, costs: *const u32, count: usize) -> u32;
+    pub fn navd_view_count(view: *mut Handle, shown: *mut Shown) -> u32;
+    pub fn navd_view_find_hop(
+        view: *mut Handle,
+        hop: *mut Hop,
+        jumps: *const Jump,
+        count: usize,
+        steps: *mut Step,
+        steps_room: usize,
+        turns: *mut Turn,
+        turns_room: usize,
+    ) -> u32;
+    pub fn navd_view_send(view: *mut Handle, way: *const Way, links: *mut Link, room: usize, walker: *mut Walker) -> u32;
+    pub fn navd_view_march(view: *mut Handle, walker: *mut Walker, length: u32, links: *mut Link, room: usize) -> u32;
+    pub fn navd_view_polygons(view: *mut Handle, tile: u32, polygons: *mut Face, room: usize, count: *mut usize) -> u32;
+    pub fn navd_view_inner_links(view: *mut Handle, tile: u32, links: *mut Link, room: usize, count: *mut usize) -> u32;
+    pub fn navd_view_border_links(view: *mut Handle, tile: u32, links: *mut Link, room: usize, count: *mut usize) -> u32;
     pub fn navd_look(view: *mut Handle, level: *mut Handle, published: *mut u32) -> u32;
     pub fn navd_view_close(view: *mut Handle);
     pub fn navd_view_floors(view: *mut Handle, x: u32, z: u32, floors: *mut Floor, room: usize, count: *mut usize) -> u32;

@@ -7,4 +7,5 @@ invariant_of-result c =
     record {
       sound = c.in_ok-mesh.ensures.sound;
       setting = IsSetting-of_build state.whole state.history state.published c.in_ok-mesh.mesh c.mesh-shown.ensures.rules.level c.in_ok-mesh.ensures.value;
+      own = tt;
     }

@@ -1,0 +1,72 @@
+//! Jobs: tiles that any thread builds beside whoever changes the level.
+
+use crate::{done, error_of, sys, Error, Level};
+use std::ptr::null_mut;
+
+/// A tile that was claimed of a level. A job that is dropped leaves its tile claimed, until the level is settled or its claims are ended.
+pub struct Job {
+    handle: sys::Handle,
+    tile: u32,
+}
+
+// SAFETY: the library's handles may go from thread to thread, which is proved of them.
+unsafe impl Send for Job {}
+
+impl Level {
+    /// Claims the least tile that is awaited and not claimed, if there is one.
+    pub fn claim(&mut self) -> Result<Option<Job>, Error> {
+        let mut job = Job { handle: sys::Handle { at: null_mut(), full: 0 }, tile: 0 };
+        // SAFETY: both handles are borrowed here alone, and the job's is zeroed.
+        match unsafe { sys::navd_claim(&mut self.handle, &mut job.handle, &mut job.tile) } {
+            sys::SAME => Ok(None),
+            status => done((status, 0)).map(|_| Some(job)),
+        }
+    }
+
+    /// Hands a job in that is built: whether it was still wanted. A job that cannot be handed in comes back.
+    pub fn submit(&mut self, mut job: Job) -> Result<bool, (Error, Job)> {
+        match unsafe { sys::navd_submit(&mut self.handle, &mut job.handle) } {
+            sys::OK => Ok(true),
+            sys::STALE => Ok(false),
+            sys::NOT_YET => Err((Error::NotBuilt, job)),
+            status => Err((error_of(status), job)),
+        }
+    }
+
+    /// Puts a job back, built or not. A job of another ground comes back.
+    pub fn put_back(&mut self, mut job: Job) -> Result<(), (Error, Job)> {
+        match unsafe { sys::navd_put_back(&mut self.handle, &mut job.handle) } {
+            sys::OK => Ok(()),
+            status => Err((error_of(status), job)),
+        }
+    }
+
+    /// Ends all claims.
+    pub fn put_back_all(&mut self) {
+        // SAFETY: the handle is this level's.
+        unsafe { sys::navd_put_back_all(&mut self.handle) };
+    }
+}
+
+impl Job {
+    /// The tile.
+    pub fn tile(&self) -> u32 {
+        self.tile
+    }
+
+    /// Builds the tile, if it is not built.
+    pub fn build(&mut self) -> Result<(), Error> {
+        // SAFETY: the handle is this job's, which the borrow keeps from other calls.
+        match unsafe { sys::navd_build(&mut self.handle) } {
+            sys::SAME => Ok(()),
+            status => done((status, 0)).map(|_| ()),
+        }
+    }
+}
+
+impl Drop for Job {
+    fn drop(&mut self) {
+        // SAFETY: the handle is this job's; an empty one may be closed.
+        unsafe { sys::navd_job_close(&mut self.handle) }
+    }
+}
