@@ -15,7 +15,8 @@
  * its own, or build jobs. A view is brought up to a level by navd_look, and a job is claimed, handed in and put back by calls that are of both.
  *
  * Arrays. An array is given by its address and by how many elements it has room for; the address is not null, also where there is room for
- * none. As much is laid into it as there is room for, and what is behind that stays as it was; how many there are is told beside it.
+ * none, or no element (as the jumps of a hop). As much is laid into it as there is room for, and what is behind that stays as it was; how many
+ * there are is told beside it. The places that are handed to one call do not overlap.
  *
  * Ends. Each call tells how it ended by one of the numbers below. Where it says of an out parameter nothing else, that is unchanged unless
  * the call ended with NAVD_OK.
@@ -41,7 +42,7 @@ extern "C" {
 
 #define NAVD_OK 0u            /* all was done */
 #define NAVD_NO_MEMORY 1u     /* memory was refused; nothing that was there is lost */
-#define NAVD_EMPTY 2u         /* the handle holds no level; nothing was done */
+#define NAVD_EMPTY 2u         /* the handle holds nothing; nothing was done */
 #define NAVD_FAULTY 3u        /* the text has a fault */
 #define NAVD_OUT_OF_RANGE 4u  /* a number is out of its limits; nothing was done */
 #define NAVD_TOO_MANY 5u      /* as many obstacles are alive as may be: the entry was made, and no obstacle */
@@ -254,8 +255,8 @@ uint32_t navd_settle(navd_level *level, uint32_t *published);
  * NAVD_OK. NAVD_EMPTY. */
 uint32_t navd_aim(navd_level *level, uint32_t *target);
 
-/* Builds the least tile that is awaited for the target; its number is left at `tile`.
- * NAVD_OK. NAVD_SAME: no tile is awaited. NAVD_EMPTY. NAVD_NO_MEMORY: nothing was done. */
+/* Builds the least tile that is awaited for the target and not claimed; its number is left at `tile`.
+ * NAVD_OK. NAVD_SAME: there is no such tile. NAVD_EMPTY. NAVD_NO_MEMORY: nothing was done. */
 uint32_t navd_step(navd_level *level, uint32_t *tile);
 
 /* Publishes the target, once no tile is awaited. At `number` is left how many entries are published now.
@@ -273,11 +274,12 @@ uint32_t navd_renew(navd_level *level, uint32_t *numbers, size_t room, size_t *c
 /* == Jobs ==
  * Worker threads of the host build tiles beside whoever changes the level: a job is claimed (a call of both handles), built from its own handle
  * alone, as long as it likes, and handed in or put back (calls of both handles). A tile that is claimed is given to no other claim, and navd_step
- * passes it by, until its job is handed in or put back, or navd_settle, navd_renew or navd_put_back_all ends all claims; then a job may
- * still be handed in. */
+ * passes it by, until a job of that tile is handed in or put back, whichever claim it is of, or navd_settle, navd_renew or navd_put_back_all ends
+ * all claims; then a job may still be handed in. A job may be built, handed in elsewhere and closed after its level was closed. */
 
 /* Claims the least tile that is awaited and not claimed; the job's handle holds the job then, and its tile is left at `tile`.
- * NAVD_OK. NAVD_SAME: there is no such tile. NAVD_EMPTY: the level's handle holds none. NAVD_BUSY. NAVD_NO_MEMORY: nothing was done. */
+ * NAVD_OK. NAVD_EMPTY, before all others: the level's handle holds none. NAVD_BUSY, before the next. NAVD_SAME: there is no such tile.
+ * NAVD_NO_MEMORY: nothing was done. */
 uint32_t navd_claim(navd_level *level, navd_job *job, uint32_t *tile);
 
 /* Builds a job's tile.
@@ -285,9 +287,10 @@ uint32_t navd_claim(navd_level *level, navd_job *job, uint32_t *tile);
 uint32_t navd_build(navd_job *job);
 
 /* Hands a job in that is built; the job's handle holds nothing then.
- * NAVD_OK: it is published with the next publish. NAVD_STALE: its tile is not awaited, or was built under other obstacles than touch it at the target.
- * With the next, the job stays: NAVD_NOT_YET: it is not built. NAVD_FOREIGN: the level has another setting, or another ground in the tile.
- * NAVD_EMPTY: one of the handles holds nothing. No memory is taken. */
+ * NAVD_OK: it is taken, and published with the next publish if no aim changes which obstacles touch the tile. NAVD_STALE: its tile is not awaited, or
+ * was built under other obstacles than touch it at the target. With the next, the job stays: NAVD_EMPTY: one of the handles holds nothing.
+ * NAVD_FOREIGN, before NAVD_NOT_YET: the level has another setting, or another ground in the tile or near it. NAVD_NOT_YET: it is not built.
+ * No memory is taken. */
 uint32_t navd_submit(navd_level *level, navd_job *job);
 
 /* Puts a job back; the job's handle holds nothing then.
@@ -320,7 +323,7 @@ uint32_t navd_cast_ray(navd_level *level, const navd_way *way, navd_ray *ray);
 
 /* A cheapest walk over links and jumps from hop->way.from to hop->way.to, and taut lines between its jumps. A jump is taken where its two points are
  * held by polygons. There are at most 256 jumps, and their points are in the limits of ways; what `hop` says besides, and the two arrays, are left
- * as for a path: hop->steps and hop->turns tell how many there are.
+ * as for a path: hop->steps and hop->turns tell how many there are. A turn's `link` is its place among all steps, jumps counted.
  * NAVD_OK. NAVD_NO_START, NAVD_NO_GOAL, NAVD_NO_PATH: there is none. NAVD_OUT_OF_RANGE: before all others. NAVD_EMPTY. NAVD_NO_MEMORY. */
 uint32_t navd_find_hop(navd_level *level, navd_hop *hop, const navd_jump *jumps, size_t count, navd_step_taken *steps, size_t steps_room,
                        navd_turn *turns, size_t turns_room);
@@ -330,8 +333,8 @@ uint32_t navd_find_hop(navd_level *level, navd_hop *hop, const navd_jump *jumps,
 uint32_t navd_send(navd_level *level, const navd_way *way, navd_link *links, size_t room, navd_walker *walker);
 
 /* Moves a walker toward its goal by up to `length`, in sixteenths of a cell along the longer axis of each leg, on a cheapest way in the mesh as it is
- * published now; of the walker, its point, height and goal are read. After the call it stands in a polygon that holds its point, and its links lead
- * on to the goal.
+ * published now; of the walker, its point, its height, its goal and the goal's height are read. After the call it stands in a polygon that holds
+ * its point, and its links lead on to the goal.
  * NAVD_OK. NAVD_NO_START: no polygon holds it any more. NAVD_NO_GOAL, NAVD_NO_PATH. NAVD_OUT_OF_RANGE: before all others. NAVD_EMPTY.
  * NAVD_NO_MEMORY. In all but the first the walker is as it was. */
 uint32_t navd_march(navd_level *level, navd_walker *walker, uint32_t length, navd_link *links, size_t room);

@@ -76,7 +76,7 @@ pub fn marched(
         to_y: goal.y,
     };
     match answer(alloc, mesh, &question)? {
-        Answer::Path(found) => along(alloc, mesh, from, goal, length, found),
+        Answer::Path(found) => along(alloc, mesh, March { from, goal, length }, found),
         Answer::NoStart => Ok(WalkAnswer::NoStart),
         Answer::NoGoal => Ok(WalkAnswer::NoGoal),
         Answer::NoPath => Ok(WalkAnswer::NoPath),
@@ -84,32 +84,38 @@ pub fn marched(
     }
 }
 
+/// A march: where it begins, where it goes to, and how far it gets at most.
+#[derive(Clone, Copy)]
+struct March {
+    from: Place,
+    goal: Place,
+    length: u32,
+}
+
 /// What it is answered where a path was found.
 fn along(
     alloc: Global,
     mesh: &Mesh,
-    from: Place,
-    goal: Place,
-    length: u32,
+    march: March,
     found: PathFound,
 ) -> Result<WalkAnswer, AllocError>
     requires sound { IsSound mesh.now }
     requires setting { IsSetting mesh.now.setting }
-    requires path { IsPath mesh.now from.point from.y goal.point goal.y found }
+    requires path { IsPath mesh.now march.from.point march.from.y march.goal.point march.goal.y found }
     requires cost { found.cost < 2 ^ 45 }
-    ensures marched { IfOk result (λ answer. IsMarched mesh.now from.point from.y goal.point goal.y length answer) }
-    ensures way { IfOk result (λ answer. IsUnderWay mesh.now goal.point goal.y answer) }
+    ensures marched { IfOk result (λ answer. IsMarched mesh.now march.from.point march.from.y march.goal.point march.goal.y march.length answer) }
+    ensures way { IfOk result (λ answer. IsUnderWay mesh.now march.goal.point march.goal.y answer) }
 {
     let links = found.links.as_slice();
     let corners = found.turns.as_slice();
     let line = Line {
         first: found.first,
         links,
-        point: from.point,
-        goal: goal.point,
+        point: march.from.point,
+        goal: march.goal.point,
         corners,
     };
-    let stop = stop_along(alloc, mesh, line, length)?;
+    let stop = stop_along(alloc, mesh, line, march.length)?;
     let place = stop.place as usize;
     let at = nth_polygon(found.first, links, place);
     let y = floor_of(mesh, at);

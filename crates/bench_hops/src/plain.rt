@@ -4,8 +4,8 @@ ghost use Rattle.nav_ground.specs.Limits.{IsSetting};
 ghost use Rattle.mesh_types.specs.Soundness.{IsSound};
 ghost use Rattle.corridor_search.specs.MeshGraphs.{IsThere};
 
-use corridor_search::{polygon_at, push_link_arcs, vertex_at};
-use graph_search::{Arc, Graph, Vertex, cheapest_walk};
+use corridor_search::{link_weight, polygon_at, push_link_ends, vertex_at};
+use graph_search::{Graph, Step, Vertex, cheapest_walk};
 use mesh_types::{Mesh, PolyRef};
 use std::alloc::{AllocError, Global};
 
@@ -29,8 +29,12 @@ impl Graph for Plain<'_> {
 
     ghost heaviest = { λ _. 2897000 };
 
-    fn push_arcs(&self, from: Vertex, found: &mut Vec<Arc>) -> Result<(), AllocError> {
-        push_link_arcs(self.mesh, polygon_at(from), found)
+    fn push_ends(&self, from: Vertex, ends: &mut Vec<Vertex>) -> Result<(), AllocError> {
+        push_link_ends(self.mesh, polygon_at(from), ends)
+    }
+
+    fn weight(&self, step: Step, to: Vertex) -> u64 {
+        link_weight(self.mesh, step, to)
     }
 
     fn estimate(&self, from: Vertex) -> u64 {

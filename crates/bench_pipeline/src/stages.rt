@@ -38,10 +38,17 @@ pub fn measured<R: Wait, L: Ledger>(rt: &R, alloc: Global, input: &[u8], blank: 
     let stage = read_number(stage, 4).unwrap_or(1);
     let copies = read_number(copies, 1000000).unwrap_or(0);
     match read_field(alloc, text) {
-        Ok(read) => match staged::<R, L>(rt, alloc, read, text, stage, copies, blank) {
-            Ok(made) => Outcome::Made(made),
-            Err(AllocError) => Outcome::OutOfMemory,
-        },
+        Ok(read) => {
+            let task = Task {
+                stage,
+                copies,
+                blank,
+            };
+            match staged::<R, L>(rt, alloc, read, text, task) {
+                Ok(made) => Outcome::Made(made),
+                Err(AllocError) => Outcome::OutOfMemory,
+            }
+        }
         Err(FieldRefusal::Fault(fault)) => Outcome::Fault {
             line: fault.line,
             kind: fault.kind,
@@ -50,22 +57,33 @@ pub fn measured<R: Wait, L: Ledger>(rt: &R, alloc: Global, input: &[u8], blank: 
     }
 }
 
+/// Up to which stage a mesh is made, how many copies are made of it then, and the counter's ledger.
+struct Task {
+    stage: u32,
+    copies: u32,
+    blank: Blank,
+}
+
+/// A ground and its tiles.
+struct Level {
+    whole: Ground,
+    tiles: Items<Shared<Tile>>,
+}
+
 /// Goes on from a text that was read, up to a stage, and then makes copies of the mesh.
 fn staged<R: Wait, L: Ledger>(
     rt: &R,
     alloc: Global,
     read: FieldText,
     bytes: &[u8],
-    stage: u32,
-    copies: u32,
-    blank: Blank,
+    task: Task,
 ) -> Result<Made, AllocError>
     requires setting { IsSetting read.setting }
     requires field { IsField read.field }
     requires text { IsFieldText (take read.used bytes.now) read.setting read.field }
-    requires name { blank.name ≡ L.name }
-    requires parts { blank.parts ≡ L.parts }
-    requires some { 0 < blank.parts }
+    requires name { task.blank.name ≡ L.name }
+    requires parts { task.blank.parts ≡ L.parts }
+    requires some { 0 < task.blank.parts }
 {
     let mut made = Made {
         spans: read.field.spans.len(),
@@ -73,15 +91,15 @@ fn staged<R: Wait, L: Ledger>(
         polygons: 0,
         links: 0,
     };
-    if stage < 2 {
+    if task.stage < 2 {
         return Ok(made);
     }
     let whole = ground(alloc, read.setting, read.field)?;
     made.tiles = whole.layers.len();
-    if stage < 3 {
+    if task.stage < 3 {
         return Ok(made);
     }
-    built::<R, L>(rt, alloc, whole, made, stage, copies, blank)
+    built::<R, L>(rt, alloc, whole, made, task)
 }
 
 /// Goes on from the ground.
@@ -90,15 +108,18 @@ fn built<R: Wait, L: Ledger>(
     alloc: Global,
     whole: Ground,
     made: Made,
-    stage: u32,
-    copies: u32,
-    blank: Blank,
+    task: Task,
 ) -> Result<Made, AllocError>
     requires ground { IsGround whole }
-    requires name { blank.name ≡ L.name }
-    requires parts { blank.parts ≡ L.parts }
-    requires some { 0 < blank.parts }
+    requires name { task.blank.name ≡ L.name }
+    requires parts { task.blank.parts ≡ L.parts }
+    requires some { 0 < task.blank.parts }
 {
+    let Task {
+        stage,
+        copies,
+        blank,
+    } = task;
     let mut made = made;
     let mut steps = Steps::<L>::new(blank);
     let tiles = build_tiles(alloc, &whole, &[], &mut steps)?;
@@ -106,21 +127,21 @@ fn built<R: Wait, L: Ledger>(
     if stage < 4 {
         return Ok(made);
     }
-    booked(rt, alloc, whole, tiles, made, copies)
+    booked(rt, alloc, Level { whole, tiles }, made, copies)
 }
 
 /// Goes on from the tiles.
 fn booked<R: Wait>(
     rt: &R,
     alloc: Global,
-    whole: Ground,
-    tiles: Items<Shared<Tile>>,
+    level: Level,
     made: Made,
     copies: u32,
 ) -> Result<Made, AllocError>
-    requires ground { IsGround whole }
-    requires tiles { tiles ≡ tiles_under whole [] }
+    requires ground { IsGround level.whole }
+    requires tiles { level.tiles ≡ tiles_under level.whole [] }
 {
+    let Level { whole, tiles } = level;
     let mut made = made;
     let level = Arc::new(alloc, whole)?;
     let (book, _eyes) = Book::begin(rt, alloc, level, tiles, 0)?;

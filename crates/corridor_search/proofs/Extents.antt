@@ -1,6 +1,6 @@
 -- What the extents of polygons say of their middles, of the estimates and of the weights.
-use Rattle.std.proofs.Common.{◌≡◌, ◌<◌, ℤ, pos, ◌≤ℤ◌, length, map, sym, subst, ap, ◌∙◌, arith}
-use Rattle.std.specs.Prelude.{slice_index_or, Option, Some}
+use Rattle.std.proofs.Common.{◌≡◌, ◌<◌, ◌*◌, max, ℤ, pos, ◌≤ℤ◌, length, map, sym, subst, ap, ◌∙◌, arith}
+use Rattle.std.specs.Prelude.{slice_index, slice_index_or, Option, Some}
 use Rattle.std.specs.Option.{option_map_or}
 use Rattle.std.proofs.lemmas.Int.{ints}
 use Rattle.std.proofs.lemmas.List.{get_or-map}
@@ -20,9 +20,12 @@ use Rattle.mesh_types.specs.WholeMesh.{poly_at}
 use Rattle.mesh_types.specs.Corridors.{centre_of}
 use Rattle.mesh_types.specs.Soundness.{IsPolygon, IsSound}
 use Rattle.graph_search.specs.declared.arcs.Vertex.{Vertex}
-use Rattle.corridor_search.specs.MeshGraphs.{IsThere, IsBox, polygon_of, nowhere, extent_at, middle_of, estimates_of}
+use Rattle.graph_search.specs.declared.arcs.Step.{Step}
+use Rattle.graph_search.specs.Walks.{arc_of}
+use Rattle.corridor_search.specs.MeshGraphs.{IsThere, IsBox, polygon_of, nowhere, extent_at, middle_of, arcs_from, estimates_of}
 use Rattle.corridor_search.proofs.Boxes.{low-corner, high-corner, low-bound, high-bound}
 use Rattle.corridor_search.proofs.Sound.{placed, polygon-rules}
+use Rattle.corridor_search.proofs.Searchable.{step-enters, step-weight}
 
 -- the extent of a polygon that is there is its own
 pub extent-is : (mesh : Mesh) (at : PolyRef) (polygon : Polygon) → poly_at mesh at ≡ Some polygon → extent_at mesh at ≡ extent_of polygon
@@ -78,3 +81,17 @@ pub estimate-by : (mesh : Mesh) (goal : Point) (v : Vertex) (extent : Extent) �
 estimate-by mesh goal v extent there same =
     ap (λ (e : Extent). ceil_sqrt_of (square_of (from_to (middle_of e) goal))) (same ∙ extent-is mesh (polygon_of v) there.polygon there.is)
     ∙ sym (ap (λ (o : Option Polygon). option_map_or (λ (polygon : Polygon). ceil_sqrt_of (square_of (from_to (centre_of polygon.corners) goal))) o 0) there.is)
+
+-- the weight by the extents of both ends
+pub weight-by-extents : (mesh : Mesh) (step : Step) (to : Vertex) (left entered : Extent) → IsSound mesh → IsThere mesh (polygon_of step.from)
+    → step.place < length (arcs_from mesh step.from) → (arc_of (arcs_from mesh) step).to ≡ to → left ≡ extent_at mesh (polygon_of step.from)
+    → entered ≡ extent_at mesh (polygon_of to)
+    → max 1 (ceil_sqrt_of (square_of (from_to (middle_of left) (middle_of entered)))) * slice_index mesh.setting.costs entered.area ≡ (arc_of (arcs_from mesh) step).weight
+weight-by-extents mesh step to left entered sound there below end is_left is_entered =
+    let there' = step-enters mesh step to sound below end in
+    ap (λ (e : Extent). max 1 (ceil_sqrt_of (square_of (from_to (middle_of e) (middle_of entered)))) * slice_index mesh.setting.costs entered.area)
+    (is_left ∙ extent-is mesh (polygon_of step.from) there.polygon there.is)
+    ∙ ap (λ (e : Extent). max 1 (ceil_sqrt_of (square_of (from_to (centre_of there.polygon.corners) (middle_of e)))) * slice_index mesh.setting.costs e.area)
+    (is_entered ∙ extent-is mesh (polygon_of to) there'.polygon there'.is)
+    ∙ sym (ap (λ (o : Option Polygon). option_map_or (λ (q : Polygon). max 1 (ceil_sqrt_of (square_of (from_to (centre_of there.polygon.corners) (centre_of q.corners)))) * slice_index mesh.setting.costs q.area) o 0) there'.is)
+    ∙ step-weight mesh step to there.polygon sound below end there.is

@@ -27,7 +27,7 @@ use Rattle.mesh_types.specs.WholeMesh.{poly_at}
 use Rattle.mesh_types.specs.Corridors.{centre_of, step_cost, weight_of}
 use Rattle.mesh_types.specs.Soundness.{IsPolygon, IsInSquare, IsSound, LeadsThrough, edge_begin, edge_end}
 use Rattle.mesh_types.specs.Ways.{IsInField}
-use Rattle.corridor_search.specs.MeshGraphs.{estimate_from}
+use Rattle.corridor_search.specs.MeshGraphs.{weight_from, estimate_from}
 use Rattle.corridor_search.proofs.Boxes.{low, high, low-corner, high-corner, low-bound, high-bound, IsOn, begin_on, end_on, on_above_x, on_below_x, on_above_z, on_below_z}
 use Rattle.corridor_search.proofs.Sound.{placed, tile-fit, polygon-rules}
 
@@ -154,6 +154,11 @@ pub weight-is : (mesh : Mesh) (link : Link) (from to : Polygon) → poly_at mesh
 weight-is mesh link from to from_is to_is =
     ap (λ (o : Option Polygon). option_map_or (λ (f : Polygon). option_map_or (λ (t : Polygon). step_cost mesh.setting.costs f t) (poly_at mesh link.to) 0) o 0) from_is
     ∙ ap (λ (o : Option Polygon). option_map_or (λ (t : Polygon). step_cost mesh.setting.costs from t) o 0) to_is
+
+-- the same from the middle of the polygon that it leaves
+pub weight-by : (mesh : Mesh) (link : Link) (from : Polygon) → poly_at mesh link.from ≡ Some from → weight_of mesh link ≡ weight_from mesh (centre_of from.corners) link.to
+weight-by mesh link from is =
+    ap (λ (o : Option Polygon). option_map_or (λ (f : Polygon). option_map_or (λ (t : Polygon). step_cost mesh.setting.costs f t) (poly_at mesh link.to) 0) o 0) is
 
 module _ (mesh : Mesh) (link : Link) (sound : IsSound mesh) (setting : IsSetting mesh.setting) (through : LeadsThrough (poly_at mesh link.from) (poly_at mesh link.to) link) where
   entered-area : IsArea through.enters.area

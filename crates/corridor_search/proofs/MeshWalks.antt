@@ -1,5 +1,5 @@
 -- Walks over the arcs of a mesh are walks over its links.
-use Rattle.std.proofs.Common.{◌≡◌, ℕ, ◌≤◌, ◌∙◌, List, [], ◌∷◌, map, sym, subst, ap}
+use Rattle.std.proofs.Common.{◌≡◌, ℕ, ◌<◌, ◌≤◌, ◌∙◌, List, [], ◌∷◌, length, map, sym, subst, ap}
 use Rattle.std.specs.Prelude.{All, Contains}
 use Rattle.mesh_types.specs.declared.links.PolyRef.{PolyRef}
 use Rattle.mesh_types.specs.declared.links.Link.{Link}
@@ -11,14 +11,21 @@ use Rattle.graph_search.specs.declared.arcs.Vertex.{Vertex}
 use Rattle.graph_search.specs.declared.arcs.Step.{Step}
 use Rattle.graph_search.specs.declared.arcs.Walk.{Walk}
 use Rattle.graph_search.specs.Walks as graph
-use Rattle.graph_search.specs.Walks.{Walks}
-use Rattle.graph_search.proofs.Moves.{MovesTo, steps-made, cheapest-moves, none-move}
+use Rattle.graph_search.specs.Walks.{arc_of, Walks}
+use Rattle.graph_search.proofs.Moves.{MovesTo, move-there, arc-of-move, steps-made, cheapest-moves, none-move}
 use Rattle.corridor_search.specs.MeshGraphs.{IsOver, IsApart, vertex_of, polygon_of, links_from, arc_over, arcs_from, no_link, link_of}
 use Rattle.corridor_search.proofs.Sound.{leads, leaves-listed}
 
 -- the moves that may be made from a vertex: the links that leave its polygon
 abbrev pub links_by : Mesh → Vertex → List Link
 links_by mesh v = links_from mesh (polygon_of v)
+
+-- the arc of a step is that of its link
+pub step-there : (mesh : Mesh) (step : Step) → step.place < length (arcs_from mesh step.from) → step.place < length (links_from mesh (polygon_of step.from))
+step-there mesh step below = move-there (links_by mesh) (arc_over mesh) step below
+
+pub arc-over-link : (mesh : Mesh) (step : Step) → step.place < length (arcs_from mesh step.from) → arc_of (arcs_from mesh) step ≡ arc_over mesh (link_of mesh step)
+arc-over-link mesh step below = arc-of-move (links_by mesh) (arc_over mesh) no_link step below
 
 -- the links of the steps of a walk
 pub steps-over : (mesh : Mesh) (steps : List Step) (v w : Vertex) → Walks (arcs_from mesh) v steps w → All (IsOver mesh) steps

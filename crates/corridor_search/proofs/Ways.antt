@@ -1,8 +1,8 @@
 -- What stands beside tiles says what links weigh.
-use Rattle.std.proofs.Common.{◌≡◌, ℕ, ◌*◌, max, suc, get_or, List, [], ◌∷◌, map, refl, sym, subst, ap, ◌∙◌, arith}
+use Rattle.std.proofs.Common.{◌≡◌, ℕ, ◌*◌, ◌<◌, max, suc, length, get_or, List, [], ◌∷◌, ◌++◌, map, refl, sym, subst, ap, ◌∙◌, arith}
 use Rattle.std.specs.Prelude.{All, Contains, slice_get, slice_index, Option, Some, None, option_and_then, ◌==◌}
 use Rattle.std.specs.Option.{option_map_or}
-use Rattle.std.proofs.lemmas.List.{get_or-map}
+use Rattle.std.proofs.lemmas.List.{get_or-map, get_or_append_left, length-map, map-append}
 use Rattle.std.proofs.lemmas.List.Elements.{All-contains, All-map, Contains-get_or}
 use Rattle.std.proofs.lemmas.Option.{slice_get_within, get_or_from_slice_get}
 use Rattle.std.proofs.lemmas.Simd.{map-map}
@@ -16,16 +16,19 @@ use Rattle.mesh_types.specs.declared.tile.TileMesh.{TileMesh}
 use Rattle.mesh_types.specs.declared.ways.Way.{Way}
 use Rattle.mesh_types.specs.Corridors.{centre_of, weight_of}
 use Rattle.mesh_types.specs.Extents.{extent_of}
-use Rattle.mesh_types.specs.LinkIndex.{leaving_of, entered_by}
+use Rattle.mesh_types.specs.LinkIndex.{leaving_of}
 use Rattle.mesh_types.specs.Soundness.{IsPolygon, IsInnerLink, IsSound}
 use Rattle.mesh_types.specs.Ways.{distance_of, middle_in, no_extent, extent_in, extents_in, way_in}
 use Rattle.mesh_types.specs.WholeMesh.{poly_at}
 use Rattle.mesh_types.proofs.WayLaws.{middle-same}
-use Rattle.corridor_search.specs.MeshGraphs.{IsThere, IsEntered, inner_links, outer_links, arc_over, middle_of, extent_at, middle_at, ways_at, way_arc, arc_into}
-use Rattle.corridor_search.proofs.Extents.{extent-is, extent-rules, box-of}
+use Rattle.graph_search.specs.declared.arcs.Arc.{Arc}
+use Rattle.graph_search.specs.declared.arcs.Step.{Step}
+use Rattle.graph_search.specs.Walks.{no_arc, arc_of, ends_of}
+use Rattle.corridor_search.specs.MeshGraphs.{IsThere, polygon_of, inner_links, outer_links, arc_over, arcs_from, end_of, middle_of, extent_at, middle_at, ways_at, way_end, way_weight, way_arc}
+use Rattle.corridor_search.proofs.Extents.{extent-is, box-of}
 use Rattle.corridor_search.proofs.LinkWeights.{weight-is}
 use Rattle.corridor_search.proofs.Lists.{kept_element}
-use Rattle.corridor_search.proofs.Sound.{tile-fit, tile-number, placed, polygon-rules, outer-leads}
+use Rattle.corridor_search.proofs.Sound.{tile-fit, tile-number, placed, polygon-rules}
 
 -- what agrees on each element of a list gives the same list
 pub same-each : {X Y : Type 0} (f g : X → Y) (xs : List X) → ((x : X) → Contains xs x → f x ≡ g x) → map f xs ≡ map g xs
@@ -107,30 +110,25 @@ ways-areas mesh at sound = by_tile (slice_get mesh.tiles at.tile) refl
         All-map (λ (way : Way). IsArea way.area) (way_in tile) (leaving_of at.index tile.links) (λ k d below.
         area-in mesh at tile sound there _ (Contains-get_or (leaving_of at.index tile.links) k d below))
 
--- a polygon that a link over a border enters may be entered, and the arc into it from the middle of the one that is left is that of the link
-pub entered-outside : (mesh : Mesh) (at : PolyRef) → IsSound mesh → All (IsEntered mesh) (map entered_by (outer_links mesh at))
-entered-outside mesh at sound =
-    All-map (IsEntered mesh) entered_by (outer_links mesh at) (λ k d below.
-    let link = get_or (outer_links mesh at) k d in
-    let through = (outer-leads mesh at link sound (Contains-get_or (outer_links mesh at) k d below)).through in
-    let rules = extent-rules mesh link.to (extent_at mesh link.to) sound (record { polygon = through.enters; is = through.is_entered }) refl in
-    record { box = rules.box; area = rules.area })
+-- the vertices that they enter are those of the links
+pub ways-ends : (mesh : Mesh) (at : PolyRef) → IsSound mesh → map (way_end at.tile) (ways_at mesh at) ≡ map end_of (inner_links mesh at)
+ways-ends mesh at sound =
+    sym (map-map (λ (arc : Arc). arc.to) (way_arc mesh.setting at.tile) (ways_at mesh at)) ∙ ap ends_of (ways-arcs mesh at sound)
+    ∙ map-map (λ (arc : Arc). arc.to) (arc_over mesh) (inner_links mesh at)
 
-pub outer-arcs : (mesh : Mesh) (at : PolyRef) → IsSound mesh → IsThere mesh at
-    → map (arc_into mesh (middle_at mesh at)) (map entered_by (outer_links mesh at)) ≡ map (arc_over mesh) (outer_links mesh at)
-outer-arcs mesh at sound there =
-    map-map (arc_into mesh (middle_at mesh at)) entered_by (outer_links mesh at)
-    ∙ same-each (λ link. arc_into mesh (middle_at mesh at) link.to) (arc_over mesh) (outer_links mesh at) each
-  where
-    each : (link : Link) → Contains (outer_links mesh at) link → arc_into mesh (middle_at mesh at) link.to ≡ arc_over mesh link
-    each link held =
-        let leading = outer-leads mesh at link sound held in
-        let through = leading.through in
-        let left : middle_at mesh at ≡ centre_of through.leaves.corners =
-        middle-there mesh at sound there ∙ ap (λ (ref : PolyRef). middle_of (extent_at mesh ref)) (sym leading.leaves)
-        ∙ ap middle_of (extent-is mesh link.from through.leaves through.is_left) in
-        let entered = extent-is mesh link.to through.enters through.is_entered in
-        let weight =
-        (λ i. max 1 (distance_of (left i) (middle_of (entered i))) * slice_index mesh.setting.costs (entered i).area)
-        ∙ sym (weight-is mesh link through.leaves through.enters through.is_left through.is_entered) in
-        λ i. record { to = record { block = link.to.tile; place = link.to.index }; weight = weight i }
+-- the arc of a step that takes one of them weighs what that says
+pub way-weighs : (mesh : Mesh) (step : Step) (way none : Way) → IsSound mesh → step.place < length (ways_at mesh (polygon_of step.from))
+    → way ≡ get_or (ways_at mesh (polygon_of step.from)) step.place none → way_weight mesh.setting way ≡ (arc_of (arcs_from mesh) step).weight
+way-weighs mesh step way none sound below is =
+    let at = polygon_of step.from in
+    let ways = ways_at mesh at in
+    let arcs = map (way_arc mesh.setting at.tile) ways in
+    let there : step.place < length arcs = omega (arith, below, length-map ways (way_arc mesh.setting at.tile)) in
+    let found : get_or arcs step.place no_arc ≡ way_arc mesh.setting at.tile way =
+    get_or-map (way_arc mesh.setting at.tile) ways step.place none no_arc below ∙ ap (way_arc mesh.setting at.tile) (sym is) in
+    let all : arcs ++ map (arc_over mesh) (outer_links mesh at) ≡ arcs_from mesh step.from =
+    ap (λ (inside : List Arc). inside ++ map (arc_over mesh) (outer_links mesh at)) (ways-arcs mesh at sound)
+    ∙ sym (map-append (arc_over mesh) (inner_links mesh at) (outer_links mesh at)) in
+    ap (λ (arc : Arc). arc.weight)
+    (sym found ∙ sym (get_or_append_left arcs (map (arc_over mesh) (outer_links mesh at)) no_arc step.place there)
+    ∙ ap (λ (more : List Arc). get_or more step.place no_arc) all)

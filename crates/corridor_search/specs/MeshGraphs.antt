@@ -7,7 +7,7 @@ use Rattle.nav_base.specs.Point.{IsCellCorner, from_to}
 use Rattle.nav_base.specs.Deviation.{square_of}
 use Rattle.nav_base.specs.Root.{ceil_sqrt_of}
 use Rattle.nav_ground.specs.declared.setting.Setting.{Setting}
-use Rattle.nav_ground.specs.Limits.{IsSetting, IsArea}
+use Rattle.nav_ground.specs.Limits.{IsSetting}
 use Rattle.mesh_types.specs.declared.links.PolyRef.{PolyRef}
 use Rattle.mesh_types.specs.declared.links.Link.{Link}
 use Rattle.mesh_types.specs.declared.polygon.Polygon.{Polygon}
@@ -15,7 +15,7 @@ use Rattle.mesh_types.specs.declared.tile.TileMesh.{TileMesh}
 use Rattle.mesh_types.specs.declared.mesh.Mesh.{Mesh}
 use Rattle.mesh_types.specs.declared.extent.Extent.{Extent}
 use Rattle.mesh_types.specs.Extents.{extent_of}
-use Rattle.mesh_types.specs.LinkIndex.{leaving_of}
+use Rattle.mesh_types.specs.LinkIndex.{leaving_of, entered_by}
 use Rattle.mesh_types.specs.WholeMesh.{poly_at}
 use Rattle.mesh_types.specs.Corridors.{centre_of, weight_of, WalksTo}
 use Rattle.mesh_types.specs.Soundness.{IsSound}
@@ -85,6 +85,11 @@ no_link =
 abbrev pub link_of : Mesh → Step → Link
 link_of mesh step = slice_index_or (links_from mesh (polygon_of step.from)) step.place no_link
 
+-- what a step into a polygon costs from a point: the distance to its middle, rounded up and at least 1, times the cost of its area
+abbrev pub weight_from : Mesh → Point → PolyRef → ℕ
+weight_from mesh centre at =
+    option_map_or (λ (to : Polygon). max 1 (distance_of centre (centre_of to.corners)) * slice_index mesh.setting.costs to.area) (poly_at mesh at) 0
+
 -- the estimate of what is left to go from a polygon: the distance from its middle to the goal, rounded up
 abbrev pub estimate_from : Mesh → Point → PolyRef → ℕ
 estimate_from mesh goal at = option_map_or (λ (polygon : Polygon). ceil_sqrt_of (square_of (from_to (centre_of polygon.corners) goal))) (poly_at mesh at) 0
@@ -109,24 +114,20 @@ middle_at mesh at = option_map_or (λ (tile : TileMesh). middle_in (extent_in (e
 abbrev pub ways_at : Mesh → PolyRef → List Way
 ways_at mesh at = option_map_or (λ (tile : TileMesh). map (way_in tile) (leaving_of at.index tile.links)) (slice_get mesh.tiles at.tile) []
 
--- the arc of a link inside a tile, and the arc that leads from a point into a polygon
-abbrev pub way_arc : Setting → ℕ → Way → Arc
-way_arc setting tile way = record { to = record { block = tile; place = way.to }; weight = way.length * slice_index setting.costs way.area }
+-- of a link inside a tile, as a search reads it: the vertex that it enters, what it weighs, and its arc
+abbrev pub way_end : ℕ → Way → Vertex
+way_end tile way = record { block = tile; place = way.to }
 
-abbrev pub arc_into : Mesh → Point → PolyRef → Arc
-arc_into mesh from to =
-    let entered : Extent = extent_at mesh to in
-    record { to = vertex_of to; weight = max 1 (distance_of from (middle_of entered)) * slice_index mesh.setting.costs entered.area }
+abbrev pub way_weight : Setting → Way → ℕ
+way_weight setting way = way.length * slice_index setting.costs way.area
+
+abbrev pub way_arc : Setting → ℕ → Way → Arc
+way_arc setting tile way = record { to = way_end tile way; weight = way_weight setting way }
 
 -- both corners of the box lie in the largest field
 pub record IsBox (extent : Extent) : Type 0 where
   pub low : IsCellCorner extent.low
   pub high : IsCellCorner extent.high
-
--- a polygon that may be entered: its box lies in the largest field, and its area can be walked on
-pub record IsEntered (mesh : Mesh) (at : PolyRef) : Type 0 where
-  pub box : IsBox (extent_at mesh at)
-  pub area : IsArea (extent_at mesh at).area
 
 -- the estimates of all vertices
 abbrev pub estimates_of : Mesh → Point → Vertex → ℕ
@@ -137,6 +138,10 @@ pub record IsSearched (mesh : Mesh) (goal : Point) : Type 0 where
   pub sound : IsSound mesh
   pub setting : IsSetting mesh.setting
   pub in_field : IsInField goal
+
+-- the vertex of the polygon that a link enters
+abbrev pub end_of : Link → Vertex
+end_of link = vertex_of (entered_by link)
 
 -- a step takes a link that leaves its polygon
 pub record IsOver (mesh : Mesh) (step : Step) : Type 0 where

@@ -1,39 +1,26 @@
-//! The arcs of the links that leave a polygon.
+//! Where the links that leave a polygon lead, and what they weigh.
 
-ghost use Rattle.std.specs.Prelude.{◌≡◌, ◌++◌, OnOk, All, map};
+ghost use Rattle.std.specs.Prelude.{◌≡◌, ◌<◌, ◌++◌, OnOk, Contains, map, length};
 ghost use Rattle.nav_ground.specs.Limits.{IsSetting, IsArea};
 ghost use Rattle.mesh_types.specs.Soundness.{IsSound};
-ghost use Rattle.mesh_types.specs.Ways.{IsInField};
-ghost use Rattle.corridor_search.specs.MeshGraphs.{IsThere, IsEntered, inner_links, outer_links, links_from, arc_over, ways_at, way_arc, arc_into, middle_at};
+ghost use Rattle.graph_search.specs.Walks.{arc_of};
+ghost use Rattle.corridor_search.specs.MeshGraphs.{IsThere, vertex_of, vertices_of, links_from, end_of, arcs_from, ways_at, way_end, way_weight};
 
-use crate::mesh_graph::{entered_outside, vertex_at};
+use crate::mesh_graph::{entered_outside, polygon_at, vertex_at};
 use crate::weights::{extent_at, middle_at, weight};
-use graph_search::{Arc, Vertex};
+use graph_search::{Step, Vertex};
 use mesh_types::{Mesh, PolyRef, Way};
-use nav_base::Point;
 use nav_ground::{Setting, TileNo};
 use std::alloc::AllocError;
 
-/// Appends the arcs of the links that leave a polygon, in order of the links. Those of links inside its tile are read from what stands beside
-/// the tile; those of links over its border are weighed here.
-pub fn push_link_arcs(mesh: &Mesh, at: PolyRef, arcs: &mut Vec<Arc>) -> Result<(), AllocError>
+/// Appends the vertices of the polygons that the links which leave a polygon enter, in order of the links.
+pub fn push_link_ends(mesh: &Mesh, at: PolyRef, ends: &mut Vec<Vertex>) -> Result<(), AllocError>
     requires sound { IsSound mesh.now }
-    requires setting { IsSetting mesh.now.setting }
     requires there { IsThere mesh.now at }
-    ensures { OnOk result (arcs.new.items ≡ arcs.old.items ++ map (arc_over mesh.now) (links_from mesh.now at)) }
+    ensures { OnOk result (ends.new.items ≡ ends.old.items ++ map end_of (links_from mesh.now at)) }
 {
-    push_inner_arcs(mesh, at, arcs)?;
-    push_outer_arcs(mesh, at, arcs)
-}
-
-/// Appends those of the links inside its tile.
-fn push_inner_arcs(mesh: &Mesh, at: PolyRef, arcs: &mut Vec<Arc>) -> Result<(), AllocError>
-    requires sound { IsSound mesh.now }
-    requires setting { IsSetting mesh.now.setting }
-    requires there { IsThere mesh.now at }
-    ensures { OnOk result (arcs.new.items ≡ arcs.old.items ++ map (arc_over mesh.now) (inner_links mesh.now at)) }
-{
-    push_way_arcs(&mesh.setting, at.tile, ways_at(mesh, at), arcs)
+    push_way_ends(at.tile, ways_at(mesh, at), ends)?;
+    push_vertices(entered_outside(mesh, at), ends)
 }
 
 /// The links that leave a polygon inside its tile, as a search reads them.
@@ -47,75 +34,62 @@ fn ways_at(mesh: &Mesh, at: PolyRef) -> &[Way]
     }
 }
 
-/// Appends the arcs of links inside a tile.
-fn push_way_arcs(
-    setting: &Setting,
-    tile: TileNo,
-    ways: &[Way],
-    arcs: &mut Vec<Arc>,
-) -> Result<(), AllocError>
-    requires setting { IsSetting setting.now }
-    requires areas { All (λ (way : Way). IsArea way.area) ways.now }
-    ensures { OnOk result (arcs.new.items ≡ arcs.old.items ++ map (way_arc setting.now tile) ways.now) }
+/// Appends the vertices that links inside a tile enter.
+fn push_way_ends(tile: TileNo, ways: &[Way], ends: &mut Vec<Vertex>) -> Result<(), AllocError>
+    ensures { OnOk result (ends.new.items ≡ ends.old.items ++ map (way_end tile) ways.now) }
 {
     for way in ways {
-        arcs.push(way_arc(setting, tile, *way))?;
+        ends.push(way_end(tile, *way))?;
     }
     Ok(())
 }
 
-/// The arc of a link inside a tile.
-fn way_arc(setting: &Setting, tile: TileNo, way: Way) -> Arc
-    requires setting { IsSetting setting.now }
-    requires area { IsArea way.area }
-    ensures { result ≡ way_arc setting.now tile way }
+/// The vertex that a link inside a tile enters.
+fn way_end(tile: TileNo, way: Way) -> Vertex
+    ensures { result ≡ way_end tile way }
 {
-    Arc {
-        to: Vertex {
-            block: tile,
-            place: way.to,
-        },
-        weight: u64::from(way.length) * u64::from(setting.costs[way.area as usize]),
+    Vertex {
+        block: tile,
+        place: way.to,
     }
 }
 
-/// Appends the arcs of the links over the border of the polygon's tile.
-fn push_outer_arcs(mesh: &Mesh, at: PolyRef, arcs: &mut Vec<Arc>) -> Result<(), AllocError>
+/// Appends the vertices of polygons.
+fn push_vertices(polygons: &[PolyRef], ends: &mut Vec<Vertex>) -> Result<(), AllocError>
+    ensures { OnOk result (ends.new.items ≡ ends.old.items ++ map vertex_of polygons.now) }
+{
+    for at in polygons {
+        ends.push(vertex_at(*at))?;
+    }
+    Ok(())
+}
+
+/// What the link of a step weighs, which enters a given vertex: the distance of the middles of the two polygons, in sixteenths of a cell,
+/// rounded up and at least 1, times the cost of the area that is entered. Of a link inside a tile the distance stands beside the tile; that
+/// of a link over its border is found here.
+pub fn link_weight(mesh: &Mesh, step: Step, to: Vertex) -> u64
     requires sound { IsSound mesh.now }
     requires setting { IsSetting mesh.now.setting }
-    requires there { IsThere mesh.now at }
-    ensures { OnOk result (arcs.new.items ≡ arcs.old.items ++ map (arc_over mesh.now) (outer_links mesh.now at)) }
+    requires there { Contains (vertices_of mesh.now) step.from }
+    requires place { step.place < length (arcs_from mesh.now step.from) }
+    requires end { (arc_of (arcs_from mesh.now) step).to ≡ to }
+    ensures { result ≡ (arc_of (arcs_from mesh.now) step).weight }
 {
-    push_arcs_from(mesh, middle_at(mesh, at), entered_outside(mesh, at), arcs)
+    let at = polygon_at(step.from);
+    let ways = ways_at(mesh, at);
+    if step.place < ways.len() {
+        way_weight(&mesh.setting, ways[step.place])
+    } else {
+        let middle = middle_at(mesh, at);
+        weight(&mesh.setting, middle, extent_at(mesh, polygon_at(to)))
+    }
 }
 
-/// Appends the arcs that lead from a point into polygons.
-fn push_arcs_from(
-    mesh: &Mesh,
-    from: Point,
-    polygons: &[PolyRef],
-    arcs: &mut Vec<Arc>,
-) -> Result<(), AllocError>
-    requires setting { IsSetting mesh.now.setting }
-    requires from { IsInField from }
-    requires polygons { All (IsEntered mesh.now) polygons.now }
-    ensures { OnOk result (arcs.new.items ≡ arcs.old.items ++ map (arc_into mesh.now from) polygons.now) }
+/// What a link inside a tile weighs.
+fn way_weight(setting: &Setting, way: Way) -> u64
+    requires setting { IsSetting setting.now }
+    requires area { IsArea way.area }
+    ensures { result ≡ way_weight setting.now way }
 {
-    for to in polygons {
-        arcs.push(arc_into(mesh, from, *to))?;
-    }
-    Ok(())
-}
-
-/// The arc that leads from a point into a polygon.
-fn arc_into(mesh: &Mesh, from: Point, to: PolyRef) -> Arc
-    requires setting { IsSetting mesh.now.setting }
-    requires from { IsInField from }
-    requires to { IsEntered mesh.now to }
-    ensures { result ≡ arc_into mesh.now from to }
-{
-    Arc {
-        to: vertex_at(to),
-        weight: weight(&mesh.setting, from, extent_at(mesh, to)),
-    }
+    u64::from(way.length) * u64::from(setting.costs[way.area as usize])
 }

@@ -14,7 +14,7 @@ mod mesh_graph;
 mod roots;
 mod weights;
 
-pub use arcs::push_link_arcs;
+pub use arcs::{link_weight, push_link_ends};
 pub use corridors::cheapest;
 pub use link_weights::weight_over;
 pub use mesh_graph::{link_at, past_links, polygon_at, vertex_at};

@@ -4,9 +4,9 @@ ghost use Rattle.std.specs.Prelude.{◌≡◌, ◌+◌, ◌<◌, IfSome, IfNone,
 ghost use Rattle.mesh_types.specs.LinkIndex.{entered_by};
 ghost use Rattle.corridor_search.specs.MeshGraphs.{vertex_of, polygon_of, inner_links, outer_links, links_from, link_of};
 
-use crate::arcs::push_link_arcs;
-use crate::weights::{distance, middle_at};
-use graph_search::{Arc, Graph, Step, Vertex};
+use crate::arcs::{link_weight, push_link_ends};
+use crate::weights::{distance, extent_at, middle};
+use graph_search::{Graph, Step, Vertex};
 use mesh_types::{Link, Mesh, PolyRef};
 use nav_base::Point;
 use std::alloc::AllocError;
@@ -126,11 +126,16 @@ impl Graph for MeshGraph<'_> {
     /// is 2897 across, at a cost of at most 1000.
     ghost heaviest = { λ _. 2897000 };
 
-    fn push_arcs(&self, from: Vertex, found: &mut Vec<Arc>) -> Result<(), AllocError> {
-        push_link_arcs(self.mesh, polygon_at(from), found)
+    fn push_ends(&self, from: Vertex, ends: &mut Vec<Vertex>) -> Result<(), AllocError> {
+        push_link_ends(self.mesh, polygon_at(from), ends)
+    }
+
+    fn weight(&self, step: Step, to: Vertex) -> u64 {
+        link_weight(self.mesh, step, to)
     }
 
     fn estimate(&self, from: Vertex) -> u64 {
-        u64::from(distance(middle_at(self.mesh, polygon_at(from)), self.goal))
+        let extent = extent_at(self.mesh, polygon_at(from));
+        u64::from(distance(middle(extent), self.goal))
     }
 }

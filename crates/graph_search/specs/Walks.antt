@@ -1,6 +1,6 @@
 -- Walks over the arcs of a graph, what they cost, the cheapest, and which graphs may be searched. A graph is given by its arcs: those that
 -- leave a vertex, in order.
-use Rattle.std.specs.Prelude.{◌≡◌, ℕ, ◌+◌, ◌-◌, ◌*◌, ◌^◌, ◌<◌, ◌≤◌, List, [], ◌∷◌, length, slice_index_or, All, Contains}
+use Rattle.std.specs.Prelude.{◌≡◌, ℕ, ◌+◌, ◌-◌, ◌*◌, ◌^◌, ◌<◌, ◌≤◌, List, [], ◌∷◌, length, map, slice_index_or, All, Contains}
 use Rattle.std.specs.List.{sum_by}
 use Rattle.graph_search.specs.declared.arcs.Vertex.{Vertex}
 use Rattle.graph_search.specs.declared.arcs.Arc.{Arc}
@@ -14,6 +14,10 @@ no_arc = record { to = record { block = 0; place = 0 }; weight = 0 }
 -- the arc that a step takes
 abbrev pub arc_of : (Vertex → List Arc) → Step → Arc
 arc_of arcs step = slice_index_or (arcs step.from) step.place no_arc
+
+-- the vertices that arcs enter
+abbrev pub ends_of : List Arc → List Vertex
+ends_of arcs = map (λ (arc : Arc). arc.to) arcs
 
 -- a walk from one vertex to another: each step leaves the vertex that the one before it entered, by one of its arcs
 abbrev pub Walks : (Vertex → List Arc) → Vertex → List Step → Vertex → Type 0

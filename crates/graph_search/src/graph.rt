@@ -1,14 +1,15 @@
 //! Graphs that can be searched.
 
-use crate::arcs::{Arc, Vertex};
+use crate::arcs::{Step, Vertex};
 use std::alloc::AllocError;
 
 /// A finite graph whose arcs have whole weights, some of them perhaps 0, with an estimate of what is left to go from each vertex. The arcs
-/// that leave a vertex are asked for when a search comes to it, and not before, and all at once, so their weights are best kept with them.
+/// that leave a vertex are found when a search comes to it, and not before, and an arc is weighed only where it may lead to less cost.
 pub trait Graph {
-    ghost use Rattle.std.specs.Prelude.{◌≡◌, ◌++◌, ℕ, List, OnOk, Contains};
+    ghost use Rattle.std.specs.Prelude.{◌≡◌, ◌<◌, ◌++◌, ℕ, List, length, OnOk, Contains};
     ghost use Rattle.graph_search.specs.declared.arcs.Vertex.{Vertex};
     ghost use Rattle.graph_search.specs.declared.arcs.Arc.{Arc};
+    ghost use Rattle.graph_search.specs.Walks.{arc_of, ends_of};
 
     /// What holds of a graph whose arcs may be asked for.
     ghost is_sound: { Self → Type 0 };
@@ -25,11 +26,19 @@ pub trait Graph {
     /// No arc weighs more.
     ghost heaviest: { Self → ℕ };
 
-    /// Appends the arcs that leave a vertex, in order.
-    fn push_arcs(&self, from: Vertex, found: &mut Vec<Arc>) -> Result<(), AllocError>
+    /// Appends the vertices that are entered by the arcs which leave a vertex, in order of the arcs.
+    fn push_ends(&self, from: Vertex, ends: &mut Vec<Vertex>) -> Result<(), AllocError>
         requires sound { is_sound self.now }
         requires there { Contains (vertices self.now) from }
-        ensures { OnOk result (found.new.items ≡ found.old.items ++ arcs self.now from) };
+        ensures { OnOk result (ends.new.items ≡ ends.old.items ++ ends_of (arcs self.now from)) };
+
+    /// What the arc of a step weighs, which enters a given vertex.
+    fn weight(&self, step: Step, to: Vertex) -> u64
+        requires sound { is_sound self.now }
+        requires there { Contains (vertices self.now) step.from }
+        requires place { step.place < length (arcs self.now step.from) }
+        requires end { (arc_of (arcs self.now) step).to ≡ to }
+        ensures { result ≡ (arc_of (arcs self.now) step).weight };
 
     /// The estimate of what is left to go from a vertex. With 0 everywhere a search is Dijkstra's.
     fn estimate(&self, from: Vertex) -> u64

@@ -9,7 +9,7 @@ ghost use Rattle.graph_search.specs.Visited.{visit_at, IsClosed, IsWritten};
 ghost use Rattle.graph_search.specs.Entries.{entry};
 ghost use Rattle.graph_search.specs.Searching.{IsTree, IsRanked, IsKnown, IsClosing, AllRelaxed, AreBeingRelaxed, IsFollowing, KeepsRanks, IsBegun, IsWalkTo, closed_as};
 
-use crate::arcs::{Arc, Step, Vertex, Walk};
+use crate::arcs::{Step, Vertex, Walk};
 use crate::entry::Entry;
 use crate::graph::Graph;
 use crate::visits::{UNSEEN, Visit, Visits};
@@ -34,7 +34,7 @@ pub fn cheapest_walk<G: Graph>(
     ensures none { IfOk result (λ answer. IfNone answer (IsApart (G.arcs graph.now) from to)) }
 {
     let mut search = Search::begin(alloc, from, graph.estimate(from))?;
-    let mut arcs = Vec::new(alloc);
+    let mut ends = Vec::new(alloc);
     while let Some(first) = search.waiting.pop(alloc)? {
         let vertex = first.vertex;
         let visit = search.visits.get(vertex);
@@ -45,9 +45,27 @@ pub fn cheapest_walk<G: Graph>(
         if vertex == to {
             return Ok(Some(walk_to(alloc, &search.visits, from, to)?));
         }
-        search.relax(alloc, graph, vertex, visit.cost, &mut arcs)?;
+        let turn = Turn {
+            vertex,
+            cost: visit.cost,
+        };
+        search.relax(alloc, graph, turn, &mut ends)?;
     }
     Ok(None)
+}
+
+/// A vertex that was just closed, and what it costs.
+#[derive(Clone, Copy)]
+struct Turn {
+    vertex: Vertex,
+    cost: u64,
+}
+
+/// A step from a vertex that was just closed, and what that vertex costs.
+#[derive(Clone, Copy)]
+struct Stride {
+    step: Step,
+    cost: u64,
 }
 
 /// The state of a search.
@@ -102,26 +120,25 @@ impl Search {
         Ok(())
     }
 
-    /// Follows the arcs of a vertex that was just closed, which this costs. The arcs are room to work in.
+    /// Follows the arcs of a vertex that was just closed. The ends are room to work in.
     fn relax<G: Graph>(
         &mut self,
         alloc: Global,
         graph: &G,
-        from: Vertex,
-        cost: u64,
-        arcs: &mut Vec<Arc>,
+        turn: Turn,
+        ends: &mut Vec<Vertex>,
     ) -> Result<(), AllocError>
         requires sound { G.is_sound graph.now }
         requires searchable { IsSearchable (G.vertices graph.now) (G.arcs graph.now) (G.estimates graph.now) (G.heaviest graph.now) }
-        requires there { Contains (G.vertices graph.now) from }
-        requires cost { cost ≡ (visit_at self.old.visits from).cost }
-        requires last { self.old.waiting.last ≤ cost + G.estimates graph.now from }
+        requires there { Contains (G.vertices graph.now) turn.vertex }
+        requires cost { turn.cost ≡ (visit_at self.old.visits turn.vertex).cost }
+        requires last { self.old.waiting.last ≤ turn.cost + G.estimates graph.now turn.vertex }
         requires few { self.old.closed ≤ length (G.vertices graph.now) }
         requires known { IsKnown (G.vertices graph.now) (G.estimates graph.now) (visit_at self.old.visits)
             self.old.waiting.entries (self.old.closed * G.heaviest graph.now) self.old.closed }
         requires closing { IsClosing (G.estimates graph.now) (G.heaviest graph.now) (visit_at self.old.visits)
-            (self.old.closed * G.heaviest graph.now) from }
-        requires relaxing { AreBeingRelaxed (G.arcs graph.now) (visit_at self.old.visits) from 0 }
+            (self.old.closed * G.heaviest graph.now) turn.vertex }
+        requires relaxing { AreBeingRelaxed (G.arcs graph.now) (visit_at self.old.visits) turn.vertex 0 }
         ensures known { OnOk result (IsKnown (G.vertices graph.now) (G.estimates graph.now) (visit_at self.new.visits)
             self.new.waiting.entries (self.old.closed * G.heaviest graph.now) self.old.closed) }
         ensures relaxed { OnOk result (AllRelaxed (G.arcs graph.now) (visit_at self.new.visits)) }
@@ -129,53 +146,56 @@ impl Search {
             → IsTree (G.arcs graph.now) start (visit_at self.new.visits)) }
         ensures ranks { OnOk result (KeepsRanks (visit_at self.old.visits) (visit_at self.new.visits)) }
         ensures more { OnOk result (length self.new.waiting.entries
-            ≤ length self.old.waiting.entries + length (G.arcs graph.now from)) }
+            ≤ length self.old.waiting.entries + length (G.arcs graph.now turn.vertex)) }
         ensures closed { self.new.closed ≡ self.old.closed }
     {
-        arcs.clear();
-        graph.push_arcs(from, arcs)?;
-        let arcs = arcs.as_slice();
-        for (place, arc) in arcs.iter().enumerate() {
-            self.follow(alloc, graph, Step { from, place }, cost, *arc)?;
+        ends.clear();
+        graph.push_ends(turn.vertex, ends)?;
+        let ends = ends.as_slice();
+        for (place, to) in ends.iter().enumerate() {
+            let step = Step {
+                from: turn.vertex,
+                place,
+            };
+            let cost = turn.cost;
+            self.follow(alloc, graph, Stride { step, cost }, *to)?;
         }
         Ok(())
     }
 
-    /// Follows an arc of a vertex that was just closed, which this costs: where it leads to a vertex at less cost than was known, that is
-    /// written, and the vertex waits with it.
+    /// Follows an arc of a vertex that was just closed: where it leads to a vertex at less cost than was known, that is written, and the
+    /// vertex waits with it.
     fn follow<G: Graph>(
         &mut self,
         alloc: Global,
         graph: &G,
-        last: Step,
-        cost: u64,
-        arc: Arc,
+        stride: Stride,
+        to: Vertex,
     ) -> Result<(), AllocError>
         requires sound { G.is_sound graph.now }
         requires searchable { IsSearchable (G.vertices graph.now) (G.arcs graph.now) (G.estimates graph.now) (G.heaviest graph.now) }
-        requires there { Contains (G.vertices graph.now) last.from }
-        requires place { last.place < length (G.arcs graph.now last.from) }
-        requires arc { arc_of (G.arcs graph.now) last ≡ arc }
-        requires cost { cost ≡ (visit_at self.old.visits last.from).cost }
-        requires last { self.old.waiting.last ≤ cost + G.estimates graph.now last.from }
+        requires there { Contains (G.vertices graph.now) stride.step.from }
+        requires place { stride.step.place < length (G.arcs graph.now stride.step.from) }
+        requires end { (arc_of (G.arcs graph.now) stride.step).to ≡ to }
+        requires cost { stride.cost ≡ (visit_at self.old.visits stride.step.from).cost }
+        requires last { self.old.waiting.last ≤ stride.cost + G.estimates graph.now stride.step.from }
         requires few { self.old.closed ≤ length (G.vertices graph.now) }
         requires known { IsKnown (G.vertices graph.now) (G.estimates graph.now) (visit_at self.old.visits)
             self.old.waiting.entries (self.old.closed * G.heaviest graph.now) self.old.closed }
         requires closing { IsClosing (G.estimates graph.now) (G.heaviest graph.now) (visit_at self.old.visits)
-            (self.old.closed * G.heaviest graph.now) last.from }
-        requires relaxing { AreBeingRelaxed (G.arcs graph.now) (visit_at self.old.visits) last.from last.place }
+            (self.old.closed * G.heaviest graph.now) stride.step.from }
+        requires relaxing { AreBeingRelaxed (G.arcs graph.now) (visit_at self.old.visits) stride.step.from stride.step.place }
         ensures followed { OnOk result (IsFollowing (G.vertices graph.now) (G.arcs graph.now) (G.estimates graph.now) (G.heaviest graph.now)
-            last.from self.old.closed (visit_at self.old.visits) self.old.waiting.entries
-            (visit_at self.new.visits) self.new.waiting.entries (last.place + 1) 1) }
+            stride.step.from self.old.closed (visit_at self.old.visits) self.old.waiting.entries
+            (visit_at self.new.visits) self.new.waiting.entries (stride.step.place + 1) 1) }
         ensures closed { self.new.closed ≡ self.old.closed }
         ensures last { self.new.waiting.last ≡ self.old.waiting.last }
     {
-        let to = arc.to;
         let known = self.visits.get(to);
         if known.rank != 0 {
             return Ok(());
         }
-        let through = cost + arc.weight;
+        let through = stride.cost + graph.weight(stride.step, to);
         if known.cost <= through {
             return Ok(());
         }
@@ -183,7 +203,7 @@ impl Search {
         let better = Visit {
             cost: through,
             rank,
-            last,
+            last: stride.step,
         };
         self.visits.set(alloc, to, better)?;
         let key = through + graph.estimate(to);

@@ -10,13 +10,13 @@ use Rattle.nav_ground.specs.declared.setting.Setting.{Setting}
 use Rattle.nav_ground.specs.Connection.{walkable_spans, unconnected_cell, unconnected_cells, connected_cell, compact_cells}
 use Rattle.nav_ground.specs.Fields.{IsField, IsSpan}
 use Rattle.nav_ground.specs.Filters.{filtered_areas}
-use Rattle.nav_ground.specs.Grounds.{IsSized, IsLayerOf}
+use Rattle.nav_ground.specs.Grounds.{IsSized, IsLayerOf, IsWideWithin}
 use Rattle.nav_ground.specs.Clearance.{kept_cells}
-use Rattle.nav_ground.specs.Layers.{cells_of, layer_among, layer_of, layers_of}
+use Rattle.nav_ground.specs.Layers.{cells_of, kept_cells_of, layer_among, layer_of, layers_of}
 use Rattle.nav_ground.specs.Limits.{IsSetting}
 use Rattle.nav_ground.specs.Tiling.{tile_count}
 use Rattle.nav_ground.specs.declared.cell.Layer.{Layer}
-use Rattle.nav_ground.proofs.LayerLaws.{layer_rules, layers_rules}
+use Rattle.nav_ground.proofs.LayerLaws.{layer_rules, layers_rules, wide_within}
 use Rattle.layer_cut.specs.Tiles.{IsInField, AreInField}
 
 -- what holds of each element of the first of two lists holds of the first of each pair
@@ -85,3 +85,8 @@ pub layers_rules_of : (setting : Setting) (field : Field) (layers : List Layer) 
     → All (IsLayerOf setting) layers
 layers_rules_of setting field layers limits rules' same =
     All-same (IsLayerOf setting) layers (layers_of setting field) same (layers_rules setting field limits rules')
+
+-- no wide cell of a field's layer is too far from its tile
+pub layer_within : (setting : Setting) (field : Field) (tile : ℕ) → IsWideWithin setting (layer_of setting field tile)
+unfolding layer_of
+layer_within setting field tile = wide_within setting (cells_of setting field) (kept_cells_of setting field) tile

@@ -3,7 +3,7 @@
 ghost use Rattle.std.specs.Prelude.{◌≡◌, ◌<◌, IfOk, All};
 ghost use Rattle.nav_ground.specs.Cells.{IsCompact};
 ghost use Rattle.nav_ground.specs.Fields.{IsField};
-ghost use Rattle.nav_ground.specs.Grounds.{IsSized, IsGround, IsLayerOf};
+ghost use Rattle.nav_ground.specs.Grounds.{IsSized, IsGround, IsLayerOf, IsWideWithin};
 ghost use Rattle.nav_ground.specs.Layers.{cells_of, layer_of, layers_of};
 ghost use Rattle.nav_ground.specs.Limits.{IsSetting};
 ghost use Rattle.nav_ground.specs.Tiling.{tile_count};
@@ -28,6 +28,9 @@ pub fn ground(alloc: Global, setting: Setting, field: Field) -> Result<Ground, A
     ensures value { IfOk result (λ whole. whole ≡ record { setting = setting; field = field; layers = layers_of setting field }) }
     ensures rules { IfOk result IsGround }
     ensures layers { IfOk result (λ whole. All (IsLayerOf whole.setting) whole.layers) }
+
+    // No wide cell is further from its tile than agents keep from obstacles.
+    ensures wide { IfOk result (λ whole. All (IsWideWithin whole.setting) whole.layers) }
 {
     let layers = layers(alloc, &setting, &field)?;
     Ok(Ground {
@@ -54,6 +57,9 @@ pub fn layer(
     requires there { tile < tile_count setting.now }
     ensures value { IfOk result (λ layer. layer ≡ layer_of setting.now field.now tile) }
     ensures rules { IfOk result (λ layer. IsLayerOf setting.now layer) }
+
+    // No wide cell is further from the tile than agents keep from obstacles.
+    ensures wide { IfOk result (IsWideWithin setting.now) }
 {
     let window = tile_bounds(setting, tile);
     let margin = setting.agent.radius + 2;

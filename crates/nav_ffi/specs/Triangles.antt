@@ -2,6 +2,7 @@
 use Rattle.std.specs.Prelude.{◌≡◌, ℕ, List, Option, Some}
 use Rattle.nav_ground.specs.declared.field.Field.{Field}
 use Rattle.nav_ground.specs.declared.setting.Setting.{Setting}
+use Rattle.nav_ground.specs.Fields.{IsField}
 use Rattle.tri_rows.specs.declared.triangle.Tri.{Tri}
 use Rattle.tri_rows.specs.Rasters.{HasManySpans, IsRaster}
 use Rattle.tri_raster.specs.TriText.{IsTriText}
@@ -16,6 +17,7 @@ pub record HoldsRastered (bytes : List ℕ) (held : Option BookState) : Type 0 w
   pub field : Field
   pub text : IsTriText bytes setting header tris
   pub raster : IsRaster setting tris field
+  pub rules : IsField field
   pub is : held ≡ Some (first_state (ground_of setting field))
 
 -- the bytes are the text of a setting and of triangles that leave more spans than a field may have

@@ -1,10 +1,11 @@
 //! A level behind a handle, for hosts in C and whatever calls C. `include/navd.h` is its face; here are its promises.
 //!
 //! Contracts see what a handle holds as the state of a level (`NavdLevel`), or nothing. A request and a step leave there exactly what their
-//! definition makes of it (`specs/Requests.antt`, `specs/Steps.antt`,
-//! `specs/Renewing.antt`); a question leaves it as it was, and its status, its counts and what it
-//! leaves in the host's arrays are those of an answer that is right in the published mesh (`specs/Answers.antt`). No call asks anything of its
-//! numbers: those that are out of their limits are told so, and no others.
+//! definition makes of it (`specs/Requests.antt`, `specs/Steps.antt`, `specs/Jobs.antt`, `specs/Renewing.antt`); a question leaves it as it
+//! was, and its status, its counts and what it leaves in the host's arrays are those of an answer that is right in the published mesh
+//! (`specs/Answers.antt`, `specs/Hopping.antt`, `specs/Walking.antt`), or what there is to draw (`specs/Looking.antt`). How levels are opened
+//! stands in `specs/Opening.antt` and `specs/Triangles.antt`, what views show in `specs/Viewing.antt`. No call asks anything of its numbers:
+//! those that are out of their limits are told so, and no others.
 #![tactic(auto)]
 
 mod asking;

@@ -4,7 +4,7 @@
 pub const OK: u32 = 0;
 /// Memory was refused. What the call says of it holds; nothing that was there is lost.
 pub const NO_MEMORY: u32 = 1;
-/// The handle holds no level.
+/// The handle holds nothing.
 pub const EMPTY: u32 = 2;
 /// The text has a fault.
 pub const FAULTY: u32 = 3;
@@ -16,7 +16,7 @@ pub const TOO_MANY: u32 = 5;
 pub const DEAD: u32 = 6;
 /// The history has as many entries as it can have: no entry was made.
 pub const HISTORY_FULL: u32 = 7;
-/// A tile is still awaited.
+/// Something is not built or published yet.
 pub const NOT_YET: u32 = 8;
 /// It was so before.
 pub const SAME: u32 = 9;

@@ -14,6 +14,7 @@ use crate::acts::aim;
 use crate::bench::Bench;
 use crate::builds::publish_all;
 use crate::lane::{Lane, Stop};
+use agent_walks::Place;
 use nav_io::{Actor, Gate, Stage};
 use nav_script::Line;
 use nav_steps::Steps;
@@ -76,7 +77,12 @@ impl Lane {
                 to,
                 to_y,
             } => {
-                self.send(bench, from, from_y, to, to_y)?;
+                let from = Place {
+                    point: from,
+                    y: from_y,
+                };
+                let to = Place { point: to, y: to_y };
+                self.send(bench, from, to)?;
                 Ok(())
             }
             Line::March(length) => {

@@ -13,7 +13,7 @@ ghost use Rattle.nav_lane.specs.LaneSteps.{HasRun};
 use crate::bench::Bench;
 use crate::lane::Lane;
 use crate::said::Said;
-use nav_base::Point;
+use agent_walks::Place;
 use nav_io::{Actor, Gate, Stage};
 use nav_script::Line;
 use std::alloc::AllocError;
@@ -24,15 +24,13 @@ impl Lane {
     pub(crate) fn send<R: Wait, G: Gate>(
         &mut self,
         bench: &Bench<'_, R, G>,
-        from: Point,
-        from_y: u32,
-        to: Point,
-        to_y: u32,
+        from: Place,
+        to: Place,
     ) -> Result<(), AllocError>
-        requires from { HasCoordinates from }
-        requires to { HasCoordinates to }
+        requires from { HasCoordinates from.point }
+        requires to { HasCoordinates to.point }
         ensures ran { (lock : LockId RootView) (spoken : List Spoken) → KeepsLane lock spoken self.old
-            → OnOk result (HasRun lock (lines.Send from from_y to to_y) spoken self.new) }
+            → OnOk result (HasRun lock (lines.Send from.point from.y to.point to.y) spoken self.new) }
         ensures pass { self.new.pass ≡ self.old.pass }
     {
         let actor = Actor::Lane(self.number);
@@ -40,17 +38,17 @@ impl Lane {
         let (k, sent, answer) = agent_walks::send(
             bench.alloc,
             &mut self.eye,
-            from,
-            from_y,
-            to,
-            to_y,
+            from.point,
+            from.y,
+            to.point,
+            to.y,
         )?;
         self.walker = sent;
         let line = Line::Send {
-            from,
-            from_y,
-            to,
-            to_y,
+            from: from.point,
+            from_y: from.y,
+            to: to.point,
+            to_y: to.y,
         };
         self.note(&line, &Said::Walked { k, answer })?;
         bench.gate.pass(actor, Stage::AfterAsk);

@@ -10,6 +10,7 @@ ghost use Rattle.nav_book.specs.Settling.{IsUnclaimed};
 ghost use Rattle.nav_steps.specs.Counts.{HasRisenAtMost};
 ghost use Rattle.nav_live.specs.LiveRecord.{live_text};
 
+use crate::run::Run;
 use crate::text::write_live;
 use nav_base::Question;
 use nav_book::Book;
@@ -22,9 +23,8 @@ use std::sync::ledger::Ledger;
 
 /// Builds and publishes the whole history, with one step at most for each tile, shows it to the eyes of the lanes, and gives the live text of
 /// it and of what the lanes have written.
-pub(crate) fn finish<R: Wait, L: Ledger>(
-    rt: &R,
-    alloc: Global,
+pub(crate) fn finish<R: Wait, G, L: Ledger>(
+    run: &Run<'_, R, G>,
     book: &mut Book,
     eyes: &mut [Eye],
     lanes: Vec<Items<u8>>,
@@ -39,9 +39,9 @@ pub(crate) fn finish<R: Wait, L: Ledger>(
     ensures free { OnOk result (IsUnclaimed book.new.state) }
     ensures most { HasRisenAtMost (tile_count book.old.state.whole.setting) steps.old steps.new }
 {
-    let _ = book.settle(rt, alloc, steps)?;
-    catch_up(rt, alloc, book, eyes)?;
-    write_live(alloc, book, lanes)
+    let _ = book.settle(run.rt, run.alloc, steps)?;
+    catch_up(run.rt, run.alloc, book, eyes)?;
+    write_live(run.alloc, book, lanes)
 }
 
 /// Lets eyes see all that is published.

@@ -96,6 +96,12 @@ impl Left {
     }
 }
 
+/// What the lanes of a script begin with: for each an eye and its lines.
+pub(crate) struct Outfit {
+    pub(crate) eyes: Vec<Eye>,
+    pub(crate) lists: Vec<Items<Line>>,
+}
+
 /// The lane with a number, before its first line: the next eye reads for it, and the next list is its lines.
 fn new_lane(
     alloc: Global,
@@ -168,18 +174,18 @@ impl Crew {
         alloc: Global,
         script: &Script,
         passes: Vec<Pass<LiveBook>>,
-        eyes: Vec<Eye>,
-        lists: Vec<Items<Line>>,
+        outfit: Outfit,
     )
         requires limit { script.now.lanes + script.now.workers < 2 ^ 32 }
         requires room { IsSpareCrew (script.now.lanes + script.now.workers) self.old }
         requires passes { length passes.items ≡ script.now.lanes + script.now.workers }
-        requires eyes { length eyes.items ≡ script.now.lanes }
-        requires lists { lists.items ≡ dealt script.now }
-        requires runnable { All (λ list. All IsRunnable list) lists.items }
-        ensures mustered { (lock : LockId RootView) → CanMuster lock script.now passes.items eyes.items → AreMustered lock script.now self.new.hands.items }
+        requires eyes { length outfit.eyes.items ≡ script.now.lanes }
+        requires lists { outfit.lists.items ≡ dealt script.now }
+        requires runnable { All (λ list. All IsRunnable list) outfit.lists.items }
+        ensures mustered { (lock : LockId RootView) → CanMuster lock script.now passes.items outfit.eyes.items → AreMustered lock script.now self.new.hands.items }
         ensures left { IsSpare (length self.new.hands.items) self.new.left }
     {
+        let Outfit { eyes, lists } = outfit;
         let mut passes = passes.into_iter();
         let mut eyes = eyes.into_iter();
         let mut lists = lists.into_iter();

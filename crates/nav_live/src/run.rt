@@ -18,6 +18,7 @@ ghost use Rattle.nav_live.specs.Runs.{IsOpened, IsRun};
 use crate::closing::finish;
 use crate::deal::deal;
 use crate::hand::{Crew, Left};
+use crate::muster::Outfit;
 use layer_cut::ground;
 use nav_book::Book;
 use nav_ground::{Field, Ground, Setting};
@@ -81,9 +82,9 @@ pub fn live<R: Threads + Wait + Sync, G: Gate + Sync, L: Ledger>(
 
 /// What a run is of: the ground of its level, and its script; and what it runs with.
 #[derive(Drop)]
-struct Run<'a, R, G> {
-    rt: &'a R,
-    alloc: Global,
+pub(crate) struct Run<'a, R, G> {
+    pub(crate) rt: &'a R,
+    pub(crate) alloc: Global,
     level: &'a Ground,
     script: &'a Script,
     gate: &'a G,
@@ -141,7 +142,7 @@ fn run_crew<R: Threads + Wait + Sync, G: Gate + Sync, L: Ledger>(
     let actors = run.script.lanes + run.script.workers;
     match TurnLock::new(run.alloc, LiveBook { book }, actors) {
         Ok((lock, passes)) => {
-            crew.muster(run.alloc, run.script, passes, eyes, lists);
+            crew.muster(run.alloc, run.script, passes, Outfit { eyes, lists });
             let bench = Bench {
                 rt: run.rt,
                 alloc: run.alloc,
@@ -185,7 +186,7 @@ fn end_run<R: Wait, G, L: Ledger>(
     } = left;
     let LiveBook { mut book } = lock.close(passes);
     let text = match end {
-        Ok(()) => finish(run.rt, run.alloc, &mut book, &mut eyes, texts, steps),
+        Ok(()) => finish(run, &mut book, &mut eyes, texts, steps),
         Err(stop) => match stop {
             Stop::NoMemory => Err(AllocError),
             Stop::HistoryFull => unreachable!(),

@@ -47,6 +47,15 @@ pub(crate) struct Player {
     pub(crate) text: Vec<u8>,
 }
 
+/// Where a hop walk begins and where it goes to, each a point and a height.
+#[derive(Clone, Copy)]
+struct Ends {
+    from: Point,
+    from_y: u32,
+    to: Point,
+    to_y: u32,
+}
+
 impl Player {
     /// Plays the lines of a script from its beginning, writes what they are answered and how far the play came, and gives its totals. It takes
     /// one step for each tile that a claim of a line gives.
@@ -163,7 +172,15 @@ impl Player {
                 from_y,
                 to,
                 to_y,
-            } => self.ask_hop(alloc, from, from_y, to, to_y),
+            } => self.ask_hop(
+                alloc,
+                Ends {
+                    from,
+                    from_y,
+                    to,
+                    to_y,
+                },
+            ),
             // Lines of walkers stand in scripts that run live alone.
             Line::Send { .. } => unreachable!(),
             Line::March(_) => unreachable!(),
@@ -183,23 +200,16 @@ impl Player {
     }
 
     /// Answers the question for a hop walk over links and the jumps so far from the published mesh.
-    fn ask_hop(
-        &mut self,
-        alloc: Global,
-        from: Point,
-        from_y: u32,
-        to: Point,
-        to_y: u32,
-    ) -> Result<(), AllocError>
-        requires from { HasCoordinates from }
-        requires to { HasCoordinates to }
+    fn ask_hop(&mut self, alloc: Global, ends: Ends) -> Result<(), AllocError>
+        requires from { HasCoordinates ends.from }
+        requires to { HasCoordinates ends.to }
         requires steady { IsSteady self.old }
-        ensures { (s : ℕ) → OnOk result (HasPlayed (Line.Hop from from_y to to_y) self.old self.new s s) }
+        ensures { (s : ℕ) → OnOk result (HasPlayed (Line.Hop ends.from ends.from_y ends.to ends.to_y) self.old self.new s s) }
     {
-        self.hop.from = from;
-        self.hop.from_y = from_y;
-        self.hop.to = to;
-        self.hop.to_y = to_y;
+        self.hop.from = ends.from;
+        self.hop.from_y = ends.from_y;
+        self.hop.to = ends.to;
+        self.hop.to_y = ends.to_y;
         let (k, answer) = self.book.ask_by(alloc, &self.hop)?;
         write_hop(&mut self.text, k, &answer)
     }

@@ -95,7 +95,7 @@ pub fn play_to_end<R: Wait, L: Ledger>(
     ensures steps { OnOk result (steps.new ≡ steps.old + builds_of setting field script.now) }
     ensures most { HasRisenAtMost (builds_of setting field script.now) steps.old steps.new }
 {
-    let mut player = begin(rt, alloc, setting, field, script, steps)?;
+    let mut player = begin(rt, alloc, Start { setting, field }, script, steps)?;
     match player.play(rt, alloc, script, steps) {
         Ok(totals) => Ok(player.stop(totals)),
         Err(refused) => {
@@ -105,24 +105,30 @@ pub fn play_to_end<R: Wait, L: Ledger>(
     }
 }
 
+/// What a play starts from: a setting, and the field that it is for.
+struct Start {
+    setting: Setting,
+    field: Field,
+}
+
 /// The player of a script over a field, before its first line. It takes one step for each tile.
 fn begin<R: Wait, L: Ledger>(
     rt: &R,
     alloc: Global,
-    setting: Setting,
-    field: Field,
+    start: Start,
     script: &Script,
     steps: &mut Steps<L>,
 ) -> Result<Player, AllocError>
-    requires setting { IsSetting setting }
-    requires field { IsField field }
-    requires sized { IsSized setting field }
+    requires setting { IsSetting start.setting }
+    requires field { IsField start.field }
+    requires sized { IsSized start.setting start.field }
     requires script { IsScript Play script.now }
-    ensures state { IfOk result (λ player. player_state player ≡ first_state_of setting field script.now) }
+    ensures state { IfOk result (λ player. player_state player ≡ first_state_of start.setting start.field script.now) }
     ensures begun { IfOk result (HasBegun script.now) }
-    ensures steps { OnOk result (steps.new ≡ steps.old + tile_count setting) }
-    ensures most { HasRisenAtMost (tile_count setting) steps.old steps.new }
+    ensures steps { OnOk result (steps.new ≡ steps.old + tile_count start.setting) }
+    ensures most { HasRisenAtMost (tile_count start.setting) steps.old steps.new }
 {
+    let Start { setting, field } = start;
     let level = ground(alloc, setting, field)?;
     let tiles = build_tiles(alloc, &level, &[], steps)?;
     Ok(opened(rt, alloc, level, tiles, script)?)

@@ -1,7 +1,7 @@
 //! Plays of levels in whose texts agents keep their radius from obstacles, or say that they do not. What is wanted was worked out by hand.
 
 use crate::test_plays::{Frame, Play, check_frames, check_plays};
-use crate::test_runs::{Over, ROOM, SquareField, check, played};
+use crate::test_runs::{FREE, Over, ROOM, SquareField, check, played};
 use nav_run::Status;
 
 /// A flat field of 16 by 16 columns, whose cells are kept in the columns 3 to 12 of the rows 3 to 12; agents keep no distance from obstacles.
@@ -250,6 +250,6 @@ const NARROW: SquareField = SquareField {
 
 #[test]
 fn refuses_tiles_below_twice_the_radius(rt: HostRuntime) {
-    let ran = played(&rt, rt.alloc(), &NARROW, "", (100, 0), (100, 0));
+    let ran = played(&rt, rt.alloc(), &NARROW, "", FREE);
     check(&rt, &ran, Status::BadText, b"fault 8 2\n".as_slice());
 }

@@ -1,6 +1,8 @@
 //! Plays of the whole program: what scripts answer over levels. What is wanted was worked out by hand.
 
-use crate::test_runs::{FOUR_TILES, Over, ROOM, SquareField, WIDE, check, check_ends, played};
+use crate::test_runs::{
+    FOUR_TILES, FREE, Moves, Over, ROOM, SquareField, WIDE, check, check_ends, played,
+};
 use nav_run::Status;
 use std::alloc::Global;
 use std::process::Abort;
@@ -12,7 +14,7 @@ pub(crate) type Play = (SquareField, &'static str, &'static str);
 
 pub(crate) fn check_plays<R: Abort + Threads + Wait + Sync>(rt: &R, alloc: Global, plays: &[Play]) {
     for (level, script, text) in plays {
-        let ran = played(rt, alloc, level, script, (100, 0), (100, 0));
+        let ran = played(rt, alloc, level, script, FREE);
         check(rt, &ran, Status::Ok, text.as_bytes());
     }
 }
@@ -324,7 +326,7 @@ pub(crate) fn check_frames<R: Abort + Threads + Wait + Sync>(
     plays: &[Frame],
 ) {
     for (level, script, first, last) in plays {
-        let ran = played(rt, alloc, level, script, (100, 0), (100, 0));
+        let ran = played(rt, alloc, level, script, FREE);
         check_ends(rt, &ran, first, last);
     }
 }
@@ -502,6 +504,10 @@ fn takes_jumps(rt: HostRuntime) {
 
 #[test]
 fn leaves_what_was_written_of_an_answer(rt: HostRuntime) {
-    let ran = played(&rt, rt.alloc(), &ROOM, ACROSS, (100, 0), (8, 2));
+    let moves = Moves {
+        read: (100, 0),
+        write: (8, 2),
+    };
+    let ran = played(&rt, rt.alloc(), &ROOM, ACROSS, moves);
     check(&rt, &ran, Status::WriteFault, b"floors 0".as_slice());
 }

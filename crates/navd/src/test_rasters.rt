@@ -1,6 +1,6 @@
 //! Fields of triangles: what the word `raster` writes. What is wanted was worked out by hand.
 
-use crate::test_runs::{check, run_once};
+use crate::test_runs::{NARROW_WRITES, check, run_once};
 use nav_run::Status;
 use std::alloc::Global;
 use std::process::Abort;
@@ -127,7 +127,7 @@ fn level(rt: &impl Abort, alloc: Global, size: &str, lines: &str) -> Vec<u8> {
 fn check_rows<R: Abort + Threads + Wait + Sync>(rt: &R, alloc: Global, rows: &[Row]) {
     for (size, lines, status, held) in rows {
         let input = level(rt, alloc, size, lines);
-        let ran = run_once(rt, alloc, &["raster"], input, (100, 0), (8, 0));
+        let ran = run_once(rt, alloc, &["raster"], input, NARROW_WRITES);
         if *status == Status::Ok {
             check(
                 rt,

@@ -20,29 +20,62 @@ pub(crate) struct Ran {
     pub(crate) sink: MemorySink,
 }
 
-/// One run, with a counter of its own: the gate, the bytes a read and a write move at most, and the numbers of the read and the write that
-/// fail (0 for none).
+/// The bytes that a read and a write move at most, each with the number of the read or the write that fails (0 for none).
+#[derive(Clone, Copy)]
+pub(crate) struct Moves {
+    pub(crate) read: (usize, u32),
+    pub(crate) write: (usize, u32),
+}
+
+/// Up to 100 bytes at once.
+pub(crate) const FREE: Moves = Moves {
+    read: (100, 0),
+    write: (100, 0),
+};
+
+/// Up to 100 bytes at once are read, and up to 8 written.
+pub(crate) const NARROW_WRITES: Moves = Moves {
+    read: (100, 0),
+    write: (8, 0),
+};
+
+/// Up to 4096 bytes at once.
+pub(crate) const LARGE: Moves = Moves {
+    read: (4096, 0),
+    write: (4096, 0),
+};
+
+/// What a run is given: its words, its input, and how both are moved.
+struct Feed<'a> {
+    words: &'a [&'a str],
+    input: Vec<u8>,
+    moves: Moves,
+}
+
+/// One run through a gate, with a counter of its own.
 fn run_counted<R: Abort + Threads + Wait + Sync, G: Gate + Sync, L: Ledger>(
     rt: &R,
     alloc: Global,
-    words: &[&str],
-    input: Vec<u8>,
+    feed: Feed<'_>,
     gate: &G,
-    read: (usize, u32),
-    write: (usize, u32),
     blank: Blank,
 ) -> Ran
-    requires reads { 0 < read.0 }
-    requires writes { 0 < write.0 }
+    requires reads { 0 < feed.moves.read.0 }
+    requires writes { 0 < feed.moves.write.0 }
     requires name { blank.name ≡ L.name }
     requires parts { blank.parts ≡ L.parts }
     requires some { 0 < blank.parts }
 {
+    let Feed {
+        words,
+        input,
+        moves,
+    } = feed;
     let words = words_of(rt, alloc, words);
-    let failing_reads = vec![in alloc; read.1].expect(rt, "memory");
-    let mut source = MemorySource::new(input, read.0, failing_reads);
-    let failing_writes = vec![in alloc; write.1].expect(rt, "memory");
-    let mut sink = MemorySink::with_room(alloc, write.0, 6000000, failing_writes).expect(
+    let failing_reads = vec![in alloc; moves.read.1].expect(rt, "memory");
+    let mut source = MemorySource::new(input, moves.read.0, failing_reads);
+    let failing_writes = vec![in alloc; moves.write.1].expect(rt, "memory");
+    let mut sink = MemorySink::with_room(alloc, moves.write.0, 6000000, failing_writes).expect(
         rt, "memory",
     );
     let mut steps = Steps::<L>::new(blank);
@@ -58,20 +91,24 @@ fn run_counted<R: Abort + Threads + Wait + Sync, G: Gate + Sync, L: Ledger>(
     Ran { status, sink }
 }
 
-/// One run at whose gate nobody waits, through reads and writes as in `run_counted`.
+/// One run at whose gate nobody waits.
 pub(crate) fn run_once<R: Abort + Threads + Wait + Sync>(
     rt: &R,
     alloc: Global,
     words: &[&str],
     input: Vec<u8>,
-    read: (usize, u32),
-    write: (usize, u32),
+    moves: Moves,
 ) -> Ran
-    requires reads { 0 < read.0 }
-    requires writes { 0 < write.0 }
+    requires reads { 0 < moves.read.0 }
+    requires writes { 0 < moves.write.0 }
 {
     let blank = Blank::new(1);
-    run_counted::<_, _, Brand>(rt, alloc, words, input, &FreeGate, read, write, blank)
+    let feed = Feed {
+        words,
+        input,
+        moves,
+    };
+    run_counted::<_, _, Brand>(rt, alloc, feed, &FreeGate, blank)
 }
 
 fn words_of(rt: &impl Abort, alloc: Global, texts: &[&str]) -> Vec<String> {
@@ -227,20 +264,19 @@ pub(crate) fn built_level(
     text
 }
 
-/// Plays the script over the level, through reads and writes as in `run_once`.
+/// Plays the script over the level.
 pub(crate) fn played<R: Abort + Threads + Wait + Sync>(
     rt: &R,
     alloc: Global,
     level: &SquareField,
     script: &str,
-    read: (usize, u32),
-    write: (usize, u32),
+    moves: Moves,
 ) -> Ran
-    requires reads { 0 < read.0 }
-    requires writes { 0 < write.0 }
+    requires reads { 0 < moves.read.0 }
+    requires writes { 0 < moves.write.0 }
 {
     let text = built_level(rt, alloc, level, script);
-    run_once(rt, alloc, &["play"], text, read, write)
+    run_once(rt, alloc, &["play"], text, moves)
 }
 
 /// Runs the script live over the level, its actors through the gate.
@@ -253,5 +289,10 @@ pub(crate) fn lived<R: Abort + Threads + Wait + Sync, G: Gate + Sync>(
 ) -> Ran {
     let text = built_level(rt, alloc, level, script);
     let blank = Blank::new(1);
-    run_counted::<_, _, Brand>(rt, alloc, &["live"], text, gate, (100, 0), (100, 0), blank)
+    let feed = Feed {
+        words: &["live"],
+        input: text,
+        moves: FREE,
+    };
+    run_counted::<_, _, Brand>(rt, alloc, feed, gate, blank)
 }

@@ -3,7 +3,8 @@
 ghost use Rattle.std.specs.Prelude.{◌<◌};
 
 use crate::test_runs::{
-    ROOM, Ran, SquareField, built_level, check, check_ends, played, push_line, run_once,
+    FREE, LARGE, Moves, NARROW_WRITES, ROOM, Ran, SquareField, built_level, check, check_ends,
+    played, push_line, run_once,
 };
 use nav_run::Status;
 use std::alloc::Global;
@@ -59,7 +60,7 @@ static ENDINGS: [Ending; 15] = [
 fn check_endings<R: Abort + Threads + Wait + Sync>(rt: &R, alloc: Global, endings: &[Ending]) {
     for (word, script, status, held) in endings {
         let level = built_level(rt, alloc, &ROOM, script);
-        let ran = run_once(rt, alloc, &[*word], level, (100, 0), (8, 0));
+        let ran = run_once(rt, alloc, &[*word], level, NARROW_WRITES);
         check(rt, &ran, *status, held.as_bytes());
     }
 }
@@ -76,7 +77,11 @@ fn tells_each_failing_call(rt: HostRuntime) {
     assert!(rt; length < 5000);
     // The last call is the one that would tell the end.
     for call in 1..length + 2 {
-        let ran = played(&rt, alloc, &ROOM, SCRIPT, (1, call as u32), (8, 0));
+        let moves = Moves {
+            read: (1, call as u32),
+            write: (8, 0),
+        };
+        let ran = played(&rt, alloc, &ROOM, SCRIPT, moves);
         check(&rt, &ran, Status::ReadFault, b"");
     }
 }
@@ -85,7 +90,11 @@ fn tells_each_failing_call(rt: HostRuntime) {
 fn check_left<R: Abort + Threads + Wait + Sync>(rt: &R, alloc: Global, text: &[u8]) {
     assert!(rt; text.len() < 5000);
     for call in 0..text.len() {
-        let ran = played(rt, alloc, &ROOM, SCRIPT, (100, 0), (1, call as u32 + 1));
+        let moves = Moves {
+            read: (100, 0),
+            write: (1, call as u32 + 1),
+        };
+        let ran = played(rt, alloc, &ROOM, SCRIPT, moves);
         check(rt, &ran, Status::WriteFault, &text[..call]);
     }
 }
@@ -97,14 +106,12 @@ fn leaves_what_was_written(rt: HostRuntime) {
 
 #[test]
 fn leaves_nothing_of_a_fault(rt: HostRuntime) {
-    let ran = run_once(
-        &rt,
-        rt.alloc(),
-        &["play"],
-        Vec::new(rt.alloc()),
-        (1, 0),
-        (8, 1),
-    );
+    let moves = Moves {
+        read: (1, 0),
+        write: (8, 1),
+    };
+    let input = Vec::new(rt.alloc());
+    let ran = run_once(&rt, rt.alloc(), &["play"], input, moves);
     check(&rt, &ran, Status::WriteFault, b"");
 }
 
@@ -128,7 +135,7 @@ fn check_beginning<R: Abort + Threads + Wait + Sync>(
 ) {
     let mut input = Vec::new(alloc);
     input.extend_from_slice(beginning).expect(rt, "memory");
-    let ran = run_once(rt, alloc, &["play"], input, (100, 0), (100, 0));
+    let ran = run_once(rt, alloc, &["play"], input, FREE);
     if is_whole && lines >= 45 {
         check(rt, &ran, Status::Ok, played_by(lines).as_bytes());
     } else {
@@ -166,7 +173,11 @@ static FEEDS: [Feeds; 2] = [
 fn check_feeds<R: Abort + Threads + Wait + Sync>(rt: &R, alloc: Global, rows: &[Feeds]) {
     for (length, status, held) in rows {
         let feeds = vec![in alloc; b'\n'; *length].expect(rt, "memory");
-        let ran = run_once(rt, alloc, &["play"], feeds, (1000000, 0), (8, 0));
+        let moves = Moves {
+            read: (1000000, 0),
+            write: (8, 0),
+        };
+        let ran = run_once(rt, alloc, &["play"], feeds, moves);
         check(rt, &ran, *status, held.as_bytes());
     }
 }
@@ -179,24 +190,23 @@ fn reads_no_more_than_it_may(rt: HostRuntime) {
 /// A level with room for one obstacle.
 const ONE_OBSTACLE: SquareField = SquareField { limit: 1, ..ROOM };
 
-/// Runs one line so many times over a level, as the word says.
-fn run_lines<R: Abort + Threads + Wait + Sync>(
+/// Runs a script over a level, as the word says.
+fn run_script<R: Abort + Threads + Wait + Sync>(
     rt: &R,
     alloc: Global,
     word: &str,
     level: &SquareField,
-    count: u32,
-    line: &str,
+    script: &str,
 ) -> Ran {
-    let script = lines(rt, alloc, count, line);
-    let text = built_level(rt, alloc, level, script.as_str());
-    run_once(rt, alloc, &[word], text, (4096, 0), (4096, 0))
+    let text = built_level(rt, alloc, level, script);
+    run_once(rt, alloc, &[word], text, LARGE)
 }
 
 #[test]
 fn fills_a_history(rt: HostRuntime) {
     let line = "add block 0 0 0 0 0 0\n";
-    let ran = run_lines(&rt, rt.alloc(), "play", &ONE_OBSTACLE, 262145, line);
+    let script = lines(&rt, rt.alloc(), 262145, line);
+    let ran = run_script(&rt, rt.alloc(), "play", &ONE_OBSTACLE, script.as_str());
     check_ends(
         &rt,
         &ran,
@@ -219,7 +229,8 @@ static TOO_MANY: [TooMany; 3] = [
 
 fn check_too_many<R: Abort + Threads + Wait + Sync>(rt: &R, alloc: Global, rows: &[TooMany]) {
     for (word, count, line, fault) in rows {
-        let ran = run_lines(rt, alloc, *word, &ROOM, *count, *line);
+        let script = lines(rt, alloc, *count, *line);
+        let ran = run_script(rt, alloc, *word, &ROOM, script.as_str());
         check(rt, &ran, Status::BadText, fault.as_bytes());
     }
 }
@@ -235,14 +246,7 @@ fn takes_as_many_jumps_as_it_may(rt: HostRuntime) {
     let mut script = lines(&rt, rt.alloc(), 256, ONE_JUMP);
     let hop = "hop 24 24 10 72 72 10\n";
     script.push_str(hop).expect(&rt, "memory");
-    let ran = played(
-        &rt,
-        rt.alloc(),
-        &ROOM,
-        script.as_str(),
-        (4096, 0),
-        (4096, 0),
-    );
+    let ran = played(&rt, rt.alloc(), &ROOM, script.as_str(), LARGE);
     check_ends(&rt, &ran, "hop 0 48 0 0 3 0\n", "done 0 0\n");
 }
 
@@ -278,7 +282,11 @@ fn run_unread<R: Abort + Threads + Wait + Sync>(
 ) -> Ran
     requires { 0 < write.0 }
 {
-    run_once(rt, alloc, words, Vec::new(alloc), (1, 1), write)
+    let moves = Moves {
+        read: (1, 1),
+        write,
+    };
+    run_once(rt, alloc, words, Vec::new(alloc), moves)
 }
 
 fn check_no_forms<R: Abort + Threads + Wait + Sync>(rt: &R, alloc: Global, forms: &[&[&str]]) {

@@ -1,21 +1,21 @@
 -- What the arc of a leap weighs, and which step it takes, by its place among the leaps of its polygon.
-use Rattle.std.proofs.Common.{◌≡◌, ℕ, ◌+◌, ◌<◌, List, ◌++◌, length, map, sym, ap, ◌∙◌}
+use Rattle.std.proofs.Common.{◌≡◌, ℕ, ◌+◌, ◌<◌, List, length, sym, ap, ◌∙◌}
 use Rattle.std.specs.Prelude.{slice_index_or}
-use Rattle.std.proofs.lemmas.List.Elements.{All-contains, All-weaker}
-use Rattle.std.specs.Prelude.{All, Contains}
-use Rattle.std.proofs.lemmas.List.{map-append}
-use Rattle.std.proofs.lemmas.Simd.{map-map}
+use Rattle.std.proofs.lemmas.List.Elements.{All-contains, All-weaker, Contains-get_or}
+use Rattle.std.specs.Prelude.{All}
 use Rattle.mesh_types.specs.declared.links.PolyRef.{PolyRef}
 use Rattle.mesh_types.specs.declared.mesh.Mesh.{Mesh}
 use Rattle.mesh_types.specs.declared.hops.Jump.{Jump}
+use Rattle.mesh_types.specs.Hops.{step_weight}
+use Rattle.graph_search.specs.declared.arcs.Arc.{Arc}
 use Rattle.graph_search.specs.declared.arcs.Step.{Step}
-use Rattle.corridor_search.specs.MeshGraphs.{vertex_of, polygon_of, links_from, arc_over}
+use Rattle.graph_search.specs.Walks.{arc_of}
+use Rattle.corridor_search.specs.MeshGraphs.{polygon_of, links_from}
 use Rattle.corridor_search.proofs.Lists.{kept_element}
-use Rattle.corridor_search.proofs.Ways.{same-each}
 use Rattle.off_links.specs.declared.leaps.Leap.{Leap}
 use Rattle.off_links.specs.Leaps.{AreLeaps, HasPlace, IsLeap, leaves, no_leap}
-use Rattle.off_links.specs.HopGraphs.{IsHopped, link_step, leap_step, leap_arc, leaps_from, steps_from, hop_arc, hop_step}
-use Rattle.off_links.proofs.Arcs.{past-there, step-of-leap}
+use Rattle.off_links.specs.HopGraphs.{IsHopped, leap_step, leaps_from, steps_from, hop_arcs, hop_step}
+use Rattle.off_links.proofs.Arcs.{arc-of-step, past-there, step-of-leap, step-there}
 use Rattle.off_links.proofs.Searched.{leap-weight}
 
 -- the places of the polygons that leaps leave are small
@@ -30,20 +30,17 @@ leap-found mesh leaps step past leap at below is here found =
     ap leap_step (found ∙ ap (λ (p : PolyRef). slice_index_or (leaps_from leaps p) past no_leap) here)
     ∙ sym (step-of-leap mesh leaps step past is (past-there mesh leaps step past is below))
 
--- the arcs of the links and then of the leaps that leave a polygon are those of its steps
-pub hop-arcs-are : (mesh : Mesh) (jumps : List Jump) (leaps : List Leap) (at : PolyRef) → IsHopped mesh jumps leaps
-    → map (arc_over mesh) (links_from mesh at) ++ map leap_arc (leaps_from leaps at)
-    ≡ map (hop_arc mesh jumps) (map link_step (links_from mesh at) ++ map leap_step (leaps_from leaps at))
-hop-arcs-are mesh jumps leaps at rules =
-    (λ i. sym (map-map (hop_arc mesh jumps) link_step (links_from mesh at)) i ++ leapt i)
-    ∙ sym (map-append (hop_arc mesh jumps) (map link_step (links_from mesh at)) (map leap_step (leaps_from leaps at)))
-  where
-    each : (leap : Leap) → Contains (leaps_from leaps at) leap → leap_arc leap ≡ hop_arc mesh jumps (leap_step leap)
-    each leap held =
-        let is_leap = All-contains (IsLeap mesh jumps) leaps leap rules.leaps_are.each (kept_element (leaves at) leaps leap held) in
-        λ i. record { to = vertex_of leap.to; weight = sym (leap-weight mesh jumps leap is_leap) i }
-
-    leapt : map leap_arc (leaps_from leaps at) ≡ map (hop_arc mesh jumps) (map leap_step (leaps_from leaps at))
-    leapt =
-        same-each leap_arc (λ leap. hop_arc mesh jumps (leap_step leap)) (leaps_from leaps at) each
-        ∙ sym (map-map (hop_arc mesh jumps) leap_step (leaps_from leaps at))
+pub leap-costs : (mesh : Mesh) (jumps : List Jump) (leaps : List Leap) (step : Step) (past : ℕ) (leap : Leap) (at : PolyRef) → IsHopped mesh jumps leaps
+    → step.place < length (hop_arcs mesh jumps leaps step.from) → step.place ≡ length (links_from mesh (polygon_of step.from)) + past → at ≡ polygon_of step.from
+    → leap ≡ slice_index_or (leaps_from leaps at) past no_leap → leap.cost ≡ (arc_of (hop_arcs mesh jumps leaps) step).weight
+leap-costs mesh jumps leaps step past leap at rules below is here found =
+    let own = leaps_from leaps (polygon_of step.from) in
+    let below' = step-there mesh jumps leaps step below in
+    let there = past-there mesh leaps step past is below' in
+    let same : leap ≡ slice_index_or own past no_leap = found ∙ ap (λ (p : PolyRef). slice_index_or (leaps_from leaps p) past no_leap) here in
+    let held = kept_element (leaves (polygon_of step.from)) leaps (slice_index_or own past no_leap) (Contains-get_or own past no_leap there) in
+    let is_leap = All-contains (IsLeap mesh jumps) leaps (slice_index_or own past no_leap) rules.leaps_are.each held in
+    ap (λ (l : Leap). l.cost) same
+    ∙ sym (leap-weight mesh jumps (slice_index_or own past no_leap) is_leap)
+    ∙ ap (step_weight mesh jumps) (sym (step-of-leap mesh leaps step past is there))
+    ∙ ap (λ (arc : Arc). arc.weight) (sym (arc-of-step mesh jumps leaps step below))

@@ -52,9 +52,9 @@ hop_step mesh leaps step = slice_index_or (steps_from mesh leaps step.from) step
 pub record IsHopStep (mesh : Mesh) (leaps : List Leap) (step : Step) : Type 0 where
   pub there : step.place < length (steps_from mesh leaps step.from)
 
--- the arc of a leap
-abbrev pub leap_arc : Leap → Arc
-leap_arc leap = record { to = vertex_of leap.to; weight = leap.cost }
+-- the vertex that a leap enters
+abbrev pub leap_end : Leap → Vertex
+leap_end leap = vertex_of leap.to
 
 -- nothing is estimated
 abbrev pub no_estimate : Vertex → ℕ

@@ -2,12 +2,12 @@
 
 ghost use Rattle.std.specs.Prelude.{◌≡◌, ◌++◌, ◌<◌, OnOk, map, length};
 ghost use Rattle.mesh_types.specs.declared.hops.HopStep.{HopStep};
-ghost use Rattle.off_links.specs.HopGraphs.{IsHopped, hop_step, leap_arc, steps_from};
+ghost use Rattle.off_links.specs.HopGraphs.{IsHopped, hop_step, leap_end, steps_from};
 
 use crate::leaps::{Leap, leap_at};
 use crate::slots::leaving_by_slot;
-use corridor_search::{link_at, past_links, polygon_at, push_link_arcs, vertex_at};
-use graph_search::{Arc, Graph, Step, Vertex};
+use corridor_search::{link_at, link_weight, past_links, polygon_at, push_link_ends, vertex_at};
+use graph_search::{Graph, Step, Vertex};
 use mesh_types::{HopStep, Jump, Mesh};
 use std::alloc::AllocError;
 
@@ -37,10 +37,20 @@ impl Graph for HopGraph<'_> {
     /// What the costliest jump costs.
     ghost heaviest = { λ _. 4294967295 };
 
-    fn push_arcs(&self, from: Vertex, found: &mut Vec<Arc>) -> Result<(), AllocError> {
+    fn push_ends(&self, from: Vertex, ends: &mut Vec<Vertex>) -> Result<(), AllocError> {
         let at = polygon_at(from);
-        push_link_arcs(self.mesh, at, found)?;
-        push_leap_arcs(leaving_by_slot(self.leaps, self.slots, at), found)
+        push_link_ends(self.mesh, at, ends)?;
+        push_leap_ends(leaving_by_slot(self.leaps, self.slots, at), ends)
+    }
+
+    fn weight(&self, step: Step, to: Vertex) -> u64 {
+        match past_links(self.mesh, step) {
+            None => link_weight(self.mesh, step, to),
+            Some(past) => {
+                let leap = leap_at(self.leaps, polygon_at(step.from), past);
+                u64::from(leap.cost)
+            }
+        }
     }
 
     fn estimate(&self, from: Vertex) -> u64 {
@@ -49,15 +59,12 @@ impl Graph for HopGraph<'_> {
     }
 }
 
-/// Appends the arcs of leaps.
-fn push_leap_arcs(leaps: &[Leap], arcs: &mut Vec<Arc>) -> Result<(), AllocError>
-    ensures { OnOk result (arcs.new.items ≡ arcs.old.items ++ map leap_arc leaps.now) }
+/// Appends the vertices of the polygons that leaps enter.
+fn push_leap_ends(leaps: &[Leap], ends: &mut Vec<Vertex>) -> Result<(), AllocError>
+    ensures { OnOk result (ends.new.items ≡ ends.old.items ++ map leap_end leaps.now) }
 {
     for leap in leaps {
-        arcs.push(Arc {
-            to: vertex_at(leap.to),
-            weight: u64::from(leap.cost),
-        })?;
+        ends.push(vertex_at(leap.to))?;
     }
     Ok(())
 }

@@ -1,15 +1,16 @@
 -- A graph of rows may be searched.
-use Rattle.std.proofs.Common.{◌≡◌, ℕ, ◌+◌, ◌<◌, ◌≤◌, true, List, [], ◌∷◌, length, get_or, refl, sym, subst, arith, inl, inr}
+use Rattle.std.proofs.Common.{◌≡◌, ℕ, ◌+◌, ◌<◌, ◌≤◌, true, List, [], ◌∷◌, ◌++◌, length, map, take, get_or, refl, sym, subst, ap, append_assoc, ◌∙◌, arith, inl, inr}
 use Rattle.std.specs.Prelude.{Contains, All, IsTrue}
 use Rattle.std.specs.List.{list_all}
 use Rattle.std.proofs.lemmas.Bool.{and_parts, ltb-true, cases_lt}
-use Rattle.std.proofs.lemmas.List.{get_or_past}
+use Rattle.std.proofs.lemmas.List.{get_or_past, get_or-map, length-map, map-append, map_more}
 use Rattle.std.proofs.lemmas.List.Sums.{AllPass-from_list_all}
 use Rattle.std.proofs.lemmas.List.Elements.{All-map, All-weaker, All-nil}
 use Rattle.std.proofs.lemmas.List.FromFn.{get_or-map-range_with_len}
 use Rattle.graph_search.specs.declared.arcs.Vertex.{Vertex}
 use Rattle.graph_search.specs.declared.arcs.Arc.{Arc}
-use Rattle.graph_search.specs.Walks.{IsSearchable}
+use Rattle.graph_search.specs.declared.arcs.Step.{Step}
+use Rattle.graph_search.specs.Walks.{no_arc, arc_of, ends_of, IsSearchable}
 use Rattle.tests_base.specs.Rows.{vertex_at, ten_vertices, is_pair, pair_arc, row_arcs, none_left}
 
 abbrev Pair : Type 0
@@ -47,6 +48,31 @@ module _ (rows : List (List Pair)) (pass : IsTrue (list_all (list_all is_pair) r
     few = omega arith;
     small = λ v member. omega arith;
   }
+
+-- a row has the arcs of its vertex
+pub row-there : (rows : List (List Pair)) (step : Step) (row : List Pair) → row ≡ get_or rows step.from.place [] → step.place < length (row_arcs rows step.from)
+    → step.place < length row
+row-there rows step row is below =
+    let count = length-map (get_or rows step.from.place []) pair_arc in
+    let same : length row ≡ length (get_or rows step.from.place []) = ap length is in
+    omega (arith, count, same, below)
+
+pub row-weight : (rows : List (List Pair)) (step : Step) (row : List Pair) → row ≡ get_or rows step.from.place [] → step.place < length (row_arcs rows step.from)
+    → (get_or row step.place (0, 0)).1 ≡ (arc_of (row_arcs rows) step).weight
+row-weight rows step row is below =
+    let there = row-there rows step row is below in
+    ap (λ (arc : Arc). arc.weight) (sym (get_or-map pair_arc row step.place (0, 0) no_arc there))
+    ∙ ap (λ (pairs : List Pair). (get_or (map pair_arc pairs) step.place no_arc).weight) is
+
+-- one more arc's end
+pub ends_more : (before ends made : List Vertex) (row : List Pair) (i : ℕ) (d : Pair) (to : Vertex) → i < length row → ends ≡ before ++ ends_of (map pair_arc (take i row))
+    → to ≡ vertex_at (get_or row i d).0 → made ≡ ends ++ to ∷ [] → made ≡ before ++ ends_of (map pair_arc (take (i + 1) row))
+ends_more before ends made row i d to below so is more =
+    let arcs = map pair_arc (take i row) in
+    more ∙ ap (λ (vs : List Vertex). vs ++ to ∷ []) so ∙ append_assoc before (ends_of arcs) (to ∷ [])
+    ∙ ap (λ (v : Vertex). before ++ (ends_of arcs ++ v ∷ [])) is
+    ∙ ap (λ (vs : List Vertex). before ++ vs) (sym (map-append (λ (arc : Arc). arc.to) arcs (pair_arc (get_or row i d) ∷ [])))
+    ∙ ap (λ (more : List Arc). before ++ ends_of more) (sym (map_more pair_arc row i d below))
 
 -- the rows of the tests
 abbrev pub small_rows : List (List Pair)

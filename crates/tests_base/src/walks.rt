@@ -1,10 +1,11 @@
 //! Searches in a small graph.
 
-ghost use Rattle.std.specs.Prelude.{◌≡◌, ◌<◌, ◌++◌, map, OnOk};
+ghost use Rattle.std.specs.Prelude.{◌≡◌, ◌<◌, ◌++◌, length, map, slice_index_or, OnOk};
+ghost use Rattle.graph_search.specs.Walks.{ends_of};
 ghost use Rattle.tests_base.specs.Rows.{vertex_at, pair_arc};
 
 use crate::checks::same;
-use graph_search::{Arc, Graph, Step, Vertex, Walk, cheapest_walk};
+use graph_search::{Graph, Step, Vertex, Walk, cheapest_walk};
 use std::alloc::{AllocError, Global};
 use std::process::Abort;
 
@@ -34,10 +35,17 @@ impl Graph for Rows<'_> {
 
     ghost heaviest = { λ _. 100 };
 
-    fn push_arcs(&self, from: Vertex, found: &mut Vec<Arc>) -> Result<(), AllocError> {
+    fn push_ends(&self, from: Vertex, ends: &mut Vec<Vertex>) -> Result<(), AllocError> {
         match self.rows.get(from.place as usize) {
-            Some(row) => push_row(row, found),
+            Some(row) => push_row(row, ends),
             None => Ok(()),
+        }
+    }
+
+    fn weight(&self, step: Step, _to: Vertex) -> u64 {
+        match self.rows.get(step.from.place as usize) {
+            Some(row) => weight_in(row, step.place),
+            None => 0,
         }
     }
 
@@ -46,24 +54,22 @@ impl Graph for Rows<'_> {
     }
 }
 
-/// Appends the arcs of a row.
-fn push_row(row: &[(u32, u32)], arcs: &mut Vec<Arc>) -> Result<(), AllocError>
-    ensures { OnOk result (arcs.new.items ≡ arcs.old.items ++ map pair_arc row.now) }
+/// What the arc at a place weighs.
+fn weight_in(row: &[(u32, u32)], place: usize) -> u64
+    requires { place < length row.now }
+    ensures { result ≡ (slice_index_or row.now place (0, 0)).1 }
 {
-    for pair in row {
-        arcs.push(arc(*pair))?;
-    }
-    Ok(())
+    u64::from(row[place].1)
 }
 
-/// The arc of a pair.
-fn arc(pair: (u32, u32)) -> Arc
-    ensures { result ≡ pair_arc pair }
+/// Appends the vertices at which arcs end.
+fn push_row(row: &[(u32, u32)], ends: &mut Vec<Vertex>) -> Result<(), AllocError>
+    ensures { OnOk result (ends.new.items ≡ ends.old.items ++ ends_of (map pair_arc row.now)) }
 {
-    Arc {
-        to: at(pair.0),
-        weight: u64::from(pair.1),
+    for pair in row {
+        ends.push(at(pair.0))?;
     }
+    Ok(())
 }
 
 /// From 0 to 3 by two arcs, and by one that weighs more; two arcs from 3 to 4, of which the second weighs less; a ring of arcs of weight

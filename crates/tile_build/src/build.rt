@@ -1,6 +1,6 @@
 //! The build of one tile.
 
-ghost use Rattle.std.specs.Prelude.{◌≡◌, ◌+◌, IfOk, All, unwrap_or};
+ghost use Rattle.std.specs.Prelude.{◌≡◌, ◌+◌, ◌⊎◌, IfOk, All, unwrap_or};
 ghost use Rattle.nav_ground.specs.Cells.{IsCut, IsInTile};
 ghost use Rattle.nav_ground.specs.Grounds.{IsLayerOf, IsWideWithin};
 ghost use Rattle.nav_ground.specs.Limits.{IsSetting, IsShape};
@@ -22,8 +22,8 @@ use std::alloc::{AllocError, Global};
 use std::sync::ledger::Ledger;
 use strip_mesh::{strip_mesh_of_table, strip_mesh_over};
 
-/// The mesh of a layer under a list of shapes. Where the wide cells of the layer lie as near its tile as those of a ground do, this is also
-/// its mesh under those of the shapes that touch its tile. Only memory can be refused, and it takes one step then too.
+/// The mesh of a layer under a list of shapes. Where the radius of the layer is 0, or its wide cells lie as near its tile as those of a ground
+/// do, this is also its mesh under those of the shapes that touch its tile. Only memory can be refused, and it takes one step then too.
 pub fn build_tile<L: Ledger>(
     alloc: Global,
     layer: &Layer,
@@ -35,7 +35,7 @@ pub fn build_tile<L: Ledger>(
     requires layer { IsLayerOf setting.now layer.now }
     requires shapes { All IsShape shapes.now }
     ensures value { IfOk result (λ tile. tile ≡ tile_mesh_of setting.now layer.now shapes.now) }
-    ensures local { IsWideWithin setting.now layer.now
+    ensures local { (layer.now.radius ≡ 0) ⊎ IsWideWithin setting.now layer.now
         → IfOk result (λ tile. tile ≡ tile_mesh_of setting.now layer.now (touching_shapes setting.now layer.now.tile shapes.now)) }
     ensures fit { IfOk result (IsFit setting.now) }
     ensures cover { IfOk result (λ tile. IsOfStrips setting.now tile → CoversCells tile) }

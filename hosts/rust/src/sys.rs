@@ -17,8 +17,10 @@ pub const NO_START: u32 = 10;
 pub const NO_GOAL: u32 = 11;
 pub const NO_PATH: u32 = 12;
 pub const WALL: u32 = 13;
+pub const NO_ROOM: u32 = 14;
 pub const STALE: u32 = 15;
 pub const FOREIGN: u32 = 16;
+pub const BUSY: u32 = 17;
 pub const TOO_MANY_SPANS: u32 = 18;
 
 #[repr(C)]

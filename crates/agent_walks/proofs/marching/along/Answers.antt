@@ -8,44 +8,44 @@ pub stop_along-requires-clause-line : goal.stop_along-requires-clause-line
 stop_along-requires-clause-line c =
     let path = c.requires.path in (
       path.last,
-      arrivals.line c.args.mesh.now c.args.from.point c.args.from.y c.args.goal.point c.args.goal.y c.args.found path c.requires.sound c.requires.setting
+      arrivals.line c.args.mesh.now c.args.march.from.point c.args.march.from.y c.args.march.goal.point c.args.march.goal.y c.args.found path c.requires.sound c.requires.setting
           c.as_slice-links.result.now c.as_slice-corners.result.now c.as_slice-links.ensures c.as_slice-corners.ensures,
     )
 
 pub nth_polygon-at-requires : goal.nth_polygon-at-requires
 nth_polygon-at-requires c =
-    arrivals.within c.args.mesh.now c.args.from.point c.args.from.y c.args.goal.point c.args.goal.y c.args.found c.requires.path c.requires.sound c.requires.setting
-    c.as_slice-links.result.now c.as_slice-corners.result.now c.as_slice-links.ensures c.as_slice-corners.ensures c.args.length c.in_ok-stop.stop c.in_ok-stop.ensures
+    arrivals.within c.args.mesh.now c.args.march.from.point c.args.march.from.y c.args.march.goal.point c.args.march.goal.y c.args.found c.requires.path c.requires.sound c.requires.setting
+    c.as_slice-links.result.now c.as_slice-corners.result.now c.as_slice-links.ensures c.as_slice-corners.ensures c.args.march.length c.in_ok-stop.stop c.in_ok-stop.ensures
 
 pub floor_of-y-requires : goal.floor_of-y-requires
 floor_of-y-requires c =
-    arrivals.there c.args.mesh.now c.args.from.point c.args.from.y c.args.goal.point c.args.goal.y c.args.found c.requires.path c.requires.sound c.requires.setting
-    c.as_slice-links.result.now c.as_slice-corners.result.now c.as_slice-links.ensures c.as_slice-corners.ensures c.args.length c.in_ok-stop.stop c.in_ok-stop.ensures
+    arrivals.there c.args.mesh.now c.args.march.from.point c.args.march.from.y c.args.march.goal.point c.args.march.goal.y c.args.found c.requires.path c.requires.sound c.requires.setting
+    c.as_slice-links.result.now c.as_slice-corners.result.now c.as_slice-links.ensures c.as_slice-corners.ensures c.args.march.length c.in_ok-stop.stop c.in_ok-stop.ensures
     c.nth_polygon-at.result c.nth_polygon-at.ensures
 
 pub cost-passed-requires-clause-links : goal.cost-passed-requires-clause-links
 cost-passed-requires-clause-links c =
     subst (All (IsLinkOf c.args.mesh.now)) (sym c.first_links.ensures)
-    (arrivals.passed_links c.args.mesh.now c.args.from.point c.args.from.y c.args.goal.point c.args.goal.y c.args.found c.requires.path c.requires.sound c.requires.setting
-    c.as_slice-links.result.now c.as_slice-corners.result.now c.as_slice-links.ensures c.as_slice-corners.ensures c.args.length c.in_ok-stop.stop c.in_ok-stop.ensures)
+    (arrivals.passed_links c.args.mesh.now c.args.march.from.point c.args.march.from.y c.args.march.goal.point c.args.march.goal.y c.args.found c.requires.path c.requires.sound c.requires.setting
+    c.as_slice-links.result.now c.as_slice-corners.result.now c.as_slice-links.ensures c.as_slice-corners.ensures c.args.march.length c.in_ok-stop.stop c.in_ok-stop.ensures)
 
 pub cost-passed-requires-clause-small : goal.cost-passed-requires-clause-small
 cost-passed-requires-clause-small c =
     let most =
-    arrivals.passed_cost c.args.mesh.now c.args.from.point c.args.from.y c.args.goal.point c.args.goal.y c.args.found c.requires.path c.requires.sound c.requires.setting
-    c.as_slice-links.result.now c.as_slice-corners.result.now c.as_slice-links.ensures c.as_slice-corners.ensures c.args.length c.in_ok-stop.stop c.in_ok-stop.ensures in
+    arrivals.passed_cost c.args.mesh.now c.args.march.from.point c.args.march.from.y c.args.march.goal.point c.args.march.goal.y c.args.found c.requires.path c.requires.sound c.requires.setting
+    c.as_slice-links.result.now c.as_slice-corners.result.now c.as_slice-links.ensures c.as_slice-corners.ensures c.args.march.length c.in_ok-stop.stop c.in_ok-stop.ensures in
     omega (arith, most, ap (cost_of c.args.mesh.now) c.first_links.ensures, c.requires.cost)
 
 pub returns-clause-marched : goal.returns-clause-marched
 returns-clause-marched c =
-    arrivals.is_march c.args.mesh.now c.args.from.point c.args.from.y c.args.goal.point c.args.goal.y c.args.found c.requires.path c.requires.sound c.requires.setting
-    c.as_slice-links.result.now c.as_slice-corners.result.now c.as_slice-links.ensures c.as_slice-corners.ensures c.args.length c.in_ok-stop.stop c.in_ok-stop.ensures
+    arrivals.is_march c.args.mesh.now c.args.march.from.point c.args.march.from.y c.args.march.goal.point c.args.march.goal.y c.args.found c.requires.path c.requires.sound c.requires.setting
+    c.as_slice-links.result.now c.as_slice-corners.result.now c.as_slice-links.ensures c.as_slice-corners.ensures c.args.march.length c.in_ok-stop.stop c.in_ok-stop.ensures
     c.nth_polygon-at.result c.floor_of-y.result (c.args.found.cost - c.cost-passed.result) c.links_from.result c.nth_polygon-at.ensures c.floor_of-y.ensures
     c.links_from.ensures (ap (λ (n : ℕ). c.args.found.cost - n) (c.cost-passed.ensures ∙ ap (cost_of c.args.mesh.now) c.first_links.ensures))
 
 pub returns-clause-way : goal.returns-clause-way
 returns-clause-way c =
-    arrivals.is_on_way c.args.mesh.now c.args.from.point c.args.from.y c.args.goal.point c.args.goal.y c.args.found c.requires.path c.requires.sound c.requires.setting
-    c.as_slice-links.result.now c.as_slice-corners.result.now c.as_slice-links.ensures c.as_slice-corners.ensures c.args.length c.in_ok-stop.stop c.in_ok-stop.ensures
+    arrivals.is_on_way c.args.mesh.now c.args.march.from.point c.args.march.from.y c.args.march.goal.point c.args.march.goal.y c.args.found c.requires.path c.requires.sound c.requires.setting
+    c.as_slice-links.result.now c.as_slice-corners.result.now c.as_slice-links.ensures c.as_slice-corners.ensures c.args.march.length c.in_ok-stop.stop c.in_ok-stop.ensures
     c.nth_polygon-at.result c.floor_of-y.result (c.args.found.cost - c.cost-passed.result) c.links_from.result c.nth_polygon-at.ensures c.floor_of-y.ensures
     c.links_from.ensures (ap (λ (n : ℕ). c.args.found.cost - n) (c.cost-passed.ensures ∙ ap (cost_of c.args.mesh.now) c.first_links.ensures))

@@ -3,11 +3,11 @@ use Rattle.graph_search.proofs.Turns.{IsBetween, work}
 use Rattle.graph_search.proofs.search.cheapest_walk.Given as goal
 
 -- what holds between two turns
-abbrev pub invariant-loop-arcs : goal.invariant-loop-arcs
-invariant-loop-arcs g l =
+abbrev pub invariant-loop-ends : goal.invariant-loop-ends
+invariant-loop-ends g l =
     IsBetween (g.G.Graph.vertices l.graph) (g.G.Graph.arcs l.graph) (g.G.Graph.estimates l.graph) (g.G.Graph.heaviest l.graph) l.from l.to
     (visit_at l.search.visits) l.search.waiting.entries l.search.closed
 
 -- the entries, and the arcs of vertices that are not closed
-abbrev pub decreases-loop-arcs : goal.decreases-loop-arcs
-decreases-loop-arcs g l = work (g.G.Graph.vertices l.graph) (g.G.Graph.arcs l.graph) (visit_at l.search.visits) l.search.waiting.entries
+abbrev pub decreases-loop-ends : goal.decreases-loop-ends
+decreases-loop-ends g l = work (g.G.Graph.vertices l.graph) (g.G.Graph.arcs l.graph) (visit_at l.search.visits) l.search.waiting.entries

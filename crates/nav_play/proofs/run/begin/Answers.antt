@@ -15,13 +15,13 @@ pub returns-in_err-level-clause-most : goal.returns-in_err-level-clause-most
 returns-in_err-level-clause-most g c = no_step _ _
 
 pub returns-in_err-tiles-clause-most : goal.returns-in_err-tiles-clause-most
-returns-in_err-tiles-clause-most g c = tiles_risen (ground_of c.args.setting c.args.field) _ _ _ c.in_ok-level.ensures.value c.build_tiles.ensures.most
+returns-in_err-tiles-clause-most g c = tiles_risen (ground_of c.args.start.setting c.args.start.field) _ _ _ c.in_ok-level.ensures.value c.build_tiles.ensures.most
 
 pub returns-in_err-opened-clause-most : goal.returns-in_err-opened-clause-most
-returns-in_err-opened-clause-most g c = tiles_risen (ground_of c.args.setting c.args.field) _ _ _ c.in_ok-level.ensures.value c.build_tiles.ensures.most
+returns-in_err-opened-clause-most g c = tiles_risen (ground_of c.args.start.setting c.args.start.field) _ _ _ c.in_ok-level.ensures.value c.build_tiles.ensures.most
 
 pub returns-clause-most : goal.returns-clause-most
-returns-clause-most g c = tiles_risen (ground_of c.args.setting c.args.field) _ _ _ c.in_ok-level.ensures.value c.build_tiles.ensures.most
+returns-clause-most g c = tiles_risen (ground_of c.args.start.setting c.args.start.field) _ _ _ c.in_ok-level.ensures.value c.build_tiles.ensures.most
 
 pub returns-clause-steps : goal.returns-clause-steps
-returns-clause-steps g c = tiles_taken (ground_of c.args.setting c.args.field) _ _ _ c.in_ok-level.ensures.value c.in_ok-tiles.ensures.steps
+returns-clause-steps g c = tiles_taken (ground_of c.args.start.setting c.args.start.field) _ _ _ c.in_ok-level.ensures.value c.in_ok-tiles.ensures.steps

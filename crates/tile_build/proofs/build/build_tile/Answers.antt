@@ -10,7 +10,7 @@ use Rattle.mesh_types.specs.StripCover.{CoversCells, IsOfStrips}
 use Rattle.strip_mesh.proofs.StripTiles.{tile_covers, tile_linked}
 use Rattle.contour_mesh.specs.Linked.{IsOfOutlines, LinksFacing}
 use Rattle.contour_mesh.proofs.LinkedTiles.{outlines_linked}
-use Rattle.tile_build.proofs.LocalTiles.{tile_mesh_local}
+use Rattle.tile_build.proofs.LocalTiles.{tile_mesh_near}
 use Rattle.tile_build.proofs.FreeInTile.{free_in_tile}
 use Rattle.tile_build.proofs.build.build_tile.Goals as goal
 
@@ -30,7 +30,7 @@ returns-clause-local g c = λ within.
     let layer = c.args.layer.now in
     let shapes = c.args.shapes.now in
     IfOk-weaker c.free_mesh.result _ (λ tile. tile ≡ tile_mesh_of setting layer (touching_shapes setting layer.tile shapes))
-    (λ tile is. is ∙ ap (mesh_of_free setting) c.in_ok-free.ensures.free ∙ sym (tile_mesh_local setting layer shapes c.requires.layer.inside within))
+    (λ tile is. is ∙ ap (mesh_of_free setting) c.in_ok-free.ensures.free ∙ sym (tile_mesh_near setting layer shapes c.requires.layer.inside within))
     c.free_mesh.ensures.value
 
 pub returns-clause-cover : goal.returns-clause-cover

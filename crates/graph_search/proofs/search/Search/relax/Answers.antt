@@ -1,36 +1,43 @@
 use Rattle.std.proofs.Common.{◌≡◌, ℕ, List, [], ◌++◌, length, get_or, arith, ap, subst, sym, ◌∙◌}
+use Rattle.std.proofs.Math.ListN.{get_or-map}
+use Rattle.std.proofs.lemmas.List.{length-map}
 use Rattle.std.proofs.lemmas.Result.{IfOk-from_err}
 use Rattle.graph_search.specs.declared.arcs.Arc.{Arc}
-use Rattle.graph_search.specs.Walks.{no_arc}
+use Rattle.graph_search.specs.declared.arcs.Vertex.{Vertex}
+use Rattle.graph_search.specs.Walks.{no_arc, ends_of}
 use Rattle.graph_search.specs.Visited.{visit_at}
 use Rattle.graph_search.specs.Searching.{AreBeingRelaxed}
 use Rattle.graph_search.proofs.Relaxing.{all-relaxed, following-then}
 use Rattle.graph_search.proofs.search.Search.relax.Goals as goal
 
--- the arcs, as they were appended to nothing
-arcs_are : (arcs cleared pushed found : List Arc) → cleared ≡ [] → pushed ≡ cleared ++ arcs → found ≡ pushed → found ≡ arcs
-arcs_are arcs cleared pushed found none are same = same ∙ are ∙ ap (λ (before : List Arc). before ++ arcs) none
+-- the vertices that arcs enter are as many as the arcs, in their order
+as_many : (arcs : List Arc) (ends : List Vertex) → ends ≡ ends_of arcs → length ends ≡ length arcs
+as_many arcs ends is = ap length is ∙ length-map arcs (λ (arc : Arc). arc.to)
 
-as_many : (arcs found : List Arc) → found ≡ arcs → length found ≡ length arcs
-as_many arcs found is = ap length is
+end_at : (arcs : List Arc) (ends : List Vertex) (place : ℕ) → ends ≡ ends_of arcs → (get_or arcs place no_arc).to ≡ get_or ends place (record { block = 0; place = 0 })
+end_at arcs ends place is =
+    sym (ap (λ (vertices : List Vertex). get_or vertices place (record { block = 0; place = 0 })) is ∙ get_or-map (λ (arc : Arc). arc.to) arcs place no_arc)
+
+-- the vertices that arcs enter, as they were appended to nothing
+ends_are : (arcs : List Arc) (cleared pushed ends : List Vertex) → cleared ≡ [] → pushed ≡ cleared ++ ends_of arcs → ends ≡ pushed → ends ≡ ends_of arcs
+ends_are arcs cleared pushed ends none are same = same ∙ are ∙ ap (λ (before : List Vertex). before ++ ends_of arcs) none
 
 pub follow-requires-clause-place : goal.follow-requires-clause-place
 follow-requires-clause-place g c =
-    omega (arith, as_many _ _ (arcs_are _ _ _ _ c.clear.ensures.items c.in_ok-push_arcs.ensures c.as_slice-arcs.ensures.value), c.loop-place-test.true)
+    omega (arith, as_many _ _ (ends_are _ _ _ _ c.clear.ensures.items c.in_ok-push_ends.ensures c.as_slice-ends.ensures.value), c.loop-place-test.true)
 
-pub follow-requires-clause-arc : goal.follow-requires-clause-arc
-follow-requires-clause-arc g c =
-    sym (ap (λ (found : List Arc). get_or found c.loop-place.place no_arc)
-    (arcs_are _ _ _ _ c.clear.ensures.items c.in_ok-push_arcs.ensures c.as_slice-arcs.ensures.value))
+pub follow-requires-clause-end : goal.follow-requires-clause-end
+follow-requires-clause-end g c =
+    end_at _ _ c.loop-place.place (ends_are _ _ _ _ c.clear.ensures.items c.in_ok-push_ends.ensures c.as_slice-ends.ensures.value)
 
-pub returns-in_err-push_arcs-clause-relaxed : goal.returns-in_err-push_arcs-clause-relaxed
-returns-in_err-push_arcs-clause-relaxed g c = IfOk-from_err c.from_residual.result _ c.from_residual.ensures.0
+pub returns-in_err-push_ends-clause-relaxed : goal.returns-in_err-push_ends-clause-relaxed
+returns-in_err-push_ends-clause-relaxed g c = IfOk-from_err c.from_residual.result _ c.from_residual.ensures.0
 
-pub returns-in_err-push_arcs-clause-tree : goal.returns-in_err-push_arcs-clause-tree
-returns-in_err-push_arcs-clause-tree g c = IfOk-from_err c.from_residual.result _ c.from_residual.ensures.0
+pub returns-in_err-push_ends-clause-tree : goal.returns-in_err-push_ends-clause-tree
+returns-in_err-push_ends-clause-tree g c = IfOk-from_err c.from_residual.result _ c.from_residual.ensures.0
 
-pub returns-in_err-push_arcs-clause-ranks : goal.returns-in_err-push_arcs-clause-ranks
-returns-in_err-push_arcs-clause-ranks g c = IfOk-from_err c.from_residual.result _ c.from_residual.ensures.0
+pub returns-in_err-push_ends-clause-ranks : goal.returns-in_err-push_ends-clause-ranks
+returns-in_err-push_ends-clause-ranks g c = IfOk-from_err c.from_residual.result _ c.from_residual.ensures.0
 
 pub returns-in_err-follow-clause-relaxed : goal.returns-in_err-follow-clause-relaxed
 returns-in_err-follow-clause-relaxed g c = IfOk-from_err c.from_residual-in_err-follow.result _ c.from_residual-in_err-follow.ensures.0
@@ -41,11 +48,11 @@ returns-in_err-follow-clause-tree g c = IfOk-from_err c.from_residual-in_err-fol
 pub returns-in_err-follow-clause-ranks : goal.returns-in_err-follow-clause-ranks
 returns-in_err-follow-clause-ranks g c = IfOk-from_err c.from_residual-in_err-follow.result _ c.from_residual-in_err-follow.ensures.0
 
-pub returns-in_err-push_arcs-clause-known : goal.returns-in_err-push_arcs-clause-known
-returns-in_err-push_arcs-clause-known g c = IfOk-from_err c.from_residual.result _ c.from_residual.ensures.0
+pub returns-in_err-push_ends-clause-known : goal.returns-in_err-push_ends-clause-known
+returns-in_err-push_ends-clause-known g c = IfOk-from_err c.from_residual.result _ c.from_residual.ensures.0
 
-pub returns-in_err-push_arcs-clause-more : goal.returns-in_err-push_arcs-clause-more
-returns-in_err-push_arcs-clause-more g c = IfOk-from_err c.from_residual.result _ c.from_residual.ensures.0
+pub returns-in_err-push_ends-clause-more : goal.returns-in_err-push_ends-clause-more
+returns-in_err-push_ends-clause-more g c = IfOk-from_err c.from_residual.result _ c.from_residual.ensures.0
 
 pub returns-in_err-follow-clause-known : goal.returns-in_err-follow-clause-known
 returns-in_err-follow-clause-known g c = IfOk-from_err c.from_residual-in_err-follow.result _ c.from_residual-in_err-follow.ensures.0
@@ -62,12 +69,12 @@ loop-place-preserved g c = record {
 
 pub returns-clause-relaxed : goal.returns-clause-relaxed
 returns-clause-relaxed g c =
-    let count = as_many _ _ (arcs_are _ _ _ _ c.clear.ensures.items c.in_ok-push_arcs.ensures c.as_slice-arcs.ensures.value) in
-    all-relaxed _ _ c.args.from
-    (subst (λ (n : ℕ). AreBeingRelaxed (g.G.Graph.arcs c.args.graph.now) (visit_at c.loop-place.self.visits) c.args.from n)
+    let count = as_many _ _ (ends_are _ _ _ _ c.clear.ensures.items c.in_ok-push_ends.ensures c.as_slice-ends.ensures.value) in
+    all-relaxed _ _ c.args.turn.vertex
+    (subst (λ (n : ℕ). AreBeingRelaxed (g.G.Graph.arcs c.args.graph.now) (visit_at c.loop-place.self.visits) c.args.turn.vertex n)
     (omega (arith, count, c.loop-place-test.false, c.loop-place.auto.place-end)) c.loop-place.invariant.following.relaxing)
 
 pub returns-clause-more : goal.returns-clause-more
 returns-clause-more g c =
-    let count = as_many _ _ (arcs_are _ _ _ _ c.clear.ensures.items c.in_ok-push_arcs.ensures c.as_slice-arcs.ensures.value) in
+    let count = as_many _ _ (ends_are _ _ _ _ c.clear.ensures.items c.in_ok-push_ends.ensures c.as_slice-ends.ensures.value) in
     omega (arith, count, c.loop-place.auto.place-end, c.loop-place.invariant.following.more)

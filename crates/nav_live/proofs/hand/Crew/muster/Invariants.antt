@@ -12,6 +12,6 @@ invariant-loop-number l =
     × (l.self.left ≡ l.fn.self.left)
     × (into_iter_len l.passes + l.number ≡ length l.fn.passes.items)
     × (into_iter_items l.passes ≡ drop l.number l.fn.passes.items)
-    × (l.number ≤ l.fn.script.lanes → into_iter_items l.eyes ≡ drop l.number l.fn.eyes.items)
-    × (l.number ≤ l.fn.script.lanes → into_iter_items l.lists ≡ drop l.number l.fn.lists.items)
-    × AreNew l.fn.eyes.items l.fn.lists.items l.fn.passes.items l.self.hands.items
+    × (l.number ≤ l.fn.script.lanes → into_iter_items l.eyes ≡ drop l.number l.fn.outfit.eyes.items)
+    × (l.number ≤ l.fn.script.lanes → into_iter_items l.lists ≡ drop l.number l.fn.outfit.lists.items)
+    × AreNew l.fn.outfit.eyes.items l.fn.outfit.lists.items l.fn.passes.items l.self.hands.items
