@@ -1,6 +1,6 @@
 #!/bin/sh
 # Times calls over the border of the C library beside the same calls inside a program: floors of random columns, aims, and paths from one end to the
-# other of 512 by 512 columns in strips, one in 64 a pillar, radius 2, tiles of 32; and four readers that ask 2000 questions each of views, alone and
+# other of 512 by 512 columns in strips, one in 64 a pillar, radius 0, tiles of 32; and four readers that ask 2000 questions each of views, alone and
 # beside a thread that changes the level and publishes. Each is the least processor time of five runs; inside, less that of reading and building.
 # Fails where floors or an aim take over 50 ns more than inside, a path over 5 % more, or the readers over 15 % more beside the changes, the least of
 # five runs each. Wants four processors with nothing else on them for the readers. usage: bench/embed.sh
@@ -13,7 +13,7 @@ trap 'rm -rf "$work"' EXIT
 cp crates/bench_hops/out/bench_hops "$work/inside"
 (cd crates/nav_ffi && rt lib > "$work/build.log" 2>&1) || { cat "$work/build.log"; exit 1; }
 make -s -C hosts/c TO="$work" "$work/bench" "$work/readers"
-python3 bench/path_input.py 512 0 1 64 path strips | sed '/^end/q' > "$work/field"
+python3 bench/path_input.py 512 0 1 64 path strips | sed '/^end/q; s/^agent 10 4 2/agent 10 4 0/' > "$work/field"
 
 # over WAY COUNT: the least nanoseconds a call of five runs over the border
 over() {

@@ -65,7 +65,10 @@ static void *read_on(void *number) {
         uint32_t status = navd_view_find_path(&view, &way, links, 64, turns, 64, &path);
         answers[me][i] = (answer){length, status, status == NAVD_OK ? path.cost : 0, way};
     }
+    /* under the lock for the checks of data races alone: they do not see the counts of owners inside the library */
+    pthread_mutex_lock(&lock);
     navd_view_close(&view);
+    pthread_mutex_unlock(&lock);
     atomic_fetch_sub(&reading, 1);
     return NULL;
 }
