@@ -58,6 +58,7 @@ pub fn measured<R: Wait, L: Ledger>(rt: &R, alloc: Global, input: &[u8], blank: 
 }
 
 /// Up to which stage a mesh is made, how many copies are made of it then, and the counter's ledger.
+#[derive(Drop)]
 struct Task {
     stage: u32,
     copies: u32,
@@ -65,6 +66,7 @@ struct Task {
 }
 
 /// A ground and its tiles.
+#[derive(Drop)]
 struct Level {
     whole: Ground,
     tiles: Items<Shared<Tile>>,

@@ -6,5 +6,4 @@ pub mod LinkWeights
 pub mod Searchable
 pub mod MeshWalks
 pub mod Extents
-pub mod Ways
 pub mod LeftAlone

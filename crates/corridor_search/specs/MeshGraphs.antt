@@ -6,7 +6,6 @@ use Rattle.nav_base.specs.declared.point.Point.{Point}
 use Rattle.nav_base.specs.Point.{IsCellCorner, from_to}
 use Rattle.nav_base.specs.Deviation.{square_of}
 use Rattle.nav_base.specs.Root.{ceil_sqrt_of}
-use Rattle.nav_ground.specs.declared.setting.Setting.{Setting}
 use Rattle.nav_ground.specs.Limits.{IsSetting}
 use Rattle.mesh_types.specs.declared.links.PolyRef.{PolyRef}
 use Rattle.mesh_types.specs.declared.links.Link.{Link}
@@ -19,8 +18,7 @@ use Rattle.mesh_types.specs.LinkIndex.{leaving_of, entered_by}
 use Rattle.mesh_types.specs.WholeMesh.{poly_at}
 use Rattle.mesh_types.specs.Corridors.{centre_of, weight_of, WalksTo}
 use Rattle.mesh_types.specs.Soundness.{IsSound}
-use Rattle.mesh_types.specs.declared.ways.Way.{Way}
-use Rattle.mesh_types.specs.Ways.{IsInField, distance_of, middle_in, extent_in, no_extent, extents_in, way_in}
+use Rattle.mesh_types.specs.Ways.{IsInField, distance_of}
 use Rattle.graph_search.specs.declared.arcs.Vertex.{Vertex}
 use Rattle.graph_search.specs.declared.arcs.Arc.{Arc}
 use Rattle.graph_search.specs.declared.arcs.Step.{Step}
@@ -105,24 +103,6 @@ extent_at mesh at = option_map_or (λ (tile : TileMesh). slice_index_or (map ext
 
 abbrev pub middle_of : Extent → Point
 middle_of extent = record { x = pos 8 *ℤ (extent.low.x +ℤ extent.high.x); z = pos 8 *ℤ (extent.low.z +ℤ extent.high.z) }
-
--- the middle of the polygon that a reference names, as a search reads it
-abbrev pub middle_at : Mesh → PolyRef → Point
-middle_at mesh at = option_map_or (λ (tile : TileMesh). middle_in (extent_in (extents_in tile) at.index)) (slice_get mesh.tiles at.tile) (middle_in no_extent)
-
--- the links that leave a polygon inside its tile, as a search reads them
-abbrev pub ways_at : Mesh → PolyRef → List Way
-ways_at mesh at = option_map_or (λ (tile : TileMesh). map (way_in tile) (leaving_of at.index tile.links)) (slice_get mesh.tiles at.tile) []
-
--- of a link inside a tile, as a search reads it: the vertex that it enters, what it weighs, and its arc
-abbrev pub way_end : ℕ → Way → Vertex
-way_end tile way = record { block = tile; place = way.to }
-
-abbrev pub way_weight : Setting → Way → ℕ
-way_weight setting way = way.length * slice_index setting.costs way.area
-
-abbrev pub way_arc : Setting → ℕ → Way → Arc
-way_arc setting tile way = record { to = way_end tile way; weight = way_weight setting way }
 
 -- both corners of the box lie in the largest field
 pub record IsBox (extent : Extent) : Type 0 where

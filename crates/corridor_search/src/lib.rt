@@ -6,7 +6,6 @@
 //! What a search of one's own needs of the links stands here too: the vertices of polygons, the link that a step takes, what it weighs.
 #![tactic(auto)]
 
-mod arcs;
 mod corridors;
 mod islands;
 mod link_weights;
@@ -14,8 +13,7 @@ mod mesh_graph;
 mod roots;
 mod weights;
 
-pub use arcs::{link_weight, push_link_ends};
 pub use corridors::cheapest;
 pub use link_weights::weight_over;
-pub use mesh_graph::{link_at, past_links, polygon_at, vertex_at};
+pub use mesh_graph::{link_at, link_weight, past_links, polygon_at, push_link_ends, vertex_at};
 pub use weights::extent_at;

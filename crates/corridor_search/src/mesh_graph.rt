@@ -1,11 +1,13 @@
 //! The mesh as a graph.
 
-ghost use Rattle.std.specs.Prelude.{◌≡◌, ◌+◌, ◌<◌, IfSome, IfNone, map, length};
+ghost use Rattle.std.specs.Prelude.{◌≡◌, ◌++◌, ◌+◌, ◌<◌, OnOk, IfSome, IfNone, map, length, Contains};
+ghost use Rattle.nav_ground.specs.Limits.{IsSetting};
 ghost use Rattle.mesh_types.specs.LinkIndex.{entered_by};
-ghost use Rattle.corridor_search.specs.MeshGraphs.{vertex_of, polygon_of, inner_links, outer_links, links_from, link_of};
+ghost use Rattle.mesh_types.specs.Soundness.{IsSound};
+ghost use Rattle.graph_search.specs.Walks.{arc_of};
+ghost use Rattle.corridor_search.specs.MeshGraphs.{vertex_of, vertices_of, polygon_of, inner_links, outer_links, links_from, link_of, end_of, arcs_from};
 
-use crate::arcs::{link_weight, push_link_ends};
-use crate::weights::{distance, extent_at, middle};
+use crate::weights::{distance, extent_at, middle, weight};
 use graph_search::{Graph, Step, Vertex};
 use mesh_types::{Link, Mesh, PolyRef};
 use nav_base::Point;
@@ -103,6 +105,29 @@ pub fn past_links(mesh: &Mesh, step: Step) -> Option<usize>
     Some(past - outside)
 }
 
+/// Appends the vertices of the polygons that the links which leave a polygon enter, in order of the links.
+pub fn push_link_ends(mesh: &Mesh, at: PolyRef, ends: &mut Vec<Vertex>) -> Result<(), AllocError>
+    ensures { OnOk result (ends.new.items ≡ ends.old.items ++ map end_of (links_from mesh.now at)) }
+{
+    push_vertices(entered_inside(mesh, at), ends)?;
+    push_vertices(entered_outside(mesh, at), ends)
+}
+
+/// What the link of a step weighs, which enters a given vertex: the distance of the middles of the two polygons, in sixteenths of a cell,
+/// rounded up and at least 1, times the cost of the area that is entered. The extents of the two polygons are all that is read.
+pub fn link_weight(mesh: &Mesh, step: Step, to: Vertex) -> u64
+    requires sound { IsSound mesh.now }
+    requires setting { IsSetting mesh.now.setting }
+    requires there { Contains (vertices_of mesh.now) step.from }
+    requires place { step.place < length (arcs_from mesh.now step.from) }
+    requires end { (arc_of (arcs_from mesh.now) step).to ≡ to }
+    ensures { result ≡ (arc_of (arcs_from mesh.now) step).weight }
+{
+    let left = extent_at(mesh, polygon_at(step.from));
+    let entered = extent_at(mesh, polygon_at(to));
+    weight(&mesh.setting, middle(left), entered)
+}
+
 /// A mesh that is searched for walks to a goal.
 #[derive(Clone, Copy)]
 pub(crate) struct MeshGraph<'a> {
@@ -138,4 +163,14 @@ impl Graph for MeshGraph<'_> {
         let extent = extent_at(self.mesh, polygon_at(from));
         u64::from(distance(middle(extent), self.goal))
     }
+}
+
+/// Appends the vertices of polygons.
+fn push_vertices(polygons: &[PolyRef], ends: &mut Vec<Vertex>) -> Result<(), AllocError>
+    ensures { OnOk result (ends.new.items ≡ ends.old.items ++ map vertex_of polygons.now) }
+{
+    for at in polygons {
+        ends.push(vertex_at(*at))?;
+    }
+    Ok(())
 }

@@ -6,7 +6,7 @@ ghost use Rattle.nav_base.specs.Point.{IsCellCorner, from_to};
 ghost use Rattle.nav_base.specs.Deviation.{square_of};
 ghost use Rattle.nav_base.specs.Root.{ceil_sqrt_of};
 ghost use Rattle.nav_ground.specs.Limits.{IsSetting, IsArea};
-ghost use Rattle.corridor_search.specs.MeshGraphs.{IsBox, nowhere, middle_of, extent_at, middle_at};
+ghost use Rattle.corridor_search.specs.MeshGraphs.{IsBox, nowhere, middle_of, extent_at};
 ghost use Rattle.mesh_types.specs.Ways.{IsInField};
 
 use crate::roots::root;
@@ -38,17 +38,6 @@ fn extent_in(extents: &[Extent], place: usize) -> Extent
     match extents.get(place) {
         Some(extent) => *extent,
         None => NOWHERE,
-    }
-}
-
-/// The middle of the polygon that a reference names, in sixteenths of a cell, as it stands beside its tile; (0, 0) where there is none.
-pub(crate) fn middle_at(mesh: &Mesh, at: PolyRef) -> Point
-    ensures value { result ≡ middle_at mesh.now at }
-    ensures in_field { IsInField result }
-{
-    match mesh.tiles.get(at.tile as usize) {
-        Some(tile) => tile.get().middle(at.index),
-        None => Point { x: 0, z: 0 },
     }
 }
 

@@ -1,15 +1,10 @@
-use Rattle.std.proofs.Common.{◌++◌, List, map, ap, sym, subst, ◌∙◌}
+use Rattle.std.proofs.Common.{◌++◌, List, map, ap, ◌∙◌}
 use Rattle.std.proofs.lemmas.Result.{on_ok_weaker}
 use Rattle.mesh_types.specs.declared.links.PolyRef.{PolyRef}
 use Rattle.graph_search.specs.declared.arcs.Vertex.{Vertex}
-use Rattle.corridor_search.specs.MeshGraphs.{IsThere, links_from, end_of, polygon_of}
-use Rattle.corridor_search.proofs.Vertices.{contains-there}
+use Rattle.corridor_search.specs.MeshGraphs.{links_from, end_of, polygon_of}
 use Rattle.corridor_search.proofs.Searchable.{ends-are}
 use Rattle.corridor_search.proofs.mesh_graph.MeshGraphGraph.push_ends.Goals as goal
-
-pub push_link_ends-requires-clause-there : goal.push_link_ends-requires-clause-there
-push_link_ends-requires-clause-there c =
-    subst (IsThere c.args.self.now.mesh.now) (sym c.polygon_at.ensures) (contains-there c.args.self.now.mesh.now c.args.from c.requires.there)
 
 pub returns : goal.returns
 returns c =

@@ -1,18 +1,13 @@
-use Rattle.std.proofs.Common.{◌++◌, List, map, append_assoc, ap, sym, subst, ◌∙◌}
+use Rattle.std.proofs.Common.{◌++◌, List, map, append_assoc, ap, ◌∙◌}
 use Rattle.std.proofs.lemmas.Result.{on_ok_weaker}
 use Rattle.mesh_types.specs.declared.links.PolyRef.{PolyRef}
 use Rattle.graph_search.specs.declared.arcs.Vertex.{Vertex}
-use Rattle.corridor_search.specs.MeshGraphs.{IsThere, links_from, end_of, polygon_of}
-use Rattle.corridor_search.proofs.Vertices.{contains-there}
+use Rattle.corridor_search.specs.MeshGraphs.{links_from, end_of, polygon_of}
 use Rattle.off_links.specs.declared.leaps.Leap.{Leap}
 use Rattle.off_links.specs.HopGraphs.{leap_end, leaps_from}
 use Rattle.off_links.proofs.Arcs.{hop-ends}
 use Rattle.off_links.proofs.Weights.{small_places}
 use Rattle.off_links.proofs.hop_graph.HopGraphGraph.push_ends.Goals as goal
-
-pub push_link_ends-requires-clause-there : goal.push_link_ends-requires-clause-there
-push_link_ends-requires-clause-there c =
-    subst (IsThere c.args.self.now.mesh.now) (sym c.polygon_at-at.ensures) (contains-there c.args.self.now.mesh.now c.args.from c.requires.there)
 
 pub leaving_by_slot-requires-clause-order : goal.leaving_by_slot-requires-clause-order
 leaving_by_slot-requires-clause-order c = c.requires.sound.hopped.leaps_are.order

@@ -2,7 +2,7 @@ use Rattle.std.proofs.Common.{◌++◌, ◌∙◌, List, map, ap}
 use Rattle.std.proofs.lemmas.List.{take_all}
 use Rattle.mesh_types.specs.declared.links.PolyRef.{PolyRef}
 use Rattle.corridor_search.specs.MeshGraphs.{vertex_of}
-use Rattle.corridor_search.proofs.arcs.push_vertices.Goals as goal
+use Rattle.corridor_search.proofs.mesh_graph.push_vertices.Goals as goal
 
 pub returns : goal.returns
 returns c =

@@ -1,6 +1,6 @@
 use Rattle.std.proofs.Common.{◌≡◌, ◌++◌, map, take}
 use Rattle.corridor_search.specs.MeshGraphs.{vertex_of}
-use Rattle.corridor_search.proofs.arcs.push_vertices.Given as goal
+use Rattle.corridor_search.proofs.mesh_graph.push_vertices.Given as goal
 
 -- the vertices of the polygons so far
 abbrev pub invariant-loop-at : goal.invariant-loop-at
