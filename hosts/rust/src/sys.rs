@@ -1,5 +1,5 @@
 //! The declarations of include/navd.h, name for name.
-#![allow(missing_docs)]
+#![allow(dead_code, missing_docs)]
 
 use std::ffi::c_void;
 
