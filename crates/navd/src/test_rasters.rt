@@ -155,7 +155,7 @@ fn keeps_the_line_of_clearance(rt: HostRuntime) {
     let alloc = rt.alloc();
     let triangle = "tri 0 10 0 16 10 0 16 10 16 5\nend\n";
     let input = joined(&rt, alloc, &[SECOND, triangle]);
-    let ran = run_once(&rt, alloc, &["raster"], input, (100, 0), (8, 0));
+    let ran = run_once(&rt, alloc, &["raster"], input, NARROW_WRITES);
     let held = joined(&rt, alloc, &[SECOND, "span 0 0 10 11 5\nend\n"]);
     check(&rt, &ran, Status::Ok, held.as_slice());
 }
