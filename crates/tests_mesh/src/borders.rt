@@ -78,7 +78,7 @@ pub(crate) fn tile(
 }
 
 fn levels(alloc: Global, pairs: &[LevelPair]) -> Result<Items<LevelPair>, AllocError>
-    ensures { IfOk result (λ made. made.items ≡ pairs.now) }
+    ensures { IfOk result (λ made. made ≡ pairs.now) }
 {
     Ok(Items::from_vec(Vec::from_slice(alloc, pairs)?))
 }
