@@ -1,0 +1,10 @@
+use Rattle.std.proofs.Common.{rules, ◌≡◌, ◌<◌, ℕ, ◌+◌, ◌-◌, ◌*◌, ◌≤◌, length, ◌/◌, ◌%◌, Bool, true, false, nat_eq, nat_lt, List, [], ◌∷◌, ◌++◌, slice_index_or, slice_set, bit_and, bit_or, Fits, w8, w32, w64, Bor, MutBor}
+use Rattle.nav_ground.specs.Cells.{next_level}
+use Rattle.nav_ground.specs.Levels.{IsSmallLevel, level_of, number_of}
+use Rattle.nav_ground.specs.SmallCells.{IsSmall}
+use Rattle.nav_ground.proofs.SmallCellLaws.{small_back}
+use Rattle.nav_ground.proofs.small_cell.SmallCell.new.Goals as goal
+
+pub returns : goal.returns
+returns c = small_back c.args.cell.now c.number_of.result c.number_of-2.result c.number_of-3.result c.number_of-4.result c.requires
+    c.number_of.ensures c.number_of-2.ensures c.number_of-3.ensures c.number_of-4.ensures
