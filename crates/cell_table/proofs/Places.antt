@@ -25,7 +25,7 @@ same_test false true there back = back refl
 same_test false false there back = refl
 
 -- the neighbouring column in a direction is the one with the number of that direction
-toward_number : (dir : ℕ) (from to : CellRef) → dir < 4 → IsPlace from → IsPlace to
+pub toward_number : (dir : ℕ) (from to : CellRef) → dir < 4 → IsPlace from → IsPlace to
     → is_toward dir from to ≡ (column_of to == column_toward dir from)
 toward_number zero from to small f t = same_test _ _
     (λ h. let e = both_equal (to.x + 1) from.x to.z from.z h in eq-eqb _ _ (omega (arith, e.0, e.1)))
