@@ -1,5 +1,5 @@
 -- The areas that cells are left with are small.
-use Rattle.std.proofs.Common.{◌≡◌, ℕ, zero, suc, ◌<◌, ◌≤◌, Bool, true, false, cond, length, List, [], ◌∷◌, map, get_or, ap, ◌∙◌, sym, subst, Option, Some, None, arith, inl, inr, refl}
+use Rattle.std.proofs.Common.{◌≡◌, ℕ, zero, suc, ◌<◌, ◌≤◌, Bool, true, false, cond, length, List, [], ◌∷◌, map, get_or, ap, ◌∙◌, sym, subst, Option, Some, None, arith, inl, inr}
 use Rattle.std.specs.Prelude.{All, not}
 use Rattle.std.specs.List.{filter, list_any}
 use Rattle.std.proofs.lemmas.Bool.{cases_lt}
