@@ -1,6 +1,6 @@
 -- Places by column and level, and where they stand in a list of cells.
-use Rattle.std.proofs.Common.{◌≡◌, ℕ, ◌+◌, ◌<◌, ◌≤◌, ◌⊎◌, Bool, true, false, length, List, ◌∷◌, get_or, ap, ◌∙◌, sym, refl, subst, [], Option, Some, None, arith, zero, suc, inl, inr}
-use Rattle.std.specs.Prelude.{◌==◌, ◌&&◌, nat_lt, ◌||◌, All, option_and_then, slice_get}
+use Rattle.std.proofs.Common.{◌≡◌, ℕ, ◌+◌, ◌<◌, ◌≤◌, ◌⊎◌, Bool, true, false, length, List, ◌∷◌, get_or, ap, ◌∙◌, sym, refl, subst, [], Some, None, arith, zero, suc, inl, inr}
+use Rattle.std.specs.Prelude.{◌==◌, ◌&&◌, nat_lt, ◌||◌, All}
 use Rattle.std.specs.List.{position_or_len}
 use Rattle.std.specs.List.Sorted.{IsPartitionedBy}
 use Rattle.std.specs.Option.{option_map_or}
@@ -12,13 +12,8 @@ use Rattle.nav_ground.specs.declared.cell.Cell.{Cell}
 use Rattle.nav_ground.specs.declared.cell.CellRef.{CellRef}
 use Rattle.nav_ground.specs.Cells.{IsCellBefore, IsCells, is_toward, is_naming, next_level}
 use Rattle.nav_ground.proofs.Directions.{both_equal, tests_of_equal}
-use Rattle.cell_table.specs.Columns.{column_of, column_toward, is_at, is_before}
+use Rattle.cell_table.specs.Columns.{IsPlace, column_of, column_toward, is_at, is_before}
 use Rattle.cell_table.specs.Table.{index_of, index_named}
-
--- a place lies in the largest field
-pub record IsPlace (at : CellRef) : Type 0 where
-  pub x : at.x < 1024
-  pub z : at.z < 1024
 
 abbrev pub no_cell : Cell
 no_cell = record { at = record { x = 0; z = 0; level = 0 }; floor = 0; ceiling = 0; area = 0; next = [] }
@@ -137,12 +132,6 @@ parted_before cells rules' column level i j d before there here =
           subst P same here
     ]
 
--- what a cell names in a direction, as it stands in the cell
-next_level_at : (nexts : List (Option ℕ)) (dir : ℕ) → option_and_then (λ (next : Option ℕ). next) (slice_get nexts dir) ≡ get_or nexts dir None
-next_level_at [] dir = refl
-next_level_at (next ∷ nexts) zero = refl
-next_level_at (next ∷ nexts) (suc dir) = next_level_at nexts dir
-
 -- two tests that agree at each element find the same first
 position_same : {A : Type 0} (p q : A → Bool) (xs : List A) → All (λ x. p x ≡ q x) xs → position_or_len p xs ≡ position_or_len q xs
 position_same p q [] each = refl
@@ -152,15 +141,15 @@ position_same p q (x ∷ xs) each =
     cc
 
 -- the index of the cell that is named is that of the cell with the column and the level
-pub named_index : (dir level : ℕ) (cell : Cell) (cells : List Cell) → dir < 4 → IsPlace cell.at → IsCells cells → get_or cell.next dir None ≡ Some level
+pub named_index : (dir level : ℕ) (cell : Cell) (cells : List Cell) → dir < 4 → IsPlace cell.at → IsCells cells → next_level cell dir ≡ Some level
     → index_of cells (column_toward dir cell.at) level ≡ index_named cells cell dir
 named_index dir level cell cells small f rules' named =
     position_same (λ (other : Cell). is_at (column_toward dir cell.at) level other.at) (λ (other : Cell). is_naming dir cell other.at) cells
-    (λ k d there. sym (naming_number dir level cell (get_or cells k d).at small f (place_at cells rules' k d there) (next_level_at cell.next dir ∙ named)))
+    (λ k d there. sym (naming_number dir level cell (get_or cells k d).at small f (place_at cells rules' k d there) named))
 
 -- where no level is named no cell is
-pub named_none : (dir : ℕ) (cell : Cell) (cells : List Cell) → get_or cell.next dir None ≡ None → length cells ≡ index_named cells cell dir
+pub named_none : (dir : ℕ) (cell : Cell) (cells : List Cell) → next_level cell dir ≡ None → length cells ≡ index_named cells cell dir
 named_none dir cell cells named =
     sym (position_or_len_is (λ (other : Cell). is_naming dir cell other.at) cells (length cells) no_cell (omega arith)
-    (λ k there. naming_nowhere dir cell (get_or cells k no_cell).at (next_level_at cell.next dir ∙ named))
+    (λ k there. naming_nowhere dir cell (get_or cells k no_cell).at named)
     (λ more. absurd (omega (arith, more))))
