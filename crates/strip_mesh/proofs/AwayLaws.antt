@@ -17,7 +17,7 @@ none_there [] never = refl
 none_there (x ∷ xs) never = absurd (never 0 x (omega arith))
 
 -- without labels there are no runs
-no_runs : (labels : List (Option ℕ)) → ((k : ℕ) → get_or labels k None ≡ None) → runs_of labels ≡ []
+pub no_runs : (labels : List (Option ℕ)) → ((k : ℕ) → get_or labels k None ≡ None) → runs_of labels ≡ []
 no_runs labels none =
     none_there (runs_of labels)
     (λ k d there.
