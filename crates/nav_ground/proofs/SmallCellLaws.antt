@@ -1,12 +1,12 @@
 -- Small cells: that small numbers give a cell back, which cells are small again, and reads of a place.
-use Rattle.std.proofs.Common.{◌≡◌, ℕ, zero, suc, ◌<◌, ◌≤◌, Bool, true, false, List, [], ◌∷◌, length, map, get_or, refl, sym, ap, ◌∙◌, arith}
+use Rattle.std.proofs.Common.{◌≡◌, ℕ, zero, suc, ◌<◌, ◌≤◌, Bool, true, false, List, [], ◌∷◌, length, map, get_or, refl, ap, ◌∙◌, arith}
 use Rattle.std.specs.Prelude.{◌==◌, if◌then◌else◌, All, Option, Some, None, option_and_then, slice_get, slice_index_or}
 use Rattle.std.proofs.lemmas.Bool.{eqb-true}
 use Rattle.std.proofs.lemmas.List.{get_or_default}
 use Rattle.std.proofs.lemmas.List.Elements.{All-nil, All-cons, All-head, All-tail}
 use Rattle.nav_ground.specs.declared.cell.Cell.{Cell}
 use Rattle.nav_ground.specs.declared.cell.CellRef.{CellRef}
-use Rattle.nav_ground.specs.Cells.{IsCell, next_level}
+use Rattle.nav_ground.specs.Cells.{next_level}
 use Rattle.nav_ground.specs.Levels.{level_of, number_of, IsSmallLevel}
 use Rattle.nav_ground.specs.SmallCells.{IsSmall}
 use Rattle.nav_ground.specs.Packing.{cell_view}

@@ -1,5 +1,5 @@
 -- Small cells: which cells fit into the small numbers that a stored cell is kept in.
-use Rattle.std.specs.Prelude.{◌≡◌, ◌<◌, ◌≤◌, length, All}
+use Rattle.std.specs.Prelude.{◌≡◌, ◌≤◌, length, All}
 use Rattle.nav_ground.specs.declared.cell.Cell.{Cell}
 use Rattle.nav_ground.specs.Levels.{IsSmallLevel}
 

@@ -1,7 +1,3 @@
-use Rattle.std.proofs.Common.{rules, ◌≡◌, ◌<◌, ℕ, ◌+◌, ◌-◌, ◌*◌, ◌≤◌, length, ◌/◌, ◌%◌, Bool, true, false, nat_eq, nat_lt, List, [], ◌∷◌, ◌++◌, slice_index_or, slice_set, bit_and, bit_or, Fits, w8, w32, w64, Bor, MutBor}
-use Rattle.nav_ground.specs.Cells.{next_level}
-use Rattle.nav_ground.specs.Levels.{IsSmallLevel, level_of, number_of}
-use Rattle.nav_ground.specs.SmallCells.{IsSmall}
 use Rattle.nav_ground.proofs.SmallCellLaws.{small_back}
 use Rattle.nav_ground.proofs.small_cell.SmallCell.new.Goals as goal
 
