@@ -1,3 +1,4 @@
 pub mod HandSettings
 mod Literals
+pub mod SmallLiterals
 mod HandTiles

@@ -4,6 +4,7 @@ ghost use Rattle.std.specs.Prelude.{◌≡◌, ◌<◌, All};
 ghost use Rattle.nav_ground.specs.Limits.{IsShape};
 
 use crate::rows::hold;
+use crate::small_cells::small_cells;
 use mesh_types::TileMesh;
 use nav_ground::{AREAS, Agent, Cell, CellRef, Layer, MeshKind, Setting, Shape};
 use nav_list::Items;
@@ -86,7 +87,7 @@ fn built<L: Ledger>(
 {
     let layer = Layer {
         tile: 0,
-        cells: Items::from_vec(Vec::from_array(alloc, CELLS)?),
+        cells: Items::from_vec(small_cells(alloc, &CELLS)?),
         radius: 0,
         wide: Items::new(alloc),
     };

@@ -14,7 +14,10 @@ mod five_cells;
 mod meshes;
 #[cfg(test)]
 mod rows;
+mod small_cells;
 #[cfg(test)]
 mod strip_meshes;
 #[cfg(test)]
 mod strips;
+
+pub use small_cells::small_cells;

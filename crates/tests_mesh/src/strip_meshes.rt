@@ -6,6 +6,7 @@ ghost use Rattle.nav_ground.specs.Limits.{IsSetting};
 
 use crate::five_cells::CELLS;
 use crate::rows::hold;
+use crate::small_cells::small_cells;
 use mesh_types::{Corners, LevelPair, Link, PolyRef, Polygon, Portal, RimEdge, TileMesh};
 use nav_base::Point;
 use nav_ground::{AREAS, Agent, FreeLayer, MeshKind, Setting};
@@ -33,7 +34,7 @@ const SETTING: Setting = Setting {
 fn mesh(alloc: Global) -> Result<TileMesh, AllocError> {
     let free = FreeLayer {
         tile: 0,
-        cells: Items::from_vec(Vec::from_array(alloc, CELLS)?),
+        cells: Items::from_vec(small_cells(alloc, &CELLS)?),
     };
     strip_mesh(alloc, &free, &SETTING)
 }
