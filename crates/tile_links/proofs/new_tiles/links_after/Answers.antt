@@ -13,6 +13,6 @@ shared_near_links-requires-clause-few c =
 
 pub shared_near_links-requires-clause-old : goal.shared_near_links-requires-clause-old
 shared_near_links-requires-clause-old c =
-    rw (c.get-tile.ensures, c.get-then-changes-place.ensures)
+    rw (c.get-tile.ensures, c.get.ensures)
     (old_here c.args.tiled.setting.now c.args.changes.news.now c.args.tiled.tiles.now c.args.cross.now c.args.place c.index-tiles-place.result c.index-cross-place.result
     c.requires.tiles c.requires.there c.index-tiles-place.is c.index-cross-place.is c.requires.old)
