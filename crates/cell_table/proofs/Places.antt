@@ -1,8 +1,7 @@
 -- Places by column and level, and where they stand in a list of cells.
-use Rattle.std.proofs.Common.{◌≡◌, ℕ, ◌+◌, ◌<◌, ◌≤◌, ◌⊎◌, Bool, true, false, length, List, ◌∷◌, get_or, ap, ◌∙◌, sym, refl, subst, [], Some, None, arith, zero, suc, inl, inr}
+use Rattle.std.proofs.Common.{◌≡◌, ℕ, ◌+◌, ◌-◌, ◌<◌, ◌≤◌, ◌⊎◌, Bool, true, false, length, List, ◌∷◌, get_or, ap, ◌∙◌, sym, refl, subst, [], Some, None, arith, zero, suc, inl, inr}
 use Rattle.std.specs.Prelude.{◌==◌, ◌&&◌, nat_lt, ◌||◌, All}
 use Rattle.std.specs.List.{position_or_len}
-use Rattle.std.specs.List.Sorted.{IsPartitionedBy}
 use Rattle.std.specs.Option.{option_map_or}
 use Rattle.std.proofs.lemmas.Bool.{eqb-true, eq-eqb, both_ways, false_from_ne_true, cases_lt, and_right}
 use Rattle.std.proofs.lemmas.Bool.Decides.{nat_tests}
@@ -25,7 +24,7 @@ same_test false true there back = back refl
 same_test false false there back = refl
 
 -- the neighbouring column in a direction is the one with the number of that direction
-toward_number : (dir : ℕ) (from to : CellRef) → dir < 4 → IsPlace from → IsPlace to
+pub toward_number : (dir : ℕ) (from to : CellRef) → dir < 4 → IsPlace from → IsPlace to
     → is_toward dir from to ≡ (column_of to == column_toward dir from)
 toward_number zero from to small f t = same_test _ _
     (λ h. let e = both_equal (to.x + 1) from.x to.z from.z h in eq-eqb _ _ (omega (arith, e.0, e.1)))
@@ -121,15 +120,30 @@ found_nowhere cells rules' column level least most before after here =
     ])
     (λ more. absurd (omega (arith, more))))
 
--- so cells are parted by what comes before a column and a level
-pub parted_before : (cells : List Cell) → IsCells cells → (column level : ℕ) → IsPartitionedBy (λ (cell : Cell). is_before column level cell.at) cells
-parted_before cells rules' column level i j d before there here =
-    elim (cases_lt i j) [
-      | inl less ↦ all_before cells rules' column level j i d less there (inl here)
+-- where one cell does not come before a column and a level, no later one does; where one does, so do those before it
+pub none_before : (cells : List Cell) → IsCells cells → (column level n k : ℕ) (d : Cell) → n ≤ k → k < length cells
+    → ((d : Cell) → n < length cells → is_before column level (get_or cells n d).at ≡ false) → is_before column level (get_or cells k d).at ≡ false
+none_before cells rules' column level n k d below there next =
+    false_from_ne_true (is_before column level (get_or cells k d).at) (λ is.
+    elim (cases_lt n k) [
+      | inl less ↦
+          both_ways (is_before column level (get_or cells n d).at) (next d (omega (arith, less, there)))
+          (all_before cells rules' column level k n d less there (inl is))
       | inr more ↦
-          let same : j ≡ i = omega (arith, before, more) in
-          let P : ℕ → Type 0 = λ n. is_before column level (get_or cells n d).at ≡ true in
-          subst P same here
+          let same : k ≡ n = omega (arith, below, more) in
+          let P : ℕ → Type 0 = λ m. is_before column level (get_or cells m d).at ≡ true in
+          both_ways (is_before column level (get_or cells n d).at) (next d (omega (arith, same, there))) (subst P same is)
+    ])
+
+pub some_before : (cells : List Cell) → IsCells cells → (column level n k : ℕ) (d : Cell) → k < n → n ≤ length cells
+    → is_before column level (get_or cells (n - 1) d).at ≡ true → is_before column level (get_or cells k d).at ≡ true
+some_before cells rules' column level n k d below most last =
+    elim (cases_lt k (n - 1)) [
+      | inl less ↦ all_before cells rules' column level (n - 1) k d less (omega (arith, below, most)) (inl last)
+      | inr more ↦
+          let same : n - 1 ≡ k = omega (arith, below, more) in
+          let P : ℕ → Type 0 = λ m. is_before column level (get_or cells m d).at ≡ true in
+          subst P same last
     ]
 
 -- two tests that agree at each element find the same first

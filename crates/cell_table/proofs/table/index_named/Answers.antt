@@ -6,8 +6,8 @@ use Rattle.cell_table.proofs.table.index_named.Goals as goal
 
 pub returns-in-Some : goal.returns-in-Some
 returns-in-Some c =
-    c.index_after.ensures
-    ∙ ap (λ column. index_of c.args.cells.now column c.in-Some.level) (c.column_toward.ensures ∙ ap (column_toward c.args.dir) c.at.ensures)
+    c.index_of.ensures
+    ∙ ap (λ column. index_of c.args.cells.now column c.in-Some.level) (c.column_toward.ensures ∙ ap (column_toward c.args.dir) c.requires.at)
     ∙ named_index c.args.dir c.in-Some.level c.args.cell.now c.args.cells.now c.requires.dir
     (record { x = c.requires.cell.x; z = c.requires.cell.z }) c.requires.cells (sym c.next.ensures ∙ c.in-Some.is)
 
