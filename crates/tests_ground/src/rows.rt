@@ -1,6 +1,6 @@
 //! Cells that are written as rows.
 
-ghost use Rattle.std.specs.Prelude.{◌≡◌, IfOk, map};
+ghost use Rattle.std.specs.Prelude.{◌≡◌, ◌≤◌, IfOk, map};
 ghost use Rattle.nav_ground.specs.Levels.{IsSmallLevel};
 ghost use Rattle.nav_ground.specs.SmallCells.{IsSmall};
 ghost use Rattle.tests_ground.specs.Rows.{cell_of, named_by, whole_cell_of};
@@ -45,7 +45,10 @@ pub(crate) fn cells_of(alloc: Global, rows: &[Row]) -> Result<Vec<SmallCell>, Al
 pub(crate) type CellRow = ((u16, u16, u16), (u16, u16, u8), (u8, u8, u8, u8));
 
 pub(crate) fn place(at: (u16, u16, u16)) -> CellRef
-    ensures { result ≡ record { x = at.0; z = at.1; level = at.2 } }
+    ensures value { result ≡ record { x = at.0; z = at.1; level = at.2 } }
+    ensures x { result.x ≤ 65535 }
+    ensures z { result.z ≤ 65535 }
+    ensures level { result.level ≤ 65535 }
 {
     CellRef {
         x: at.0 as u32,
