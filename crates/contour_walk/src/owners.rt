@@ -13,7 +13,11 @@ use nav_ground::SmallCell;
 use std::alloc::{AllocError, Global};
 
 /// For each cell the number of the first region that holds it, or the number of regions where none does.
-pub fn owners(alloc: Global, cells: &[SmallCell], regions: &[Region]) -> Result<Vec<u32>, AllocError>
+pub fn owners(
+    alloc: Global,
+    cells: &[SmallCell],
+    regions: &[Region],
+) -> Result<Vec<u32>, AllocError>
     requires cells { IsCells cells.now }
     requires few { length regions.now ≤ 2000000 }
     requires fit { All (λ (region : Region). All IsFit region.strips) regions.now }
