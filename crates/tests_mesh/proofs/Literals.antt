@@ -13,6 +13,7 @@ use Rattle.nav_ground.specs.Levels.{IsSmallLevel}
 use Rattle.nav_ground.specs.SmallCells.{IsSmall}
 use Rattle.nav_ground.specs.Tiling.{IsInWindow, is_in_window, tile_count, tile_window}
 use Rattle.nav_ground.proofs.LayerLaws.{inside_from}
+use Rattle.tests_mesh.specs.Stored.{AreSmall}
 
 inside_shown : (window : Window) (cells : List Cell) → list_all (λ (cell : Cell). is_in_window window cell.at.x cell.at.z) cells ≡ true
     → All (λ (cell : Cell). IsInWindow window cell.at.x cell.at.z) cells
@@ -45,5 +46,5 @@ small_shown cell h =
     let numbers = parts.0 in
     grind (arith, nat_tests)
 
-pub AreSmall-shown : (cells : List Cell) → list_all is_small cells ≡ true → All IsSmall cells
-AreSmall-shown cells h = λ k d there. small_shown _ (AllPass-from_list_all is_small cells h k d there)
+pub AreSmall-shown : (cells : List Cell) → list_all is_small cells ≡ true → AreSmall cells
+AreSmall-shown cells h = record { each = λ k d there. small_shown _ (AllPass-from_list_all is_small cells h k d there) }

@@ -1,2 +1,3 @@
 pub mod HandSettings
 pub mod TwoTiles
+pub mod Stored

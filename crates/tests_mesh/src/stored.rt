@@ -1,7 +1,7 @@
 //! Cells that are written out, as lists keep them.
 
-ghost use Rattle.std.specs.Prelude.{◌≡◌, All, IfOk};
-ghost use Rattle.nav_ground.specs.SmallCells.{IsSmall};
+ghost use Rattle.std.specs.Prelude.{◌≡◌, IfOk};
+ghost use Rattle.tests_mesh.specs.Stored.{AreSmall};
 
 use nav_ground::{Cell, SmallCell};
 use nav_list::Items;
@@ -9,7 +9,7 @@ use std::alloc::{AllocError, Global};
 
 /// The list of cells whose numbers are small.
 pub(crate) fn stored(alloc: Global, cells: &[Cell]) -> Result<Items<SmallCell>, AllocError>
-    requires { All IsSmall cells.now }
+    requires { AreSmall cells.now }
     ensures { IfOk result (λ stored. stored ≡ cells.now) }
 {
     let mut stored = Vec::with_capacity(alloc, cells.len())?;
