@@ -23,6 +23,20 @@ PAGE = TOP / "docs" / "CLAIM.md"
 ROOT_CRATE, ROOT_FILE, ROOT_CALL = "nav_run", "top", "navd"
 NAME = r"[A-Za-z_][\w'?]*(?:-[A-Za-z_][\w'?]*)*"
 HEADER = re.compile(rf"( *)(?:abbrev |unfoldable )?(?:pub )?(?:record |data )?({NAME})(?= [:({{])")
+# What belongs to one part of what the program does: constructors that its lines name, definitions, files and clauses of the call.
+PARTS = {
+    "obstacles that set an area": "AreaBlock AreaCylinder area_set_by area_given area_under area_forms area_line area_block_line area_cylinder_line "
+    "number_after IsArea",
+    "jumps and hop walks": "Jump Hop HopStep HopAnswer is_jump lacks_jumps IsJump jump_line hop_line jump_or_hop IsHopAnswered "
+    "mesh_types/Hops mesh_types/Stretches nav_record/HopTexts",
+    "walkers": "Send March Walked NoWalker WalkAnswer send_line march_line walker_line Standing standing_of standing_after standing_with "
+    "IsSentTo IsMarchOf IsMarchTold IsMoved AreMoved surface_move/Moves agent_walks/Marches nav_record/WalkTexts",
+    "triangles": "TooManyTriangles IsRasterForm IsFieldDue IsTriFaultDue IsManyDue HasToldMany header_format header_body costs_verdict header_line "
+    "IsHeaderText all_header_lines span_text/FieldText.GoesOn nav_run/Triangles tri_raster/TriText tri_raster/TriFormat tri_rows/Rasters "
+    "tri_rows/Triangles clause:too_many clause:raster_complete clause:raster_wrong clause:raster_many",
+    "clearance round obstacles": "AtClear First Second TextForm nav_text margin_of widened clear_places is_crowded is_same_place wide_cells clear_in "
+    "clear_line clear_lines touch_window",
+}
 STARTS = re.compile(r" *(?:abbrev|unfoldable|pub|record|data) ")
 MODULE = re.compile(r"( *)module _ (.*) where$")
 
@@ -326,6 +340,8 @@ def page(house):
         rows[house.storeys[crate]][0] += 1
     out += ["| Storey | files | definitions | lines |", "|---|---|---|---|"]
     out += [f"| {storey} | {rows[storey][0]} | {rows[storey][1]} | {rows[storey][2]} |" for storey in dict.fromkeys(house.storeys.values()) if storey in rows]
+    out += ["", wrapped("Some parts of what the program does can be told apart. Of each this says what the claim would have less if that part were not there: "
+                        "its lines of scripts and of texts, its arms of definitions, and what nothing else names."), "", *parts_table(house)]
     out += ["", "## The clauses", "", wrapped(f"Of each clause of `{ROOT_CALL}` the words that this repository defines, and how many definitions stand behind them. "
             "What each clause says is in the call's comments and in README."), ""]
     for name, text in clauses:
@@ -369,6 +385,54 @@ def page(house):
             out.append(f"| `{crate}/specs/{name.replace('.', '/')}` | {serves} | {sentence(module.head, 84).replace('|', '/')} |")
     out.append("")
     return "\n".join(out)
+
+
+def units_of(item):
+    """A definition's text in parts that can fall alone: its head, and each equation, field or variant behind it."""
+    text = [line for line in item.text if line.strip()]
+    base = len(text[0]) - len(text[0].lstrip())
+    fields = bool(re.match(r" *(?:pub )?(?:record|data) ", text[0]))
+    units = [text[:1]]
+    for line in text[1:]:
+        if len(line) - len(line.lstrip()) == base + 2 * fields:
+            units.append([line])
+        else:
+            units[-1].append(line)
+    return units, fields
+
+
+def without(house, parts):
+    """How many definitions and lines the claim would have if these parts were not there: their definitions fall, with each equation for a
+    constructor of theirs, each field or variant that names something of theirs, and all that nothing else names."""
+    words = {word for part in parts for word in PARTS[part].split()}
+    gone = {item for module in house.specs.values() for item in module.items.values()
+            if words & {item.name, f"{item.crate}/{item.module}", f"{item.crate}/{item.module}.{item.name}"}}
+    named = re.compile(r"(?<![\w.])(?:" + "|".join(re.escape(word) for word in words if "/" not in word and ":" not in word) + r")(?![\w'-])|(?!)")
+    root = house.code[ROOT_CRATE, ROOT_FILE]
+    todo = [item for name, text in house.clauses(root, ROOT_CALL)[1] if f"clause:{name}" not in words for item in house.cited(root, text)[0]]
+    seen, lines = set(), 0
+    while todo:
+        item = todo.pop()
+        if item in seen or item in gone:
+            continue
+        seen.add(item)
+        cites = item.cites
+        if item.kind == "definition":
+            units, fields = units_of(item)
+            if words:
+                units = units[:1] + [it for it in units[1:] if not named.search("\n".join(it) if fields else re.split(r" =\s", "\n".join(it))[0])]
+            kept = [line for unit in units for line in unit]
+            cites, lines = house.cited(house.specs[item.crate, item.module], "\n".join(kept + item.outer), item)[0], lines + len(kept)
+        todo += cites
+    return sum(1 for item in seen if item.kind == "definition"), lines
+
+
+def parts_table(house):
+    """How much of the claim came with which part."""
+    whole = without(house, [])
+    rows = [f"| {part} | {whole[0] - less[0]} | {whole[1] - less[1]} |" for part in PARTS for less in [without(house, [part])]]
+    rest = without(house, list(PARTS))
+    return ["| Part | definitions | lines |", "|---|---|---|", *rows, f"| all else | {rest[0]} | {rest[1]} |"]
 
 
 ORDER = ["calls", "inside", "tests", "proofs", "nothing"]

@@ -1,10 +1,11 @@
 -- The made level: a square of SIZE columns a side, with one span in each.
-use Rattle.std.specs.Prelude.{ℕ, false, ◌+◌, ◌*◌, ◌/◌, ◌%◌, ◌≤◌, ◌==◌, if◌then◌else◌, List, map, replicate}
+use Rattle.std.specs.Prelude.{ℕ, ◌+◌, ◌*◌, ◌/◌, ◌%◌, ◌≤◌, ◌==◌, if◌then◌else◌, List, map}
 use Rattle.std.specs.List.{range_with_len}
 use Rattle.nav_ground.specs.declared.setting.Setting.{Setting}
 use Rattle.nav_ground.specs.declared.setting.MeshKind.TheVariants.{Contours}
 use Rattle.nav_ground.specs.declared.field.Span.{Span}
 use Rattle.nav_ground.specs.declared.field.Field.{Field}
+use Rattle.span_text.specs.FieldFormat.{plain_setting}
 use Rattle.nav_gen.specs.Draws.{draw}
 
 -- a level is made in these sizes
@@ -13,17 +14,7 @@ IsMadeSize size = (32 ≤ size) × (size ≤ 512)
 
 -- the setting of a level of a size
 abbrev pub made_setting : ℕ → Setting
-made_setting size = record {
-  width = size;
-  depth = size;
-  tile = 32;
-  agent = record { height = 10; climb = 4; radius = 2 };
-  error = 169;
-  mesh = Contours;
-  limit = 64;
-  costs = replicate 64 1;
-  clear = false;
-}
+made_setting size = plain_setting size size 32 (record { height = 10; climb = 4; radius = 2 }) 169 Contours 64
 
 -- the span of a column, which its draw decides: one in 64 is a pillar that nobody walks on, 40 high; the others are floors, 10 or 11 high.
 -- Columns are numbered row by row.

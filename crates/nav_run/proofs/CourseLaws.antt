@@ -14,26 +14,28 @@ use Rattle.nav_run.specs.declared.status.Status.TheVariants as statuses
 use Rattle.nav_run.specs.Courses.{HasRun}
 use Rattle.nav_run.specs.Endings.{HasEnded}
 use Rattle.nav_run.specs.Inputs.{IsInputFor, IsRunText, input_limit}
-use Rattle.nav_run.specs.Outcomes.{IsDue, HasTold, HasBroken, HasDone}
-use Rattle.nav_run.specs.Triangles.{HasToldMany}
+use Rattle.nav_run.specs.Outcomes.{IsDue, HasTold, HasToldMany, HasBroken, HasDone}
 use Rattle.nav_run.specs.Words.{IsForm, IsReadForm, IsRasterForm, IsWayForm, IsGen, word_for}
 
 -- an input with a text of its run is in the grammar
 input_for : (way : Way) (bytes text : List ℕ) → IsRunText way bytes text → IsInputFor way bytes
-input_for way bytes text ran = record { setting = ran.setting; field = ran.field; script = ran.script; there = ran.there }
+input_for way bytes text ran = ran.fits
+
+-- words that are one list and another have the same first letters
+first_letter : List (List ℕ) → ℕ
+first_letter words = get_or (get_or words 0 []) 0 0
 
 -- the two words differ
-two_words : codes "play" ≡ codes "live" → ⊥
-two_words same = let first : get_or (codes "play") 0 0 ≡ get_or (codes "live") 0 0 = ap (λ xs. get_or xs 0 0) same in omega (arith, first)
+two_words : codes "play" ∷ [] ≡ codes "live" ∷ [] → ⊥
+unfolding first_letter
+two_words same = let first : get_or (codes "play") 0 0 ≡ get_or (codes "live") 0 0 = ap first_letter same in omega (arith, first)
 
 -- the words ask for one way at most
 same_way : (words : List (String Global)) (way other : Way) → IsWayForm way words → IsWayForm other words → way ≡ other
-same_way [] way other form there = absurd form
-same_way (word ∷ []) Play Play form there = refl
-same_way (word ∷ []) Play Live form there = absurd (two_words (sym form ∙ there))
-same_way (word ∷ []) Live Play form there = absurd (two_words (sym there ∙ form))
-same_way (word ∷ []) Live Live form there = refl
-same_way (word ∷ next ∷ more) way other form there = absurd form
+same_way words Play Play form there = refl
+same_way words Play Live form there = absurd (two_words (sym form ∙ there))
+same_way words Live Play form there = absurd (two_words (sym there ∙ form))
+same_way words Live Live form there = refl
 
 -- an input for one way that the words ask for is an input for the other
 same_input : (words : List (String Global)) (way other : Way) (input known : List ℕ) → IsWayForm way words → IsWayForm other words
@@ -45,25 +47,23 @@ same_input words way other input known form there same fits =
 
 -- one word is no form of three
 pub one_form : (words : List (String Global)) (Goal : Type 0) → IsReadForm words → IsGen words → Goal
-one_form [] Goal (inl runs) gen = absurd runs.form
-one_form [] Goal (inr raster) gen = absurd raster
-one_form (word ∷ []) Goal reads gen = absurd gen.form
-one_form (word ∷ other ∷ more) Goal (inl runs) gen = absurd runs.form
-one_form (word ∷ other ∷ more) Goal (inr raster) gen = absurd raster
+one_form words Goal (inl runs) gen =
+    let one : 1 ≡ 3 = ap (λ xs. length xs) (sym runs.form ∙ gen.form.spelled) in absurd (omega (arith, one))
+one_form words Goal (inr raster) gen =
+    let one : 1 ≡ 3 = ap (λ xs. length xs) (sym raster ∙ gen.form.spelled) in absurd (omega (arith, one))
 
 -- the words ask for an input to be read, as they ask for a way to run one
 pub reads_for : (words : List (String Global)) (way : Way) → IsWayForm way words → IsReadForm words
 reads_for words way form = inl (record { way = way; form = form })
 
 -- the word `raster` is no other
-other_word : (way : Way) → codes "raster" ≡ word_for way → ⊥
-other_word Play same = let first : get_or (codes "raster") 0 0 ≡ get_or (codes "play") 0 0 = ap (λ xs. get_or xs 0 0) same in omega (arith, first)
-other_word Live same = let first : get_or (codes "raster") 0 0 ≡ get_or (codes "live") 0 0 = ap (λ xs. get_or xs 0 0) same in omega (arith, first)
+other_word : (way : Way) → codes "raster" ∷ [] ≡ word_for way ∷ [] → ⊥
+unfolding first_letter
+other_word Play same = let first : get_or (codes "raster") 0 0 ≡ get_or (codes "play") 0 0 = ap first_letter same in omega (arith, first)
+other_word Live same = let first : get_or (codes "raster") 0 0 ≡ get_or (codes "live") 0 0 = ap first_letter same in omega (arith, first)
 
 pub one_word : (words : List (String Global)) (way : Way) (Goal : Type 0) → IsWayForm way words → IsRasterForm words → Goal
-one_word [] way Goal runs raster = absurd runs
-one_word (word ∷ []) way Goal runs raster = absurd (other_word way (sym raster ∙ runs))
-one_word (word ∷ other ∷ more) way Goal runs raster = absurd runs
+one_word words way Goal runs raster = absurd (other_word way (sym raster ∙ runs))
 
 -- a text that was read to its end within the limit is no longer
 pub not_more : (before after : Option (List ℕ)) (bytes : List ℕ) (Goal : Type 0) → GivesAll before after bytes → length bytes ≤ input_limit
@@ -189,7 +189,7 @@ run_complete words (Some input) after rb ra hb ha wb wa statuses.Ok run = λ way
 run_complete words (Some input) after rb ra hb ha wb wa statuses.BadText run = λ way form fits short calm quiet. elim run [
   | inl told ↦
       let same = GivesAll-known (Some input) after told.due.input told.due.read in
-      absurd (told.no_input (same_input words way told.due.way input told.due.input form told.due.form (sym same) fits))
+      absurd (told.due.no_input (same_input words way told.due.way input told.due.input form told.due.form (sym same) fits))
   | inr level ↦ one_word words way _ form level.due.read.form
 ]
 run_complete words (Some input) after rb ra hb ha wb wa statuses.TooManySpans run = λ way form fits short calm quiet.

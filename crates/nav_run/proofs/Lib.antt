@@ -1,3 +1,4 @@
+pub mod WordLaws
 pub mod InputLaws
 pub mod AnswerLaws
 pub mod CourseLaws

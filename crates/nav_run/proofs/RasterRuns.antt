@@ -18,7 +18,7 @@ use Rattle.nav_run.specs.declared.words.Form.TheVariants.{Raster}
 use Rattle.nav_run.specs.Courses.{HasRun}
 use Rattle.nav_run.specs.Endings.{HasEnded}
 use Rattle.nav_run.specs.Inputs.{input_limit}
-use Rattle.nav_run.specs.Triangles.{IsLevel, IsLevelOf, HasFewSpans, HasTooManySpans, IsRasterText, IsOverfull, TellsTriFault, too_many_text, HasReadLevel, IsFieldDue, IsTriFaultDue, IsManyDue}
+use Rattle.nav_run.specs.Triangles.{IsLevel, IsOneLevel, HasFewSpans, HasTooManySpans, IsRasterText, IsOverfull, TellsTriFault, too_many_text, HasReadLevel, IsFieldDue, IsTriFaultDue, IsManyDue}
 use Rattle.nav_run.specs.Words.{AskFor, IsReadForm, IsRasterForm}
 use Rattle.nav_run.proofs.CourseLaws.{wrote, one_form, one_word, too_many}
 
@@ -70,21 +70,23 @@ long_level_run before after rb ra hb ha wb wa status many ended words form =
     wrote words before after rb ra hb ha wb wa too_long_text statuses.TooLong status ended (inr (inr (inl (reads, many, refl)))) (λ there. (reads, many, there))
 
 -- what is read one way only has not both too many spans and few
-clash : (bytes : List ℕ) (setting other : Setting) (header count : ℕ) (tris others : List Tri) (field : Field) → IsLevelOf bytes setting header tris
-    → IsTriText bytes other count others → HasManySpans setting tris → IsRaster other others field → length field.spans ≤ 2000000 → ⊥
-clash bytes setting other header count tris others field level there many raster few =
-    let same = level.only other count others there in
-    let S : Setting → Type 0 = λ s. IsRaster s others field in
-    let T : List Tri → Type 0 = λ ts. IsRaster setting ts field in
-    many_or_few setting tris field many (subst T same.2 (subst S same.0 raster)) few
+clash : (bytes : List ℕ) → IsOverfull bytes → HasFewSpans bytes → ⊥
+clash bytes over fits =
+    let level = over.one.level in
+    let other = fits.level in
+    let same = over.one.only other in
+    let S : Setting → Type 0 = λ s. IsRaster s other.tris fits.field in
+    let T : List Tri → Type 0 = λ ts. IsRaster level.setting ts fits.field in
+    many_or_few level.setting level.tris fits.field over.many (subst T same.2 (subst S same.0 fits.raster)) fits.few
 
-clash_other : (bytes : List ℕ) (setting other : Setting) (header count : ℕ) (tris others : List Tri) (field : Field) → IsLevelOf bytes setting header tris
-    → IsTriText bytes other count others → IsRaster setting tris field → length field.spans ≤ 2000000 → HasManySpans other others → ⊥
-clash_other bytes setting other header count tris others field level there raster few many =
-    let same = level.only other count others there in
-    let S : Setting → Type 0 = λ s. HasManySpans s others in
-    let T : List Tri → Type 0 = λ ts. HasManySpans setting ts in
-    many_or_few setting tris field (subst T same.2 (subst S same.0 many)) raster few
+clash_other : (bytes text : List ℕ) → IsRasterText bytes text → HasTooManySpans bytes → ⊥
+clash_other bytes text raster over =
+    let level = raster.one.level in
+    let other = over.level in
+    let same = raster.one.only other in
+    let S : Setting → Type 0 = λ s. HasManySpans s other.tris in
+    let T : List Tri → Type 0 = λ ts. HasManySpans level.setting ts in
+    many_or_few level.setting level.tris raster.field (subst T same.2 (subst S same.0 over.many)) raster.raster raster.few
 
 -- a triangle text with few spans
 pub run_raster : (words : List (String Global)) (before after : Option (List ℕ)) (rb ra : ℕ) (hb ha : Option (List ℕ)) (wb wa : ℕ) (status : Status)
@@ -97,8 +99,7 @@ run_raster words (Some input) after rb ra hb ha wb wa statuses.BadText run = λ 
   | inl told ↦ one_word words told.due.way _ told.due.form form
   | inr level ↦
       let same : level.due.input ≡ input = GivesAll-known (Some input) after level.due.input level.due.read.read in
-      let here : IsLevel input = record { setting = fits.setting; header = fits.header; tris = fits.tris; there = fits.there } in
-      absurd (level.due.tells.no_level (subst IsLevel (sym same) here))
+      absurd (level.due.tells.no_level (subst IsLevel (sym same) fits.level))
 ]
 run_raster words (Some input) after rb ra hb ha wb wa statuses.Usage run = λ form fits short calm quiet. absurd (run.0 (inl (inr form)))
 run_raster words (Some input) after rb ra hb ha wb wa statuses.ReadFault run = λ form fits short calm quiet. absurd (calm run.1)
@@ -106,11 +107,8 @@ run_raster words (Some input) after rb ra hb ha wb wa statuses.WriteFault run = 
 run_raster words (Some input) after rb ra hb ha wb wa statuses.TooLong run = λ form fits short calm quiet. too_many input after _ run.1 short
 run_raster words (Some input) after rb ra hb ha wb wa statuses.OutOfMemory run = λ form fits short calm quiet. inr refl
 run_raster words (Some input) after rb ra hb ha wb wa statuses.TooManySpans run = λ form fits short calm quiet.
-    let over = run.due.over in
     let same : run.due.input ≡ input = GivesAll-known (Some input) after run.due.input run.due.read.read in
-    let L : List ℕ → Type 0 = λ xs. IsLevelOf xs over.setting over.header over.tris in
-    absurd (clash input over.setting fits.setting over.header fits.header over.tris fits.tris fits.field (subst L same over.level) fits.there over.many
-    fits.raster fits.few)
+    absurd (clash input (subst IsOverfull same run.due.over) fits)
 
 -- no triangle text
 pub run_no_level : (words : List (String Global)) (before after : Option (List ℕ)) (rb ra : ℕ) (hb ha : Option (List ℕ)) (wb wa : ℕ) (status : Status)
@@ -122,11 +120,8 @@ run_no_level words (Some input) after rb ra hb ha wb wa statuses.Ok run = λ for
   | inl answered ↦ one_word words answered.due.way _ answered.due.form form
   | inr (inl summed) ↦ one_form words _ (inr form) (record { number = summed.due.number; size = summed.due.size; form = summed.due.form })
   | inr (inr rastered) ↦
-      let raster = rastered.due.raster in
       let same : rastered.due.input ≡ input = GivesAll-known (Some input) after rastered.due.input rastered.due.read.read in
-      let here : IsLevel rastered.due.input =
-      record { setting = raster.setting; header = raster.header; tris = raster.tris; there = raster.level.there } in
-      absurd (none (subst IsLevel same here))
+      absurd (none (subst IsLevel same rastered.due.raster.one.level))
 ]
 run_no_level words (Some input) after rb ra hb ha wb wa statuses.BadText run = λ form none short calm quiet. inl refl
 run_no_level words (Some input) after rb ra hb ha wb wa statuses.Usage run = λ form none short calm quiet. absurd (run.0 (inl (inr form)))
@@ -135,10 +130,8 @@ run_no_level words (Some input) after rb ra hb ha wb wa statuses.WriteFault run 
 run_no_level words (Some input) after rb ra hb ha wb wa statuses.TooLong run = λ form none short calm quiet. too_many input after _ run.1 short
 run_no_level words (Some input) after rb ra hb ha wb wa statuses.OutOfMemory run = λ form none short calm quiet. inr refl
 run_no_level words (Some input) after rb ra hb ha wb wa statuses.TooManySpans run = λ form none short calm quiet.
-    let over = run.due.over in
     let same : run.due.input ≡ input = GivesAll-known (Some input) after run.due.input run.due.read.read in
-    let here : IsLevel run.due.input = record { setting = over.setting; header = over.header; tris = over.tris; there = over.level.there } in
-    absurd (none (subst IsLevel same here))
+    absurd (none (subst IsLevel same run.due.over.one.level))
 
 -- a triangle text with too many spans
 pub run_many : (words : List (String Global)) (before after : Option (List ℕ)) (rb ra : ℕ) (hb ha : Option (List ℕ)) (wb wa : ℕ) (status : Status)
@@ -150,18 +143,14 @@ run_many words (Some input) after rb ra hb ha wb wa statuses.Ok run = λ form ov
   | inl answered ↦ one_word words answered.due.way _ answered.due.form form
   | inr (inl summed) ↦ one_form words _ (inr form) (record { number = summed.due.number; size = summed.due.size; form = summed.due.form })
   | inr (inr rastered) ↦
-      let raster = rastered.due.raster in
       let same : rastered.due.input ≡ input = GivesAll-known (Some input) after rastered.due.input rastered.due.read.read in
-      let L : List ℕ → Type 0 = λ xs. IsLevelOf xs raster.setting raster.header raster.tris in
-      absurd (clash_other input raster.setting over.setting raster.header over.header raster.tris over.tris raster.field (subst L same raster.level) over.there
-      raster.raster raster.few over.many)
+      absurd (clash_other rastered.due.input rastered.text rastered.due.raster (subst HasTooManySpans (sym same) over))
 ]
 run_many words (Some input) after rb ra hb ha wb wa statuses.BadText run = λ form over short calm quiet. elim run [
   | inl told ↦ one_word words told.due.way _ told.due.form form
   | inr level ↦
       let same : level.due.input ≡ input = GivesAll-known (Some input) after level.due.input level.due.read.read in
-      let here : IsLevel input = record { setting = over.setting; header = over.header; tris = over.tris; there = over.there } in
-      absurd (level.due.tells.no_level (subst IsLevel (sym same) here))
+      absurd (level.due.tells.no_level (subst IsLevel (sym same) over.level))
 ]
 run_many words (Some input) after rb ra hb ha wb wa statuses.Usage run = λ form over short calm quiet. absurd (run.0 (inl (inr form)))
 run_many words (Some input) after rb ra hb ha wb wa statuses.ReadFault run = λ form over short calm quiet. absurd (calm run.1)

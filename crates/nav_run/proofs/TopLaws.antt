@@ -32,9 +32,10 @@ text_due words way before after input bytes written text form gave short same as
 -- the line of the fault of what was read is due
 fault_due : (words : List (String Global)) (way : Way) (before after : Option (List ℕ)) (input bytes written text : List ℕ) → IsWayForm way words
     → GivesAll before after input → length input ≤ input_limit → bytes ≡ input → written ≡ text → TellsFault way bytes text
-    → IsFaultDue words before after written
-fault_due words way before after input bytes written text form gave short same as_text tells =
+    → (IsInputFor way bytes → ⊥) → IsFaultDue words before after written
+fault_due words way before after input bytes written text form gave short same as_text tells none =
     let B : List ℕ → Type 0 = λ xs. IsFault way xs tells.fault in
+    let I : List ℕ → Type 0 = λ xs. IsInputFor way xs in
     record {
       way = way;
       form = form;
@@ -44,6 +45,7 @@ fault_due words way before after input bytes written text form gave short same a
       short = short;
       wrong = subst B same tells.wrong;
       told = as_text ∙ tells.told;
+      no_input = λ fits. none (subst I (sym same) fits);
     }
 
 -- a run that was to write a text of what was read
@@ -66,12 +68,10 @@ pub refused_run : (way : Way) (before after : Option (List ℕ)) (reads_before r
     → HasEnded held_before held_after writes_before writes_after written statuses.BadText status
     → (words : List (String Global)) → IsWayForm way words
     → HasRun words before after reads_before reads_after held_before held_after writes_before writes_after status
-unfolding fault_due
 refused_run way before after rb ra hb ha wb wa input bytes written text status gave short same as_text tells none ended words form =
-    let I : List ℕ → Type 0 = λ xs. IsInputFor way xs in
-    let due : IsFaultDue words before after written = fault_due words way before after input bytes written text form gave short same as_text tells in
+    let due = fault_due words way before after input bytes written text form gave short same as_text tells none in
     wrote words before after rb ra hb ha wb wa written statuses.BadText status ended (inr (inr (inr (inr (inl due)))))
-    (λ there. inl (record { text = written; due = due; no_input = λ fits. none (subst I (sym same) fits); written = there }))
+    (λ there. inl (record { text = written; due = due; written = there }))
 
 -- a run that read too many bytes
 pub long_run : (way : Way) (before after : Option (List ℕ)) (reads_before reads_after : ℕ) (held_before held_after : Option (List ℕ))

@@ -17,20 +17,16 @@ use Rattle.tri_raster.specs.TriText.{IsTriText}
 use Rattle.tri_raster.specs.TriFormat.{Gives, IsTextFault}
 use Rattle.nav_run.specs.declared.triangles.Rastered.{Rastered}
 use Rattle.nav_run.specs.declared.triangles.Rastered.TheVariants.{Text, Fault, TooManySpans, OutOfMemory}
-use Rattle.nav_run.specs.Triangles.{IsLevel, IsLevelOf, IsTriLineOf, IsRastered, field_text}
+use Rattle.nav_run.specs.Triangles.{IsLevel, IsTriLineOf, IsRastered, field_text}
 
 -- what is read is read one way only
 pub read_alone : (bytes : List ℕ) (result : Result TriText FieldRefusal) (text : TriText)
     → ((other : Setting) (count : ℕ) (others : List Tri) → IsTriText bytes other count others → Gives other count others result)
-    → result ≡ Ok text → IsTriText bytes text.setting text.header text.tris → IsLevelOf bytes text.setting text.header text.tris
-read_alone bytes result text only is there = record { there = there; only = alone }
-  where
-    alone : (other : Setting) (count : ℕ) (others : List Tri) → IsTriText bytes other count others
-        → (other ≡ text.setting) × (count ≡ text.header) × (others ≡ text.tris)
-    alone other count others known =
-        let G : Result TriText FieldRefusal → Type 0 = λ r. Gives other count others r in
-        let given : Gives other count others (Ok text) = subst G is (only other count others known) in
-        (sym given.0, sym given.1, sym given.2)
+    → result ≡ Ok text → (other : IsLevel bytes) → (other.setting ≡ text.setting) × (other.header ≡ text.header) × (other.tris ≡ text.tris)
+read_alone bytes result text only is other =
+    let G : Result TriText FieldRefusal → Type 0 = λ r. Gives other.setting other.header other.tris r in
+    let given : Gives other.setting other.header other.tris (Ok text) = subst G is (only other.setting other.header other.tris other.there) in
+    (sym given.0, sym given.1, sym given.2)
 
 -- the header is the front of the text
 pub header_within : (bytes : List ℕ) (setting : Setting) (header : ℕ) (tris : List Tri) → IsTriText bytes setting header tris → header ≤ length bytes

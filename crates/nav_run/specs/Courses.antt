@@ -7,8 +7,7 @@ use Rattle.nav_record.specs.Texts.{usage_text, too_long_text}
 use Rattle.nav_run.specs.declared.status.Status.{Status}
 use Rattle.nav_run.specs.declared.status.Status.TheVariants as statuses
 use Rattle.nav_run.specs.Inputs.{input_limit}
-use Rattle.nav_run.specs.Outcomes.{HasDone, HasTold, HasBroken}
-use Rattle.nav_run.specs.Triangles.{HasToldMany}
+use Rattle.nav_run.specs.Outcomes.{HasDone, HasTold, HasToldMany, HasBroken}
 use Rattle.nav_run.specs.Words.{IsForm, IsReadForm}
 
 -- what a run on these words has done, once it ended with this status

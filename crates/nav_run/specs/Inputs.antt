@@ -58,11 +58,8 @@ IsTextOf Live setting field script text = LiveRecord (ground_of setting field) s
 
 -- a text of the input for a way to run it: one that its run may write
 pub record IsRunText (way : Way) (input text : List ℕ) : Type 0 where
-  pub setting : Setting
-  pub field : Field
-  pub script : Script
-  pub there : IsInput way input setting field script
-  pub written : IsTextOf way setting field script text
+  pub fits : IsInputFor way input
+  pub written : IsTextOf way fits.setting fits.field fits.script text
 
 -- the input does not begin with a field text: the fault is that of its first line that fails
 abbrev pub IsFieldFault : List ℕ → TextFault → Type 0

@@ -8,7 +8,7 @@ use Rattle.nav_script.specs.declared.script.Way.{Way}
 use Rattle.nav_text.specs.declared.fault.TextFault.{TextFault}
 use Rattle.nav_run.specs.Inputs.{IsInputFor, IsRunText, IsFault, input_limit}
 use Rattle.nav_run.specs.Made.{IsMadeSummary}
-use Rattle.nav_run.specs.Triangles.{IsLevelDue, HasRastered, HasToldLevel}
+use Rattle.nav_run.specs.Triangles.{IsFieldDue, IsTriFaultDue, IsManyDue}
 use Rattle.nav_run.specs.Words.{IsForm, IsGenForm, IsReadForm, IsWayForm}
 
 -- the words ask for an input to be run some way, the whole of it was read, and this text is one of it for that way: a play text for the word
@@ -21,7 +21,7 @@ pub record IsTextDue (words : List (String Global)) (before after : Option (List
   pub short : length input ≤ input_limit
   pub ran : IsRunText way input text
 
--- the words ask for an input to be run some way, the whole of it was read, and this text tells its fault
+-- the words ask for an input to be run some way, the whole of it was read, and this text tells its fault: it is no input for that way
 pub record IsFaultDue (words : List (String Global)) (before after : Option (List ℕ)) (text : List ℕ) : Type 0 where
   pub way : Way
   pub form : IsWayForm way words
@@ -31,6 +31,7 @@ pub record IsFaultDue (words : List (String Global)) (before after : Option (Lis
   pub short : length input ≤ input_limit
   pub wrong : IsFault way input fault
   pub told : text ≡ fault_text fault
+  pub no_input : ¬ IsInputFor way input
 
 -- the words ask for a made input, and this text is its summary; nothing was read
 pub record IsSummaryDue (words : List (String Global)) (before after : Option (List ℕ)) (text : List ℕ) : Type 0 where
@@ -48,38 +49,30 @@ IsDue words before after text =
     ((¬ IsForm words) × (after ≡ before) × (text ≡ usage_text))
     ⊎ (IsSummaryDue words before after text
     ⊎ ((IsReadForm words × TookMany before after (input_limit + 1) × (text ≡ too_long_text))
-    ⊎ (IsTextDue words before after text ⊎ (IsFaultDue words before after text ⊎ IsLevelDue words before after text))))
+    ⊎ (IsTextDue words before after text ⊎ (IsFaultDue words before after text
+    ⊎ (IsFieldDue words before after text ⊎ (IsTriFaultDue words before after text ⊎ IsManyDue words before after text))))))
 
--- an input was run: all of its text was written, to the sink that held what it held
-pub record HasAnswered (words : List (String Global)) (before after held_before held_after : Option (List ℕ)) : Type 0 where
+-- a text that was due was written whole, to the sink that held what it held
+pub record HasWritten (IsOwed : List ℕ → Type 0) (held_before held_after : Option (List ℕ)) : Type 0 where
   pub text : List ℕ
-  pub due : IsTextDue words before after text
-  pub written : Appends held_before held_after text
-
--- the summary of a made input was written
-pub record HasSummed (words : List (String Global)) (before after held_before held_after : Option (List ℕ)) : Type 0 where
-  pub text : List ℕ
-  pub due : IsSummaryDue words before after text
+  pub due : IsOwed text
   pub written : Appends held_before held_after text
 
 -- what the words ask for was written: a text of what was read, the summary of a made input, or the field of triangles
 abbrev pub HasDone : List (String Global) → (before after held_before held_after : Option (List ℕ)) → Type 0
 HasDone words before after held_before held_after =
-    HasAnswered words before after held_before held_after
-    ⊎ (HasSummed words before after held_before held_after ⊎ HasRastered words before after held_before held_after)
-
--- the line of the fault of what was read was written, and what was read is no input for the way to run it
-pub record HasToldInput (words : List (String Global)) (before after held_before held_after : Option (List ℕ)) : Type 0 where
-  pub text : List ℕ
-  pub due : IsFaultDue words before after text
-  pub no_input : ¬ IsInputFor due.way due.input
-  pub written : Appends held_before held_after text
+    HasWritten (IsTextDue words before after) held_before held_after
+    ⊎ (HasWritten (IsSummaryDue words before after) held_before held_after ⊎ HasWritten (IsFieldDue words before after) held_before held_after)
 
 -- the line of the fault of what was read was written, and what was read is not what the words ask for: no input for the way to run it, or no
 -- triangle text
 abbrev pub HasTold : List (String Global) → (before after held_before held_after : Option (List ℕ)) → Type 0
 HasTold words before after held_before held_after =
-    HasToldInput words before after held_before held_after ⊎ HasToldLevel words before after held_before held_after
+    HasWritten (IsFaultDue words before after) held_before held_after ⊎ HasWritten (IsTriFaultDue words before after) held_before held_after
+
+-- the line that tells of too many spans was written
+abbrev pub HasToldMany : List (String Global) → (before after held_before held_after : Option (List ℕ)) → Type 0
+HasToldMany words before after held_before held_after = HasWritten (IsManyDue words before after) held_before held_after
 
 -- a part of what was due was written, and not all of it
 pub record HasBroken (words : List (String Global)) (before after held_before held_after : Option (List ℕ)) : Type 0 where

@@ -10,7 +10,7 @@ use Rattle.nav_script.specs.declared.script.Way.{Way}
 use Rattle.nav_script.specs.declared.script.Way.TheVariants.{Play, Live}
 use Rattle.nav_steps.specs.Counts.{HasRisenAtMost}
 use Rattle.std.specs.declared.alloc.Global.{Global}
-use Rattle.nav_run.specs.Inputs.{IsInput, input_limit}
+use Rattle.nav_run.specs.Inputs.{IsInputFor, input_limit}
 use Rattle.nav_run.specs.Made.{made_builds}
 use Rattle.nav_run.specs.Words.{IsGenForm, IsWayForm}
 
@@ -22,11 +22,8 @@ builds_for Live setting field script = 2 * tile_count setting
 
 -- the input is in the grammar for this way to run it, and no more steps were taken than its run may take
 pub record IsRunStepped (way : Way) (input : List ℕ) (before after : ℕ) : Type 0 where
-  pub setting : Setting
-  pub field : Field
-  pub script : Script
-  pub there : IsInput way input setting field script
-  pub steps : HasRisenAtMost (builds_for way setting field script) before after
+  pub fits : IsInputFor way input
+  pub steps : HasRisenAtMost (builds_for way fits.setting fits.field fits.script) before after
 
 -- no step was taken, or those of the run of an input
 abbrev pub HasStepped : Way → List ℕ → ℕ → ℕ → Type 0

@@ -1,7 +1,6 @@
 -- What a triangle text is answered with: the text of the field of its triangles, or why there is none.
 use Rattle.std.specs.Prelude.{◌≡◌, ℕ, ◌≤◌, ◌⊎◌, List, [], ◌∷◌, ◌++◌, length, map, take, codes, Option, String, ⊤}
 use Rattle.std.specs.declared.alloc.Global.{Global}
-use Rattle.std.specs.Io.KnownBytes.{Appends}
 use Rattle.nav_ground.specs.declared.setting.Setting.{Setting}
 use Rattle.nav_ground.specs.declared.field.Field.{Field}
 use Rattle.nav_ground.specs.declared.field.Span.{Span}
@@ -26,28 +25,22 @@ pub record IsLevel (bytes : List ℕ) : Type 0 where
   pub tris : List Tri
   pub there : IsTriText bytes setting header tris
 
--- the bytes are the text of this setting and these triangles, and of no others
-pub record IsLevelOf (bytes : List ℕ) (setting : Setting) (header : ℕ) (tris : List Tri) : Type 0 where
-  pub there : IsTriText bytes setting header tris
-  pub only : (other : Setting) (count : ℕ) (others : List Tri) → IsTriText bytes other count others → (other ≡ setting) × (count ≡ header) × (others ≡ tris)
+-- the bytes are a triangle text, and the text of no other setting and no other triangles
+pub record IsOneLevel (bytes : List ℕ) : Type 0 where
+  pub level : IsLevel bytes
+  pub only : (other : IsLevel bytes) → (other.setting ≡ level.setting) × (other.header ≡ level.header) × (other.tris ≡ level.tris)
 
 -- the bytes are the text of triangles that give at most as many spans as a field may have
 pub record HasFewSpans (bytes : List ℕ) : Type 0 where
-  pub setting : Setting
-  pub header : ℕ
-  pub tris : List Tri
-  pub there : IsTriText bytes setting header tris
+  pub level : IsLevel bytes
   pub field : Field
-  pub raster : IsRaster setting tris field
+  pub raster : IsRaster level.setting level.tris field
   pub few : length field.spans ≤ 2000000
 
 -- the bytes are the text of triangles that give more spans than a field may have
 pub record HasTooManySpans (bytes : List ℕ) : Type 0 where
-  pub setting : Setting
-  pub header : ℕ
-  pub tris : List Tri
-  pub there : IsTriText bytes setting header tris
-  pub many : HasManySpans setting tris
+  pub level : IsLevel bytes
+  pub many : HasManySpans level.setting level.tris
 
 -- the text of a field behind a header as it was read: a line for each span in order, and `end`
 abbrev pub field_text : List ℕ → List Span → List ℕ
@@ -56,23 +49,17 @@ field_text header spans = header ++ text_of (map span_text spans ++ codes "end" 
 -- the text is that of the field of the triangles: the header's bytes as they were read, its spans, and `end`. It is a field text of their setting
 -- and that field
 pub record IsRasterText (bytes text : List ℕ) : Type 0 where
-  pub setting : Setting
-  pub header : ℕ
-  pub tris : List Tri
-  pub level : IsLevelOf bytes setting header tris
+  pub one : IsOneLevel bytes
   pub field : Field
-  pub raster : IsRaster setting tris field
+  pub raster : IsRaster one.level.setting one.level.tris field
   pub few : length field.spans ≤ 2000000
-  pub spelled : text ≡ field_text (take header bytes) field.spans
-  pub reads : IsFieldText text setting field
+  pub spelled : text ≡ field_text (take one.level.header bytes) field.spans
+  pub reads : IsFieldText text one.level.setting field
 
 -- the triangles give too many spans, whichever way the text is read, which is one
 pub record IsOverfull (bytes : List ℕ) : Type 0 where
-  pub setting : Setting
-  pub header : ℕ
-  pub tris : List Tri
-  pub level : IsLevelOf bytes setting header tris
-  pub many : HasManySpans setting tris
+  pub one : IsOneLevel bytes
+  pub many : HasManySpans one.level.setting one.level.tris
 
 -- the text is the line of a fault of bytes that are no triangle text
 pub record TellsTriFault (bytes text : List ℕ) : Type 0 where
@@ -123,25 +110,3 @@ pub record IsManyDue (words : List (String Global)) (before after : Option (List
   pub read : HasReadLevel words before after input
   pub over : IsOverfull input
   pub told : text ≡ too_many_text
-
--- the text is what a run on the word `raster` owed its sink
-abbrev pub IsLevelDue : List (String Global) → Option (List ℕ) → Option (List ℕ) → List ℕ → Type 0
-IsLevelDue words before after text = IsFieldDue words before after text ⊎ (IsTriFaultDue words before after text ⊎ IsManyDue words before after text)
-
--- the text of the field was written
-pub record HasRastered (words : List (String Global)) (before after held_before held_after : Option (List ℕ)) : Type 0 where
-  pub text : List ℕ
-  pub due : IsFieldDue words before after text
-  pub written : Appends held_before held_after text
-
--- the line of the fault of what was read was written
-pub record HasToldLevel (words : List (String Global)) (before after held_before held_after : Option (List ℕ)) : Type 0 where
-  pub text : List ℕ
-  pub due : IsTriFaultDue words before after text
-  pub written : Appends held_before held_after text
-
--- the line that tells of too many spans was written
-pub record HasToldMany (words : List (String Global)) (before after held_before held_after : Option (List ℕ)) : Type 0 where
-  pub text : List ℕ
-  pub due : IsManyDue words before after text
-  pub written : Appends held_before held_after text

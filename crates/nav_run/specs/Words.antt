@@ -1,5 +1,5 @@
 -- The words behind the program's name.
-use Rattle.std.specs.Prelude.{◌≡◌, ℕ, ◌≤◌, ◌⊎◌, List, [], ◌∷◌, Option, Some, None, codes, decimal, String, string_bytes}
+use Rattle.std.specs.Prelude.{◌≡◌, ℕ, ◌≤◌, ◌⊎◌, List, [], ◌∷◌, map, Option, Some, None, codes, decimal, String, string_bytes}
 use Rattle.std.specs.declared.alloc.Global.{Global}
 use Rattle.nav_gen.specs.MadeField.{IsMadeSize}
 use Rattle.nav_script.specs.declared.script.Way.{Way}
@@ -14,9 +14,7 @@ word_for Live = codes "live"
 
 -- the words are the form `play` or `live` that asks for this way: its one word
 abbrev pub IsWayForm : Way → List (String Global) → Type 0
-IsWayForm way [] = ⊥
-IsWayForm way (word ∷ []) = string_bytes word ≡ word_for way
-IsWayForm way (word ∷ other ∷ more) = ⊥
+IsWayForm way words = map string_bytes words ≡ word_for way ∷ []
 
 -- the words ask for an input to be run: they are the form `play` or the form `live`
 pub record IsRunForm (words : List (String Global)) : Type 0 where
@@ -25,29 +23,17 @@ pub record IsRunForm (words : List (String Global)) : Type 0 where
 
 -- the words are the form `raster`: its one word
 abbrev pub IsRasterForm : List (String Global) → Type 0
-IsRasterForm [] = ⊥
-IsRasterForm (word ∷ []) = string_bytes word ≡ codes "raster"
-IsRasterForm (word ∷ other ∷ more) = ⊥
+IsRasterForm words = map string_bytes words ≡ codes "raster" ∷ []
 
 -- the words ask for an input to be read: they are the form `play`, the form `live` or the form `raster`
 abbrev pub IsReadForm : List (String Global) → Type 0
 IsReadForm words = IsRunForm words ⊎ IsRasterForm words
 
--- two texts spell a number of 32 bits and a size that inputs are made in
-pub record AreMadeWords (number size : ℕ) (first second : List ℕ) : Type 0 where
-  pub first_spelled : first ≡ decimal number
+-- the words are the form `gen NUMBER SIZE`: the word `gen`, and the spellings of this number of 32 bits and of this size that inputs are made in
+pub record IsGenForm (number size : ℕ) (words : List (String Global)) : Type 0 where
+  pub spelled : map string_bytes words ≡ codes "gen" ∷ decimal number ∷ decimal size ∷ []
   pub number_rules : number ≤ 4294967295
-  pub second_spelled : second ≡ decimal size
   pub size_rules : IsMadeSize size
-
--- the words are the form `gen NUMBER SIZE`: the word `gen`, and the spellings of this number and this size
-abbrev pub IsGenForm : (number size : ℕ) → List (String Global) → Type 0
-IsGenForm number size [] = ⊥
-IsGenForm number size (word ∷ []) = ⊥
-IsGenForm number size (word ∷ first ∷ []) = ⊥
-IsGenForm number size (word ∷ first ∷ second ∷ []) =
-    (string_bytes word ≡ codes "gen") × AreMadeWords number size (string_bytes first) (string_bytes second)
-IsGenForm number size (word ∷ first ∷ second ∷ other ∷ more) = ⊥
 
 -- the words are the form `gen NUMBER SIZE` with some number and some size
 pub record IsGen (words : List (String Global)) : Type 0 where
@@ -72,6 +58,13 @@ AskAlone word (Some (Read way)) = word ≡ word_for way
 AskAlone word (Some (Gen number size)) = ⊥
 AskAlone word (Some Raster) = word ≡ codes "raster"
 AskAlone word None = ((way : Way) → ¬ (word ≡ word_for way)) × (¬ (word ≡ codes "raster"))
+
+-- two texts spell a number of 32 bits and a size that inputs are made in
+pub record AreMadeWords (number size : ℕ) (first second : List ℕ) : Type 0 where
+  pub first_spelled : first ≡ decimal number
+  pub number_rules : number ≤ 4294967295
+  pub second_spelled : second ≡ decimal size
+  pub size_rules : IsMadeSize size
 
 -- what two texts behind `gen` ask for, or that they ask for nothing
 abbrev pub AskBehindGen : (first second : List ℕ) → Option Form → Type 0

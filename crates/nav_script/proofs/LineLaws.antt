@@ -15,8 +15,8 @@ use Rattle.nav_script.specs.declared.script.Way.TheVariants.{Play, Live}
 use Rattle.nav_script.specs.Spelling.{line_of}
 use Rattle.nav_script.specs.Lanes.{NamesLaneBelow}
 use Rattle.nav_script.specs.Limits.{AreEnds, IsPlace, IsLine}
-use Rattle.nav_script.specs.Forms.{LineRead, in_limits, below_count, floor_line, is_place, is_standing, point_at, path_line, ray_line, is_range, is_block, is_cylinder, block_line, cylinder_line, area_block_line, area_cylinder_line, drop_line, form, first_of_them, question_forms, question_line, request_forms, request_line, area_forms, area_line, lane_forms, lane_line}
-use Rattle.nav_script.specs.WayForms.{worker_forms, worker_line, jump_line, hop_line, hop_forms, jump_or_hop, send_line, march_line, walker_forms, walker_line, way_line, line_read}
+use Rattle.nav_script.specs.Forms.{LineRead, in_limits, below_count, floor_line, is_place, is_standing, point_at, path_line, ray_line, is_range, is_block, is_cylinder, block_line, cylinder_line, area_block_line, area_cylinder_line, drop_line, form, first_of_them, question_line, request_line, area_forms, area_line, lane_line}
+use Rattle.nav_script.specs.WayForms.{worker_line, jump_line, hop_line, jump_or_hop, send_line, march_line, walker_line, way_line, line_read}
 
 -- the lists of a length, one element after another
 some_more : (P : List ℕ → Type 0) (n : List ℕ) (k : ℕ) → ((x : ℕ) (more : List ℕ) → length more ≡ k → P (x ∷ more)) → length n ≡ suc k → P n
@@ -197,7 +197,8 @@ question_right way lanes workers adds text =
     let Q : LineRead → Type 0 = IsRight way lanes workers adds text in
     let R : List ℕ → (List ℕ → LineRead) → List ℕ → Type 0 = Gives way lanes workers adds text in
     let right = limits_right way lanes workers adds text in
-    first_is Q (question_forms text) (
+    let forms : List (Option LineRead) = form (codes "floor") 2 floor_line text ∷ form (codes "path") 6 path_line text ∷ form (codes "ray") 5 ray_line text ∷ [] in
+    first_is Q forms (
       form_is Q (codes "floor") 2 floor_line text
           (two (R (codes "floor") floor_line) (λ x z fit spelled. right _ _ spelled (floor_limits x z))),
       (
@@ -219,7 +220,9 @@ request_right way lanes workers adds text =
     let right = limits_right way lanes workers adds text in
     let remove : List ℕ → LineRead = λ n. Ok (Remove (slice_index n 0)) in
     let undo : List ℕ → LineRead = λ n. drop_line adds (slice_index n 0) in
-    first_is Q (request_forms adds text) (
+    let forms : List (Option LineRead) = form (codes "add block") 6 block_line text ∷ form (codes "add cylinder") 5 cylinder_line text ∷ form (codes "remove") 1 remove text
+    ∷ form (codes "drop") 1 undo text ∷ [] in
+    first_is Q forms (
       form_is Q (codes "add block") 6 block_line text
           (six (R (codes "add block") block_line) (λ x0 x1 y0 y1 z0 z1 fit spelled. right _ _ spelled (block_limits x0 x1 y0 y1 z0 z1))),
       (
@@ -276,7 +279,8 @@ lane_right way lanes workers adds text =
     let R : List ℕ → (List ℕ → LineRead) → List ℕ → Type 0 = Gives way lanes workers adds text in
     let settle : List ℕ → LineRead = λ n. Ok Settle in
     let lane : List ℕ → LineRead = λ n. below_count (slice_index n 0) lanes (Lane (slice_index n 0)) in
-    first_is Q (lane_forms lanes text) (
+    let forms : List (Option LineRead) = form (codes "settle") 0 settle text ∷ form (codes "lane") 1 lane text ∷ [] in
+    first_is Q forms (
       form_is Q (codes "settle") 0 settle text
           (λ n. no_more (R (codes "settle") settle) n (λ fit spelled. same_right way lanes workers adds text Settle spelled tt)),
       (
@@ -299,7 +303,9 @@ worker_right lanes workers adds text =
     let back : List ℕ → LineRead = λ n. below_count (slice_index n 0) workers (Back (slice_index n 0)) in
     let aim : List ℕ → LineRead = λ n. Ok Aim in
     let publish : List ℕ → LineRead = λ n. Ok Publish in
-    first_is Q (worker_forms workers text) (
+    let forms : List (Option LineRead) = form (codes "claim") 1 claim text ∷ form (codes "submit") 1 submit text ∷ form (codes "back") 1 back text ∷ form (codes "aim") 0 aim text
+    ∷ form (codes "publish") 0 publish text ∷ [] in
+    first_is Q forms (
       form_is Q (codes "claim") 1 claim text (one (R (codes "claim") claim) (λ n fit spelled. below n workers (Claim n) spelled (λ h. (refl, h)))),
       (
         form_is Q (codes "submit") 1 submit text (one (R (codes "submit") submit) (λ n fit spelled. below n workers (Submit n) spelled (λ h. (refl, h)))),
@@ -320,7 +326,8 @@ hop_right lanes workers adds text =
     let Q : LineRead → Type 0 = IsRight Play lanes workers adds text in
     let R : List ℕ → (List ℕ → LineRead) → List ℕ → Type 0 = Gives Play lanes workers adds text in
     let right = limits_right Play lanes workers adds text in
-    first_is Q (hop_forms text) (
+    let forms : List (Option LineRead) = form (codes "jump") 7 jump_line text ∷ form (codes "hop") 6 hop_line text ∷ [] in
+    first_is Q forms (
       form_is Q (codes "jump") 7 jump_line text
           (seven (R (codes "jump") jump_line) (λ x z y to_x to_z to_y cost fit spelled. right _ _ spelled (λ h. (refl, jump_limits x z y to_x to_z to_y cost h)))),
       (
@@ -342,7 +349,8 @@ walker_right lanes workers adds text =
     let R : List ℕ → (List ℕ → LineRead) → List ℕ → Type 0 = Gives Live lanes workers adds text in
     let right = limits_right Live lanes workers adds text in
     let march : List ℕ → LineRead = λ n. march_line (slice_index n 0) in
-    first_is Q (walker_forms text) (
+    let forms : List (Option LineRead) = form (codes "send") 6 send_line text ∷ form (codes "march") 1 march text ∷ [] in
+    first_is Q forms (
       form_is Q (codes "send") 6 send_line text
           (six (R (codes "send") send_line) (λ x z y to_x to_z to_y fit spelled. right _ _ spelled (λ h. (refl, path_limits x z y to_x to_z to_y h)))),
       (

@@ -99,27 +99,21 @@ first_of_them (Some x ∷ more) = Some x
 first_of_them (None ∷ more) = first_of_them more
 
 -- the forms of a question
-abbrev pub question_forms : List ℕ → List (Option LineRead)
-question_forms line =
-    form (codes "floor") 2 floor_line line
+unfoldable pub question_line : List ℕ → Option LineRead
+question_line line =
+    first_of_them (form (codes "floor") 2 floor_line line
     ∷ form (codes "path") 6 path_line line
     ∷ form (codes "ray") 5 ray_line line
-    ∷ []
-
-unfoldable pub question_line : List ℕ → Option LineRead
-question_line line = first_of_them (question_forms line)
+    ∷ [])
 
 -- the forms of a line that asks for a change of the obstacles, where so many adds of its lane stand before it
-abbrev pub request_forms : ℕ → List ℕ → List (Option LineRead)
-request_forms adds line =
-    form (codes "add block") 6 block_line line
+unfoldable pub request_line : ℕ → List ℕ → Option LineRead
+request_line adds line =
+    first_of_them (form (codes "add block") 6 block_line line
     ∷ form (codes "add cylinder") 5 cylinder_line line
     ∷ form (codes "remove") 1 (λ n. Ok (Remove (slice_index n 0))) line
     ∷ form (codes "drop") 1 (λ n. drop_line adds (slice_index n 0)) line
-    ∷ []
-
-unfoldable pub request_line : ℕ → List ℕ → Option LineRead
-request_line adds line = first_of_them (request_forms adds line)
+    ∷ [])
 
 -- an obstacle that sets an area: its forms behind `add area` and the area
 abbrev pub area_forms : ℕ → List ℕ → List (Option LineRead)
@@ -129,11 +123,8 @@ unfoldable pub area_line : List ℕ → Option LineRead
 area_line line = option_and_then (λ x. first_of_them (area_forms x.0 x.1)) (number_after (codes "add area") line)
 
 -- `settle`, and the lane of the lines that follow, where there are so many lanes
-abbrev pub lane_forms : ℕ → List ℕ → List (Option LineRead)
-lane_forms lanes line =
-    form (codes "settle") 0 (λ n. Ok Settle) line
-    ∷ form (codes "lane") 1 (λ n. below_count (slice_index n 0) lanes (Lane (slice_index n 0))) line
-    ∷ []
-
 unfoldable pub lane_line : ℕ → List ℕ → Option LineRead
-lane_line lanes line = first_of_them (lane_forms lanes line)
+lane_line lanes line =
+    first_of_them (form (codes "settle") 0 (λ n. Ok Settle) line
+    ∷ form (codes "lane") 1 (λ n. below_count (slice_index n 0) lanes (Lane (slice_index n 0))) line
+    ∷ [])

@@ -7,17 +7,14 @@ use Rattle.nav_script.specs.declared.script.Way.TheVariants.{Play, Live}
 use Rattle.nav_script.specs.Forms.{LineRead, in_limits, below_count, point_at, are_standing, is_range, form, first_of_them, question_line, request_line, area_line, lane_line}
 
 -- the forms of a line that leads workers, of which there are so many
-abbrev pub worker_forms : ℕ → List ℕ → List (Option LineRead)
-worker_forms workers line =
-    form (codes "claim") 1 (λ n. below_count (slice_index n 0) workers (Claim (slice_index n 0))) line
+unfoldable pub worker_line : ℕ → List ℕ → Option LineRead
+worker_line workers line =
+    first_of_them (form (codes "claim") 1 (λ n. below_count (slice_index n 0) workers (Claim (slice_index n 0))) line
     ∷ form (codes "submit") 1 (λ n. below_count (slice_index n 0) workers (Submit (slice_index n 0))) line
     ∷ form (codes "back") 1 (λ n. below_count (slice_index n 0) workers (Back (slice_index n 0))) line
     ∷ form (codes "aim") 0 (λ n. Ok Aim) line
     ∷ form (codes "publish") 0 (λ n. Ok Publish) line
-    ∷ []
-
-unfoldable pub worker_line : ℕ → List ℕ → Option LineRead
-worker_line workers line = first_of_them (worker_forms workers line)
+    ∷ [])
 
 -- a jump: its two points with their heights, and its cost from 1 to 1000000
 abbrev pub jump_line : List ℕ → LineRead
@@ -39,12 +36,10 @@ hop_line n =
     (are_standing n)
     (Hop (point_at (slice_index n 0) (slice_index n 1)) (slice_index n 2) (point_at (slice_index n 3) (slice_index n 4)) (slice_index n 5))
 
-abbrev pub hop_forms : List ℕ → List (Option LineRead)
-hop_forms line = form (codes "jump") 7 jump_line line ∷ form (codes "hop") 6 hop_line line ∷ []
-
 -- a line that declares a jump or asks for a hop walk
 unfoldable pub jump_or_hop : List ℕ → Option LineRead
-jump_or_hop line = first_of_them (hop_forms line)
+jump_or_hop line =
+    first_of_them (form (codes "jump") 7 jump_line line ∷ form (codes "hop") 6 hop_line line ∷ [])
 
 -- a walker of a lane, with the numbers of a question for a path
 abbrev pub send_line : List ℕ → LineRead
@@ -57,12 +52,10 @@ send_line n =
 abbrev pub march_line : ℕ → LineRead
 march_line length = in_limits (is_range 1 length 65535) (March length)
 
-abbrev pub walker_forms : List ℕ → List (Option LineRead)
-walker_forms line = form (codes "send") 6 send_line line ∷ form (codes "march") 1 (λ n. march_line (slice_index n 0)) line ∷ []
-
 -- a line that sends a walker or lets it march
 unfoldable pub walker_line : List ℕ → Option LineRead
-walker_line line = first_of_them (walker_forms line)
+walker_line line =
+    first_of_them (form (codes "send") 6 send_line line ∷ form (codes "march") 1 (λ n. march_line (slice_index n 0)) line ∷ [])
 
 -- the lines that lead workers, declare jumps or ask for hop walks are of no form where the script runs live, and those of walkers where it is played
 abbrev pub way_line : Way → ℕ → List ℕ → Option LineRead

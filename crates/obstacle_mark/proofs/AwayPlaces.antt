@@ -1,15 +1,19 @@
 -- Taken places more than a row of columns away take no neighbour from a cell.
-use Rattle.std.proofs.Common.{◌≡◌, ℕ, zero, suc, ◌+◌, ◌-◌, ◌<◌, ◌⊎◌, inl, inr, length, List, [], ◌∷◌, get_or, ap, ◌∙◌, sym, subst, Option, None, arith}
-use Rattle.std.specs.Prelude.{All, ◌==◌, if◌then◌else◌}
+use Rattle.std.proofs.Common.{◌≡◌, ℕ, zero, suc, ◌+◌, ◌-◌, ◌<◌, ◌⊎◌, inl, inr, length, List, [], ◌∷◌, get_or, ap, ◌∙◌, sym, refl, subst, Option, None, arith}
+use Rattle.std.specs.Prelude.{All, ◌==◌, if◌then◌else◌, option_and_then, slice_get}
 use Rattle.std.proofs.lemmas.Bool.{and_left, ne_eqb}
 use Rattle.std.proofs.lemmas.List.Folds.{list_any_none}
 use Rattle.nav_ground.specs.declared.cell.Cell.{Cell}
 use Rattle.nav_ground.specs.declared.cell.CellRef.{CellRef}
-use Rattle.nav_ground.specs.Cells.{is_naming, next_level}
+use Rattle.nav_ground.specs.Cells.{IsCell, is_naming, next_level}
 use Rattle.cell_table.specs.Columns.{IsPlace, column_of}
 use Rattle.cell_table.proofs.Places.{toward_number}
 use Rattle.obstacle_mark.specs.Columns.{ArePlaces, LiesAway, LiesBefore, LiesBehind}
 use Rattle.obstacle_mark.specs.Places.{level_kept, next_kept}
+
+-- what stands in a direction
+abbrev level_in : List (Option ℕ) → ℕ → Option ℕ
+level_in nexts dir = option_and_then (λ (next : Option ℕ). next) (slice_get nexts dir)
 
 -- a number more than 2048 away is none of the four beside
 none_beside : (dir own other : ℕ) → dir < 4 → (other + 2048 < own) ⊎ (own + 2048 < other)
@@ -40,14 +44,23 @@ all_kept cell blocked f each away =
     let same : (dir : ℕ) → dir < 4 → next_level cell dir ≡ level_kept blocked cell dir = λ dir small. kept_away dir cell blocked small f each away in
     cc (same 0 (omega arith), same 1 (omega arith), same 2 (omega arith), same 3 (omega arith))
 
--- what a cell keeps where all places lie more than a row of columns away from its column, in the numbers as they were read
-pub kept_all : (cell : Cell) (blocked : List CellRef) (column : ℕ) (n0 n1 n2 n3 : Option ℕ) → IsPlace cell.at → ArePlaces blocked
-    → column ≡ column_of cell.at → All (LiesAway column) blocked
-    → n0 ≡ next_level cell 0 → n1 ≡ next_level cell 1 → n2 ≡ next_level cell 2 → n3 ≡ next_level cell 3
-    → n0 ∷ n1 ∷ n2 ∷ n3 ∷ [] ≡ next_kept blocked cell
-kept_all cell blocked column n0 n1 n2 n3 f rules' same away is0 is1 is2 is3 =
-    let kept = all_kept cell blocked f rules'.each (subst (λ (n : ℕ). All (LiesAway n) blocked) same away) in
-    rw (is0, is1, is2, is3) kept
+four_levels : (nexts : List (Option ℕ)) → length nexts ≡ 4
+    → nexts ≡ level_in nexts 0 ∷ level_in nexts 1 ∷ level_in nexts 2 ∷ level_in nexts 3 ∷ []
+four_levels (a ∷ b ∷ c ∷ d ∷ []) four = refl
+four_levels [] four = absurd (omega (arith, four))
+four_levels (a ∷ []) four = absurd (omega (arith, four))
+four_levels (a ∷ b ∷ []) four = absurd (omega (arith, four))
+four_levels (a ∷ b ∷ c ∷ []) four = absurd (omega (arith, four))
+four_levels (a ∷ b ∷ c ∷ d ∷ e ∷ more) four = absurd (omega (arith, four))
+
+-- so a cell whose area stays stays as it is where all places lie more than a row of columns away from its column
+pub cell_kept : (cell : Cell) (area : ℕ) (blocked : List CellRef) (column : ℕ) → IsCell cell → area ≡ cell.area → ArePlaces blocked
+    → column ≡ column_of cell.at → All (LiesAway column) blocked → cell ≡ record cell { area = area; next = next_kept blocked cell }
+cell_kept cell area blocked column rules' stays places same away =
+    let place : IsPlace cell.at = record { x = rules'.x; z = rules'.z } in
+    let kept = all_kept cell blocked place places.each (subst (λ (n : ℕ). All (LiesAway n) blocked) same away) in
+    ap (λ (next : List (Option ℕ)). record cell { next = next }) (four_levels cell.next rules'.sides ∙ kept)
+    ∙ ap (λ (a : ℕ). record cell { area = a; next = next_kept blocked cell }) (sym stays)
 
 -- places in order come before a column where the last of them does, and behind it where the first of them does
 pub all_before : (places : List CellRef) (column : ℕ) → ArePlaces places

@@ -43,8 +43,7 @@ pub fn blocked_places(
     Ok(places)
 }
 
-/// The levels that a cell names in the four directions, without those neighbours that are among the taken places. Where these lie more
-/// than a row of columns away, and so where there are none, none of the four is looked up.
+/// The levels that a cell names in the four directions, without those neighbours that are among the taken places.
 pub fn next_kept(blocked: &[CellRef], passed: &mut Passed, cell: &SmallCell) -> [Option<u32>; 4]
     requires cell { IsPlace cell.now.at }
     requires blocked { ArePlaces blocked.now }
@@ -52,10 +51,6 @@ pub fn next_kept(blocked: &[CellRef], passed: &mut Passed, cell: &SmallCell) -> 
     ensures next { result ≡ Rattle.obstacle_mark.specs.Places.next_kept blocked.now cell.now }
     ensures passed { ArePassed blocked.now passed.new cell.now.at }
 {
-    let column = column_of(cell.at());
-    if are_away(blocked, column) {
-        return [cell.next(0), cell.next(1), cell.next(2), cell.next(3)];
-    }
     [
         level_kept(blocked, &mut passed.left, cell, 0),
         level_kept(blocked, &mut passed.above, cell, 1),
@@ -83,8 +78,8 @@ fn level_kept(blocked: &[CellRef], passed: &mut usize, cell: &SmallCell, dir: us
     }
 }
 
-/// Whether all of the places come more than a row of columns before a column, or all behind it.
-fn are_away(places: &[CellRef], column: u64) -> bool
+/// Whether all of the places come more than a row of columns before a column, or all behind it; so where there are none.
+pub fn are_away(places: &[CellRef], column: u64) -> bool
     requires places { ArePlaces places.now }
     requires column { 2048 ≤ column }
     ensures { IsTrue result → All (LiesAway column) places.now }

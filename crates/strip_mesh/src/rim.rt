@@ -89,15 +89,19 @@ fn push_rim_over(
     Ok(())
 }
 
-/// Whether a strip may have cells along the side of the tile in a direction: where its first cell does not lie there no other does, but
-/// for the side toward x + 1, which the last cell comes to.
+/// Whether a strip may have cells along the side of the tile in a direction: toward x + 1 its last cell comes nearest to that, else its
+/// first.
 fn may_reach(of: StripRim, dir: u32) -> bool
     requires rules { AreIndexed of.strips.now }
     requires there { of.strip < length (runs_in of.strips.now) }
     requires dir { dir < 4 }
     ensures { result ≡ false → runs_of (map (λ (cell : Cell). label_if (is_crossing of.entry.window.now dir cell)) (run_in of.entry.strips.now of.entry.strip)) ≡ [] }
 {
-    dir == 2 || is_at_side(of.window, dir, of.strips.first(of.strip).at())
+    if dir == 2 {
+        is_at_side(of.window, dir, of.strips.last(of.strip).at())
+    } else {
+        is_at_side(of.window, dir, of.strips.first(of.strip).at())
+    }
 }
 
 /// Which cells of a strip have a kept neighbour across the side of the tile that an edge lies on.

@@ -23,6 +23,7 @@ impl TileStrips {
     ghost use Rattle.mono_regions.specs.Indices.{cell_at, AreIndices};
     ghost use Rattle.mono_regions.specs.Joining.{IsTableOf};
     ghost use Rattle.strip_mesh.specs.Indexed.{AreIndexed, runs_in, run_in};
+    ghost use Rattle.strip_mesh.specs.Strips.{last_of};
 
     /// The strips of a tile from its free cells and their strips, both of which it takes over.
     pub fn from_parts(free: FreeLayer, strips: StripTable) -> TileStrips
@@ -70,6 +71,18 @@ impl TileStrips {
     {
         let run = self.run(strip);
         &self.free.cells.as_slice()[run[0] as usize]
+    }
+
+    /// The last cell of a strip.
+    pub fn last(&self, strip: u32) -> &SmallCell
+        requires rules { AreIndexed self.now }
+        requires there { strip < length (runs_in self.now) }
+        ensures value { result.now ≡ last_of (run_in self.now strip) }
+        ensures x { result.now.at.x < 1024 }
+        ensures z { result.now.at.z < 1024 }
+    {
+        let run = self.run(strip);
+        &self.free.cells.as_slice()[run[run.len() - 1] as usize]
     }
 
     /// The strip, other than a cell's own, that holds the cell which it names in a direction.

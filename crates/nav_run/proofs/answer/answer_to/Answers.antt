@@ -1,4 +1,4 @@
-use Rattle.std.proofs.Common.{ap, ◌∙◌, Err, subst}
+use Rattle.std.proofs.Common.{ap, ◌∙◌, Err, inr, subst}
 use Rattle.nav_run.specs.Answers.{IsLineOf}
 use Rattle.nav_run.proofs.AnswerLaws.{line_right, no_fault}
 use Rattle.nav_run.proofs.InputLaws.{runnable_of}
@@ -15,3 +15,21 @@ returns-in-Err-Fault-clause-complete g c input =
 
 pub text_of-requires-clause-runnable : goal.text_of-requires-clause-runnable
 text_of-requires-clause-runnable g c lifetimes within = runnable_of _ _ _ _ _ c.in-Ok.ensures.found
+
+pub returns-in-Ok-text_of-clause-right : goal.returns-in-Ok-text_of-clause-right
+returns-in-Ok-text_of-clause-right g c = record {
+  fits = record { setting = c.in-Ok.input.setting; field = c.in-Ok.input.field; script = c.in-Ok.input.script; there = c.in-Ok.ensures.found };
+  written = c.in-Ok-text_of.ensures.text;
+}
+
+pub returns-in-Ok-text_of-clause-steps : goal.returns-in-Ok-text_of-clause-steps
+returns-in-Ok-text_of-clause-steps g c = inr (record {
+  fits = record { setting = c.in-Ok.input.setting; field = c.in-Ok.input.field; script = c.in-Ok.input.script; there = c.in-Ok.ensures.found };
+  steps = c.text_of.ensures.most;
+})
+
+pub returns-in-Err-clause-steps : goal.returns-in-Err-clause-steps
+returns-in-Err-clause-steps g c = inr (record {
+  fits = record { setting = c.in-Ok.input.setting; field = c.in-Ok.input.field; script = c.in-Ok.input.script; there = c.in-Ok.ensures.found };
+  steps = c.text_of.ensures.most;
+})

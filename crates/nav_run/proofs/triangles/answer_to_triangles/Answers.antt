@@ -17,10 +17,10 @@ returns-in-Err-TooManySpans c =
     let text = c.in-Ok.text in
     let M : List Tri → Type 0 = λ tris. HasManySpans text.setting tris in
     record {
-      setting = text.setting;
-      header = text.header;
-      tris = text.tris;
-      level = read_alone c.args.bytes.now c.read_triangles.result text c.read_triangles.ensures.only c.in-Ok.is c.in-Ok.ensures.found;
+      one = record {
+        level = record { setting = text.setting; header = text.header; tris = text.tris; there = c.in-Ok.ensures.found };
+        only = read_alone c.args.bytes.now c.read_triangles.result text c.read_triangles.ensures.only c.in-Ok.is;
+      };
       many = subst M c.as_slice.ensures (c.raster.ensures.many (c.in-Err-TooManySpans.is ∙ ap Err c.in-Err-TooManySpans.field-0-is));
     }
 
@@ -35,10 +35,10 @@ returns-in-Ok-spelled c =
     ∙ ap (λ xs. field_text xs c.as_slice-2.result.now) c.split_at.ensures.front
     ∙ ap (λ (spans : List Span). field_text (take text.header c.args.bytes.now) spans) c.as_slice-2.ensures in
     record {
-      setting = text.setting;
-      header = text.header;
-      tris = text.tris;
-      level = read_alone c.args.bytes.now c.read_triangles.result text c.read_triangles.ensures.only c.in-Ok.is c.in-Ok.ensures.found;
+      one = record {
+        level = record { setting = text.setting; header = text.header; tris = text.tris; there = c.in-Ok.ensures.found };
+        only = read_alone c.args.bytes.now c.read_triangles.result text c.read_triangles.ensures.only c.in-Ok.is;
+      };
       field = field;
       raster = raster;
       few = c.in-Ok-raster.ensures.rules.few;

@@ -1,7 +1,7 @@
 use Rattle.std.proofs.Common.{◌≡◌, ◌++◌, map, take}
 use Rattle.mesh_types.specs.StripMeshes.{strip_link}
 use Rattle.strip_mesh.specs.Indexed.{run_in}
-use Rattle.strip_mesh.proofs.inner.push_links_over.Given as goal
+use Rattle.strip_mesh.proofs.inner.push_links_along.Given as goal
 
 -- the links along the parts so far
 abbrev pub invariant-loop-part : goal.invariant-loop-part
