@@ -162,8 +162,8 @@ fn count_tiles(made: &mut Made, tiles: &[Shared<TileMesh>]) {
 }
 
 fn count_cross(made: &mut Made, mesh: &Mesh) {
-    for links in mesh.cross.as_slice() {
-        made.links = made.links.wrapping_add(links.get().len());
+    for tile in 0..mesh.cross.len() {
+        made.links = made.links.wrapping_add(mesh.cross.at(tile).get().len());
     }
 }
 
@@ -181,15 +181,15 @@ fn copy_with(alloc: Global, mesh: &Mesh, place: usize) -> Result<Mesh, AllocErro
         tiles,
         cross,
     } = copy_mesh(alloc, mesh)?;
-    let mut tiles = tiles.into_vec();
+    let mut tiles = tiles;
     if 0 < tiles.len() {
+        let tile = tiles.at(0).share()?;
         let count = tiles.len();
-        let tile = tiles[0].share()?;
-        tiles[place % count] = tile;
+        tiles.set(alloc, place % count, tile)?;
     }
     Ok(Mesh {
         setting,
-        tiles: Items::from_vec(tiles),
+        tiles,
         cross,
     })
 }

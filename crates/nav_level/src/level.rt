@@ -336,7 +336,7 @@ impl Level {
         ensures few_links { result.1 ≤ 64000000 }
     {
         let mesh = self.mesh();
-        (polygons(mesh.tiles.as_slice()), links(mesh))
+        (polygons(&mesh.tiles), links(mesh))
     }
 
     /// The numbers of the obstacles that are alive after the whole history, rising.

@@ -9,6 +9,7 @@ use mesh_types::{
     order_links, poly, runs,
 };
 use nav_base::Point;
+use nav_chunks::Chunks;
 use nav_ground::{AREAS, Agent, MeshKind, Setting};
 use nav_list::{Duplicate, Items};
 use nav_share::Shared;
@@ -166,8 +167,8 @@ fn mesh_of(alloc: Global, tile: TileMesh) -> Result<Mesh, AllocError> {
     let tile = Shared::new(alloc, tile)?;
     Ok(Mesh {
         setting: SETTING,
-        tiles: Items::from_vec(Vec::from_array(alloc, [tile])?),
-        cross: Items::new(alloc),
+        tiles: Chunks::from_vec(alloc, Vec::from_array(alloc, [tile])?)?,
+        cross: Chunks::from_vec(alloc, Vec::new(alloc))?,
     })
 }
 

@@ -12,6 +12,7 @@ use mesh_types::{
     Corners, Corridor, Link, Links, Mesh, PolyRef, Polygon, Polygons, Portal, TileMesh,
 };
 use nav_base::Point;
+use nav_chunks::Chunks;
 use nav_ground::{AREAS, FreeLayer, Setting};
 use nav_list::Items;
 use nav_share::Shared;
@@ -158,12 +159,12 @@ fn cross(alloc: Global) -> Result<Items<Shared<Links>>, AllocError>
 fn mesh(alloc: Global) -> Result<Mesh, AllocError>
     ensures { IfOk result (λ mesh. mesh ≡ hand_mesh) }
 {
-    let tiles = tiles(alloc)?;
-    let cross = cross(alloc)?;
+    let tiles = tiles(alloc)?.into_vec();
+    let cross = cross(alloc)?.into_vec();
     Ok(Mesh {
         setting: setting(),
-        tiles,
-        cross,
+        tiles: Chunks::from_vec(alloc, tiles)?,
+        cross: Chunks::from_vec(alloc, cross)?,
     })
 }
 

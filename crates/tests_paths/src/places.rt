@@ -8,6 +8,7 @@ use crate::settings::PLAIN;
 use mesh_locate::locate;
 use mesh_types::{Corners, Links, Mesh, PolyRef, Polygon, Polygons, TileMesh};
 use nav_base::Point;
+use nav_chunks::Chunks;
 use nav_ground::FreeLayer;
 use nav_list::Items;
 use nav_share::Shared;
@@ -86,12 +87,12 @@ fn cross(alloc: Global) -> Result<Items<Shared<Links>>, AllocError>
 fn mesh(alloc: Global) -> Result<Mesh, AllocError>
     ensures { IfOk result (λ mesh. mesh ≡ hand_mesh) }
 {
-    let tiles = tiles(alloc)?;
-    let cross = cross(alloc)?;
+    let tiles = tiles(alloc)?.into_vec();
+    let cross = cross(alloc)?.into_vec();
     Ok(Mesh {
         setting: PLAIN,
-        tiles,
-        cross,
+        tiles: Chunks::from_vec(alloc, tiles)?,
+        cross: Chunks::from_vec(alloc, cross)?,
     })
 }
 

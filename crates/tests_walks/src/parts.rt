@@ -8,6 +8,7 @@ ghost use Rattle.tests_walks.specs.PartMesh.{flat, hand_mesh, hand_tile, left_ce
 use crate::rows::all_hold;
 use mesh_types::{Corners, Links, Mesh, PolyRef, Polygon, Polygons, TileMesh, poly};
 use nav_base::Point;
+use nav_chunks::Chunks;
 use nav_ground::{AREAS, Agent, FreeLayer, MeshKind, Setting};
 use nav_list::Items;
 use nav_share::Shared;
@@ -117,8 +118,8 @@ fn mesh(alloc: Global) -> Result<Mesh, AllocError>
     let links = Shared::new(alloc, no_links(alloc)?)?;
     Ok(Mesh {
         setting: ONE_TILE,
-        tiles: Items::from_vec(Vec::from_array(alloc, [tile])?),
-        cross: Items::from_vec(Vec::from_array(alloc, [links])?),
+        tiles: Chunks::from_vec(alloc, Vec::from_array(alloc, [tile])?)?,
+        cross: Chunks::from_vec(alloc, Vec::from_array(alloc, [links])?)?,
     })
 }
 
