@@ -120,8 +120,10 @@ fn asked(alloc: Global, mesh: &Mesh, wanted: Wanted) -> Result<Made, AllocError>
         walks: 0,
         steps: 0,
     };
-    for tile in mesh.tiles.as_slice() {
-        made.polygons = made.polygons.wrapping_add(tile.get().mesh().polys.len());
+    for tile in 0..mesh.tiles.len() {
+        made.polygons = made
+            .polygons
+            .wrapping_add(mesh.tiles.at(tile).get().polys.len());
     }
     let mut random = Random { state: 7 };
     for _place in 0..wanted.count {

@@ -9,7 +9,7 @@ ghost use Rattle.tile_build.specs.Meshes.{tiles_under};
 
 use crate::outcome::{Made, Outcome};
 use layer_cut::ground;
-use mesh_types::{Mesh, Tile, copy_mesh};
+use mesh_types::{Mesh, TileMesh, copy_mesh};
 use nav_base::read_number;
 use nav_book::Book;
 use nav_ground::Ground;
@@ -69,7 +69,7 @@ struct Task {
 #[derive(Drop)]
 struct Level {
     whole: Ground,
-    tiles: Items<Shared<Tile>>,
+    tiles: Items<Shared<TileMesh>>,
 }
 
 /// Goes on from a text that was read, up to a stage, and then makes copies of the mesh.
@@ -154,16 +154,16 @@ fn booked<R: Wait>(
     Ok(made)
 }
 
-fn count_tiles(made: &mut Made, tiles: &[Shared<Tile>]) {
+fn count_tiles(made: &mut Made, tiles: &[Shared<TileMesh>]) {
     for tile in tiles {
-        made.polygons = made.polygons.wrapping_add(tile.get().mesh().polys.len());
-        made.links = made.links.wrapping_add(tile.get().mesh().links.len());
+        made.polygons = made.polygons.wrapping_add(tile.get().polys.len());
+        made.links = made.links.wrapping_add(tile.get().links.len());
     }
 }
 
 fn count_cross(made: &mut Made, mesh: &Mesh) {
-    for links in mesh.cross.as_slice() {
-        made.links = made.links.wrapping_add(links.get().len());
+    for tile in 0..mesh.cross.len() {
+        made.links = made.links.wrapping_add(mesh.cross.at(tile).get().len());
     }
 }
 
@@ -181,15 +181,15 @@ fn copy_with(alloc: Global, mesh: &Mesh, place: usize) -> Result<Mesh, AllocErro
         tiles,
         cross,
     } = copy_mesh(alloc, mesh)?;
-    let mut tiles = tiles.into_vec();
+    let mut tiles = tiles;
     if 0 < tiles.len() {
+        let tile = tiles.at(0).share()?;
         let count = tiles.len();
-        let tile = tiles[0].share()?;
-        tiles[place % count] = tile;
+        tiles.set(alloc, place % count, tile)?;
     }
     Ok(Mesh {
         setting,
-        tiles: Items::from_vec(tiles),
+        tiles,
         cross,
     })
 }

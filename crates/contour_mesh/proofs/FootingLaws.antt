@@ -10,7 +10,7 @@ use Rattle.std.proofs.lemmas.List.Sums.{fold-append}
 use Rattle.nav_ground.specs.declared.cell.Cell.{Cell}
 use Rattle.mesh_types.specs.declared.region.Regions.{Regions}
 use Rattle.mesh_types.specs.Contours.{region_at}
-use Rattle.mesh_types.specs.StripMeshes.{first_of, low_of, high_of, some_cell}
+use Rattle.mesh_types.specs.StripMeshes.{first_of, low_of, high_of}
 use Rattle.mesh_types.specs.ContourMeshes.{Facet, cells_of, facet_polygon, is_of}
 use Rattle.contour_walk.specs.Tables.{owner_of}
 use Rattle.contour_mesh.specs.declared.footing.Footing.{Footing}
@@ -22,10 +22,10 @@ pub region_here : (regions : Regions) (cell : Cell) (o : ℕ) → o ≡ owner_of
 region_here regions cell o is = ap (λ n. cond (nat_lt n (length regions.regions)) (Some n) None) (sym is)
 
 -- the number in a table of owners
-pub owner_at : (cells : List Cell) (regions : Regions) (owners owners' : List ℕ) (k : ℕ) → owners' ≡ map (owner_of regions.regions) cells → owners ≡ owners'
-    → k < length cells → get_or owners k 0 ≡ owner_of regions.regions (get_or cells k some_cell)
-owner_at cells regions owners owners' k are same there =
-    ap (λ os. get_or os k 0) (same ∙ are) ∙ get_or-map (owner_of regions.regions) cells k some_cell 0 there
+pub owner_at : (cells : List Cell) (regions : Regions) (owners owners' : List ℕ) (k : ℕ) (d : Cell) → owners' ≡ map (owner_of regions.regions) cells → owners ≡ owners'
+    → k < length cells → get_or owners k 0 ≡ owner_of regions.regions (get_or cells k d)
+owner_at cells regions owners owners' k d are same there =
+    ap (λ os. get_or os k 0) (same ∙ are) ∙ get_or-map (owner_of regions.regions) cells k d 0 there
 
 of_here : (regions : Regions) (cell : Cell) (o id : ℕ) → o ≡ owner_of regions.regions cell → o < length regions.regions → is_of regions id cell ≡ (o == id)
 of_here regions cell o id is there =
@@ -127,19 +127,19 @@ polygons_are cells regions footings rules' (facet ∷ facets) =
     cc
 
 -- the same of a vector that was written through a slice, by a table of owners
-pub footings_written : (cells : List Cell) (regions : Regions) (k : ℕ) (owners owners' : List ℕ) (len : ℕ) (items lent after : List (Option Footing))
+pub footings_written : (cells : List Cell) (regions : Regions) (k : ℕ) (d : Cell) (owners owners' : List ℕ) (len : ℕ) (items lent after : List (Option Footing))
     → k < length cells → owners' ≡ map (owner_of regions.regions) cells → owners ≡ owners' → len ≡ length items → lent ≡ items
     → AreFootings (take k cells) regions items → length after ≡ length lent
-    → (get_or owners k 0 < length lent → get_or after (get_or owners k 0) None ≡ Some (footing_with (get_or lent (get_or owners k 0) None) (get_or cells k some_cell)))
+    → (get_or owners k 0 < length lent → get_or after (get_or owners k 0) None ≡ Some (footing_with (get_or lent (get_or owners k 0) None) (get_or cells k d)))
     → ((j : ℕ) → (j ≡ get_or owners k 0 → ⊥) → get_or after j None ≡ get_or lent j None)
     → AreFootings (take (k + 1) cells) regions (take len (after ++ drop (length after) items))
-footings_written cells regions k owners owners' len items lent after there owners_are same_owners many lent_is before same here others =
+footings_written cells regions k d owners owners' len items lent after there owners_are same_owners many lent_is before same here others =
     let P : List (Option Footing) → Type 0 = AreFootings (take (k + 1) cells) regions in
-    let c : Cell = get_or cells k some_cell in
+    let c : Cell = get_or cells k d in
     let o : ℕ = get_or owners k 0 in
-    let owner : o ≡ owner_of regions.regions c = owner_at cells regions owners owners' k owners_are same_owners there in
+    let owner : o ≡ owner_of regions.regions c = owner_at cells regions owners owners' k d owners_are same_owners there in
     let whole : take len (after ++ drop (length after) items) ≡ after =
     ap (λ n. take n (after ++ drop (length after) items)) {x = len} {y = length after} (many ∙ ap length (sym lent_is) ∙ sym same) ∙ take-append_seam after (drop (length after) items) in
     subst P (sym whole)
-    (footings_more cells regions k o c lent after there (get_or_default cells k some_cell c there) owner (subst (AreFootings (take k cells) regions) (sym lent_is) before)
+    (footings_more cells regions k o c lent after there (get_or_default cells k d c there) owner (subst (AreFootings (take k cells) regions) (sym lent_is) before)
     same here others)

@@ -1,4 +1,4 @@
--- Linked: that no passage between the outlines of a tile's regions is missing.
+-- Linked: that the doors of a tile that face each other are linked.
 use Rattle.std.specs.Prelude.{◌≡◌, true, List, Contains, Some}
 use Rattle.nav_ground.specs.declared.setting.Setting.{Setting}
 use Rattle.nav_ground.specs.Tiling.{tile_window}

@@ -48,7 +48,7 @@ pub fn contour_mesh_over(
     ensures value { IfOk result (IsMeshOrCells setting.now free) }
     ensures fit { IfOk result (IfMade (IsFit setting.now)) }
 
-    // No passage is missing: every two doors that face each other are linked, and each link has its reverse.
+    // Every two doors that face each other are linked, from each to the other, and each link has its reverse.
     ensures linked { IfOk result (IfMade (LinksFacing setting.now)) }
     ensures back { IfOk result (IfMade (λ mesh. AreTwoWay mesh.links)) }
 

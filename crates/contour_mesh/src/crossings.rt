@@ -10,16 +10,16 @@ ghost use Rattle.contour_mesh.specs.SidePlaces.{cell_at_side, crossings_in, plac
 use crate::side_place::{Placed, SidePlace};
 use contour_walk::{RegionTable, is_crossing};
 use mesh_types::Regions;
-use nav_ground::{Cell, CellRef, Window};
+use nav_ground::{CellRef, SmallCell, Window};
 use std::alloc::{AllocError, Global};
 
 /// The cells that have kept neighbours across the sides of their tile, at their positions there, in the order of the cells.
 pub fn placed_cells(
     alloc: Global,
-    cells: &[Cell],
+    cells: &[SmallCell],
     regions: &Regions,
     table: &RegionTable,
-) -> Result<Vec<Placed<Cell>>, AllocError>
+) -> Result<Vec<Placed<SmallCell>>, AllocError>
     requires cells { IsCells cells.now }
     requires table { IsTableOf cells.now regions.now.regions table.now }
     ensures { IfOk result (λ placed. placed.items ≡ placed_cells table.now.window regions.now cells.now) }
@@ -46,9 +46,9 @@ fn region_of(owner: u32, count: usize) -> Option<u32>
 
 /// Appends a cell of a region at its position on each side across which it has a kept neighbour.
 fn push_cell(
-    placed: &mut Vec<Placed<Cell>>,
+    placed: &mut Vec<Placed<SmallCell>>,
     window: &Window,
-    cell: &Cell,
+    cell: &SmallCell,
     region: Option<u32>,
 ) -> Result<(), AllocError>
     requires { IsCell cell.now }
@@ -61,9 +61,9 @@ fn push_cell(
 }
 
 fn push_crossings(
-    placed: &mut Vec<Placed<Cell>>,
+    placed: &mut Vec<Placed<SmallCell>>,
     window: &Window,
-    cell: &Cell,
+    cell: &SmallCell,
     region: u32,
 ) -> Result<(), AllocError>
     requires { IsCell cell.now }
@@ -76,9 +76,9 @@ fn push_crossings(
 }
 
 fn push_crossing(
-    placed: &mut Vec<Placed<Cell>>,
+    placed: &mut Vec<Placed<SmallCell>>,
     window: &Window,
-    cell: &Cell,
+    cell: &SmallCell,
     region: u32,
     side: u32,
 ) -> Result<(), AllocError>
@@ -92,7 +92,7 @@ fn push_crossing(
             place: SidePlace {
                 region,
                 side,
-                position: position_of(side, cell.at),
+                position: position_of(side, cell.at()),
             },
             item: *cell,
         })?;

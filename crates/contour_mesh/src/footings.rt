@@ -8,13 +8,13 @@ ghost use Rattle.contour_mesh.specs.Footings.{AreFootings, footing_with, footing
 use crate::footing::Footing;
 use contour_walk::RegionTable;
 use mesh_types::Regions;
-use nav_ground::Cell;
+use nav_ground::SmallCell;
 use std::alloc::{AllocError, Global};
 
 /// For each region the footing of its cells, from the number of the region of each cell.
 pub fn footings(
     alloc: Global,
-    cells: &[Cell],
+    cells: &[SmallCell],
     regions: &Regions,
     table: &RegionTable,
 ) -> Result<Vec<Option<Footing>>, AllocError>
@@ -30,7 +30,7 @@ pub fn footings(
 }
 
 /// Takes a cell into the footing with a number, if there is one.
-fn note(footings: &mut [Option<Footing>], number: u32, cell: &Cell)
+fn note(footings: &mut [Option<Footing>], number: u32, cell: &SmallCell)
     ensures same { length footings.new ≡ length footings.old }
     ensures here { number < length footings.old → slice_index_or footings.new number None ≡ Some (footing_with (slice_index_or footings.old number None) cell.now) }
     ensures others { (k : ℕ) → (k ≡ number → ⊥) → slice_index_or footings.new k None ≡ slice_index_or footings.old k None }
@@ -41,19 +41,19 @@ fn note(footings: &mut [Option<Footing>], number: u32, cell: &Cell)
 }
 
 /// The footing of the cells so far, if there were any, with one cell more.
-fn footing_with(seen: Option<Footing>, cell: &Cell) -> Footing
+fn footing_with(seen: Option<Footing>, cell: &SmallCell) -> Footing
     ensures { result ≡ footing_with seen cell.now }
 {
     match seen {
         None => Footing {
-            area: cell.area,
-            low: cell.floor,
-            high: cell.floor,
+            area: cell.area(),
+            low: cell.floor(),
+            high: cell.floor(),
         },
         Some(seen) => Footing {
             area: seen.area,
-            low: seen.low.min(cell.floor),
-            high: seen.high.max(cell.floor),
+            low: seen.low.min(cell.floor()),
+            high: seen.high.max(cell.floor()),
         },
     }
 }

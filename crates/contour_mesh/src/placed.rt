@@ -17,7 +17,7 @@ use crate::side_tables::SideTables;
 use crate::sides::{end_position, first_position, side_of};
 use contour_walk::RegionTable;
 use mesh_types::{Door, Regions};
-use nav_ground::{Cell, Window};
+use nav_ground::{SmallCell, Window};
 use nav_list::Items;
 use std::alloc::{AllocError, Global};
 use std::cmp::Ordering;
@@ -25,7 +25,7 @@ use std::cmp::Ordering;
 /// The tables of a tile's doors and cells.
 pub fn side_tables(
     alloc: Global,
-    cells: &[Cell],
+    cells: &[SmallCell],
     regions: &Regions,
     table: &RegionTable,
     doors: &[Door],

@@ -14,7 +14,7 @@ use crate::side_place::SidePlace;
 use crate::side_tables::SideTables;
 use crate::sides::{end_position, first_position, side_of};
 use mesh_types::{Door, LevelPair, RimEdge, Run, runs};
-use nav_ground::{Cell, Window};
+use nav_ground::{SmallCell, Window};
 use nav_list::Items;
 use std::alloc::{AllocError, Global};
 
@@ -186,12 +186,12 @@ fn pair(on: DoorSide, position: u32) -> LevelPair
 }
 
 /// The levels of a cell and of its neighbour across a side.
-fn level_pair(side: u32, cell: &Cell) -> LevelPair
+fn level_pair(side: u32, cell: &SmallCell) -> LevelPair
     requires side { side < 4 }
     ensures { result ≡ level_pair side cell.now }
 {
     LevelPair {
-        own: cell.at.level,
-        other: cell.next[side as usize].unwrap_or(0),
+        own: cell.at().level,
+        other: cell.next(side as usize).unwrap_or(0),
     }
 }

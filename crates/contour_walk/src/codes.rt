@@ -17,7 +17,7 @@ use crate::table::{RegionTable, Rim};
 use cell_table::neighbour_table;
 use mesh_types::{Code, Regions, UnitEdge};
 use nav_base::Point;
-use nav_ground::{Cell, CellRef, FreeLayer, Setting, Window, tile_bounds};
+use nav_ground::{CellRef, FreeLayer, Setting, SmallCell, Window, tile_bounds};
 use nav_list::Items;
 use std::alloc::{AllocError, Global};
 
@@ -156,12 +156,12 @@ fn region_beyond(rim: Rim, index: usize, dir: u32) -> Option<u32>
 }
 
 /// Whether a cell has a kept neighbour across the side of the tile in a direction.
-pub fn is_crossing(window: &Window, dir: u32, cell: &Cell) -> bool
+pub fn is_crossing(window: &Window, dir: u32, cell: &SmallCell) -> bool
     requires dir { dir < 4 }
     requires cell { IsCell cell.now }
     ensures { result ≡ is_crossing window.now dir cell.now }
 {
-    is_at_side(window, dir, cell.at) && cell.next[dir as usize].is_some()
+    is_at_side(window, dir, cell.at()) && cell.next(dir as usize).is_some()
 }
 
 /// Whether the neighbouring column of a place in a direction lies outside the tile.

@@ -7,18 +7,18 @@ ghost use Rattle.mesh_types.specs.Regions.{IsStrip};
 ghost use Rattle.contour_walk.specs.Tables.{index_of, is_before};
 
 use mesh_types::Strip;
-use nav_ground::{Cell, CellRef};
+use nav_ground::{CellRef, SmallCell};
 
 /// The index of the cell at a place, or the number of cells where there is none. It is looked for at a guess first.
-pub fn index_of(cells: &[Cell], guess: usize, at: CellRef) -> usize
+pub fn index_of(cells: &[SmallCell], guess: usize, at: CellRef) -> usize
     requires { IsCells cells.now }
     ensures { result ≡ index_of cells.now at }
 {
-    if guess < cells.len() && is_at(at, cells[guess].at) {
+    if guess < cells.len() && is_at(at, cells[guess].at()) {
         return guess;
     }
     let least = cells_before(cells, at);
-    if least < cells.len() && is_at(at, cells[least].at) {
+    if least < cells.len() && is_at(at, cells[least].at()) {
         least
     } else {
         cells.len()
@@ -26,13 +26,13 @@ pub fn index_of(cells: &[Cell], guess: usize, at: CellRef) -> usize
 }
 
 /// How many cells come before a place.
-fn cells_before(cells: &[Cell], at: CellRef) -> usize
+fn cells_before(cells: &[SmallCell], at: CellRef) -> usize
     requires { IsCells cells.now }
     ensures most { result ≤ length cells.now }
     ensures before { (k : ℕ) (d : Cell) → k < result → is_before (slice_index_or cells.now k d).at at ≡ true }
     ensures after { (k : ℕ) (d : Cell) → result ≤ k → k < length cells.now → is_before (slice_index_or cells.now k d).at at ≡ false }
 {
-    cells.partition_point(|cell| is_before(cell.at, at))
+    cells.partition_point(|cell| is_before(cell.at(), at))
 }
 
 /// Whether two places are the same.

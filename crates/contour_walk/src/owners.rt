@@ -9,11 +9,15 @@ ghost use Rattle.contour_walk.specs.Tables.{owner_of, IsMarked, IsFit};
 
 use crate::lookup::{index_of, place_in};
 use mesh_types::{Region, Strip};
-use nav_ground::Cell;
+use nav_ground::SmallCell;
 use std::alloc::{AllocError, Global};
 
 /// For each cell the number of the first region that holds it, or the number of regions where none does.
-pub fn owners(alloc: Global, cells: &[Cell], regions: &[Region]) -> Result<Vec<u32>, AllocError>
+pub fn owners(
+    alloc: Global,
+    cells: &[SmallCell],
+    regions: &[Region],
+) -> Result<Vec<u32>, AllocError>
     requires cells { IsCells cells.now }
     requires few { length regions.now ≤ 2000000 }
     requires fit { All (λ (region : Region). All IsFit region.strips) regions.now }
@@ -39,7 +43,7 @@ fn unowned(alloc: Global, count: usize, none: u32) -> Result<Vec<u32>, AllocErro
 }
 
 /// Writes the number of a region at the index of each cell of its strips.
-fn mark_region(owners: &mut [u32], cells: &[Cell], strips: &[Strip], number: u32)
+fn mark_region(owners: &mut [u32], cells: &[SmallCell], strips: &[Strip], number: u32)
     requires cells { IsCells cells.now }
     requires same { length owners.old ≡ length cells.now }
     requires fit { All IsFit strips.now }
@@ -51,7 +55,7 @@ fn mark_region(owners: &mut [u32], cells: &[Cell], strips: &[Strip], number: u32
 }
 
 /// Writes a number at the index of each cell of a strip.
-fn mark_strip(owners: &mut [u32], cells: &[Cell], strip: &Strip, number: u32)
+fn mark_strip(owners: &mut [u32], cells: &[SmallCell], strip: &Strip, number: u32)
     requires cells { IsCells cells.now }
     requires same { length owners.old ≡ length cells.now }
     requires fit { IsFit strip.now }

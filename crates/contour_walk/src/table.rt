@@ -1,7 +1,7 @@
 //! The tables of a tile from which the codes of edges are read.
 
 use mesh_types::Regions;
-use nav_ground::{Cell, Window};
+use nav_ground::{SmallCell, Window};
 use nav_list::Items;
 
 /// What lies beyond each edge of each cell of a tile, for its regions.
@@ -19,7 +19,7 @@ pub struct RegionTable {
 #[derive(Clone, Copy)]
 pub struct Rim<'a> {
     /// By z, then x, then level.
-    pub cells: &'a [Cell],
+    pub cells: &'a [SmallCell],
     /// The regions of those cells.
     pub regions: &'a Regions,
     /// The tables of those cells and regions.

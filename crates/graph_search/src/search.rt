@@ -10,9 +10,8 @@ ghost use Rattle.graph_search.specs.Entries.{entry};
 ghost use Rattle.graph_search.specs.Searching.{IsTree, IsRanked, IsKnown, IsClosing, AllRelaxed, AreBeingRelaxed, IsFollowing, KeepsRanks, IsBegun, IsWalkTo, closed_as};
 
 use crate::arcs::{Step, Vertex, Walk};
-use crate::entry::Entry;
 use crate::graph::Graph;
-use crate::visits::{UNSEEN, Visit, Visits};
+use crate::visits::{UNSEEN, Visits};
 use crate::waiting::Waiting;
 use std::alloc::{AllocError, Global};
 
@@ -41,7 +40,7 @@ pub fn cheapest_walk<G: Graph>(
         if visit.rank != 0 {
             continue;
         }
-        search.close(alloc, vertex, visit)?;
+        search.close(alloc, vertex)?;
         if vertex == to {
             return Ok(Some(walk_to(alloc, &search.visits, from, to)?));
         }
@@ -85,19 +84,9 @@ impl Search {
         ensures closed { IfOk result (λ search. search.closed ≡ 0) }
     {
         let mut visits = Visits::new(alloc);
-        let last = UNSEEN.last;
-        let visit = Visit {
-            cost: 0,
-            rank: 0,
-            last,
-        };
-        visits.set(alloc, from, visit)?;
+        visits.reach(alloc, from, 0, UNSEEN.last)?;
         let mut waiting = Waiting::new(alloc, estimate);
-        let entry = Entry {
-            key: estimate,
-            vertex: from,
-        };
-        waiting.push(alloc, entry)?;
+        waiting.push(alloc, estimate, from)?;
         Ok(Search {
             visits,
             waiting,
@@ -105,17 +94,16 @@ impl Search {
         })
     }
 
-    /// Closes a vertex, of which this is known.
-    fn close(&mut self, alloc: Global, vertex: Vertex, visit: Visit) -> Result<(), AllocError>
-        requires room { self.old.closed + 1 < 2 ^ 64 }
-        requires known { visit ≡ visit_at self.old.visits vertex }
+    /// Closes a vertex.
+    fn close(&mut self, alloc: Global, vertex: Vertex) -> Result<(), AllocError>
+        requires { self.old.closed + 1 < 2 ^ 64 }
         ensures closed { OnOk result (self.new.closed ≡ self.old.closed + 1) }
         ensures written { OnOk result (IsWritten (visit_at self.old.visits) vertex
             (closed_as (self.old.closed + 1) (visit_at self.old.visits vertex)) (visit_at self.new.visits)) }
         ensures waiting { self.new.waiting ≡ self.old.waiting }
     {
         let rank = self.closed + 1;
-        self.visits.set(alloc, vertex, Visit { rank, ..visit })?;
+        self.visits.close(alloc, vertex, rank)?;
         self.closed = rank;
         Ok(())
     }
@@ -199,15 +187,9 @@ impl Search {
         if known.cost <= through {
             return Ok(());
         }
-        let rank = 0;
-        let better = Visit {
-            cost: through,
-            rank,
-            last: stride.step,
-        };
-        self.visits.set(alloc, to, better)?;
+        self.visits.reach(alloc, to, through, stride.step)?;
         let key = through + graph.estimate(to);
-        self.waiting.push(alloc, Entry { key, vertex: to })?;
+        self.waiting.push(alloc, key, to)?;
         Ok(())
     }
 }

@@ -3,6 +3,7 @@
 ghost use Rattle.std.specs.Prelude.{◌≡◌, ◌<◌, OnOk, vec_len};
 ghost use Rattle.graph_search.specs.declared.arcs.Vertex.{Vertex};
 ghost use Rattle.graph_search.specs.Visited.{unseen, visit_at, visit_on, IsWritten, KnowsAlike, IsWrittenAt};
+ghost use Rattle.graph_search.specs.Searching.{closed_as};
 
 use crate::arcs::{Step, Vertex};
 use std::alloc::{AllocError, Global};
@@ -54,17 +55,23 @@ impl Visits {
         }
     }
 
-    /// Writes what is known of a vertex.
-    pub(crate) fn set(
+    /// Writes the cost of a vertex that is not closed, and the last step of the walk that costs it.
+    pub(crate) fn reach(
         &mut self,
         alloc: Global,
         vertex: Vertex,
-        visit: Visit,
+        cost: u64,
+        last: Step,
     ) -> Result<(), AllocError>
-        ensures { OnOk result (IsWritten (visit_at self.old) vertex visit (visit_at self.new)) }
+        ensures { OnOk result (IsWritten (visit_at self.old) vertex (record { cost = cost; rank = 0; last = last }) (visit_at self.new)) }
     {
         let block = vertex.block as usize;
         let place = vertex.place as usize;
+        let visit = Visit {
+            cost,
+            rank: 0,
+            last,
+        };
         if block < self.pages.len() && place < self.pages[block].len() {
             self.pages[block][place] = visit;
             return Ok(());
@@ -72,7 +79,26 @@ impl Visits {
         self.set_further(alloc, vertex, visit)
     }
 
-    /// Writes it where the pages may not reach to the vertex yet.
+    /// Writes when a vertex was closed.
+    pub(crate) fn close(
+        &mut self,
+        alloc: Global,
+        vertex: Vertex,
+        rank: usize,
+    ) -> Result<(), AllocError>
+        ensures { OnOk result (IsWritten (visit_at self.old) vertex (closed_as rank (visit_at self.old vertex)) (visit_at self.new)) }
+    {
+        let block = vertex.block as usize;
+        let place = vertex.place as usize;
+        if block < self.pages.len() && place < self.pages[block].len() {
+            self.pages[block][place].rank = rank;
+            return Ok(());
+        }
+        let visit = self.get(vertex);
+        self.set_further(alloc, vertex, Visit { rank, ..visit })
+    }
+
+    /// Writes what is known of a vertex where the pages may not reach to it yet.
     fn set_further(&mut self, alloc: Global, vertex: Vertex, visit: Visit) -> Result<(), AllocError>
         ensures { OnOk result (IsWritten (visit_at self.old) vertex visit (visit_at self.new)) }
     {

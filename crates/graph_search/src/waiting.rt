@@ -3,8 +3,9 @@
 ghost use Rattle.std.specs.Prelude.{◌≡◌, ◌≢◌, ◌≤◌, ◌<◌, ◌∷◌, ◌++◌, [], ℕ, List, All, length, slice_index_or, IfOk, IfSome, IfNone, OnOk, OnErr, vec_len};
 ghost use Rattle.std.specs.List.Sorted.{IsPermutation};
 ghost use Rattle.graph_search.specs.declared.entry.Entry.{Entry};
-ghost use Rattle.graph_search.specs.Entries.{Queue, slot_of, list_at, entries_in, AreSlotted, AreAlike, IsAdded, IsEmptied, IsFilled};
+ghost use Rattle.graph_search.specs.Entries.{Queue, entry, slot_of, list_at, entries_in, AreSlotted, AreAlike, IsAdded, IsEmptied, IsFilled};
 
+use crate::arcs::Vertex;
 use crate::entry::Entry;
 use std::alloc::{AllocError, Global};
 use std::marker::Model;
@@ -29,6 +30,8 @@ pub(crate) struct Waiting {
     lists: Vec<Vec<Entry>>,
     /// The lists before this one are empty.
     first: usize,
+    /// Memory of the list that was dealt out last, for the next.
+    spare: Vec<Entry>,
 }
 
 impl Model for Waiting {
@@ -48,18 +51,19 @@ impl Waiting {
             last,
             lists: Vec::new(alloc),
             first: 0,
+            spare: Vec::new(alloc),
         }
     }
 
     /// Adds a vertex.
-    pub(crate) fn push(&mut self, alloc: Global, entry: Entry) -> Result<(), AllocError>
-        requires { self.old.last ≤ entry.key }
-        ensures added { OnOk result (IsPermutation (entry ∷ self.old.entries) self.new.entries) }
+    pub(crate) fn push(&mut self, alloc: Global, key: u64, vertex: Vertex) -> Result<(), AllocError>
+        requires { self.old.last ≤ key }
+        ensures added { OnOk result (IsPermutation (entry key vertex ∷ self.old.entries) self.new.entries) }
         ensures last { self.new.last ≡ self.old.last }
     {
-        let slot = slot(self.last, entry.key);
+        let slot = slot(self.last, key);
         self.first = self.first.min(slot);
-        add(alloc, &mut self.lists, slot, entry)
+        add(alloc, &mut self.lists, slot, Entry { key, vertex })
     }
 
     /// Adds vertices.
@@ -69,7 +73,7 @@ impl Waiting {
         ensures last { self.new.last ≡ self.old.last }
     {
         for entry in entries {
-            self.push(alloc, *entry)?;
+            self.push(alloc, entry.key, entry.vertex)?;
         }
         Ok(())
     }
@@ -90,10 +94,13 @@ impl Waiting {
             self.last = entry.key;
             return Ok(Some(entry));
         }
-        let mut list = take_list(alloc, &mut self.lists, slot);
+        let mut spare = mem::replace(&mut self.spare, Vec::new(alloc));
+        spare.clear();
+        let mut list = take_list(&mut self.lists, slot, spare);
         let entry = list.swap_remove(least(list.as_slice()));
         self.last = entry.key;
         self.push_all(alloc, list.as_slice())?;
+        self.spare = list;
         Ok(Some(entry))
     }
 }
@@ -167,12 +174,13 @@ fn take_last(lists: &mut Vec<Vec<Entry>>, slot: usize) -> Entry
     lists[slot].pop().unwrap()
 }
 
-/// Takes out a list.
-fn take_list(alloc: Global, lists: &mut Vec<Vec<Entry>>, slot: usize) -> Vec<Entry>
-    requires { 0 < length (list_at lists.old.items slot) }
+/// Takes out a list, for an empty one.
+fn take_list(lists: &mut Vec<Vec<Entry>>, slot: usize, empty: Vec<Entry>) -> Vec<Entry>
+    requires some { 0 < length (list_at lists.old.items slot) }
+    requires empty { empty.items ≡ [] }
     ensures { IsEmptied lists.old.items slot result.items lists.new.items }
 {
-    mem::replace(&mut lists[slot], Vec::new(alloc))
+    mem::replace(&mut lists[slot], empty)
 }
 
 /// The place of an entry with the least key.

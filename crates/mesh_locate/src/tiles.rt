@@ -44,8 +44,7 @@ fn nearest_in_tile(mesh: &Mesh, tile: TileNo, sought: Sought, best: Option<Near>
     requires best { IsNearestBefore mesh.now sought.p sought.y tile 0 best }
     ensures { IsNearestBefore mesh.now sought.p sought.y (tile + 1) 0 result }
 {
-    let tiles = mesh.tiles.as_slice();
-    let polygons = &tiles[tile as usize].get().mesh().polys;
+    let polygons = &mesh.tiles.at(tile as usize).get().polys;
     let mut nearest = best;
     for i in 0..polygons.len() {
         let at = PolyRef {

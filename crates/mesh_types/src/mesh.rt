@@ -8,21 +8,22 @@ use crate::link_list::Links;
 use crate::links::PolyRef;
 use crate::polygon::Polygon;
 use crate::tile::TileMesh;
-use crate::way_tile::Tile;
+use nav_chunks::Chunks;
 use nav_ground::Setting;
-use nav_list::{Duplicate, Items};
+use nav_list::Duplicate;
 use nav_share::Shared;
 use std::alloc::{AllocError, Global};
 
-/// The tiles of a ground, in order, and for each of them the links that leave it for the tiles across its sides.
+/// The tiles of a ground, in order, and for each of them the links that leave it for the tiles across its sides. Meshes that differ in a few
+/// tiles share the others, chunk by chunk.
 #[derive(Drop)]
 pub struct Mesh {
     /// Width and depth in columns, the tile's size, the agent, the costs of areas.
     pub setting: Setting,
     /// By tile number.
-    pub tiles: Items<Shared<Tile>>,
+    pub tiles: Chunks<Shared<TileMesh>>,
     /// By tile number: the links that leave the tile's polygons over its borders.
-    pub cross: Items<Shared<Links>>,
+    pub cross: Chunks<Shared<Links>>,
 }
 
 /// The polygon that a reference names; none exactly where there is no such polygon.
@@ -30,7 +31,7 @@ pub fn poly(mesh: &Mesh, at: PolyRef) -> Option<&Polygon>
     ensures { option_copied result ≡ poly_at mesh.now at }
 {
     match mesh.tiles.get(at.tile as usize) {
-        Some(tile) => tile.get().mesh().polys.get(at.index as usize),
+        Some(tile) => tile.get().polys.get(at.index as usize),
         None => None,
     }
 }

@@ -5,7 +5,7 @@ ghost use Rattle.nav_ground.specs.Grounds.{IsGround};
 ghost use Rattle.nav_ground.specs.Tiling.{tile_count};
 ghost use Rattle.nav_handle.specs.Works.{AreSameAt};
 
-use nav_ground::{Cell, Ground, Layer, Setting};
+use nav_ground::{Cell, Ground, Layer, Setting, SmallCell};
 
 /// Whether two grounds have the same setting and the same layer of a tile.
 pub(crate) fn is_same_tile(a: &Ground, b: &Ground, tile: u32) -> bool
@@ -36,7 +36,7 @@ fn is_same_layer(a: &Layer, b: &Layer) -> bool
         && are_same_cells(a.wide.as_slice(), b.wide.as_slice())
 }
 
-fn are_same_cells(a: &[Cell], b: &[Cell]) -> bool
+fn are_same_cells(a: &[SmallCell], b: &[SmallCell]) -> bool
     ensures { IsTrue result ↔ (a.now ≡ b.now) }
 {
     if a.len() != b.len() {
@@ -50,10 +50,11 @@ fn are_same_cells(a: &[Cell], b: &[Cell]) -> bool
     true
 }
 
-fn is_same_cell(a: &Cell, b: &Cell) -> bool
+fn is_same_cell(a: &SmallCell, b: &SmallCell) -> bool
     ensures { IsTrue result ↔ (a.now ≡ b.now) }
 {
-    is_same_place(a, b) && are_same_levels(&a.next, &b.next)
+    let (a, b) = (a.get(), b.get());
+    is_same_place(&a, &b) && are_same_levels(&a.next, &b.next)
 }
 
 /// Whether two cells are the same but for their neighbours.

@@ -6,17 +6,18 @@ ghost use Rattle.mesh_types.specs.declared.links.Link.{Link};
 ghost use Rattle.mesh_types.specs.declared.tile.TileMesh.{TileMesh};
 ghost use Rattle.mesh_types.specs.Soundness.{link_count, polygon_count};
 
-use mesh_types::{Links, Mesh, Tile};
+use mesh_types::{Links, Mesh, TileMesh};
+use nav_chunks::Chunks;
 use nav_share::Shared;
 
 /// How many polygons tiles have together.
-pub(crate) fn polygons(tiles: &[Shared<Tile>]) -> u32
+pub(crate) fn polygons(tiles: &Chunks<Shared<TileMesh>>) -> u32
     requires { polygon_count tiles.now < 2 ^ 32 }
     ensures { result ≡ polygon_count tiles.now }
 {
     let mut count = 0;
-    for tile in tiles {
-        count += tile.get().mesh().polys.len() as u32;
+    for place in 0..tiles.len() {
+        count += tiles.at(place).get().polys.len() as u32;
     }
     count
 }
@@ -26,27 +27,27 @@ pub(crate) fn links(mesh: &Mesh) -> u32
     requires { link_count mesh.now < 2 ^ 32 }
     ensures { result ≡ link_count mesh.now }
 {
-    inner_links(mesh.tiles.as_slice()) + cross_links(mesh.cross.as_slice())
+    inner_links(&mesh.tiles) + cross_links(&mesh.cross)
 }
 
-fn inner_links(tiles: &[Shared<Tile>]) -> u32
+fn inner_links(tiles: &Chunks<Shared<TileMesh>>) -> u32
     requires { sum_by (λ (tile : TileMesh). length tile.links) tiles.now < 2 ^ 32 }
     ensures { result ≡ sum_by (λ (tile : TileMesh). length tile.links) tiles.now }
 {
     let mut count = 0;
-    for tile in tiles {
-        count += tile.get().mesh().links.len() as u32;
+    for place in 0..tiles.len() {
+        count += tiles.at(place).get().links.len() as u32;
     }
     count
 }
 
-fn cross_links(lists: &[Shared<Links>]) -> u32
+fn cross_links(lists: &Chunks<Shared<Links>>) -> u32
     requires { sum_by (λ (links : List Link). length links) lists.now < 2 ^ 32 }
     ensures { result ≡ sum_by (λ (links : List Link). length links) lists.now }
 {
     let mut count = 0;
-    for links in lists {
-        count += links.get().len() as u32;
+    for place in 0..lists.len() {
+        count += lists.at(place).get().len() as u32;
     }
     count
 }

@@ -5,13 +5,13 @@ ghost use Rattle.mesh_types.specs.Floors.{column_of, floor_of};
 ghost use Rattle.nav_query.specs.Columns.{AreOrdered};
 
 use nav_base::FloorAt;
-use nav_ground::Cell;
+use nav_ground::SmallCell;
 use std::alloc::AllocError;
 
 /// Appends the floors of a column, from the bottom up. The cells stand in order.
 pub fn push_floors(
     floors: &mut Vec<FloorAt>,
-    cells: &[Cell],
+    cells: &[SmallCell],
     x: u32,
     z: u32,
 ) -> Result<(), AllocError>
@@ -20,14 +20,14 @@ pub fn push_floors(
 {
     for cell in column(cells, x, z) {
         floors.push(FloorAt {
-            y: cell.floor,
-            area: cell.area,
+            y: cell.floor(),
+            area: cell.area(),
         })?;
     }
     Ok(())
 }
 
-fn column(cells: &[Cell], x: u32, z: u32) -> &[Cell]
+fn column(cells: &[SmallCell], x: u32, z: u32) -> &[SmallCell]
     requires { AreOrdered cells.now }
     ensures { result.now ≡ column_of x z cells.now }
 {
@@ -37,14 +37,16 @@ fn column(cells: &[Cell], x: u32, z: u32) -> &[Cell]
     &rest[..count]
 }
 
-fn is_before_column(cell: &Cell, x: u32, z: u32) -> bool
+fn is_before_column(cell: &SmallCell, x: u32, z: u32) -> bool
     ensures { result ≡ Rattle.nav_query.specs.Columns.is_before_column x z cell.now }
 {
-    cell.at.z < z || (cell.at.z == z && cell.at.x < x)
+    let at = cell.at();
+    at.z < z || (at.z == z && at.x < x)
 }
 
-fn is_in_column(cell: &Cell, x: u32, z: u32) -> bool
+fn is_in_column(cell: &SmallCell, x: u32, z: u32) -> bool
     ensures { result ≡ Rattle.mesh_types.specs.Floors.is_in_column x z cell.now }
 {
-    cell.at.x == x && cell.at.z == z
+    let at = cell.at();
+    at.x == x && at.z == z
 }

@@ -1,11 +1,13 @@
 -- Texts that are written part by part.
-use Rattle.std.proofs.Common.{◌≡◌, ℕ, ◌+◌, ◌<◌, ◌≤◌, List, [], ◌++◌, length, drop, get_or, ap, ◌∙◌, sym, append_assoc, append-nil, arith, Ok, Err}
+use Rattle.std.proofs.Common.{◌≡◌, ℕ, ◌+◌, ◌<◌, ◌≤◌, List, [], ◌∷◌, ◌++◌, length, drop, get_or, ap, ◌∙◌, refl, sym, append_assoc, append-nil, arith, Ok, Err}
 use Rattle.std.specs.Prelude.{Result, is_ok, if◌then◌else◌, vec_len}
 use Rattle.std.specs.declared.alloc.Global.{Global}
 use Rattle.std.specs.declared.vec.Vec.{Vec}
 use Rattle.std.specs.List.{enumerate_from, flat_map, range_with_len}
 use Rattle.std.proofs.lemmas.List.{at_drop_all, at_drop_more, take-append-drop}
 use Rattle.std.proofs.lemmas.List.FromFn.{get_or-range_with_len, length-range_with_len}
+use Rattle.std.proofs.lemmas.Grind.{flat_map-append}
+use Rattle.nav_chunks.specs.Chunked.{joined}
 use Rattle.nav_text.specs.Appends.{Appends}
 use Rattle.nav_scene.specs.Scenes.{StandsInFront}
 
@@ -64,3 +66,8 @@ module _ (n end i : ℕ) (before whole : List ℕ) (f : ℕ → List ℕ) where
 
   pub all_numbered : end ≡ n → before ++ flat_map f (drop i (range_with_len 0 n)) ≡ whole → end ≤ i → before ≡ whole
   all_numbered all left over = all_written (range_with_len 0 n) i before whole f left (omega (arith, all, over, length-range_with_len 0 n))
+
+-- what is written of the elements of chunks, chunk by chunk, is written of all elements
+pub chunks_written : {A : Type 0} (f : A → List ℕ) (chunks : List (List A)) → flat_map (flat_map f) chunks ≡ flat_map f (joined chunks)
+chunks_written f [] = refl
+chunks_written f (chunk ∷ chunks) = ap (λ (text : List ℕ). flat_map f chunk ++ text) (chunks_written f chunks) ∙ sym (flat_map-append f chunk (joined chunks))

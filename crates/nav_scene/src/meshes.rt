@@ -5,18 +5,19 @@ ghost use Rattle.nav_scene.specs.Scenes.{cell_text, link_text, links_text, mesh_
 
 use crate::lines::{write_line, write_point};
 use crate::told::{Told, append_all};
-use mesh_types::{Link, Links, Polygon, Tile, TileMesh};
+use mesh_types::{Link, Links, Polygon, TileMesh};
 use nav_base::Point;
-use nav_ground::Cell;
+use nav_ground::SmallCell;
 use nav_text::append_line;
 use std::alloc::AllocError;
 
 /// The line of a free cell: its column, its floor and its area.
-impl Told for Cell {
+impl Told for SmallCell {
     ghost text = { cell_text };
 
     fn append_to(&self, out: &mut Vec<u8>) -> Result<(), AllocError> {
-        write_line(out, b"cell", &[self.at.x, self.at.z, self.floor, self.area])
+        let at = self.at();
+        write_line(out, b"cell", &[at.x, at.z, self.floor(), self.area()])
     }
 }
 
@@ -67,15 +68,6 @@ impl Told for Links {
 
     fn append_to(&self, out: &mut Vec<u8>) -> Result<(), AllocError> {
         append_all(out, self.as_slice())
-    }
-}
-
-/// The lines of the mesh of a tile that is searched.
-impl Told for Tile {
-    ghost text = { mesh_text };
-
-    fn append_to(&self, out: &mut Vec<u8>) -> Result<(), AllocError> {
-        self.mesh().append_to(out)
     }
 }
 

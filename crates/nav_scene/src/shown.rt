@@ -5,7 +5,7 @@ ghost use Rattle.nav_scene.specs.Scenes.{StandsInFront, head_text, scene_text, w
 
 use crate::front::{append_entries, append_tiles};
 use crate::lines::write_line;
-use crate::told::append_all;
+use crate::told::append_chunks;
 use mesh_types::Mesh;
 use nav_book::Book;
 use std::alloc::AllocError;
@@ -49,6 +49,6 @@ fn append_mesh(out: &mut Vec<u8>, mesh: &Mesh) -> Result<(), AllocError>
     ensures ok { OnOk result (out.new.items ≡ out.old.items ++ whole_text mesh.now) }
     ensures front { StandsInFront out.old.items out.new.items }
 {
-    append_all(out, mesh.tiles.as_slice())?;
-    append_all(out, mesh.cross.as_slice())
+    append_chunks(out, &mesh.tiles)?;
+    append_chunks(out, &mesh.cross)
 }

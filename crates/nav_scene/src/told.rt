@@ -4,6 +4,7 @@ ghost use Rattle.std.specs.Prelude.{◌≡◌, ◌++◌, OnOk};
 ghost use Rattle.std.specs.List.{flat_map};
 ghost use Rattle.nav_scene.specs.Scenes.{StandsInFront};
 
+use nav_chunks::Chunks;
 use nav_share::Shared;
 use std::alloc::AllocError;
 
@@ -27,6 +28,20 @@ pub(crate) fn append_all<T: Told>(out: &mut Vec<u8>, things: &[T]) -> Result<(),
 {
     for thing in things {
         thing.append_to(out)?;
+    }
+    Ok(())
+}
+
+/// Appends what a scene tells of things that are kept in chunks, in order.
+pub(crate) fn append_chunks<T: Told>(
+    out: &mut Vec<u8>,
+    things: &Chunks<T>,
+) -> Result<(), AllocError>
+    ensures ok { OnOk result (out.new.items ≡ out.old.items ++ flat_map T.text things.now) }
+    ensures front { StandsInFront out.old.items out.new.items }
+{
+    for part in things.parts() {
+        append_all(out, part.get().as_slice())?;
     }
     Ok(())
 }

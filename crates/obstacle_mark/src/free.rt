@@ -7,19 +7,20 @@ ghost use Rattle.nav_ground.specs.declared.setting.Setting.{Setting};
 ghost use Rattle.nav_ground.specs.declared.shape.Shape.{Shape};
 ghost use Rattle.nav_ground.specs.Limits.{IsSetting, IsShape};
 ghost use Rattle.nav_ground.specs.Fields.{IsField};
-ghost use Rattle.nav_ground.specs.Cells.{IsCells, IsCut, IsLayer};
+ghost use Rattle.nav_ground.specs.Cells.{IsCell, IsCells, IsCut, IsLayer};
 ghost use Rattle.nav_ground.specs.Tiling.{tile_window};
 ghost use Rattle.nav_ground.specs.Clearance.{places_of, cells_in};
 ghost use Rattle.nav_ground.specs.Layers.{layer_of};
 ghost use Rattle.nav_ground.specs.FreeCells.{free_cell_of, free_layer_of};
 ghost use Rattle.nav_ground.specs.WholeFree.{whole_free};
-ghost use Rattle.obstacle_mark.specs.AreasLeft.{area_left};
+ghost use Rattle.obstacle_mark.specs.AreasLeft.{area_left, AreSmall};
 ghost use Rattle.obstacle_mark.specs.Columns.{ArePlaces};
-ghost use Rattle.obstacle_mark.specs.Places.{places_taken};
+ghost use Rattle.obstacle_mark.specs.Places.{places_taken, next_kept, ArePassed};
 
 use crate::clear::areas_clear;
-use crate::places::{Passed, blocked_places, next_kept};
-use nav_ground::{Cell, CellRef, FreeLayer, Layer, Shape};
+use crate::places::{Passed, are_away, blocked_places, next_kept};
+use cell_table::column_of;
+use nav_ground::{Cell, CellRef, FreeLayer, Layer, Shape, SmallCell};
 use nav_list::Items;
 use std::alloc::{AllocError, Global};
 
@@ -47,12 +48,13 @@ pub fn mark(alloc: Global, layer: &Layer, shapes: &[Shape]) -> Result<FreeLayer,
 /// The free cells, from the areas that all cells are left with and the places of those that are blocked.
 fn free_cells(
     alloc: Global,
-    cells: &[Cell],
+    cells: &[SmallCell],
     areas: &[Option<u32>],
     blocked: &[CellRef],
-) -> Result<Vec<Cell>, AllocError>
+) -> Result<Vec<SmallCell>, AllocError>
     requires cells { IsCells cells.now }
     requires beside { length areas.now ≡ length cells.now }
+    requires areas { AreSmall areas.now }
     requires blocked { ArePlaces blocked.now }
     requires few { length blocked.now ≤ length cells.now }
     ensures { (taken : Cell → Bool) (shapes : List Shape) → areas.now ≡ map (area_left taken shapes) cells.now → blocked.now ≡ places_taken taken cells.now
@@ -67,14 +69,29 @@ fn free_cells(
     let mut free = Vec::with_capacity(alloc, cells.len() - blocked.len())?;
     for (i, cell) in cells.iter().enumerate() {
         if let Some(area) = areas[i] {
-            free.push(Cell {
-                at: cell.at,
-                floor: cell.floor,
-                ceiling: cell.ceiling,
-                area,
-                next: next_kept(blocked, &mut passed, cell),
-            })?;
+            free.push(free_cell(blocked, &mut passed, cell, area))?;
         }
     }
     Ok(free)
+}
+
+/// A free cell with the area that it is left with: the cell of the layer as it is where its area stays and all blocked places lie away
+/// from it, else without those neighbours that are among them.
+fn free_cell(blocked: &[CellRef], passed: &mut Passed, cell: &SmallCell, area: u32) -> SmallCell
+    requires cell { IsCell cell.now }
+    requires area { area ≤ 255 }
+    requires blocked { ArePlaces blocked.now }
+    requires passed { ArePassed blocked.now passed.old cell.now.at }
+    ensures cell { result ≡ record cell.now { area = area; next = next_kept blocked.now cell.now } }
+    ensures passed { ArePassed blocked.now passed.new cell.now.at }
+{
+    if area == cell.area() && are_away(blocked, column_of(cell.at())) {
+        return *cell;
+    }
+    let next = next_kept(blocked, passed, cell);
+    SmallCell::new(&Cell {
+        area,
+        next,
+        ..cell.get()
+    })
 }

@@ -7,6 +7,7 @@ pub mod RowLaws
 pub mod PolygonLaws
 pub mod LinkLaws
 pub mod AwayLaws
+pub mod EndLaws
 pub mod RimLaws
 pub mod FitLaws
 pub mod CellTotals

@@ -1,9 +1,9 @@
--- Polygons and level pairs by the indices of cells.
-use Rattle.std.specs.Prelude.{ℕ, List, map}
+-- Polygons and level pairs by the indices of cells, and where strips meet.
+use Rattle.std.specs.Prelude.{◌≡◌, ℕ, ◌-◌, ◌<◌, List, [], length, map, get_or, None}
 use Rattle.nav_ground.specs.declared.cell.Cell.{Cell}
 use Rattle.mesh_types.specs.declared.polygon.Polygon.{Polygon}
 use Rattle.mesh_types.specs.declared.tile.LevelPair.{LevelPair}
-use Rattle.mesh_types.specs.StripMeshes.{strip_polygon, level_pair}
+use Rattle.mesh_types.specs.StripMeshes.{strip_polygon, strip_beyond, level_pair, some_cell}
 use Rattle.mono_regions.specs.Indices.{cell_at}
 
 -- the rectangle of the cells with indices
@@ -13,3 +13,12 @@ polygon_at cells run = strip_polygon (map (cell_at cells) run)
 -- the levels of the cell with an index and of its neighbour across
 abbrev pub pair_at : List Cell → ℕ → ℕ → LevelPair
 pair_at cells side i = level_pair side (cell_at cells i)
+
+-- the last cell of a strip
+abbrev pub last_of : List Cell → Cell
+last_of run = get_or run (length run - 1) some_cell
+
+-- no cell of the strip s but the one at a place is connected to another strip in a direction
+abbrev pub MeetsOthersAt : List (List Cell) → ℕ → ℕ → ℕ → Type 0
+MeetsOthersAt runs s dir place =
+    (k : ℕ) → k < length (get_or runs s []) → (k ≡ place → ⊥) → strip_beyond runs s dir (get_or (get_or runs s []) k some_cell) ≡ None

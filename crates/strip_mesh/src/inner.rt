@@ -4,6 +4,7 @@ ghost use Rattle.std.specs.Prelude.{◌≡◌, ◌<◌, ◌++◌, IfOk, OnOk, le
 ghost use Rattle.std.specs.List.{flat_map, range_with_len};
 ghost use Rattle.mesh_types.specs.StripMeshes.{strip_beyond, strip_link, strip_links, strip_links_over, outside_of};
 ghost use Rattle.strip_mesh.specs.Indexed.{AreIndexed, runs_in, run_in};
+ghost use Rattle.strip_mesh.specs.Strips.{MeetsOthersAt};
 
 use crate::portals::edge_portal;
 use crate::tile_strips::TileStrips;
@@ -61,8 +62,57 @@ fn push_links(
     Ok(())
 }
 
-/// Appends the links over an edge of a strip.
+/// Appends the links over an edge of a strip. Along its row a strip meets others with its ends alone.
 fn push_links_over(
+    alloc: Global,
+    one: OneStrip,
+    edge: u32,
+    labels: &mut Vec<Option<u32>>,
+    links: &mut Vec<Link>,
+) -> Result<(), AllocError>
+    requires rules { AreIndexed one.strips.now }
+    requires there { one.strip < length (runs_in one.strips.now) }
+    requires edge { edge < 4 }
+    ensures { OnOk result (links.new.items ≡ links.old.items ++ strip_links_over one.entry.strips.now.free.tile (runs_in one.entry.strips.now) one.entry.strip edge) }
+{
+    match edge {
+        1 => {
+            let last = one.strips.run(one.strip).len() - 1;
+            push_end_link(one, edge, last as u32, links)
+        }
+        3 => push_end_link(one, edge, 0, links),
+        _ => push_links_along(alloc, one, edge, labels, links),
+    }
+}
+
+/// Appends the link over an edge of a strip at one of its cells, if that is connected to another strip; no other cell is.
+fn push_end_link(
+    one: OneStrip,
+    edge: u32,
+    place: u32,
+    links: &mut Vec<Link>,
+) -> Result<(), AllocError>
+    requires rules { AreIndexed one.strips.now }
+    requires there { one.strip < length (runs_in one.strips.now) }
+    requires edge { edge < 4 }
+    requires place { place < length (run_in one.strips.now one.strip) }
+    requires alone { MeetsOthersAt (runs_in one.strips.now) one.strip (outside_of edge) place }
+    ensures { OnOk result (links.new.items ≡ links.old.items ++ strip_links_over one.entry.strips.now.free.tile (runs_in one.entry.strips.now) one.entry.strip edge) }
+{
+    let run = one.strips.run(one.strip);
+    if let Some(label) = one.strips.beyond(one.strip, 3 - edge, run[place as usize]) {
+        let end = Run {
+            first: place,
+            last: place,
+            label,
+        };
+        links.push(link(one.strips, one.strip, edge, end))?;
+    }
+    Ok(())
+}
+
+/// Appends the links over an edge of a strip, along all of it.
+fn push_links_along(
     alloc: Global,
     one: OneStrip,
     edge: u32,
@@ -107,7 +157,7 @@ fn link(strips: &TileStrips, strip: u32, edge: u32, part: Run) -> Link
     ensures { result ≡ strip_link strips.now.free.tile (run_in strips.now strip) strip edge part }
 {
     let tile = strips.free.tile;
-    let at = strips.first(strip).at;
+    let at = strips.first(strip).at();
     Link {
         from: PolyRef { tile, index: strip },
         edge,

@@ -4,7 +4,7 @@ ghost use Rattle.std.specs.Prelude.{◌≡◌, ◌<◌, ◌==◌, if◌then◌el
 ghost use Rattle.cell_table.specs.Table.{neighbour};
 
 use mono_regions::{StripIndex, StripTable};
-use nav_ground::{Cell, FreeLayer};
+use nav_ground::{FreeLayer, SmallCell};
 use nav_list::Items;
 
 /// What a mesh of strips is made from.
@@ -23,6 +23,7 @@ impl TileStrips {
     ghost use Rattle.mono_regions.specs.Indices.{cell_at, AreIndices};
     ghost use Rattle.mono_regions.specs.Joining.{IsTableOf};
     ghost use Rattle.strip_mesh.specs.Indexed.{AreIndexed, runs_in, run_in};
+    ghost use Rattle.strip_mesh.specs.Strips.{last_of};
 
     /// The strips of a tile from its free cells and their strips, both of which it takes over.
     pub fn from_parts(free: FreeLayer, strips: StripTable) -> TileStrips
@@ -61,7 +62,7 @@ impl TileStrips {
     }
 
     /// The first cell of a strip.
-    pub fn first(&self, strip: u32) -> &Cell
+    pub fn first(&self, strip: u32) -> &SmallCell
         requires rules { AreIndexed self.now }
         requires there { strip < length (runs_in self.now) }
         ensures value { result.now ≡ first_of (run_in self.now strip) }
@@ -70,6 +71,18 @@ impl TileStrips {
     {
         let run = self.run(strip);
         &self.free.cells.as_slice()[run[0] as usize]
+    }
+
+    /// The last cell of a strip.
+    pub fn last(&self, strip: u32) -> &SmallCell
+        requires rules { AreIndexed self.now }
+        requires there { strip < length (runs_in self.now) }
+        ensures value { result.now ≡ last_of (run_in self.now strip) }
+        ensures x { result.now.at.x < 1024 }
+        ensures z { result.now.at.z < 1024 }
+    {
+        let run = self.run(strip);
+        &self.free.cells.as_slice()[run[run.len() - 1] as usize]
     }
 
     /// The strip, other than a cell's own, that holds the cell which it names in a direction.

@@ -5,7 +5,7 @@ ghost use Rattle.nav_ground.specs.Limits.{IsShape};
 ghost use Rattle.nav_ground.specs.Cells.{IsCells, IsCut, IsLayer};
 
 use crate::rows::{CellRow, NO, Row, cells_of, check_cells};
-use nav_ground::{Cell, FreeLayer, Layer, Shape};
+use nav_ground::{FreeLayer, Layer, Shape, SmallCell};
 use nav_list::Items;
 use obstacle_mark::mark;
 use std::alloc::{AllocError, Global};
@@ -81,21 +81,21 @@ static INNER: [Row; 9] = [
     (4, 4, 0, 0, NO, NO, 0),
 ];
 
-fn inner(alloc: Global) -> Result<Vec<Cell>, AllocError>
+fn inner(alloc: Global) -> Result<Vec<SmallCell>, AllocError>
     ensures { IfOk result (λ cells. IsCut cells.items) }
 {
     let cells = cells_of(alloc, &INNER)?;
     Ok(cells)
 }
 
-fn wide(alloc: Global) -> Result<Vec<Cell>, AllocError>
+fn wide(alloc: Global) -> Result<Vec<SmallCell>, AllocError>
     ensures { IfOk result (λ cells. IsCells cells.items) }
 {
     let cells = cells_of(alloc, &WIDE)?;
     Ok(cells)
 }
 
-fn hollow(alloc: Global) -> Result<Vec<Cell>, AllocError>
+fn hollow(alloc: Global) -> Result<Vec<SmallCell>, AllocError>
     ensures { IfOk result (λ cells. IsCells cells.items) }
 {
     let cells = cells_of(alloc, &HOLLOW)?;
@@ -103,7 +103,7 @@ fn hollow(alloc: Global) -> Result<Vec<Cell>, AllocError>
 }
 
 /// A layer of the inner cells.
-fn layer(alloc: Global, radius: u32, wide: Vec<Cell>) -> Result<Layer, AllocError>
+fn layer(alloc: Global, radius: u32, wide: Vec<SmallCell>) -> Result<Layer, AllocError>
     requires { IsCells wide.items }
     ensures { IfOk result IsLayer }
 {
@@ -119,7 +119,7 @@ fn layer(alloc: Global, radius: u32, wide: Vec<Cell>) -> Result<Layer, AllocErro
 fn marked(
     alloc: Global,
     radius: u32,
-    wide: Vec<Cell>,
+    wide: Vec<SmallCell>,
     shapes: &[Shape],
 ) -> Result<FreeLayer, AllocError>
     requires wide { IsCells wide.items }

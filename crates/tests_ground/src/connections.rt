@@ -5,7 +5,7 @@ ghost use Rattle.nav_ground.specs.Fields.{IsField, AreAreas};
 ghost use Rattle.nav_ground.specs.Cells.{IsCompact};
 
 use crate::checks::same;
-use crate::rows::{CellRow, NO, check_cells, place};
+use crate::rows::{CellRow, NO, are_same, check_cells, place};
 use compact_layer::{CompactField, compact, neighbour};
 use nav_ground::{Agent, Field, Span};
 use nav_list::{Duplicate, Items};
@@ -126,7 +126,7 @@ fn field(alloc: Global) -> Result<Field, AllocError>
 }
 
 /// The number of a cell, a direction, and the place of its neighbour there.
-type Beside = (usize, u32, Option<(u32, u32, u32)>);
+type Beside = (usize, u32, Option<(u16, u16, u16)>);
 
 static NEIGHBOURS: [Beside; 8] = [
     (0, 0, None),
@@ -145,7 +145,7 @@ fn check_neighbours(rt: &impl Abort, compact: &CompactField, rows: &[Beside])
     let cells = compact.cells.as_slice();
     for (i, dir, wanted) in rows {
         assert!(rt; *i < cells.len() && *dir < 4);
-        let found = neighbour(compact, cells[*i].at, *dir);
+        let found = neighbour(compact, cells[*i].at(), *dir);
         same(rt, (*i, *dir, found), (*i, *dir, wanted.map(place)));
     }
 }
@@ -153,7 +153,7 @@ fn check_neighbours(rt: &impl Abort, compact: &CompactField, rows: &[Beside])
 /// A copy is equal.
 fn check_copy(rt: &impl Abort, alloc: Global, cells: &CompactField) -> Result<(), AllocError> {
     let copy = cells.duplicate(alloc)?;
-    assert!(rt; copy == *cells);
+    assert!(rt; are_same(copy.cells.as_slice(), cells.cells.as_slice()));
     Ok(())
 }
 

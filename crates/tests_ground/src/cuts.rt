@@ -7,11 +7,12 @@ ghost use Rattle.nav_ground.specs.Limits.{IsSetting};
 ghost use Rattle.nav_ground.specs.Tiling.{tile_count};
 
 use crate::checks::same;
+use crate::rows::are_same;
 use crate::rules::keeps_rules;
 use layer_cut::{ground, layer, tile_of};
 use nav_ground::{
-    AREAS, Agent, Cell, CellRef, Field, Ground, Layer, MeshKind, Setting, Span, TileNo, Window,
-    tile_bounds, tiles,
+    AREAS, Agent, CellRef, Field, Ground, Layer, MeshKind, Setting, SmallCell, Span, TileNo,
+    Window, tile_bounds, tiles,
 };
 use nav_list::Items;
 use std::alloc::{AllocError, Global};
@@ -156,7 +157,8 @@ fn at_ground(x: u32, z: u32) -> CellRef {
 }
 
 /// The cell is as wanted.
-fn check_cell(rt: &impl Abort, case: &Case, cell: &Cell) {
+fn check_cell(rt: &impl Abort, case: &Case, cell: &SmallCell) {
+    let cell = cell.get();
     let (x, z) = (cell.at.x, cell.at.z);
     assert!(rt; is_inside(x) && is_inside(z));
     let next = [
@@ -198,15 +200,15 @@ fn cells_in(layers: &[Layer]) -> usize {
 }
 
 /// Whether a cell lies in a tile.
-fn is_in(setting: &Setting, tile: TileNo, cell: &Cell) -> bool
+fn is_in(setting: &Setting, tile: TileNo, cell: &SmallCell) -> bool
     requires { IsSetting setting.now }
 {
-    let CellRef { x, z, level: _ } = cell.at;
+    let CellRef { x, z, level: _ } = cell.at();
     x < setting.width && z < setting.depth && tile_of(setting, x, z) == tile
 }
 
 /// The cells of a tile are as wanted, and lie in it.
-fn check_cells(rt: &impl Abort, case: &Case, setting: &Setting, tile: TileNo, cells: &[Cell])
+fn check_cells(rt: &impl Abort, case: &Case, setting: &Setting, tile: TileNo, cells: &[SmallCell])
     requires { IsSetting setting.now }
 {
     for cell in cells {
@@ -253,7 +255,7 @@ fn check_wide(rt: &impl Abort, case: &Case, layer: &Layer, places: &[CellRef]) {
     same(rt, layer.radius, margin_wanted(case));
     same(rt, layer.wide.len(), places.len());
     for (cell, place) in layer.wide.iter().zip(places.iter()) {
-        same(rt, cell.at, *place);
+        same(rt, cell.at(), *place);
         check_cell(rt, &Case { edge: 1, ..*case }, cell);
     }
 }
@@ -268,7 +270,13 @@ fn is_cut_alone(
     requires whole { IsGround whole.now }
     requires tile { tile < tile_count whole.now.setting }
 {
-    Ok(layer(alloc, &whole.field, &whole.setting, tile)? == *there)
+    let alone = layer(alloc, &whole.field, &whole.setting, tile)?;
+    Ok(
+        alone.tile == there.tile
+            && alone.radius == there.radius
+            && are_same(alone.cells.as_slice(), there.cells.as_slice())
+            && are_same(alone.wide.as_slice(), there.wide.as_slice()),
+    )
 }
 
 /// There is a layer for each tile, as wanted, and the layer of that tile alone is the same.

@@ -5,70 +5,27 @@ ghost use Rattle.nav_ground.specs.Limits.{IsShape};
 ghost use Rattle.nav_ground.specs.Cells.{IsLayer};
 
 use crate::checks::same;
-use crate::rows::{CellRow, NO, check_cells};
-use nav_ground::{Cell, CellRef, FreeLayer, Layer, Shape};
+use crate::rows::{CellRow, NO, check_cells, whole_cells_of};
+use nav_ground::{FreeLayer, Layer, Shape};
 use nav_list::Items;
 use obstacle_mark::mark;
 use std::alloc::{AllocError, Global};
 use std::process::Abort;
 
 /// The four columns from (1, 1) to (2, 2); the cell of (2, 1) is connected to one of (3, 1) too, which lies in another tile.
-const FIRST: Cell = Cell {
-    at: CellRef {
-        x: 1,
-        z: 1,
-        level: 0,
-    },
-    floor: 3,
-    ceiling: 65535,
-    area: 63,
-    next: [None, Some(0), Some(0), None],
-};
-
-const SECOND: Cell = Cell {
-    at: CellRef {
-        x: 2,
-        z: 1,
-        level: 0,
-    },
-    floor: 4,
-    ceiling: 65535,
-    area: 63,
-    next: [Some(0), Some(0), Some(7), None],
-};
-
-const THIRD: Cell = Cell {
-    at: CellRef {
-        x: 1,
-        z: 2,
-        level: 0,
-    },
-    floor: 5,
-    ceiling: 65535,
-    area: 63,
-    next: [None, None, Some(0), Some(0)],
-};
-
-const FOURTH: Cell = Cell {
-    at: CellRef {
-        x: 2,
-        z: 2,
-        level: 0,
-    },
-    floor: 6,
-    ceiling: 65535,
-    area: 63,
-    next: [Some(0), None, None, Some(0)],
-};
-
-static CELLS: [Cell; 4] = [FIRST, SECOND, THIRD, FOURTH];
+static CELLS: [CellRow; 4] = [
+    ((1, 1, 0), (3, 65535, 63), (NO, 0, 0, NO)),
+    ((2, 1, 0), (4, 65535, 63), (0, 0, 7, NO)),
+    ((1, 2, 0), (5, 65535, 63), (NO, NO, 0, 0)),
+    ((2, 2, 0), (6, 65535, 63), (0, NO, NO, 0)),
+];
 
 fn layer(alloc: Global) -> Result<Layer, AllocError>
     ensures { IfOk result IsLayer }
 {
     Ok(Layer {
         tile: 5,
-        cells: Items::from_vec(Vec::from_array(alloc, CELLS)?),
+        cells: Items::from_vec(whole_cells_of(alloc, &CELLS)?),
         radius: 0,
         wide: Items::new(alloc),
     })

@@ -1,74 +1,104 @@
 //! Cells that are written as rows.
 
-ghost use Rattle.std.specs.Prelude.{◌≡◌, IfOk, map};
-ghost use Rattle.tests_ground.specs.Rows.{cell_of, named_by};
+ghost use Rattle.std.specs.Prelude.{◌≡◌, ◌≤◌, IfOk, map};
+ghost use Rattle.nav_ground.specs.Levels.{IsSmallLevel};
+ghost use Rattle.nav_ground.specs.SmallCells.{IsSmall};
+ghost use Rattle.tests_ground.specs.Rows.{cell_of, named_by, whole_cell_of};
 
 use crate::checks::same;
-use nav_ground::{Cell, CellRef};
+use nav_ground::{Cell, CellRef, SmallCell};
 use std::alloc::{AllocError, Global};
 use std::process::Abort;
 
 /// The x, z and level of a cell, and the levels that it names toward x - 1, z + 1, x + 1 and z - 1, or `NO` where it names none.
-pub(crate) type Row = (u32, u32, u32, u32, u32, u32, u32);
+pub(crate) type Row = (u16, u16, u16, u8, u8, u8, u8);
 
 /// Stands for a level that is not named: a table of plain numbers is proved far sooner than one of options.
-pub(crate) const NO: u32 = 4294967295;
+pub(crate) const NO: u8 = 255;
 
 /// A level that is named, or none.
-fn named(level: u32) -> Option<u32>
-    ensures { result ≡ named_by level }
+fn named(level: u8) -> Option<u32>
+    ensures level { result ≡ named_by level }
+    ensures small { IsSmallLevel result }
 {
-    if level == NO { None } else { Some(level) }
-}
-
-fn cell(row: &Row) -> Cell
-    ensures { result ≡ cell_of row.now }
-{
-    let (x, z, level, left, above, right, below) = *row;
-    Cell {
-        at: CellRef { x, z, level },
-        floor: 7,
-        ceiling: 65535,
-        area: 63,
-        next: [named(left), named(above), named(right), named(below)],
+    if level == NO {
+        None
+    } else {
+        Some(level as u32)
     }
 }
 
 /// The cells of rows, in order.
-pub(crate) fn cells_of(alloc: Global, rows: &[Row]) -> Result<Vec<Cell>, AllocError>
+pub(crate) fn cells_of(alloc: Global, rows: &[Row]) -> Result<Vec<SmallCell>, AllocError>
     ensures { IfOk result (λ cells. cells.items ≡ map cell_of rows.now) }
 {
     let mut cells = Vec::new(alloc);
     for row in rows {
-        cells.push(cell(row))?;
+        let (x, z, level, left, above, right, below) = *row;
+        let whole = ((x, z, level), (7, 65535, 63), (left, above, right, below));
+        cells.push(small_cell(&whole))?;
     }
     Ok(cells)
 }
 
 /// The x, z and level of a cell, its floor, ceiling and area, and the levels that it names, or `NO` where it names none.
-pub(crate) type CellRow = ((u32, u32, u32), (u32, u32, u32), (u32, u32, u32, u32));
+pub(crate) type CellRow = ((u16, u16, u16), (u16, u16, u8), (u8, u8, u8, u8));
 
-pub(crate) fn place(at: (u32, u32, u32)) -> CellRef {
+pub(crate) fn place(at: (u16, u16, u16)) -> CellRef
+    ensures value { result ≡ record { x = at.0; z = at.1; level = at.2 } }
+    ensures x { result.x ≤ 65535 }
+    ensures z { result.z ≤ 65535 }
+    ensures level { result.level ≤ 65535 }
+{
     CellRef {
-        x: at.0,
-        z: at.1,
-        level: at.2,
+        x: at.0 as u32,
+        z: at.1 as u32,
+        level: at.2 as u32,
     }
 }
 
-fn levels(next: (u32, u32, u32, u32)) -> [Option<u32>; 4] {
-    [named(next.0), named(next.1), named(next.2), named(next.3)]
+/// The cell of a row.
+fn cell(row: &CellRow) -> Cell
+    ensures value { result ≡ whole_cell_of row.now }
+    ensures small { IsSmall result }
+{
+    let (at, (floor, ceiling, area), (left, above, right, below)) = *row;
+    Cell {
+        at: place(at),
+        floor: floor as u32,
+        ceiling: ceiling as u32,
+        area: area as u32,
+        next: [named(left), named(above), named(right), named(below)],
+    }
+}
+
+/// The cell of a row, as lists keep it.
+fn small_cell(row: &CellRow) -> SmallCell
+    ensures { result ≡ whole_cell_of row.now }
+{
+    SmallCell::new(&cell(row))
+}
+
+/// The cells of whole rows, in order.
+pub(crate) fn whole_cells_of(alloc: Global, rows: &[CellRow]) -> Result<Vec<SmallCell>, AllocError>
+    ensures { IfOk result (λ cells. cells.items ≡ map whole_cell_of rows.now) }
+{
+    let mut cells = Vec::new(alloc);
+    for row in rows {
+        cells.push(small_cell(row))?;
+    }
+    Ok(cells)
 }
 
 /// Cells are just those of rows.
-pub(crate) fn check_cells(rt: &impl Abort, cells: &[Cell], rows: &[CellRow]) {
+pub(crate) fn check_cells(rt: &impl Abort, cells: &[SmallCell], rows: &[CellRow]) {
     same(rt, cells.len(), rows.len());
-    for (cell, row) in cells.iter().zip(rows.iter()) {
-        let heights = (cell.floor, cell.ceiling, cell.area);
-        same(
-            rt,
-            (cell.at, heights, cell.next),
-            (place(row.0), row.1, levels(row.2)),
-        );
+    for (found, row) in cells.iter().zip(rows.iter()) {
+        same(rt, found.get(), cell(row));
     }
+}
+
+/// Whether two lists have the same cells.
+pub(crate) fn are_same(a: &[SmallCell], b: &[SmallCell]) -> bool {
+    a.len() == b.len() && a.iter().zip(b.iter()).all(|(a, b)| a.get() == b.get())
 }

@@ -4,6 +4,7 @@ ghost use Rattle.std.specs.Prelude.{◌≡◌, ◌<◌, All};
 ghost use Rattle.nav_ground.specs.Limits.{IsShape};
 
 use crate::rows::hold;
+use crate::stored::stored;
 use mesh_types::TileMesh;
 use nav_ground::{AREAS, Agent, Cell, CellRef, Layer, MeshKind, Setting, Shape};
 use nav_list::Items;
@@ -84,9 +85,10 @@ fn built<L: Ledger>(
 ) -> Result<TileMesh, AllocError>
     requires { All IsShape shapes.now }
 {
+    let cells = CELLS;
     let layer = Layer {
         tile: 0,
-        cells: Items::from_vec(Vec::from_array(alloc, CELLS)?),
+        cells: stored(alloc, &cells)?,
         radius: 0,
         wide: Items::new(alloc),
     };

@@ -15,6 +15,8 @@ mod meshes;
 #[cfg(test)]
 mod rows;
 #[cfg(test)]
+mod stored;
+#[cfg(test)]
 mod strip_meshes;
 #[cfg(test)]
 mod strips;

@@ -6,10 +6,10 @@ ghost use Rattle.nav_ground.specs.Limits.{IsSetting};
 
 use crate::five_cells::CELLS;
 use crate::rows::hold;
+use crate::stored::stored;
 use mesh_types::{Corners, LevelPair, Link, PolyRef, Polygon, Portal, RimEdge, TileMesh};
 use nav_base::Point;
 use nav_ground::{AREAS, Agent, FreeLayer, MeshKind, Setting};
-use nav_list::Items;
 use std::alloc::{AllocError, Global};
 use strip_mesh::strip_mesh;
 
@@ -31,9 +31,10 @@ const SETTING: Setting = Setting {
 };
 
 fn mesh(alloc: Global) -> Result<TileMesh, AllocError> {
+    let cells = CELLS;
     let free = FreeLayer {
         tile: 0,
-        cells: Items::from_vec(Vec::from_array(alloc, CELLS)?),
+        cells: stored(alloc, &cells)?,
     };
     strip_mesh(alloc, &free, &SETTING)
 }

@@ -5,19 +5,20 @@ ghost use Rattle.nav_ground.specs.Cells.{IsCut};
 
 use crate::five_cells::CELLS;
 use crate::rows::all_hold;
+use crate::stored::stored;
 use cell_table::neighbour_table;
 use mesh_types::Strip;
 use mono_regions::{StripIndex, strip_index, strips};
-use nav_ground::{Cell, FreeLayer};
-use nav_list::Items;
+use nav_ground::{FreeLayer, SmallCell};
 use std::alloc::{AllocError, Global};
 
 fn free(alloc: Global) -> Result<FreeLayer, AllocError>
     ensures { IfOk result (λ free. IsCut free.cells) }
 {
+    let cells = CELLS;
     Ok(FreeLayer {
         tile: 0,
-        cells: Items::from_vec(Vec::from_array(alloc, CELLS)?),
+        cells: stored(alloc, &cells)?,
     })
 }
 
@@ -57,14 +58,14 @@ fn wrong_strip(alloc: Global, free: &FreeLayer) -> Option<usize>
     }
 }
 
-fn index(alloc: Global, cells: &[Cell]) -> Result<StripIndex, AllocError>
+fn index(alloc: Global, cells: &[SmallCell]) -> Result<StripIndex, AllocError>
     requires { IsCut cells.now }
 {
     let table = neighbour_table(alloc, cells)?;
     strip_index(alloc, cells, table.as_slice())
 }
 
-fn has_index(alloc: Global, cells: &[Cell]) -> bool
+fn has_index(alloc: Global, cells: &[SmallCell]) -> bool
     requires { IsCut cells.now }
 {
     match index(alloc, cells) {

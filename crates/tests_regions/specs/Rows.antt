@@ -4,7 +4,7 @@ use Rattle.nav_ground.specs.declared.cell.Cell.{Cell}
 
 -- a level that is named, or none for the greatest number
 abbrev pub named_by : ℕ → Option ℕ
-named_by level = cond (nat_eq level 4294967295) None (Some level)
+named_by level = cond (nat_eq level 65535) None (Some level)
 
 -- the cell of a row: its x, its z, its level, its area, and the levels that it names
 abbrev pub cell_of : ℕ × ℕ × ℕ × ℕ × ℕ × ℕ × ℕ × ℕ → Cell

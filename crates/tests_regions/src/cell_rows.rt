@@ -4,15 +4,15 @@ ghost use Rattle.std.specs.Prelude.{◌≡◌, IfOk, map};
 ghost use Rattle.nav_ground.specs.Cells.{IsCut};
 ghost use Rattle.tests_regions.specs.Rows.{cell_of, named_by};
 
-use nav_ground::{Cell, CellRef, FreeLayer};
+use nav_ground::{Cell, CellRef, FreeLayer, SmallCell};
 use nav_list::Items;
 use std::alloc::{AllocError, Global};
 
 /// The x, z, level and area of a cell, and the levels that it names toward x - 1, z + 1, x + 1 and z - 1, or `NO` where it names none.
-pub(crate) type Row = (u32, u32, u32, u32, u32, u32, u32, u32);
+pub(crate) type Row = (u16, u16, u16, u8, u16, u16, u16, u16);
 
 /// Stands for a level that is not named: a table of plain numbers is proved far sooner than one of options.
-pub(crate) const NO: u32 = 4294967295;
+pub(crate) const NO: u16 = 65535;
 
 /// A square of 4 by 4 cells from (1, 1) on, of which the middle 2 by 2 are blocked.
 pub(crate) static RING: [Row; 12] = [
@@ -50,23 +50,31 @@ pub(crate) fn ring(alloc: Global) -> Result<FreeLayer, AllocError>
 }
 
 /// A level that is named, or none.
-fn named(level: u32) -> Option<u32>
+fn named(level: u16) -> Option<u32>
     ensures { result ≡ named_by level }
 {
-    if level == NO { None } else { Some(level) }
+    if level == NO {
+        None
+    } else {
+        Some(u32::from(level))
+    }
 }
 
-fn cell(row: &Row) -> Cell
+fn cell(row: &Row) -> SmallCell
     ensures { result ≡ cell_of row.now }
 {
     let (x, z, level, area, left, above, right, below) = *row;
-    Cell {
-        at: CellRef { x, z, level },
+    SmallCell::new(&Cell {
+        at: CellRef {
+            x: u32::from(x),
+            z: u32::from(z),
+            level: u32::from(level),
+        },
         floor: 10,
         ceiling: 65535,
-        area,
+        area: u32::from(area),
         next: [named(left), named(above), named(right), named(below)],
-    }
+    })
 }
 
 /// The cells of rows, in tile 0, each with its floor at height 10.

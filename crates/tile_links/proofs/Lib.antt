@@ -16,3 +16,4 @@ pub mod TwoWayMeshes
 pub mod AxisOrders
 pub mod OneWayCrossings
 pub mod KeptLinks
+pub mod RelinkedTiles

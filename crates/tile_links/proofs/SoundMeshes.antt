@@ -1,5 +1,5 @@
 -- Every mesh of a setting and fit tiles is sound.
-use Rattle.std.proofs.Common.{◌≡◌, ℕ, zero, suc, ◌+◌, ◌/◌, ◌%◌, ◌<◌, pos, List, [], ◌∷◌, length, get_or, Option, ap, ◌∙◌, sym, refl, subst, arith}
+use Rattle.std.proofs.Common.{◌≡◌, ℕ, zero, suc, ◌+◌, ◌/◌, ◌%◌, ◌<◌, pos, List, [], ◌∷◌, length, get_or, map, Option, ap, ◌∙◌, sym, refl, subst, arith}
 use Rattle.std.specs.Prelude.{All, Some, slice_get, option_and_then}
 use Rattle.std.specs.List.{range_with_len}
 use Rattle.std.specs.Option.{option_map_or}
@@ -12,6 +12,7 @@ use Rattle.nav_ground.specs.declared.setting.Setting.{Setting}
 use Rattle.nav_ground.specs.Limits.{IsSetting}
 use Rattle.nav_ground.specs.Cells.{opposite}
 use Rattle.nav_ground.specs.Tiling.{tile_window, tiles_in_row}
+use Rattle.mesh_types.specs.declared.links.Link.{Link}
 use Rattle.mesh_types.specs.declared.polygon.Polygon.{Polygon}
 use Rattle.mesh_types.specs.declared.label_runs.Run.{Run}
 use Rattle.mesh_types.specs.declared.tile.RimEdge.{RimEdge}
@@ -155,3 +156,11 @@ IsSound-mesh_of setting tiles limits are = record {
       (ap (cross_links setting tiles) found.1 ∙ sym (get_or-map (cross_links setting tiles) tiles t found.0 d within))
       (tile_sound setting (mesh_of setting tiles) found.0 t limits are within found.1);
 }
+
+-- the mesh of tiles and of the links that leave them
+pub mesh_made : (setting : Setting) (tiles held : List TileMesh) (cross : List (List Link)) → held ≡ tiles → cross ≡ map (cross_links setting held) held
+    → ◌≡◌ {A = Mesh} (record { setting = setting; tiles = held; cross = cross }) (mesh_of setting tiles)
+unfolding mesh_of
+mesh_made setting tiles held cross same links =
+    let all = links ∙ ap (λ (ts : List TileMesh). map (cross_links setting ts) ts) same in
+    λ i. record { setting = setting; tiles = same i; cross = all i }

@@ -4,3 +4,4 @@ pub mod Loose
 pub mod NewTiles
 pub mod NearTiles
 pub mod KeptLinks
+pub mod Relinked

@@ -11,7 +11,8 @@ ghost use Rattle.mesh_types.specs.WholeMesh.{tile_across, cross_links, mesh_of};
 ghost use Rattle.tile_links.specs.Loose.{loose_over, HasGained};
 
 use crate::rim::push_links;
-use mesh_types::{Link, Links, Mesh, Tile, TileMesh, order_links};
+use mesh_types::{Link, Links, Mesh, TileMesh, order_links};
+use nav_chunks::Chunks;
 use nav_ground::{Setting, TileNo};
 use nav_list::Items;
 use nav_share::Shared;
@@ -33,7 +34,7 @@ pub fn whole(alloc: Global, setting: &Setting, tiles: Vec<TileMesh>) -> Result<M
 pub fn joined(
     alloc: Global,
     setting: &Setting,
-    tiles: Items<Shared<Tile>>,
+    tiles: Items<Shared<TileMesh>>,
 ) -> Result<Mesh, AllocError>
     requires setting { IsSetting setting.now }
     requires tiles { AreTiles setting.now tiles }
@@ -41,11 +42,13 @@ pub fn joined(
     ensures sound { IfOk result IsSound }
     ensures back { All (λ (tile : TileMesh). AreTwoWay tile.links) tiles → IfOk result IsTwoWay }
 {
-    let cross = all_cross_links(alloc, setting, tiles.as_slice())?;
+    let tiles = Chunks::from_vec(alloc, tiles.into_vec())?;
+    let links = all_cross_links(alloc, setting, &tiles)?;
+    let cross = Chunks::from_vec(alloc, links)?;
     Ok(Mesh {
         setting: *setting,
         tiles,
-        cross: Items::from_vec(cross),
+        cross,
     })
 }
 
@@ -53,15 +56,16 @@ pub fn joined(
 fn all_cross_links(
     alloc: Global,
     setting: &Setting,
-    tiles: &[Shared<Tile>],
+    tiles: &Chunks<Shared<TileMesh>>,
 ) -> Result<Vec<Shared<Links>>, AllocError>
     requires setting { IsSetting setting.now }
     requires tiles { AreTiles setting.now tiles.now }
     ensures { IfOk result (λ cross. cross.items ≡ map (Rattle.mesh_types.specs.WholeMesh.cross_links setting.now tiles.now) tiles.now) }
 {
     let mut cross = Vec::with_capacity(alloc, tiles.len())?;
-    for tile in tiles {
-        cross.push(shared_cross_links(alloc, setting, tiles, tile.get().mesh())?)?;
+    for place in 0..tiles.len() {
+        let tile = tiles.at(place);
+        cross.push(shared_cross_links(alloc, setting, tiles, tile.get())?)?;
     }
     Ok(cross)
 }
@@ -70,7 +74,7 @@ fn all_cross_links(
 fn shared_cross_links(
     alloc: Global,
     setting: &Setting,
-    tiles: &[Shared<Tile>],
+    tiles: &Chunks<Shared<TileMesh>>,
     tile: &TileMesh,
 ) -> Result<Shared<Links>, AllocError>
     requires setting { IsSetting setting.now }
@@ -84,12 +88,12 @@ fn shared_cross_links(
 }
 
 /// Tiles as values that several meshes can share.
-fn shared(alloc: Global, tiles: Vec<TileMesh>) -> Result<Items<Shared<Tile>>, AllocError>
+fn shared(alloc: Global, tiles: Vec<TileMesh>) -> Result<Items<Shared<TileMesh>>, AllocError>
     ensures { IfOk result (λ shared. shared ≡ tiles.items) }
 {
     let mut shared = Vec::with_capacity(alloc, tiles.len())?;
     for tile in tiles {
-        shared.push(Tile::shared(alloc, tile)?)?;
+        shared.push(Shared::new(alloc, tile)?)?;
     }
     Ok(Items::from_vec(shared))
 }
@@ -98,7 +102,7 @@ fn shared(alloc: Global, tiles: Vec<TileMesh>) -> Result<Items<Shared<Tile>>, Al
 pub fn cross_links(
     alloc: Global,
     setting: &Setting,
-    tiles: &[Shared<Tile>],
+    tiles: &Chunks<Shared<TileMesh>>,
     tile: &TileMesh,
 ) -> Result<Links, AllocError>
     requires setting { IsSetting setting.now }
@@ -115,7 +119,7 @@ pub fn cross_links(
 #[derive(Clone, Copy)]
 pub struct Tiled<'a> {
     pub setting: &'a Setting,
-    pub tiles: &'a [Shared<Tile>],
+    pub tiles: &'a Chunks<Shared<TileMesh>>,
 }
 
 /// The links that leave a tile over its four sides, in the order of links, given some of them and the sides over which the others lead.
@@ -159,7 +163,7 @@ fn push_side_links(
 {
     let tiles = tiled.tiles;
     if let Some(other) = across(tiled.setting, tile.tile, side) {
-        push_links(alloc, links, tile, tiles[other as usize].get().mesh(), side)?;
+        push_links(alloc, links, tile, tiles.at(other as usize).get(), side)?;
     }
     Ok(())
 }

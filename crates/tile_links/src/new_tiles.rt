@@ -13,11 +13,13 @@ ghost use Rattle.mesh_types.specs.WholeMesh.{mesh_of};
 ghost use Rattle.tile_links.specs.NewTiles.{AreNew, AreRising, IsWhole, New, is_near_new, tiles_after};
 ghost use Rattle.tile_links.specs.NearTiles.{IsMarked, IsMarkedAcross};
 ghost use Rattle.tile_links.specs.KeptLinks.{KeepsOld};
+ghost use Rattle.tile_links.specs.Relinked.{AreInOrder, AreRelinked, ComeBeside};
 
 use crate::join::{Tiled, across, cross_links, links_with};
-use mesh_types::{Link, Links, Mesh, Tile, TileMesh};
-use nav_ground::{Setting, TileNo, tiles};
-use nav_list::Items;
+use mesh_types::{Link, Links, Mesh, TileMesh};
+use nav_chunks::Chunks;
+use nav_ground::{Setting, TileNo};
+use nav_list::Duplicate;
 use nav_share::Shared;
 use std::alloc::{AllocError, Global};
 
@@ -27,8 +29,8 @@ use std::alloc::{AllocError, Global};
 pub fn replace(
     mesh: &mut Mesh,
     alloc: Global,
-    news: Vec<(TileNo, Shared<Tile>)>,
-) -> Result<(), (Vec<(TileNo, Shared<Tile>)>, AllocError)>
+    news: Vec<(TileNo, Shared<TileMesh>)>,
+) -> Result<(), (Vec<(TileNo, Shared<TileMesh>)>, AllocError)>
     requires setting { IsSetting mesh.old.setting }
     requires mesh { IsWhole mesh.old }
     requires news { AreNew mesh.old.setting news.items }
@@ -52,7 +54,7 @@ pub fn replace(
 pub fn replaced(
     alloc: Global,
     mesh: &Mesh,
-    news: &[(TileNo, Shared<Tile>)],
+    news: &[(TileNo, Shared<TileMesh>)],
 ) -> Result<Mesh, AllocError>
     requires setting { IsSetting mesh.now.setting }
     requires mesh { IsWhole mesh.now }
@@ -62,136 +64,176 @@ pub fn replaced(
     ensures sound { IfOk result IsSound }
     ensures back { All (λ (tile : TileMesh). AreTwoWay tile.links) (tiles_after news.now mesh.now.tiles) → IfOk result IsTwoWay }
 {
-    let tiles = tiles_after(alloc, mesh.tiles.as_slice(), news)?;
-    let cross = cross_after(
-        alloc,
-        &mesh.setting,
-        mesh.cross.as_slice(),
-        tiles.as_slice(),
-        news,
-    )?;
+    let tiles = tiles_after(alloc, &mesh.tiles, news)?;
+    let tiled = Tiled {
+        setting: &mesh.setting,
+        tiles: &tiles,
+    };
+    let cross = cross_after(alloc, tiled, &mesh.cross, news)?;
     Ok(Mesh {
         setting: mesh.setting,
-        tiles: Items::from_vec(tiles),
-        cross: Items::from_vec(cross),
+        tiles,
+        cross,
     })
 }
 
 /// Tiles with the new ones in place.
 fn tiles_after(
     alloc: Global,
-    tiles: &[Shared<Tile>],
-    news: &[(TileNo, Shared<Tile>)],
-) -> Result<Vec<Shared<Tile>>, AllocError>
-    requires { AreRising news.now }
-    ensures { IfOk result (λ after. after.items ≡ Rattle.tile_links.specs.NewTiles.tiles_after news.now tiles.now) }
+    tiles: &Chunks<Shared<TileMesh>>,
+    news: &[(TileNo, Shared<TileMesh>)],
+) -> Result<Chunks<Shared<TileMesh>>, AllocError>
+    requires rising { AreRising news.now }
+    requires order { AreInOrder tiles.now }
+    ensures { IfOk result (λ after. after ≡ Rattle.tile_links.specs.NewTiles.tiles_after news.now tiles.now) }
 {
-    let mut after = Vec::with_capacity(alloc, tiles.len())?;
-    for tile in tiles {
-        push_tile_after(&mut after, tile, news)?;
+    let mut after = tiles.duplicate(alloc)?;
+    for new in news {
+        after.set(alloc, new.0 as usize, new.1.share()?)?;
     }
     Ok(after)
-}
-
-/// Appends what stands in the place of a tile once the new ones have come.
-fn push_tile_after(
-    after: &mut Vec<Shared<Tile>>,
-    tile: &Shared<Tile>,
-    news: &[(TileNo, Shared<Tile>)],
-) -> Result<(), AllocError>
-    requires { AreRising news.now }
-    ensures { OnOk result (after.new.items ≡ after.old.items ++ Rattle.tile_links.specs.NewTiles.tile_after news.now tile.now ∷ []) }
-{
-    after.push(tile_after(tile, news).share()?)?;
-    Ok(())
-}
-
-/// What stands in the place of a tile once the new ones have come.
-fn tile_after<'a>(tile: &'a Shared<Tile>, news: &'a [(TileNo, Shared<Tile>)]) -> &'a Shared<Tile>
-    requires { AreRising news.now }
-    ensures { result.now ≡ Rattle.tile_links.specs.NewTiles.tile_after news.now tile.now }
-{
-    match new_tile(news, tile.get().mesh().tile) {
-        Some(new) => new,
-        None => tile,
-    }
 }
 
 /// The links that leave each tile, given those that left the tiles before the new ones came.
 fn cross_after(
     alloc: Global,
-    setting: &Setting,
-    cross: &[Shared<Links>],
-    tiles: &[Shared<Tile>],
-    news: &[(TileNo, Shared<Tile>)],
-) -> Result<Vec<Shared<Links>>, AllocError>
-    requires setting { IsSetting setting.now }
-    requires tiles { AreTiles setting.now tiles.now }
-    requires news { All (λ (new : New). new.0 < tile_count setting.now) news.now }
+    tiled: Tiled,
+    cross: &Chunks<Shared<Links>>,
+    news: &[(TileNo, Shared<TileMesh>)],
+) -> Result<Chunks<Shared<Links>>, AllocError>
+    requires setting { IsSetting tiled.setting.now }
+    requires tiles { AreTiles tiled.setting.now tiled.tiles.now }
+    requires news { All (λ (new : New). new.0 < tile_count tiled.setting.now) news.now }
     requires rising { AreRising news.now }
-    requires beside { length cross.now ≡ length tiles.now }
-    requires kept { (t : ℕ) (d : List Link) (e : TileMesh) → t < length tiles.now → is_near_new setting.now news.now t ≡ false
-        → get_or cross.now t d ≡ Rattle.mesh_types.specs.WholeMesh.cross_links setting.now tiles.now (get_or tiles.now t e) }
-    requires old { (t : ℕ) (d : List Link) (e : TileMesh) → t < length tiles.now
-        → Rattle.tile_links.specs.NewTiles.is_new news.now t ≡ false
-        → KeepsOld setting.now news.now tiles.now (get_or tiles.now t e) (get_or cross.now t d) }
-    ensures { IfOk result (λ after. after.items ≡ map (Rattle.mesh_types.specs.WholeMesh.cross_links setting.now tiles.now) tiles.now) }
+    requires beside { length cross.now ≡ length tiled.tiles.now }
+    requires kept { (t : ℕ) (d : List Link) (e : TileMesh) → t < length tiled.tiles.now → is_near_new tiled.setting.now news.now t ≡ false
+        → get_or cross.now t d ≡ Rattle.mesh_types.specs.WholeMesh.cross_links tiled.setting.now tiled.tiles.now (get_or tiled.tiles.now t e) }
+    requires old { ComeBeside tiled.setting.now news.now tiled.tiles.now cross.now }
+    ensures { IfOk result (λ after. after
+        ≡ map (Rattle.mesh_types.specs.WholeMesh.cross_links tiled.entry.setting.now tiled.entry.tiles.now) tiled.entry.tiles.now) }
 {
-    let near = near_new(alloc, setting, news)?;
-    let changes = Changes {
-        news,
-        near: near.as_slice(),
+    let changes = Changes { news, cross };
+    let mut made = Relinked {
+        cross: cross.duplicate(alloc)?,
+        done: vec![in alloc; false; tiled.tiles.len()]?,
     };
-    let tiled = Tiled { setting, tiles };
-    let mut after = Vec::with_capacity(alloc, tiles.len())?;
-    for place in 0..tiles.len() {
-        after.push(links_after(alloc, tiled, cross, changes, place)?)?;
+    for new in news {
+        relink_near(alloc, tiled, changes, &mut made, new.0)?;
     }
-    Ok(after)
+    Ok(made.cross)
 }
 
-/// New tile meshes, and for each tile whether one of them is its own or lies across a side of it.
+/// New tile meshes, and the links that left the tiles before they came.
 #[derive(Clone, Copy)]
 struct Changes<'a> {
-    news: &'a [(TileNo, Shared<Tile>)],
-    near: &'a [bool],
+    news: &'a [(TileNo, Shared<TileMesh>)],
+    cross: &'a Chunks<Shared<Links>>,
 }
 
-/// The links that leave the tile at a place, given those that left the tiles before the new ones came.
-fn links_after(
+/// The links that leave each tile, and whether they were made again.
+#[derive(Drop)]
+struct Relinked {
+    cross: Chunks<Shared<Links>>,
+    done: Vec<bool>,
+}
+
+/// Makes the links again that leave a tile and those across its sides.
+fn relink_near(
     alloc: Global,
     tiled: Tiled,
-    cross: &[Shared<Links>],
     changes: Changes,
-    place: usize,
-) -> Result<Shared<Links>, AllocError>
+    made: &mut Relinked,
+    tile: TileNo,
+) -> Result<(), AllocError>
     requires setting { IsSetting tiled.setting.now }
     requires tiles { AreTiles tiled.setting.now tiled.tiles.now }
     requires rising { AreRising changes.news.now }
-    requires beside { length cross.now ≡ length tiled.tiles.now }
-    requires near { length changes.near.now ≡ length tiled.tiles.now }
-    requires there { place < length tiled.tiles.now }
-    requires kept { (d : List Link) (e : TileMesh) → slice_index_or changes.near.now place false ≡ false
-        → get_or cross.now place d ≡ Rattle.mesh_types.specs.WholeMesh.cross_links tiled.setting.now tiled.tiles.now (get_or tiled.tiles.now place e) }
-    requires old { (d : List Link) (e : TileMesh) → Rattle.tile_links.specs.NewTiles.is_new changes.news.now place ≡ false
-        → KeepsOld tiled.setting.now changes.news.now tiled.tiles.now (get_or tiled.tiles.now place e) (get_or cross.now place d) }
-    ensures { (e : TileMesh) → IfOk result (λ links. links
-        ≡ Rattle.mesh_types.specs.WholeMesh.cross_links tiled.entry.setting.now tiled.entry.tiles.now (get_or tiled.entry.tiles.now place e)) }
+    requires beside { length changes.cross.now ≡ length tiled.tiles.now }
+    requires old { ComeBeside tiled.setting.now changes.news.now tiled.tiles.now changes.cross.now }
+    requires made { AreRelinked tiled.setting.now tiled.tiles.now changes.cross.now made.old.done.items made.old.cross }
+    requires there { tile < tile_count tiled.setting.now }
+    ensures made { OnOk result (AreRelinked tiled.entry.setting.now tiled.entry.tiles.now changes.entry.cross.now made.new.done.items made.new.cross) }
+    ensures kept { OnOk result ((other : ℕ) → slice_index_or made.old.done.items other false ≡ true
+        → slice_index_or made.new.done.items other false ≡ true) }
+    ensures marked { OnOk result (IsMarked tiled.entry.setting.now made.new.done.items tile) }
 {
-    if changes.near[place] {
-        let tiles = tiled.tiles;
-        let tile = tiles[place].get().mesh();
-        Ok(shared_near_links(alloc, tiled, changes.news, cross[place].get(), tile)?)
-    } else {
-        Ok(cross[place].share()?)
+    relink(alloc, tiled, changes, made, tile)?;
+    for side in 0..4 {
+        relink_across(alloc, tiled, changes, made, (tile, side))?;
     }
+    Ok(())
+}
+
+/// Makes the links again that leave the tile across a side of a tile, if there is one.
+fn relink_across(
+    alloc: Global,
+    tiled: Tiled,
+    changes: Changes,
+    made: &mut Relinked,
+    over: (TileNo, u32),
+) -> Result<(), AllocError>
+    requires setting { IsSetting tiled.setting.now }
+    requires tiles { AreTiles tiled.setting.now tiled.tiles.now }
+    requires rising { AreRising changes.news.now }
+    requires beside { length changes.cross.now ≡ length tiled.tiles.now }
+    requires old { ComeBeside tiled.setting.now changes.news.now tiled.tiles.now changes.cross.now }
+    requires made { AreRelinked tiled.setting.now tiled.tiles.now changes.cross.now made.old.done.items made.old.cross }
+    requires there { over.0 < tile_count tiled.setting.now }
+    requires side { over.1 < 4 }
+    ensures made { OnOk result (AreRelinked tiled.entry.setting.now tiled.entry.tiles.now changes.entry.cross.now made.new.done.items made.new.cross) }
+    ensures kept { OnOk result ((other : ℕ) → slice_index_or made.old.done.items other false ≡ true
+        → slice_index_or made.new.done.items other false ≡ true) }
+    ensures marked { OnOk result (IsMarkedAcross tiled.entry.setting.now made.new.done.items over.0 over.1) }
+{
+    match across(tiled.setting, over.0, over.1) {
+        Some(other) => relink(alloc, tiled, changes, made, other),
+        None => Ok(()),
+    }
+}
+
+/// Makes the links again that leave a tile, unless they were.
+fn relink(
+    alloc: Global,
+    tiled: Tiled,
+    changes: Changes,
+    made: &mut Relinked,
+    tile: TileNo,
+) -> Result<(), AllocError>
+    requires setting { IsSetting tiled.setting.now }
+    requires tiles { AreTiles tiled.setting.now tiled.tiles.now }
+    requires rising { AreRising changes.news.now }
+    requires beside { length changes.cross.now ≡ length tiled.tiles.now }
+    requires old { ComeBeside tiled.setting.now changes.news.now tiled.tiles.now changes.cross.now }
+    requires made { AreRelinked tiled.setting.now tiled.tiles.now changes.cross.now made.old.done.items made.old.cross }
+    requires there { tile < tile_count tiled.setting.now }
+    ensures made { OnOk result (AreRelinked tiled.entry.setting.now tiled.entry.tiles.now changes.entry.cross.now made.new.done.items made.new.cross) }
+    ensures kept { OnOk result ((other : ℕ) → slice_index_or made.old.done.items other false ≡ true
+        → slice_index_or made.new.done.items other false ≡ true) }
+    ensures marked { OnOk result (slice_index_or made.new.done.items tile false ≡ true) }
+{
+    let place = tile as usize;
+    if made.done[place] {
+        return Ok(());
+    }
+    let tiles = tiled.tiles;
+    let cross = changes.cross;
+    let links = shared_near_links(
+        alloc,
+        tiled,
+        changes.news,
+        cross.at(place).get(),
+        tiles.at(place).get(),
+    )?;
+    made.cross.set(alloc, place, links)?;
+    made.done[place] = true;
+    Ok(())
 }
 
 /// What `near_links` gives, as a value that several meshes can share.
 fn shared_near_links(
     alloc: Global,
     tiled: Tiled,
-    news: &[(TileNo, Shared<Tile>)],
+    news: &[(TileNo, Shared<TileMesh>)],
     old: &Links,
     tile: &TileMesh,
 ) -> Result<Shared<Links>, AllocError>
@@ -213,7 +255,7 @@ fn shared_near_links(
 fn near_links(
     alloc: Global,
     tiled: Tiled,
-    news: &[(TileNo, Shared<Tile>)],
+    news: &[(TileNo, Shared<TileMesh>)],
     old: &Links,
     tile: &TileMesh,
 ) -> Result<Links, AllocError>
@@ -238,7 +280,7 @@ fn near_links(
 fn kept_links(
     alloc: Global,
     links: &[Link],
-    news: &[(TileNo, Shared<Tile>)],
+    news: &[(TileNo, Shared<TileMesh>)],
 ) -> Result<Vec<Link>, AllocError>
     requires { AreRising news.now }
     ensures { IfOk result (λ kept. kept.items ≡ filter (Rattle.tile_links.specs.KeptLinks.leads_to_old news.now) links.now) }
@@ -254,7 +296,7 @@ fn kept_links(
 fn push_kept(
     kept: &mut Vec<Link>,
     link: &Link,
-    news: &[(TileNo, Shared<Tile>)],
+    news: &[(TileNo, Shared<TileMesh>)],
 ) -> Result<(), AllocError>
     requires { AreRising news.now }
     ensures { OnOk result (kept.new.items ≡ kept.old.items
@@ -267,7 +309,7 @@ fn push_kept(
 }
 
 /// Whether a link leads to a tile that is not replaced.
-fn leads_to_old(news: &[(TileNo, Shared<Tile>)], link: &Link) -> bool
+fn leads_to_old(news: &[(TileNo, Shared<TileMesh>)], link: &Link) -> bool
     requires { AreRising news.now }
     ensures { result ≡ Rattle.tile_links.specs.KeptLinks.leads_to_old news.now link.now }
 {
@@ -278,7 +320,7 @@ fn leads_to_old(news: &[(TileNo, Shared<Tile>)], link: &Link) -> bool
 fn new_sides(
     alloc: Global,
     setting: &Setting,
-    news: &[(TileNo, Shared<Tile>)],
+    news: &[(TileNo, Shared<TileMesh>)],
     tile: TileNo,
 ) -> Result<Vec<u32>, AllocError>
     requires setting { IsSetting setting.now }
@@ -298,7 +340,7 @@ fn new_sides(
 /// Whether the tile across a side of a tile is replaced.
 fn is_new_across(
     setting: &Setting,
-    news: &[(TileNo, Shared<Tile>)],
+    news: &[(TileNo, Shared<TileMesh>)],
     tile: TileNo,
     side: u32,
 ) -> bool
@@ -314,75 +356,15 @@ fn is_new_across(
 }
 
 /// Whether the tile with a number is replaced.
-fn is_new(news: &[(TileNo, Shared<Tile>)], number: TileNo) -> bool
+fn is_new(news: &[(TileNo, Shared<TileMesh>)], number: TileNo) -> bool
     requires { AreRising news.now }
     ensures { result ≡ Rattle.tile_links.specs.NewTiles.is_new news.now number }
 {
     new_tile(news, number).is_some()
 }
 
-/// For each tile whether it is replaced, or one across a side of it is.
-fn near_new(
-    alloc: Global,
-    setting: &Setting,
-    news: &[(TileNo, Shared<Tile>)],
-) -> Result<Vec<bool>, AllocError>
-    requires setting { IsSetting setting.now }
-    requires news { All (λ (new : New). new.0 < tile_count setting.now) news.now }
-    ensures places { IfOk result (λ near. length near.items ≡ tile_count setting.now) }
-    ensures others { IfOk result (λ near. (tile : ℕ) → tile < tile_count setting.now → slice_index_or near.items tile false ≡ false
-        → is_near_new setting.now news.now tile ≡ false) }
-{
-    let mut near = vec![in alloc; false; tiles(setting) as usize]?;
-    mark_all(near.as_mut_slice(), setting, news);
-    Ok(near)
-}
-
-/// Marks the tiles that are replaced, and those across their sides.
-fn mark_all(near: &mut [bool], setting: &Setting, news: &[(TileNo, Shared<Tile>)])
-    requires setting { IsSetting setting.now }
-    requires news { All (λ (new : New). new.0 < tile_count setting.now) news.now }
-    requires places { length near.old ≡ tile_count setting.now }
-    ensures places_after { length near.new ≡ length near.old }
-    ensures marked { All (λ (new : New). IsMarked setting.now near.new new.0) news.now }
-{
-    for new in news {
-        mark_near(near, setting, new.0);
-    }
-}
-
-/// Marks a tile and those across its sides.
-fn mark_near(near: &mut [bool], setting: &Setting, tile: TileNo)
-    requires setting { IsSetting setting.now }
-    requires there { tile < tile_count setting.now }
-    requires places { length near.old ≡ tile_count setting.now }
-    ensures places_after { length near.new ≡ length near.old }
-    ensures kept { (other : ℕ) → slice_index_or near.old other false ≡ true → slice_index_or near.new other false ≡ true }
-    ensures marked { IsMarked setting.now near.new tile }
-{
-    near[tile as usize] = true;
-    for side in 0..4 {
-        mark_across(near, setting, tile, side);
-    }
-}
-
-/// Marks the tile across a side of a tile, if there is one.
-fn mark_across(near: &mut [bool], setting: &Setting, tile: TileNo, side: u32)
-    requires setting { IsSetting setting.now }
-    requires there { tile < tile_count setting.now }
-    requires side { side < 4 }
-    requires places { length near.old ≡ tile_count setting.now }
-    ensures places_after { length near.new ≡ length near.old }
-    ensures kept { (other : ℕ) → slice_index_or near.old other false ≡ true → slice_index_or near.new other false ≡ true }
-    ensures marked { IsMarkedAcross setting.now near.new tile side }
-{
-    if let Some(other) = across(setting, tile, side) {
-        near[other as usize] = true;
-    }
-}
-
 /// The new tile mesh with a number, if there is one.
-fn new_tile(news: &[(TileNo, Shared<Tile>)], number: TileNo) -> Option<&Shared<Tile>>
+fn new_tile(news: &[(TileNo, Shared<TileMesh>)], number: TileNo) -> Option<&Shared<TileMesh>>
     requires { AreRising news.now }
     ensures { option_copied result ≡ Rattle.tile_links.specs.NewTiles.new_tile news.now number }
 {

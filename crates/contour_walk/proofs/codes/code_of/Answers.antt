@@ -1,5 +1,4 @@
-use Rattle.mesh_types.specs.StripMeshes.{some_cell}
 use Rattle.contour_walk.proofs.codes.code_of.Goals as goal
 
 pub is_crossing-requires-clause-cell : goal.is_crossing-requires-clause-cell
-is_crossing-requires-clause-cell c = c.requires.rim.cells.each c.args.index some_cell c.requires.index
+is_crossing-requires-clause-cell c = c.requires.rim.cells.each c.args.index c.index-rim-index.result c.requires.index

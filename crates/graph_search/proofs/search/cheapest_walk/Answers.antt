@@ -40,8 +40,8 @@ loop-ends-preserved-then-visit-ne0 g c =
     let is_closed : IsClosed (visit_at c.loop-ends.search.visits c.in-Some.first.vertex) = omega (arith, rank, c.if-visit-ne0.true) in
     between-dropped _ _ _ _ c.requires.searchable c.args.from c.args.to _ _ _ c.loop-ends.invariant c.in-Some.first.key c.in-Some.first.vertex _ (taken_of _ _ _ _ c.in-Some.is c.in_ok-first.ensures.taken) is_closed
 
-pub close-requires-clause-room : goal.close-requires-clause-room
-close-requires-clause-room g c =
+pub close-requires : goal.close-requires
+close-requires g c =
     let fewer = closed-fewer _ _ _ _ c.requires.searchable c.args.from c.args.to _ _ _ c.loop-ends.invariant c.in-Some.first.key c.in-Some.first.vertex _ (taken_of _ _ _ _ c.in-Some.is c.in_ok-first.ensures.taken)
     (least_of _ _ _ c.in-Some.is c.in_ok-first.ensures.least) (sym (ap (λ (u : Visit). u.rank) c.get-visit.ensures) ∙ c.if-visit-ne0.false) in
     omega (arith, fewer, c.requires.searchable.few)

@@ -10,5 +10,5 @@ use Rattle.graph_search.proofs.waiting.take_list.Goals as goal
 pub returns : goal.returns
 returns c =
     subst (λ (list : Vec Entry Global). IsEmptied c.args.lists.now.items c.args.slot list.items (slice_set c.args.lists.now.items c.args.slot c.replace.new.dest)) (sym c.replace.ensures.value)
-    (emptied-write c.args.lists.now.items c.args.slot c.index_mut.result.now c.replace.new.dest (within _ _ c.requires) c.index_mut.ensures.value
-    (ap (λ (list : Vec Entry Global). list.items) c.replace.ensures.after ∙ c.new.ensures.items))
+    (emptied-write c.args.lists.now.items c.args.slot c.index_mut.result.now c.replace.new.dest (within _ _ c.requires.some) c.index_mut.ensures.value
+    (ap (λ (list : Vec Entry Global). list.items) c.replace.ensures.after ∙ c.requires.empty))

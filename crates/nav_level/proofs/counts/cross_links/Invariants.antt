@@ -4,5 +4,5 @@ use Rattle.mesh_types.specs.declared.links.Link.{Link}
 use Rattle.nav_level.proofs.counts.cross_links.Given as goal
 
 -- those of the lists so far
-abbrev pub invariant-loop-links : goal.invariant-loop-links
-invariant-loop-links l = l.count ≡ sum_by (λ (links : List Link). length links) (take l.links-index l.lists)
+abbrev pub invariant-loop-place : goal.invariant-loop-place
+invariant-loop-place l = l.count ≡ sum_by (λ (links : List Link). length links) (take l.place l.lists)

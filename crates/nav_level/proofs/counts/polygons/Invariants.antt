@@ -4,5 +4,5 @@ use Rattle.mesh_types.specs.declared.tile.TileMesh.{TileMesh}
 use Rattle.nav_level.proofs.counts.polygons.Given as goal
 
 -- those of the tiles so far
-abbrev pub invariant-loop-tile : goal.invariant-loop-tile
-invariant-loop-tile l = l.count ≡ sum_by (λ (tile : TileMesh). length tile.polys) (take l.tile-index l.tiles)
+abbrev pub invariant-loop-place : goal.invariant-loop-place
+invariant-loop-place l = l.count ≡ sum_by (λ (tile : TileMesh). length tile.polys) (take l.place l.tiles)

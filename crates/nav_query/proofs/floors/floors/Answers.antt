@@ -1,4 +1,4 @@
-use Rattle.std.proofs.Common.{List, ap, ◌∙◌, get_or}
+use Rattle.std.proofs.Common.{ap, ◌∙◌}
 use Rattle.mesh_types.specs.declared.tile.TileMesh.{TileMesh}
 use Rattle.nav_query.proofs.MeshFloors.{floors_found, no_floors_found}
 use Rattle.nav_query.proofs.floors.floors.Goals as goal
@@ -10,11 +10,11 @@ returns c =
     elim c.if-is_inside.branch [
       | then-is_inside+in_ok-push_floors w ↦
           ap (λ v. v.items) w.floors-is
-          ∙ floors_found mesh c.args.x c.args.z w.tile_of.result w.index-tiles-tile_of.result w.as_slice.result.now c.new-floors.result.items
+          ∙ floors_found mesh c.args.x c.args.z w.tile_of.result w.at.result.now w.as_slice.result.now c.new-floors.result.items
           w.push_floors.new.floors.items c.requires.sound c.requires.setting (c.is_inside.ensures.0 w.if-is_inside.true) w.tile_of.ensures.value
           w.tile_of.ensures.there
-          (w.index-tiles-tile_of.is ∙ ap (λ (tiles : List TileMesh). get_or tiles w.tile_of.result w.index-tiles-tile_of.result) w.as_slice-tiles.ensures)
-          (w.as_slice.ensures ∙ ap (λ (tile : TileMesh). tile.free.cells) (w.mesh-tile.ensures ∙ w.get.ensures)) c.new-floors.ensures.items w.in_ok-push_floors.ensures
+          w.at.ensures
+          (w.as_slice.ensures ∙ ap (λ (tile : TileMesh). tile.free.cells) w.get-tile.ensures) c.new-floors.ensures.items w.in_ok-push_floors.ensures
       | else-is_inside w ↦
           ap (λ v. v.items) w.floors-is
           ∙ no_floors_found mesh c.args.x c.args.z c.is_inside.result c.new-floors.result.items c.requires.sound c.requires.setting c.is_inside.ensures.1

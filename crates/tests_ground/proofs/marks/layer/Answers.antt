@@ -5,6 +5,6 @@ use Rattle.tests_ground.proofs.marks.layer.Goals as goal
 
 pub returns : goal.returns
 returns c = record {
-  cells = subst IsCut (sym (c.from_vec.ensures ∙ c.in_ok-from_array.ensures.items)) (IsCut-shown _ refl);
+  cells = subst IsCut (sym (c.from_vec.ensures ∙ c.in_ok-whole_cells_of.ensures)) (IsCut-shown _ refl);
   wide = subst IsCells (sym c.new.ensures) (IsCells-shown _ refl);
 }

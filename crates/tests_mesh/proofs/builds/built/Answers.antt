@@ -1,14 +1,17 @@
-use Rattle.std.proofs.Common.{◌∙◌, sym, subst, refl, arith}
+use Rattle.std.proofs.Common.{sym, subst, refl, arith}
 use Rattle.nav_ground.specs.Cells.{IsCut, IsCells}
 use Rattle.nav_ground.proofs.Literals.{IsCut-shown, IsCells-shown}
-use Rattle.tests_mesh.proofs.Literals.{IsInTile-shown}
+use Rattle.tests_mesh.proofs.Literals.{IsInTile-shown, AreSmall-shown}
 use Rattle.tests_mesh.proofs.builds.built.Goals as goal
+
+pub stored-requires : goal.stored-requires
+stored-requires g c = AreSmall-shown _ refl
 
 pub build_tile-requires-clause-layer : goal.build_tile-requires-clause-layer
 build_tile-requires-clause-layer g c = record {
   rules = record {
-    cells = subst IsCut (sym (c.from_vec.ensures ∙ c.in_ok-from_array.ensures.items)) (IsCut-shown _ refl);
+    cells = subst IsCut (sym c.in_ok-stored.ensures) (IsCut-shown _ refl);
     wide = subst IsCells (sym c.new.ensures) (IsCells-shown _ refl);
   };
-  inside = rw (c.from_vec.ensures, c.in_ok-from_array.ensures.items) (IsInTile-shown _ _ _ (omega arith) refl);
+  inside = rw c.in_ok-stored.ensures (IsInTile-shown _ _ _ (omega arith) refl);
 }

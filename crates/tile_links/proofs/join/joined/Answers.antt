@@ -1,25 +1,21 @@
-use Rattle.std.proofs.Common.{◌≡◌, ◌∙◌, ap, sym, subst, List, map}
-use Rattle.mesh_types.specs.declared.links.Link.{Link}
+use Rattle.std.proofs.Common.{◌≡◌, ◌∙◌, sym, subst}
 use Rattle.mesh_types.specs.declared.mesh.Mesh.{Mesh}
-use Rattle.mesh_types.specs.declared.tile.TileMesh.{TileMesh}
-use Rattle.mesh_types.specs.WholeMesh.{cross_links, mesh_of}
+use Rattle.mesh_types.specs.WholeMesh.{mesh_of}
 use Rattle.mesh_types.specs.Passages.{IsTwoWay}
 use Rattle.mesh_types.specs.Soundness.{AreTiles, IsSound}
-use Rattle.tile_links.proofs.SoundMeshes.{IsSound-mesh_of}
+use Rattle.tile_links.proofs.SoundMeshes.{IsSound-mesh_of, mesh_made}
 use Rattle.tile_links.proofs.TwoWayMeshes.{two_way}
 use Rattle.tile_links.proofs.join.joined.Goals as goal
 
 pub all_cross_links-requires-clause-tiles : goal.all_cross_links-requires-clause-tiles
-all_cross_links-requires-clause-tiles c = subst (AreTiles c.args.setting.now) (sym c.as_slice.ensures) c.requires.tiles
+all_cross_links-requires-clause-tiles c = subst (AreTiles c.args.setting.now) (sym (c.in_ok-tiles.ensures ∙ c.into_vec.ensures)) c.requires.tiles
 
 -- the mesh that is handed out
-made : (c : goal.After-from_vec) → ◌≡◌ {A = Mesh} (record { setting = c.args.setting.now; tiles = c.args.tiles; cross = c.from_vec.result })
+made : (c : goal.After-result-1) → ◌≡◌ {A = Mesh} (record { setting = c.args.setting.now; tiles = c.in_ok-tiles.tiles; cross = c.in_ok-cross.cross })
     (mesh_of c.args.setting.now c.args.tiles)
-unfolding mesh_of
 made c =
-    ap (λ (cross : List (List Link)). record { setting = c.args.setting.now; tiles = c.args.tiles; cross = cross })
-    (c.from_vec.ensures ∙ c.in_ok-cross.ensures
-    ∙ ap (λ (tiles : List TileMesh). map (cross_links c.args.setting.now tiles) tiles) c.as_slice.ensures)
+    mesh_made c.args.setting.now c.args.tiles c.in_ok-tiles.tiles c.in_ok-cross.cross (c.in_ok-tiles.ensures ∙ c.into_vec.ensures)
+    (c.in_ok-cross.ensures ∙ c.in_ok-links.ensures)
 
 pub returns-clause-mesh : goal.returns-clause-mesh
 returns-clause-mesh c = made c

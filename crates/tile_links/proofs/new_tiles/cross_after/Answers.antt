@@ -1,20 +1,33 @@
-use Rattle.std.proofs.Common.{[], ◌∷◌, ◌++◌, map, ap, ◌∙◌, sym}
-use Rattle.std.proofs.lemmas.List.{map_more, take_all}
-use Rattle.mesh_types.specs.declared.tile.TileMesh.{TileMesh}
-use Rattle.mesh_types.specs.WholeMesh.{cross_links}
+use Rattle.std.proofs.Common.{◌++◌, ◌∷◌, [], take, ap, subst, sym, ◌∙◌}
+use Rattle.std.specs.Prelude.{All}
+use Rattle.std.proofs.lemmas.List.{take_all, take_more}
+use Rattle.std.proofs.lemmas.List.Elements.{All-push, All-weaker}
+use Rattle.tile_links.specs.NearTiles.{IsMarked}
+use Rattle.tile_links.specs.NewTiles.{New}
+use Rattle.tile_links.proofs.NearTiles.{IsMarked-kept}
+use Rattle.tile_links.proofs.RelinkedTiles.{relinked_none, relinked_all}
 use Rattle.tile_links.proofs.new_tiles.cross_after.Goals as goal
 
-abbrev no_tile : TileMesh
-no_tile = record { tile = 0; free = record { tile = 0; cells = [] }; polys = []; links = []; rim = [] }
-
-pub loop-place-preserved : goal.loop-place-preserved
-loop-place-preserved c =
-    let f = cross_links c.args.setting.now c.args.tiles.now in
-    let made = c.in_ok-links_after.ensures no_tile in
-    c.in_ok-push.ensures.items ∙ (λ i. c.loop-place.invariant i ++ made i ∷ [])
-    ∙ sym (map_more f c.args.tiles.now c.loop-place.place no_tile c.loop-place-test.true)
+pub loop-new-preserved : goal.loop-new-preserved
+loop-new-preserved c =
+    let setting = c.args.tiled.setting.now in
+    let news = c.args.news.now in
+    let i = c.loop-new.new-index in
+    let after = c.relink_near.new.made.done.items in
+    record {
+      made = c.in_ok-relink_near.ensures.made;
+      marked = subst (All (λ (new : New). IsMarked setting after new.0))
+          (sym (take_more news i c.new-item.result c.loop-new-test.true ∙ ap (λ (new : New). take i news ++ new ∷ []) (sym c.new-item.is)))
+          (All-push (λ (new : New). IsMarked setting after new.0) (take i news) c.new-item.result
+          (All-weaker (λ (new : New). IsMarked setting c.loop-new.made.done.items new.0) (λ (new : New). IsMarked setting after new.0)
+          (λ new. IsMarked-kept setting c.loop-new.made.done.items after new.0 c.in_ok-relink_near.ensures.kept) (take i news) c.loop-new.invariant.marked)
+          c.in_ok-relink_near.ensures.marked);
+    }
 
 pub returns : goal.returns
 returns c =
-    c.loop-place.invariant
-    ∙ ap (map (cross_links c.args.setting.now c.args.tiles.now)) (take_all c.loop-place.place c.args.tiles.now c.loop-place-test.false)
+    relinked_all c.args.tiled.setting.now c.args.news.now c.args.tiled.tiles.now c.args.cross.now c.loop-new.made.cross c.loop-new.made.done.items c.requires.tiles
+    c.loop-new.invariant.made
+    (subst (All (λ (new : New). IsMarked c.args.tiled.setting.now c.loop-new.made.done.items new.0))
+    (take_all c.loop-new.new-index c.args.news.now c.loop-new-test.false) c.loop-new.invariant.marked)
+    c.requires.kept

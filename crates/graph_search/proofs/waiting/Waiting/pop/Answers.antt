@@ -46,11 +46,13 @@ invariant_of-self-2 c =
 
 pub returns-clause-taken : goal.returns-clause-taken
 returns-clause-taken c =
+    let before : IsPermutation c.args.self.now.entries (c.swap_remove-entry.result ∷ c.push_all.new.self.entries) =
     subst (λ (queue : Queue). IsPermutation queue.entries (c.swap_remove-entry.result ∷ c.push_all.new.self.entries)) c.self.view_is
     (taken-dealt _ _ _ _ _ c.self.invariant (filled-in _ _ _ _ c.as_slice.ensures.value c.in-Some.ensures.some) _ _ _ c.least.result c.take_list-list.ensures (there _ _ _ c.as_slice-2.ensures.value c.least.ensures.there) c.swap_remove-entry.ensures.value c.swap_remove-entry.ensures.items
     (least-in _ _ _ _ c.as_slice-2.ensures.value c.least.ensures.least) _
     (subst (λ (rest : List Entry). IsPermutation (rest ++ entries_in c.take_list-list.new.lists.items) c.push_all.new.self.entries) c.as_slice-3.ensures.value
-    c.in_ok-push_all.ensures.added))
+    c.in_ok-push_all.ensures.added)) in
+    subst (λ (queue : Queue). IsPermutation c.args.self.now.entries (c.swap_remove-entry.result ∷ queue.entries)) (sym c.self-2.view_is) before
 
 pub returns-clause-least : goal.returns-clause-least
 returns-clause-least c =

@@ -1,0 +1,16 @@
+use Rattle.std.proofs.Common.{◌∙◌, refl, ap, sym}
+use Rattle.cell_table.specs.Columns.{column_of}
+use Rattle.obstacle_mark.specs.Places.{next_kept}
+use Rattle.obstacle_mark.proofs.AwayPlaces.{cell_kept}
+use Rattle.obstacle_mark.proofs.SmallAreas.{free_cell_small}
+use Rattle.obstacle_mark.proofs.free.free_cell.Goals as goal
+
+pub returns-then-are_away-clause-cell : goal.returns-then-are_away-clause-cell
+returns-then-are_away-clause-cell c =
+    cell_kept c.args.cell.now c.args.area c.args.blocked.now c.column_of.result c.requires.cell (c.if-area.true ∙ c.area.ensures) c.requires.blocked
+    (c.column_of.ensures.value ∙ ap column_of c.at.ensures) (c.if-are_away.ensures refl)
+
+pub new-requires : goal.new-requires
+new-requires c =
+    free_cell_small c.get.result c.args.area c.next_kept-next.result c.args.blocked.now c.get.ensures.small c.requires.area
+    (c.next_kept-next.ensures.next ∙ ap (next_kept c.args.blocked.now) (sym c.get.ensures.value))
