@@ -409,7 +409,9 @@ def without(house, parts):
             if words & {item.name, f"{item.crate}/{item.module}", f"{item.crate}/{item.module}.{item.name}"}}
     named = re.compile(r"(?<![\w.])(?:" + "|".join(re.escape(word) for word in words if "/" not in word and ":" not in word) + r")(?![\w'-])|(?!)")
     root = house.code[ROOT_CRATE, ROOT_FILE]
-    todo = [item for name, text in house.clauses(root, ROOT_CALL)[1] if f"clause:{name}" not in words for item in house.cited(root, text)[0]]
+    head, clauses = house.clauses(root, ROOT_CALL)
+    texts = [head[:head.index(clauses[0][1])]] + [text for name, text in clauses if f"clause:{name}" not in words]
+    todo = [item for text in texts for item in house.cited(root, text)[0]]
     seen, lines = set(), 0
     while todo:
         item = todo.pop()

@@ -5,7 +5,6 @@ use Rattle.std.proofs.lemmas.List.Elements.{All-append, All-cons, All-head, All-
 use Rattle.std.proofs.lemmas.List.Sums.{fold-append}
 use Rattle.std.proofs.lemmas.List.Quantifiers.{all_pairs_push}
 use mathlib.Core.List.{IsPrefix}
-use Rattle.nav_base.specs.declared.answers.Question.{Question}
 use Rattle.nav_ground.specs.declared.history.Entry.{Entry}
 use Rattle.nav_ground.specs.declared.history.Ground.{Ground}
 use Rattle.mesh_types.specs.Right.{IsRight}
@@ -14,47 +13,26 @@ use Rattle.nav_script.specs.declared.line.Line.TheVariants.{Ask, Add, Remove, Un
 use Rattle.nav_book.proofs.GroundTiles.{build_of-append}
 use Rattle.nav_lane.specs.declared.said.Said.{Said}
 use Rattle.nav_lane.specs.declared.said.Said.TheVariants.{Replied, Answered, Settled, Walked, NoWalker}
-use Rattle.nav_lane.specs.LaneRecords.{Spoken, AreAnswers, CoverEntries, IsAnswered, IsSaid, IsSettled, MayNameLength, NamesLength, NeverFall, last_number, length_told, lengths_told, number_after}
+use Rattle.nav_lane.specs.LaneRecords.{Spoken, AreAnswers, CoverEntries, IsSaid, NeverFall, last_number, length_told, lengths_told, number_after}
 
 -- a beginning of a list is no longer than the list
 pub IsPrefix-length : {A : Type 0} (xs ys : List A) → IsPrefix xs ys → length xs ≤ length ys
 IsPrefix-length xs ys p = omega (arith, ap length p.1, length-append xs p.0)
 
-answered_later : (whole : Ground) (history more : List Entry) (question : Question) (said : Said) → IsAnswered whole history question said → IsAnswered whole (history ++ more) question said
-answered_later whole history more question (Answered k answer) is =
-    (omega (arith, is.0, length-append history more), subst (λ mesh. IsRight mesh question answer) (sym (build_of-append whole history more k is.0)) is.1)
-answered_later whole history more question (Replied number reply) is = is
-answered_later whole history more question (Settled k) is = is
-answered_later whole history more question (Walked k answer) is = is
-answered_later whole history more question NoWalker is = is
-
-settled_later : (history more : List Entry) (said : Said) → IsSettled history said → IsSettled (history ++ more) said
-settled_later history more (Settled k) is = omega (arith, is, length-append history more)
-settled_later history more (Answered k answer) is = is
-settled_later history more (Replied number reply) is = is
-settled_later history more (Walked k answer) is = is
-settled_later history more NoWalker is = is
-
-placed_later : (history more : List Entry) (said : Said) → NamesLength history said → NamesLength (history ++ more) said
-placed_later history more (Walked k answer) is = omega (arith, is, length-append history more)
-placed_later history more (Replied number reply) is = is
-placed_later history more (Answered k answer) is = is
-placed_later history more (Settled k) is = is
-placed_later history more NoWalker is = is
-
-gone_later : (history more : List Entry) (said : Said) → MayNameLength history said → MayNameLength (history ++ more) said
-gone_later history more (Walked k answer) is = omega (arith, is, length-append history more)
-gone_later history more (Replied number reply) is = is
-gone_later history more (Answered k answer) is = is
-gone_later history more (Settled k) is = is
-gone_later history more NoWalker is = is
+within_longer : (history more : List Entry) (k : ℕ) → k ≤ length history → k ≤ length (history ++ more)
+within_longer history more k within = omega (arith, within, length-append history more)
 
 said_later : (whole : Ground) (history more : List Entry) (line : Line) (said : Said) → IsSaid whole history line said → IsSaid whole (history ++ more) line said
-said_later whole history more (Ask question) said is = answered_later whole history more question said is
-said_later whole history more Settle said is = settled_later history more said is
-said_later whole history more (Send from from_y to to_y) said is = placed_later history more said is
-said_later whole history more (March far) said is = gone_later history more said is
-said_later whole history more _ said is = is
+said_later whole history more (Ask question) (Answered k answer) is =
+    (within_longer history more k is.0, subst (λ mesh. IsRight mesh question answer) (sym (build_of-append whole history more k is.0)) is.1)
+said_later whole history more (Add shape) (Replied number reply) is = tt
+said_later whole history more (Remove other) (Replied number reply) is = tt
+said_later whole history more (Undo j) (Replied number reply) is = tt
+said_later whole history more Settle (Settled k) is = within_longer history more k is
+said_later whole history more (Send from from_y to to_y) (Walked k answer) is = within_longer history more k is
+said_later whole history more (March far) (Walked k answer) is = within_longer history more k is
+said_later whole history more (March far) NoWalker is = tt
+said_later whole history more _ _ is = absurd is
 
 -- answers that are right in a history are right in every longer one
 pub answers_later : (whole : Ground) (history longer : List Entry) (spoken : List Spoken) → IsPrefix history longer → AreAnswers whole history spoken → AreAnswers whole longer spoken

@@ -2,7 +2,6 @@
 use Rattle.std.specs.Prelude.{◌≡◌, ℕ, ◌-◌, ◌≤◌, ◌==◌, if◌then◌else◌, ⊤, List, [], ◌∷◌, ◌++◌, length, map, take, fold, filter, filter_map, slice_get, unwrap_or, All, AllPairs, Option, Some, None, option_and_then}
 use Rattle.std.specs.List.{cons_option, enumerate_from}
 use Rattle.std.specs.Option.{option_map}
-use Rattle.nav_base.specs.declared.answers.Question.{Question}
 use Rattle.nav_base.specs.declared.point.Point.{Point}
 use Rattle.nav_ground.specs.declared.history.Entry.{Entry}
 use Rattle.nav_ground.specs.declared.history.Ground.{Ground}
@@ -12,7 +11,7 @@ use Rattle.nav_ground.specs.History.{is_added}
 use Rattle.mesh_types.specs.declared.links.PolyRef.{PolyRef}
 use Rattle.mesh_types.specs.declared.polygon.Polygon.{Polygon}
 use Rattle.mesh_types.specs.declared.walks.WalkAnswer.{WalkAnswer}
-use Rattle.mesh_types.specs.declared.walks.WalkAnswer.TheVariants.{Walking, NoStart, NoGoal, NoPath}
+use Rattle.mesh_types.specs.declared.walks.WalkAnswer.TheVariants.{Walking}
 use Rattle.mesh_types.specs.Builds.{build_of}
 use Rattle.mesh_types.specs.Right.{IsRight}
 use Rattle.mesh_types.specs.WholeMesh.{poly_at}
@@ -65,42 +64,20 @@ entries_from lane adds (one ∷ more) = cons_option (entry_said lane adds one.0 
 abbrev pub entries_said : ℕ → List Spoken → List (ℕ × Entry)
 entries_said lane spoken = entries_from lane [] spoken
 
--- a question is answered from a version with the first k entries of the history: by an answer that is right in the ground with the obstacles
--- that these leave
-abbrev pub IsAnswered : Ground → List Entry → Question → Said → Type 0
-IsAnswered whole history question (Answered k answer) = (k ≤ length history) × IsRight (build_of whole history k) question answer
-IsAnswered whole history question _ = ⊥
-
--- a `settle` names a length of the history
-abbrev pub IsSettled : List Entry → Said → Type 0
-IsSettled history (Settled k) = k ≤ length history
-IsSettled history _ = ⊥
-
--- a request is replied to; which number and reply it is told, the entries say
-abbrev pub IsReplied : Said → Type 0
-IsReplied (Replied number reply) = ⊤
-IsReplied _ = ⊥
-
--- a `send` names a length of the history, and a `march` does or tells that there is no walker; what else they are told, the lines before them say
-abbrev pub NamesLength : List Entry → Said → Type 0
-NamesLength history (Walked k answer) = k ≤ length history
-NamesLength history _ = ⊥
-
-abbrev pub MayNameLength : List Entry → Said → Type 0
-MayNameLength history (Walked k answer) = k ≤ length history
-MayNameLength history NoWalker = ⊤
-MayNameLength history _ = ⊥
-
--- what a line may be answered; lines that lead workers, declare jumps, ask for hop walks or name lanes are none that a lane runs
+-- what a line may be answered. A question is answered from a version with the first k entries of the history, by an answer that is right in the
+-- ground with the obstacles that these leave; a request is replied to: which number and reply it is told, the entries say; a `settle` and a
+-- `send` name a length of the history, and a `march` does or tells that there is no walker: what else they are told, the lines before them say.
+-- Lines that lead workers, declare jumps, ask for hop walks or name lanes are none that a lane runs
 abbrev pub IsSaid : Ground → List Entry → Line → Said → Type 0
-IsSaid whole history (Ask question) said = IsAnswered whole history question said
-IsSaid whole history (Add shape) said = IsReplied said
-IsSaid whole history (Remove number) said = IsReplied said
-IsSaid whole history (Undo j) said = IsReplied said
-IsSaid whole history Settle said = IsSettled history said
-IsSaid whole history (Send from from_y to to_y) said = NamesLength history said
-IsSaid whole history (March far) said = MayNameLength history said
-IsSaid whole history _ said = ⊥
+IsSaid whole history (Ask question) (Answered k answer) = (k ≤ length history) × IsRight (build_of whole history k) question answer
+IsSaid whole history (Add shape) (Replied number reply) = ⊤
+IsSaid whole history (Remove other) (Replied number reply) = ⊤
+IsSaid whole history (Undo j) (Replied number reply) = ⊤
+IsSaid whole history Settle (Settled k) = k ≤ length history
+IsSaid whole history (Send from from_y to to_y) (Walked k answer) = k ≤ length history
+IsSaid whole history (March far) (Walked k answer) = k ≤ length history
+IsSaid whole history (March far) NoWalker = ⊤
+IsSaid whole history _ _ = ⊥
 
 -- the number of the last entry that these lines left; 0 where they left none
 abbrev pub number_after : ℕ → Said → ℕ
@@ -115,8 +92,7 @@ abbrev pub length_told : Said → Option ℕ
 length_told (Answered k answer) = Some k
 length_told (Settled k) = Some k
 length_told (Walked k answer) = Some k
-length_told (Replied number reply) = None
-length_told NoWalker = None
+length_told _ = None
 
 abbrev pub lengths_told : List Spoken → List ℕ
 lengths_told spoken = filter_map (λ (one : Spoken). length_told one.1) spoken
@@ -148,9 +124,7 @@ pub record Standing : Type 0 where
 -- the walker after an answer: there is one exactly where the answer is that it walks
 abbrev pub standing_of : ℕ → Point → ℕ → WalkAnswer → Option Standing
 standing_of k goal goal_y (Walking at point y cost links) = Some (record { k = k; at = at; point = point; goal = goal; goal_y = goal_y })
-standing_of k goal goal_y NoStart = None
-standing_of k goal goal_y NoGoal = None
-standing_of k goal goal_y NoPath = None
+standing_of k goal goal_y _ = None
 
 -- the walker after a line: a `send` places one or takes it away, a `march` moves it on to the same goal or takes it away, and every other line
 -- leaves it

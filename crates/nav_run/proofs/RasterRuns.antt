@@ -3,13 +3,11 @@ use Rattle.std.proofs.Common.{◌≡◌, ℕ, ◌+◌, ◌≤◌, ◌⊎◌, Lis
 use Rattle.std.specs.Prelude.{Option, Some, None, IfSome, String}
 use Rattle.std.specs.declared.alloc.Global.{Global}
 use Rattle.nav_ground.specs.declared.setting.Setting.{Setting}
-use Rattle.nav_ground.specs.declared.field.Field.{Field}
 use Rattle.nav_io.specs.Causes.{Rose, GivesAll, TookMany}
 use Rattle.nav_io.proofs.Laws.{GivesAll-known}
 use Rattle.nav_record.specs.Texts.{too_long_text}
 use Rattle.tri_rows.specs.declared.triangle.Tri.{Tri}
 use Rattle.tri_rows.specs.Rasters.{IsRaster, HasManySpans}
-use Rattle.tri_raster.specs.TriText.{IsTriText}
 use Rattle.tri_raster.proofs.RasterLaws.{many_or_few}
 use Rattle.nav_run.specs.declared.status.Status.{Status}
 use Rattle.nav_run.specs.declared.status.Status.TheVariants as statuses
@@ -18,7 +16,7 @@ use Rattle.nav_run.specs.declared.words.Form.TheVariants.{Raster}
 use Rattle.nav_run.specs.Courses.{HasRun}
 use Rattle.nav_run.specs.Endings.{HasEnded}
 use Rattle.nav_run.specs.Inputs.{input_limit}
-use Rattle.nav_run.specs.Triangles.{IsLevel, IsOneLevel, HasFewSpans, HasTooManySpans, IsRasterText, IsOverfull, TellsTriFault, too_many_text, HasReadLevel, IsFieldDue, IsTriFaultDue, IsManyDue}
+use Rattle.nav_run.specs.Triangles.{IsLevel, HasFewSpans, HasTooManySpans, IsRasterText, IsOverfull, TellsTriFault, too_many_text, HasReadLevel, IsFieldDue, IsTriFaultDue, IsManyDue}
 use Rattle.nav_run.specs.Words.{AskFor, IsReadForm, IsRasterForm}
 use Rattle.nav_run.proofs.CourseLaws.{wrote, one_form, one_word, too_many}
 

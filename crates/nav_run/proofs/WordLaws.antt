@@ -1,10 +1,10 @@
 -- What three words ask for.
-use Rattle.std.proofs.Common.{◌≡◌, ℕ, ◌<◌, ◌≤◌, List, [], ◌∷◌, length, map, get_or, ap, sym, ◌∙◌, arith, inl, inr}
+use Rattle.std.proofs.Common.{◌≡◌, ◌<◌, ◌≤◌, List, [], ◌∷◌, length, map, get_or, ap, sym, ◌∙◌, arith, inl, inr}
 use Rattle.std.specs.Prelude.{Option, Some, None, String, string_bytes, codes, decimal}
 use Rattle.std.specs.declared.alloc.Global.{Global}
 use Rattle.nav_run.specs.declared.words.Form.{Form}
 use Rattle.nav_run.specs.declared.words.Form.TheVariants.{Read, Gen, Raster}
-use Rattle.nav_run.specs.Words.{AskBehindGen, AskFor, AreMadeWords}
+use Rattle.nav_run.specs.Words.{AskBehindGen, AskFor}
 
 -- three words, by their places
 pub three_words : (words : List (String Global)) (word first second : String Global) → 3 ≤ length words → length words < 4
