@@ -8,12 +8,12 @@ ghost use Rattle.agent_erode.specs.Reaching.{nothing_reached};
 
 use crate::reach::{Reached, all_kept};
 use cell_table::neighbour_table;
-use nav_ground::Cell;
+use nav_ground::SmallCell;
 use std::alloc::{AllocError, Global};
 
 /// For each cell whether no walk from a boundary cell to it is cheaper than twice the radius. The cells may be connected to others
 /// that are not in the list, and need not be named back.
-pub fn marks(alloc: Global, cells: &[Cell], radius: u32) -> Result<Vec<bool>, AllocError>
+pub fn marks(alloc: Global, cells: &[SmallCell], radius: u32) -> Result<Vec<bool>, AllocError>
     requires { IsCells cells.now }
     ensures { IfOk result (λ marks. marks.items ≡ map (is_kept cells.now radius) cells.now) }
 {
@@ -34,7 +34,7 @@ pub fn marks(alloc: Global, cells: &[Cell], radius: u32) -> Result<Vec<bool>, Al
 fn spread(
     alloc: Global,
     reached: &mut Reached,
-    cells: &[Cell],
+    cells: &[SmallCell],
     bound: u64,
 ) -> Result<(), AllocError>
     requires cells { IsCells cells.now }

@@ -8,12 +8,12 @@ ghost use Rattle.nav_ground.specs.Clearance.{is_kept, kept_cells, marked, places
 use crate::clearance::marks;
 use crate::windows::{cells_near, is_near};
 use compact_layer::CompactField;
-use nav_ground::{Cell, CellRef, Window};
+use nav_ground::{CellRef, SmallCell, Window};
 use std::alloc::{AllocError, Global};
 
 /// For each cell of a field, in order, whether it is kept for a radius in cells: whether no walk from a boundary cell to it is cheaper
 /// than twice the radius.
-pub fn kept_marks(alloc: Global, cells: &[Cell], radius: u32) -> Result<Vec<bool>, AllocError>
+pub fn kept_marks(alloc: Global, cells: &[SmallCell], radius: u32) -> Result<Vec<bool>, AllocError>
     requires { IsCompact cells.now }
     ensures { IfOk result (λ marks. marks.items ≡ map (is_kept cells.now radius) cells.now) }
 {
@@ -31,14 +31,18 @@ pub fn erode(alloc: Global, compact: &CompactField, radius: u32) -> Result<Vec<C
 }
 
 /// The places of the cells that are marked, in order.
-fn places_marked(alloc: Global, cells: &[Cell], marks: &[bool]) -> Result<Vec<CellRef>, AllocError>
+fn places_marked(
+    alloc: Global,
+    cells: &[SmallCell],
+    marks: &[bool],
+) -> Result<Vec<CellRef>, AllocError>
     requires { length marks.now ≡ length cells.now }
     ensures { IfOk result (λ places. (p : Cell → Bool) → marks.now ≡ map p cells.now → places.items ≡ places_of (filter p cells.now)) }
 {
     let mut places = Vec::new(alloc);
     for (i, cell) in cells.iter().enumerate() {
         if marks[i] {
-            places.push(cell.at)?;
+            places.push(cell.at())?;
         }
     }
     Ok(places)
@@ -66,7 +70,7 @@ pub fn erode_window(
 /// lead out of the list, and need not be named back.
 pub fn kept(
     alloc: Global,
-    wide: &[Cell],
+    wide: &[SmallCell],
     uncovered: &[bool],
     window: Window,
     radius: u32,
@@ -82,7 +86,11 @@ pub fn kept(
 }
 
 /// The cells beside which a truth value is true, in order.
-fn open_cells(alloc: Global, cells: &[Cell], uncovered: &[bool]) -> Result<Vec<Cell>, AllocError>
+fn open_cells(
+    alloc: Global,
+    cells: &[SmallCell],
+    uncovered: &[bool],
+) -> Result<Vec<SmallCell>, AllocError>
     requires { length uncovered.now ≡ length cells.now }
     ensures { IfOk result (λ chosen. chosen.items ≡ marked cells.now uncovered.now) }
 {
@@ -98,7 +106,7 @@ fn open_cells(alloc: Global, cells: &[Cell], uncovered: &[bool]) -> Result<Vec<C
 /// The places of the cells that are marked and lie in a window, in order.
 fn places_within(
     alloc: Global,
-    cells: &[Cell],
+    cells: &[SmallCell],
     marks: &[bool],
     window: Window,
 ) -> Result<Vec<CellRef>, AllocError>
@@ -107,8 +115,9 @@ fn places_within(
 {
     let mut places = Vec::new(alloc);
     for (i, cell) in cells.iter().enumerate() {
-        if marks[i] && is_near(window, 0, cell.at) {
-            places.push(cell.at)?;
+        let place = cell.at();
+        if marks[i] && is_near(window, 0, place) {
+            places.push(place)?;
         }
     }
     Ok(places)

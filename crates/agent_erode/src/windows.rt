@@ -8,17 +8,17 @@ ghost use Rattle.nav_ground.specs.Tiling.{is_in_window, widened};
 ghost use Rattle.nav_ground.specs.Clearance.{cells_in};
 ghost use Rattle.agent_erode.specs.Runs.{is_in_run, IsBetween};
 
-use nav_ground::{Cell, CellRef, Window};
+use nav_ground::{CellRef, SmallCell, Window};
 use std::alloc::{AllocError, Global};
 
 /// The cells in a rectangle with a margin of so many columns on each side. Of each of its rows only the cells in the rectangle are gone
 /// through; where they begin and end is found by halving.
 pub fn cells_near(
     alloc: Global,
-    cells: &[Cell],
+    cells: &[SmallCell],
     window: Window,
     margin: u32,
-) -> Result<Vec<Cell>, AllocError>
+) -> Result<Vec<SmallCell>, AllocError>
     requires { IsCells cells.now }
     ensures { IfOk result (λ near. near.items ≡ cells_in (widened window margin) cells.now) }
 {
@@ -32,7 +32,7 @@ pub fn cells_near(
 }
 
 /// The cells of a row from a first column on and before an end, which stand one after the other.
-fn run_of(cells: &[Cell], row: u32, first: u32, end: u32) -> &[Cell]
+fn run_of(cells: &[SmallCell], row: u32, first: u32, end: u32) -> &[SmallCell]
     requires cells { IsCells cells.now }
     requires ends { first ≤ end }
     ensures { result.now ≡ filter (is_in_run row first end) cells.now }
@@ -43,7 +43,7 @@ fn run_of(cells: &[Cell], row: u32, first: u32, end: u32) -> &[Cell]
 }
 
 /// The cells from one place of a list up to another.
-fn between(cells: &[Cell], from: usize, to: usize) -> &[Cell]
+fn between(cells: &[SmallCell], from: usize, to: usize) -> &[SmallCell]
     requires { (from ≤ to) × (to ≤ length cells.now) }
     ensures { result.now ≡ slice_range cells.now from to }
 {
@@ -79,13 +79,13 @@ fn ends_of(least: i32, most: i32, margin: u32) -> (u32, u32)
 }
 
 /// How many of the cells lie before a column of a row, in that row or in rows before it.
-fn cells_before(cells: &[Cell], row: u32, x: u32) -> usize
+fn cells_before(cells: &[SmallCell], row: u32, x: u32) -> usize
     requires { IsCells cells.now }
     ensures most { result ≤ length cells.now }
     ensures parted { IsPartitionPoint (λ (cell : Cell). Rattle.agent_erode.specs.Runs.is_before_column row x cell.at ≡ true)
         (λ (cell : Cell). Rattle.agent_erode.specs.Runs.is_before_column row x cell.at ≡ false) cells.now result }
 {
-    cells.partition_point(|cell| is_before_column(cell.at, row, x))
+    cells.partition_point(|cell| is_before_column(cell.at(), row, x))
 }
 
 /// Whether a place lies before a column of a row, in that row or in a row before it.

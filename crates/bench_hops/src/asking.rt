@@ -121,7 +121,7 @@ fn asked(alloc: Global, mesh: &Mesh, wanted: Wanted) -> Result<Made, AllocError>
         steps: 0,
     };
     for tile in mesh.tiles.as_slice() {
-        made.polygons = made.polygons.wrapping_add(tile.get().mesh().polys.len());
+        made.polygons = made.polygons.wrapping_add(tile.get().polys.len());
     }
     let mut random = Random { state: 7 };
     for _place in 0..wanted.count {

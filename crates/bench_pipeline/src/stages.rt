@@ -9,7 +9,7 @@ ghost use Rattle.tile_build.specs.Meshes.{tiles_under};
 
 use crate::outcome::{Made, Outcome};
 use layer_cut::ground;
-use mesh_types::{Mesh, Tile, copy_mesh};
+use mesh_types::{Mesh, TileMesh, copy_mesh};
 use nav_base::read_number;
 use nav_book::Book;
 use nav_ground::Ground;
@@ -69,7 +69,7 @@ struct Task {
 #[derive(Drop)]
 struct Level {
     whole: Ground,
-    tiles: Items<Shared<Tile>>,
+    tiles: Items<Shared<TileMesh>>,
 }
 
 /// Goes on from a text that was read, up to a stage, and then makes copies of the mesh.
@@ -154,10 +154,10 @@ fn booked<R: Wait>(
     Ok(made)
 }
 
-fn count_tiles(made: &mut Made, tiles: &[Shared<Tile>]) {
+fn count_tiles(made: &mut Made, tiles: &[Shared<TileMesh>]) {
     for tile in tiles {
-        made.polygons = made.polygons.wrapping_add(tile.get().mesh().polys.len());
-        made.links = made.links.wrapping_add(tile.get().mesh().links.len());
+        made.polygons = made.polygons.wrapping_add(tile.get().polys.len());
+        made.links = made.links.wrapping_add(tile.get().links.len());
     }
 }
 

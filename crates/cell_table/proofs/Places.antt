@@ -1,8 +1,7 @@
 -- Places by column and level, and where they stand in a list of cells.
-use Rattle.std.proofs.Common.{◌≡◌, ℕ, ◌+◌, ◌<◌, ◌≤◌, ◌⊎◌, Bool, true, false, length, List, ◌∷◌, get_or, ap, ◌∙◌, sym, refl, subst, [], Option, Some, None, arith, zero, suc, inl, inr}
-use Rattle.std.specs.Prelude.{◌==◌, ◌&&◌, nat_lt, ◌||◌, All, option_and_then, slice_get}
+use Rattle.std.proofs.Common.{◌≡◌, ℕ, ◌+◌, ◌-◌, ◌<◌, ◌≤◌, ◌⊎◌, Bool, true, false, length, List, ◌∷◌, get_or, ap, ◌∙◌, sym, refl, subst, [], Some, None, arith, zero, suc, inl, inr}
+use Rattle.std.specs.Prelude.{◌==◌, ◌&&◌, nat_lt, ◌||◌, All}
 use Rattle.std.specs.List.{position_or_len}
-use Rattle.std.specs.List.Sorted.{IsPartitionedBy}
 use Rattle.std.specs.Option.{option_map_or}
 use Rattle.std.proofs.lemmas.Bool.{eqb-true, eq-eqb, both_ways, false_from_ne_true, cases_lt, and_right}
 use Rattle.std.proofs.lemmas.Bool.Decides.{nat_tests}
@@ -12,13 +11,8 @@ use Rattle.nav_ground.specs.declared.cell.Cell.{Cell}
 use Rattle.nav_ground.specs.declared.cell.CellRef.{CellRef}
 use Rattle.nav_ground.specs.Cells.{IsCellBefore, IsCells, is_toward, is_naming, next_level}
 use Rattle.nav_ground.proofs.Directions.{both_equal, tests_of_equal}
-use Rattle.cell_table.specs.Columns.{column_of, column_toward, is_at, is_before}
+use Rattle.cell_table.specs.Columns.{IsPlace, column_of, column_toward, is_at, is_before}
 use Rattle.cell_table.specs.Table.{index_of, index_named}
-
--- a place lies in the largest field
-pub record IsPlace (at : CellRef) : Type 0 where
-  pub x : at.x < 1024
-  pub z : at.z < 1024
 
 abbrev pub no_cell : Cell
 no_cell = record { at = record { x = 0; z = 0; level = 0 }; floor = 0; ceiling = 0; area = 0; next = [] }
@@ -30,7 +24,7 @@ same_test false true there back = back refl
 same_test false false there back = refl
 
 -- the neighbouring column in a direction is the one with the number of that direction
-toward_number : (dir : ℕ) (from to : CellRef) → dir < 4 → IsPlace from → IsPlace to
+pub toward_number : (dir : ℕ) (from to : CellRef) → dir < 4 → IsPlace from → IsPlace to
     → is_toward dir from to ≡ (column_of to == column_toward dir from)
 toward_number zero from to small f t = same_test _ _
     (λ h. let e = both_equal (to.x + 1) from.x to.z from.z h in eq-eqb _ _ (omega (arith, e.0, e.1)))
@@ -126,22 +120,31 @@ found_nowhere cells rules' column level least most before after here =
     ])
     (λ more. absurd (omega (arith, more))))
 
--- so cells are parted by what comes before a column and a level
-pub parted_before : (cells : List Cell) → IsCells cells → (column level : ℕ) → IsPartitionedBy (λ (cell : Cell). is_before column level cell.at) cells
-parted_before cells rules' column level i j d before there here =
-    elim (cases_lt i j) [
-      | inl less ↦ all_before cells rules' column level j i d less there (inl here)
+-- where one cell does not come before a column and a level, no later one does; where one does, so do those before it
+pub none_before : (cells : List Cell) → IsCells cells → (column level n k : ℕ) (d : Cell) → n ≤ k → k < length cells
+    → ((d : Cell) → n < length cells → is_before column level (get_or cells n d).at ≡ false) → is_before column level (get_or cells k d).at ≡ false
+none_before cells rules' column level n k d below there next =
+    false_from_ne_true (is_before column level (get_or cells k d).at) (λ is.
+    elim (cases_lt n k) [
+      | inl less ↦
+          both_ways (is_before column level (get_or cells n d).at) (next d (omega (arith, less, there)))
+          (all_before cells rules' column level k n d less there (inl is))
       | inr more ↦
-          let same : j ≡ i = omega (arith, before, more) in
-          let P : ℕ → Type 0 = λ n. is_before column level (get_or cells n d).at ≡ true in
-          subst P same here
-    ]
+          let same : k ≡ n = omega (arith, below, more) in
+          let P : ℕ → Type 0 = λ m. is_before column level (get_or cells m d).at ≡ true in
+          both_ways (is_before column level (get_or cells n d).at) (next d (omega (arith, same, there))) (subst P same is)
+    ])
 
--- what a cell names in a direction, as it stands in the cell
-next_level_at : (nexts : List (Option ℕ)) (dir : ℕ) → option_and_then (λ (next : Option ℕ). next) (slice_get nexts dir) ≡ get_or nexts dir None
-next_level_at [] dir = refl
-next_level_at (next ∷ nexts) zero = refl
-next_level_at (next ∷ nexts) (suc dir) = next_level_at nexts dir
+pub some_before : (cells : List Cell) → IsCells cells → (column level n k : ℕ) (d : Cell) → k < n → n ≤ length cells
+    → is_before column level (get_or cells (n - 1) d).at ≡ true → is_before column level (get_or cells k d).at ≡ true
+some_before cells rules' column level n k d below most last =
+    elim (cases_lt k (n - 1)) [
+      | inl less ↦ all_before cells rules' column level (n - 1) k d less (omega (arith, below, most)) (inl last)
+      | inr more ↦
+          let same : n - 1 ≡ k = omega (arith, below, more) in
+          let P : ℕ → Type 0 = λ m. is_before column level (get_or cells m d).at ≡ true in
+          subst P same last
+    ]
 
 -- two tests that agree at each element find the same first
 position_same : {A : Type 0} (p q : A → Bool) (xs : List A) → All (λ x. p x ≡ q x) xs → position_or_len p xs ≡ position_or_len q xs
@@ -152,15 +155,15 @@ position_same p q (x ∷ xs) each =
     cc
 
 -- the index of the cell that is named is that of the cell with the column and the level
-pub named_index : (dir level : ℕ) (cell : Cell) (cells : List Cell) → dir < 4 → IsPlace cell.at → IsCells cells → get_or cell.next dir None ≡ Some level
+pub named_index : (dir level : ℕ) (cell : Cell) (cells : List Cell) → dir < 4 → IsPlace cell.at → IsCells cells → next_level cell dir ≡ Some level
     → index_of cells (column_toward dir cell.at) level ≡ index_named cells cell dir
 named_index dir level cell cells small f rules' named =
     position_same (λ (other : Cell). is_at (column_toward dir cell.at) level other.at) (λ (other : Cell). is_naming dir cell other.at) cells
-    (λ k d there. sym (naming_number dir level cell (get_or cells k d).at small f (place_at cells rules' k d there) (next_level_at cell.next dir ∙ named)))
+    (λ k d there. sym (naming_number dir level cell (get_or cells k d).at small f (place_at cells rules' k d there) named))
 
 -- where no level is named no cell is
-pub named_none : (dir : ℕ) (cell : Cell) (cells : List Cell) → get_or cell.next dir None ≡ None → length cells ≡ index_named cells cell dir
+pub named_none : (dir : ℕ) (cell : Cell) (cells : List Cell) → next_level cell dir ≡ None → length cells ≡ index_named cells cell dir
 named_none dir cell cells named =
     sym (position_or_len_is (λ (other : Cell). is_naming dir cell other.at) cells (length cells) no_cell (omega arith)
-    (λ k there. naming_nowhere dir cell (get_or cells k no_cell).at (next_level_at cell.next dir ∙ named))
+    (λ k there. naming_nowhere dir cell (get_or cells k no_cell).at named)
     (λ more. absurd (omega (arith, more))))

@@ -1,6 +1,11 @@
 -- Columns by number, so that cells in order have columns in order.
-use Rattle.std.specs.Prelude.{ℕ, ◌+◌, ◌-◌, ◌*◌, ◌==◌, ◌&&◌, ◌||◌, Bool, nat_lt, if◌then◌else◌}
+use Rattle.std.specs.Prelude.{ℕ, ◌+◌, ◌-◌, ◌*◌, ◌<◌, ◌==◌, ◌&&◌, ◌||◌, Bool, nat_lt, if◌then◌else◌}
 use Rattle.nav_ground.specs.declared.cell.CellRef.{CellRef}
+
+-- a place lies in the largest field
+pub record IsPlace (at : CellRef) : Type 0 where
+  pub x : at.x < 1024
+  pub z : at.z < 1024
 
 -- columns are numbered row by row; a row has 2048 numbers and the first begins at 2048, so that the columns beside the field have numbers of their own
 abbrev pub column_of : CellRef → ℕ

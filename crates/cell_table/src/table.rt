@@ -3,17 +3,17 @@
 ghost use Rattle.std.specs.Prelude.{◌≡◌, ◌<◌, ◌≤◌, ℕ, true, false, IfOk, length, slice_index_or};
 ghost use Rattle.nav_ground.specs.declared.cell.Cell.{Cell};
 ghost use Rattle.nav_ground.specs.Cells.{IsCell, IsCells};
-ghost use Rattle.cell_table.specs.Columns.{column_of, is_before};
+ghost use Rattle.cell_table.specs.Columns.{is_before};
 ghost use Rattle.cell_table.specs.Table.{index_of, neighbour_table, indices_named};
 
-use crate::columns::{column_of, column_toward, is_at, is_before};
-use nav_ground::Cell;
+use crate::columns::{column_toward, is_at, is_before};
+use nav_ground::{CellRef, SmallCell};
 use std::alloc::{AllocError, Global};
 
-/// How many cells lie in columns before the neighbouring ones of a cell, direction by direction. As cells are gone through in order
-/// these numbers only rise, so all of them together pass each cell once a direction.
+/// Where the cells that are named are looked for first, direction by direction: one place after the one that was found last. As cells are
+/// gone through in order, mostly so are those that they name.
 #[derive(Clone, Copy)]
-struct Passed {
+struct Guesses {
     left: usize,
     above: usize,
     right: usize,
@@ -22,11 +22,11 @@ struct Passed {
 
 /// For each cell the indices of the cells that it names in the four directions; the number of cells stands where it names none of the
 /// list.
-pub fn neighbour_table(alloc: Global, cells: &[Cell]) -> Result<Vec<[u32; 4]>, AllocError>
+pub fn neighbour_table(alloc: Global, cells: &[SmallCell]) -> Result<Vec<[u32; 4]>, AllocError>
     requires { IsCells cells.now }
     ensures { IfOk result (λ table. table.items ≡ neighbour_table cells.now) }
 {
-    let mut passed = Passed {
+    let mut guesses = Guesses {
         left: 0,
         above: 0,
         right: 0,
@@ -34,89 +34,101 @@ pub fn neighbour_table(alloc: Global, cells: &[Cell]) -> Result<Vec<[u32; 4]>, A
     };
     let mut table = Vec::with_capacity(alloc, cells.len())?;
     for cell in cells {
-        table.push(indices_named(cells, &mut passed, cell))?;
+        table.push(indices_named(cells, &mut guesses, cell))?;
     }
     Ok(table)
 }
 
 /// The indices of the cells that a cell names in the four directions.
-fn indices_named(cells: &[Cell], passed: &mut Passed, cell: &Cell) -> [u32; 4]
+fn indices_named(cells: &[SmallCell], guesses: &mut Guesses, cell: &SmallCell) -> [u32; 4]
     requires cells { IsCells cells.now }
     requires cell { IsCell cell.now }
     ensures { result ≡ indices_named cells.now cell.now }
 {
+    let at = cell.at();
     [
-        index_named(cells, &mut passed.left, cell, 0),
-        index_named(cells, &mut passed.above, cell, 1),
-        index_named(cells, &mut passed.right, cell, 2),
-        index_named(cells, &mut passed.below, cell, 3),
+        index_named(cells, &mut guesses.left, cell, at, 0),
+        index_named(cells, &mut guesses.above, cell, at, 1),
+        index_named(cells, &mut guesses.right, cell, at, 2),
+        index_named(cells, &mut guesses.below, cell, at, 3),
     ]
 }
 
-/// The index of the cell that a cell names in a direction, or the number of cells. Where the levels of the neighbouring column have no
-/// gaps, the cell stands as many places after the column's first as its level says.
-fn index_named(cells: &[Cell], passed: &mut usize, cell: &Cell, dir: usize) -> u32
+/// The index of the cell that a cell names in a direction, or the number of cells.
+#[inline(always)]
+fn index_named(
+    cells: &[SmallCell],
+    guess: &mut usize,
+    cell: &SmallCell,
+    at: CellRef,
+    dir: usize,
+) -> u32
     requires dir { dir < 4 }
     requires cells { IsCells cells.now }
     requires cell { IsCell cell.now }
+    requires at { at ≡ cell.now.at }
     ensures { result ≡ Rattle.cell_table.specs.Table.index_named cells.now cell.now dir }
 {
-    match cell.next[dir] {
-        Some(level) => index_after(cells, passed, column_toward(dir, cell.at), level),
+    match cell.next(dir) {
+        Some(level) => index_of(cells, guess, column_toward(dir, at), level),
         None => cells.len() as u32,
     }
 }
 
-/// The index of the cell with a column and a level, or the number of cells where none has them. Mostly it stands one place after the cell
-/// that was found before it, which is looked at first.
-fn index_after(cells: &[Cell], passed: &mut usize, column: u64, level: u32) -> u32
-    requires { IsCells cells.now }
-    ensures { result ≡ index_of cells.now column level }
-{
-    let next = passed.saturating_add(1);
-    if level == 0 && next < cells.len() && is_at(column, level, cells[next].at) {
-        *passed = next;
-        return next as u32;
-    }
-    *passed = pass(cells, *passed, column);
-    index_of(cells, passed.saturating_add(level as usize), column, level)
-}
-
-/// How many cells lie in columns before one, where so many are known to do.
-fn pass(cells: &[Cell], known: usize, column: u64) -> usize
-    ensures least { known ≤ result }
-    ensures passed { (k : ℕ) (d : Cell) → known ≤ k → k < result → column_of (slice_index_or cells.now k d).at < column }
-    ensures next { (d : Cell) → result < length cells.now → column ≤ column_of (slice_index_or cells.now result d).at }
-{
-    let mut passed = known;
-    while passed < cells.len() && column_of(cells[passed].at) < column {
-        passed += 1;
-    }
-    passed
-}
-
 /// The index of the cell with a column and a level, or the number of cells where none has them. It is looked for at a guess first.
-fn index_of(cells: &[Cell], guess: usize, column: u64, level: u32) -> u32
+#[inline(always)]
+fn index_of(cells: &[SmallCell], guess: &mut usize, column: u64, level: u32) -> u32
     requires { IsCells cells.now }
     ensures { result ≡ index_of cells.now column level }
 {
-    if guess < cells.len() && is_at(column, level, cells[guess].at) {
-        return guess as u32;
+    let index = *guess;
+    if index < cells.len() && is_at(column, level, cells[index].at()) {
+        *guess = index + 1;
+        index as u32
+    } else {
+        index_beside(cells, guess, column, level)
     }
-    let least = cells_before(cells, column, level);
-    if least < cells.len() && is_at(column, level, cells[least].at) {
+}
+
+/// The same for a cell that is not where it was looked for, but mostly near.
+#[inline(never)]
+fn index_beside(cells: &[SmallCell], guess: &mut usize, column: u64, level: u32) -> u32
+    requires { IsCells cells.now }
+    ensures { result ≡ index_of cells.now column level }
+{
+    let least = cells_before(cells, *guess, column, level);
+    if least < cells.len() && is_at(column, level, cells[least].at()) {
+        *guess = least + 1;
         least as u32
     } else {
+        *guess = least;
         cells.len() as u32
     }
 }
 
-/// How many cells come before a column and a level.
-fn cells_before(cells: &[Cell], column: u64, level: u32) -> usize
+/// How many cells come before a column and a level, from a guess up and then down.
+fn cells_before(cells: &[SmallCell], guess: usize, column: u64, level: u32) -> usize
     requires { IsCells cells.now }
     ensures most { result ≤ length cells.now }
     ensures before { (k : ℕ) (d : Cell) → k < result → is_before column level (slice_index_or cells.now k d).at ≡ true }
     ensures after { (k : ℕ) (d : Cell) → result ≤ k → k < length cells.now → is_before column level (slice_index_or cells.now k d).at ≡ false }
 {
-    cells.partition_point(|cell| is_before(column, level, cell.at))
+    let mut least = pass(cells, guess.min(cells.len()), column, level);
+    while least > 0 && !is_before(column, level, cells[least - 1].at()) {
+        least -= 1;
+    }
+    least
+}
+
+/// The first place from one on where no cell stands that comes before a column and a level.
+fn pass(cells: &[SmallCell], from: usize, column: u64, level: u32) -> usize
+    requires { from ≤ length cells.now }
+    ensures most { result ≤ length cells.now }
+    ensures next { (d : Cell) → result < length cells.now → is_before column level (slice_index_or cells.now result d).at ≡ false }
+{
+    let mut passed = from;
+    while passed < cells.len() && is_before(column, level, cells[passed].at()) {
+        passed += 1;
+    }
+    passed
 }

@@ -49,10 +49,10 @@ all_passed_alike xs ys height passed cell alike before = record {
 
 -- and they are stacked alike
 standing_bare : (cell : Cell) → IsStanding cell → IsStanding (bare cell)
-standing_bare cell here = record { at = here.at; floor = here.floor }
+standing_bare cell here = record { at = here.at; floor = here.floor; level = here.level }
 
 standing_of_bare : (cell : Cell) → IsStanding (bare cell) → IsStanding cell
-standing_of_bare cell here = record { at = here.at; floor = here.floor }
+standing_of_bare cell here = record { at = here.at; floor = here.floor; level = here.level }
 
 under_bare : (a b : Cell) → IsUnder a b → IsUnder (bare a) (bare b)
 under_bare a b under = record { column = under.column; floor = under.floor; ceiling = under.ceiling }

@@ -155,3 +155,36 @@ level_is spans walkable (suc m) d rules' there =
     let P : ℕ → Type 0 = λ n. level_over (map (unconnected_cell spans walkable) (take n walkable)) (get_or walkable n d)
     ≡ (unconnected_cell spans walkable (get_or walkable n d)).at.level in
     subst P (add-one m) (level_next spans walkable m d rules' (omega (arith, there)))
+
+-- a level is at most the bottom of its span, since each walkable span below it has some height
+pub level_low : (walkable : List Span) (n : ℕ) (d : Span) → AreSpans walkable → n < length walkable
+    → count_by (λ (other : Span). stands_above other (get_or walkable n d)) walkable ≤ (get_or walkable n d).bottom
+level_low walkable n d rules' there =
+    let before = count_before walkable n d rules' there in
+    omega (arith, before, low walkable n d rules' there)
+  where
+    low_next : (beside : Bool) (walkable : List Span) (m : ℕ) (d : Span) → AreSpans walkable → m + 1 < length walkable
+        → beside ≡ ((get_or walkable m d).x == (get_or walkable (m + 1) d).x && (get_or walkable m d).z == (get_or walkable (m + 1) d).z)
+        → count_by (λ (other : Span). stands_above other (get_or walkable m d)) (take m walkable) ≤ (get_or walkable m d).bottom
+        → count_by (λ (other : Span). stands_above other (get_or walkable (m + 1) d)) (take (m + 1) walkable) ≤ (get_or walkable (m + 1) d).bottom
+    low_next true walkable m d rules' there is below =
+        let a = get_or walkable m d in
+        let b = get_or walkable (m + 1) d in
+        let same = both_equal a.x b.x a.z b.z (sym is) in
+        let next = count_next walkable m d rules' there (record { x = same.0; z = same.1 }) in
+        let over = above_from_order a b (rules'.order m (m + 1) d (omega arith) there) same.0 same.1 in
+        let solid = (rules'.each m d (omega (arith, there))).solid in
+        omega (arith, next, over, solid, below)
+    low_next false walkable m d rules' there is below =
+        let a = get_or walkable m d in
+        let b = get_or walkable (m + 1) d in
+        let first = count_first walkable m d rules' there
+        (λ beside. both_ways (a.x == b.x && a.z == b.z) (sym is) (tests_of_equal a.x b.x a.z b.z beside.x beside.z)) in
+        omega (arith, first)
+
+    low : (walkable : List Span) (n : ℕ) (d : Span) → AreSpans walkable → n < length walkable
+        → count_by (λ (other : Span). stands_above other (get_or walkable n d)) (take n walkable) ≤ (get_or walkable n d).bottom
+    low walkable zero d rules' there = omega arith
+    low walkable (suc m) d rules' there =
+        let P : ℕ → Type 0 = λ n. count_by (λ (other : Span). stands_above other (get_or walkable n d)) (take n walkable) ≤ (get_or walkable n d).bottom in
+        subst P (add-one m) (low_next _ walkable m d rules' (omega (arith, there)) refl (low walkable m d rules' (omega (arith, there))))

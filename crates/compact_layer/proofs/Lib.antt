@@ -5,4 +5,5 @@ pub mod Ceilings
 pub mod Levels
 pub mod SpansSoFar
 pub mod Sweepable
+pub mod Small
 pub mod Neighbours

@@ -1,6 +1,6 @@
 -- Cells found by place, and the cells that they name.
-use Rattle.std.proofs.Common.{◌≡◌, ℕ, zero, suc, ◌+◌, ◌<◌, Bool, true, false, length, List, [], ◌∷◌, get_or, Option, Some, None, refl, sym, ap, ◌∙◌, subst, arith, inl, inr}
-use Rattle.std.specs.Prelude.{Contains, ◌&&◌, ◌==◌, option_and_then, slice_get}
+use Rattle.std.proofs.Common.{◌≡◌, ℕ, zero, suc, ◌+◌, ◌<◌, Bool, true, false, length, List, get_or, Some, None, sym, ap, ◌∙◌, subst, arith, inl, inr}
+use Rattle.std.specs.Prelude.{Contains, ◌&&◌, ◌==◌, option_and_then}
 use Rattle.std.specs.List.{find}
 use Rattle.std.specs.List.Sorted.{IsPartitionedBy, IsPartitionPoint}
 use Rattle.std.specs.Option.{option_map, option_map_or}
@@ -98,18 +98,12 @@ cell_at cells at n d rules' there same =
     let is = one_cell cells first.place n d rules'.order (omega (arith, first.most, there)) there (here ∙ sym same) in
     first.is ∙ ap (λ i. Some (get_or cells i d)) is
 
--- the level that a cell names, as it stands in the cell
-level_of_next : (nexts : List (Option ℕ)) (dir : ℕ) → option_and_then (λ (next : Option ℕ). next) (slice_get nexts dir) ≡ get_or nexts dir None
-level_of_next [] dir = refl
-level_of_next (next ∷ nexts) zero = refl
-level_of_next (next ∷ nexts) (suc dir) = level_of_next nexts dir
-
 -- a cell that names no level has no neighbour
 pub no_neighbour : (cells : List Cell) (at : CellRef) (dir n : ℕ) (d : Cell) → IsCells cells → n < length cells → (get_or cells n d).at ≡ at
-    → get_or (get_or cells n d).next dir None ≡ None → None ≡ neighbour_of cells at dir
+    → next_level (get_or cells n d) dir ≡ None → None ≡ neighbour_of cells at dir
 no_neighbour cells at dir n d rules' there same none =
     let cell = get_or cells n d in
-    let next : next_level cell dir ≡ None = level_of_next cell.next dir ∙ none in
+    let next : next_level cell dir ≡ None = none in
     let unnamed = find_none (λ (other : Cell). is_naming dir cell other.at) cells
     (λ k e within. and_right (is_toward dir cell.at (get_or cells k e).at) _
     (ap (λ o. option_map_or (λ level. level == (get_or cells k e).at.level) o false) next)) in
@@ -118,11 +112,11 @@ no_neighbour cells at dir n d rules' there same none =
 
 -- a cell that names a level has the neighbour of that level
 pub neighbour_is : (cells : List Cell) (at to : CellRef) (dir level n : ℕ) (d : Cell) → IsCompact cells → dir < 4 → n < length cells
-    → (get_or cells n d).at ≡ at → get_or (get_or cells n d).next dir None ≡ Some level → is_toward dir at to ≡ true → to.level ≡ level
+    → (get_or cells n d).at ≡ at → next_level (get_or cells n d) dir ≡ Some level → is_toward dir at to ≡ true → to.level ≡ level
     → Some to ≡ neighbour_of cells at dir
 neighbour_is cells at to dir level n d rules' small there same some toward on =
     let cell = get_or cells n d in
-    let next : next_level cell dir ≡ Some level = level_of_next cell.next dir ∙ some in
+    let next : next_level cell dir ≡ Some level = some in
     let has : Contains cells cell = (n, there, get_or_default cells n cell d there) in
     let named = rules'.complete dir level cell small has next in
     let P : Cell → Bool = λ (other : Cell). is_naming dir cell other.at in
@@ -149,10 +143,10 @@ column_there (suc (suc (suc zero))) at to small x z h =
 column_there (suc (suc (suc (suc n)))) at to small x z h = absurd (omega arith)
 
 pub has_column : (cells : List Cell) (at : CellRef) (dir level n : ℕ) (d : Cell) → IsCompact cells → dir < 4 → n < length cells
-    → (get_or cells n d).at ≡ at → get_or (get_or cells n d).next dir None ≡ Some level → HasColumnToward dir at
+    → (get_or cells n d).at ≡ at → next_level (get_or cells n d) dir ≡ Some level → HasColumnToward dir at
 has_column cells at dir level n d rules' small there same some =
     let cell = get_or cells n d in
-    let next : next_level cell dir ≡ Some level = level_of_next cell.next dir ∙ some in
+    let next : next_level cell dir ≡ Some level = some in
     let named = rules'.complete dir level cell small (n, there, get_or_default cells n cell d there) next in
     let here = rules'.rules.each n d there in
     let P : CellRef → Type 0 = λ (a : CellRef). HasColumnToward dir a in

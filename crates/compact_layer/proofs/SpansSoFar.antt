@@ -3,20 +3,19 @@ use Rattle.std.proofs.Common.{◌≡◌, ℕ, ◌+◌, ◌<◌, ◌≤◌, ◌++
 use Rattle.std.specs.Prelude.{All, ◌==◌, not, slice_get}
 use Rattle.std.specs.List.{filter, zip}
 use Rattle.std.proofs.lemmas.Bool.{eq-eqb, ne_eqb, not_from_true, not_from_false, cond-true}
-use Rattle.std.proofs.lemmas.List.{get_or-map, length-map, length-append, map-append, append-nil, take_at, get_or_at, drop_more, take-append-drop, take_all}
+use Rattle.std.proofs.lemmas.List.{get_or-map, length-map, length-append, get_or_append_left, map-append, append-nil, take_at, get_or_at, drop_more, take-append-drop, take_all}
 use Rattle.std.proofs.lemmas.List.Elements.{filter-append, filter_more, All-map}
-use Rattle.std.proofs.lemmas.List.Sums.{count_by-le-length}
 use Rattle.std.proofs.lemmas.Slice.Zip.{length-zip, get_or-zip}
 use Rattle.nav_ground.specs.declared.field.Span.{Span}
 use Rattle.nav_ground.specs.declared.field.Field.{Field}
 use Rattle.nav_ground.specs.declared.cell.Cell.{Cell}
 use Rattle.nav_ground.specs.Fields.{IsField, IsSpan, AreAreas}
-use Rattle.nav_ground.specs.Column.{stands_above, ceiling_of}
+use Rattle.nav_ground.specs.Column.{ceiling_of}
 use Rattle.nav_ground.specs.Connection.{walkable_spans, unconnected_cell, unconnected_cells}
-use Rattle.nav_ground.proofs.Walkable.{walkable, walkable_order, few_walkable}
+use Rattle.nav_ground.proofs.Walkable.{walkable, walkable_order}
 use Rattle.compact_layer.specs.Making.{cell_with, level_over, ceiling_over}
 use Rattle.compact_layer.proofs.Ceilings.{AreSpans, ceiling_is}
-use Rattle.compact_layer.proofs.Levels.{level_is}
+use Rattle.compact_layer.proofs.Levels.{level_is, level_low}
 
 -- the spans with the areas that stand beside them, and which of them are walkable
 abbrev spans_with : List Span → List ℕ → List Span
@@ -34,7 +33,7 @@ wider : (width depth : ℕ) (span : Span) → width ≤ 1024 → depth ≤ 1024 
 wider width depth span wide deep here =
     record { x = omega (arith, here.x, wide); z = omega (arith, here.z, deep); solid = here.solid; top = here.top; area = here.area }
 
-spans_of_field : (field : Field) → IsField field → AreSpans field.spans
+pub spans_of_field : (field : Field) → IsField field → AreSpans field.spans
 spans_of_field field rules' = record {
   each = λ k d there. wider field.width field.depth _ rules'.width rules'.depth (rules'.spans k d there);
   order = rules'.order;
@@ -150,13 +149,32 @@ all_cells field areas i cells same all before =
     before ∙ ap (λ (spans : List Span). map (unconnected_cell field.spans (walkable_spans field.spans areas)) (filter is_walkable spans))
     (take_all i (spans_with field.spans areas) (omega (arith, all, length-spans_with field.spans areas same)))
 
--- levels are counts of spans
-pub levels_small : (spans : List Span) (areas : List ℕ) (i : ℕ) → length spans ≤ 2000000
-    → All (λ (cell : Cell). cell.at.level ≤ 2000000) (cells_so_far spans areas i)
-levels_small spans areas i few =
+-- the levels of the cells so far, and of all cells of a field
+level_at : (spans walkable : List Span) → AreSpans walkable → All (λ (span : Span). (unconnected_cell spans walkable span).at.level ≤ 8191) walkable
+level_at spans walkable rules' k d there =
+    let here = rules'.each k d there in
+    omega (arith, level_low walkable k d rules' there, here.solid, here.top)
+
+pub levels_of_field : (field : Field) (areas : List ℕ) → IsField field → AreAreas areas → length areas ≡ length field.spans
+    → All (λ (cell : Cell). cell.at.level ≤ 8191) (unconnected_cells field areas)
+levels_of_field field areas rules' limits same =
+    let walkable = walkable_spans field.spans areas in
+    All-map (λ (cell : Cell). cell.at.level ≤ 8191) (unconnected_cell field.spans walkable) walkable
+    (level_at field.spans walkable (walkable_of_field field areas rules' limits same))
+
+pub levels_so_far : (field : Field) (areas : List ℕ) (i : ℕ) → IsField field → AreAreas areas → length areas ≡ length field.spans
+    → All (λ (cell : Cell). cell.at.level ≤ 8191) (cells_so_far field.spans areas i)
+levels_so_far field areas i rules' limits same =
+    let spans = field.spans in
     let walkable = walkable_spans spans areas in
-    All-map (λ (cell : Cell). cell.at.level ≤ 2000000) (unconnected_cell spans walkable) (filter is_walkable (take i (spans_with spans areas)))
+    let first = filter is_walkable (take i (spans_with spans areas)) in
+    let rest = filter is_walkable (drop i (spans_with spans areas)) in
+    let split : walkable ≡ first ++ rest =
+    ap (filter is_walkable) (sym (take-append-drop i (spans_with spans areas)))
+    ∙ filter-append is_walkable (take i (spans_with spans areas)) (drop i (spans_with spans areas)) in
+    let P : Span → Type 0 = λ (span : Span). (unconnected_cell spans walkable span).at.level ≤ 8191 in
+    let Q : List Span → Type 0 = λ (list : List Span). All P list in
+    All-map (λ (cell : Cell). cell.at.level ≤ 8191) (unconnected_cell spans walkable) first
     (λ k d there.
-    let span = get_or (filter is_walkable (take i (spans_with spans areas))) k d in
-    let most = count_by-le-length (λ (other : Span). stands_above other span) walkable in
-    omega (arith, most, few_walkable spans areas, few))
+    subst P (get_or_append_left first rest d k there)
+    (subst Q split (level_at spans walkable (walkable_of_field field areas rules' limits same)) k d (omega (arith, there, length-append first rest))))

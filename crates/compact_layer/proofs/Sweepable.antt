@@ -11,9 +11,10 @@ use Rattle.nav_ground.specs.Connection.{unconnected_cells, connected_cell, compa
 use Rattle.nav_ground.proofs.Stacks.{IsStacked, stacked, are_cells}
 use Rattle.compact_layer.specs.Columns.{IsPlace, column_of}
 use Rattle.compact_layer.specs.Stacks.{IsStanding, IsUnder, AreStacked}
+use Rattle.compact_layer.proofs.SpansSoFar.{levels_of_field}
 
-standing : (cell : Cell) → IsCell cell → IsStanding cell
-standing cell rules' = record { at = record { x = rules'.x; z = rules'.z }; floor = rules'.floor }
+standing : (cell : Cell) → cell.at.level ≤ 8191 → IsCell cell → IsStanding cell
+standing cell low rules' = record { at = record { x = rules'.x; z = rules'.z }; floor = rules'.floor; level = low }
 
 column_rises : (a b : CellRef) → IsPlace a → IsPlace b → IsCellBefore a b → column_of a ≤ column_of b
 column_rises a b pa pb (inl below) = omega (arith, below, pa.x, pb.x)
@@ -36,11 +37,13 @@ unconnected_stacked field areas rules' limits same =
     let cells = unconnected_cells field areas in
     let each = are_cells field areas rules' limits same in
     let order = stacked field areas rules' limits same in
+    let low = levels_of_field field areas rules' limits same in
     record {
-      each = λ k d there. standing (get_or cells k d) (each k d there);
+      each = λ k d there. standing (get_or cells k d) (low k d there) (each k d there);
       order = λ i j d before there.
           under (get_or cells i d) (get_or cells j d)
-          (standing (get_or cells i d) (each i d (omega (arith, before, there)))) (standing (get_or cells j d) (each j d there))
+          (standing (get_or cells i d) (low i d (omega (arith, before, there))) (each i d (omega (arith, before, there))))
+          (standing (get_or cells j d) (low j d there) (each j d there))
           (order i j d before there);
     }
 

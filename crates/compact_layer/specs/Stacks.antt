@@ -6,10 +6,11 @@ use Rattle.nav_ground.specs.Connection.{level_toward}
 use Rattle.compact_layer.specs.declared.sweep.Passed.{Passed}
 use Rattle.compact_layer.specs.Columns.{IsPlace, column_of, column_toward}
 
--- a cell lies in the largest field, and its floor is the top of a span
+-- a cell lies in the largest field, its floor is the top of a span, and no more cells lie below it than spans of some height can
 pub record IsStanding (cell : Cell) : Type 0 where
   pub at : IsPlace cell.at
   pub floor : cell.floor ≤ 8191
+  pub level : cell.at.level ≤ 8191
 
 -- a cell and a later one: the later one is not in an earlier column, and in the same column its floor lies above the first one's floor and ceiling
 pub record IsUnder (a b : Cell) : Type 0 where

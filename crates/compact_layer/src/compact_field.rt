@@ -1,14 +1,14 @@
 //! The cells of a whole field.
 
-use nav_ground::Cell;
+use nav_ground::SmallCell;
 use nav_list::{Duplicate, Items};
 use std::alloc::{AllocError, Global};
 
 /// The cells of a whole field, by z, then x, then level, each with the levels of the cells that it is connected to: at most one in
 /// each direction, and that one leads back.
-#[derive(PartialEq, Eq, Drop)]
+#[derive(Drop)]
 pub struct CompactField {
-    pub cells: Items<Cell>,
+    pub cells: Items<SmallCell>,
 }
 
 impl Duplicate for CompactField {

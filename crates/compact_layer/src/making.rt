@@ -3,14 +3,14 @@
 ghost use Rattle.std.specs.Prelude.{◌≡◌, ◌≤◌, IfOk, length, All, slice_get};
 ghost use Rattle.nav_ground.specs.declared.cell.Cell.{Cell};
 ghost use Rattle.nav_ground.specs.Limits.{IsAgent};
-ghost use Rattle.nav_ground.specs.Fields.{IsField, AreAreas};
+ghost use Rattle.nav_ground.specs.Fields.{IsField, IsSpan, AreAreas};
 ghost use Rattle.nav_ground.specs.Cells.{IsCompact};
 ghost use Rattle.nav_ground.specs.Connection.{unconnected_cells, compact_cells};
 ghost use Rattle.compact_layer.specs.Making.{cell_with, level_over, ceiling_over};
 
 use crate::compact_field::CompactField;
 use crate::sweep::connect;
-use nav_ground::{Agent, Cell, CellRef, Field, Span};
+use nav_ground::{Agent, Cell, CellRef, Field, SmallCell, Span};
 use nav_list::Items;
 use std::alloc::{AllocError, Global};
 
@@ -39,7 +39,7 @@ pub fn compact(
 }
 
 /// The cells on the spans whose areas are not 0, not yet connected.
-fn unconnected(alloc: Global, field: &Field, areas: &[u32]) -> Result<Vec<Cell>, AllocError>
+fn unconnected(alloc: Global, field: &Field, areas: &[u32]) -> Result<Vec<SmallCell>, AllocError>
     requires field { IsField field.now }
     requires areas { AreAreas areas.now }
     requires each { length areas.now ≡ length field.now.spans }
@@ -58,11 +58,14 @@ fn unconnected(alloc: Global, field: &Field, areas: &[u32]) -> Result<Vec<Cell>,
 }
 
 /// The cell on a span with an area, not yet connected, from the cells before it in order and the index of the next span of the field.
-fn cell_on(before: &[Cell], spans: &[Span], next: usize, span: &Span, area: u32) -> Cell
-    requires { All (λ (cell : Cell). cell.at.level ≤ 2000000) before.now }
+fn cell_on(before: &[SmallCell], spans: &[Span], next: usize, span: &Span, area: u32) -> SmallCell
+    requires before { All (λ (cell : Cell). cell.at.level ≤ 8191) before.now }
+    requires spans { All (IsSpan 1024 1024) spans.now }
+    requires span { IsSpan 1024 1024 span.now }
+    requires area { area ≤ 63 }
     ensures { result ≡ cell_with (record span.now { area = area }) (level_over before.now span.now) (ceiling_over (slice_get spans.now next) span.now) }
 {
-    Cell {
+    SmallCell::new(&Cell {
         at: CellRef {
             x: span.x,
             z: span.z,
@@ -72,16 +75,17 @@ fn cell_on(before: &[Cell], spans: &[Span], next: usize, span: &Span, area: u32)
         ceiling: ceiling_over(spans, next, span),
         area,
         next: [None; 4],
-    }
+    })
 }
 
 /// The level of a cell on a span, from the cells before it in order: one above the last of them if that lies in the same column, else 0.
-fn level_over(cells: &[Cell], span: &Span) -> u32
-    requires { All (λ (cell : Cell). cell.at.level ≤ 2000000) cells.now }
-    ensures { result ≡ level_over cells.now span.now }
+fn level_over(cells: &[SmallCell], span: &Span) -> u32
+    requires { All (λ (cell : Cell). cell.at.level ≤ 8191) cells.now }
+    ensures most { result ≤ 8192 }
+    ensures level { result ≡ level_over cells.now span.now }
 {
-    match cells.last() {
-        Some(last) if last.at.x == span.x && last.at.z == span.z => last.at.level + 1,
+    match cells.last().map(|last| last.at()) {
+        Some(at) if at.x == span.x && at.z == span.z => at.level + 1,
         _ => 0,
     }
 }
@@ -89,7 +93,9 @@ fn level_over(cells: &[Cell], span: &Span) -> u32
 /// The ceiling over a span, by the index of the next span of the field: the bottom of that, walkable or not, if it lies in the same column,
 /// else 65535.
 fn ceiling_over(spans: &[Span], next: usize, span: &Span) -> u32
-    ensures { result ≡ ceiling_over (slice_get spans.now next) span.now }
+    requires { All (IsSpan 1024 1024) spans.now }
+    ensures most { result ≤ 65535 }
+    ensures ceiling { result ≡ ceiling_over (slice_get spans.now next) span.now }
 {
     match spans.get(next) {
         Some(above) if above.x == span.x && above.z == span.z => above.bottom,

@@ -6,7 +6,7 @@ ghost use Rattle.nav_ground.specs.Cells.{IsCells, IsCompact, is_toward};
 ghost use Rattle.compact_layer.specs.Places.{IsPlaceOf, HasColumnToward, is_before, neighbour_of};
 
 use crate::compact_field::CompactField;
-use nav_ground::{Cell, CellRef};
+use nav_ground::{CellRef, SmallCell};
 
 /// The place of the cell that the cell at a place is connected to in a direction, 0 for x - 1, 1 for z + 1, 2 for x + 1, 3 for z - 1; none
 /// where it is connected to none there. The place is that of a cell of the list.
@@ -18,18 +18,18 @@ pub fn neighbour(compact: &CompactField, at: CellRef, dir: u32) -> Option<CellRe
 {
     let cells = compact.cells.as_slice();
     let here = index_of(cells, at);
-    let level = cells[here].next[dir as usize]?;
+    let level = cells[here].next(dir as usize)?;
     Some(place_toward(dir, at, level))
 }
 
 /// The index of the cell at a place, by halves.
-fn index_of(cells: &[Cell], at: CellRef) -> usize
+fn index_of(cells: &[SmallCell], at: CellRef) -> usize
     requires rules { IsCells cells.now }
     requires there { IsPlaceOf cells.now at }
     ensures bound { result < length cells.now }
     ensures at { (d : Cell) → (slice_index_or cells.now result d).at ≡ at }
 {
-    cells.partition_point(|cell| is_before(cell.at, at))
+    cells.partition_point(|cell| is_before(cell.at(), at))
 }
 
 /// Whether a place comes before another, by z, then x, then level.

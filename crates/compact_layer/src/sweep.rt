@@ -9,7 +9,7 @@ ghost use Rattle.compact_layer.specs.Stacks.{IsStanding, AreStacked, IsPassed, A
 
 use crate::columns::{column_of, column_toward};
 use crate::steps::is_connected;
-use nav_ground::{Agent, Cell};
+use nav_ground::{Agent, Cell, SmallCell};
 
 /// How many cells are passed in each direction: those that come before the one that the cell at hand may be connected to. As cells are
 /// gone through in order these numbers only rise, so all of them together pass each cell once a direction.
@@ -22,7 +22,7 @@ pub struct Passed {
 }
 
 /// Connects the cells of a field with one another, in place.
-pub fn connect(cells: &mut [Cell], agent: &Agent)
+pub fn connect(cells: &mut [SmallCell], agent: &Agent)
     requires cells { AreStacked cells.old }
     requires agent { IsAgent agent.now }
     ensures { cells.new ≡ map (connected_cell agent.now cells.old) cells.old }
@@ -34,14 +34,19 @@ pub fn connect(cells: &mut [Cell], agent: &Agent)
         below: 0,
     };
     for i in 0..cells.len() {
-        let cell = cells[i];
+        let cell = cells[i].get();
         let next = next_levels(cells, &mut passed, &cell, agent);
-        cells[i] = Cell { next, ..cell };
+        cells[i] = SmallCell::new(&Cell { next, ..cell });
     }
 }
 
 /// The levels of the cells that a cell is connected to in the four directions.
-fn next_levels(cells: &[Cell], passed: &mut Passed, cell: &Cell, agent: &Agent) -> [Option<u32>; 4]
+fn next_levels(
+    cells: &[SmallCell],
+    passed: &mut Passed,
+    cell: &Cell,
+    agent: &Agent,
+) -> [Option<u32>; 4]
     requires cells { AreStacked cells.now }
     requires passed { ArePassed cells.now agent.now.height passed.old cell.now }
     requires cell { IsStanding cell.now }
@@ -60,7 +65,7 @@ fn next_levels(cells: &[Cell], passed: &mut Passed, cell: &Cell, agent: &Agent) 
 /// The level of the cell that a cell is connected to in a direction. Only the lowest cell of that column with room for the agent over
 /// the own floor can be it: each cell above it has its floor over that one's ceiling, which is more than a step up.
 fn level_toward(
-    cells: &[Cell],
+    cells: &[SmallCell],
     passed: &mut usize,
     cell: &Cell,
     dir: usize,
@@ -77,15 +82,15 @@ fn level_toward(
     let column = column_toward(dir, cell.at);
     *passed = pass(cells, *passed, column, cell.floor + agent.height);
     let other = cells.get(*passed)?;
-    if column_of(other.at) == column && is_connected(agent, cell, other) {
-        Some(other.at.level)
+    if column_of(other.at()) == column && is_connected(agent, cell, other) {
+        Some(other.at().level)
     } else {
         None
     }
 }
 
 /// How many cells come before the first of a column with its ceiling at a height or above it, where so many are known to do.
-fn pass(cells: &[Cell], known: usize, column: u32, height: u32) -> usize
+fn pass(cells: &[SmallCell], known: usize, column: u32, height: u32) -> usize
     requires cells { AreStacked cells.now }
     requires known { IsPassed cells.now known column height }
     ensures passed { IsPassed cells.now result column height }
@@ -99,10 +104,10 @@ fn pass(cells: &[Cell], known: usize, column: u32, height: u32) -> usize
 }
 
 /// Whether a cell lies in a column before one, or in that column with its ceiling below a height.
-fn is_passed(cell: &Cell, column: u32, height: u32) -> bool
+fn is_passed(cell: &SmallCell, column: u32, height: u32) -> bool
     requires { IsStanding cell.now }
     ensures { result ≡ is_passed column height cell.now }
 {
-    let own = column_of(cell.at);
-    own < column || own == column && cell.ceiling < height
+    let own = column_of(cell.at());
+    own < column || own == column && cell.ceiling() < height
 }

@@ -133,7 +133,7 @@ fn inner_of(mesh: &Mesh, tile: usize) -> &[Link]
     ensures { result.now ≡ inner_of mesh.now tile }
 {
     match mesh.tiles.get(tile) {
-        Some(tile) => tile.get().mesh().links.as_slice(),
+        Some(tile) => tile.get().links.as_slice(),
         None => &[],
     }
 }

@@ -38,7 +38,7 @@ fn inner(mesh: &Mesh, at: PolyRef) -> &[Link]
     ensures { result.now ≡ inner_links mesh.now at }
 {
     match mesh.tiles.get(at.tile as usize) {
-        Some(tile) => tile.get().mesh().links.leaving(at.index),
+        Some(tile) => tile.get().links.leaving(at.index),
         None => &[],
     }
 }
@@ -58,7 +58,7 @@ pub(crate) fn entered_inside(mesh: &Mesh, at: PolyRef) -> &[PolyRef]
     ensures { result.now ≡ map entered_by (inner_links mesh.now at) }
 {
     match mesh.tiles.get(at.tile as usize) {
-        Some(tile) => tile.get().mesh().links.entered_from(at.index),
+        Some(tile) => tile.get().links.entered_from(at.index),
         None => &[],
     }
 }

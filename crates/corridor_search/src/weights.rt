@@ -26,7 +26,7 @@ pub fn extent_at(mesh: &Mesh, at: PolyRef) -> Extent
     ensures { result ≡ extent_at mesh.now at }
 {
     match mesh.tiles.get(at.tile as usize) {
-        Some(tile) => extent_in(tile.get().mesh().polys.extents(), at.index as usize),
+        Some(tile) => extent_in(tile.get().polys.extents(), at.index as usize),
         None => NOWHERE,
     }
 }

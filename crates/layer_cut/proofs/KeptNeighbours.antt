@@ -1,6 +1,6 @@
 -- The neighbours that kept cells name.
-use Rattle.std.proofs.Common.{◌≡◌, ℕ, zero, suc, ◌<◌, Bool, true, false, cond, List, [], ◌∷◌, length, map, filter, get_or, ap, ◌∙◌, sym, refl, arith, Option, Some, None, inl, inr}
-use Rattle.std.specs.Prelude.{Contains, ◌&&◌, ◌||◌, ◌==◌, if◌then◌else◌, option_and_then, slice_get}
+use Rattle.std.proofs.Common.{◌≡◌, ℕ, ◌<◌, Bool, true, false, cond, List, [], ◌∷◌, length, map, filter, get_or, ap, ◌∙◌, sym, refl, arith, Option, Some, None, inl, inr}
+use Rattle.std.specs.Prelude.{Contains, ◌&&◌, ◌||◌, ◌==◌, if◌then◌else◌}
 use Rattle.std.specs.List.{list_any}
 use Rattle.std.specs.Option.{option_map_or}
 use Rattle.std.proofs.lemmas.Bool.{and_parts, and_from, and_left, and_right, eq-eqb, cases_lt}
@@ -16,25 +16,12 @@ use Rattle.nav_ground.proofs.FreeLayers.{names_one}
 use Rattle.layer_cut.specs.Neighbours.{HasColumnToward, IsPlaceOf}
 use Rattle.layer_cut.proofs.PlacesFound.{IsIndexOf}
 
--- what stands in the place of a direction, as a level that is named
-pub level_at : (next : List (Option ℕ)) (dir level : ℕ) → get_or next dir None ≡ Some level
-    → option_and_then (λ (n : Option ℕ). n) (slice_get next dir) ≡ Some level
-level_at [] dir level h = absurd cc
-level_at (n ∷ ns) zero level h = h
-level_at (n ∷ ns) (suc d) level h = level_at ns d level h
-
--- and so is that it is not connected there
-none_at : (next : List (Option ℕ)) (dir : ℕ) → get_or next dir None ≡ None → option_and_then (λ (n : Option ℕ). n) (slice_get next dir) ≡ None
-none_at [] dir h = refl
-none_at (n ∷ ns) zero h = h
-none_at (n ∷ ns) (suc d) h = none_at ns d h
-
--- it then names no kept level either
-pub none_kept : (kept : List Cell) (cell : Cell) (dir : ℕ) (level : Option ℕ) → level ≡ None → get_or cell.next dir None ≡ None
+-- a cell that is not connected in a direction names no kept level there
+pub none_kept : (kept : List Cell) (cell : Cell) (dir : ℕ) (level : Option ℕ) → level ≡ None → next_level cell dir ≡ None
     → level ≡ kept_level kept cell dir
 none_kept kept cell dir level is none =
     elim (has_neighbour kept cell dir) as (λ b. level ≡ (if b then next_level cell dir else None))
-    [ true ↦ is ∙ sym (none_at cell.next dir none) | false ↦ is ]
+    [ true ↦ is ∙ sym none | false ↦ is ]
 
 -- a cell that names a level has a column in that direction
 pub column_toward : (cells : List Cell) (cell : Cell) (dir level : ℕ) → IsCompact cells → Contains cells cell → dir < 4

@@ -5,51 +5,56 @@ ghost use Rattle.std.specs.List.{AllWithin};
 ghost use Rattle.nav_ground.specs.declared.cell.Cell.{Cell};
 ghost use Rattle.nav_ground.specs.Cells.{IsCells, IsCompact, is_toward};
 ghost use Rattle.nav_ground.specs.Layers;
+ghost use Rattle.nav_ground.specs.Levels.{IsSmallLevel};
+ghost use Rattle.nav_ground.specs.SmallCells.{IsSmall};
 ghost use Rattle.layer_cut.specs.Neighbours.{HasColumnToward, IsPlaceOf, is_in_earlier_column};
 
-use nav_ground::{Cell, CellRef};
+use nav_ground::{Cell, CellRef, SmallCell};
 
 /// A kept cell as its layer has it: it names those of its neighbours that are kept. For each direction `firsts` keeps where the column of
 /// the neighbour last sought begins; where cells are gone through in order these numbers only rise, so all of them together pass
 /// each cell once a direction. They say only where to look first, and no answer depends on them.
 pub(crate) fn layer_cell(
-    cells: &[Cell],
+    cells: &[SmallCell],
     marks: &[bool],
     firsts: &mut [usize; 4],
-    cell: &Cell,
-) -> Cell
+    cell: &SmallCell,
+) -> SmallCell
     requires cells { IsCompact cells.now }
     requires cell { Contains cells.now cell.now }
     requires marks { length marks.now ≡ length cells.now }
     ensures { (p : Cell → Bool) → marks.now ≡ map p cells.now
         → result ≡ Layers.layer_cell (filter p cells.now) cell.now }
 {
+    let whole = cell.get();
     let next = [
         kept_level(cells, marks, &mut firsts[0], cell, 0),
         kept_level(cells, marks, &mut firsts[1], cell, 1),
         kept_level(cells, marks, &mut firsts[2], cell, 2),
         kept_level(cells, marks, &mut firsts[3], cell, 3),
     ];
-    Cell { next, ..*cell }
+    SmallCell::new(&Cell { next, ..whole })
 }
 
 /// The level that a cell names in a direction, if that neighbour is kept.
 fn kept_level(
-    cells: &[Cell],
+    cells: &[SmallCell],
     marks: &[bool],
     first: &mut usize,
-    cell: &Cell,
+    cell: &SmallCell,
     dir: usize,
 ) -> Option<u32>
     requires dir { dir < 4 }
     requires cells { IsCompact cells.now }
     requires cell { Contains cells.now cell.now }
     requires marks { length marks.now ≡ length cells.now }
-    ensures { (p : Cell → Bool) → marks.now ≡ map p cells.now
+    requires small { IsSmall cell.now }
+    ensures level { (p : Cell → Bool) → marks.now ≡ map p cells.now
         → result ≡ Layers.kept_level (filter p cells.now) cell.now dir }
+    ensures small { IsSmallLevel result }
 {
-    let level = cell.next[dir]?;
-    let place = neighbour(cell.at, dir, level);
+    let level = cell.next(dir)?;
+    let place = neighbour(cell.at(), dir, level);
     *first = first_from(cells, *first, place);
     let index = index_of(cells, *first, place);
     if marks[index] { Some(level) } else { None }
@@ -72,13 +77,13 @@ fn neighbour(at: CellRef, dir: usize, level: u32) -> CellRef
 }
 
 /// The index of the first cell, at an index or later, that does not lie in a column before that of a place.
-fn first_from(cells: &[Cell], index: usize, place: CellRef) -> usize
+fn first_from(cells: &[SmallCell], index: usize, place: CellRef) -> usize
     ensures from { index ≤ result }
     ensures passed { AllWithin (λ (cell : Cell). is_in_earlier_column cell.at place ≡ true) cells.now index result }
     ensures next { (d : Cell) → result < length cells.now → is_in_earlier_column (slice_index_or cells.now result d).at place ≡ false }
 {
     let mut first = index;
-    while first < cells.len() && is_in_earlier_column(cells[first].at, place) {
+    while first < cells.len() && is_in_earlier_column(cells[first].at(), place) {
         first += 1;
     }
     first
@@ -93,7 +98,7 @@ fn is_in_earlier_column(a: CellRef, b: CellRef) -> bool
 
 /// The index of the cell at a place. It is sought first where it stands if its column begins at `first` and no level below it is left out,
 /// as in every list that was cut from a field.
-fn index_of(cells: &[Cell], first: usize, place: CellRef) -> usize
+fn index_of(cells: &[SmallCell], first: usize, place: CellRef) -> usize
     requires cells { IsCells cells.now }
     requires there { IsPlaceOf cells.now place }
     ensures within { result < length cells.now }
@@ -108,24 +113,24 @@ fn index_of(cells: &[Cell], first: usize, place: CellRef) -> usize
 }
 
 /// Whether the cell at an index is there and has a place.
-fn is_at(cells: &[Cell], index: usize, place: CellRef) -> bool
+fn is_at(cells: &[SmallCell], index: usize, place: CellRef) -> bool
     ensures within { IsTrue result → index < length cells.now }
     ensures at { IsTrue result → (d : Cell) → (slice_index_or cells.now index d).at ≡ place }
 {
     match cells.get(index) {
-        Some(cell) => is_same(cell.at, place),
+        Some(cell) => is_same(cell.at(), place),
         None => false,
     }
 }
 
 /// The index of the cell at a place, whatever levels are left out.
-fn sought(cells: &[Cell], place: CellRef) -> usize
+fn sought(cells: &[SmallCell], place: CellRef) -> usize
     requires cells { IsCells cells.now }
     requires there { IsPlaceOf cells.now place }
     ensures within { result < length cells.now }
     ensures at { (d : Cell) → (slice_index_or cells.now result d).at ≡ place }
 {
-    cells.partition_point(|cell| is_before(cell.at, place))
+    cells.partition_point(|cell| is_before(cell.at(), place))
 }
 
 /// Whether two places are the same.

@@ -2,6 +2,7 @@
 
 ghost use Rattle.std.specs.Prelude.{◌≡◌, ◌<◌, IfOk, List, [], map};
 ghost use Rattle.std.specs.List.{range_with_len};
+ghost use Rattle.nav_ground.specs.declared.cell.Cell.{Cell};
 ghost use Rattle.nav_ground.specs.Cells.{IsCells, IsCompact};
 ghost use Rattle.nav_ground.specs.Clearance.{is_kept, kept_cells};
 ghost use Rattle.nav_ground.specs.Layers.{layer_among, wide_cells};
@@ -11,7 +12,9 @@ ghost use Rattle.layer_cut.specs.Tiles.{tile_at, IsInField, AreInField, layer_wi
 
 use crate::neighbours::layer_cell;
 use agent_erode::cells_near;
-use nav_ground::{Cell, CellRef, Layer, Setting, TileNo, Window, margin_of, tile_bounds, tiles};
+use nav_ground::{
+    CellRef, Layer, Setting, SmallCell, TileNo, Window, margin_of, tile_bounds, tiles,
+};
 use nav_list::Items;
 use std::alloc::{AllocError, Global};
 
@@ -30,7 +33,7 @@ pub fn tile_of(setting: &Setting, x: u32, z: u32) -> TileNo
 pub(crate) fn hand_out(
     alloc: Global,
     setting: &Setting,
-    cells: &[Cell],
+    cells: &[SmallCell],
     marks: &[bool],
 ) -> Result<Vec<Layer>, AllocError>
     requires setting { IsSetting setting.now }
@@ -44,7 +47,8 @@ pub(crate) fn hand_out(
     let mut firsts = [0; 4];
     for (i, cell) in cells.iter().enumerate() {
         if marks[i] {
-            let tile = tile_of(setting, cell.at.x, cell.at.z);
+            let place = cell.at();
+            let tile = tile_of(setting, place.x, place.z);
             let kept = layer_cell(cells, marks, &mut firsts, cell);
             layers[tile as usize].cells.push(kept)?;
         }
@@ -53,7 +57,11 @@ pub(crate) fn hand_out(
 }
 
 /// The layers of all tiles before any cell is handed out: with what agents keep from obstacles and with their wide cells.
-fn empty_layers(alloc: Global, setting: &Setting, cells: &[Cell]) -> Result<Vec<Layer>, AllocError>
+fn empty_layers(
+    alloc: Global,
+    setting: &Setting,
+    cells: &[SmallCell],
+) -> Result<Vec<Layer>, AllocError>
     requires setting { IsSetting setting.now }
     requires cells { IsCells cells.now }
     ensures { (kept : List Cell) → IfOk result (λ layers. layers.items ≡ map (layer_with setting.now cells.now kept []) (range_with_len 0 (tile_count setting.now))) }
@@ -71,7 +79,7 @@ fn empty_layers(alloc: Global, setting: &Setting, cells: &[Cell]) -> Result<Vec<
 pub(crate) fn cut(
     alloc: Global,
     setting: &Setting,
-    cells: &[Cell],
+    cells: &[SmallCell],
     marks: &[bool],
     tile: TileNo,
 ) -> Result<Layer, AllocError>
@@ -85,7 +93,8 @@ pub(crate) fn cut(
     let mut kept = Vec::new(alloc);
     let mut firsts = [0; 4];
     for (i, cell) in cells.iter().enumerate() {
-        if marks[i] && is_inside(&window, cell.at) {
+        let place = cell.at();
+        if marks[i] && is_inside(&window, place) {
             kept.push(layer_cell(cells, marks, &mut firsts, cell))?;
         }
     }
@@ -96,9 +105,9 @@ pub(crate) fn cut(
 fn layer_of_cells(
     alloc: Global,
     setting: &Setting,
-    cells: &[Cell],
+    cells: &[SmallCell],
     tile: TileNo,
-    kept: Vec<Cell>,
+    kept: Vec<SmallCell>,
 ) -> Result<Layer, AllocError>
     requires setting { IsSetting setting.now }
     requires cells { IsCells cells.now }
@@ -118,9 +127,9 @@ fn layer_of_cells(
 fn wide_cells(
     alloc: Global,
     setting: &Setting,
-    cells: &[Cell],
+    cells: &[SmallCell],
     tile: TileNo,
-) -> Result<Vec<Cell>, AllocError>
+) -> Result<Vec<SmallCell>, AllocError>
     requires setting { IsSetting setting.now }
     requires cells { IsCells cells.now }
     requires there { tile < tile_count setting.now }

@@ -45,7 +45,7 @@ fn nearest_in_tile(mesh: &Mesh, tile: TileNo, sought: Sought, best: Option<Near>
     ensures { IsNearestBefore mesh.now sought.p sought.y (tile + 1) 0 result }
 {
     let tiles = mesh.tiles.as_slice();
-    let polygons = &tiles[tile as usize].get().mesh().polys;
+    let polygons = &tiles[tile as usize].get().polys;
     let mut nearest = best;
     for i in 0..polygons.len() {
         let at = PolyRef {

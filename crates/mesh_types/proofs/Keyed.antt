@@ -1,5 +1,5 @@
 -- Lists in the order of a key: what lies before a key, and what has it.
-use Rattle.std.proofs.Common.{◌≡◌, ℕ, ◌+◌, ◌-◌, ◌<◌, ◌≤◌, Bool, true, false, cond, List, [], ◌∷◌, length, take, drop, filter, get_or, ap, ◌∙◌, sym, refl, arith, tests, zero, suc}
+use Rattle.std.proofs.Common.{◌≡◌, ℕ, ◌+◌, ◌-◌, ◌<◌, ◌≤◌, Bool, true, false, cond, List, [], ◌∷◌, length, take, drop, filter, get_or, ap, ◌∙◌, sym, refl, arith, tests, suc}
 use Rattle.std.specs.Prelude.{nat_lt, ◌==◌, ◌&&◌, not, All, slice_range}
 use Rattle.std.specs.List.{count_by}
 use Rattle.std.specs.List.Sorted.{IsNonDecreasingBy, IsPartitionedBy}

@@ -19,7 +19,6 @@ pub mod GroundCells
 pub mod RunTotals
 pub mod MaximalRuns
 pub mod Opposites
-pub mod SquareLaws
 pub mod ChoiceLaws
 pub mod EarLaws
 pub mod MergeLaws
@@ -51,4 +50,3 @@ pub mod DoorRims
 pub mod ContourFit
 pub mod RegionLaws
 mod ExtentLaws
-pub mod WayLaws

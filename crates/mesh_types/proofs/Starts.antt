@@ -1,13 +1,13 @@
 -- Where the links of each polygon begin.
-use Rattle.std.proofs.Common.{◌≡◌, ℕ, ◌+◌, ◌-◌, ◌<◌, ◌≤◌, Bool, true, false, List, [], ◌∷◌, ◌++◌, length, map, filter, get_or, ap, ◌∙◌, sym, refl, arith, tests, inl, inr}
-use Rattle.std.specs.Prelude.{nat_lt, ◌==◌, ◌&&◌, slice_range, All}
+use Rattle.std.proofs.Common.{◌≡◌, ℕ, ◌+◌, ◌<◌, ◌≤◌, List, [], ◌∷◌, ◌++◌, length, map, get_or, ap, ◌∙◌, sym, arith, inl, inr}
+use Rattle.std.specs.Prelude.{◌==◌, slice_range}
 use Rattle.std.specs.List.{count_by, range_with_len}
 use Rattle.std.proofs.lemmas.Bool.{cases_lt, ne_eqb, both_ways, ltb-true, lt-ltb}
 use Rattle.std.proofs.lemmas.List.FromFn.{get_or-map-range_with_len, length-map-range_with_len, map-range_with_len_more}
 use Rattle.std.proofs.lemmas.List.Sums.{count_by-le-length}
 use Rattle.nav_ground.proofs.Selections.{filter_none}
 use Rattle.mesh_types.specs.declared.links.Link.{Link}
-use Rattle.mesh_types.specs.LinkIndex.{AreOrderedLinks, AreBelow, IsIndexed, is_before_polygon, leaving_of, starts_of}
+use Rattle.mesh_types.specs.LinkIndex.{AreOrderedLinks, IsIndexed, is_before_polygon, leaving_of}
 use Rattle.mesh_types.proofs.Keyed.{before_first, at_key, first_passes, later_fails, fewer_before}
 
 -- one link more leaves an earlier polygon

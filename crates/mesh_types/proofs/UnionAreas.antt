@@ -1,5 +1,5 @@
 -- Areas of pieces: two pieces together have the area of both.
-use Rattle.std.proofs.Common.{◌≡◌, ℕ, zero, suc, ◌+◌, ◌<◌, ◌≤◌, ℤ, ◌+ℤ◌, true, List, [], ◌∷◌, length, map, All, refl, sym, ap, ◌∙◌, arith}
+use Rattle.std.proofs.Common.{◌≡◌, ℕ, zero, suc, ◌<◌, ◌≤◌, ℤ, ◌+ℤ◌, true, List, [], ◌∷◌, length, map, All, refl, sym, ap, ◌∙◌, arith}
 use Rattle.std.specs.Prelude.{slice_index, slice_set}
 use Rattle.std.specs.List.{remove}
 use Rattle.std.proofs.lemmas.Int.{ints}

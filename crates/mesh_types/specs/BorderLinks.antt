@@ -1,5 +1,5 @@
 -- BorderLinks: the links from one tile to the tile across one of its sides.
-use Rattle.std.specs.Prelude.{◌≡◌, ℕ, ◌+◌, ◌-◌, ℤ, pos, ◌*ℤ◌, Bool, false, nat_le, ◌==◌, ◌&&◌, if◌then◌else◌, List, map, filter, length, slice_get, slice_index_or, Option, Some, None, All}
+use Rattle.std.specs.Prelude.{◌≡◌, ℕ, ◌+◌, ◌-◌, ℤ, pos, ◌*ℤ◌, Bool, false, nat_le, ◌==◌, ◌&&◌, if◌then◌else◌, List, map, filter, length, slice_get, Option, Some, None, All}
 use Rattle.std.specs.List.{flat_map, range_with_len}
 use Rattle.std.specs.Option.{option_map_or}
 use Rattle.nav_base.specs.declared.point.Point.{Point}

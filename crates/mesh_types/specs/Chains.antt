@@ -1,5 +1,5 @@
 -- Chains: portals one after the other, from a start to a goal.
-use Rattle.std.specs.Prelude.{◌≡◌, ◌≢◌, ℕ, ◌+◌, ◌-◌, ◌<◌, ℤ, pos, ◌≤ℤ◌, ◌<ℤ◌, nat_lt, ◌==◌, if◌then◌else◌, List, [], ◌∷◌, length, All, get_or}
+use Rattle.std.specs.Prelude.{◌≡◌, ◌≢◌, ℕ, ◌+◌, ◌-◌, ◌<◌, pos, ◌≤ℤ◌, ◌<ℤ◌, nat_lt, ◌==◌, if◌then◌else◌, List, [], ◌∷◌, length, All, get_or}
 use Rattle.nav_base.specs.declared.point.Point.{Point}
 use Rattle.nav_base.specs.Point.{orient_of, dot_of, from_to}
 use Rattle.mesh_types.specs.declared.links.Portal.{Portal}

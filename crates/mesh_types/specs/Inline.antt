@@ -1,5 +1,5 @@
 -- Inline: how up to six points lie in a record of fixed size.
-use Rattle.std.specs.Prelude.{◌≡◌, ℕ, ◌-◌, ◌≤◌, List, length, take, drop, replicate, ◌++◌, pos}
+use Rattle.std.specs.Prelude.{◌≡◌, ◌-◌, ◌≤◌, List, length, take, drop, replicate, ◌++◌, pos}
 use Rattle.std.proofs.Common.{arith, refl}
 use Rattle.std.proofs.lemmas.List.{length-take-le, take-append-drop}
 use Rattle.nav_base.specs.declared.point.Point.{Point}

@@ -31,4 +31,3 @@ pub mod Contours
 pub mod ContourMeshes
 pub mod StripCover
 pub mod Passages
-pub mod Ways

@@ -1,5 +1,5 @@
 -- Runs: maximal runs of places with one label.
-use Rattle.std.specs.Prelude.{ℕ, ◌+◌, ◌-◌, Bool, false, not, ◌==◌, ◌||◌, if◌then◌else◌, List, [], length, drop, get_or, Option, Some, None}
+use Rattle.std.specs.Prelude.{ℕ, ◌+◌, ◌-◌, Bool, false, not, ◌==◌, ◌||◌, if◌then◌else◌, List, length, drop, get_or, Option, Some, None}
 use Rattle.std.specs.List.{prefix_len, range_with_len, filter_map}
 use Rattle.mesh_types.specs.declared.label_runs.Run.{Run}
 

@@ -1,5 +1,5 @@
 -- Simplified: contours with fewer corners.
-use Rattle.std.specs.Prelude.{◌≡◌, All, ℕ, zero, suc, pos, ◌+◌, ◌-◌, ◌*◌, Bool, true, false, not, nat_lt, ◌==◌, if◌then◌else◌, List, [], ◌∷◌, ◌++◌, length, map, take, drop, get_or, filter, reverse, min, max}
+use Rattle.std.specs.Prelude.{◌≡◌, All, ℕ, zero, suc, pos, ◌+◌, ◌*◌, Bool, true, false, not, nat_lt, ◌==◌, if◌then◌else◌, List, [], ◌∷◌, ◌++◌, length, map, take, drop, get_or, filter, reverse, min, max}
 use Rattle.std.specs.List.{list_any, range_with_len, flat_map, slice_range, zip}
 use Rattle.std.specs.Ordering.{is_eq}
 use Rattle.nav_base.specs.declared.point.Point.{Point}

@@ -1,5 +1,5 @@
 -- StripMeshes: the mesh of a tile as strips, one rectangle a strip.
-use Rattle.std.specs.Prelude.{ℕ, ◌+◌, ◌-◌, ◌*◌, ◌%◌, min, max, Bool, not, ◌==◌, ◌&&◌, if◌then◌else◌, List, [], ◌∷◌, ◌++◌, length, map, filter, get_or, drop, Option, Some, None, is_some, unwrap_or, option_and_then, pos, int_le}
+use Rattle.std.specs.Prelude.{ℕ, ◌+◌, ◌-◌, ◌*◌, ◌%◌, min, max, Bool, ◌==◌, ◌&&◌, if◌then◌else◌, List, [], ◌∷◌, length, map, get_or, Option, Some, None, is_some, unwrap_or, option_and_then, pos, int_le}
 use Rattle.std.specs.List.{list_any, flat_map, range_with_len, fold, between, position}
 use Rattle.nav_base.specs.declared.point.Point.{Point}
 use Rattle.nav_ground.specs.declared.setting.Setting.{Setting}

@@ -1,5 +1,5 @@
 -- WholeMesh: the tiles of a ground joined into one mesh.
-use Rattle.std.specs.Prelude.{ℕ, ◌+◌, ◌-◌, ◌/◌, ◌%◌, Bool, nat_lt, ◌==◌, if◌then◌else◌, List, [], length, map, slice_get, Option, Some, None, option_and_then}
+use Rattle.std.specs.Prelude.{ℕ, ◌+◌, ◌-◌, ◌/◌, ◌%◌, nat_lt, ◌==◌, if◌then◌else◌, List, [], map, slice_get, Option, Some, None, option_and_then}
 use Rattle.std.specs.List.{flat_map, range_with_len}
 use Rattle.std.specs.Option.{option_map_or}
 use Rattle.nav_ground.specs.declared.setting.Setting.{Setting}

@@ -104,7 +104,7 @@ fn entered(alloc: Global, links: &[Link]) -> Result<Vec<PolyRef>, AllocError>
 }
 
 /// The elements from one place up to another.
-pub(crate) fn between<T>(items: &[T], first: usize, end: usize) -> &[T]
+fn between<T>(items: &[T], first: usize, end: usize) -> &[T]
     requires { (first ≤ end) × (end ≤ length items.now) }
     ensures { result.now ≡ slice_range items.now first end }
 {
@@ -126,7 +126,7 @@ fn starts(alloc: Global, links: &[Link], polygons: u32) -> Result<Vec<usize>, Al
 }
 
 /// How many links leave polygons before one, of which the first ones are known to.
-pub(crate) fn start_from(links: &[Link], known: usize, polygon: usize) -> usize
+fn start_from(links: &[Link], known: usize, polygon: usize) -> usize
     requires order { AreOrderedLinks links.now }
     requires known { known ≤ count_by (is_before_polygon polygon) links.now }
     ensures { result ≡ count_by (is_before_polygon polygon) links.now }

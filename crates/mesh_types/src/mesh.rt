@@ -8,7 +8,6 @@ use crate::link_list::Links;
 use crate::links::PolyRef;
 use crate::polygon::Polygon;
 use crate::tile::TileMesh;
-use crate::way_tile::Tile;
 use nav_ground::Setting;
 use nav_list::{Duplicate, Items};
 use nav_share::Shared;
@@ -20,7 +19,7 @@ pub struct Mesh {
     /// Width and depth in columns, the tile's size, the agent, the costs of areas.
     pub setting: Setting,
     /// By tile number.
-    pub tiles: Items<Shared<Tile>>,
+    pub tiles: Items<Shared<TileMesh>>,
     /// By tile number: the links that leave the tile's polygons over its borders.
     pub cross: Items<Shared<Links>>,
 }
@@ -30,7 +29,7 @@ pub fn poly(mesh: &Mesh, at: PolyRef) -> Option<&Polygon>
     ensures { option_copied result ≡ poly_at mesh.now at }
 {
     match mesh.tiles.get(at.tile as usize) {
-        Some(tile) => tile.get().mesh().polys.get(at.index as usize),
+        Some(tile) => tile.get().polys.get(at.index as usize),
         None => None,
     }
 }

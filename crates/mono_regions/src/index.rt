@@ -8,7 +8,7 @@ ghost use Rattle.cell_table.specs.Table.{neighbour_table};
 ghost use Rattle.mono_regions.specs.Indices.{cell_at, along, run_at, index_runs, owner_of};
 
 use crate::index_lists::IndexLists;
-use nav_ground::Cell;
+use nav_ground::SmallCell;
 use nav_list::Items;
 use std::alloc::{AllocError, Global};
 
@@ -24,7 +24,7 @@ pub struct StripIndex {
 /// The strips of a list of cells, along its neighbour table.
 pub fn strip_index(
     alloc: Global,
-    cells: &[Cell],
+    cells: &[SmallCell],
     table: &[[u32; 4]],
 ) -> Result<StripIndex, AllocError>
     requires cells { IsCut cells.now }
@@ -38,7 +38,7 @@ pub fn strip_index(
 }
 
 /// The strips in the order of their first cells. A cell that follows no cell is the first of a strip.
-fn runs(alloc: Global, cells: &[Cell], table: &[[u32; 4]]) -> Result<IndexLists, AllocError>
+fn runs(alloc: Global, cells: &[SmallCell], table: &[[u32; 4]]) -> Result<IndexLists, AllocError>
     requires cells { IsCut cells.now }
     requires table { table.now ≡ neighbour_table cells.now }
     ensures { IfOk result (λ runs. runs ≡ index_runs cells.now) }
@@ -58,7 +58,7 @@ fn runs(alloc: Global, cells: &[Cell], table: &[[u32; 4]]) -> Result<IndexLists,
 /// Appends the cells of the strip that begins at a cell.
 fn push_run(
     order: &mut Vec<u32>,
-    cells: &[Cell],
+    cells: &[SmallCell],
     table: &[[u32; 4]],
     first: usize,
 ) -> Result<(), AllocError>
@@ -76,7 +76,7 @@ fn push_run(
 }
 
 /// For each cell the number of its strip: that of the cell that it follows, or a new one.
-fn owners(alloc: Global, cells: &[Cell], table: &[[u32; 4]]) -> Result<Items<u32>, AllocError>
+fn owners(alloc: Global, cells: &[SmallCell], table: &[[u32; 4]]) -> Result<Items<u32>, AllocError>
     requires cells { IsCut cells.now }
     requires table { table.now ≡ neighbour_table cells.now }
     ensures { IfOk result (λ owners. owners ≡ map (owner_of cells.now) (range_with_len 0 (length cells.now))) }
@@ -97,7 +97,7 @@ fn owners(alloc: Global, cells: &[Cell], table: &[[u32; 4]]) -> Result<Items<u32
 }
 
 /// The index of the cell of the same area that a cell names in a direction, or the number of cells where there is none.
-fn along(cells: &[Cell], table: &[[u32; 4]], at: usize, dir: usize) -> usize
+fn along(cells: &[SmallCell], table: &[[u32; 4]], at: usize, dir: usize) -> usize
     requires cells { IsCut cells.now }
     requires table { table.now ≡ neighbour_table cells.now }
     requires there { at < length cells.now }
@@ -105,7 +105,7 @@ fn along(cells: &[Cell], table: &[[u32; 4]], at: usize, dir: usize) -> usize
     ensures { result ≡ Rattle.mono_regions.specs.Indices.along cells.now dir at }
 {
     let to = table[at][dir] as usize;
-    if to < cells.len() && cells[to].area == cells[at].area {
+    if to < cells.len() && cells[to].area() == cells[at].area() {
         to
     } else {
         cells.len()

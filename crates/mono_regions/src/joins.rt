@@ -11,13 +11,13 @@ ghost use Rattle.mono_regions.specs.Joining.{IsTableOf, touched_from, joined_fro
 use crate::seen::Seen;
 use crate::strip_table::StripTable;
 use crate::touching::{beyond, touched};
-use nav_ground::Cell;
+use nav_ground::SmallCell;
 use std::alloc::{AllocError, Global};
 
 /// For each strip the strip of the next row that it joins, if there is one, from what each touches toward z - 1.
 pub fn joined_strips(
     alloc: Global,
-    cells: &[Cell],
+    cells: &[SmallCell],
     strips: &StripTable,
     below: &[Seen],
 ) -> Result<Vec<Option<u32>>, AllocError>
@@ -33,7 +33,7 @@ pub fn joined_strips(
 }
 
 /// The strip that a strip joins, if there is one.
-fn joined_strip(cells: &[Cell], strips: &StripTable, below: &[Seen], lower: u32) -> Option<u32>
+fn joined_strip(cells: &[SmallCell], strips: &StripTable, below: &[Seen], lower: u32) -> Option<u32>
     requires strips { IsTableOf cells.now strips.now }
     requires below { below.now ≡ map (touched_from cells.now 3) (numbers (strip_runs cells.now)) }
     requires there { lower < length (strip_runs cells.now) }
@@ -54,7 +54,13 @@ fn joined_strip(cells: &[Cell], strips: &StripTable, below: &[Seen], lower: u32)
 }
 
 /// Whether a strip joins the only one that it touches toward z + 1.
-fn is_joined(cells: &[Cell], strips: &StripTable, below: &[Seen], lower: u32, upper: u32) -> bool
+fn is_joined(
+    cells: &[SmallCell],
+    strips: &StripTable,
+    below: &[Seen],
+    lower: u32,
+    upper: u32,
+) -> bool
     requires strips { IsTableOf cells.now strips.now }
     requires below { below.now ≡ map (touched_from cells.now 3) (numbers (strip_runs cells.now)) }
     requires lower { lower < length (strip_runs cells.now) }
@@ -68,7 +74,13 @@ fn is_joined(cells: &[Cell], strips: &StripTable, below: &[Seen], lower: u32, up
 }
 
 /// Whether a strip is connected to the upper one wherever that lies over it, and both have one area.
-fn are_fitting(cells: &[Cell], strips: &StripTable, run: &[u32], over: &[u32], upper: u32) -> bool
+fn are_fitting(
+    cells: &[SmallCell],
+    strips: &StripTable,
+    run: &[u32],
+    over: &[u32],
+    upper: u32,
+) -> bool
     requires strips { IsTableOf cells.now strips.now }
     requires run { AreIndices cells.now run.now }
     requires over { AreIndices cells.now over.now }
@@ -78,12 +90,12 @@ fn are_fitting(cells: &[Cell], strips: &StripTable, run: &[u32], over: &[u32], u
 }
 
 /// Whether the strips of cells with some indices have one area.
-fn have_one_area(cells: &[Cell], run: &[u32], over: &[u32]) -> bool
+fn have_one_area(cells: &[SmallCell], run: &[u32], over: &[u32]) -> bool
     requires run { AreIndices cells.now run.now }
     requires over { AreIndices cells.now over.now }
     ensures { result ≡ has_area_of cells.now over.now run.now }
 {
-    cells[run[0] as usize].area == cells[over[0] as usize].area
+    cells[run[0] as usize].area() == cells[over[0] as usize].area()
 }
 
 /// Whether one strip was seen alone.
@@ -98,7 +110,13 @@ fn is_one(seen: Seen, strip: u32) -> bool
 }
 
 /// Whether each cell of a strip is connected toward z + 1 to the upper strip, where that has a cell in its column.
-fn are_connected(cells: &[Cell], strips: &StripTable, run: &[u32], over: &[u32], upper: u32) -> bool
+fn are_connected(
+    cells: &[SmallCell],
+    strips: &StripTable,
+    run: &[u32],
+    over: &[u32],
+    upper: u32,
+) -> bool
     requires strips { IsTableOf cells.now strips.now }
     requires run { AreIndices cells.now run.now }
     requires over { AreIndices cells.now over.now }
@@ -109,21 +127,22 @@ fn are_connected(cells: &[Cell], strips: &StripTable, run: &[u32], over: &[u32],
 }
 
 /// Whether a cell is connected toward z + 1 to the upper strip, or that has no cell in its column.
-fn is_fitting(cells: &[Cell], strips: &StripTable, at: u32, over: &[u32], upper: u32) -> bool
+fn is_fitting(cells: &[SmallCell], strips: &StripTable, at: u32, over: &[u32], upper: u32) -> bool
     requires strips { IsTableOf cells.now strips.now }
     requires there { at < length cells.now }
     requires over { AreIndices cells.now over.now }
     ensures { result ≡ is_fitting cells.now upper over.now at }
 {
-    is_named(beyond(cells, strips, at, 1), upper) || !is_over(cells, cells[at as usize].at.x, over)
+    is_named(beyond(cells, strips, at, 1), upper)
+        || !is_over(cells, cells[at as usize].at().x, over)
 }
 
 /// Whether a column lies in the strip of the cells with some indices.
-fn is_over(cells: &[Cell], x: u32, run: &[u32]) -> bool
+fn is_over(cells: &[SmallCell], x: u32, run: &[u32]) -> bool
     requires { AreIndices cells.now run.now }
     ensures { result ≡ is_over cells.now x run.now }
 {
-    let x0 = cells[run[0] as usize].at.x as usize;
+    let x0 = cells[run[0] as usize].at().x as usize;
     x0 <= x as usize && x as usize + 1 <= x0 + run.len()
 }
 

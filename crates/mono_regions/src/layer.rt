@@ -8,7 +8,7 @@ ghost use Rattle.mono_regions.specs.Indices.{level_at, strip_at, index_runs, Are
 use crate::index_lists::IndexLists;
 use crate::touching::tabled_strips;
 use mesh_types::Strip;
-use nav_ground::{Cell, FreeLayer};
+use nav_ground::{FreeLayer, SmallCell};
 use nav_list::Items;
 use std::alloc::{AllocError, Global};
 
@@ -24,7 +24,11 @@ pub fn strips(alloc: Global, free: &FreeLayer) -> Result<Vec<Strip>, AllocError>
 }
 
 /// The strips of cells, by the indices of the cells of each.
-fn strips_along(alloc: Global, cells: &[Cell], runs: &IndexLists) -> Result<Vec<Strip>, AllocError>
+fn strips_along(
+    alloc: Global,
+    cells: &[SmallCell],
+    runs: &IndexLists,
+) -> Result<Vec<Strip>, AllocError>
     requires cells { IsCut cells.now }
     requires runs { runs.now ≡ index_runs cells.now }
     ensures { IfOk result (λ strips. strips.items ≡ strips_of cells.now) }
@@ -37,29 +41,30 @@ fn strips_along(alloc: Global, cells: &[Cell], runs: &IndexLists) -> Result<Vec<
 }
 
 /// The strip of cells along a row, by their indices.
-pub fn strip(alloc: Global, cells: &[Cell], run: &[u32]) -> Result<Strip, AllocError>
+pub fn strip(alloc: Global, cells: &[SmallCell], run: &[u32]) -> Result<Strip, AllocError>
     requires cells { IsCut cells.now }
     requires run { AreIndices cells.now run.now }
     ensures { IfOk result (λ strip. strip ≡ strip_at cells.now run.now) }
 {
     let first = &cells[run[0] as usize];
+    let at = first.at();
     Ok(Strip {
-        z: first.at.z,
-        x0: first.at.x,
-        x1: first.at.x + run.len() as u32 - 1,
+        z: at.z,
+        x0: at.x,
+        x1: at.x + run.len() as u32 - 1,
         levels: levels(alloc, cells, run)?,
-        area: first.area,
+        area: first.area(),
     })
 }
 
 /// The levels of cells, by their indices.
-fn levels(alloc: Global, cells: &[Cell], run: &[u32]) -> Result<Items<u32>, AllocError>
+fn levels(alloc: Global, cells: &[SmallCell], run: &[u32]) -> Result<Items<u32>, AllocError>
     requires { AreIndices cells.now run.now }
     ensures { IfOk result (λ levels. levels ≡ map (level_at cells.now) run.now) }
 {
     let mut levels = Vec::with_capacity(alloc, run.len())?;
     for at in run {
-        levels.push(cells[*at as usize].at.level)?;
+        levels.push(cells[*at as usize].at().level)?;
     }
     Ok(Items::from_vec(levels))
 }

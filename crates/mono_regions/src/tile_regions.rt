@@ -12,7 +12,7 @@ use crate::seen::Seen;
 use crate::strip_table::StripTable;
 use crate::touching::{tabled_strips, touched_strips};
 use mesh_types::{Region, Regions};
-use nav_ground::{Cell, FreeLayer};
+use nav_ground::{FreeLayer, SmallCell};
 use nav_list::Items;
 use std::alloc::{AllocError, Global};
 
@@ -35,7 +35,7 @@ pub fn regions(alloc: Global, free: &FreeLayer) -> Result<Regions, AllocError>
 /// What `regions` does, of cells whose strips are at hand.
 pub fn regions_over(
     alloc: Global,
-    cells: &[Cell],
+    cells: &[SmallCell],
     strips: &StripTable,
 ) -> Result<Regions, AllocError>
     requires { IsTableOf cells.now strips.now }
@@ -50,7 +50,7 @@ pub fn regions_over(
 /// The regions of strips, from what each touches toward z - 1, and what each joins.
 fn regions_joined(
     alloc: Global,
-    cells: &[Cell],
+    cells: &[SmallCell],
     strips: &StripTable,
     below: &[Seen],
     joined: &[Option<u32>],
@@ -74,7 +74,7 @@ fn regions_joined(
 /// The region that begins at a strip, from what each strip joins.
 fn region(
     alloc: Global,
-    cells: &[Cell],
+    cells: &[SmallCell],
     strips: &StripTable,
     joined: &[Option<u32>],
     first: u32,

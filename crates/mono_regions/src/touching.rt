@@ -12,12 +12,12 @@ use crate::index::strip_index;
 use crate::seen::Seen;
 use crate::strip_table::StripTable;
 use cell_table::neighbour_table;
-use nav_ground::Cell;
+use nav_ground::SmallCell;
 use nav_list::Items;
 use std::alloc::{AllocError, Global};
 
 /// The strips of a list of cells, beside the neighbour table along which they are found.
-pub fn tabled_strips(alloc: Global, cells: &[Cell]) -> Result<StripTable, AllocError>
+pub fn tabled_strips(alloc: Global, cells: &[SmallCell]) -> Result<StripTable, AllocError>
     requires { IsCut cells.now }
     ensures { IfOk result (λ strips. IsTableOf cells.now strips) }
 {
@@ -32,7 +32,7 @@ pub fn tabled_strips(alloc: Global, cells: &[Cell]) -> Result<StripTable, AllocE
 /// For each strip what it touches in a direction.
 pub fn touched_strips(
     alloc: Global,
-    cells: &[Cell],
+    cells: &[SmallCell],
     strips: &StripTable,
     dir: usize,
 ) -> Result<Vec<Seen>, AllocError>
@@ -49,7 +49,7 @@ pub fn touched_strips(
 }
 
 /// What the strip of cells with some indices touches in a direction.
-pub fn touched(cells: &[Cell], strips: &StripTable, run: &[u32], dir: usize) -> Seen
+pub fn touched(cells: &[SmallCell], strips: &StripTable, run: &[u32], dir: usize) -> Seen
     requires strips { IsTableOf cells.now strips.now }
     requires run { AreIndices cells.now run.now }
     requires dir { dir < 4 }
@@ -83,7 +83,7 @@ fn seen_with(seen: Seen, strip: Option<u32>) -> Seen
 }
 
 /// The number of the strip with the cell to which a cell is connected in a direction, if there is one.
-pub fn beyond(cells: &[Cell], strips: &StripTable, at: u32, dir: usize) -> Option<u32>
+pub fn beyond(cells: &[SmallCell], strips: &StripTable, at: u32, dir: usize) -> Option<u32>
     requires strips { IsTableOf cells.now strips.now }
     requires there { at < length cells.now }
     requires dir { dir < 4 }

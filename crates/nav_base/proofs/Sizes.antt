@@ -4,11 +4,19 @@ use Rattle.std.specs.Prelude.{unsigned_abs}
 use Rattle.std.proofs.lemmas.Int.{ints, unsigned_abs-mul}
 use Rattle.std.proofs.lemmas.Nat.{mul-le}
 use Rattle.nav_base.specs.declared.point.Point.{Point}
-use Rattle.nav_base.specs.Point.{HasCoordinates, IsCellCorner, IsWithin, from_to, dot_of, cross_of, orient_of}
+use Rattle.nav_base.specs.Point.{HasCoordinates, IsCellCorner, IsInField, IsWithin, from_to, dot_of, cross_of, orient_of}
 
 -- a corner of a cell has coordinates
 pub HasCoordinates-corner : (p : Point) → IsCellCorner p → HasCoordinates p
 HasCoordinates-corner p at = record { across = record { low = omega (arith, ints); high = omega (arith, ints) }; along = record { low = omega (arith, ints); high = omega (arith, ints) } }
+
+-- so has a point of the field
+pub HasCoordinates-field : (p : Point) → IsInField p → HasCoordinates p
+HasCoordinates-field p at = record { across = record { low = omega (arith, ints); high = omega (arith, ints) }; along = record { low = omega (arith, ints); high = omega (arith, ints) } }
+
+-- two points of the field lie at most 16384 apart either way
+pub from_to-field : (a b : Point) → IsInField a → IsInField b → IsWithin 16384 (from_to a b)
+from_to-field a b p q = record { across = omega (arith, ints); along = omega (arith, ints) }
 
 -- two corners of cells lie at most 1024 apart either way
 pub from_to-corners : (a b : Point) → IsCellCorner a → IsCellCorner b → IsWithin 1024 (from_to a b)

@@ -1,5 +1,6 @@
 pub mod Convex
 pub mod Deviation
+pub mod Distance
 pub mod Point
 pub mod Reach
 pub mod Root

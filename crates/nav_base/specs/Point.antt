@@ -20,6 +20,13 @@ pub record IsCellCorner (p : Point) : Type 0 where
   pub bottom : pos 0 ≤ℤ p.z
   pub top : p.z ≤ℤ pos 1024
 
+-- the point lies in the largest field, between the corners (0, 0) and (1024, 1024), in sixteenths of a cell
+pub record IsInField (p : Point) : Type 0 where
+  pub left : pos 0 ≤ℤ p.x
+  pub right : p.x ≤ℤ pos 16384
+  pub bottom : pos 0 ≤ℤ p.z
+  pub top : p.z ≤ℤ pos 16384
+
 -- both parts of the vector are at most k, whatever their signs
 pub record IsWithin (k : ℕ) (v : Point) : Type 0 where
   pub across : unsigned_abs v.x ≤ k

@@ -52,8 +52,8 @@ fn is_left(a: Point, b: Point, c: Point) -> bool
     orient(a, b, c) > 0
 }
 
-// The place after this one, the first after the last.
-fn next_place(count: usize, place: usize) -> usize
+/// The place after this one, the first after the last.
+pub fn next_place(count: usize, place: usize) -> usize
     requires { place < count }
     ensures value { result ≡ place_after count place }
     ensures there { result < count }

@@ -21,7 +21,7 @@ ghost use Rattle.nav_book.specs.Settling.{IsUnclaimed, after_settle, awaited_til
 
 use crate::result::TileResult;
 use core::mem::replace;
-use mesh_types::{Answer, Asked, Mesh, Tile};
+use mesh_types::{Answer, Asked, Mesh, TileMesh};
 use nav_base::Question;
 use nav_ground::{Entry, Ground, Reply, Request};
 use nav_level::{HistoryFull, Job, Level, Published, Submitted, build_job};
@@ -63,7 +63,7 @@ impl Book {
         rt: &R,
         alloc: Global,
         level: Arc<Ground>,
-        tiles: Items<Shared<Tile>>,
+        tiles: Items<Shared<TileMesh>>,
         readers: u32,
     ) -> Result<(Book, Vec<Eye>), AllocError>
         requires level { IsGround (arc_value level) }

@@ -1,6 +1,6 @@
 //! What the builder of a tile brings.
 
-use mesh_types::Tile;
+use mesh_types::TileMesh;
 use nav_ground::{Shape, TileNo};
 use nav_list::Items;
 use nav_share::Shared;
@@ -13,5 +13,5 @@ pub struct TileResult {
     /// The shapes that it was built under, in the job's order. It is by this list that a late build is told from one that is wanted.
     pub shapes: Items<Shape>,
     /// Its mesh under those shapes.
-    pub mesh: Shared<Tile>,
+    pub mesh: Shared<TileMesh>,
 }

@@ -19,7 +19,7 @@ pub(crate) fn tell_faces(mesh: &Mesh, tile: u32, faces: &mut [NavdFace], count: 
     let Some(tile) = mesh.tiles.get(tile as usize) else {
         return OUT_OF_RANGE;
     };
-    let polygons = tile.get().mesh().polys.as_slice();
+    let polygons = tile.get().polys.as_slice();
     *count = polygons.len();
     lay_faces(polygons, faces);
     OK
@@ -37,7 +37,7 @@ pub(crate) fn tell_inner_links(
     let Some(tile) = mesh.tiles.get(tile as usize) else {
         return OUT_OF_RANGE;
     };
-    let inner = tile.get().mesh().links.as_slice();
+    let inner = tile.get().links.as_slice();
     *count = inner.len();
     lay_links(inner, links);
     OK

@@ -17,3 +17,4 @@ pub mod FreeLayers
 pub mod Locality
 pub mod Meeting
 pub mod Literals
+pub mod SmallCellLaws

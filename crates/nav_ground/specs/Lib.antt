@@ -2,6 +2,9 @@ pub mod Limits
 pub mod Tiling
 pub mod Fields
 pub mod Cells
+pub mod Levels
+pub mod SmallCells
+pub mod Packing
 pub mod Column
 pub mod Filters
 pub mod Connection

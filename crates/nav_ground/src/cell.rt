@@ -1,5 +1,6 @@
 //! Cells: the places where an agent can stand.
 
+use crate::small_cell::SmallCell;
 use crate::tiling::TileNo;
 use nav_list::{Duplicate, Items};
 use std::alloc::{AllocError, Global};
@@ -42,24 +43,24 @@ pub struct Window {
 }
 
 /// The cells of one tile as the ground was built, before obstacles.
-#[derive(PartialEq, Eq, Drop)]
+#[derive(Drop)]
 pub struct Layer {
     pub tile: TileNo,
     /// By z, then x, then level.
-    pub cells: Items<Cell>,
+    pub cells: Items<SmallCell>,
     /// How far agents keep from obstacles, in cells: the agent's radius where the setting says clear, else 0, and then obstacles block
     /// only what they cover.
     pub radius: u32,
     /// Where the setting says clear: all cells, also those too near a wall, of the tile widened by the radius on each side, in the same
     /// order, each with all its connections. Else empty.
-    pub wide: Items<Cell>,
+    pub wide: Items<SmallCell>,
 }
 
 /// The cells of one tile that the obstacles leave free, in the order of its layer.
 #[derive(Drop)]
 pub struct FreeLayer {
     pub tile: TileNo,
-    pub cells: Items<Cell>,
+    pub cells: Items<SmallCell>,
 }
 
 impl Duplicate for Layer {

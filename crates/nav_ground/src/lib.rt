@@ -4,6 +4,8 @@
 //! block cells or set their areas; a history of requests says which shapes are alive. What these records keep, in which order they stand
 //! and which numbers they may hold are definitions of `specs/`.
 //!
+//! Lists keep cells as `SmallCell`, in twenty bytes each; contracts see the `Cell`.
+//!
 //! `tiles` and `tile_bounds` give the number of tiles and the columns of one. `covers`, `bounds` and `sets` say of an obstacle which cells it
 //! covers, how far it reaches and which area it sets. `margin_of` gives how many columns agents keep from obstacles, `touch_window` the
 //! columns within which an obstacle can change what is free, and `touches` says whether a tile has one of them, so that it changes nothing in
@@ -18,6 +20,7 @@ mod field;
 mod history;
 mod setting;
 mod shape;
+mod small_cell;
 mod tiling;
 mod touch;
 
@@ -26,5 +29,6 @@ pub use field::{Field, Span};
 pub use history::{Entry, Ground, HISTORY_LIMIT, Reply, Request};
 pub use setting::{AREAS, Agent, MeshKind, Setting};
 pub use shape::{Shape, bounds, covers, sets};
+pub use small_cell::SmallCell;
 pub use tiling::{TileNo, tile_bounds, tiles};
 pub use touch::{margin_of, touch_window, touches};

@@ -5,7 +5,7 @@ ghost use Rattle.nav_desk.specs.Steps.{after_claim, after_put_back, after_submit
 ghost use Rattle.nav_handle.specs.Works.{IsOf, built, next_work};
 
 use crate::sameness::is_same_tile;
-use mesh_types::Tile;
+use mesh_types::TileMesh;
 use nav_ground::Ground;
 use nav_level::{Job, Level, Submitted, build_job};
 use nav_share::Shared;
@@ -21,7 +21,7 @@ use std::sync::ledger::Ledger;
 pub struct Work {
     ground: Arc<Ground>,
     job: Job,
-    mesh: Option<Shared<Tile>>,
+    mesh: Option<Shared<TileMesh>>,
 }
 
 impl Model for Work {

@@ -10,7 +10,7 @@ ghost use Rattle.nav_lane.specs.Lanes.{IsToldOf, SawOthers};
 
 use crate::bench::Bench;
 use crate::book::{LiveAct, LiveBook, LiveDone};
-use mesh_types::Tile;
+use mesh_types::TileMesh;
 use nav_book::{Job, Published, Submitted, TileResult};
 use nav_share::Shared;
 use nav_version::Told;
@@ -86,7 +86,7 @@ pub(crate) fn submit<R: Wait, G>(
     bench: &Bench<'_, R, G>,
     pass: &mut Pass<LiveBook>,
     held: Held,
-    mesh: Shared<Tile>,
+    mesh: Shared<TileMesh>,
 )
     requires of { IsOf bench.now.lock.now pass.old }
     requires made { IsMade bench.now.lock.now.root (record { tile = held.tile; shapes = held.shapes; mesh = mesh }) }

@@ -6,17 +6,17 @@ ghost use Rattle.mesh_types.specs.declared.links.Link.{Link};
 ghost use Rattle.mesh_types.specs.declared.tile.TileMesh.{TileMesh};
 ghost use Rattle.mesh_types.specs.Soundness.{link_count, polygon_count};
 
-use mesh_types::{Links, Mesh, Tile};
+use mesh_types::{Links, Mesh, TileMesh};
 use nav_share::Shared;
 
 /// How many polygons tiles have together.
-pub(crate) fn polygons(tiles: &[Shared<Tile>]) -> u32
+pub(crate) fn polygons(tiles: &[Shared<TileMesh>]) -> u32
     requires { polygon_count tiles.now < 2 ^ 32 }
     ensures { result ≡ polygon_count tiles.now }
 {
     let mut count = 0;
     for tile in tiles {
-        count += tile.get().mesh().polys.len() as u32;
+        count += tile.get().polys.len() as u32;
     }
     count
 }
@@ -29,13 +29,13 @@ pub(crate) fn links(mesh: &Mesh) -> u32
     inner_links(mesh.tiles.as_slice()) + cross_links(mesh.cross.as_slice())
 }
 
-fn inner_links(tiles: &[Shared<Tile>]) -> u32
+fn inner_links(tiles: &[Shared<TileMesh>]) -> u32
     requires { sum_by (λ (tile : TileMesh). length tile.links) tiles.now < 2 ^ 32 }
     ensures { result ≡ sum_by (λ (tile : TileMesh). length tile.links) tiles.now }
 {
     let mut count = 0;
     for tile in tiles {
-        count += tile.get().mesh().links.len() as u32;
+        count += tile.get().links.len() as u32;
     }
     count
 }

@@ -3,7 +3,7 @@
 ghost use Rattle.std.specs.Prelude.{◌≡◌, ◌++◌, ◌<◌, ◌^◌, length, replicate, None, IfOk, OnOk, OnErr};
 ghost use Rattle.nav_level.specs.Fresh.{new_at};
 
-use mesh_types::Tile;
+use mesh_types::TileMesh;
 use nav_ground::TileNo;
 use nav_share::Shared;
 use std::alloc::{AllocError, Global};
@@ -12,7 +12,7 @@ use std::alloc::{AllocError, Global};
 pub(crate) fn empty_places(
     alloc: Global,
     count: usize,
-) -> Result<Vec<Option<Shared<Tile>>>, AllocError>
+) -> Result<Vec<Option<Shared<TileMesh>>>, AllocError>
     ensures { IfOk result (λ places. places.items ≡ replicate count None) }
 {
     let mut places = Vec::with_capacity(alloc, count)?;
@@ -25,8 +25,8 @@ pub(crate) fn empty_places(
 /// The fresh tile meshes with the numbers of their tiles, which rise. The places keep theirs.
 pub(crate) fn news_of(
     alloc: Global,
-    places: &[Option<Shared<Tile>>],
-) -> Result<Vec<(TileNo, Shared<Tile>)>, AllocError>
+    places: &[Option<Shared<TileMesh>>],
+) -> Result<Vec<(TileNo, Shared<TileMesh>)>, AllocError>
     requires { length places.now < 2 ^ 32 }
     ensures { IfOk result (λ news. news.items ≡ Rattle.nav_level.specs.Fresh.news_of places.now) }
 {
@@ -39,9 +39,9 @@ pub(crate) fn news_of(
 
 /// Appends the number of a tile with its fresh mesh, if it has one.
 fn push_new(
-    news: &mut Vec<(TileNo, Shared<Tile>)>,
+    news: &mut Vec<(TileNo, Shared<TileMesh>)>,
     tile: TileNo,
-    place: &Option<Shared<Tile>>,
+    place: &Option<Shared<TileMesh>>,
 ) -> Result<(), AllocError>
     ensures { OnOk result (news.new.items ≡ news.old.items ++ new_at tile place.now) }
 {
@@ -52,7 +52,7 @@ fn push_new(
 }
 
 /// Makes every place empty.
-pub(crate) fn empty(places: &mut [Option<Shared<Tile>>])
+pub(crate) fn empty(places: &mut [Option<Shared<TileMesh>>])
     ensures { places.new ≡ replicate (length places.old) None }
 {
     for place in places.iter_mut() {

@@ -5,7 +5,7 @@ ghost use Rattle.nav_ground.specs.Grounds.{IsGround};
 ghost use Rattle.nav_desk.specs.Steps.{IsJob};
 ghost use Rattle.nav_level.specs.Results.{tile_under};
 
-use mesh_types::Tile;
+use mesh_types::TileMesh;
 use nav_desk::Job;
 use nav_ground::Ground;
 use nav_share::Shared;
@@ -20,7 +20,7 @@ pub fn build_job<L: Ledger>(
     level: &Ground,
     job: &Job,
     steps: &mut Steps<L>,
-) -> Result<Shared<Tile>, AllocError>
+) -> Result<Shared<TileMesh>, AllocError>
     requires level { IsGround level.now }
     requires job { IsJob level.now.setting job.now }
     ensures mesh { IfOk result (λ mesh. mesh ≡ tile_under level.now job.now.tile job.now.shapes) }
@@ -28,5 +28,5 @@ pub fn build_job<L: Ledger>(
 {
     let layer = &level.layers.as_slice()[job.tile as usize];
     let mesh = build_tile(alloc, layer, &level.setting, job.shapes.as_slice(), steps)?;
-    Ok(Tile::shared(alloc, mesh)?)
+    Ok(Shared::new(alloc, mesh)?)
 }

@@ -19,7 +19,7 @@ ghost use Rattle.nav_level.specs.Settling.{IsUnclaimed};
 
 use crate::counts::{links, polygons};
 use crate::fresh::{empty, empty_places, news_of};
-use mesh_types::{Answer, Asked, Mesh, Tile};
+use mesh_types::{Answer, Asked, Mesh, TileMesh};
 use nav_base::Question;
 use nav_desk::{Desk, HistoryFull, Job, Published, Submitted};
 use nav_ground::{Entry, Ground, Reply, Request};
@@ -38,7 +38,7 @@ use tile_links::{joined, replaced};
 pub struct Level {
     desk: Desk,
     /// The tile meshes that are stored and not published yet, one place a tile.
-    fresh: Vec<Option<Shared<Tile>>>,
+    fresh: Vec<Option<Shared<TileMesh>>>,
     mesh: Shared<Mesh>,
 }
 
@@ -61,7 +61,7 @@ impl Level {
     pub fn begin(
         alloc: Global,
         level: Arc<Ground>,
-        tiles: Items<Shared<Tile>>,
+        tiles: Items<Shared<TileMesh>>,
     ) -> Result<Level, AllocError>
         requires level { IsGround (arc_value level) }
         requires tiles { tiles ≡ tiles_under (arc_value level) [] }
@@ -140,7 +140,7 @@ impl Level {
 
     /// Takes the build of a job in: its tile is claimed no more. It is stale exactly where the tile is not awaited, or was not built under
     /// the shapes that touch it at the target, and then it is dropped, and nothing else changes. It takes no memory.
-    pub fn submit(&mut self, job: Job, mesh: Shared<Tile>) -> Submitted
+    pub fn submit(&mut self, job: Job, mesh: Shared<TileMesh>) -> Submitted
         requires there { job.tile < tile_count self.old.whole.setting }
         requires mesh { mesh ≡ tile_under self.old.whole job.tile job.shapes }
         ensures answer { result ≡ submission self.old job.tile job.shapes }

@@ -20,7 +20,7 @@ use crate::player::Player;
 use crate::tally::nothing;
 use crate::workers::Workers;
 use layer_cut::ground;
-use mesh_types::Tile;
+use mesh_types::TileMesh;
 use nav_base::Point;
 use nav_book::Book;
 use nav_ground::{Field, Ground, Setting};
@@ -139,7 +139,7 @@ fn opened<R: Wait>(
     rt: &R,
     alloc: Global,
     level: Ground,
-    tiles: Items<Shared<Tile>>,
+    tiles: Items<Shared<TileMesh>>,
     script: &Script,
 ) -> Result<Player, AllocError>
     requires level { IsGround level }

@@ -24,7 +24,7 @@ pub fn floors(alloc: Global, mesh: &Mesh, x: u32, z: u32) -> Result<Vec<FloorAt>
     let mut floors = Vec::new(alloc);
     if is_inside(&mesh.setting, x, z) {
         let tiles = mesh.tiles.as_slice();
-        let tile = tiles[tile_of(&mesh.setting, x, z) as usize].get().mesh();
+        let tile = tiles[tile_of(&mesh.setting, x, z) as usize].get();
         push_floors(&mut floors, tile.free.cells.as_slice(), x, z)?;
     }
     Ok(floors)

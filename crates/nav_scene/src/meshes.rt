@@ -5,7 +5,7 @@ ghost use Rattle.nav_scene.specs.Scenes.{cell_text, link_text, links_text, mesh_
 
 use crate::lines::{write_line, write_point};
 use crate::told::{Told, append_all};
-use mesh_types::{Link, Links, Polygon, Tile, TileMesh};
+use mesh_types::{Link, Links, Polygon, TileMesh};
 use nav_base::Point;
 use nav_ground::Cell;
 use nav_text::append_line;
@@ -67,15 +67,6 @@ impl Told for Links {
 
     fn append_to(&self, out: &mut Vec<u8>) -> Result<(), AllocError> {
         append_all(out, self.as_slice())
-    }
-}
-
-/// The lines of the mesh of a tile that is searched.
-impl Told for Tile {
-    ghost text = { mesh_text };
-
-    fn append_to(&self, out: &mut Vec<u8>) -> Result<(), AllocError> {
-        self.mesh().append_to(out)
     }
 }
 

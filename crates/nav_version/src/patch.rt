@@ -1,6 +1,6 @@
 //! What one publishing adds to a version.
 
-use mesh_types::Tile;
+use mesh_types::TileMesh;
 use nav_ground::{Entry, TileNo};
 use nav_list::Items;
 use nav_share::Shared;
@@ -9,5 +9,5 @@ use nav_share::Shared;
 #[derive(Drop)]
 pub struct Patch {
     pub entries: Items<Entry>,
-    pub tiles: Vec<(TileNo, Shared<Tile>)>,
+    pub tiles: Vec<(TileNo, Shared<TileMesh>)>,
 }

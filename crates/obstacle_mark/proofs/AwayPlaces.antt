@@ -1,14 +1,15 @@
 -- Taken places more than a row of columns away take no neighbour from a cell.
-use Rattle.std.proofs.Common.{◌≡◌, ℕ, zero, suc, ◌+◌, ◌-◌, ◌<◌, ◌⊎◌, inl, inr, length, List, [], ◌∷◌, get_or, ap, ◌∙◌, sym, refl, subst, Option, None, arith}
-use Rattle.std.specs.Prelude.{All, ◌==◌, if◌then◌else◌, option_and_then, slice_get}
+use Rattle.std.proofs.Common.{◌≡◌, ℕ, zero, suc, ◌+◌, ◌-◌, ◌<◌, ◌⊎◌, inl, inr, length, List, [], ◌∷◌, get_or, ap, ◌∙◌, sym, subst, Option, None, arith}
+use Rattle.std.specs.Prelude.{All, ◌==◌, if◌then◌else◌}
 use Rattle.std.proofs.lemmas.Bool.{and_left, ne_eqb}
 use Rattle.std.proofs.lemmas.List.Folds.{list_any_none}
 use Rattle.nav_ground.specs.declared.cell.Cell.{Cell}
 use Rattle.nav_ground.specs.declared.cell.CellRef.{CellRef}
 use Rattle.nav_ground.specs.Cells.{is_naming, next_level}
-use Rattle.obstacle_mark.specs.Columns.{IsPlace, ArePlaces, LiesAway, LiesBefore, LiesBehind, column_of}
+use Rattle.cell_table.specs.Columns.{IsPlace, column_of}
+use Rattle.cell_table.proofs.Places.{toward_number}
+use Rattle.obstacle_mark.specs.Columns.{ArePlaces, LiesAway, LiesBefore, LiesBehind}
 use Rattle.obstacle_mark.specs.Places.{level_kept, next_kept}
-use Rattle.obstacle_mark.proofs.Columns.{toward_number}
 
 -- a number more than 2048 away is none of the four beside
 none_beside : (dir own other : ℕ) → dir < 4 → (other + 2048 < own) ⊎ (own + 2048 < other)
@@ -33,25 +34,20 @@ kept_away dir cell blocked small f each away =
     and_left _ _ (toward_number dir cell.at (get_or blocked k d) small f (each k d there)
     ∙ ne_eqb _ _ (none_beside dir (column_of cell.at) (column_of (get_or blocked k d)) small (away k d there))))))
 
--- the level that stands at a place
-level_at : (nexts : List (Option ℕ)) (dir : ℕ) → get_or nexts dir None ≡ option_and_then (λ (next : Option ℕ). next) (slice_get nexts dir)
-level_at [] dir = refl
-level_at (next ∷ nexts) zero = refl
-level_at (next ∷ nexts) (suc dir) = level_at nexts dir
-
 all_kept : (cell : Cell) (blocked : List CellRef) → IsPlace cell.at → All IsPlace blocked → All (LiesAway (column_of cell.at)) blocked
-    → get_or cell.next 0 None ∷ get_or cell.next 1 None ∷ get_or cell.next 2 None ∷ get_or cell.next 3 None ∷ [] ≡ next_kept blocked cell
+    → next_level cell 0 ∷ next_level cell 1 ∷ next_level cell 2 ∷ next_level cell 3 ∷ [] ≡ next_kept blocked cell
 all_kept cell blocked f each away =
-    let same : (dir : ℕ) → dir < 4 → get_or cell.next dir None ≡ level_kept blocked cell dir =
-    λ dir small. level_at cell.next dir ∙ kept_away dir cell blocked small f each away in
+    let same : (dir : ℕ) → dir < 4 → next_level cell dir ≡ level_kept blocked cell dir = λ dir small. kept_away dir cell blocked small f each away in
     cc (same 0 (omega arith), same 1 (omega arith), same 2 (omega arith), same 3 (omega arith))
 
--- what a cell keeps where all places lie more than a row of columns away from its column
-pub kept_all : (cell : Cell) (blocked : List CellRef) (column : ℕ) → IsPlace cell.at → ArePlaces blocked → column ≡ column_of cell.at
-    → All (LiesAway column) blocked
-    → get_or cell.next 0 None ∷ get_or cell.next 1 None ∷ get_or cell.next 2 None ∷ get_or cell.next 3 None ∷ [] ≡ next_kept blocked cell
-kept_all cell blocked column f rules' same away =
-    all_kept cell blocked f rules'.each (subst (λ (n : ℕ). All (LiesAway n) blocked) same away)
+-- what a cell keeps where all places lie more than a row of columns away from its column, in the numbers as they were read
+pub kept_all : (cell : Cell) (blocked : List CellRef) (column : ℕ) (n0 n1 n2 n3 : Option ℕ) → IsPlace cell.at → ArePlaces blocked
+    → column ≡ column_of cell.at → All (LiesAway column) blocked
+    → n0 ≡ next_level cell 0 → n1 ≡ next_level cell 1 → n2 ≡ next_level cell 2 → n3 ≡ next_level cell 3
+    → n0 ∷ n1 ∷ n2 ∷ n3 ∷ [] ≡ next_kept blocked cell
+kept_all cell blocked column n0 n1 n2 n3 f rules' same away is0 is1 is2 is3 =
+    let kept = all_kept cell blocked f rules'.each (subst (λ (n : ℕ). All (LiesAway n) blocked) same away) in
+    rw (is0, is1, is2, is3) kept
 
 -- places in order come before a column where the last of them does, and behind it where the first of them does
 pub all_before : (places : List CellRef) (column : ℕ) → ArePlaces places

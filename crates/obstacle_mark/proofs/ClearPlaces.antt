@@ -18,8 +18,9 @@ use Rattle.nav_ground.specs.FreeCells.{is_blocked, is_unblocked, is_same_place, 
 use Rattle.nav_ground.proofs.Selections.{filter_all, filter-filter}
 use Rattle.cell_table.proofs.Places.{same_test}
 use Rattle.agent_erode.proofs.Marked.{marked_by_test}
+use Rattle.cell_table.specs.Columns.{IsPlace, column_of}
 use Rattle.obstacle_mark.specs.AreasLeft.{area_left, area_clear}
-use Rattle.obstacle_mark.specs.Columns.{IsPlace, ArePlaces, column_of}
+use Rattle.obstacle_mark.specs.Columns.{ArePlaces}
 use Rattle.obstacle_mark.specs.Places.{is_there}
 use Rattle.obstacle_mark.proofs.Blocked.{area_beside, some_where, no_cell}
 use Rattle.obstacle_mark.proofs.Columns.{list_any_same}

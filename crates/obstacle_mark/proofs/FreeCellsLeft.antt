@@ -12,9 +12,10 @@ use Rattle.nav_ground.specs.declared.shape.Shape.{Shape}
 use Rattle.nav_ground.specs.Cells.{IsCell, IsCells, IsCellBefore, is_naming, next_level}
 use Rattle.nav_ground.specs.FreeCells.{is_lost, area_under, free_next, free_cell_of}
 use Rattle.nav_ground.proofs.Kept.{AllPairs-map, All-kept}
+use Rattle.cell_table.specs.Columns.{IsPlace, column_of}
 use Rattle.obstacle_mark.specs.declared.places.Passed.{Passed}
 use Rattle.obstacle_mark.specs.AreasLeft.{area_left}
-use Rattle.obstacle_mark.specs.Columns.{IsPlace, ArePlaces, IsPassed, column_of}
+use Rattle.obstacle_mark.specs.Columns.{ArePlaces, IsPassed}
 use Rattle.obstacle_mark.specs.Places.{places_taken, level_kept, next_kept, ArePassed}
 use Rattle.obstacle_mark.proofs.Rows.{IsNonDecreasingBy-from_pairs}
 
@@ -47,7 +48,7 @@ next_free : (taken : Cell → Bool) (cells : List Cell) (shapes : List Shape) (c
 next_free taken cells shapes cell =
     four (level_kept (places_taken taken cells) cell) (free_next taken cells cell) (kept_next taken cells shapes cell)
 
-area_of_left : (blocked : Bool) (under area : ℕ) → (if blocked then None else Some under) ≡ Some area → (blocked ≡ false) × (under ≡ area)
+pub area_of_left : (blocked : Bool) (under area : ℕ) → (if blocked then None else Some under) ≡ Some area → (blocked ≡ false) × (under ≡ area)
 area_of_left true under area left = absurd cc
 area_of_left false under area left = (refl, cc)
 

@@ -7,3 +7,4 @@ pub mod FewerCells
 pub mod WholeFree
 pub mod ClearPlaces
 pub mod AwayPlaces
+pub mod SmallAreas

@@ -1,24 +1,8 @@
--- Columns by number, so that places in order have columns in order.
-use Rattle.std.specs.Prelude.{◌≡◌, ℕ, ◌+◌, ◌-◌, ◌*◌, ◌<◌, ◌≤◌, ◌⊎◌, ◌==◌, nat_lt, Bool, ◌&&◌, ◌||◌, if◌then◌else◌, List, length, All, slice_index_or}
+-- Places by the numbers of their columns, and rows of columns.
+use Rattle.std.specs.Prelude.{◌≡◌, ℕ, ◌+◌, ◌<◌, ◌≤◌, ◌⊎◌, ◌==◌, nat_lt, Bool, ◌&&◌, ◌||◌, List, length, All, slice_index_or}
 use Rattle.std.specs.List.Sorted.{IsNonDecreasingBy}
 use Rattle.nav_ground.specs.declared.cell.CellRef.{CellRef}
-
--- a place lies in the largest field
-pub record IsPlace (at : CellRef) : Type 0 where
-  pub x : at.x < 1024
-  pub z : at.z < 1024
-
--- columns are numbered row by row; a row has 2048 numbers and the first begins at 2048, so that the columns beside a row have numbers of their own
-abbrev pub column_of : CellRef → ℕ
-column_of at = (at.z + 1) * 2048 + at.x
-
--- the number of the neighbouring column in a direction
-abbrev pub column_toward : ℕ → CellRef → ℕ
-column_toward dir at =
-    if dir == 0 then column_of at - 1
-    else (if dir == 1 then column_of at + 2048
-    else (if dir == 2 then column_of at + 1
-    else column_of at - 2048))
+use Rattle.cell_table.specs.Columns.{IsPlace, column_of}
 
 -- places of the largest field, column by column
 pub record ArePlaces (places : List CellRef) : Type 0 where

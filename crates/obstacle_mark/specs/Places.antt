@@ -1,11 +1,12 @@
 -- The places of taken cells, and the neighbours that cells keep beside them.
-use Rattle.std.specs.Prelude.{ℕ, Bool, ◌&&◌, ◌==◌, if◌then◌else◌, List, [], ◌∷◌, map, filter, Option, None}
+use Rattle.std.specs.Prelude.{ℕ, Bool, if◌then◌else◌, List, [], ◌∷◌, map, filter, Option, None}
 use Rattle.std.specs.List.{list_any}
 use Rattle.nav_ground.specs.declared.cell.Cell.{Cell}
 use Rattle.nav_ground.specs.declared.cell.CellRef.{CellRef}
 use Rattle.nav_ground.specs.Cells.{is_naming, next_level}
+use Rattle.cell_table.specs.Columns.{column_toward, is_at}
 use Rattle.obstacle_mark.specs.declared.places.Passed.{Passed}
-use Rattle.obstacle_mark.specs.Columns.{column_of, column_toward, IsPassed}
+use Rattle.obstacle_mark.specs.Columns.{IsPassed}
 
 -- the places of the cells that are taken, in order
 abbrev pub places_taken : (Cell → Bool) → List Cell → List CellRef
@@ -13,7 +14,7 @@ places_taken taken cells = map (λ (cell : Cell). cell.at) (filter taken cells)
 
 -- one of the places has a column and a level
 abbrev pub is_there : ℕ → ℕ → List CellRef → Bool
-is_there column level places = list_any (λ (at : CellRef). column_of at == column && level == at.level) places
+is_there column level places = list_any (is_at column level) places
 
 -- the level that a cell names in a direction, unless that neighbour is one of the taken places
 abbrev pub level_kept : List CellRef → Cell → ℕ → Option ℕ

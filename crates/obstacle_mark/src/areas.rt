@@ -9,13 +9,13 @@ ghost use Rattle.nav_ground.specs.FreeCells.{is_blocked};
 ghost use Rattle.obstacle_mark.specs.AreasLeft.{area_left};
 ghost use Rattle.obstacle_mark.specs.Columns.{IsInRow};
 
-use nav_ground::{Cell, CellRef, Shape, bounds, covers, sets};
+use nav_ground::{CellRef, Shape, SmallCell, bounds, covers, sets};
 use std::alloc::{AllocError, Global};
 
 /// The area that each cell is left with under the obstacles; none where one of them blocks it.
 pub fn areas_left(
     alloc: Global,
-    cells: &[Cell],
+    cells: &[SmallCell],
     shapes: &[Shape],
 ) -> Result<Vec<Option<u32>>, AllocError>
     requires cells { IsCells cells.now }
@@ -30,18 +30,18 @@ pub fn areas_left(
 }
 
 /// The area that each cell has by itself.
-fn own_areas(alloc: Global, cells: &[Cell]) -> Result<Vec<Option<u32>>, AllocError>
+fn own_areas(alloc: Global, cells: &[SmallCell]) -> Result<Vec<Option<u32>>, AllocError>
     ensures { IfOk result (λ areas. areas.items ≡ map (area_left (is_blocked []) []) cells.now) }
 {
     let mut areas = Vec::with_capacity(alloc, cells.len())?;
     for cell in cells {
-        areas.push(Some(cell.area))?;
+        areas.push(Some(cell.area()))?;
     }
     Ok(areas)
 }
 
 /// Takes one more obstacle into the areas that cells are left with. Only the cells in the columns that it can reach are looked at.
-fn cover(cells: &[Cell], areas: &mut [Option<u32>], shape: &Shape)
+fn cover(cells: &[SmallCell], areas: &mut [Option<u32>], shape: &Shape)
     requires cells { IsCells cells.now }
     requires shape { IsShape shape.now }
     requires beside { length areas.old ≡ length cells.now }
@@ -57,7 +57,7 @@ fn cover(cells: &[Cell], areas: &mut [Option<u32>], shape: &Shape)
 }
 
 /// Takes one more obstacle into the areas of the cells in one row of the columns that it can reach; the row is given by its z.
-fn cover_row(cells: &[Cell], areas: &mut [Option<u32>], shape: &Shape, reach: Reach, z: u32)
+fn cover_row(cells: &[SmallCell], areas: &mut [Option<u32>], shape: &Shape, reach: Reach, z: u32)
     requires cells { IsCells cells.now }
     requires shape { IsShape shape.now }
     requires beside { length areas.old ≡ length cells.now }
@@ -69,19 +69,20 @@ fn cover_row(cells: &[Cell], areas: &mut [Option<u32>], shape: &Shape, reach: Re
         → slice_index_or areas.new k None ≡ slice_index_or areas.old k None }
 {
     let mut i = cells_before(cells, reach.first_x, z);
-    while i < cells.len() && is_before(cells[i].at, reach.end_x, z) {
+    while i < cells.len() && is_before(cells[i].at(), reach.end_x, z) {
         areas[i] = area_after(shape, &cells[i], areas[i]);
         i += 1;
     }
 }
 
 /// What a cell is left with once one more obstacle comes.
-fn area_after(shape: &Shape, cell: &Cell, before: Option<u32>) -> Option<u32>
+fn area_after(shape: &Shape, cell: &SmallCell, before: Option<u32>) -> Option<u32>
     requires { IsShape shape.now }
     ensures { result ≡ Rattle.obstacle_mark.specs.AreasLeft.area_after shape.now cell.now before }
 {
     let area = before?;
-    if covers(shape, cell.at.x, cell.at.z, cell.floor) {
+    let at = cell.at();
+    if covers(shape, at.x, at.z, cell.floor()) {
         sets(shape)
     } else {
         Some(area)
@@ -122,29 +123,29 @@ fn or_zero(number: i32) -> u32
 }
 
 /// The z of the first row that has cells; 0 where there are none.
-fn first_row(cells: &[Cell]) -> u32
+fn first_row(cells: &[SmallCell]) -> u32
     requires { IsCells cells.now }
     ensures { (k : ℕ) (d : Cell) → k < length cells.now → result ≤ (slice_index_or cells.now k d).at.z }
 {
     match cells.first() {
-        Some(cell) => cell.at.z,
+        Some(cell) => cell.at().z,
         None => 0,
     }
 }
 
 /// The z after that of the last row that has cells; 0 where there are none.
-fn end_row(cells: &[Cell]) -> u32
+fn end_row(cells: &[SmallCell]) -> u32
     requires { IsCells cells.now }
     ensures { (k : ℕ) (d : Cell) → k < length cells.now → (slice_index_or cells.now k d).at.z < result }
 {
     match cells.last() {
-        Some(cell) => cell.at.z + 1,
+        Some(cell) => cell.at().z + 1,
         None => 0,
     }
 }
 
 /// How many of the cells come before a column.
-fn cells_before(cells: &[Cell], x: u32, z: u32) -> usize
+fn cells_before(cells: &[SmallCell], x: u32, z: u32) -> usize
     requires { IsCells cells.now }
     ensures most { result ≤ length cells.now }
     ensures before { (k : ℕ) (d : Cell) → k < result
@@ -152,7 +153,7 @@ fn cells_before(cells: &[Cell], x: u32, z: u32) -> usize
     ensures after { (k : ℕ) (d : Cell) → result ≤ k → k < length cells.now
         → Rattle.obstacle_mark.specs.Columns.is_before x z (slice_index_or cells.now k d).at ≡ false }
 {
-    cells.partition_point(|cell| is_before(cell.at, x, z))
+    cells.partition_point(|cell| is_before(cell.at(), x, z))
 }
 
 /// Whether a place comes before a column, in the order of cells.

@@ -10,9 +10,10 @@ ghost use Rattle.obstacle_mark.specs.AreasLeft.{area_left};
 ghost use Rattle.obstacle_mark.specs.Columns.{ArePlaces};
 
 use crate::areas::areas_left;
-use crate::places::{column_of, is_there, pass};
+use crate::places::{is_there, pass};
 use agent_erode::kept;
-use nav_ground::{Cell, CellRef, Layer, Shape, Window};
+use cell_table::column_of;
+use nav_ground::{CellRef, Layer, Shape, SmallCell, Window};
 use std::alloc::{AllocError, Global};
 
 /// All columns of the largest field.
@@ -53,7 +54,7 @@ fn is_plain(layer: &Layer) -> bool
 /// The places of those cells that no obstacle blocks and that keep a radius among the cells that none blocks, in order.
 fn clear_places(
     alloc: Global,
-    wide: &[Cell],
+    wide: &[SmallCell],
     shapes: &[Shape],
     radius: u32,
 ) -> Result<Vec<CellRef>, AllocError>
@@ -66,7 +67,7 @@ fn clear_places(
 }
 
 /// For each cell whether no obstacle blocks it.
-fn are_open(alloc: Global, cells: &[Cell], shapes: &[Shape]) -> Result<Vec<bool>, AllocError>
+fn are_open(alloc: Global, cells: &[SmallCell], shapes: &[Shape]) -> Result<Vec<bool>, AllocError>
     requires cells { IsCells cells.now }
     requires shapes { All IsShape shapes.now }
     ensures { IfOk result (λ marks. marks.items ≡ map (is_unblocked shapes.now) cells.now) }
@@ -87,7 +88,7 @@ fn marks_of(alloc: Global, areas: &[Option<u32>]) -> Result<Vec<bool>, AllocErro
 }
 
 /// Takes its area from each cell whose place is not among the clear ones.
-fn leave_clear(cells: &[Cell], areas: &mut [Option<u32>], clear: &[CellRef])
+fn leave_clear(cells: &[SmallCell], areas: &mut [Option<u32>], clear: &[CellRef])
     requires cells { IsCells cells.now }
     requires beside { length areas.old ≡ length cells.now }
     requires clear { ArePlaces clear.now }
@@ -96,9 +97,10 @@ fn leave_clear(cells: &[Cell], areas: &mut [Option<u32>], clear: &[CellRef])
 {
     let mut passed = 0;
     for (i, cell) in cells.iter().enumerate() {
-        let column = column_of(cell.at);
+        let at = cell.at();
+        let column = column_of(at);
         passed = pass(clear, passed, column);
-        if !is_there(clear, passed, column, cell.at.level) {
+        if !is_there(clear, passed, column, at.level) {
             areas[i] = None;
         }
     }

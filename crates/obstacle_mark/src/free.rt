@@ -13,13 +13,13 @@ ghost use Rattle.nav_ground.specs.Clearance.{places_of, cells_in};
 ghost use Rattle.nav_ground.specs.Layers.{layer_of};
 ghost use Rattle.nav_ground.specs.FreeCells.{free_cell_of, free_layer_of};
 ghost use Rattle.nav_ground.specs.WholeFree.{whole_free};
-ghost use Rattle.obstacle_mark.specs.AreasLeft.{area_left};
+ghost use Rattle.obstacle_mark.specs.AreasLeft.{area_left, AreSmall};
 ghost use Rattle.obstacle_mark.specs.Columns.{ArePlaces};
 ghost use Rattle.obstacle_mark.specs.Places.{places_taken};
 
 use crate::clear::areas_clear;
 use crate::places::{Passed, blocked_places, next_kept};
-use nav_ground::{Cell, CellRef, FreeLayer, Layer, Shape};
+use nav_ground::{Cell, CellRef, FreeLayer, Layer, Shape, SmallCell};
 use nav_list::Items;
 use std::alloc::{AllocError, Global};
 
@@ -47,12 +47,13 @@ pub fn mark(alloc: Global, layer: &Layer, shapes: &[Shape]) -> Result<FreeLayer,
 /// The free cells, from the areas that all cells are left with and the places of those that are blocked.
 fn free_cells(
     alloc: Global,
-    cells: &[Cell],
+    cells: &[SmallCell],
     areas: &[Option<u32>],
     blocked: &[CellRef],
-) -> Result<Vec<Cell>, AllocError>
+) -> Result<Vec<SmallCell>, AllocError>
     requires cells { IsCells cells.now }
     requires beside { length areas.now ≡ length cells.now }
+    requires areas { AreSmall areas.now }
     requires blocked { ArePlaces blocked.now }
     requires few { length blocked.now ≤ length cells.now }
     ensures { (taken : Cell → Bool) (shapes : List Shape) → areas.now ≡ map (area_left taken shapes) cells.now → blocked.now ≡ places_taken taken cells.now
@@ -67,13 +68,12 @@ fn free_cells(
     let mut free = Vec::with_capacity(alloc, cells.len() - blocked.len())?;
     for (i, cell) in cells.iter().enumerate() {
         if let Some(area) = areas[i] {
-            free.push(Cell {
-                at: cell.at,
-                floor: cell.floor,
-                ceiling: cell.ceiling,
+            let next = next_kept(blocked, &mut passed, cell);
+            free.push(SmallCell::new(&Cell {
                 area,
-                next: next_kept(blocked, &mut passed, cell),
-            })?;
+                next,
+                ..cell.get()
+            }))?;
         }
     }
     Ok(free)

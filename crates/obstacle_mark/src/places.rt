@@ -5,10 +5,12 @@ ghost use Rattle.nav_ground.specs.declared.cell.Cell.{Cell};
 ghost use Rattle.nav_ground.specs.declared.cell.CellRef.{CellRef};
 ghost use Rattle.nav_ground.specs.declared.shape.Shape.{Shape};
 ghost use Rattle.obstacle_mark.specs.AreasLeft.{area_left};
-ghost use Rattle.obstacle_mark.specs.Columns.{IsPlace, ArePlaces, IsPassed, LiesAway, LiesBefore, LiesBehind, column_of};
+ghost use Rattle.cell_table.specs.Columns.{IsPlace, column_of, column_toward};
+ghost use Rattle.obstacle_mark.specs.Columns.{ArePlaces, IsPassed, LiesAway, LiesBefore, LiesBehind};
 ghost use Rattle.obstacle_mark.specs.Places.{places_taken, level_kept, ArePassed};
 
-use nav_ground::{Cell, CellRef};
+use cell_table::{column_of, column_toward};
+use nav_ground::{CellRef, SmallCell};
 use std::alloc::{AllocError, Global};
 
 /// How many of the taken places lie in columns before the neighbouring ones of a cell, direction by direction. As cells are gone
@@ -24,7 +26,7 @@ pub struct Passed {
 /// The places of the cells that are left without an area, in order.
 pub fn blocked_places(
     alloc: Global,
-    cells: &[Cell],
+    cells: &[SmallCell],
     areas: &[Option<u32>],
 ) -> Result<Vec<CellRef>, AllocError>
     requires { length areas.now ≡ length cells.now }
@@ -35,7 +37,7 @@ pub fn blocked_places(
     let mut places = Vec::new(alloc);
     for (i, cell) in cells.iter().enumerate() {
         if areas[i].is_none() {
-            places.push(cell.at)?;
+            places.push(cell.at())?;
         }
     }
     Ok(places)
@@ -43,16 +45,16 @@ pub fn blocked_places(
 
 /// The levels that a cell names in the four directions, without those neighbours that are among the taken places. Where these lie more
 /// than a row of columns away, and so where there are none, none of the four is looked up.
-pub fn next_kept(blocked: &[CellRef], passed: &mut Passed, cell: &Cell) -> [Option<u32>; 4]
+pub fn next_kept(blocked: &[CellRef], passed: &mut Passed, cell: &SmallCell) -> [Option<u32>; 4]
     requires cell { IsPlace cell.now.at }
     requires blocked { ArePlaces blocked.now }
     requires passed { ArePassed blocked.now passed.old cell.now.at }
     ensures next { result ≡ Rattle.obstacle_mark.specs.Places.next_kept blocked.now cell.now }
     ensures passed { ArePassed blocked.now passed.new cell.now.at }
 {
-    let column = column_of(cell.at);
+    let column = column_of(cell.at());
     if are_away(blocked, column) {
-        return [cell.next[0], cell.next[1], cell.next[2], cell.next[3]];
+        return [cell.next(0), cell.next(1), cell.next(2), cell.next(3)];
     }
     [
         level_kept(blocked, &mut passed.left, cell, 0),
@@ -63,17 +65,17 @@ pub fn next_kept(blocked: &[CellRef], passed: &mut Passed, cell: &Cell) -> [Opti
 }
 
 /// The level that a cell names in a direction, unless that neighbour is one of the taken places.
-fn level_kept(blocked: &[CellRef], passed: &mut usize, cell: &Cell, dir: usize) -> Option<u32>
+fn level_kept(blocked: &[CellRef], passed: &mut usize, cell: &SmallCell, dir: usize) -> Option<u32>
     requires dir { dir < 4 }
     requires cell { IsPlace cell.now.at }
     requires blocked { ArePlaces blocked.now }
-    requires passed { IsPassed blocked.now passed.old (Rattle.obstacle_mark.specs.Columns.column_toward dir cell.now.at) }
+    requires passed { IsPassed blocked.now passed.old (column_toward dir cell.now.at) }
     ensures level { result ≡ level_kept blocked.now cell.now dir }
-    ensures passed { IsPassed blocked.now passed.new (Rattle.obstacle_mark.specs.Columns.column_toward dir cell.now.at) }
+    ensures passed { IsPassed blocked.now passed.new (column_toward dir cell.now.at) }
 {
-    let column = column_toward(dir, cell.at);
+    let column = column_toward(dir, cell.at());
     *passed = pass(blocked, *passed, column);
-    let level = cell.next[dir]?;
+    let level = cell.next(dir)?;
     if is_there(blocked, *passed, column, level) {
         None
     } else {
@@ -82,39 +84,39 @@ fn level_kept(blocked: &[CellRef], passed: &mut usize, cell: &Cell, dir: usize) 
 }
 
 /// Whether all of the places come more than a row of columns before a column, or all behind it.
-fn are_away(places: &[CellRef], column: u32) -> bool
+fn are_away(places: &[CellRef], column: u64) -> bool
     requires places { ArePlaces places.now }
-    requires column { column < 2099200 }
+    requires column { 2048 ≤ column }
     ensures { IsTrue result → All (LiesAway column) places.now }
 {
     lie_before(places, column) || lie_behind(places, column)
 }
 
 /// Whether all of the places come more than a row of columns before a column.
-fn lie_before(places: &[CellRef], column: u32) -> bool
-    requires { ArePlaces places.now }
+fn lie_before(places: &[CellRef], column: u64) -> bool
+    requires places { ArePlaces places.now }
+    requires column { 2048 ≤ column }
     ensures { IsTrue result → All (LiesBefore column) places.now }
 {
     match places.last() {
-        Some(last) => column_of(*last) + 2048 < column,
+        Some(last) => column_of(*last) < column - 2048,
         None => true,
     }
 }
 
 /// Whether all of the places come more than a row of columns behind a column.
-fn lie_behind(places: &[CellRef], column: u32) -> bool
-    requires places { ArePlaces places.now }
-    requires column { column < 2099200 }
+fn lie_behind(places: &[CellRef], column: u64) -> bool
+    requires { ArePlaces places.now }
     ensures { IsTrue result → All (LiesBehind column) places.now }
 {
     match places.first() {
-        Some(first) => column + 2048 < column_of(*first),
+        Some(first) => column < column_of(*first) - 2048,
         None => true,
     }
 }
 
 /// How many of the places lie in columns before one, where so many are known to do.
-pub fn pass(places: &[CellRef], known: usize, column: u32) -> usize
+pub fn pass(places: &[CellRef], known: usize, column: u64) -> usize
     requires places { ArePlaces places.now }
     requires known { IsPassed places.now known column }
     ensures passed { IsPassed places.now result column }
@@ -128,7 +130,7 @@ pub fn pass(places: &[CellRef], known: usize, column: u32) -> usize
 }
 
 /// Whether one of the places has a column and a level, where the first of that column or of a later one is known.
-pub fn is_there(places: &[CellRef], first: usize, column: u32, level: u32) -> bool
+pub fn is_there(places: &[CellRef], first: usize, column: u64, level: u32) -> bool
     requires places { ArePlaces places.now }
     requires passed { IsPassed places.now first column }
     requires next { (d : CellRef) → first < length places.now → column ≤ column_of (slice_index_or places.now first d) }
@@ -142,29 +144,4 @@ pub fn is_there(places: &[CellRef], first: usize, column: u32, level: u32) -> bo
         i += 1;
     }
     false
-}
-
-/// The number of a place's column.
-pub fn column_of(at: CellRef) -> u32
-    requires { IsPlace at }
-    ensures value { result ≡ column_of at }
-    ensures least { 2048 ≤ result }
-    ensures most { result < 2099200 }
-{
-    (at.z + 1) * 2048 + at.x
-}
-
-/// The number of the neighbouring column in a direction.
-fn column_toward(dir: usize, at: CellRef) -> u32
-    requires dir { dir < 4 }
-    requires at { IsPlace at }
-    ensures { result ≡ Rattle.obstacle_mark.specs.Columns.column_toward dir at }
-{
-    let column = column_of(at);
-    match dir {
-        0 => column - 1,
-        1 => column + 2048,
-        2 => column + 1,
-        _ => column - 2048,
-    }
 }

@@ -101,7 +101,7 @@ fn inner(mesh: &Mesh, at: PolyRef) -> &[Link]
     ensures { result.now ≡ inner_links mesh.now at }
 {
     match mesh.tiles.get(at.tile as usize) {
-        Some(tile) => tile.get().mesh().links.leaving(at.index),
+        Some(tile) => tile.get().links.leaving(at.index),
         None => &[],
     }
 }

@@ -107,7 +107,7 @@ fn link(strips: &TileStrips, strip: u32, edge: u32, part: Run) -> Link
     ensures { result ≡ strip_link strips.now.free.tile (run_in strips.now strip) strip edge part }
 {
     let tile = strips.free.tile;
-    let at = strips.first(strip).at;
+    let at = strips.first(strip).at();
     Link {
         from: PolyRef { tile, index: strip },
         edge,

@@ -10,7 +10,7 @@ ghost use Rattle.strip_mesh.specs.Strips.{polygon_at};
 use crate::portals::corner;
 use crate::tile_strips::TileStrips;
 use mesh_types::{Corners, Polygon, Polygons};
-use nav_ground::Cell;
+use nav_ground::SmallCell;
 use std::alloc::{AllocError, Global};
 
 /// The polygons of a tile: a rectangle for each strip, in order.
@@ -28,49 +28,48 @@ pub fn polygons(alloc: Global, strips: &TileStrips) -> Result<Polygons, AllocErr
 }
 
 /// The rectangle round cells of one row, by their indices, counterclockwise from its least corner.
-fn polygon(cells: &[Cell], run: &[u32]) -> Polygon
+fn polygon(cells: &[SmallCell], run: &[u32]) -> Polygon
     requires cells { IsCells cells.now }
     requires run { AreIndices cells.now run.now }
     ensures { result ≡ polygon_at cells.now run.now }
 {
     let first = &cells[run[0] as usize];
-    let x0 = first.at.x;
-    let x1 = x0 + run.len() as u32 - 1;
-    let z = first.at.z;
+    let at = first.at();
+    let x1 = at.x + run.len() as u32 - 1;
     let corners = [
-        corner(x0, z),
-        corner(x1 + 1, z),
-        corner(x1 + 1, z + 1),
-        corner(x0, z + 1),
+        corner(at.x, at.z),
+        corner(x1 + 1, at.z),
+        corner(x1 + 1, at.z + 1),
+        corner(at.x, at.z + 1),
     ];
     Polygon {
         corners: Corners::from_slice(&corners),
-        area: first.area,
+        area: first.area(),
         low: low(cells, run),
         high: high(cells, run),
     }
 }
 
 /// The least floor of cells.
-fn low(cells: &[Cell], run: &[u32]) -> u32
+fn low(cells: &[SmallCell], run: &[u32]) -> u32
     requires { AreIndices cells.now run.now }
     ensures { result ≡ low_of (map (cell_at cells.now) run.now) }
 {
-    let mut low = cells[run[0] as usize].floor;
+    let mut low = cells[run[0] as usize].floor();
     for at in run {
-        low = low.min(cells[*at as usize].floor);
+        low = low.min(cells[*at as usize].floor());
     }
     low
 }
 
 /// The greatest floor of cells.
-fn high(cells: &[Cell], run: &[u32]) -> u32
+fn high(cells: &[SmallCell], run: &[u32]) -> u32
     requires { AreIndices cells.now run.now }
     ensures { result ≡ high_of (map (cell_at cells.now) run.now) }
 {
-    let mut high = cells[run[0] as usize].floor;
+    let mut high = cells[run[0] as usize].floor();
     for at in run {
-        high = high.max(cells[*at as usize].floor);
+        high = high.max(cells[*at as usize].floor());
     }
     high
 }

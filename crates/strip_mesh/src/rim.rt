@@ -12,7 +12,7 @@ ghost use Rattle.strip_mesh.specs.Strips.{pair_at};
 
 use crate::tile_strips::TileStrips;
 use mesh_types::{LevelPair, RimEdge, Run, runs};
-use nav_ground::{Cell, CellRef, Window};
+use nav_ground::{CellRef, SmallCell, Window};
 use nav_list::Items;
 use std::alloc::{AllocError, Global};
 
@@ -97,7 +97,7 @@ fn may_reach(of: StripRim, dir: u32) -> bool
     requires dir { dir < 4 }
     ensures { result ≡ false → runs_of (map (λ (cell : Cell). label_if (is_crossing of.entry.window.now dir cell)) (run_in of.entry.strips.now of.entry.strip)) ≡ [] }
 {
-    dir == 2 || is_at_side(of.window, dir, of.strips.first(of.strip).at)
+    dir == 2 || is_at_side(of.window, dir, of.strips.first(of.strip).at())
 }
 
 /// Which cells of a strip have a kept neighbour across the side of the tile that an edge lies on.
@@ -118,12 +118,12 @@ fn label_crossing(of: StripRim, edge: u32, labels: &mut Vec<Option<u32>>) -> Res
 }
 
 /// The one label, for a cell that has a kept neighbour across the side of the tile in a direction.
-fn label(window: &Window, dir: u32, cell: &Cell) -> Option<u32>
+fn label(window: &Window, dir: u32, cell: &SmallCell) -> Option<u32>
     requires dir { dir < 4 }
     requires cell { IsCell cell.now }
     ensures { result ≡ label_if (is_crossing window.now dir cell.now) }
 {
-    if is_at_side(window, dir, cell.at) && cell.next[dir as usize].is_some() {
+    if is_at_side(window, dir, cell.at()) && cell.next(dir as usize).is_some() {
         Some(0)
     } else {
         None
@@ -166,7 +166,7 @@ fn rim_edge(
         poly: strip,
         edge,
         side,
-        first: position_of(side, cells[run[0] as usize].at),
+        first: position_of(side, cells[run[0] as usize].at()),
         pairs: pairs(alloc, cells, run, side)?,
     })
 }
@@ -203,7 +203,7 @@ fn position_of(side: u32, at: CellRef) -> u32
 /// The levels of cells, by their indices, and of their neighbours across a side.
 fn pairs(
     alloc: Global,
-    cells: &[Cell],
+    cells: &[SmallCell],
     run: &[u32],
     side: u32,
 ) -> Result<Items<LevelPair>, AllocError>
@@ -220,12 +220,12 @@ fn pairs(
 }
 
 /// The levels of a cell and of its neighbour across a side.
-fn level_pair(side: u32, cell: &Cell) -> LevelPair
+fn level_pair(side: u32, cell: &SmallCell) -> LevelPair
     requires side { side < 4 }
     ensures { result ≡ Rattle.mesh_types.specs.StripMeshes.level_pair side cell.now }
 {
     LevelPair {
-        own: cell.at.level,
-        other: cell.next[side as usize].unwrap_or(0),
+        own: cell.at().level,
+        other: cell.next(side as usize).unwrap_or(0),
     }
 }

@@ -4,7 +4,7 @@ ghost use Rattle.std.specs.Prelude.{◌≡◌, ◌<◌, ◌==◌, if◌then◌el
 ghost use Rattle.cell_table.specs.Table.{neighbour};
 
 use mono_regions::{StripIndex, StripTable};
-use nav_ground::{Cell, FreeLayer};
+use nav_ground::{FreeLayer, SmallCell};
 use nav_list::Items;
 
 /// What a mesh of strips is made from.
@@ -61,7 +61,7 @@ impl TileStrips {
     }
 
     /// The first cell of a strip.
-    pub fn first(&self, strip: u32) -> &Cell
+    pub fn first(&self, strip: u32) -> &SmallCell
         requires rules { AreIndexed self.now }
         requires there { strip < length (runs_in self.now) }
         ensures value { result.now ≡ first_of (run_in self.now strip) }

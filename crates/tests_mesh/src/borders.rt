@@ -8,8 +8,7 @@ ghost use Rattle.tests_mesh.specs.TwoTiles.{hand_polygon, hand_tile, left_tile, 
 
 use crate::rows::{all_hold, hold};
 use mesh_types::{
-    Corners, LevelPair, Link, Links, Mesh, PolyRef, Polygon, Polygons, Portal, RimEdge, Tile,
-    TileMesh,
+    Corners, LevelPair, Link, Links, Mesh, PolyRef, Polygon, Polygons, Portal, RimEdge, TileMesh,
 };
 use nav_base::Point;
 use nav_ground::{AREAS, Agent, FreeLayer, MeshKind, Setting, TileNo};
@@ -222,11 +221,11 @@ fn mesh(alloc: Global) -> Result<Mesh, AllocError>
 }
 
 /// A tile without polygons, to come in the right tile's place.
-fn emptied(alloc: Global) -> Result<Vec<(TileNo, Shared<Tile>)>, AllocError>
+fn emptied(alloc: Global) -> Result<Vec<(TileNo, Shared<TileMesh>)>, AllocError>
     ensures { IfOk result (λ news. news.items ≡ (1, hand_tile 1 [] []) ∷ []) }
 {
     let empty = tile(alloc, 1, 0, Vec::new(alloc), Vec::new(alloc))?;
-    let empty = Tile::shared(alloc, empty)?;
+    let empty = Shared::new(alloc, empty)?;
     Ok(Vec::from_array(alloc, [(1, empty)])?)
 }
 

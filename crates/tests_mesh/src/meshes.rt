@@ -5,8 +5,8 @@ ghost use Rattle.std.specs.Prelude.{◌<◌};
 use crate::borders::tile;
 use crate::rows::{all_hold, hold};
 use mesh_types::{
-    Corners, Link, Links, Mesh, PolyRef, Polygon, Portal, Run, Tile, TileMesh, copy_mesh,
-    copy_tile, order_links, poly, runs,
+    Corners, Link, Links, Mesh, PolyRef, Polygon, Portal, Run, TileMesh, copy_mesh, copy_tile,
+    order_links, poly, runs,
 };
 use nav_base::Point;
 use nav_ground::{AREAS, Agent, MeshKind, Setting};
@@ -163,7 +163,7 @@ const SETTING: Setting = Setting {
 
 /// The mesh of one tile.
 fn mesh_of(alloc: Global, tile: TileMesh) -> Result<Mesh, AllocError> {
-    let tile = Tile::shared(alloc, tile)?;
+    let tile = Shared::new(alloc, tile)?;
     Ok(Mesh {
         setting: SETTING,
         tiles: Items::from_vec(Vec::from_array(alloc, [tile])?),
@@ -222,7 +222,7 @@ fn counts_of_copy(alloc: Global, tile: &TileMesh) -> Option<(usize, usize)> {
 
 fn counts_of_first(alloc: Global, mesh: &Mesh) -> Option<(usize, usize)> {
     match mesh.tiles.get(0) {
-        Some(tile) => counts_of_copy(alloc, tile.get().mesh()),
+        Some(tile) => counts_of_copy(alloc, tile.get()),
         None => None,
     }
 }

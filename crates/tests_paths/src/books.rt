@@ -14,7 +14,7 @@ use crate::lists::{claimed_list, submitted_under};
 use crate::rows::{all_hold, hold};
 use crate::versions::{both, floors};
 use layer_cut::ground;
-use mesh_types::{Answer, PathFound, PolyRef, Tile};
+use mesh_types::{Answer, PathFound, PolyRef, TileMesh};
 use nav_base::{FloorAt, Point, Question};
 use nav_book::{Book, HistoryFull, Job, Published, Submitted, TileResult, build_job};
 use nav_ground::{
@@ -149,7 +149,7 @@ fn begun<R: Wait>(
     rt: &R,
     alloc: Global,
     level: Ground,
-    tiles: Items<Shared<Tile>>,
+    tiles: Items<Shared<TileMesh>>,
     readers: u32,
 ) -> Result<(Book, Vec<Eye>), AllocError>
     requires level { IsGround level }

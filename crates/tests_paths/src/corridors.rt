@@ -9,7 +9,7 @@ use crate::rows::all_hold;
 use crate::settings::PLAIN;
 use corridor_search::cheapest;
 use mesh_types::{
-    Corners, Corridor, Link, Links, Mesh, PolyRef, Polygon, Polygons, Portal, Tile, TileMesh,
+    Corners, Corridor, Link, Links, Mesh, PolyRef, Polygon, Polygons, Portal, TileMesh,
 };
 use nav_base::Point;
 use nav_ground::{AREAS, FreeLayer, Setting};
@@ -52,7 +52,7 @@ fn tile(
     lower: Polygon,
     upper: Polygon,
     link: Link,
-) -> Result<Shared<Tile>, AllocError>
+) -> Result<Shared<TileMesh>, AllocError>
     requires { link.from.index < 2 }
     ensures { IfOk result (λ made. made ≡ hand_tile tile lower upper link) }
 {
@@ -68,7 +68,7 @@ fn tile(
         links,
         rim: Items::new(alloc),
     };
-    Tile::shared(alloc, made)
+    Ok(Shared::new(alloc, made)?)
 }
 
 fn one_link(alloc: Global, link: Link) -> Result<Links, AllocError>
@@ -115,7 +115,7 @@ fn at(polygon: (u32, u32)) -> PolyRef
     }
 }
 
-fn left(alloc: Global) -> Result<Shared<Tile>, AllocError>
+fn left(alloc: Global) -> Result<Shared<TileMesh>, AllocError>
     ensures { IfOk result (λ made. made ≡ left_tile) }
 {
     let lower = triangle(1, [corner!(0, 0), corner!(4, 0), corner!(4, 4)]);
@@ -123,7 +123,7 @@ fn left(alloc: Global) -> Result<Shared<Tile>, AllocError>
     tile(alloc, 0, lower, upper, DOWN)
 }
 
-fn right(alloc: Global) -> Result<Shared<Tile>, AllocError>
+fn right(alloc: Global) -> Result<Shared<TileMesh>, AllocError>
     ensures { IfOk result (λ made. made ≡ right_tile) }
 {
     let lower = triangle(2, [corner!(4, 0), corner!(8, 0), corner!(4, 4)]);
@@ -131,7 +131,7 @@ fn right(alloc: Global) -> Result<Shared<Tile>, AllocError>
     tile(alloc, 1, lower, upper, UP)
 }
 
-fn tiles(alloc: Global) -> Result<Items<Shared<Tile>>, AllocError>
+fn tiles(alloc: Global) -> Result<Items<Shared<TileMesh>>, AllocError>
     ensures { IfOk result (λ tiles. tiles ≡ left_tile ∷ right_tile ∷ []) }
 {
     let left = left(alloc)?;

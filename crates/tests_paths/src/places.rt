@@ -6,7 +6,7 @@ ghost use Rattle.tests_paths.specs.PlaceMesh.{hand_mesh, hand_polygon, hand_tile
 use crate::rows::all_hold;
 use crate::settings::PLAIN;
 use mesh_locate::locate;
-use mesh_types::{Corners, Links, Mesh, PolyRef, Polygon, Polygons, Tile, TileMesh};
+use mesh_types::{Corners, Links, Mesh, PolyRef, Polygon, Polygons, TileMesh};
 use nav_base::Point;
 use nav_ground::FreeLayer;
 use nav_list::Items;
@@ -40,7 +40,7 @@ fn polygon(x: u32, top: u32, low: u32) -> Polygon
 }
 
 /// A tile of polygons without links.
-fn tile(alloc: Global, tile: u32, polys: Vec<Polygon>) -> Result<Shared<Tile>, AllocError>
+fn tile(alloc: Global, tile: u32, polys: Vec<Polygon>) -> Result<Shared<TileMesh>, AllocError>
     ensures { IfOk result (λ made. made ≡ hand_tile tile polys.items) }
 {
     let links = Links::new(alloc, Vec::new(alloc), 0)?;
@@ -54,7 +54,7 @@ fn tile(alloc: Global, tile: u32, polys: Vec<Polygon>) -> Result<Shared<Tile>, A
         links,
         rim: Items::new(alloc),
     };
-    Tile::shared(alloc, made)
+    Ok(Shared::new(alloc, made)?)
 }
 
 /// No links of so many polygons.
@@ -65,7 +65,7 @@ pub(crate) fn no_links(alloc: Global, polygons: u32) -> Result<Shared<Links>, Al
     Ok(Shared::new(alloc, links)?)
 }
 
-fn tiles(alloc: Global) -> Result<Items<Shared<Tile>>, AllocError>
+fn tiles(alloc: Global) -> Result<Items<Shared<TileMesh>>, AllocError>
     ensures { IfOk result (λ tiles. tiles ≡ left_tile ∷ right_tile ∷ []) }
 {
     let polys = Vec::from_array(alloc, [polygon(0, 4, 0), polygon(0, 4, 4)])?;

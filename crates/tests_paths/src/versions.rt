@@ -15,7 +15,7 @@ ghost use Rattle.nav_version.specs.Versions.{IsVersion};
 use crate::books::flat_field;
 use crate::rows::hold;
 use layer_cut::ground;
-use mesh_types::{Answer, Mesh, Tile};
+use mesh_types::{Answer, Mesh, TileMesh};
 use nav_base::Question;
 use nav_ground::{AREAS, Agent, Entry, Ground, MeshKind, Reply, Request, Setting, Shape, TileNo};
 use nav_list::Items;
@@ -111,8 +111,8 @@ pub(crate) fn opening<L: Ledger>(
 /// Tile meshes, each with the number of its tile.
 fn numbered(
     alloc: Global,
-    tiles: &[Shared<Tile>],
-) -> Result<Vec<(TileNo, Shared<Tile>)>, AllocError>
+    tiles: &[Shared<TileMesh>],
+) -> Result<Vec<(TileNo, Shared<TileMesh>)>, AllocError>
     ensures { IfOk result (λ news. news.items ≡ numbered_tiles tiles.now) }
 {
     let mut news = Vec::with_capacity(alloc, tiles.len())?;
@@ -123,13 +123,13 @@ fn numbered(
 }
 
 fn push_numbered(
-    news: &mut Vec<(TileNo, Shared<Tile>)>,
-    tile: &Shared<Tile>,
+    news: &mut Vec<(TileNo, Shared<TileMesh>)>,
+    tile: &Shared<TileMesh>,
 ) -> Result<(), AllocError>
     ensures { OnOk result (news.new.items ≡ news.old.items ++ (tile.now.tile, tile.now) ∷ []) }
 {
     let own = tile.share()?;
-    news.push((tile.get().mesh().tile, own))?;
+    news.push((tile.get().tile, own))?;
     Ok(())
 }
 
@@ -138,7 +138,7 @@ fn covered<L: Ledger>(
     alloc: Global,
     level: &Ground,
     steps: &mut Steps<L>,
-) -> Result<Vec<(TileNo, Shared<Tile>)>, AllocError>
+) -> Result<Vec<(TileNo, Shared<TileMesh>)>, AllocError>
     requires level { IsGround level.now }
     ensures { IfOk result (λ news. news.items ≡ numbered_tiles (tiles_under level.now (BLOCK ∷ []))) }
 {

@@ -6,7 +6,7 @@ ghost use Rattle.surface_move.specs.Moves.{AreThere};
 ghost use Rattle.tests_walks.specs.PartMesh.{flat, hand_mesh, hand_tile, left_cell, right_cell, sliver, wedge};
 
 use crate::rows::all_hold;
-use mesh_types::{Corners, Links, Mesh, PolyRef, Polygon, Polygons, Tile, TileMesh, poly};
+use mesh_types::{Corners, Links, Mesh, PolyRef, Polygon, Polygons, TileMesh, poly};
 use nav_base::Point;
 use nav_ground::{AREAS, Agent, FreeLayer, MeshKind, Setting};
 use nav_list::Items;
@@ -113,7 +113,7 @@ fn tile(alloc: Global) -> Result<TileMesh, AllocError>
 fn mesh(alloc: Global) -> Result<Mesh, AllocError>
     ensures { IfOk result (λ mesh. mesh ≡ hand_mesh) }
 {
-    let tile = Tile::shared(alloc, tile(alloc)?)?;
+    let tile = Shared::new(alloc, tile(alloc)?)?;
     let links = Shared::new(alloc, no_links(alloc)?)?;
     Ok(Mesh {
         setting: ONE_TILE,

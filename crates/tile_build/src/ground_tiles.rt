@@ -11,7 +11,7 @@ ghost use Rattle.mesh_types.specs.WholeMesh.{mesh_of};
 ghost use Rattle.tile_build.specs.Meshes.{tiles_of, tiles_under, plain_ground, HasSameParts};
 
 use crate::build::build_tile;
-use mesh_types::Tile;
+use mesh_types::TileMesh;
 use nav_ground::{Ground, Layer, Setting, Shape};
 use nav_list::Items;
 use nav_share::Shared;
@@ -26,7 +26,7 @@ pub fn build_tiles<L: Ledger>(
     whole: &Ground,
     shapes: &[Shape],
     steps: &mut Steps<L>,
-) -> Result<Items<Shared<Tile>>, AllocError>
+) -> Result<Items<Shared<TileMesh>>, AllocError>
     requires level { IsGround whole.now }
     requires shapes { All IsShape shapes.now }
     ensures tiles { IfOk result (λ tiles. tiles ≡ tiles_under whole.now shapes.now) }
@@ -51,7 +51,7 @@ fn built<L: Ledger>(
     setting: &Setting,
     shapes: &[Shape],
     steps: &mut Steps<L>,
-) -> Result<Vec<Shared<Tile>>, AllocError>
+) -> Result<Vec<Shared<TileMesh>>, AllocError>
     requires setting { IsSetting setting.now }
     requires layers { All (IsLayerOf setting.now) layers.now }
     requires shapes { All IsShape shapes.now }
@@ -62,7 +62,7 @@ fn built<L: Ledger>(
     let mut tiles = Vec::with_capacity(alloc, layers.len())?;
     for layer in layers {
         let tile = build_tile(alloc, layer, setting, shapes, steps)?;
-        tiles.push(Tile::shared(alloc, tile)?)?;
+        tiles.push(Shared::new(alloc, tile)?)?;
     }
     Ok(tiles)
 }

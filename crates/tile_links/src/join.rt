@@ -11,7 +11,7 @@ ghost use Rattle.mesh_types.specs.WholeMesh.{tile_across, cross_links, mesh_of};
 ghost use Rattle.tile_links.specs.Loose.{loose_over, HasGained};
 
 use crate::rim::push_links;
-use mesh_types::{Link, Links, Mesh, Tile, TileMesh, order_links};
+use mesh_types::{Link, Links, Mesh, TileMesh, order_links};
 use nav_ground::{Setting, TileNo};
 use nav_list::Items;
 use nav_share::Shared;
@@ -33,7 +33,7 @@ pub fn whole(alloc: Global, setting: &Setting, tiles: Vec<TileMesh>) -> Result<M
 pub fn joined(
     alloc: Global,
     setting: &Setting,
-    tiles: Items<Shared<Tile>>,
+    tiles: Items<Shared<TileMesh>>,
 ) -> Result<Mesh, AllocError>
     requires setting { IsSetting setting.now }
     requires tiles { AreTiles setting.now tiles }
@@ -53,7 +53,7 @@ pub fn joined(
 fn all_cross_links(
     alloc: Global,
     setting: &Setting,
-    tiles: &[Shared<Tile>],
+    tiles: &[Shared<TileMesh>],
 ) -> Result<Vec<Shared<Links>>, AllocError>
     requires setting { IsSetting setting.now }
     requires tiles { AreTiles setting.now tiles.now }
@@ -61,7 +61,7 @@ fn all_cross_links(
 {
     let mut cross = Vec::with_capacity(alloc, tiles.len())?;
     for tile in tiles {
-        cross.push(shared_cross_links(alloc, setting, tiles, tile.get().mesh())?)?;
+        cross.push(shared_cross_links(alloc, setting, tiles, tile.get())?)?;
     }
     Ok(cross)
 }
@@ -70,7 +70,7 @@ fn all_cross_links(
 fn shared_cross_links(
     alloc: Global,
     setting: &Setting,
-    tiles: &[Shared<Tile>],
+    tiles: &[Shared<TileMesh>],
     tile: &TileMesh,
 ) -> Result<Shared<Links>, AllocError>
     requires setting { IsSetting setting.now }
@@ -84,12 +84,12 @@ fn shared_cross_links(
 }
 
 /// Tiles as values that several meshes can share.
-fn shared(alloc: Global, tiles: Vec<TileMesh>) -> Result<Items<Shared<Tile>>, AllocError>
+fn shared(alloc: Global, tiles: Vec<TileMesh>) -> Result<Items<Shared<TileMesh>>, AllocError>
     ensures { IfOk result (λ shared. shared ≡ tiles.items) }
 {
     let mut shared = Vec::with_capacity(alloc, tiles.len())?;
     for tile in tiles {
-        shared.push(Tile::shared(alloc, tile)?)?;
+        shared.push(Shared::new(alloc, tile)?)?;
     }
     Ok(Items::from_vec(shared))
 }
@@ -98,7 +98,7 @@ fn shared(alloc: Global, tiles: Vec<TileMesh>) -> Result<Items<Shared<Tile>>, Al
 pub fn cross_links(
     alloc: Global,
     setting: &Setting,
-    tiles: &[Shared<Tile>],
+    tiles: &[Shared<TileMesh>],
     tile: &TileMesh,
 ) -> Result<Links, AllocError>
     requires setting { IsSetting setting.now }
@@ -115,7 +115,7 @@ pub fn cross_links(
 #[derive(Clone, Copy)]
 pub struct Tiled<'a> {
     pub setting: &'a Setting,
-    pub tiles: &'a [Shared<Tile>],
+    pub tiles: &'a [Shared<TileMesh>],
 }
 
 /// The links that leave a tile over its four sides, in the order of links, given some of them and the sides over which the others lead.
@@ -159,7 +159,7 @@ fn push_side_links(
 {
     let tiles = tiled.tiles;
     if let Some(other) = across(tiled.setting, tile.tile, side) {
-        push_links(alloc, links, tile, tiles[other as usize].get().mesh(), side)?;
+        push_links(alloc, links, tile, tiles[other as usize].get(), side)?;
     }
     Ok(())
 }

@@ -15,7 +15,7 @@ ghost use Rattle.tile_links.specs.NearTiles.{IsMarked, IsMarkedAcross};
 ghost use Rattle.tile_links.specs.KeptLinks.{KeepsOld};
 
 use crate::join::{Tiled, across, cross_links, links_with};
-use mesh_types::{Link, Links, Mesh, Tile, TileMesh};
+use mesh_types::{Link, Links, Mesh, TileMesh};
 use nav_ground::{Setting, TileNo, tiles};
 use nav_list::Items;
 use nav_share::Shared;
@@ -27,8 +27,8 @@ use std::alloc::{AllocError, Global};
 pub fn replace(
     mesh: &mut Mesh,
     alloc: Global,
-    news: Vec<(TileNo, Shared<Tile>)>,
-) -> Result<(), (Vec<(TileNo, Shared<Tile>)>, AllocError)>
+    news: Vec<(TileNo, Shared<TileMesh>)>,
+) -> Result<(), (Vec<(TileNo, Shared<TileMesh>)>, AllocError)>
     requires setting { IsSetting mesh.old.setting }
     requires mesh { IsWhole mesh.old }
     requires news { AreNew mesh.old.setting news.items }
@@ -52,7 +52,7 @@ pub fn replace(
 pub fn replaced(
     alloc: Global,
     mesh: &Mesh,
-    news: &[(TileNo, Shared<Tile>)],
+    news: &[(TileNo, Shared<TileMesh>)],
 ) -> Result<Mesh, AllocError>
     requires setting { IsSetting mesh.now.setting }
     requires mesh { IsWhole mesh.now }
@@ -80,9 +80,9 @@ pub fn replaced(
 /// Tiles with the new ones in place.
 fn tiles_after(
     alloc: Global,
-    tiles: &[Shared<Tile>],
-    news: &[(TileNo, Shared<Tile>)],
-) -> Result<Vec<Shared<Tile>>, AllocError>
+    tiles: &[Shared<TileMesh>],
+    news: &[(TileNo, Shared<TileMesh>)],
+) -> Result<Vec<Shared<TileMesh>>, AllocError>
     requires { AreRising news.now }
     ensures { IfOk result (λ after. after.items ≡ Rattle.tile_links.specs.NewTiles.tiles_after news.now tiles.now) }
 {
@@ -95,9 +95,9 @@ fn tiles_after(
 
 /// Appends what stands in the place of a tile once the new ones have come.
 fn push_tile_after(
-    after: &mut Vec<Shared<Tile>>,
-    tile: &Shared<Tile>,
-    news: &[(TileNo, Shared<Tile>)],
+    after: &mut Vec<Shared<TileMesh>>,
+    tile: &Shared<TileMesh>,
+    news: &[(TileNo, Shared<TileMesh>)],
 ) -> Result<(), AllocError>
     requires { AreRising news.now }
     ensures { OnOk result (after.new.items ≡ after.old.items ++ Rattle.tile_links.specs.NewTiles.tile_after news.now tile.now ∷ []) }
@@ -107,11 +107,14 @@ fn push_tile_after(
 }
 
 /// What stands in the place of a tile once the new ones have come.
-fn tile_after<'a>(tile: &'a Shared<Tile>, news: &'a [(TileNo, Shared<Tile>)]) -> &'a Shared<Tile>
+fn tile_after<'a>(
+    tile: &'a Shared<TileMesh>,
+    news: &'a [(TileNo, Shared<TileMesh>)],
+) -> &'a Shared<TileMesh>
     requires { AreRising news.now }
     ensures { result.now ≡ Rattle.tile_links.specs.NewTiles.tile_after news.now tile.now }
 {
-    match new_tile(news, tile.get().mesh().tile) {
+    match new_tile(news, tile.get().tile) {
         Some(new) => new,
         None => tile,
     }
@@ -122,8 +125,8 @@ fn cross_after(
     alloc: Global,
     setting: &Setting,
     cross: &[Shared<Links>],
-    tiles: &[Shared<Tile>],
-    news: &[(TileNo, Shared<Tile>)],
+    tiles: &[Shared<TileMesh>],
+    news: &[(TileNo, Shared<TileMesh>)],
 ) -> Result<Vec<Shared<Links>>, AllocError>
     requires setting { IsSetting setting.now }
     requires tiles { AreTiles setting.now tiles.now }
@@ -153,7 +156,7 @@ fn cross_after(
 /// New tile meshes, and for each tile whether one of them is its own or lies across a side of it.
 #[derive(Clone, Copy)]
 struct Changes<'a> {
-    news: &'a [(TileNo, Shared<Tile>)],
+    news: &'a [(TileNo, Shared<TileMesh>)],
     near: &'a [bool],
 }
 
@@ -180,7 +183,7 @@ fn links_after(
 {
     if changes.near[place] {
         let tiles = tiled.tiles;
-        let tile = tiles[place].get().mesh();
+        let tile = tiles[place].get();
         Ok(shared_near_links(alloc, tiled, changes.news, cross[place].get(), tile)?)
     } else {
         Ok(cross[place].share()?)
@@ -191,7 +194,7 @@ fn links_after(
 fn shared_near_links(
     alloc: Global,
     tiled: Tiled,
-    news: &[(TileNo, Shared<Tile>)],
+    news: &[(TileNo, Shared<TileMesh>)],
     old: &Links,
     tile: &TileMesh,
 ) -> Result<Shared<Links>, AllocError>
@@ -213,7 +216,7 @@ fn shared_near_links(
 fn near_links(
     alloc: Global,
     tiled: Tiled,
-    news: &[(TileNo, Shared<Tile>)],
+    news: &[(TileNo, Shared<TileMesh>)],
     old: &Links,
     tile: &TileMesh,
 ) -> Result<Links, AllocError>
@@ -238,7 +241,7 @@ fn near_links(
 fn kept_links(
     alloc: Global,
     links: &[Link],
-    news: &[(TileNo, Shared<Tile>)],
+    news: &[(TileNo, Shared<TileMesh>)],
 ) -> Result<Vec<Link>, AllocError>
     requires { AreRising news.now }
     ensures { IfOk result (λ kept. kept.items ≡ filter (Rattle.tile_links.specs.KeptLinks.leads_to_old news.now) links.now) }
@@ -254,7 +257,7 @@ fn kept_links(
 fn push_kept(
     kept: &mut Vec<Link>,
     link: &Link,
-    news: &[(TileNo, Shared<Tile>)],
+    news: &[(TileNo, Shared<TileMesh>)],
 ) -> Result<(), AllocError>
     requires { AreRising news.now }
     ensures { OnOk result (kept.new.items ≡ kept.old.items
@@ -267,7 +270,7 @@ fn push_kept(
 }
 
 /// Whether a link leads to a tile that is not replaced.
-fn leads_to_old(news: &[(TileNo, Shared<Tile>)], link: &Link) -> bool
+fn leads_to_old(news: &[(TileNo, Shared<TileMesh>)], link: &Link) -> bool
     requires { AreRising news.now }
     ensures { result ≡ Rattle.tile_links.specs.KeptLinks.leads_to_old news.now link.now }
 {
@@ -278,7 +281,7 @@ fn leads_to_old(news: &[(TileNo, Shared<Tile>)], link: &Link) -> bool
 fn new_sides(
     alloc: Global,
     setting: &Setting,
-    news: &[(TileNo, Shared<Tile>)],
+    news: &[(TileNo, Shared<TileMesh>)],
     tile: TileNo,
 ) -> Result<Vec<u32>, AllocError>
     requires setting { IsSetting setting.now }
@@ -298,7 +301,7 @@ fn new_sides(
 /// Whether the tile across a side of a tile is replaced.
 fn is_new_across(
     setting: &Setting,
-    news: &[(TileNo, Shared<Tile>)],
+    news: &[(TileNo, Shared<TileMesh>)],
     tile: TileNo,
     side: u32,
 ) -> bool
@@ -314,7 +317,7 @@ fn is_new_across(
 }
 
 /// Whether the tile with a number is replaced.
-fn is_new(news: &[(TileNo, Shared<Tile>)], number: TileNo) -> bool
+fn is_new(news: &[(TileNo, Shared<TileMesh>)], number: TileNo) -> bool
     requires { AreRising news.now }
     ensures { result ≡ Rattle.tile_links.specs.NewTiles.is_new news.now number }
 {
@@ -325,7 +328,7 @@ fn is_new(news: &[(TileNo, Shared<Tile>)], number: TileNo) -> bool
 fn near_new(
     alloc: Global,
     setting: &Setting,
-    news: &[(TileNo, Shared<Tile>)],
+    news: &[(TileNo, Shared<TileMesh>)],
 ) -> Result<Vec<bool>, AllocError>
     requires setting { IsSetting setting.now }
     requires news { All (λ (new : New). new.0 < tile_count setting.now) news.now }
@@ -339,7 +342,7 @@ fn near_new(
 }
 
 /// Marks the tiles that are replaced, and those across their sides.
-fn mark_all(near: &mut [bool], setting: &Setting, news: &[(TileNo, Shared<Tile>)])
+fn mark_all(near: &mut [bool], setting: &Setting, news: &[(TileNo, Shared<TileMesh>)])
     requires setting { IsSetting setting.now }
     requires news { All (λ (new : New). new.0 < tile_count setting.now) news.now }
     requires places { length near.old ≡ tile_count setting.now }
@@ -382,7 +385,7 @@ fn mark_across(near: &mut [bool], setting: &Setting, tile: TileNo, side: u32)
 }
 
 /// The new tile mesh with a number, if there is one.
-fn new_tile(news: &[(TileNo, Shared<Tile>)], number: TileNo) -> Option<&Shared<Tile>>
+fn new_tile(news: &[(TileNo, Shared<TileMesh>)], number: TileNo) -> Option<&Shared<TileMesh>>
     requires { AreRising news.now }
     ensures { option_copied result ≡ Rattle.tile_links.specs.NewTiles.new_tile news.now number }
 {

@@ -1,14 +1,13 @@
-use Rattle.std.proofs.Common.{ap, ◌∙◌, sym, true, false, ◌&&◌, List, get_or}
+use Rattle.std.proofs.Common.{◌≡◌, ap, ◌∙◌, sym, true, false, ◌&&◌, List, [], ◌∷◌, ◌++◌, get_or}
 use Rattle.std.specs.Global.{Vec}
 use Rattle.std.specs.List.{filter}
 use Rattle.std.proofs.lemmas.Bool.{and_from, and_left, and_right}
 use Rattle.std.proofs.lemmas.List.{take_all}
 use Rattle.nav_ground.specs.declared.cell.Cell.{Cell}
 use Rattle.nav_ground.specs.declared.cell.CellRef.{CellRef}
-use Rattle.nav_ground.specs.Tiling.{is_in_window}
+use Rattle.nav_ground.specs.Tiling.{is_in_window, widened}
 use Rattle.nav_ground.specs.Clearance.{places_of}
 use Rattle.nav_ground.proofs.Selections.{filter-filter}
-use Rattle.cell_table.proofs.Places.{no_cell}
 use Rattle.agent_erode.proofs.Selected.{one_more_place, one_less_place, mark_at}
 use Rattle.agent_erode.proofs.WindowLaws.{not_widened}
 use Rattle.agent_erode.proofs.erosion.places_within.Goals as goal
@@ -22,24 +21,28 @@ loop-i-preserved c = λ p are.
     let cells = c.args.cells.now in
     let marks = c.args.marks.now in
     let i = c.loop-i.i in
-    let cell : Cell = get_or cells i no_cell in
+    let item = c.index-cells-i.result in
+    let cell : Cell = get_or cells i item in
+    let place : c.at-place.result ≡ cell.at = c.at-place.ensures ∙ ap (λ (other : Cell). other.at) c.index-cells-i.is in
     let inside = λ (other : Cell). is_in_window c.args.window other.at.x other.at.z in
     let both = λ (other : Cell). p other && inside other in
-    let in_window = not_widened c.args.window cell.at.x cell.at.z in
+    let in_window : inside cell ≡ is_in_window (widened c.args.window 0) c.at-place.result.x c.at-place.result.z =
+    sym (not_widened c.args.window cell.at.x cell.at.z) ∙ ap (λ (at : CellRef). is_in_window (widened c.args.window 0) at.x at.z) (sym place) in
     elim c.if-marks-i.branch [
       | then-marks-i+then-is_near+in_ok-push w ↦
           ap (λ (v : Vec CellRef). v.items) w.places-is ∙ w.in_ok-push.ensures.items
-          ∙ one_more_place both cells i no_cell c.loop-i.places.items c.loop-i-test.true
-          (and_from (p cell) (inside cell) (mark_at p cells marks i no_cell false true are c.loop-i-test.true w.if-marks-i.true)
-          (sym in_window ∙ sym w.is_near.ensures ∙ w.if-is_near.true)) (c.loop-i.invariant p are)
+          ∙ ap (λ (at : CellRef). c.loop-i.places.items ++ at ∷ []) place
+          ∙ one_more_place both cells i item c.loop-i.places.items c.loop-i-test.true
+          (and_from (p cell) (inside cell) (mark_at p cells marks i item false true are c.loop-i-test.true w.if-marks-i.true)
+          (in_window ∙ sym w.is_near.ensures ∙ w.if-is_near.true)) (c.loop-i.invariant p are)
       | else-marks-i w ↦
           ap (λ (v : Vec CellRef). v.items) w.places-is
-          ∙ one_less_place both cells i no_cell c.loop-i.places.items c.loop-i-test.true
+          ∙ one_less_place both cells i item c.loop-i.places.items c.loop-i-test.true
           (elim w.else-marks-i.branch [
             | else-marks-i-via-then-marks-i+else-is_near w' ↦
-                and_right (p cell) (inside cell) (sym in_window ∙ sym w'.is_near.ensures ∙ w'.if-is_near.false)
+                and_right (p cell) (inside cell) (in_window ∙ sym w'.is_near.ensures ∙ w'.if-is_near.false)
             | else-marks-i-via-else-marks-i w' ↦
-                and_left (p cell) (inside cell) (mark_at p cells marks i no_cell false false are c.loop-i-test.true w'.if-marks-i.false)
+                and_left (p cell) (inside cell) (mark_at p cells marks i item false false are c.loop-i-test.true w'.if-marks-i.false)
           ]) (c.loop-i.invariant p are)
     ]
 

@@ -1,13 +1,15 @@
-use Rattle.std.proofs.Common.{◌∙◌, ap}
+use Rattle.std.proofs.Common.{◌∙◌, ap, sym}
+use Rattle.cell_table.specs.Columns.{column_toward}
 use Rattle.cell_table.specs.Table.{index_of}
 use Rattle.cell_table.proofs.Places.{named_index, named_none}
 use Rattle.cell_table.proofs.table.index_named.Goals as goal
 
 pub returns-in-Some : goal.returns-in-Some
 returns-in-Some c =
-    c.index_after.ensures ∙ ap (λ column. index_of c.args.cells.now column c.in-Some.level) c.column_toward.ensures
+    c.index_of.ensures
+    ∙ ap (λ column. index_of c.args.cells.now column c.in-Some.level) (c.column_toward.ensures ∙ ap (column_toward c.args.dir) c.requires.at)
     ∙ named_index c.args.dir c.in-Some.level c.args.cell.now c.args.cells.now c.requires.dir
-    (record { x = c.requires.cell.x; z = c.requires.cell.z }) c.requires.cells c.in-Some.is
+    (record { x = c.requires.cell.x; z = c.requires.cell.z }) c.requires.cells (sym c.next.ensures ∙ c.in-Some.is)
 
 pub returns-in-None : goal.returns-in-None
-returns-in-None c = named_none c.args.dir c.args.cell.now c.args.cells.now c.in-None.is
+returns-in-None c = named_none c.args.dir c.args.cell.now c.args.cells.now (sym c.next.ensures ∙ c.in-None.is)

@@ -1,27 +1,13 @@
-use Rattle.std.proofs.Common.{◌∙◌, sym, ap, arith}
-use Rattle.std.proofs.lemmas.List.{get_or_default}
-use Rattle.nav_ground.specs.declared.cell.Cell.{Cell}
+use Rattle.std.proofs.Common.{◌∙◌, sym, ap}
+use Rattle.nav_ground.proofs.SmallCellLaws.{place_read}
 use Rattle.cell_table.specs.Columns.{is_at}
-use Rattle.cell_table.proofs.Places.{no_cell, found_there, found_nowhere}
+use Rattle.cell_table.proofs.Places.{no_cell, found_there}
 use Rattle.cell_table.proofs.table.index_of.Goals as goal
-use Rattle.cell_table.proofs.table.index_of.Goals.{else-least-cells-via-then-least-cells+else-is_at-2, else-least-cells-via-else-least-cells}
 
 pub returns-then-is_at : goal.returns-then-is_at
 returns-then-is_at c =
-    found_there c.args.cells.now c.requires c.args.column c.args.level c.args.guess no_cell c.if-guess-cells.true (sym c.is_at.ensures ∙ c.if-is_at.true)
-
-pub returns-then-is_at-2 : goal.returns-then-is_at-2
-returns-then-is_at-2 c =
-    found_there c.args.cells.now c.requires c.args.column c.args.level c.cells_before-least.result no_cell c.if-least-cells.true
-    (sym c.is_at-then-least-cells.ensures ∙ c.if-is_at-2.true)
-
-pub returns-else-least-cells : goal.returns-else-least-cells
-returns-else-least-cells c =
-    found_nowhere c.args.cells.now c.requires c.args.column c.args.level c.cells_before-least.result
-    c.cells_before-least.ensures.most c.cells_before-least.ensures.before c.cells_before-least.ensures.after
-    (λ d there. elim c.else-least-cells.branch [
-      | else-least-cells-via-then-least-cells+else-is_at-2 w ↦
-          ap (λ (cell : Cell). is_at c.args.column c.args.level cell.at) (get_or_default c.args.cells.now c.cells_before-least.result d no_cell there)
-          ∙ sym w.is_at-then-least-cells.ensures ∙ w.if-is_at-2.false
-      | else-least-cells-via-else-least-cells w ↦ absurd (omega (arith, there, w.if-least-cells.false))
-    ])
+    let cells = c.args.cells.now in
+    let index = c.args.guess.now in
+    let read = place_read cells index c.index-cells-index.result c.at.result c.if-index-cells.true c.index-cells-index.is c.at.ensures no_cell in
+    found_there cells c.requires c.args.column c.args.level index no_cell c.if-index-cells.true
+    (ap (is_at c.args.column c.args.level) (sym read) ∙ sym c.is_at.ensures ∙ c.if-is_at.true)

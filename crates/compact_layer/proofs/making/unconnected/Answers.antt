@@ -7,7 +7,7 @@ use Rattle.nav_ground.specs.declared.field.Span.{Span}
 use Rattle.nav_ground.specs.Fields.{IsField}
 use Rattle.nav_ground.specs.Connection.{unconnected_cells}
 use Rattle.compact_layer.specs.Making.{cell_with, level_over, ceiling_over}
-use Rattle.compact_layer.proofs.SpansSoFar.{one_more_cell, one_more_blocked, all_cells, levels_small}
+use Rattle.compact_layer.proofs.SpansSoFar.{one_more_cell, one_more_blocked, all_cells, levels_so_far, spans_of_field}
 use Rattle.compact_layer.proofs.making.unconnected.Goals as goal
 use Rattle.compact_layer.proofs.making.unconnected.Goals.{then-area-ne0+in_ok-push, else-area-ne0}
 
@@ -20,13 +20,23 @@ field_with field spans same rules' =
     let P : List Span → Type 0 = λ (s : List Span). IsField (record field { spans = s }) in
     subst P (sym same) rules'
 
-pub cell_on-requires : goal.cell_on-requires
-cell_on-requires c =
-    let few = c.requires.field.few in
-    let spans = ap length c.as_slice-spans.ensures in
-    let P : List Cell → Type 0 = λ (cells : List Cell). All (λ (cell : Cell). cell.at.level ≤ 2000000) cells in
+pub cell_on-requires-clause-before : goal.cell_on-requires-clause-before
+cell_on-requires-clause-before c =
+    let field : Field = record c.args.field.now { spans = c.as_slice-spans.result.now } in
+    let rules' = field_with c.args.field.now c.as_slice-spans.result.now c.as_slice-spans.ensures c.requires.field in
+    let P : List Cell → Type 0 = λ (cells : List Cell). All (λ (cell : Cell). cell.at.level ≤ 8191) cells in
     subst P (sym (c.as_slice.ensures.value ∙ c.loop-i.invariant))
-    (levels_small c.as_slice-spans.result.now c.args.areas.now c.loop-i.i (omega (arith, few, spans)))
+    (levels_so_far field c.args.areas.now c.loop-i.i rules' c.requires.areas (c.requires.each ∙ sym (ap length c.as_slice-spans.ensures)))
+
+pub cell_on-requires-clause-spans : goal.cell_on-requires-clause-spans
+cell_on-requires-clause-spans c =
+    (spans_of_field _ (field_with c.args.field.now c.as_slice-spans.result.now c.as_slice-spans.ensures c.requires.field)).each
+
+pub cell_on-requires-clause-span : goal.cell_on-requires-clause-span
+cell_on-requires-clause-span c = cell_on-requires-clause-spans c c.loop-i.i no_span c.loop-i-test.true
+
+pub cell_on-requires-clause-area : goal.cell_on-requires-clause-area
+cell_on-requires-clause-area c = c.requires.areas c.loop-i.i 0 (omega (arith, c.requires.each, c.loop-i-test.true, ap length c.as_slice-spans.ensures))
 
 pub loop-i-preserved : goal.loop-i-preserved
 loop-i-preserved c =

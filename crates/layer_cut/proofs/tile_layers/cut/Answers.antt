@@ -1,17 +1,14 @@
-use Rattle.std.proofs.Common.{List, [], filter, map, ap, ◌∙◌, sym, arith}
+use Rattle.std.proofs.Common.{List, filter, map, ap, ◌∙◌, sym, arith}
 use Rattle.std.proofs.lemmas.List.{take_all}
 use Rattle.std.proofs.lemmas.Result.{IfOk-weaker}
-use Rattle.std.proofs.lemmas.List.Elements.{Contains-get_or}
 use Rattle.nav_ground.specs.declared.cell.Cell.{Cell}
+use Rattle.nav_ground.specs.declared.cell.CellRef.{CellRef}
 use Rattle.nav_ground.specs.Clearance.{is_kept, kept_cells, cells_in}
 use Rattle.nav_ground.specs.Layers.{layer_cell, wide_cells}
-use Rattle.nav_ground.specs.Tiling.{margin_of}
+use Rattle.nav_ground.specs.Tiling.{margin_of, is_in_window}
 use Rattle.layer_cut.proofs.HandedOut.{cut_in, cut_outside, cut_unmarked, marks_beside}
 use Rattle.layer_cut.proofs.tile_layers.cut.Goals as goal
 use Rattle.layer_cut.proofs.tile_layers.cut.Goals.{then-marks-i+then-is_inside+in_ok-push, else-marks-i, else-marks-i-via-then-marks-i+else-is_inside, else-marks-i-via-else-marks-i}
-
-abbrev no_cell : Cell
-no_cell = record { at = record { x = 0; z = 0; level = 0 }; floor = 0; ceiling = 0; area = 0; next = [] }
 
 pub bounds-marks-i : goal.bounds-marks-i
 bounds-marks-i c =
@@ -19,13 +16,15 @@ bounds-marks-i c =
 
 pub is_inside-requires : goal.is_inside-requires
 is_inside-requires c =
-    let cell = c.requires.cells.rules.each c.loop-i.i no_cell c.loop-i-test.true in
-    (cell.x, cell.z)
+    let item = c.index-cells-i.result in
+    let cell = c.requires.cells.rules.each c.loop-i.i item c.loop-i-test.true in
+    let place = c.at-place.ensures ∙ ap (λ (cell : Cell). cell.at) c.index-cells-i.is in
+    (omega (arith, cell.x, ap (λ (at : CellRef). at.x) place), omega (arith, cell.z, ap (λ (at : CellRef). at.z) place))
 
 pub layer_cell-requires : goal.layer_cell-requires
 layer_cell-requires c = record {
   cells = c.requires.cells;
-  cell = Contains-get_or c.args.cells.now c.loop-i.i no_cell c.loop-i-test.true;
+  cell = (c.loop-i.i, c.loop-i-test.true, sym c.index-cells-i.is);
   marks = marks_beside c.args.cells.now c.args.marks.now (is_kept c.args.cells.now c.args.setting.now.agent.radius) c.requires.marks;
 }
 
@@ -35,18 +34,21 @@ loop-i-preserved c =
     let cells = c.args.cells.now in
     let kept = kept_cells cells c.args.setting.now.agent.radius in
     let p = is_kept cells c.args.setting.now.agent.radius in
+    let item = c.index-cells-i.result in
+    let inside = ap (λ (at : CellRef). is_in_window window at.x at.z) (sym (c.at-place.ensures ∙ ap (λ (cell : Cell). cell.at) c.index-cells-i.is)) in
     elim c.if-marks-i.branch [
       | then-marks-i+then-is_inside+in_ok-push w ↦
           (ap (λ v. v.items) w.kept-is)
           ∙ w.in_ok-push.ensures.items
-          ∙ cut_in window kept cells c.args.marks.now p c.loop-i.i _ c.loop-i.kept.items w.layer_cell.result c.requires.marks c.loop-i-test.true
-          w.if-marks-i.true (sym w.is_inside.ensures ∙ w.if-is_inside.true) (w.layer_cell.ensures p c.requires.marks) c.loop-i.invariant
+          ∙ cut_in window kept cells c.args.marks.now p c.loop-i.i item c.loop-i.kept.items w.layer_cell.result c.requires.marks c.loop-i-test.true
+          w.if-marks-i.true (inside ∙ sym w.is_inside.ensures ∙ w.if-is_inside.true)
+          (w.layer_cell.ensures p c.requires.marks ∙ ap (layer_cell kept) c.index-cells-i.is) c.loop-i.invariant
       | else-marks-i w ↦
           (ap (λ v. v.items) w.kept-is)
           ∙ elim w.else-marks-i.branch [
             | else-marks-i-via-then-marks-i+else-is_inside w' ↦
-                cut_outside window kept cells c.args.marks.now p c.loop-i.i _ c.loop-i.kept.items c.requires.marks c.loop-i-test.true
-                w'.if-marks-i.true (sym w'.is_inside.ensures ∙ w'.if-is_inside.false) c.loop-i.invariant
+                cut_outside window kept cells c.args.marks.now p c.loop-i.i item c.loop-i.kept.items c.requires.marks c.loop-i-test.true
+                w'.if-marks-i.true (inside ∙ sym w'.is_inside.ensures ∙ w'.if-is_inside.false) c.loop-i.invariant
             | else-marks-i-via-else-marks-i w' ↦
                 cut_unmarked window kept cells c.args.marks.now p c.loop-i.i c.loop-i.kept.items c.requires.marks c.loop-i-test.true
                 w'.if-marks-i.false c.loop-i.invariant

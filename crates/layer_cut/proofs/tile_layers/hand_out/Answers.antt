@@ -1,26 +1,29 @@
-use Rattle.std.proofs.Common.{true, false, [], arith, length, ap, ◌∙◌}
-use Rattle.std.proofs.lemmas.List.Elements.{Contains-get_or}
+use Rattle.std.proofs.Common.{true, false, arith, length, ap, ◌∙◌, sym, subst}
 use Rattle.nav_ground.specs.declared.cell.Cell.{Cell}
+use Rattle.nav_ground.specs.declared.cell.CellRef.{CellRef}
+use Rattle.nav_ground.specs.Layers.{layer_cell}
+use Rattle.layer_cut.specs.Tiles.{IsInField, tile_at}
 use Rattle.std.proofs.lemmas.List.FromFn.{length-map-range_with_len}
 use Rattle.nav_ground.specs.Clearance.{is_kept, kept_cells}
 use Rattle.layer_cut.proofs.HandedOut.{kept_step, unkept_step, mark_is, marks_beside}
 use Rattle.layer_cut.proofs.tile_layers.hand_out.Goals as goal
 use Rattle.layer_cut.proofs.tile_layers.hand_out.Goals.{then-marks-i+in_ok-push, else-marks-i}
 
-abbrev no_cell : Cell
-no_cell = record { at = record { x = 0; z = 0; level = 0 }; floor = 0; ceiling = 0; area = 0; next = [] }
-
 pub bounds-marks-i : goal.bounds-marks-i
 bounds-marks-i c =
     omega (arith, marks_beside c.args.cells.now c.args.marks.now (is_kept c.args.cells.now c.args.setting.now.agent.radius) c.requires.marks)
 
 pub tile_of-tile-requires-clause-inside : goal.tile_of-tile-requires-clause-inside
-tile_of-tile-requires-clause-inside c = c.requires.inside c.loop-i.i no_cell c.loop-i-test.true
+tile_of-tile-requires-clause-inside c =
+    let inside = c.requires.inside c.loop-i.i c.index-cells-i.result c.loop-i-test.true in
+    let place = c.at-place.ensures ∙ ap (λ (cell : Cell). cell.at) c.index-cells-i.is in
+    let P : CellRef → Type 0 = λ (at : CellRef). IsInField c.args.setting.now at.x at.z in
+    subst P (sym place) inside
 
 pub layer_cell-kept-requires : goal.layer_cell-kept-requires
 layer_cell-kept-requires c = record {
   cells = c.requires.cells;
-  cell = Contains-get_or c.args.cells.now c.loop-i.i no_cell c.loop-i-test.true;
+  cell = (c.loop-i.i, c.loop-i-test.true, sym c.index-cells-i.is);
   marks = marks_beside c.args.cells.now c.args.marks.now (is_kept c.args.cells.now c.args.setting.now.agent.radius) c.requires.marks;
 }
 
@@ -33,13 +36,16 @@ loop-i-preserved c =
     let cells = c.args.cells.now in
     let kept = kept_cells cells setting.agent.radius in
     let p = is_kept cells setting.agent.radius in
+    let item = c.index-cells-i.result in
     elim c.if-marks-i.branch [
       | then-marks-i+in_ok-push w ↦
-          kept_step setting cells kept cells p c.loop-i.i _ c.loop-i.layers.items c.if-marks-i.layers.items w.tile_of-tile.result
+          kept_step setting cells kept cells p c.loop-i.i item c.loop-i.layers.items c.if-marks-i.layers.items w.tile_of-tile.result
           w.index_mut.result.now w.layer_cell-kept.result w.push.new.self
           c.requires.setting c.requires.inside c.loop-i-test.true
-          (mark_is cells c.args.marks.now p c.loop-i.i _ false true c.requires.marks c.loop-i-test.true w.if-marks-i.true)
-          w.tile_of-tile.ensures.value w.tile_of-tile.ensures.there (w.layer_cell-kept.ensures p c.requires.marks)
+          (mark_is cells c.args.marks.now p c.loop-i.i item false true c.requires.marks c.loop-i-test.true w.if-marks-i.true)
+          (w.tile_of-tile.ensures.value
+          ∙ ap (λ (at : CellRef). tile_at setting at.x at.z) (w.at-place.ensures ∙ ap (λ (cell : Cell). cell.at) c.index-cells-i.is))
+          w.tile_of-tile.ensures.there (w.layer_cell-kept.ensures p c.requires.marks ∙ ap (layer_cell kept) c.index-cells-i.is)
           w.index_mut.ensures.value w.in_ok-push.ensures.ok (ap (λ v. v.items) w.layers-is) c.loop-i.invariant
       | else-marks-i w ↦
           (ap (λ v. v.items) w.layers-is)

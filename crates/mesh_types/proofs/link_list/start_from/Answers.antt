@@ -1,5 +1,5 @@
 use Rattle.mesh_types.specs.declared.links.Link.{Link}
-use Rattle.std.proofs.Common.{arith, pos}
+use Rattle.std.proofs.Common.{pos}
 use Rattle.mesh_types.proofs.Starts.{one_more_before, all_before}
 use Rattle.mesh_types.proofs.link_list.start_from.Goals as goal
 

@@ -1,4 +1,4 @@
-use Rattle.std.proofs.Common.{◌++◌, ◌∷◌, [], ap, ◌∙◌, arith}
+use Rattle.std.proofs.Common.{◌++◌, ◌∷◌, [], ap, ◌∙◌}
 use Rattle.mesh_types.proofs.Starts.{one_more_start, known_before}
 use Rattle.mesh_types.proofs.link_list.starts.Goals as goal
 

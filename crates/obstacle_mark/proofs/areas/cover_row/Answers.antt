@@ -2,6 +2,7 @@ use Rattle.std.proofs.Common.{◌≡◌, ℕ, ◌<◌, length, get_or, set, sym,
 use Rattle.std.proofs.lemmas.Bool.{cases_lt, both_ways}
 use Rattle.std.proofs.lemmas.List.{get_or-set_same, get_or-set_other, get_or_default}
 use Rattle.nav_ground.specs.declared.cell.Cell.{Cell}
+use Rattle.nav_ground.proofs.SmallCellLaws.{place_read}
 use Rattle.obstacle_mark.specs.AreasLeft.{area_after}
 use Rattle.obstacle_mark.specs.Columns.{is_before, IsInRow}
 use Rattle.obstacle_mark.proofs.Rows.{before_first, not_passed, is_passed, in_row}
@@ -23,7 +24,8 @@ here_in_row : (c : goal.After-area_after) (d : Cell)
 here_in_row c d =
     in_row c.args.reach.first_x c.args.reach.end_x c.args.z (get_or c.args.cells.now c.loop-i.i d).at
     (c.loop-i.invariant.reached c.loop-i.i d (omega arith) c.loop-i-test.true)
-    (ap (λ (cell : Cell). is_before c.args.reach.end_x c.args.z cell.at) (get_or_default c.args.cells.now c.loop-i.i d no_cell c.loop-i-test.true)
+    (ap (is_before c.args.reach.end_x c.args.z)
+    (sym (place_read c.args.cells.now c.loop-i.i c.index-cells-i.result c.at.result c.loop-i-test.true c.index-cells-i.is c.at.ensures d))
     ∙ sym c.is_before.ensures ∙ c.if-is_before.true)
 
 -- and is left with what the obstacle leaves it
@@ -35,7 +37,7 @@ here_done c d =
     get_or-set_same c.loop-i.areas c.loop-i.i c.area_after.result None in_areas
     ∙ c.area_after.ensures
     ∙ ap (λ (cell : Cell). area_after c.args.shape.now cell (get_or c.loop-i.areas c.loop-i.i None))
-    (get_or_default c.args.cells.now c.loop-i.i _ d c.loop-i-test.true)
+    (c.index-cells-i-in-loop-i.is ∙ get_or_default c.args.cells.now c.loop-i.i _ d c.loop-i-test.true)
     ∙ ap (area_after c.args.shape.now (get_or c.args.cells.now c.loop-i.i d)) (c.loop-i.invariant.others c.loop-i.i (omega arith))
 
 -- the others are as they were
@@ -73,5 +75,8 @@ returns-else-is_before-clause-inside c = λ k d there inside. elim (cases_lt k c
       let passed = is_passed c.args.reach.first_x c.args.reach.end_x c.args.z (get_or c.args.cells.now k no_cell).at
       (subst (λ (cell : Cell). IsInRow c.args.reach.first_x c.args.reach.end_x c.args.z cell.at) (get_or_default c.args.cells.now k d no_cell there) inside) in
       absurd (both_ways (is_before c.args.reach.end_x c.args.z (get_or c.args.cells.now c.loop-i.i no_cell).at)
-      (sym c.is_before.ensures ∙ c.if-is_before.false) (early passed))
+      (ap (is_before c.args.reach.end_x c.args.z)
+      (sym (place_read c.args.cells.now c.loop-i.i c.index-cells-i.result c.at.result c.loop-i-test.true c.index-cells-i.is c.at.ensures no_cell))
+      ∙ sym c.is_before.ensures ∙ c.if-is_before.false)
+      (early passed))
 ]

@@ -1,8 +1,9 @@
 use Rattle.std.proofs.Common.{◌≡◌, ℕ, ◌<◌, ◌≤◌, length, None}
 use Rattle.std.specs.Prelude.{slice_index_or}
 use Rattle.nav_ground.specs.declared.cell.Cell.{Cell}
+use Rattle.cell_table.specs.Columns.{column_of}
 use Rattle.obstacle_mark.specs.AreasLeft.{area_clear}
-use Rattle.obstacle_mark.specs.Columns.{IsPassed, column_of}
+use Rattle.obstacle_mark.specs.Columns.{IsPassed}
 use Rattle.obstacle_mark.proofs.clear.leave_clear.Given as goal
 
 -- what the cells to come have passed; the cells before i are left with what they are to be left with, the others with what they were

@@ -2,14 +2,16 @@ use Rattle.std.proofs.Common.{◌≡◌, ℕ, List, Option, Some, None, map, get
 use Rattle.std.specs.Prelude.{not}
 use Rattle.std.specs.Global.{Vec}
 use Rattle.std.specs.List.{filter}
-use Rattle.std.proofs.lemmas.List.{take_all}
+use Rattle.std.proofs.lemmas.List.{get_or_default, take_all}
 use Rattle.nav_ground.specs.declared.cell.Cell.{Cell}
 use Rattle.nav_ground.specs.declared.cell.CellRef.{CellRef}
 use Rattle.nav_ground.specs.FreeCells.{free_cell_of}
+use Rattle.cell_table.specs.Columns.{IsPlace}
 use Rattle.obstacle_mark.specs.Places.{next_kept, ArePassed}
 use Rattle.obstacle_mark.specs.declared.places.Passed.{Passed}
 use Rattle.obstacle_mark.proofs.Blocked.{area_beside, no_cell}
 use Rattle.obstacle_mark.proofs.FreeCellsLeft.{all_unpassed, free_cell_left, one_more_free, one_more_blocked_cell, passed_after, place_of_cell}
+use Rattle.obstacle_mark.proofs.SmallAreas.{free_cell_small}
 use Rattle.obstacle_mark.proofs.free.free_cells.Goals as goal
 use Rattle.obstacle_mark.proofs.free.free_cells.Goals.{in-Some+in_ok-push, in_default}
 
@@ -26,14 +28,25 @@ loop-i-init c = record {
 pub bounds-areas-i : goal.bounds-areas-i
 bounds-areas-i c = omega (arith, c.loop-i-test.true, c.requires.beside)
 
-pub next_kept-requires-clause-cell : goal.next_kept-requires-clause-cell
-next_kept-requires-clause-cell c = place_of_cell _ (c.requires.cells.each c.loop-i.i no_cell c.loop-i-test.true)
+pub next_kept-next-requires-clause-cell : goal.next_kept-next-requires-clause-cell
+next_kept-next-requires-clause-cell c =
+    subst (λ (cell : Cell). IsPlace cell.at) (sym (c.index-cells-i.is ∙ get_or_default c.args.cells.now c.loop-i.i _ no_cell c.loop-i-test.true))
+    (place_of_cell _ (c.requires.cells.each c.loop-i.i no_cell c.loop-i-test.true))
 
-pub next_kept-requires-clause-blocked : goal.next_kept-requires-clause-blocked
-next_kept-requires-clause-blocked c = c.requires.blocked
+pub next_kept-next-requires-clause-blocked : goal.next_kept-next-requires-clause-blocked
+next_kept-next-requires-clause-blocked c = c.requires.blocked
 
-pub next_kept-requires-clause-passed : goal.next_kept-requires-clause-passed
-next_kept-requires-clause-passed c = c.loop-i.invariant.passed c.loop-i.i no_cell (omega arith) c.loop-i-test.true
+pub next_kept-next-requires-clause-passed : goal.next_kept-next-requires-clause-passed
+next_kept-next-requires-clause-passed c =
+    subst (λ (cell : Cell). ArePassed c.args.blocked.now c.loop-i.passed cell.at)
+    (sym (c.index-cells-i.is ∙ get_or_default c.args.cells.now c.loop-i.i _ no_cell c.loop-i-test.true))
+    (c.loop-i.invariant.passed c.loop-i.i no_cell (omega arith) c.loop-i-test.true)
+
+pub new-requires : goal.new-requires
+new-requires c =
+    free_cell_small c.get.result c.in-Some.area c.next_kept-next.result c.args.blocked.now c.get.ensures.small
+    (c.requires.areas c.loop-i.i c.in-Some.area c.in-Some.is)
+    (c.next_kept-next.ensures.next ∙ ap (next_kept c.args.blocked.now) (sym c.get.ensures.value))
 
 pub loop-i-preserved : goal.loop-i-preserved
 loop-i-preserved c =
@@ -42,19 +55,23 @@ loop-i-preserved c =
     let blocked = c.args.blocked.now in
     let i = c.loop-i.i in
     let cell : Cell = get_or cells i no_cell in
+    let item : c.index-cells-i.result ≡ cell = c.index-cells-i.is ∙ get_or_default cells i c.index-cells-i.result no_cell c.loop-i-test.true in
     elim c.match-areas-i.branch [
       | in-Some+in_ok-push w ↦ record {
         free = λ taken shapes left places.
             let area = w.in-Some.area in
             let is_left = sym (area_beside taken shapes cells areas i no_cell left c.loop-i-test.true) ∙ w.in-Some.is in
-            let next = w.next_kept.ensures.next ∙ ap (λ (ps : List CellRef). next_kept ps cell) places in
-            let is_free_cell = free_cell_left taken cells shapes cell area w.next_kept.result is_left next in
+            let next = w.next_kept-next.ensures.next ∙ ap (next_kept blocked) item ∙ ap (λ (ps : List CellRef). next_kept ps cell) places in
+            let is_free_cell = w.new.ensures
+            ∙ ap (λ (own : Cell). record own { area = area; next = w.next_kept-next.result }) (w.get.ensures.value ∙ item)
+            ∙ free_cell_left taken cells shapes cell area w.next_kept-next.result is_left next in
             ap (λ (v : Vec Cell). v.items) w.free-is ∙ w.in_ok-push.ensures.items
             ∙ one_more_free taken cells shapes i no_cell area c.loop-i.free.items _ c.loop-i-test.true is_left is_free_cell (c.loop-i.invariant.free taken shapes left places);
         passed = λ j d later there.
             let P : Passed → Type 0 = λ (p : Passed). ArePassed blocked p (get_or cells j d).at in
             subst P (sym w.passed-is)
-            (passed_after cells blocked w.next_kept.new.passed i no_cell c.requires.cells c.loop-i-test.true w.next_kept.ensures.passed j d later there);
+            (passed_after cells blocked w.next_kept-next.new.passed i no_cell c.requires.cells c.loop-i-test.true
+            (subst (λ (own : Cell). ArePassed blocked w.next_kept-next.new.passed own.at) item w.next_kept-next.ensures.passed) j d later there);
       }
       | in_default w ↦ record {
         free = λ taken shapes left places.

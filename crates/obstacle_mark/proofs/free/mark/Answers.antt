@@ -11,6 +11,7 @@ use Rattle.nav_ground.proofs.FreeLayers.{free_layer_cut}
 use Rattle.obstacle_mark.specs.AreasLeft.{area_left}
 use Rattle.obstacle_mark.specs.Columns.{ArePlaces}
 use Rattle.obstacle_mark.proofs.FreeCellsLeft.{blocked_are_places}
+use Rattle.obstacle_mark.proofs.SmallAreas.{small_areas}
 use Rattle.obstacle_mark.proofs.WholeFree.{free_of_whole}
 use Rattle.obstacle_mark.proofs.free.mark.Goals as goal
 
@@ -28,6 +29,11 @@ free_cells-requires-clause-beside c =
     ap length (c.as_slice-2.ensures.value ∙ c.in_ok-areas.ensures)
     ∙ length-map c.args.layer.now.cells (area_left (is_taken c.args.layer.now c.args.shapes.now) c.args.shapes.now)
     ∙ ap length (sym c.as_slice-cells.ensures)
+
+pub free_cells-requires-clause-areas : goal.free_cells-requires-clause-areas
+free_cells-requires-clause-areas c =
+    small_areas c.args.layer.now c.args.shapes.now c.as_slice-2.result.now c.requires.layer.cells c.requires.shapes
+    (c.as_slice-2.ensures.value ∙ c.in_ok-areas.ensures)
 
 pub free_cells-requires-clause-blocked : goal.free_cells-requires-clause-blocked
 free_cells-requires-clause-blocked c =

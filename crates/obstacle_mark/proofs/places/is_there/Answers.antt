@@ -1,7 +1,7 @@
 use Rattle.std.proofs.Common.{◌+◌, ap, sym, arith}
 use Rattle.std.proofs.lemmas.List.{get_or_default}
 use Rattle.nav_ground.specs.declared.cell.CellRef.{CellRef}
-use Rattle.obstacle_mark.specs.Columns.{column_of}
+use Rattle.cell_table.specs.Columns.{column_of}
 use Rattle.obstacle_mark.proofs.Columns.{none_passed, none_more, none_after}
 use Rattle.obstacle_mark.proofs.places.is_there.Goals as goal
 

@@ -1,7 +1,7 @@
 use Rattle.std.proofs.Common.{◌≡◌, ◌-◌, ◌<◌, ◌≤◌, length, take, false}
 use Rattle.std.specs.Prelude.{slice_index_or}
 use Rattle.nav_ground.specs.declared.cell.CellRef.{CellRef}
-use Rattle.obstacle_mark.specs.Columns.{column_of}
+use Rattle.cell_table.specs.Columns.{column_of}
 use Rattle.obstacle_mark.specs.Places.{is_there}
 use Rattle.obstacle_mark.proofs.places.is_there.Given as goal
 

@@ -12,7 +12,9 @@ returns c =
     let run = c.part_of-run.result.now in
     entry_is c.args.strip c.args.edge cells run (run_in c.args.strips.now c.args.strip) c.args.part _ c.position_of.result c.in_ok-pairs.field-0
     c.part_of-run.ensures.indices.some c.part_of-run.ensures.indices.each
-    (c.position_of.ensures ∙ ap (λ (cs : List Cell). position_of (3 - c.args.edge) (get_or cs (get_or run 0 0) _).at) c.as_slice-cells.ensures)
+    (c.position_of.ensures
+    ∙ ap (position_of (3 - c.args.edge)) (c.at.ensures ∙ ap (λ (cell : Cell). cell.at) c.index-cells-run.is)
+    ∙ ap (λ (cs : List Cell). position_of (3 - c.args.edge) (get_or cs (get_or run 0 0) c.index-cells-run.result).at) c.as_slice-cells.ensures)
     c.part_of-run.ensures.first
     (c.in_ok-pairs.ensures ∙ ap (λ (cs : List Cell). map (pair_at cs (3 - c.args.edge)) run) c.as_slice-cells.ensures)
     c.part_of-run.ensures.cells

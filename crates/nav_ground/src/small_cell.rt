@@ -1,0 +1,141 @@
+//! Cells as they are stored: each in twenty bytes, seen by contracts as the cell.
+
+ghost use Rattle.std.specs.Prelude.{◌≡◌, ◌<◌};
+ghost use Rattle.nav_ground.specs.Cells.{next_level};
+ghost use Rattle.nav_ground.specs.Levels.{IsSmallLevel, level_of, number_of};
+ghost use Rattle.nav_ground.specs.SmallCells.{IsSmall};
+
+use crate::cell::{Cell, CellRef};
+use std::marker::Model;
+
+/// The number of a level that stands for none. No cell has so high a level.
+const NO_LEVEL: u16 = 65535;
+
+/// A cell in twenty bytes, as lists keep it; contracts see the cell.
+#[derive(Clone, Copy)]
+pub struct SmallCell {
+    x: u16,
+    z: u16,
+    level: u16,
+    floor: u16,
+    ceiling: u16,
+    area: u8,
+    /// By direction, 65535 for none.
+    levels: [u16; 4],
+}
+
+impl Model for SmallCell {
+    ghost use Rattle.nav_ground.specs.declared.cell.Cell.{Cell};
+
+    ghost Value = { Cell };
+
+    ghost use Rattle.nav_ground.specs.Packing.{cell_view, cell_inverse, cell_back};
+
+    ghost view = { cell_view };
+
+    ghost inverse = { cell_inverse };
+
+    ghost inverse_ok = { λ inside _. cell_back inside };
+}
+
+impl SmallCell {
+    /// A cell whose numbers are small, as those of the cells of a field are.
+    pub fn new(cell: &Cell) -> Self
+        requires { IsSmall cell.now }
+        ensures { result ≡ cell.now }
+    {
+        SmallCell {
+            x: cell.at.x as u16,
+            z: cell.at.z as u16,
+            level: cell.at.level as u16,
+            floor: cell.floor as u16,
+            ceiling: cell.ceiling as u16,
+            area: cell.area as u8,
+            levels: [
+                number_of(cell.next[0]),
+                number_of(cell.next[1]),
+                number_of(cell.next[2]),
+                number_of(cell.next[3]),
+            ],
+        }
+    }
+
+    /// The cell. Where a single number or level is wanted, the calls below are faster.
+    pub fn get(&self) -> Cell
+        ensures value { result ≡ self.now }
+        ensures small { IsSmall result }
+    {
+        Cell {
+            at: self.at(),
+            floor: self.floor as u32,
+            ceiling: self.ceiling as u32,
+            area: self.area as u32,
+            next: [
+                level_of(self.levels[0]),
+                level_of(self.levels[1]),
+                level_of(self.levels[2]),
+                level_of(self.levels[3]),
+            ],
+        }
+    }
+
+    /// Its column and level.
+    pub fn at(&self) -> CellRef
+        ensures { result ≡ self.now.at }
+    {
+        CellRef {
+            x: self.x as u32,
+            z: self.z as u32,
+            level: self.level as u32,
+        }
+    }
+
+    /// The height to stand on, in height units.
+    pub fn floor(&self) -> u32
+        ensures { result ≡ self.now.floor }
+    {
+        self.floor as u32
+    }
+
+    /// The height of what is above, in height units; 65535 where nothing is.
+    pub fn ceiling(&self) -> u32
+        ensures { result ≡ self.now.ceiling }
+    {
+        self.ceiling as u32
+    }
+
+    /// What is stood on.
+    pub fn area(&self) -> u32
+        ensures { result ≡ self.now.area }
+    {
+        self.area as u32
+    }
+
+    /// The level of the connected cell in a direction, or none.
+    pub fn next(&self, dir: usize) -> Option<u32>
+        requires { dir < 4 }
+        ensures { result ≡ next_level self.now dir }
+    {
+        level_of(self.levels[dir])
+    }
+}
+
+fn number_of(level: Option<u32>) -> u16
+    requires { IsSmallLevel level }
+    ensures { result ≡ number_of level }
+{
+    match level {
+        Some(level) => level as u16,
+        None => NO_LEVEL,
+    }
+}
+
+fn level_of(number: u16) -> Option<u32>
+    ensures { result ≡ level_of number }
+{
+    if number == NO_LEVEL {
+        None
+    } else {
+        Some(number as u32)
+    }
+}
