@@ -1,5 +1,5 @@
 -- What links weigh: no more than a tile's side across, at the greatest cost of an area; and the estimate falls by no more.
-use Rattle.std.proofs.Common.{◌≡◌, ℕ, ◌<◌, ◌≤◌, ◌+◌, ◌*◌, ◌-◌, max, min, ℤ, pos, ◌+ℤ◌, ◌-ℤ◌, ◌*ℤ◌, ◌≤ℤ◌, length, refl, subst, ap, ◌∙◌, arith}
+use Rattle.std.proofs.Common.{◌≡◌, ℕ, ◌<◌, ◌≤◌, ◌+◌, ◌-◌, max, min, ℤ, pos, ◌+ℤ◌, ◌-ℤ◌, ◌*ℤ◌, ◌≤ℤ◌, length, refl, subst, ap, ◌∙◌, arith}
 use Rattle.std.specs.Prelude.{All, slice_index, Some, None, Option, unsigned_abs}
 use Rattle.std.specs.Option.{option_map_or}
 use Rattle.std.proofs.lemmas.Int.{ints}
@@ -8,13 +8,13 @@ use Rattle.std.proofs.lemmas.Bool.{and_parts, leb-true}
 use Rattle.std.proofs.lemmas.List.Sums.{AllPass-from_list_all}
 use Rattle.std.proofs.lemmas.Option.{slice_get_within, get_or_from_slice_get}
 use Rattle.nav_base.specs.declared.point.Point.{Point}
-use Rattle.nav_base.specs.Point.{IsWithin, from_to, dot_of}
+use Rattle.nav_base.specs.Point.{IsInField, IsWithin, from_to}
 use Rattle.nav_base.specs.Convex.{place_after}
 use Rattle.nav_base.specs.Deviation.{square_of}
 use Rattle.nav_base.specs.Root.{ceil_sqrt_of}
 use Rattle.nav_base.proofs.RootLaws.{ceil_sqrt_of-at_most}
 use Rattle.nav_base.proofs.Sizes.{dot_of-bound}
-use Rattle.nav_base.proofs.LengthLaws.{ceil_sqrt_of-from_to, square-absolute}
+use Rattle.nav_base.proofs.LengthLaws.{ceil_sqrt_of-from_to}
 use Rattle.nav_base.proofs.ConvexLaws.{place_after-in}
 use Rattle.nav_ground.specs.declared.setting.Setting.{Setting}
 use Rattle.nav_ground.specs.Limits.{IsSetting, IsArea, is_cost}
@@ -26,7 +26,6 @@ use Rattle.mesh_types.specs.declared.mesh.Mesh.{Mesh}
 use Rattle.mesh_types.specs.WholeMesh.{poly_at}
 use Rattle.mesh_types.specs.Corridors.{centre_of, step_cost, weight_of}
 use Rattle.mesh_types.specs.Soundness.{IsPolygon, IsInSquare, IsSound, LeadsThrough, edge_begin, edge_end}
-use Rattle.mesh_types.specs.Ways.{IsInField}
 use Rattle.corridor_search.specs.MeshGraphs.{weight_from, estimate_from}
 use Rattle.corridor_search.proofs.Boxes.{low, high, low-corner, high-corner, low-bound, high-bound, IsOn, begin_on, end_on, on_above_x, on_below_x, on_above_z, on_below_z}
 use Rattle.corridor_search.proofs.Sound.{placed, tile-fit, polygon-rules}
@@ -189,8 +188,3 @@ module _ (mesh : Mesh) (link : Link) (sound : IsSound mesh) (setting : IsSetting
       let whole = mul-le (max 1 length) 1 (max 1 length) (slice_index mesh.setting.costs through.enters.area) (omega arith) cost in
       let same = weight-is mesh link through.leaves through.enters through.is_left through.is_entered in
       omega (arith, from, to, way, whole, same)
-
--- the square of a vector's length, by its parts
-pub square_of-parts : (v : Point) → square_of v ≡ unsigned_abs v.x * unsigned_abs v.x + unsigned_abs v.z * unsigned_abs v.z
-unfolding dot_of
-square_of-parts v = ap unsigned_abs (λ i. square-absolute v.x i +ℤ square-absolute v.z i)

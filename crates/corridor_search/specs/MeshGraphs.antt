@@ -3,9 +3,8 @@ use Rattle.std.specs.Prelude.{◌≡◌, ℕ, ◌+◌, ◌*◌, ◌<◌, max, po
 use Rattle.std.specs.List.{range_with_len}
 use Rattle.std.specs.Option.{option_map_or}
 use Rattle.nav_base.specs.declared.point.Point.{Point}
-use Rattle.nav_base.specs.Point.{IsCellCorner, from_to}
-use Rattle.nav_base.specs.Deviation.{square_of}
-use Rattle.nav_base.specs.Root.{ceil_sqrt_of}
+use Rattle.nav_base.specs.Point.{IsCellCorner, IsInField}
+use Rattle.nav_base.specs.Distance.{distance_of}
 use Rattle.nav_ground.specs.Limits.{IsSetting}
 use Rattle.mesh_types.specs.declared.links.PolyRef.{PolyRef}
 use Rattle.mesh_types.specs.declared.links.Link.{Link}
@@ -18,7 +17,6 @@ use Rattle.mesh_types.specs.LinkIndex.{leaving_of, entered_by}
 use Rattle.mesh_types.specs.WholeMesh.{poly_at}
 use Rattle.mesh_types.specs.Corridors.{centre_of, weight_of, WalksTo}
 use Rattle.mesh_types.specs.Soundness.{IsSound}
-use Rattle.mesh_types.specs.Ways.{IsInField, distance_of}
 use Rattle.graph_search.specs.declared.arcs.Vertex.{Vertex}
 use Rattle.graph_search.specs.declared.arcs.Arc.{Arc}
 use Rattle.graph_search.specs.declared.arcs.Step.{Step}
@@ -90,7 +88,7 @@ weight_from mesh centre at =
 
 -- the estimate of what is left to go from a polygon: the distance from its middle to the goal, rounded up
 abbrev pub estimate_from : Mesh → Point → PolyRef → ℕ
-estimate_from mesh goal at = option_map_or (λ (polygon : Polygon). ceil_sqrt_of (square_of (from_to (centre_of polygon.corners) goal))) (poly_at mesh at) 0
+estimate_from mesh goal at = option_map_or (λ (polygon : Polygon). distance_of (centre_of polygon.corners) goal) (poly_at mesh at) 0
 
 -- the extent of a polygon, and the middle of its box in sixteenths of a cell
 abbrev pub nowhere : Extent

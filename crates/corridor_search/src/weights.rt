@@ -1,17 +1,14 @@
 //! Middles of polygons, and what links cost.
 
-ghost use Rattle.std.specs.Prelude.{◌≡◌, ◌≤◌, ◌*◌, max, slice_index, slice_index_or, pos, ◌≤ℤ◌, ◌+ℤ◌, ◌*ℤ◌};
-ghost use Rattle.std.specs.Int.RustNames.{unsigned_abs};
-ghost use Rattle.nav_base.specs.Point.{IsCellCorner, from_to};
-ghost use Rattle.nav_base.specs.Deviation.{square_of};
-ghost use Rattle.nav_base.specs.Root.{ceil_sqrt_of};
+ghost use Rattle.std.specs.Prelude.{◌≡◌, ◌*◌, max, slice_index, slice_index_or, pos, ◌≤ℤ◌, ◌+ℤ◌, ◌*ℤ◌};
+ghost use Rattle.nav_base.specs.Point.{IsInField};
+ghost use Rattle.nav_base.specs.Distance.{distance_of};
 ghost use Rattle.nav_ground.specs.Limits.{IsSetting, IsArea};
 ghost use Rattle.corridor_search.specs.MeshGraphs.{IsBox, nowhere, middle_of, extent_at};
-ghost use Rattle.mesh_types.specs.Ways.{IsInField};
 
 use crate::roots::root;
 use mesh_types::{Extent, Mesh, PolyRef};
-use nav_base::Point;
+use nav_base::{Point, square_distance};
 use nav_ground::Setting;
 
 /// Stands for the extent of no polygon.
@@ -66,30 +63,9 @@ fn half_way(least: i32, greatest: i32) -> i32
 pub(crate) fn distance(from: Point, to: Point) -> u32
     requires from { IsInField from }
     requires to { IsInField to }
-    ensures { result ≡ ceil_sqrt_of (square_of (from_to from to)) }
+    ensures { result ≡ distance_of from to }
 {
     root(square_distance(from, to))
-}
-
-/// The square of the distance between two points.
-#[tactic(auto, unfolding(nav_base::specs::Point::dot_of))]
-fn square_distance(from: Point, to: Point) -> u64
-    requires from { IsInField from }
-    requires to { IsInField to }
-    ensures value { result ≡ square_of (from_to from to) }
-    ensures small { result ≤ 536870912 }
-{
-    square(to.x - from.x) + square(to.z - from.z)
-}
-
-/// The square of a number.
-fn square(n: i32) -> u64
-    requires { unsigned_abs n ≤ 16384 }
-    ensures value { result ≡ unsigned_abs n * unsigned_abs n }
-    ensures small { result ≤ 268435456 }
-{
-    let n = u64::from(n.unsigned_abs());
-    n * n
 }
 
 /// What a step costs from a point into a polygon with an extent: the distance to its middle, rounded up and at least 1, times the cost of its
@@ -99,7 +75,7 @@ pub(crate) fn weight(setting: &Setting, from: Point, to: Extent) -> u64
     requires from { IsInField from }
     requires to { IsBox to }
     requires area { IsArea to.area }
-    ensures { result ≡ max 1 (ceil_sqrt_of (square_of (from_to from (middle_of to)))) * slice_index setting.now.costs to.area }
+    ensures { result ≡ max 1 (distance_of from (middle_of to)) * slice_index setting.now.costs to.area }
 {
     let length = distance(from, middle(to)).max(1);
     u64::from(length) * u64::from(setting.costs[to.area as usize])

@@ -4,14 +4,13 @@ ghost use Rattle.std.specs.Prelude.{◌≡◌, ◌<◌, length, All, true, IfSom
 ghost use Rattle.std.specs.List.{list_any};
 ghost use Rattle.std.specs.Option.{option_map_or};
 ghost use Rattle.nav_base.specs.Point.{HasCoordinates};
-ghost use Rattle.nav_base.specs.Convex.{place_after};
 ghost use Rattle.mesh_types.specs.Choices.{or_later};
 ghost use Rattle.mesh_types.specs.Ears.{ArePlacesOf, IsTriangleOf, best_ear, is_blocked_by, is_ear, is_narrower, triangle_at};
 ghost use Rattle.mesh_types.specs.Rings.{place_before};
 
 use crate::triangle::{is_blocked_by, runs_counterclockwise, width};
 use mesh_types::Triangle;
-use nav_base::Point;
+use nav_base::{Point, next_place};
 
 /// The position of the narrowest ear among the remaining places, and of equally narrow ones the first; none where there is no ear.
 pub(crate) fn best_ear(corners: &[Point], rest: &[u32]) -> Option<usize>
@@ -94,7 +93,7 @@ pub(crate) fn triangle_at(rest: &[u32], position: usize) -> Triangle
     Triangle {
         a: rest[position_before(rest.len(), position)],
         b: rest[position],
-        c: rest[position_after(rest.len(), position)],
+        c: rest[next_place(rest.len(), position)],
     }
 }
 
@@ -108,18 +107,5 @@ fn position_before(count: usize, position: usize) -> usize
         count - 1
     } else {
         position - 1
-    }
-}
-
-/// The position after one, the first after the last.
-fn position_after(count: usize, position: usize) -> usize
-    requires { position < count }
-    ensures value { result ≡ place_after count position }
-    ensures there { result < count }
-{
-    if position + 1 == count {
-        0
-    } else {
-        position + 1
     }
 }

@@ -1,6 +1,6 @@
 //! Triangles of places of an outline.
 
-ghost use Rattle.std.specs.Prelude.{◌≡◌, ◌<◌, ◌≤◌, ◌*◌, pos, length, All, unsigned_abs};
+ghost use Rattle.std.specs.Prelude.{◌≡◌, ◌<◌, pos, length, All};
 ghost use Rattle.std.specs.Int.Signed.{le_z, lt_z};
 ghost use Rattle.nav_base.specs.Point.{HasCoordinates, from_to, orient_of};
 ghost use Rattle.nav_base.specs.Deviation.{square_of};
@@ -8,7 +8,7 @@ ghost use Rattle.nav_base.specs.Convex.{corner_at};
 ghost use Rattle.mesh_types.specs.Ears.{IsTriangleOf, is_apart, is_blocked_by, is_inside, turn_of};
 
 use mesh_types::Triangle;
-use nav_base::{Point, orient};
+use nav_base::{Point, orient, square_distance};
 
 /// Whether a triangle runs counterclockwise.
 pub(crate) fn runs_counterclockwise(corners: &[Point], triangle: Triangle) -> bool
@@ -71,23 +71,4 @@ fn is_not_right(a: Point, b: Point, p: Point) -> bool
     ensures { result ≡ le_z (pos 0) (orient_of a b p) }
 {
     orient(a, b, p) >= 0
-}
-
-/// The square of the distance between two points.
-fn square_distance(from: Point, to: Point) -> u64
-    requires from { HasCoordinates from }
-    requires to { HasCoordinates to }
-    ensures { result ≡ square_of (from_to from to) }
-{
-    square(to.x - from.x) + square(to.z - from.z)
-}
-
-/// The square of a number.
-fn square(n: i32) -> u64
-    requires { unsigned_abs n ≤ 131072 }
-    ensures value { result ≡ unsigned_abs n * unsigned_abs n }
-    ensures small { result ≤ 17179869184 }
-{
-    let n = u64::from(n.unsigned_abs());
-    n * n
 }

@@ -9,9 +9,8 @@ ghost use Rattle.funnel_path.specs.Passings.{IsPassing};
 
 use crate::corners::{left_end, nearer_end};
 use crate::passing::Passing;
-use crate::scalar::dot;
 use mesh_types::Portal;
-use nav_base::{Point, orient};
+use nav_base::{Point, dot, orient};
 
 /// Passes over the portals from `first` on that the apex lies inside, up to the first that it lies behind. There is a corner at once where
 /// the apex lies on a portal's line and not inside it, and where it lies inside two portals that look opposite ways.

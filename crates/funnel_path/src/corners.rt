@@ -6,9 +6,8 @@ ghost use Rattle.mesh_types.specs.declared.corner.Side.TheVariants.{L, R};
 ghost use Rattle.funnel_path.specs.Coordinates.{HasEndCoordinates};
 ghost use Rattle.funnel_path.specs.Corners.{IsNearerCorner, corner_at_end};
 
-use crate::scalar::dot;
 use mesh_types::{Corner, Portal, Side};
-use nav_base::Point;
+use nav_base::{Point, dot};
 
 /// The corner at the left end of the portal at a place.
 pub(crate) fn left_end(portal: Portal, place: usize) -> Corner

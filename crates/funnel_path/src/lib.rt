@@ -12,7 +12,6 @@ mod ahead;
 mod cone;
 mod corners;
 mod passing;
-mod scalar;
 mod wedge;
 
 ghost use Rattle.std.specs.Prelude.{◌<◌, IfOk, length};

@@ -1,17 +1,15 @@
 //! Whether a polygon holds a place, and which of two is nearer to it.
 
-ghost use Rattle.std.specs.Prelude.{◌≡◌, ◌↔◌, ◌<◌, ◌+◌, pos, ◌<ℤ◌, All, IsTrue, Some, length, slice_get};
-ghost use Rattle.nav_base.specs.Point.{HasCoordinates, IsCellCorner, orient_of};
-ghost use Rattle.nav_base.specs.Convex.{place_after};
-ghost use Rattle.mesh_types.specs.BorderLinks.{scaled};
+ghost use Rattle.std.specs.Prelude.{◌≡◌, ◌↔◌, ◌<◌, ◌+◌, All, IsTrue, Some, length, slice_get};
+ghost use Rattle.nav_base.specs.Point.{HasCoordinates, IsCellCorner};
 ghost use Rattle.mesh_types.specs.Located.{Holds, height_gap};
 ghost use Rattle.mesh_types.specs.Soundness.{IsPolygon};
 ghost use Rattle.mesh_types.specs.WholeMesh.{poly_at};
 ghost use Rattle.mesh_locate.specs.Nearest.{IsFrom, IsInBox, IsNearestBefore, is_nearer};
 
 use crate::near::{Near, Sought};
-use mesh_types::{Extent, Mesh, PolyRef, Polygon, Polygons};
-use nav_base::{Point, orient};
+use mesh_types::{Extent, Mesh, PolyRef, Polygon, Polygons, holds, in_sixteenths};
+use nav_base::Point;
 
 /// What was found so far, or the polygon at a place of its tile, if it holds the place and is nearer in height. Of most polygons the box alone
 /// is looked at.
@@ -96,51 +94,4 @@ fn is_nearer(gap: u32, best: Option<Near>) -> bool
         Some(near) => gap < near.gap,
         None => true,
     }
-}
-
-/// Whether a polygon holds a point of the plane.
-fn holds(polygon: &Polygon, p: Point) -> bool
-    requires corners { All IsCellCorner polygon.now.corners }
-    requires point { HasCoordinates p }
-    ensures { IsTrue result ↔ Holds polygon.now p }
-{
-    let corners = polygon.corners.as_slice();
-    for edge in 0..corners.len() {
-        let after = next_place(corners.len(), edge);
-        if is_right(corners[edge], corners[after], p) {
-            return false;
-        }
-    }
-    true
-}
-
-/// Whether a point lies to the right of the edge from one corner to another.
-fn is_right(from: Point, to: Point, p: Point) -> bool
-    requires from { IsCellCorner from }
-    requires to { IsCellCorner to }
-    requires point { HasCoordinates p }
-    ensures { IsTrue result ↔ (orient_of (scaled from.x from.z) (scaled to.x to.z) p <ℤ pos 0) }
-{
-    orient(in_sixteenths(from), in_sixteenths(to), p) < 0
-}
-
-/// A corner, in sixteenths of a cell.
-fn in_sixteenths(corner: Point) -> Point
-    requires { IsCellCorner corner }
-    ensures value { result ≡ scaled corner.x corner.z }
-    ensures reach { HasCoordinates result }
-{
-    Point {
-        x: 16 * corner.x,
-        z: 16 * corner.z,
-    }
-}
-
-/// The place after this one, the first after the last.
-fn next_place(count: usize, place: usize) -> usize
-    requires { place < count }
-    ensures value { result ≡ place_after count place }
-    ensures there { result < count }
-{
-    if place + 1 == count { 0 } else { place + 1 }
 }

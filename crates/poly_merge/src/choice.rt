@@ -1,16 +1,15 @@
 //! The merge that comes next.
 
-ghost use Rattle.std.specs.Prelude.{◌≡◌, ◌≤◌, ◌*◌, All, IfSome, map, unsigned_abs};
+ghost use Rattle.std.specs.Prelude.{◌≡◌, All, IfSome, map};
 ghost use Rattle.std.specs.Option.{option_map};
-ghost use Rattle.nav_base.specs.Point.{HasCoordinates, from_to};
-ghost use Rattle.nav_base.specs.Deviation.{square_of};
+ghost use Rattle.nav_base.specs.Point.{HasCoordinates};
 ghost use Rattle.mesh_types.specs.Choices.{or_later};
 ghost use Rattle.mesh_types.specs.Merging.{IsPieceOf, best_merge, shared_length};
 ghost use Rattle.poly_merge.specs.Seen.{AreChoices, IsMergeOf, comes_before, place_cmp, seen};
 
 use crate::edge::{Merge, edge_end, places_at};
 use mesh_types::Piece;
-use nav_base::Point;
+use nav_base::{Point, square_distance};
 use std::cmp::Ordering;
 
 /// The admissible merge over the longest edge, and of equally long ones the first; none where there is none. It is looked for among all
@@ -89,23 +88,4 @@ fn shared_length(corners: &[Point], pieces: &[Piece], merge: Merge) -> u64
         corners[places[merge.edge] as usize],
         corners[edge_end(places, merge.edge) as usize],
     )
-}
-
-/// The square of the distance between two points.
-fn square_distance(from: Point, to: Point) -> u64
-    requires from { HasCoordinates from }
-    requires to { HasCoordinates to }
-    ensures { result ≡ square_of (from_to from to) }
-{
-    square(to.x - from.x) + square(to.z - from.z)
-}
-
-/// The square of a number.
-fn square(n: i32) -> u64
-    requires { unsigned_abs n ≤ 131072 }
-    ensures value { result ≡ unsigned_abs n * unsigned_abs n }
-    ensures small { result ≤ 17179869184 }
-{
-    let n = u64::from(n.unsigned_abs());
-    n * n
 }

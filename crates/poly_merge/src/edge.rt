@@ -2,10 +2,10 @@
 
 ghost use Rattle.std.specs.Prelude.{◌≡◌, ◌<◌, length, slice_index, true, IfSome};
 ghost use Rattle.std.specs.List.{find, range_with_len};
-ghost use Rattle.nav_base.specs.Convex.{place_after};
 ghost use Rattle.mesh_types.specs.Merging.{edge_end, is_facing, places_at};
 
 use mesh_types::Piece;
+use nav_base::next_place;
 
 /// Two pieces, by their indices, of which the first stands earlier, and the edge of each that they share, by the position where it begins.
 #[derive(Clone, Copy)]
@@ -29,7 +29,7 @@ pub(crate) fn edge_end(places: &[u32], edge: usize) -> u32
     requires { edge < length places.now }
     ensures { result ≡ edge_end places.now edge }
 {
-    places[position_after(places.len(), edge)]
+    places[next_place(places.len(), edge)]
 }
 
 /// The first edge of the second piece that joins the same places as an edge of the first one, in the opposite direction.
@@ -54,17 +54,4 @@ fn is_facing(first: &[u32], edge: usize, second: &[u32], facing: usize) -> bool
     ensures { result ≡ is_facing first.now edge second.now facing }
 {
     second[facing] == edge_end(first, edge) && edge_end(second, facing) == first[edge]
-}
-
-/// The position after one, the first after the last.
-fn position_after(count: usize, position: usize) -> usize
-    requires { position < count }
-    ensures value { result ≡ place_after count position }
-    ensures there { result < count }
-{
-    if position + 1 == count {
-        0
-    } else {
-        position + 1
-    }
 }

@@ -3,15 +3,12 @@
 ghost use Rattle.std.specs.Prelude.{◌≡◌, ◌↔◌, ◌<◌, ◌≤◌, ◌+◌, ◌^◌, ◌*ℤ◌, ◌<ℤ◌, length, All, IsTrue, IfSome, IfNone};
 ghost use Rattle.std.specs.Int.RustNames.{unsigned_abs};
 ghost use Rattle.nav_base.specs.Point.{HasCoordinates, IsCellCorner};
-ghost use Rattle.nav_base.specs.Convex.{place_after};
-ghost use Rattle.mesh_types.specs.BorderLinks.{scaled};
 ghost use Rattle.mesh_types.specs.Located.{Holds};
 ghost use Rattle.mesh_types.specs.Rays.{IsExit, IsLeastExit, side_of};
-ghost use Rattle.mesh_types.specs.Soundness.{edge_begin, edge_end};
 ghost use Rattle.ray_walk.specs.Walking.{HasEnds, IsEntered, IsExitOver, IsFirstBefore, IsFirstOf};
 
 use crate::ray::{Exit, Ray};
-use mesh_types::Polygon;
+use mesh_types::{Polygon, edge_ends};
 use nav_base::{Point, orient};
 
 /// The first exit of least fraction; none exactly where the polygon holds the point that the ray makes for.
@@ -110,39 +107,4 @@ fn side(polygon: &Polygon, edge: usize, p: Point) -> i64
 {
     let (begin, end) = edge_ends(polygon, edge);
     orient(begin, end, p)
-}
-
-/// The beginning and the end of an edge, in sixteenths of a cell.
-pub(crate) fn edge_ends(polygon: &Polygon, edge: usize) -> (Point, Point)
-    requires corners { All IsCellCorner polygon.now.corners }
-    requires there { edge < length polygon.now.corners }
-    ensures begins { result.0 ≡ edge_begin polygon.now edge }
-    ensures ends { result.1 ≡ edge_end polygon.now edge }
-    ensures first { HasCoordinates result.0 }
-    ensures second { HasCoordinates result.1 }
-{
-    let corners = polygon.corners.as_slice();
-    let after = next_place(corners.len(), edge);
-    (in_sixteenths(corners[edge]), in_sixteenths(corners[after]))
-}
-
-/// A corner, in sixteenths of a cell.
-fn in_sixteenths(corner: Point) -> Point
-    requires { IsCellCorner corner }
-    ensures value { result ≡ scaled corner.x corner.z }
-    ensures reach { HasCoordinates result }
-{
-    Point {
-        x: 16 * corner.x,
-        z: 16 * corner.z,
-    }
-}
-
-/// The place after this one, the first after the last.
-fn next_place(count: usize, place: usize) -> usize
-    requires { place < count }
-    ensures value { result ≡ place_after count place }
-    ensures there { result < count }
-{
-    if place + 1 == count { 0 } else { place + 1 }
 }

@@ -8,10 +8,10 @@ ghost use Rattle.mesh_types.specs.Soundness.{IsSound};
 ghost use Rattle.mesh_types.specs.WholeMesh.{poly_at};
 ghost use Rattle.ray_walk.specs.Walking.{IsProper, IsThere, wall_of};
 
-use crate::exits::{edge_ends, first_exit};
+use crate::exits::first_exit;
 use crate::onward::{Inside, next_link};
 use crate::ray::{Exit, Ray};
-use mesh_types::{Mesh, PolyRef, Polygon, poly};
+use mesh_types::{Mesh, PolyRef, Polygon, edge_ends, poly};
 use nav_base::Point;
 use std::alloc::{AllocError, Global};
 use std::collections::BTreeSet;

@@ -8,10 +8,9 @@ ghost use Rattle.mesh_types.specs.Rays.{side_of};
 ghost use Rattle.surface_move.specs.Moves.{IsNear};
 ghost use Rattle.surface_move.specs.Ways.{HoldsNear, IsAmong, IsNotRight, IsOffset, IsWay};
 
-use crate::edges::edge_ends;
 use crate::legs::{across, along};
 use crate::ways::{Steps, Turn, Way};
-use mesh_types::Polygon;
+use mesh_types::{Polygon, edge_ends};
 use nav_base::{Point, orient};
 
 /// Of some numbers of steps those that are left where each edge bounds them: none is left out after which the polygon holds a near point.

@@ -12,7 +12,6 @@
 #![tactic(auto)]
 
 mod bounds;
-mod edges;
 mod ends;
 mod legs;
 mod nearby;

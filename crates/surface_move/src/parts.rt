@@ -9,12 +9,11 @@ ghost use Rattle.surface_move.specs.Moves.{AreThere, IsPart, IsThere, leg_of, nt
 ghost use Rattle.surface_move.specs.Ways.{HoldsNear, HoldsNearFrom, IsFirstHolder, IsGreatest, IsWay};
 
 use crate::bounds::possible_steps;
-use crate::edges::holds;
 use crate::ends::PartEnd;
 use crate::legs::leg;
 use crate::nearby::near_points;
 use crate::ways::{Steps, Way};
-use mesh_types::{Mesh, PolyRef, Polygon, poly};
+use mesh_types::{Mesh, PolyRef, Polygon, holds, poly};
 use nav_base::Point;
 
 /// The part of the way from one point to another that leads through some polygons, of at most `rest` steps: the most steps after which a near

@@ -13,7 +13,7 @@ nearer_at-nearest-requires-clause-listed c =
     let tile = c.index-tiles-tile.result in
     let is = c.index-tiles-tile.is ∙ ap (λ (tiles : List TileMesh). get_or tiles c.args.tile tile) c.as_slice-tiles.ensures in
     let there = slice_get_read mesh.tiles (length mesh.tiles) c.args.tile tile refl c.requires.there is in
-    ap (option_and_then (λ (d : TileMesh). slice_get d.polys c.loop-i.i)) there ∙ ap (λ (d : TileMesh). slice_get d.polys c.loop-i.i) (sym (c.mesh.ensures ∙ c.get.ensures))
+    ap (option_and_then (λ (d : TileMesh). slice_get d.polys c.loop-i.i)) there ∙ ap (λ (d : TileMesh). slice_get d.polys c.loop-i.i) (sym c.get.ensures)
 
 pub nearer_at-nearest-requires-clause-polygons : goal.nearer_at-nearest-requires-clause-polygons
 nearer_at-nearest-requires-clause-polygons c =
@@ -21,7 +21,7 @@ nearer_at-nearest-requires-clause-polygons c =
     let tile = c.index-tiles-tile.result in
     let is = c.index-tiles-tile.is ∙ ap (λ (tiles : List TileMesh). get_or tiles c.args.tile tile) c.as_slice-tiles.ensures in
     let there = slice_get_read mesh.tiles (length mesh.tiles) c.args.tile tile refl c.requires.there is in
-    subst (λ (d : TileMesh). All IsPolygon d.polys) (sym (c.mesh.ensures ∙ c.get.ensures)) (its_polygons mesh c.args.tile tile c.requires.sound there)
+    subst (λ (d : TileMesh). All IsPolygon d.polys) (sym c.get.ensures) (its_polygons mesh c.args.tile tile c.requires.sound there)
 
 pub returns : goal.returns
 returns c =
@@ -29,7 +29,7 @@ returns c =
     let tile = c.index-tiles-tile.result in
     let is = c.index-tiles-tile.is ∙ ap (λ (tiles : List TileMesh). get_or tiles c.args.tile tile) c.as_slice-tiles.ensures in
     let there = slice_get_read mesh.tiles (length mesh.tiles) c.args.tile tile refl c.requires.there is in
-    let polys = c.len-i-end.ensures ∙ ap (λ (d : TileMesh). length d.polys) (c.mesh.ensures ∙ c.get.ensures) in
+    let polys = c.len-i-end.ensures ∙ ap (λ (d : TileMesh). length d.polys) c.get.ensures in
     let last : c.loop-i.i ≡ length tile.polys = omega (arith, c.loop-i-test.false, c.loop-i.auto.i-end, polys) in
     tile_done mesh c.args.sought.p c.args.sought.y c.args.tile tile c.loop-i.nearest there
     (subst (λ (n : ℕ). IsNearestBefore mesh c.args.sought.p c.args.sought.y c.args.tile n c.loop-i.nearest) last c.loop-i.invariant)

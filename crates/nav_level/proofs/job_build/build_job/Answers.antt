@@ -19,4 +19,4 @@ returns-clause-mesh g c =
     let at = layer_at c.args.level.now c.args.job.now.tile c.index-as_slice-job.result c.requires.level c.requires.job.there
     (rw c.as_slice.ensures at c.index-as_slice-job.is) in
     let built = rw c.as_slice-2.ensures at c.in_ok-mesh.ensures.value in
-    c.in_ok-shared.ensures ∙ built ∙ ap (λ (layer : Layer). tile_mesh_of c.args.level.now.setting layer c.args.job.now.shapes) at.is
+    c.in_ok-new.ensures.ok ∙ built ∙ ap (λ (layer : Layer). tile_mesh_of c.args.level.now.setting layer c.args.job.now.shapes) at.is

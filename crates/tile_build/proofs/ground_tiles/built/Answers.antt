@@ -25,7 +25,7 @@ returns-in_err-push-clause-most g c =
 pub loop-layer-preserved : goal.loop-layer-preserved
 loop-layer-preserved g c =
     let f = λ (layer : Layer). tile_mesh_of c.args.setting.now layer c.args.shapes.now in
-    let made = c.in_ok-shared.ensures ∙ c.in_ok-tile.ensures.value ∙ ap f c.layer-item.is in
+    let made = c.in_ok-new.ensures.ok ∙ c.in_ok-tile.ensures.value ∙ ap f c.layer-item.is in
     record {
       tiles = c.in_ok-push.ensures.items ∙ (λ i. c.loop-layer.invariant.tiles i ++ made i ∷ [])
           ∙ sym (map_more f c.args.layers.now c.loop-layer.layer-index c.layer-item.result c.loop-layer-test.true);

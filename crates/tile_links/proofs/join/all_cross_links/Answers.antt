@@ -6,16 +6,16 @@ use Rattle.tile_links.proofs.join.all_cross_links.Goals as goal
 
 pub shared_cross_links-requires-clause-tile : goal.shared_cross_links-requires-clause-tile
 shared_cross_links-requires-clause-tile c =
-    tile_fit c.args.setting.now c.args.tiles.now c.loop-tile.tile-index c.tile-item.result c.mesh.result.now c.requires.tiles c.loop-tile-test.true c.tile-item.is (c.mesh.ensures ∙ c.get.ensures)
+    tile_fit c.args.setting.now c.args.tiles.now c.loop-tile.tile-index c.tile-item.result c.get.result.now c.requires.tiles c.loop-tile-test.true c.tile-item.is c.get.ensures
 
 pub shared_cross_links-requires-clause-few : goal.shared_cross_links-requires-clause-few
 shared_cross_links-requires-clause-few c =
-    tile_few c.args.setting.now c.args.tiles.now c.loop-tile.tile-index c.tile-item.result c.mesh.result.now c.requires.tiles c.loop-tile-test.true c.tile-item.is (c.mesh.ensures ∙ c.get.ensures)
+    tile_few c.args.setting.now c.args.tiles.now c.loop-tile.tile-index c.tile-item.result c.get.result.now c.requires.tiles c.loop-tile-test.true c.tile-item.is c.get.ensures
 
 pub loop-tile-preserved : goal.loop-tile-preserved
 loop-tile-preserved c =
     let f = cross_links c.args.setting.now c.args.tiles.now in
-    let made = c.in_ok-shared_cross_links.ensures ∙ ap f ((c.mesh.ensures ∙ c.get.ensures) ∙ c.tile-item.is) in
+    let made = c.in_ok-shared_cross_links.ensures ∙ ap f (c.get.ensures ∙ c.tile-item.is) in
     c.in_ok-push.ensures.items ∙ (λ i. c.loop-tile.invariant i ++ made i ∷ [])
     ∙ sym (map_more f c.args.tiles.now c.loop-tile.tile-index c.tile-item.result c.loop-tile-test.true)
 

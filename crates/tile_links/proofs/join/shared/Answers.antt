@@ -8,4 +8,4 @@ one_moved came after to_come more all x given pushed same next is =
     (λ i. pushed i ++ more) ∙ append_assoc came (x ∷ []) more ∙ (λ i. came ++ same i ∷ more) ∙ ap (λ rest. came ++ rest) (sym next) ∙ is
 
 pub loop-tile-preserved : goal.loop-tile-preserved
-loop-tile-preserved c = one_moved _ _ _ _ _ _ _ c.in_ok-push.ensures.items c.in_ok-shared-2.ensures c.in-Some.ensures.steps.0 c.loop-tile.invariant
+loop-tile-preserved c = one_moved _ _ _ _ _ _ _ c.in_ok-push.ensures.items c.in_ok-new.ensures.ok c.in-Some.ensures.steps.0 c.loop-tile.invariant

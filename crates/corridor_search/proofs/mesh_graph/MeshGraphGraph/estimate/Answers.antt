@@ -1,6 +1,6 @@
 use Rattle.std.proofs.Common.{ap, ◌∙◌}
 use Rattle.nav_base.specs.declared.point.Point.{Point}
-use Rattle.mesh_types.specs.Ways.{distance_of}
+use Rattle.nav_base.specs.Distance.{distance_of}
 use Rattle.corridor_search.specs.MeshGraphs.{polygon_of, extent_at}
 use Rattle.corridor_search.proofs.Vertices.{contains-there}
 use Rattle.corridor_search.proofs.Extents.{extent-rules, estimate-by}

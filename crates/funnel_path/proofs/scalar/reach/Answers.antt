@@ -1,7 +1,0 @@
--- The difference is small enough for its type.
-use Rattle.std.proofs.Common.{arith}
-use Rattle.std.proofs.lemmas.Int.{to_z-of_z}
-use Rattle.funnel_path.proofs.scalar.reach.Goals as goal
-
-pub returns-clause-value : goal.returns-clause-value
-returns-clause-value c = grind (arith, to_z-of_z)
