@@ -1,3 +1,3 @@
 pub mod HandSettings
-mod Literals
+pub mod Literals
 mod HandTiles

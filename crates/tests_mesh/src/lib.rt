@@ -14,8 +14,7 @@ mod five_cells;
 mod meshes;
 #[cfg(test)]
 mod rows;
-#[cfg(test)]
-mod stored;
+pub mod stored;
 #[cfg(test)]
 mod strip_meshes;
 #[cfg(test)]

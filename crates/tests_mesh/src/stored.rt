@@ -8,7 +8,7 @@ use nav_list::Items;
 use std::alloc::{AllocError, Global};
 
 /// The list of cells whose numbers are small.
-pub(crate) fn stored(alloc: Global, cells: &[Cell]) -> Result<Items<SmallCell>, AllocError>
+pub fn stored(alloc: Global, cells: &[Cell]) -> Result<Items<SmallCell>, AllocError>
     requires { AreSmall cells.now }
     ensures { IfOk result (λ stored. stored ≡ cells.now) }
 {

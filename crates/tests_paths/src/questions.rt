@@ -10,10 +10,10 @@ use crate::rows::all_hold;
 use mesh_types::{Answer, Corner, Mesh, PathFound, PolyRef, RayAnswer, Side, TileMesh};
 use nav_base::{FloorAt, Point, Question};
 use nav_ground::{AREAS, Agent, Cell, CellRef, FreeLayer, MeshKind, Setting};
-use nav_list::Items;
 use nav_query::answer;
 use std::alloc::{AllocError, Global};
 use strip_mesh::strip_mesh;
+use tests_mesh::stored::stored;
 use tile_links::whole;
 
 /// Two cells in the first row, the second of which is connected to the first of two in the second row, and one apart in the last row.
@@ -94,10 +94,10 @@ pub(crate) const SETTING: Setting = Setting {
 fn tile(alloc: Global) -> Result<TileMesh, AllocError>
     ensures { IfOk result (IsFit SETTING) }
 {
-    let cells = Vec::from_array(alloc, CELLS)?;
+    let cells = CELLS;
     let free = FreeLayer {
         tile: 0,
-        cells: Items::from_vec(cells),
+        cells: stored(alloc, &cells)?,
     };
     strip_mesh(alloc, &free, &SETTING)
 }

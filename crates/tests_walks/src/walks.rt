@@ -9,9 +9,9 @@ use agent_walks::{Place, WalkAnswer, march_in, send_in};
 use mesh_types::{Mesh, PolyRef, TileMesh};
 use nav_base::Point;
 use nav_ground::{AREAS, Agent, Cell, CellRef, FreeLayer, MeshKind, Setting};
-use nav_list::Items;
 use std::alloc::{AllocError, Global};
 use strip_mesh::strip_mesh;
+use tests_mesh::stored::stored;
 use tile_links::whole;
 
 /// A cell of the level of its column with the neighbours that it has.
@@ -59,10 +59,10 @@ const SETTING: Setting = Setting {
 fn tile(alloc: Global) -> Result<TileMesh, AllocError>
     ensures { IfOk result (IsFit SETTING) }
 {
-    let cells = Vec::from_array(alloc, CELLS)?;
+    let cells = CELLS;
     let free = FreeLayer {
         tile: 0,
-        cells: Items::from_vec(cells),
+        cells: stored(alloc, &cells)?,
     };
     strip_mesh(alloc, &free, &SETTING)
 }
