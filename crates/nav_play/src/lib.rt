@@ -13,4 +13,4 @@ mod steps;
 mod tally;
 mod workers;
 
-pub use run::{PlayText, Played, play, play_to_end};
+pub use run::{PlayText, Played, Start, play, play_to_end};

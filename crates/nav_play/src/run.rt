@@ -48,6 +48,13 @@ pub struct Played {
     pub text: PlayText,
 }
 
+/// What a play starts from: a setting, and the field that it is for.
+#[derive(Drop)]
+pub struct Start {
+    pub setting: Setting,
+    pub field: Field,
+}
+
 /// Plays a script over a field: for each script line in order what it is answered, and then the published length and the history's length.
 /// It takes one step for each tile that it builds: each tile at its beginning, and one for each claim that gives one, of a `claim` line or
 /// within a `settle` line. Only memory can be refused.
@@ -71,7 +78,7 @@ pub fn play<R: Wait, L: Ledger>(
     ensures steps { OnOk result (steps.new ≡ steps.old + builds_of setting field script.now) }
     ensures most { HasRisenAtMost (builds_of setting field script.now) steps.old steps.new }
 {
-    let Played { book, text } = play_to_end(rt, alloc, setting, field, script, steps)?;
+    let Played { book, text } = play_to_end(rt, alloc, Start { setting, field }, script, steps)?;
     book.end(rt);
     Ok(text)
 }
@@ -80,22 +87,21 @@ pub fn play<R: Wait, L: Ledger>(
 pub fn play_to_end<R: Wait, L: Ledger>(
     rt: &R,
     alloc: Global,
-    setting: Setting,
-    field: Field,
+    start: Start,
     script: &Script,
     steps: &mut Steps<L>,
 ) -> Result<Played, AllocError>
-    requires setting { IsSetting setting }
-    requires field { IsField field }
-    requires sized { IsSized setting field }
+    requires setting { IsSetting start.setting }
+    requires field { IsField start.field }
+    requires sized { IsSized start.setting start.field }
     requires script { IsScript Play script.now }
-    ensures book { IfOk result (λ played. played.book.state ≡ (state_after_all (first_state_of setting field script.now) script.now.lines).book) }
-    ensures text { IfOk result (λ played. IsPlayText setting field script.now played.text.bytes.items) }
-    ensures totals { IfOk result (λ played. AreTotals setting field script.now played.text.totals) }
-    ensures steps { OnOk result (steps.new ≡ steps.old + builds_of setting field script.now) }
-    ensures most { HasRisenAtMost (builds_of setting field script.now) steps.old steps.new }
+    ensures book { IfOk result (λ played. played.book.state ≡ (state_after_all (first_state_of start.setting start.field script.now) script.now.lines).book) }
+    ensures text { IfOk result (λ played. IsPlayText start.setting start.field script.now played.text.bytes.items) }
+    ensures totals { IfOk result (λ played. AreTotals start.setting start.field script.now played.text.totals) }
+    ensures steps { OnOk result (steps.new ≡ steps.old + builds_of start.setting start.field script.now) }
+    ensures most { HasRisenAtMost (builds_of start.setting start.field script.now) steps.old steps.new }
 {
-    let mut player = begin(rt, alloc, Start { setting, field }, script, steps)?;
+    let mut player = begin(rt, alloc, start, script, steps)?;
     match player.play(rt, alloc, script, steps) {
         Ok(totals) => Ok(player.stop(totals)),
         Err(refused) => {
@@ -103,12 +109,6 @@ pub fn play_to_end<R: Wait, L: Ledger>(
             Err(refused)
         }
     }
-}
-
-/// What a play starts from: a setting, and the field that it is for.
-struct Start {
-    setting: Setting,
-    field: Field,
 }
 
 /// The player of a script over a field, before its first line. It takes one step for each tile.

@@ -11,8 +11,7 @@ ghost use Rattle.nav_steps.specs.Counts.{HasRisenAtMost};
 ghost use Rattle.nav_scene.specs.Scenes.{IsSceneText};
 
 use crate::shown::append_scene;
-use nav_ground::{Field, Setting};
-use nav_play::{PlayText, Played, play_to_end};
+use nav_play::{PlayText, Played, Start, play_to_end};
 use nav_script::Script;
 use nav_steps::Steps;
 use std::alloc::{AllocError, Global};
@@ -24,20 +23,19 @@ use std::sync::ledger::Ledger;
 pub fn scene<R: Wait, L: Ledger>(
     rt: &R,
     alloc: Global,
-    setting: Setting,
-    field: Field,
+    start: Start,
     script: &Script,
     steps: &mut Steps<L>,
 ) -> Result<Vec<u8>, AllocError>
-    requires setting { IsSetting setting }
-    requires field { IsField field }
-    requires sized { IsSized setting field }
+    requires setting { IsSetting start.setting }
+    requires field { IsField start.field }
+    requires sized { IsSized start.setting start.field }
     requires script { IsScript Play script.now }
-    ensures text { IfOk result (λ text. IsSceneText setting field script.now text.items) }
-    ensures steps { OnOk result (steps.new ≡ steps.old + builds_of setting field script.now) }
-    ensures most { HasRisenAtMost (builds_of setting field script.now) steps.old steps.new }
+    ensures text { IfOk result (λ text. IsSceneText start.setting start.field script.now text.items) }
+    ensures steps { OnOk result (steps.new ≡ steps.old + builds_of start.setting start.field script.now) }
+    ensures most { HasRisenAtMost (builds_of start.setting start.field script.now) steps.old steps.new }
 {
-    let Played { book, text } = play_to_end(rt, alloc, setting, field, script, steps)?;
+    let Played { book, text } = play_to_end(rt, alloc, start, script, steps)?;
     let PlayText { bytes, totals: _ } = text;
     let mut bytes = bytes;
     let written = append_scene(&mut bytes, &book);

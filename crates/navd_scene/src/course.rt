@@ -11,6 +11,7 @@ ghost use Rattle.nav_script.specs.declared.script.Way.TheVariants.{Play};
 ghost use Rattle.navd_scene.specs.Drawn.{HasBroken, HasDrawn, HasRun, HasTold, IsLineOf, IsRight, IsSceneUnless};
 
 use nav_io::{ReadRefusal, Sink, Source, read_all, write_all};
+use nav_play::Start;
 use nav_record::write_fault;
 use nav_run::{Input, InputRefusal, Status, read_input};
 use nav_scene::scene;
@@ -139,7 +140,7 @@ fn drawn<R: Wait, L: Ledger>(
         field,
         script,
     } = input;
-    Ok(scene(rt, alloc, setting, field, &script, steps)?)
+    Ok(scene(rt, alloc, Start { setting, field }, &script, steps)?)
 }
 
 /// The line of a fault.
