@@ -14,7 +14,7 @@ pub returns-in_err-tile-clause-most : goal.returns-in_err-tile-clause-most
 returns-in_err-tile-clause-most g c =
     record { least = omega (arith, c.build_tile.ensures.step, c.loop-layer.invariant.steps); most_risen = omega (arith, c.build_tile.ensures.step, c.loop-layer.invariant.steps, c.loop-layer-test.true) }
 
-pub returns-in_err-new-clause-most : goal.returns-in_err-shared-clause-most
+pub returns-in_err-new-clause-most : goal.returns-in_err-new-clause-most
 returns-in_err-new-clause-most g c =
     record { least = omega (arith, c.build_tile.ensures.step, c.loop-layer.invariant.steps); most_risen = omega (arith, c.build_tile.ensures.step, c.loop-layer.invariant.steps, c.loop-layer-test.true) }
 
