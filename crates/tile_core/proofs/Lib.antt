@@ -1,0 +1,2 @@
+pub mod OneOut
+pub mod AllOut
