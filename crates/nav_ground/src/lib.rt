@@ -18,6 +18,7 @@ mod field;
 mod history;
 mod setting;
 mod shape;
+mod small_span;
 mod tiling;
 mod touch;
 
@@ -26,5 +27,6 @@ pub use field::{Field, Span};
 pub use history::{Entry, Ground, HISTORY_LIMIT, Reply, Request};
 pub use setting::{AREAS, Agent, MeshKind, Setting};
 pub use shape::{Shape, bounds, covers, sets};
+pub use small_span::SmallSpan;
 pub use tiling::{TileNo, tile_bounds, tiles};
 pub use touch::{margin_of, touch_window, touches};
