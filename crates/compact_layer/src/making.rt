@@ -10,7 +10,7 @@ ghost use Rattle.compact_layer.specs.Making.{cell_with, level_over, ceiling_over
 
 use crate::compact_field::CompactField;
 use crate::sweep::connect;
-use nav_ground::{Agent, Cell, CellRef, Field, Span};
+use nav_ground::{Agent, Cell, CellRef, Field, SmallSpan};
 use nav_list::Items;
 use std::alloc::{AllocError, Global};
 
@@ -58,17 +58,17 @@ fn unconnected(alloc: Global, field: &Field, areas: &[u32]) -> Result<Vec<Cell>,
 }
 
 /// The cell on a span with an area, not yet connected, from the cells before it in order and the index of the next span of the field.
-fn cell_on(before: &[Cell], spans: &[Span], next: usize, span: &Span, area: u32) -> Cell
+fn cell_on(before: &[Cell], spans: &[SmallSpan], next: usize, span: &SmallSpan, area: u32) -> Cell
     requires { All (λ (cell : Cell). cell.at.level ≤ 2000000) before.now }
     ensures { result ≡ cell_with (record span.now { area = area }) (level_over before.now span.now) (ceiling_over (slice_get spans.now next) span.now) }
 {
     Cell {
         at: CellRef {
-            x: span.x,
-            z: span.z,
+            x: span.x(),
+            z: span.z(),
             level: level_over(before, span),
         },
-        floor: span.top,
+        floor: span.top(),
         ceiling: ceiling_over(spans, next, span),
         area,
         next: [None; 4],
@@ -76,23 +76,23 @@ fn cell_on(before: &[Cell], spans: &[Span], next: usize, span: &Span, area: u32)
 }
 
 /// The level of a cell on a span, from the cells before it in order: one above the last of them if that lies in the same column, else 0.
-fn level_over(cells: &[Cell], span: &Span) -> u32
+fn level_over(cells: &[Cell], span: &SmallSpan) -> u32
     requires { All (λ (cell : Cell). cell.at.level ≤ 2000000) cells.now }
     ensures { result ≡ level_over cells.now span.now }
 {
     match cells.last() {
-        Some(last) if last.at.x == span.x && last.at.z == span.z => last.at.level + 1,
+        Some(last) if last.at.x == span.x() && last.at.z == span.z() => last.at.level + 1,
         _ => 0,
     }
 }
 
 /// The ceiling over a span, by the index of the next span of the field: the bottom of that, walkable or not, if it lies in the same column,
 /// else 65535.
-fn ceiling_over(spans: &[Span], next: usize, span: &Span) -> u32
+fn ceiling_over(spans: &[SmallSpan], next: usize, span: &SmallSpan) -> u32
     ensures { result ≡ ceiling_over (slice_get spans.now next) span.now }
 {
     match spans.get(next) {
-        Some(above) if above.x == span.x && above.z == span.z => above.bottom,
+        Some(above) if above.x() == span.x() && above.z() == span.z() => above.bottom(),
         _ => 65535,
     }
 }

@@ -1,6 +1,7 @@
 -- What each line behind the header says, in the order of the tests that it can fail.
 use Rattle.std.specs.Prelude.{ℕ, ◌<◌, ◌≤◌, ⊤, ◌-◌, Bool, not, ◌&&◌, ◌||◌, ◌==◌, nat_lt, nat_le, if◌then◌else◌, List, length, Option, Some, None, bytes_eq, slice_get, slice_index, codes}
 use Rattle.nav_ground.specs.declared.field.Span.{Span}
+use Rattle.nav_ground.specs.Fields.{IsSmallSpan}
 use Rattle.nav_text.specs.declared.fault.FaultKind.TheVariants.{Form, Range, Order, Overlap, TooMany}
 use Rattle.nav_text.specs.Forms.{numbers_of, has_word}
 use Rattle.span_text.specs.declared.body.BodyLine.{BodyLine}
@@ -65,9 +66,16 @@ body_line width depth before spans line =
 unfoldable pub header_line : ℕ → List ℕ → BodyLine
 header_line before line = if has_word (codes "cost") line then cost_in before (numbers_of (codes "cost") 2 line) else lines.End
 
--- a cost is one of a further area, and a span has room
+-- a span that is said fits ten bytes
+abbrev pub SaysSmall : BodyLine → Type 0
+SaysSmall (lines.Cost area cost) = ⊤
+SaysSmall (lines.Spans span) = IsSmallSpan span
+SaysSmall lines.End = ⊤
+SaysSmall (lines.Fails kind) = ⊤
+
+-- a cost is one of a further area, and a span has room and fits ten bytes
 abbrev pub Fits : ℕ → ℕ → BodyLine → Type 0
 Fits before count (lines.Cost area cost) = (before < area) × (area ≤ 63)
-Fits before count (lines.Spans span) = count < 2000000
+Fits before count (lines.Spans span) = (count < 2000000) × IsSmallSpan span
 Fits before count lines.End = ⊤
 Fits before count (lines.Fails kind) = ⊤

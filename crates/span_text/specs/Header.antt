@@ -1,5 +1,5 @@
 -- What each line of the header says, in the order of the tests that it can fail.
-use Rattle.std.specs.Prelude.{ℕ, ◌*◌, Bool, not, ◌&&◌, ◌||◌, ◌==◌, nat_lt, nat_le, if◌then◌else◌, List, Option, Some, None, Result, Ok, Err, bytes_eq, slice_index, codes}
+use Rattle.std.specs.Prelude.{ℕ, ◌*◌, ◌≤◌, Bool, not, ◌&&◌, ◌||◌, ◌==◌, nat_lt, nat_le, if◌then◌else◌, List, Option, Some, None, Result, Ok, Err, bytes_eq, slice_index, codes}
 use Rattle.nav_ground.specs.declared.setting.Agent.{Agent}
 use Rattle.nav_ground.specs.declared.setting.MeshKind.{MeshKind}
 use Rattle.nav_ground.specs.declared.setting.MeshKind.TheVariants.{Strips, Contours}
@@ -16,6 +16,10 @@ is_in low high number = nat_le low number && nat_le number high
 -- `nav 1` or `nav 2`
 unfoldable pub nav_line : List ℕ → Result TextForm FaultKind
 nav_line line = if bytes_eq line (codes "nav 1") then Ok First else (if bytes_eq line (codes "nav 2") then Ok Second else Err Form)
+
+-- the sides of a field, in columns
+abbrev pub AreSides : ℕ → ℕ → Type 0
+AreSides width depth = (width ≤ 1024) × (depth ≤ 1024)
 
 -- `size` and two numbers, 1 to 1024 each
 abbrev pub size_in : Option (List ℕ) → Result (ℕ × ℕ) FaultKind

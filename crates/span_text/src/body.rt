@@ -1,6 +1,8 @@
 //! The lines behind the header: costs, spans and the end.
-ghost use Rattle.std.specs.Prelude.{◌≡◌, ℕ, ◌≤◌, ◌++◌, ◌∷◌, [], Some, MatchOption, IfSome, codes, decimal, length};
-ghost use Rattle.span_text.specs.Body.{cost_in, span_of, is_span, is_column_before, is_column_of, span_after, span_in, other_line, body_line, header_line, Fits};
+ghost use Rattle.std.specs.Prelude.{◌≡◌, ℕ, ◌≤◌, ◌++◌, ◌∷◌, [], Some, MatchOption, IfSome, IsTrue, codes, decimal, length};
+ghost use Rattle.nav_ground.specs.Fields.{IsSmallSpan};
+ghost use Rattle.span_text.specs.Header.{AreSides};
+ghost use Rattle.span_text.specs.Body.{SaysSmall, cost_in, span_of, is_span, is_column_before, is_column_of, span_after, span_in, other_line, body_line, header_line, Fits};
 ghost use Rattle.span_text.specs.NextLine.{IsHeld, SaysFirst, span_or_many};
 ghost use Rattle.nav_text.specs.Forms.{numbers_of};
 ghost use Rattle.span_text.specs.FieldText.{span_text};
@@ -8,7 +10,7 @@ ghost use Rattle.nav_text.specs.Lines.{lines};
 ghost use Rattle.std.specs.Option.{option_copied};
 
 use crate::header::is_in;
-use nav_ground::Span;
+use nav_ground::{SmallSpan, Span};
 use nav_text::{FaultKind, first_line, has_word, number_after, numbers_of};
 
 /// The most spans that a field can have.
@@ -32,10 +34,11 @@ pub fn next_line<'a>(
     width: u32,
     depth: u32,
     before: u32,
-    spans: &[Span],
+    spans: &[SmallSpan],
     text: &'a [u8],
 ) -> Option<(BodyLine, &'a [u8])>
-    requires { length spans.now ≤ MAX_SPANS }
+    requires few { length spans.now ≤ MAX_SPANS }
+    requires sides { AreSides width depth }
     ensures value { MatchOption result (lines text.now ≡ [])
         (λ x. SaysFirst width depth before spans.now text.now x.0 x.1.now) }
     ensures fits { IfSome result (λ x. Fits before (length spans.now) x.0) }
@@ -79,8 +82,9 @@ fn next_number(bytes: &[u8]) -> Option<(u32, &[u8])>
 }
 
 /// The line of a span, after some spans.
-fn span_or_many(width: u32, depth: u32, spans: &[Span], span: Span) -> BodyLine
-    requires { length spans.now ≤ MAX_SPANS }
+fn span_or_many(width: u32, depth: u32, spans: &[SmallSpan], span: Span) -> BodyLine
+    requires few { length spans.now ≤ MAX_SPANS }
+    requires sides { AreSides width depth }
     ensures value { result ≡ span_or_many width depth spans.now span }
     ensures fits { (before : ℕ) → Fits before (length spans.now) result }
 {
@@ -92,8 +96,9 @@ fn span_or_many(width: u32, depth: u32, spans: &[Span], span: Span) -> BodyLine
 
 /// A line behind the header, after some spans. `before` is the area of the last cost, 0 at first.
 #[tactic(auto, unfolding(crate::specs::Body::body_line))]
-pub fn body_line(width: u32, depth: u32, before: u32, spans: &[Span], line: &[u8]) -> BodyLine
-    requires { length spans.now ≤ MAX_SPANS }
+pub fn body_line(width: u32, depth: u32, before: u32, spans: &[SmallSpan], line: &[u8]) -> BodyLine
+    requires few { length spans.now ≤ MAX_SPANS }
+    requires sides { AreSides width depth }
     ensures value { result ≡ body_line width depth before spans.now line.now }
     // A cost is one of a further area, and a span has room.
     ensures fits { Fits before (length spans.now) result }
@@ -165,8 +170,10 @@ fn span_of(numbers: &[u32; 5]) -> Span
 }
 
 /// A span after the last one, whose numbers may be past their limits.
-fn span_in(width: u32, depth: u32, last: Option<Span>, span: Span) -> BodyLine
-    ensures { result ≡ span_in width depth last span }
+fn span_in(width: u32, depth: u32, last: Option<SmallSpan>, span: Span) -> BodyLine
+    requires sides { AreSides width depth }
+    ensures value { result ≡ span_in width depth last span }
+    ensures small { SaysSmall result }
 {
     if !is_span(width, depth, &span) {
         return BodyLine::Fails(FaultKind::Range);
@@ -177,12 +184,14 @@ fn span_in(width: u32, depth: u32, last: Option<Span>, span: Span) -> BodyLine
     }
 }
 
-fn span_after(last: &Span, span: Span) -> BodyLine
-    ensures { result ≡ span_after (Some last.now) span }
+fn span_after(last: &SmallSpan, span: Span) -> BodyLine
+    requires { IsSmallSpan span }
+    ensures value { result ≡ span_after (Some last.now) span }
+    ensures small { SaysSmall result }
 {
     if is_column_before(&span, last) {
         BodyLine::Fails(FaultKind::Order)
-    } else if is_column_of(&span, last) && span.bottom < last.top {
+    } else if is_column_of(&span, last) && span.bottom < last.top() {
         BodyLine::Fails(FaultKind::Overlap)
     } else {
         BodyLine::Spans(span)
@@ -191,7 +200,9 @@ fn span_after(last: &Span, span: Span) -> BodyLine
 
 /// Whether a span's numbers are within their limits.
 fn is_span(width: u32, depth: u32, span: &Span) -> bool
-    ensures { result ≡ is_span width depth span.now }
+    requires { AreSides width depth }
+    ensures value { result ≡ is_span width depth span.now }
+    ensures small { IsTrue result → IsSmallSpan span.now }
 {
     span.x < width
         && span.z < depth
@@ -201,15 +212,15 @@ fn is_span(width: u32, depth: u32, span: &Span) -> bool
 }
 
 /// Whether a span's column comes before another's, by z and then x.
-fn is_column_before(a: &Span, b: &Span) -> bool
+fn is_column_before(a: &Span, b: &SmallSpan) -> bool
     ensures { result ≡ is_column_before a.now b.now }
 {
-    a.z < b.z || a.z == b.z && a.x < b.x
+    a.z < b.z() || a.z == b.z() && a.x < b.x()
 }
 
 /// Whether two spans are of one column.
-fn is_column_of(a: &Span, b: &Span) -> bool
+fn is_column_of(a: &Span, b: &SmallSpan) -> bool
     ensures { result ≡ is_column_of a.now b.now }
 {
-    a.z == b.z && a.x == b.x
+    a.z == b.z() && a.x == b.x()
 }

@@ -1,6 +1,6 @@
 //! The lines of a setting that a field text begins with: seven in the first form, eight in the second.
-ghost use Rattle.std.specs.Prelude.{◌≡◌, ℕ};
-ghost use Rattle.span_text.specs.Header.{nav_line, size_line, limited, agent_line, mesh_line, clear_line};
+ghost use Rattle.std.specs.Prelude.{◌≡◌, ℕ, IfOk};
+ghost use Rattle.span_text.specs.Header.{AreSides, nav_line, size_line, limited, agent_line, mesh_line, clear_line};
 
 use nav_ground::{Agent, MeshKind};
 use nav_text::{FaultKind, numbers_of};
@@ -31,7 +31,8 @@ pub fn nav_line(line: &[u8]) -> Result<TextForm, FaultKind>
 /// The width and the depth of the field, in columns.
 #[tactic(auto, unfolding(crate::specs::Header::size_line))]
 pub fn size_line(line: &[u8]) -> Result<(u32, u32), FaultKind>
-    ensures { result ≡ size_line line.now }
+    ensures value { result ≡ size_line line.now }
+    ensures most { IfOk result (λ sizes. AreSides sizes.0 sizes.1) }
 {
     let Some(numbers) = numbers_of::<2>(b"size", line) else {
         return Err(FaultKind::Form);

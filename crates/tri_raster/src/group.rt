@@ -7,7 +7,7 @@ ghost use Rattle.tri_raster.specs.Sweeps.{HasPushed};
 
 use crate::column::Column;
 use crate::refusal::RasterRefusal;
-use nav_ground::Span;
+use nav_ground::{SmallSpan, Span};
 use tri_rows::Shadow;
 
 /// The most spans that a field can have.
@@ -51,7 +51,7 @@ pub(crate) fn push_spans(
     climb: u32,
     x: u32,
     z: u32,
-    spans: &mut Vec<Span>,
+    spans: &mut Vec<SmallSpan>,
 ) -> Result<(), RasterRefusal>
     requires upright { All IsUpright column.old }
     requires few { length spans.old.items ≤ 2000000 }
@@ -67,7 +67,7 @@ fn push_groups(
     climb: u32,
     x: u32,
     z: u32,
-    spans: &mut Vec<Span>,
+    spans: &mut Vec<SmallSpan>,
 ) -> Result<(), RasterRefusal>
     requires upright { All IsUpright shadows.now }
     requires order { IsNonDecreasingBy (λ (shadow : Shadow). shadow.bottom) shadows.now }
@@ -89,7 +89,7 @@ fn push_groups(
         if spans.len() == MAX_SPANS {
             return Err(RasterRefusal::TooManySpans);
         }
-        spans.push(span)?;
+        spans.push(SmallSpan::new(&span))?;
         rest = behind;
     }
     Ok(())

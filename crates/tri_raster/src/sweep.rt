@@ -13,7 +13,7 @@ use crate::active::to_row;
 use crate::column::Column;
 use crate::group::push_spans;
 use crate::refusal::RasterRefusal;
-use nav_ground::Span;
+use nav_ground::SmallSpan;
 use std::alloc::{AllocError, Global};
 use tri_rows::{Bound, FRESH, Hits, Tri, row_shadows, shadow_of};
 
@@ -48,7 +48,7 @@ impl Sweep {
         entering: &[Tri],
         climb: u32,
         z: u32,
-        spans: &mut Vec<Span>,
+        spans: &mut Vec<SmallSpan>,
     ) -> Result<(), RasterRefusal>
         requires triangles { CanEnter z self.old.active.items entering.now }
         requires width { length self.old.bounds.items ≤ 1024 }
@@ -136,7 +136,7 @@ fn push_row(
     columns: &mut [Column],
     climb: u32,
     z: u32,
-    spans: &mut Vec<Span>,
+    spans: &mut Vec<SmallSpan>,
 ) -> Result<(), RasterRefusal>
     requires width { length columns.old ≤ 1024 }
     requires few { length spans.old.items ≤ 2000000 }

@@ -26,7 +26,7 @@ loop-said-preserved c =
           rw (w.setting-is, w.spans-is, w.before-is)
           (HasRead_cost _ _ _ _ _ _ _ _ _ _ c.loop-said.invariant first.first first.spelled (first.says ∙ w.in-Cost.is) further.0 further.1)
       | in-Spans+else-is_err w ↦
-          let room : length c.loop-said.spans.items < 2000000 = subst (Fits c.loop-said.before (length c.loop-said.spans.items)) w.in-Spans.is fits in
+          let room : length c.loop-said.spans.items < 2000000 = (subst (Fits c.loop-said.before (length c.loop-said.spans.items)) w.in-Spans.is fits).0 in
           let items : w.push.new.self.items ≡ c.loop-said.spans.items ++ w.in-Spans.span ∷ [] = grind (arith, common_steps) in
           rw (w.setting-is, w.spans-is, w.before-is, items)
           (HasRead_span _ _ _ _ _ _ _ _ _ c.loop-said.invariant first.first first.spelled (first.says ∙ w.in-Spans.is) room)
