@@ -120,29 +120,33 @@ fn look_around(stand: &Stand, spans: &[Span], passed: &mut Passed, span: &Span) 
         least: stand.floor,
         greatest: stand.floor,
     };
-    let one = look_toward(0, stand, spans, &mut passed.left, span, own);
-    let two = look_toward(1, stand, spans, &mut passed.above, span, one);
-    let three = look_toward(2, stand, spans, &mut passed.right, span, two);
-    look_toward(3, stand, spans, &mut passed.below, span, three)
+    let post = Post { stand, spans, span };
+    let one = look_toward(0, post, &mut passed.left, own);
+    let two = look_toward(1, post, &mut passed.above, one);
+    let three = look_toward(2, post, &mut passed.right, two);
+    look_toward(3, post, &mut passed.below, three)
+}
+
+/// Where gaps are looked at from: a span of a field, and the agent that would stand on it.
+#[derive(Clone, Copy, Drop)]
+struct Post<'a> {
+    stand: &'a Stand,
+    spans: &'a [Span],
+    span: &'a Span,
 }
 
 /// What is seen once the gaps of the column beside a span's in a direction are looked at too.
-fn look_toward(
-    dir: usize,
-    stand: &Stand,
-    spans: &[Span],
-    passed: &mut usize,
-    span: &Span,
-    seen: Seen,
-) -> Seen
+fn look_toward(dir: usize, post: Post<'_>, passed: &mut usize, seen: Seen) -> Seen
     requires dir { dir < 4 }
-    requires stand { IsStand stand.now }
-    requires spans { AreSpans spans.now }
-    requires span { IsLargestSpan span.now }
-    requires passed { IsPassed spans.now passed.old (place_of (column_beside dir span.now) (stand.now.floor + stand.now.height)) }
-    ensures seen { result ≡ seen_over stand.now seen (gaps_of (column_toward dir spans.now span.now)) }
-    ensures passed { IsPassed spans.now passed.new (place_of (column_beside dir span.now) (stand.now.floor + stand.now.height)) }
+    requires stand { IsStand post.stand.now }
+    requires spans { AreSpans post.spans.now }
+    requires span { IsLargestSpan post.span.now }
+    requires passed { IsPassed post.spans.now passed.old (place_of (column_beside dir post.span.now) (post.stand.now.floor + post.stand.now.height)) }
+    ensures seen { result ≡ seen_over post.entry.stand.now seen (gaps_of (column_toward dir post.entry.spans.now post.entry.span.now)) }
+    ensures passed { IsPassed post.entry.spans.now passed.new
+        (place_of (column_beside dir post.entry.span.now) (post.entry.stand.now.floor + post.entry.stand.now.height)) }
 {
+    let Post { stand, spans, span } = post;
     let column = column_beside(dir, span);
     *passed = pass(spans, *passed, place_of(column, stand.floor + stand.height));
     look(stand, spans, *passed, column, seen)
