@@ -11,7 +11,8 @@ use Rattle.mesh_types.specs.declared.links.Link.{Link}
 use Rattle.mesh_types.specs.declared.links.PolyRef.{PolyRef}
 use Rattle.mesh_types.specs.declared.links.Portal.{Portal}
 use Rattle.mesh_types.specs.declared.mesh.Mesh.{Mesh}
-use Rattle.mesh_types.specs.Chains.{some_portal, portal_at}
+use Rattle.mesh_types.specs.Chains.{portal_at}
+use Rattle.mesh_types.proofs.Words.{some_portal}
 use Rattle.mesh_types.specs.Rays.{IsHeldAt}
 use Rattle.mesh_types.specs.Right.{portals_of}
 use Rattle.mesh_types.specs.Soundness.{IsSound}

@@ -12,7 +12,8 @@ use Rattle.nav_base.proofs.Polynomials.{at, difference, product, equal}
 use Rattle.nav_base.proofs.PointTerms.{orient_term}
 use Rattle.nav_base.proofs.Signs.{product-not_negative, product-not_positive}
 use Rattle.mesh_types.specs.declared.links.Portal.{Portal}
-use Rattle.mesh_types.specs.Chains.{IsAhead, IsBehind, IsChain, points_after, points_before, portal_at, some_portal}
+use Rattle.mesh_types.specs.Chains.{IsAhead, IsBehind, IsChain, points_after, points_before, portal_at}
+use Rattle.mesh_types.proofs.Words.{some_portal}
 use Rattle.bench_calls.specs.Rows.{CanBePulled, IsNotRight, IsRow, IsUpright, upright_at}
 
 -- ---- one portal

@@ -26,7 +26,8 @@ use Rattle.mesh_types.specs.declared.region.Regions.{Regions}
 use Rattle.mesh_types.specs.declared.region.UnitEdge.{UnitEdge}
 use Rattle.mesh_types.specs.declared.strip.Strip.{Strip}
 use Rattle.mesh_types.specs.declared.tile.TileMesh.{TileMesh}
-use Rattle.mesh_types.specs.ContourMeshes.{contour_of, cut_part, no_part, part_of, parts_of, region_numbers, region_part}
+use Rattle.mesh_types.specs.ContourMeshes.{contour_of, cut_part, part_of, parts_of, region_numbers, region_part}
+use Rattle.mesh_types.specs.Words.{no_part}
 use Rattle.mesh_types.specs.Contours.{cell_in, region_at, rim_of, strips_in}
 use Rattle.mesh_types.specs.Ears.{ears_of}
 use Rattle.mesh_types.specs.Merging.{merged}

@@ -29,7 +29,9 @@ use Rattle.mesh_types.specs.declared.tile.LevelPair.{LevelPair}
 use Rattle.mesh_types.specs.declared.tile.RimEdge.{RimEdge}
 use Rattle.mesh_types.specs.declared.tile.TileMesh.{TileMesh}
 use Rattle.mesh_types.specs.Contours.{edge_beginning, edge_ending, region_at}
-use Rattle.mesh_types.specs.ContourMeshes.{belongs_to, cells_of, code_between, contour_mesh_of, contour_of, crosses_at, crossing_cell, crossing_pair, door_entries, door_entry, door_rim, doors_of, end_position, facets_of, first_position, is_listed, is_of, is_on_line, is_same_door, lies_on, names_side, no_part, parts_mesh, parts_of, point_position, positions_of, runs_over, side_entries, side_of}
+use Rattle.mesh_types.specs.ContourMeshes.{belongs_to, cells_of, code_between, contour_mesh_of, contour_of, crossing_cell, crossing_pair, door_entries, door_entry, door_rim, doors_of, end_position, facets_of, first_position, is_listed, is_on_line, is_same_door, lies_on, names_side, parts_mesh, parts_of, point_position, positions_of, runs_over, side_entries, side_of}
+use Rattle.mesh_types.proofs.Words.{crosses_at, is_of}
+use Rattle.mesh_types.specs.Words.{no_part}
 use Rattle.mesh_types.specs.Passages.{ListsCrossings, is_listing}
 use Rattle.mesh_types.specs.Regions.{AreRegionsOf, regions_of}
 use Rattle.mesh_types.specs.Rings.{IsRing}

@@ -5,7 +5,9 @@ use Rattle.std.specs.List.{flat_map, range_with_len}
 use Rattle.std.proofs.lemmas.List.{append-nil, append_assoc, length-append, length-take-le, take-append-drop, take_more}
 use Rattle.std.proofs.lemmas.List.Elements.{All-append, All-nil}
 use Rattle.mesh_types.specs.declared.door.Part.{Part}
-use Rattle.mesh_types.specs.ContourMeshes.{Facet, facets_of, doors_of, facet_doors, no_part, no_facet}
+use Rattle.mesh_types.specs.ContourMeshes.{Facet, facets_of, doors_of, facet_doors}
+use Rattle.mesh_types.proofs.Words.{no_facet}
+use Rattle.mesh_types.specs.Words.{no_part}
 use Rattle.contour_mesh.specs.Parts.{numbered, facets_at}
 
 pub numbered-append : {A B : Type 0} (f : ℕ → A → List B) (n : ℕ) (xs ys : List A)

@@ -11,7 +11,8 @@ use Rattle.std.proofs.lemmas.Slice.Zip.{length-zip, get_or-zip}
 use Rattle.nav_base.specs.Convex.{place_after}
 use Rattle.mesh_types.specs.declared.region.UnitEdge.{UnitEdge}
 use Rattle.mesh_types.specs.Rings.{beginnings}
-use Rattle.mesh_types.specs.Simplified.{changes, does_change, extremes, kept_places, runs_between, stops}
+use Rattle.mesh_types.specs.Simplified.{changes, does_change, extremes, kept_places, stops}
+use Rattle.mesh_types.specs.Words.{runs_between}
 use Rattle.mesh_types.proofs.Gathered.{Contains-filter}
 use Rattle.contour_mesh.proofs.RingWalks.{turn, turn_low, turn_high}
 

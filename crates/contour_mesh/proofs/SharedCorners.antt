@@ -11,7 +11,8 @@ use Rattle.mesh_types.specs.declared.region.UnitEdge.{UnitEdge}
 use Rattle.mesh_types.specs.Choices.{first_best_place}
 use Rattle.mesh_types.specs.LinkOrder.{is_point_before}
 use Rattle.mesh_types.specs.Rings.{AreApart, beginnings, place_before}
-use Rattle.mesh_types.specs.Simplified.{changes, deviates_more, deviates_over, does_change, kept_corners, kept_inside, kept_walking, left_of_run, origin, runs_between, stops, twice_round}
+use Rattle.mesh_types.specs.Simplified.{changes, deviates_more, deviates_over, does_change, kept_corners, kept_inside, kept_walking, left_of_run, origin, stops}
+use Rattle.mesh_types.specs.Words.{runs_between, twice_round}
 use Rattle.mesh_types.proofs.Gathered.{Contains-flat_map}
 use Rattle.contour_simplify.proofs.Bests.{best_there}
 use Rattle.contour_simplify.proofs.Deviations.{deviations_order}

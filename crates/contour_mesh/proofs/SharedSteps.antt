@@ -18,7 +18,8 @@ use Rattle.mesh_types.specs.declared.region.Code.{Code}
 use Rattle.mesh_types.specs.declared.region.UnitEdge.{UnitEdge}
 use Rattle.mesh_types.specs.LinkOrder.{point_cmp}
 use Rattle.mesh_types.specs.Rings.{beginnings, place_before}
-use Rattle.mesh_types.specs.Simplified.{begins_among, changes, codes_of, does_change, is_among, kept_corners, kept_edges, origin}
+use Rattle.mesh_types.specs.Simplified.{begins_among, changes, does_change, kept_corners, kept_edges, origin}
+use Rattle.mesh_types.specs.Words.{codes_of, is_among}
 use Rattle.mesh_types.proofs.LinkOrderLaws.{point_total, points_tie}
 use Rattle.contour_mesh.specs.SharedEdges.{HasEdge}
 use Rattle.contour_mesh.proofs.RingStops.{AreNext, below, index_of, listed_next, next_is, next_of, passing}

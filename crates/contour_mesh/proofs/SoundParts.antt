@@ -18,7 +18,8 @@ use Rattle.mesh_types.specs.declared.outline.Simplified.TheVariants.{Flat, Outli
 use Rattle.mesh_types.specs.declared.door.Part.{Part}
 use Rattle.mesh_types.specs.Regions.{AreRegionsOf}
 use Rattle.mesh_types.specs.Rings.{AreApart, IsRing, beginnings}
-use Rattle.mesh_types.specs.Simplified.{begins_among, codes_of, kept_corners, kept_edges, simplified_of}
+use Rattle.mesh_types.specs.Simplified.{begins_among, kept_corners, kept_edges, simplified_of}
+use Rattle.mesh_types.specs.Words.{codes_of}
 use Rattle.mesh_types.specs.Ears.{ears_of}
 use Rattle.mesh_types.specs.Edges.{HaveEdgesOnce, KeepOutline}
 use Rattle.mesh_types.specs.Merging.{merged}

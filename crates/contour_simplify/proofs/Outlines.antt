@@ -21,7 +21,8 @@ use Rattle.mesh_types.specs.declared.outline.Outline as outlines
 use Rattle.mesh_types.specs.declared.outline.Simplified.TheVariants.{Flat, Outline}
 use Rattle.mesh_types.specs.Rings.{IsRing, beginnings}
 use Rattle.mesh_types.specs.LinkOrder.{point_cmp}
-use Rattle.mesh_types.specs.Simplified.{runs_between, twice_round, kept_corners, kept_edges, begins_among, codes_of, simplified_of, IsOutline, IfOutline}
+use Rattle.mesh_types.specs.Simplified.{kept_corners, kept_edges, begins_among, simplified_of, IsOutline, IfOutline}
+use Rattle.mesh_types.specs.Words.{runs_between, twice_round, codes_of}
 use Rattle.mesh_types.proofs.RingLaws.{few_edges}
 
 -- what the kept edges of a list give, where one edge more is kept, and where it is left

@@ -16,7 +16,8 @@ use Rattle.mesh_types.specs.declared.region.UnitEdge.{UnitEdge}
 use Rattle.mesh_types.specs.Rings.{IsRing, beginnings}
 use Rattle.mesh_types.specs.LinkOrder.{is_point_before}
 use Rattle.mesh_types.specs.Choices.{first_best_place}
-use Rattle.mesh_types.specs.Simplified.{does_change, changes, extremes, kept_places, stops, twice_round, origin}
+use Rattle.mesh_types.specs.Simplified.{does_change, changes, extremes, kept_places, stops, origin}
+use Rattle.mesh_types.specs.Words.{twice_round}
 use Rattle.contour_simplify.specs.Rounds.{AreStops}
 use Rattle.contour_simplify.proofs.Bests.{best_there}
 use Rattle.mesh_types.proofs.LinkOrderLaws.{points_order, points_tie}

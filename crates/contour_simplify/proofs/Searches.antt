@@ -8,7 +8,7 @@ use Rattle.std.proofs.lemmas.List.Folds.{list_any_at, list_any_none}
 use Rattle.std.proofs.lemmas.List.Sorted.{searchable_from_sorted}
 use Rattle.nav_base.specs.declared.point.Point.{Point}
 use Rattle.mesh_types.specs.LinkOrder.{point_cmp, is_point_before}
-use Rattle.mesh_types.specs.Simplified.{is_among}
+use Rattle.mesh_types.specs.Words.{is_among}
 use Rattle.mesh_types.proofs.LinkOrderLaws.{point_total}
 
 -- the search finds a corner exactly where it is one of them

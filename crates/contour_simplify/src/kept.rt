@@ -4,7 +4,8 @@ ghost use Rattle.std.specs.Prelude.{◌≡◌, ◌++◌, ◌<◌, IfOk, OnOk, Al
 ghost use Rattle.std.specs.List.{flat_map};
 ghost use Rattle.nav_base.specs.Point.{IsCellCorner};
 ghost use Rattle.mesh_types.specs.Rings.{beginnings};
-ghost use Rattle.mesh_types.specs.Simplified.{twice_round, left_of_run, runs_between};
+ghost use Rattle.mesh_types.specs.Simplified.{left_of_run};
+ghost use Rattle.mesh_types.specs.Words.{twice_round, runs_between};
 ghost use Rattle.contour_simplify.specs.Rounds.{AreStops};
 
 use crate::run::simplify_run;

@@ -4,7 +4,8 @@ ghost use Rattle.std.specs.Prelude.{◌≡◌, ◌↔◌, ◌<◌, ◌++◌, [],
 ghost use Rattle.std.specs.List.Sorted.{IsSortedBy};
 ghost use Rattle.mesh_types.specs.Rings.{IsRing, beginnings};
 ghost use Rattle.mesh_types.specs.LinkOrder.{is_point_before};
-ghost use Rattle.mesh_types.specs.Simplified.{simplified_of, IsOutline, IfOutline, kept_edges, begins_among, codes_of, is_among};
+ghost use Rattle.mesh_types.specs.Simplified.{simplified_of, IsOutline, IfOutline, kept_edges, begins_among};
+ghost use Rattle.mesh_types.specs.Words.{codes_of, is_among};
 
 use crate::kept::{kept_corners, twice_round};
 use crate::run::corner_order;

@@ -4,7 +4,7 @@ ghost use Rattle.std.specs.Prelude.{◌≡◌, ◌<◌, ◌≤◌, ◌+◌, leng
 ghost use Rattle.std.specs.List.{range_with_len};
 ghost use Rattle.nav_base.specs.Point.{HasCoordinates};
 ghost use Rattle.mesh_types.specs.Ears.{AreEarsOf, CanBeCut, IsTriangleOf, outline_area, turn_of, turns_of};
-ghost use Rattle.mesh_types.specs.Merging.{piece_of};
+ghost use Rattle.mesh_types.specs.Words.{piece_of};
 ghost use Rattle.mesh_types.specs.Edges.{HaveEdgesOnce, KeepOutline};
 ghost use Rattle.ear_cut.specs.Refused.{IsLeft};
 

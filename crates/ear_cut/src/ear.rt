@@ -5,7 +5,8 @@ ghost use Rattle.std.specs.List.{list_any};
 ghost use Rattle.std.specs.Option.{option_map_or};
 ghost use Rattle.nav_base.specs.Point.{HasCoordinates};
 ghost use Rattle.mesh_types.specs.Choices.{or_later};
-ghost use Rattle.mesh_types.specs.Ears.{ArePlacesOf, IsTriangleOf, best_ear, is_blocked_by, is_ear, is_narrower, triangle_at};
+ghost use Rattle.mesh_types.specs.Ears.{ArePlacesOf, IsTriangleOf, best_ear, is_blocked_by, is_ear, triangle_at};
+ghost use Rattle.mesh_types.specs.Words.{is_narrower};
 ghost use Rattle.mesh_types.specs.Rings.{place_before};
 
 use crate::triangle::{is_blocked_by, runs_counterclockwise, width};

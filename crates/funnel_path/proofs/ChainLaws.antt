@@ -6,7 +6,8 @@ use Rattle.std.proofs.lemmas.List.{get_or_default}
 use Rattle.std.proofs.Math.ListN.{get_or-eq_default}
 use Rattle.nav_base.specs.declared.point.Point.{Point}
 use Rattle.mesh_types.specs.declared.links.Portal.{Portal}
-use Rattle.mesh_types.specs.Chains.{IsChain, IsBehind, IsAhead, portal_at, points_before, points_after, some_portal}
+use Rattle.mesh_types.specs.Chains.{IsChain, IsBehind, IsAhead, portal_at, points_before, points_after}
+use Rattle.mesh_types.proofs.Words.{some_portal}
 use Rattle.funnel_path.specs.Cone.{portal_or_goal}
 
 -- both ends of a portal lie behind another, or ahead of it

@@ -8,7 +8,8 @@ use Rattle.mesh_types.specs.declared.links.Portal.{Portal}
 use Rattle.mesh_types.specs.declared.corner.Side.{Side}
 use Rattle.mesh_types.specs.declared.corner.Side.TheVariants.{L, R}
 use Rattle.mesh_types.specs.declared.corner.Corner.{Corner}
-use Rattle.mesh_types.specs.Chains.{IsAhead, IsBehind, IsChain, portal_at, some_portal}
+use Rattle.mesh_types.specs.Chains.{IsAhead, IsBehind, IsChain, portal_at}
+use Rattle.mesh_types.proofs.Words.{some_portal}
 use Rattle.mesh_types.specs.Taut.{IsNamed, end_of}
 use Rattle.funnel_path.specs.declared.wedge.Wedge.{Wedge}
 use Rattle.funnel_path.specs.Coordinates.{HasEndCoordinates}

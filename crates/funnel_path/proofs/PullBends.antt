@@ -5,7 +5,8 @@ use Rattle.mesh_types.specs.declared.links.Portal.{Portal}
 use Rattle.mesh_types.specs.declared.corner.Side.{Side}
 use Rattle.mesh_types.specs.declared.corner.Corner.{Corner}
 use Rattle.mesh_types.specs.Chains.{IsFold, portal_at}
-use Rattle.mesh_types.specs.Taut.{HasSide, IsBend, IsFoldedOn, IsHeld, IsHolding, Stop, corner_of, other_end_of, stop_at}
+use Rattle.mesh_types.specs.Taut.{HasSide, IsBend, IsFoldedOn, IsHolding, Stop, corner_of, other_end_of, stop_at}
+use Rattle.mesh_types.proofs.Words.{IsHeld}
 
 -- ---- stops and corners that two paths have in common
 

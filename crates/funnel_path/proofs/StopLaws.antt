@@ -4,7 +4,8 @@ use Rattle.std.proofs.lemmas.List.{get_or-map, get_or_append_left, get_or-append
 use Rattle.nav_base.specs.declared.point.Point.{Point}
 use Rattle.mesh_types.specs.declared.links.Portal.{Portal}
 use Rattle.mesh_types.specs.declared.corner.Corner.{Corner}
-use Rattle.mesh_types.specs.Taut.{Stop, corner_stop, some_corner, some_stop, stop_at, stops_of}
+use Rattle.mesh_types.specs.Taut.{Stop, some_corner, stop_at, stops_of}
+use Rattle.mesh_types.proofs.Words.{corner_stop, some_stop}
 
 abbrev pub start_stop : Point → Stop
 start_stop start = record { at = start; number = 0 }

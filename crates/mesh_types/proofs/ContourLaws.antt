@@ -24,7 +24,8 @@ use Rattle.mesh_types.specs.Contours.{rim_of, IsContour}
 use Rattle.mesh_types.specs.Ears.{is_same_point}
 use Rattle.mesh_types.specs.LinkOrder.{is_point_before}
 use Rattle.mesh_types.specs.Rings.{beginnings, IsRing}
-use Rattle.mesh_types.specs.ContourMeshes.{begins_at, begins_before, walk_from, once_round, contour_of}
+use Rattle.mesh_types.specs.ContourMeshes.{walk_from, once_round, contour_of}
+use Rattle.mesh_types.proofs.Words.{begins_at, begins_before}
 use Rattle.mesh_types.proofs.ChoiceLaws.{first_best-all}
 use Rattle.mesh_types.proofs.LinkOrderLaws.{point_total, points_tie}
 

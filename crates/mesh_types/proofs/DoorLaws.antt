@@ -34,7 +34,9 @@ use Rattle.mesh_types.specs.BorderLinks.{scaled}
 use Rattle.mesh_types.specs.Soundness.{IsInnerLink, LeadsThrough, LiesAlong, along}
 use Rattle.mesh_types.specs.Ears.{is_same_point}
 use Rattle.mesh_types.specs.Merging.{edge_end}
-use Rattle.mesh_types.specs.ContourMeshes.{Facet, are_facing, door_link, door_links, door_over, doors_of, facet_doors, facet_polygon, link_through, names_region, no_facet, no_part, share_corners, share_places}
+use Rattle.mesh_types.specs.ContourMeshes.{Facet, are_facing, door_link, door_links, door_over, doors_of, facet_doors, facet_polygon, link_through, names_region, share_corners, share_places}
+use Rattle.mesh_types.proofs.Words.{no_facet}
+use Rattle.mesh_types.specs.Words.{no_part}
 use Rattle.mesh_types.proofs.ContourLaws.{found_all, same_point}
 use Rattle.mesh_types.proofs.FacetLaws.{IsFacetOf}
 use Rattle.mesh_types.proofs.Gathered.{gathered_all}

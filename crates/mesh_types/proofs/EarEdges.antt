@@ -18,7 +18,8 @@ use Rattle.nav_base.proofs.ConvexLaws.{place_after-in}
 use Rattle.mesh_types.specs.declared.outline.Triangle.{Triangle}
 use Rattle.mesh_types.specs.declared.outline.Piece.{Piece}
 use Rattle.mesh_types.specs.Ears.{best_ear, cut_ears, ears_of, put_before, triangle_at, turn_of}
-use Rattle.mesh_types.specs.Merging.{edge_end, piece_of}
+use Rattle.mesh_types.specs.Merging.{edge_end}
+use Rattle.mesh_types.specs.Words.{piece_of}
 use Rattle.mesh_types.specs.Rings.{place_before}
 use Rattle.mesh_types.proofs.EarLaws.{best_ear-is, place_before-in}
 use Rattle.mesh_types.proofs.Totals.{once_in_range, sum_by-range_same, sum_by-zero}

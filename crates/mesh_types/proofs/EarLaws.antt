@@ -18,7 +18,8 @@ use Rattle.nav_base.proofs.ConvexLaws.{place_after-in}
 use Rattle.nav_base.specs.declared.point.Point.{Point}
 use Rattle.mesh_types.specs.declared.outline.Triangle.{Triangle}
 use Rattle.mesh_types.specs.Choices.{or_later, first_best}
-use Rattle.mesh_types.specs.Ears.{ArePlacesOf, IsTriangleOf, turn_of, triangle_at, is_ear, is_narrower, width_at, best_ear, put_before, last_cut, cut_ears, ears_of}
+use Rattle.mesh_types.specs.Ears.{ArePlacesOf, IsTriangleOf, turn_of, triangle_at, is_ear, width_at, best_ear, put_before, last_cut, cut_ears, ears_of}
+use Rattle.mesh_types.specs.Words.{is_narrower}
 use Rattle.mesh_types.specs.Rings.{place_before}
 use Rattle.mesh_types.proofs.ChoiceLaws.{first_best-push, first_best-all, filter-passes}
 

@@ -15,7 +15,8 @@ use Rattle.nav_ground.specs.Tiling.{tile_count, tile_window, is_in_window}
 use Rattle.nav_ground.specs.Clearance.{is_kept, cells_in}
 use Rattle.nav_ground.specs.Layers.{cells_of, kept_cells_of, layer_cell, layer_of, layers_of}
 use Rattle.nav_ground.specs.Grounds.{IsGround}
-use Rattle.nav_ground.specs.FreeCells.{is_taken, is_free, free_cell_of, free_layer_of}
+use Rattle.nav_ground.specs.FreeCells.{is_taken, free_cell_of, free_layer_of}
+use Rattle.nav_ground.proofs.Words.{is_free}
 use Rattle.nav_ground.proofs.Kept.{few_kept}
 use Rattle.nav_ground.proofs.LayerLaws.{cells_rules}
 use Rattle.mesh_types.proofs.Totals.{sum_by-map, sum_by-one, sum_by-shared, once_in_range}

@@ -1,3 +1,4 @@
+pub mod Words
 pub mod Keyed
 pub mod Starts
 pub mod Labels

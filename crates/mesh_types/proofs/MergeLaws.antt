@@ -15,7 +15,9 @@ use Rattle.nav_base.proofs.ConvexLaws.{IsStrictlyConvex-triangle}
 use Rattle.mesh_types.specs.declared.outline.Triangle.{Triangle}
 use Rattle.mesh_types.specs.declared.outline.Piece.{Piece}
 use Rattle.mesh_types.specs.Ears.{ArePlacesOf, IsTriangleOf, turn_of}
-use Rattle.mesh_types.specs.Merging.{IsPieceOf, Merge, best_merge, is_admissible, is_convex, is_longer, joined, lies_left, merge_all, merged, merges_of, past_edge, piece_of, places_at, union_of}
+use Rattle.mesh_types.specs.Merging.{IsPieceOf, Merge, best_merge, is_admissible, is_convex, joined, lies_left, merge_all, merged, merges_of, past_edge, places_at, union_of}
+use Rattle.mesh_types.proofs.Words.{is_longer}
+use Rattle.mesh_types.specs.Words.{piece_of}
 use Rattle.mesh_types.proofs.ChoiceLaws.{first_best-all, filter-passes}
 use Rattle.mesh_types.proofs.EarLaws.{AreTriangles, lt_z_true}
 

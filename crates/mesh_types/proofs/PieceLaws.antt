@@ -9,7 +9,9 @@ use Rattle.nav_ground.proofs.Found.{found_in}
 use Rattle.mesh_types.specs.declared.outline.Triangle.{Triangle}
 use Rattle.mesh_types.specs.declared.outline.Piece.{Piece}
 use Rattle.mesh_types.specs.Ears.{AreEarsOf}
-use Rattle.mesh_types.specs.Merging.{IsPieceOf, Merge, best_merge, is_admissible, is_facing, is_longer, joined, merge_all, merge_over, merged, merges_between, merges_from, merges_of, piece_of, places_at}
+use Rattle.mesh_types.specs.Merging.{IsPieceOf, Merge, best_merge, is_admissible, is_facing, joined, merge_all, merge_over, merged, merges_between, merges_from, merges_of, places_at}
+use Rattle.mesh_types.proofs.Words.{is_longer}
+use Rattle.mesh_types.specs.Words.{piece_of}
 use Rattle.mesh_types.proofs.ChoiceLaws.{first_best-all, filter-passes}
 use Rattle.mesh_types.proofs.EarLaws.{ears_of-triangles}
 use Rattle.mesh_types.proofs.Gathered.{gathered_all}

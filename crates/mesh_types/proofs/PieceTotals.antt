@@ -25,12 +25,14 @@ use Rattle.mesh_types.specs.declared.outline.Triangle.{Triangle}
 use Rattle.mesh_types.specs.declared.region.Regions.{Regions}
 use Rattle.mesh_types.specs.declared.region.UnitEdge.{UnitEdge}
 use Rattle.mesh_types.specs.Choices.{first_best, or_earlier}
-use Rattle.mesh_types.specs.ContourMeshes.{begins_at, begins_before, walk_from, once_round, contour_of, cut_part, part_of, region_part}
+use Rattle.mesh_types.specs.ContourMeshes.{walk_from, once_round, contour_of, cut_part, part_of, region_part}
+use Rattle.mesh_types.proofs.Words.{begins_at, begins_before}
 use Rattle.mesh_types.specs.Contours.{cell_in, edge_of, is_rim, places_in, rim_edges_of, rim_of}
 use Rattle.mesh_types.specs.Ears.{ears_of}
-use Rattle.mesh_types.specs.Merging.{Merge, best_merge, is_admissible, is_convex, joined, merge_all, merged, piece_of, union_of}
+use Rattle.mesh_types.specs.Merging.{Merge, best_merge, is_admissible, is_convex, joined, merge_all, merged, union_of}
+use Rattle.mesh_types.specs.Words.{piece_of, codes_of}
 use Rattle.mesh_types.specs.Rings.{beginnings}
-use Rattle.mesh_types.specs.Simplified.{begins_among, codes_of, kept_corners, kept_edges, simplified_of}
+use Rattle.mesh_types.specs.Simplified.{begins_among, kept_corners, kept_edges, simplified_of}
 use Rattle.mesh_types.proofs.EarLaws.{ears_of-triangles}
 use Rattle.mesh_types.proofs.MergeLaws.{best_merge-admissible}
 

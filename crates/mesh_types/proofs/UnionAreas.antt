@@ -13,7 +13,8 @@ use Rattle.nav_base.proofs.OrientLaws.{cross_of-exchanged}
 use Rattle.mesh_types.specs.declared.outline.Triangle.{Triangle}
 use Rattle.mesh_types.specs.declared.outline.Piece.{Piece}
 use Rattle.mesh_types.specs.Ears.{area_of, turns_of}
-use Rattle.mesh_types.specs.Merging.{IsPieceOf, Merge, areas_of, is_facing, joined, piece_of, places_at, union_of}
+use Rattle.mesh_types.specs.Merging.{IsPieceOf, Merge, areas_of, is_facing, joined, places_at, union_of}
+use Rattle.mesh_types.specs.Words.{piece_of}
 use Rattle.mesh_types.proofs.AreaLaws.{three_sides}
 use Rattle.mesh_types.proofs.Rounds.{round-union}
 use Rattle.mesh_types.proofs.MergeLaws.{piece_at}

@@ -11,7 +11,8 @@ use Rattle.nav_base.specs.Convex.{place_after}
 use Rattle.mesh_types.specs.declared.outline.Triangle.{Triangle}
 use Rattle.mesh_types.specs.declared.outline.Piece.{Piece}
 use Rattle.mesh_types.specs.Ears.{AreEarsOf}
-use Rattle.mesh_types.specs.Merging.{IsPieceOf, Merge, joined, merged, piece_of, places_at, union_of}
+use Rattle.mesh_types.specs.Merging.{IsPieceOf, Merge, joined, merged, places_at, union_of}
+use Rattle.mesh_types.specs.Words.{piece_of}
 use Rattle.mesh_types.proofs.EarLaws.{ears_of-triangles}
 use Rattle.mesh_types.proofs.MergeLaws.{triangles-pieces}
 use Rattle.mesh_types.proofs.PieceLaws.{JoinsTwo, best_merge-joins, merge_all-keeps}

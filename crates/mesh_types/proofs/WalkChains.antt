@@ -10,7 +10,8 @@ use Rattle.mesh_types.specs.declared.links.Link.{Link}
 use Rattle.mesh_types.specs.declared.links.PolyRef.{PolyRef}
 use Rattle.mesh_types.specs.declared.links.Portal.{Portal}
 use Rattle.mesh_types.specs.declared.mesh.Mesh.{Mesh}
-use Rattle.mesh_types.specs.Chains.{some_portal, portal_at, IsBehind, IsAhead, points_before, points_after, IsChain}
+use Rattle.mesh_types.specs.Chains.{portal_at, IsBehind, IsAhead, points_before, points_after, IsChain}
+use Rattle.mesh_types.proofs.Words.{some_portal}
 use Rattle.mesh_types.specs.Corridors.{IsLinkOf, WalksTo}
 use Rattle.mesh_types.specs.Right.{portals_of}
 use Rattle.mesh_types.specs.Soundness.{IsSound}

@@ -30,8 +30,7 @@ HasOnePair tile = (pair : ℕ → ℕ → ℕ → ℕ → LevelPair) × All (Nam
 -- two pairs name each other: the own level of each is the other level of the other
 abbrev pub are_meeting : Option LevelPair → Option LevelPair → Bool
 are_meeting (Some a) (Some b) = a.own == b.other && a.other == b.own
-are_meeting (Some a) None = false
-are_meeting None b = false
+are_meeting _ _ = false
 
 -- for each position of an entry a label where it meets another entry there
 abbrev pub meetings : RimEdge → RimEdge → List (Option ℕ)

@@ -4,13 +4,9 @@ use Rattle.nav_base.specs.declared.point.Point.{Point}
 use Rattle.nav_base.specs.Point.{orient_of, dot_of, from_to}
 use Rattle.mesh_types.specs.declared.links.Portal.{Portal}
 
--- a portal that stands for none
-abbrev pub some_portal : Portal
-some_portal = record { left = record { x = pos 0; z = pos 0 }; right = record { x = pos 0; z = pos 0 } }
-
 -- the portal at a place
 abbrev pub portal_at : List Portal → ℕ → Portal
-portal_at portals m = get_or portals m some_portal
+portal_at portals m = get_or portals m (record { left = record { x = pos 0; z = pos 0 }; right = record { x = pos 0; z = pos 0 } })
 
 -- a point lies behind a portal or on its line, and in front of it or on its line
 abbrev pub IsBehind : Portal → Point → Type 0

@@ -15,7 +15,7 @@ use Rattle.nav_ground.specs.Tiling.{tile_window}
 use Rattle.mesh_types.specs.declared.region.Regions.{Regions}
 use Rattle.mesh_types.specs.declared.region.UnitEdge.{UnitEdge}
 use Rattle.mesh_types.specs.declared.region.Code.{Code}
-use Rattle.mesh_types.specs.declared.region.Code.TheVariants.{Wall, Region, Side}
+use Rattle.mesh_types.specs.declared.region.Code.TheVariants.{Region, Side}
 use Rattle.mesh_types.specs.declared.outline.Outline as outlines
 use Rattle.mesh_types.specs.declared.outline.Triangle.{Triangle}
 use Rattle.mesh_types.specs.declared.outline.Piece.{Piece}
@@ -42,22 +42,14 @@ use Rattle.mesh_types.specs.Merging.{edge_end, merged}
 
 -- ---- contours, one for each region
 
--- an edge begins at a corner
-abbrev pub begins_at : Point → UnitEdge → Bool
-begins_at corner edge = is_same_point edge.from corner
-
--- the one edge begins before the other
-abbrev pub begins_before : UnitEdge → UnitEdge → Bool
-begins_before a b = is_point_before a.from b.from
-
 -- an edge of a rim, and one after the other the edges that begin where the one before ends, at most so many more
 unfoldable pub walk_from : List UnitEdge → ℕ → UnitEdge → List UnitEdge
 walk_from rim zero edge = edge ∷ []
-walk_from rim (suc most) edge = edge ∷ option_map_or (walk_from rim most) (find (begins_at edge.to) rim) []
+walk_from rim (suc most) edge = edge ∷ option_map_or (walk_from rim most) (find (λ (next : UnitEdge). is_same_point next.from edge.to) rim) []
 
 -- once round a rim, from the least corner
 unfoldable pub once_round : List UnitEdge → List UnitEdge
-once_round rim = option_map_or (walk_from rim (length rim - 1)) (first_best begins_before rim) []
+once_round rim = option_map_or (walk_from rim (length rim - 1)) (first_best (λ (a b : UnitEdge). is_point_before a.from b.from) rim) []
 
 -- the contour of a region
 abbrev pub contour_of : Window → List Cell → Regions → ℕ → List UnitEdge
@@ -98,26 +90,16 @@ pub record Facet : Type 0 where
   pub outline : outlines.Outline
   pub places : List ℕ
 
--- the part and the facet read past the end of a list
-abbrev pub no_part : Part
-no_part = record { outline = record { corners = []; codes = [] }; pieces = [] }
-
-abbrev pub no_facet : Facet
-no_facet = record { region = 0; outline = record { corners = []; codes = [] }; places = [] }
-
 -- the facets: the pieces of region 0, then those of region 1, and so on
 abbrev pub facets_in : Part → ℕ → List Facet
 facets_in part region = map (λ (piece : Piece). record { region = region; outline = part.outline; places = piece.corners }) part.pieces
 
 unfoldable pub facets_of : List Part → List Facet
-facets_of parts = flat_map (λ region. facets_in (get_or parts region no_part) region) (range_with_len 0 (length parts))
+facets_of parts = flat_map (λ region. facets_in (get_or parts region (record { outline = record { corners = []; codes = [] }; pieces = [] })) region) (range_with_len 0 (length parts))
 
 -- the cells of a region
-abbrev pub is_of : Regions → ℕ → Cell → Bool
-is_of regions id cell = option_map_or (λ r. r == id) (region_at regions cell.at) false
-
 abbrev pub cells_of : List Cell → Regions → ℕ → List Cell
-cells_of cells regions id = filter (is_of regions id) cells
+cells_of cells regions id = filter (λ (cell : Cell). option_map_or (λ r. r == id) (region_at regions cell.at) false) cells
 
 -- the polygon of a facet, with the area of its region's cells, and the least and the greatest floor of them
 abbrev pub facet_polygon : List Cell → Regions → Facet → Polygon
@@ -157,7 +139,7 @@ facet_doors polygon facet = map (door_over polygon facet) (range_with_len 0 (len
 
 -- the doors: polygon by polygon, edge by edge
 unfoldable pub doors_of : List Facet → List Door
-doors_of facets = flat_map (λ polygon. facet_doors polygon (get_or facets polygon no_facet)) (range_with_len 0 (length facets))
+doors_of facets = flat_map (λ polygon. facet_doors polygon (get_or facets polygon (record { region = 0; outline = record { corners = []; codes = [] }; places = [] }))) (range_with_len 0 (length facets))
 
 -- ---- inner links
 
@@ -168,9 +150,7 @@ share_places a b = a.region == b.region && a.from == b.to && a.to == b.from
 -- a code names a region
 abbrev pub names_region : Option Code → ℕ → Bool
 names_region (Some (Region id)) region = id == region
-names_region (Some (Side side)) region = false
-names_region (Some Wall) region = false
-names_region None region = false
+names_region _ region = false
 
 -- two doors join the same two corners in opposite directions, and their codes name each other's regions
 abbrev pub share_corners : Door → Door → Bool
@@ -203,9 +183,7 @@ door_links tile doors = ordered_links (filter_map (link_through tile doors) door
 -- a code names a side of the tile
 abbrev pub names_side : Option Code → ℕ → Bool
 names_side (Some (Side own)) side = own == side
-names_side (Some (Region id)) side = false
-names_side (Some Wall) side = false
-names_side None side = false
+names_side _ side = false
 
 -- a point lies on the line of a side of the tile
 abbrev pub is_on_line : Window → ℕ → Point → Bool
@@ -250,11 +228,8 @@ abbrev pub belongs_to : Window → List Door → ℕ → Door → ℕ → Bool
 belongs_to window doors side door position = option_map_or (is_same_door door) (find (runs_over window door.region side position) doors) false
 
 -- the cell of a region at a position of a side that has a kept neighbour across
-abbrev pub crosses_at : Window → ℕ → ℕ → Cell → Bool
-crosses_at window side position cell = is_crossing window side cell && position_of side cell.at == position
-
 abbrev pub crossing_cell : Window → List Cell → Regions → ℕ → ℕ → ℕ → Option Cell
-crossing_cell window cells regions region side position = find (crosses_at window side position) (cells_of cells regions region)
+crossing_cell window cells regions region side position = find (λ (cell : Cell). is_crossing window side cell && position_of side cell.at == position) (cells_of cells regions region)
 
 -- what the rim lists for a door along a run of its positions
 abbrev pub crossing_pair : Window → List Cell → Regions → ℕ → ℕ → ℕ → LevelPair

@@ -1,6 +1,7 @@
 -- Corridors: walks over links, what they cost, and the cheapest.
 use Rattle.std.specs.Prelude.{◌≡◌, ℕ, ◌*◌, ◌≤◌, max, ℤ, pos, ◌+ℤ◌, ◌*ℤ◌, List, [], ◌∷◌, map, slice_get, slice_index, Some, Contains, ◌⊎◌}
-use Rattle.std.specs.List.{sum_by}
+use Rattle.std.specs.List.{fold, sum_by}
+use Rattle.std.specs.Int.{int_min, int_max}
 use Rattle.std.specs.Option.{option_map_or}
 use Rattle.nav_base.specs.declared.point.Point.{Point}
 use Rattle.nav_base.specs.Point.{from_to}
@@ -13,7 +14,6 @@ use Rattle.mesh_types.specs.declared.polygon.Polygon.{Polygon}
 use Rattle.mesh_types.specs.declared.tile.TileMesh.{TileMesh}
 use Rattle.mesh_types.specs.declared.mesh.Mesh.{Mesh}
 use Rattle.mesh_types.specs.declared.corridor.Corridor.{Corridor}
-use Rattle.mesh_types.specs.Extents.{least_of, greatest_of}
 use Rattle.mesh_types.specs.WholeMesh.{poly_at}
 
 -- the middle of a polygon's box, in sixteenths of a cell
@@ -22,8 +22,8 @@ centre_of corners =
     let xs : List ℤ = map (λ (p : Point). p.x) corners in
     let zs : List ℤ = map (λ (p : Point). p.z) corners in
     record {
-      x = pos 8 *ℤ (least_of (corner_at corners 0).x xs +ℤ greatest_of (corner_at corners 0).x xs);
-      z = pos 8 *ℤ (least_of (corner_at corners 0).z zs +ℤ greatest_of (corner_at corners 0).z zs);
+      x = pos 8 *ℤ (fold int_min (corner_at corners 0).x xs +ℤ fold int_max (corner_at corners 0).x xs);
+      z = pos 8 *ℤ (fold int_min (corner_at corners 0).z zs +ℤ fold int_max (corner_at corners 0).z zs);
     }
 
 -- what a step from one polygon into another costs: the distance of their middles, rounded up and at least 1, times the cost of the area entered

@@ -69,13 +69,10 @@ is_ear corners rest i = lt_z (pos 0) (turn_of corners (triangle_at rest i)) && n
 abbrev pub width_at : List Point → List ℕ → ℕ → ℕ
 width_at corners rest i = square_of (from_to (corner_at corners (triangle_at rest i).a) (corner_at corners (triangle_at rest i).c))
 
--- the ear at the one position is narrower than at the other
-abbrev pub is_narrower : List Point → List ℕ → ℕ → ℕ → Bool
-is_narrower corners rest i j = nat_lt (width_at corners rest i) (width_at corners rest j)
-
 -- the position of the narrowest ear, and of equally narrow ones the first
 unfoldable pub best_ear : List Point → List ℕ → Option ℕ
-best_ear corners rest = first_best (is_narrower corners rest) (filter (is_ear corners rest) (range_with_len 0 (length rest)))
+best_ear corners rest =
+    first_best (λ i j. nat_lt (width_at corners rest i) (width_at corners rest j)) (filter (is_ear corners rest) (range_with_len 0 (length rest)))
 
 -- ---- the cut
 

@@ -31,3 +31,4 @@ pub mod Contours
 pub mod ContourMeshes
 pub mod StripCover
 pub mod Passages
+pub mod Words

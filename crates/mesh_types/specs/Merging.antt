@@ -28,10 +28,6 @@ is_convex corners =
 
 -- ---- the edges of pieces
 
--- a triangle as a piece
-abbrev pub piece_of : Triangle → Piece
-piece_of t = record { corners = t.a ∷ t.b ∷ t.c ∷ [] }
-
 -- the places of the piece that stands at an index
 abbrev pub places_at : List Piece → ℕ → List ℕ
 places_at pieces i = (slice_index_or pieces i (record { corners = [] })).corners
@@ -89,13 +85,10 @@ shared_length corners pieces m =
     let places = places_at pieces m.first in
     square_of (from_to (corner_at corners (slice_index places m.edge)) (corner_at corners (edge_end places m.edge)))
 
--- the one merge is over a longer edge than the other
-abbrev pub is_longer : List Point → List Piece → Merge → Merge → Bool
-is_longer corners pieces m other = nat_lt (shared_length corners pieces other) (shared_length corners pieces m)
-
 -- the admissible merge over the longest edge, and of equally long ones the first
 unfoldable pub best_merge : List Point → List Piece → Option Merge
-best_merge corners pieces = first_best (is_longer corners pieces) (filter (is_admissible corners pieces) (merges_of pieces))
+best_merge corners pieces = first_best (λ (m other : Merge). nat_lt (shared_length corners pieces other) (shared_length corners pieces m))
+    (filter (is_admissible corners pieces) (merges_of pieces))
 
 -- ---- merging
 
@@ -110,7 +103,8 @@ merge_all corners (suc more) pieces = option_map_or (λ m. merge_all corners mor
 
 -- the pieces of an outline that was cut into these triangles; each merge leaves one piece fewer, so there are fewer of them than triangles
 unfoldable pub merged : List Point → List Triangle → List Piece
-merged corners triangles = merge_all corners (length triangles) (map piece_of triangles)
+merged corners triangles =
+    merge_all corners (length triangles) (map (λ (t : Triangle). record { corners = t.a ∷ t.b ∷ t.c ∷ [] }) triangles)
 
 -- a piece of an outline: a strictly convex polygon with 3 to 6 of the outline's corners, counterclockwise
 pub record IsPieceOf (corners : List Point) (piece : Piece) : Type 0 where

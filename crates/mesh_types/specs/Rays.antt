@@ -31,10 +31,7 @@ pub record IsExit (polygon : Polygon) (to : Point) (edge : ℕ) : Type 0 where
   pub there : edge < length polygon.corners
   pub beyond : side_of polygon edge to <ℤ pos 0
 
--- the exit fraction, how far along the way between two points it meets the line of an edge: this numerator over this denominator
-abbrev pub exit_num : Polygon → Point → ℕ → ℤ
-exit_num polygon from edge = side_of polygon edge from
-
+-- the exit fraction, how far along the way between two points it meets the line of an edge, is on which side the first lies over this denominator
 abbrev pub exit_den : Polygon → Point → Point → ℕ → ℤ
 exit_den polygon from to edge = side_of polygon edge from -ℤ side_of polygon edge to
 
@@ -42,7 +39,7 @@ exit_den polygon from to edge = side_of polygon edge from -ℤ side_of polygon e
 pub record IsLeastExit (polygon : Polygon) (from to : Point) (edge : ℕ) : Type 0 where
   pub exit : IsExit polygon to edge
   pub least : (other : ℕ) → IsExit polygon to other
-      → (exit_num polygon from edge *ℤ exit_den polygon from to other) ≤ℤ (exit_num polygon from other *ℤ exit_den polygon from to edge)
+      → (side_of polygon edge from *ℤ exit_den polygon from to other) ≤ℤ (side_of polygon other from *ℤ exit_den polygon from to edge)
 
 -- of the exits of least fraction the first
 pub record IsFirstExit (polygon : Polygon) (from to : Point) (edge : ℕ) : Type 0 where
@@ -77,7 +74,7 @@ pub record IsWall (mesh : Mesh) (from to : Point) (at : PolyRef) (visited : List
   pub exit : IsFirstExit polygon from to edge
   pub begins : a ≡ edge_begin polygon edge
   pub ends : b ≡ edge_end polygon edge
-  pub num_is : num ≡ exit_num polygon from edge
+  pub num_is : num ≡ side_of polygon edge from
   pub den_is : den ≡ exit_den polygon from to edge
   pub closed : (link : Link) → LeadsOn mesh from to at visited link → ⊥
 

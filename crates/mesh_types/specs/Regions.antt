@@ -28,11 +28,8 @@ touches_only runs dir s t = is_touching runs dir s t && list_all (λ u. u == t |
 
 -- every column that two strips of successive rows both hold has its two cells connected: each cell of the lower strip over which the upper one
 -- has a cell is connected to it
-abbrev pub has_column : ℕ → List Cell → Bool
-has_column x run = list_any (λ (cell : Cell). cell.at.x == x) run
-
 abbrev pub are_connected : List Cell → List Cell → Bool
-are_connected lower upper = list_all (λ (cell : Cell). holds_named 1 cell upper || not (has_column cell.at.x upper)) lower
+are_connected lower upper = list_all (λ (cell : Cell). holds_named 1 cell upper || not (list_any (λ (over : Cell). over.at.x == cell.at.x) upper)) lower
 
 -- a strip joins one of the next row: each is the only strip that the other touches there, every common column is connected, and the areas
 -- are equal

@@ -5,7 +5,6 @@ use Rattle.std.specs.Prelude.{◌≡◌, ℕ, List, map, ⊤}
 use Rattle.nav_base.specs.declared.point.Point.{Point}
 use Rattle.nav_base.specs.declared.answers.Question.{Question}
 use Rattle.nav_base.specs.declared.answers.Question.TheVariants as questions
-use Rattle.nav_ground.specs.declared.cell.FreeLayer.{FreeLayer}
 use Rattle.mesh_types.specs.declared.answers.Answer.{Answer}
 use Rattle.mesh_types.specs.declared.answers.Answer.TheVariants.{Floors, Path, NoStart, NoGoal, NoPath, Reached, Wall}
 use Rattle.mesh_types.specs.declared.answers.PathFound.{PathFound}
@@ -21,10 +20,6 @@ use Rattle.mesh_types.specs.Floors.{floors_at}
 use Rattle.mesh_types.specs.Located.{HoldsAt, IsLocated}
 use Rattle.mesh_types.specs.Rays.{IsRayWalk}
 use Rattle.mesh_types.specs.Taut.{IsTaut}
-
--- the free cells of the tiles
-abbrev pub free_of : List TileMesh → List FreeLayer
-free_of tiles = map (λ (tile : TileMesh). tile.free) tiles
 
 -- the portals of a walk, one for each link
 abbrev pub portals_of : List Link → List Portal
@@ -63,19 +58,12 @@ IsRightPath mesh from from_y to to_y NoStart = IsNowhere mesh from from_y
 IsRightPath mesh from from_y to to_y NoGoal = HasNoGoal mesh from from_y to to_y
 IsRightPath mesh from from_y to to_y NoPath = HasNoPath mesh from from_y to to_y
 IsRightPath mesh from from_y to to_y (Path found) = IsPath mesh from from_y to to_y found
-IsRightPath mesh from from_y to to_y (Floors floors) = ⊥
-IsRightPath mesh from from_y to to_y (Reached at) = ⊥
-IsRightPath mesh from from_y to to_y (Wall a b num den) = ⊥
+IsRightPath mesh from from_y to to_y _ = ⊥
 
 -- right answers to the question for the floors of a column: those of its free cells
 abbrev pub IsRightFloors : Mesh → ℕ → ℕ → Answer → Type 0
-IsRightFloors mesh x z (Floors floors) = floors ≡ floors_at x z (free_of mesh.tiles)
-IsRightFloors mesh x z NoStart = ⊥
-IsRightFloors mesh x z NoGoal = ⊥
-IsRightFloors mesh x z NoPath = ⊥
-IsRightFloors mesh x z (Path found) = ⊥
-IsRightFloors mesh x z (Reached at) = ⊥
-IsRightFloors mesh x z (Wall a b num den) = ⊥
+IsRightFloors mesh x z (Floors floors) = floors ≡ floors_at x z (map (λ (tile : TileMesh). tile.free) mesh.tiles)
+IsRightFloors mesh x z _ = ⊥
 
 -- the start is held, and the ray walk begun in the polygon that locates it ends with this answer
 pub record IsRay (mesh : Mesh) (from : Point) (from_y : ℕ) (to : Point) (answer : RayAnswer) : Type 0 where
@@ -88,10 +76,7 @@ abbrev pub IsRightRay : Mesh → Point → ℕ → Point → Answer → Type 0
 IsRightRay mesh from from_y to NoStart = IsNowhere mesh from from_y
 IsRightRay mesh from from_y to (Reached at) = IsRay mesh from from_y to (rays.Reached at)
 IsRightRay mesh from from_y to (Wall a b num den) = IsRay mesh from from_y to (rays.Wall a b num den)
-IsRightRay mesh from from_y to NoGoal = ⊥
-IsRightRay mesh from from_y to NoPath = ⊥
-IsRightRay mesh from from_y to (Path found) = ⊥
-IsRightRay mesh from from_y to (Floors floors) = ⊥
+IsRightRay mesh from from_y to _ = ⊥
 
 -- an answer to a question is right in a mesh
 abbrev pub IsRight : Mesh → Question → Answer → Type 0

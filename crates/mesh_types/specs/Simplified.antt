@@ -74,10 +74,6 @@ extremes corners =
 unfoldable pub kept_places : List UnitEdge → List ℕ
 kept_places edges = if length (changes edges) == 0 then extremes (beginnings edges) else changes edges
 
--- the corners, twice round
-abbrev pub twice_round : List UnitEdge → List Point
-twice_round edges = beginnings edges ++ beginnings edges
-
 -- the kept places, and the first of them again, a round later
 unfoldable pub stops : List UnitEdge → List ℕ
 stops edges = kept_places edges ++ map (λ place. place + length edges) (take 1 (kept_places edges))
@@ -89,25 +85,13 @@ left_of_run error corners run =
     let b = get_or corners run.1 origin in
     a ∷ kept_inside error a (slice_range corners (run.0 + 1) run.1) b
 
--- the runs: from each stop to the next
-abbrev pub runs_between : List ℕ → List (ℕ × ℕ)
-runs_between places = zip places (drop 1 places)
-
--- all corners that are kept: those that the runs leave
+-- all corners that are kept: those that the runs leave, from each stop to the next, in the corners twice round
 unfoldable pub kept_corners : ℕ → List UnitEdge → List Point
-kept_corners error edges = flat_map (left_of_run error (twice_round edges)) (runs_between (stops edges))
-
--- the codes of edges
-abbrev pub codes_of : List UnitEdge → List Code
-codes_of edges = map (λ (edge : UnitEdge). edge.code) edges
-
--- the corner is one of these
-abbrev pub is_among : List Point → Point → Bool
-is_among corners corner = list_any (λ other. is_eq (point_cmp other corner)) corners
+kept_corners error edges = flat_map (left_of_run error (beginnings edges ++ beginnings edges)) (zip (stops edges) (drop 1 (stops edges)))
 
 -- the edge begins at one of these corners
 abbrev pub begins_among : List Point → UnitEdge → Bool
-begins_among corners edge = is_among corners edge.from
+begins_among corners edge = list_any (λ other. is_eq (point_cmp other edge.from)) corners
 
 -- the edges that begin at kept corners, in the contour's order; the corners of a ring differ, so that a point tells its place
 unfoldable pub kept_edges : ℕ → List UnitEdge → List UnitEdge
@@ -118,7 +102,7 @@ unfoldable pub simplified_of : ℕ → List UnitEdge → Simplified
 simplified_of error edges =
     let kept = kept_edges error edges in
     if nat_lt (length kept) 3 then Flat
-    else Outline (record { corners = beginnings kept; codes = codes_of kept })
+    else Outline (record { corners = beginnings kept; codes = map (λ (edge : UnitEdge). edge.code) kept })
 
 -- an outline can be cut: it has at least three corners and not too many; they are corners of cells, and each has a code
 pub record IsOutline (outline : outlines.Outline) : Type 0 where

@@ -7,7 +7,7 @@ use Rattle.mesh_types.specs.declared.corner.Side.{Side}
 use Rattle.mesh_types.specs.declared.corner.Side.TheVariants.{L, R}
 use Rattle.mesh_types.specs.declared.corner.Corner.{Corner}
 use Rattle.mesh_types.specs.Soundness.{along}
-use Rattle.mesh_types.specs.Chains.{portal_at, IsBehind, IsAhead, IsFold}
+use Rattle.mesh_types.specs.Chains.{portal_at, IsFold}
 
 -- the end of a portal on a side, and the other end
 abbrev pub end_of : Side → Portal → Point
@@ -34,18 +34,12 @@ pub record Stop : Type 0 where
   pub at : Point
   pub number : ℕ
 
-abbrev pub corner_stop : Corner → Stop
-corner_stop corner = record { at = corner.at; number = corner.portal + 1 }
-
 abbrev pub stops_of : Point → List Portal → Point → List Corner → List Stop
 stops_of start portals goal corners =
-    record { at = start; number = 0 } ∷ map corner_stop corners ++ record { at = goal; number = length portals + 1 } ∷ []
-
-abbrev pub some_stop : Stop
-some_stop = record { at = record { x = pos 0; z = pos 0 }; number = 0 }
+    record { at = start; number = 0 } ∷ map (λ (corner : Corner). record { at = corner.at; number = corner.portal + 1 }) corners ++ record { at = goal; number = length portals + 1 } ∷ []
 
 abbrev pub stop_at : List Stop → ℕ → Stop
-stop_at stops k = get_or stops k some_stop
+stop_at stops k = get_or stops k (record { at = record { x = pos 0; z = pos 0 }; number = 0 })
 
 -- the segment from a stop to the next spans the portal at a place: its number lies strictly between theirs
 pub record IsSpanned (stops : List Stop) (k m : ℕ) : Type 0 where
@@ -58,8 +52,8 @@ pub record IsSpanned (stops : List Stop) (k m : ℕ) : Type 0 where
 pub record GoesThrough (p q : Point) (portal : Portal) : Type 0 where
   pub left : pos 0 ≤ℤ orient_of p q portal.left
   pub right : orient_of p q portal.right ≤ℤ pos 0
-  pub from : IsBehind portal p
-  pub to : IsAhead portal q
+  pub from : pos 0 ≤ℤ orient_of portal.right portal.left p
+  pub to : orient_of portal.right portal.left q ≤ℤ pos 0
 
 -- (c) a segment of no length lies on the portal
 abbrev pub LiesOn : Point → Portal → Type 0
@@ -142,14 +136,10 @@ pub record IsFoldedOn (portals : List Portal) (corners : List Corner) (first las
   pub next : (corner_of corners corner).portal + 1 < length portals
   pub folds : IsFold (portal_at portals (corner_of corners corner).portal) (portal_at portals ((corner_of corners corner).portal + 1))
 
-abbrev pub IsHeld : List Portal → List Stop → List Corner → ℕ → ℕ → Type 0
-IsHeld portals stops corners first last =
-    ((side : Side) × IsHeldOn portals stops corners first last side) ⊎ IsFoldedOn portals corners first last
-
 -- a line from a start over corners to a goal is taut in a chain of portals
 pub record IsTaut (start : Point) (portals : List Portal) (goal : Point) (corners : List Corner) : Type 0 where
   pub named : (k : ℕ) → k < length corners → IsNamed portals (get_or corners k some_corner)
   pub in_turn : AllPairs AreInTurn corners
   pub tight : (k : ℕ) → k + 1 < length (stops_of start portals goal corners) → IsTight portals (stops_of start portals goal corners) k
   pub held : (first last : ℕ) → IsBend (stops_of start portals goal corners) first last
-      → IsHeld portals (stops_of start portals goal corners) corners first last
+      → ((side : Side) × IsHeldOn portals (stops_of start portals goal corners) corners first last side) ⊎ IsFoldedOn portals corners first last

@@ -15,7 +15,8 @@ use Rattle.nav_ground.proofs.Selections.{list_any-map}
 use Rattle.cell_table.specs.Table.{index_named, indices_named, neighbour_table}
 use Rattle.cell_table.proofs.Places.{same_test}
 use Rattle.mesh_types.specs.StripMeshes.{some_cell, strip_runs, holds_named, first_of}
-use Rattle.mesh_types.specs.Regions.{numbers, run_of, is_touching, touches_only, has_column, are_connected, joins}
+use Rattle.mesh_types.specs.Regions.{numbers, run_of, is_touching, touches_only, are_connected, joins}
+use Rattle.mesh_types.proofs.Words.{has_column}
 use Rattle.mono_regions.specs.declared.seen.Seen.TheVariants.{Nothing}
 use Rattle.mono_regions.specs.Indices.{cell_at, index_runs, has_index, owner_of, AreIndices}
 use Rattle.mono_regions.specs.Seeing.{beyond, seen_with, is_one}

@@ -1,6 +1,6 @@
 -- The laws of numbers in texts.
 use Rattle.std.proofs.Common.{All, ◌≡◌, ℕ, ◌+◌, ◌-◌, ◌*◌, ◌^◌, ◌<◌, ◌≤◌, Bool, true, false, cond, nat_lt, List, [], ◌∷◌, ◌++◌, length, take, drop, get_or, pos, Some, None, decimal, sym, refl, ap, ◌∙◌, subst, inl, inr, arith, take-append-drop, le_refl, length-append}
-use Rattle.std.specs.Prelude.{⊤}
+use Rattle.std.specs.Prelude.{⊤, take_while}
 use Rattle.std.specs.Char.{is_ascii_digit, digit_value}
 use Rattle.std.specs.Fmt.{signed_decimal}
 use Rattle.std.specs.Int.{IsInRange}
@@ -14,7 +14,11 @@ use Rattle.std.proofs.lemmas.List.{get_or_default, nil_from_length, drop_more, d
 use Rattle.std.proofs.lemmas.List.Folds.{length-prefix_len}
 use Rattle.std.proofs.lemmas.List.Sums.{prefix_len_is, prefix_len_passes, prefix_len_stops}
 use Rattle.std.proofs.lemmas.Str.Parse.{IsNumeralModel, numerals_by_value, tells_by_index, digits_value-take-le}
-use Rattle.nav_base.specs.Number.{is_canonical, leading_digits, number_at}
+use Rattle.nav_base.specs.Number.{is_canonical, number_at}
+
+-- the digits at the front
+abbrev leading_digits : List ℕ → List ℕ
+leading_digits bytes = take_while is_ascii_digit bytes
 
 -- every byte is a digit
 abbrev pub AreDigits : List ℕ → Type 0

@@ -7,12 +7,8 @@ use Rattle.std.specs.Str.Parse.{digits_value}
 abbrev pub is_canonical : List ℕ → Bool
 is_canonical digits = length digits == 1 || nat_lt 1 (length digits) && nat_lt 48 (slice_index digits 0)
 
--- the digits at the front
-abbrev pub leading_digits : List ℕ → List ℕ
-leading_digits bytes = take_while is_ascii_digit bytes
-
 -- the number below 2 ^ 32 that the digits at the front spell, and the bytes after them
 unfoldable pub number_at : List ℕ → Option (ℕ × List ℕ)
 number_at bytes =
-    let digits = leading_digits bytes in
+    let digits = take_while is_ascii_digit bytes in
     if nat_lt (digits_value 10 digits) (2 ^ 32) && is_canonical digits then Some (digits_value 10 digits, drop (length digits) bytes) else None

@@ -10,7 +10,8 @@ use Rattle.nav_ground.specs.declared.history.Reply.TheVariants.{Added, Removed, 
 use Rattle.nav_ground.specs.declared.history.Request.{Request}
 use Rattle.nav_ground.specs.declared.history.Request.TheVariants.{Add, Remove}
 use Rattle.nav_ground.specs.declared.shape.Shape.{Shape}
-use Rattle.nav_ground.specs.History.{alive_after, is_adding, is_removal_of, reply_to, shape_in, shape_of, shapes_alive}
+use Rattle.nav_ground.specs.History.{alive_after, is_removal_of, reply_to, shape_in, shape_of, shapes_alive}
+use Rattle.nav_ground.proofs.Words.{is_adding}
 use Rattle.nav_ground.proofs.Selections.{filter_all, filter-map, list_any-map, slice_get-push}
 use Rattle.nav_ground.proofs.AliveLaws.{alive_after-push, alive_after-rising, shape_of-push}
 use Rattle.nav_desk.specs.declared.live.Live.{Live}

@@ -13,7 +13,8 @@ use Rattle.std.proofs.lemmas.Bool.{cases_lt}
 use Rattle.nav_ground.specs.declared.history.Entry.{Entry}
 use Rattle.nav_ground.specs.declared.history.TheConstants.{HISTORY_LIMIT}
 use Rattle.nav_ground.specs.declared.shape.Shape.{Shape}
-use Rattle.nav_ground.specs.History.{history_limit, entry_at, shape_in, is_adding, is_removal_of, is_alive, alive_after, shape_of, shapes_alive, reply_to, IsWellReplied}
+use Rattle.nav_ground.specs.History.{history_limit, entry_at, shape_in, is_removal_of, is_alive, alive_after, shape_of, shapes_alive, reply_to, IsWellReplied}
+use Rattle.nav_ground.proofs.Words.{is_adding}
 use Rattle.nav_ground.proofs.Selections.{slice_get-take, slice_get-append, slice_get-push, filter-range_same, filter_map-range_same, range-push, filter-filter}
 
 -- the code's limit is that of the definitions

@@ -16,7 +16,8 @@ use Rattle.nav_ground.specs.declared.shape.Shape.TheVariants.{Block, Cylinder, A
 use Rattle.nav_ground.specs.Limits.{IsArea, IsShape}
 use Rattle.nav_ground.specs.Cells.{IsCellBefore, IsCell, IsCells, IsCut, is_toward, is_naming, next_level, opposite}
 use Rattle.nav_ground.specs.Shapes.{area_set_by}
-use Rattle.nav_ground.specs.FreeCells.{is_over, is_taken, is_free, is_lost, area_given, area_under, free_next, free_cell_of, free_layer_of}
+use Rattle.nav_ground.specs.FreeCells.{is_over, is_taken, area_given, area_under, free_next, free_cell_of, free_layer_of}
+use Rattle.nav_ground.proofs.Words.{is_lost, is_free}
 use Rattle.nav_ground.proofs.Kept.{few_kept, AllPairs-map, All-kept}
 use Rattle.nav_ground.proofs.Directions.{both_equal}
 

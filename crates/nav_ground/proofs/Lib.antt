@@ -1,3 +1,4 @@
+pub mod Words
 pub mod Squares
 pub mod Places
 pub mod Kept

@@ -37,9 +37,6 @@ is_crowded layer shapes cell = if layer.radius == 0 then false else not (list_an
 abbrev pub is_taken : Layer → List Shape → Cell → Bool
 is_taken layer shapes cell = is_crowded layer shapes cell || is_blocked shapes cell
 
-abbrev pub is_free : Layer → List Shape → Cell → Bool
-is_free layer shapes cell = not (is_taken layer shapes cell)
-
 -- the area that a shape gives a cell, if it covers the cell and sets areas
 abbrev pub area_given : Cell → Shape → Option ℕ
 area_given cell shape = if is_over cell shape then area_set_by shape else None
@@ -48,13 +45,9 @@ area_given cell shape = if is_over cell shape then area_set_by shape else None
 abbrev pub area_under : List Shape → Cell → ℕ
 area_under shapes cell = unwrap_or (last_or None (filter_map (area_given cell) shapes)) cell.area
 
--- the neighbour that a free cell names in a direction is lost where it is a taken cell of the same layer
-abbrev pub is_lost : (Cell → Bool) → List Cell → Cell → ℕ → Bool
-is_lost taken cells cell dir = list_any (λ (other : Cell). is_naming dir cell other.at && taken other) cells
-
 -- the level that a free cell names in a direction, if it keeps that neighbour
 abbrev pub free_next : (Cell → Bool) → List Cell → Cell → ℕ → Option ℕ
-free_next taken cells cell dir = if is_lost taken cells cell dir then None else next_level cell dir
+free_next taken cells cell dir = if list_any (λ (other : Cell). is_naming dir cell other.at && taken other) cells then None else next_level cell dir
 
 -- a free cell keeps its neighbours that are free cells of its layer, or cells of other tiles
 abbrev pub free_cell_of : (Cell → Bool) → List Cell → List Shape → Cell → Cell
@@ -67,5 +60,5 @@ free_cell_of taken cells shapes cell = record cell {
 abbrev pub free_layer_of : Layer → List Shape → FreeLayer
 free_layer_of layer shapes = record {
   tile = layer.tile;
-  cells = map (free_cell_of (is_taken layer shapes) layer.cells shapes) (filter (is_free layer shapes) layer.cells);
+  cells = map (free_cell_of (is_taken layer shapes) layer.cells shapes) (filter (λ (cell : Cell). not (is_taken layer shapes cell)) layer.cells);
 }

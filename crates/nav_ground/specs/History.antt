@@ -32,21 +32,14 @@ is_removing number (Remove other) = other == number
 -- the reply says that the obstacle was added
 abbrev pub is_added : Reply → Bool
 is_added (Added number) = true
-is_added Removed = false
-is_added (Full live) = false
-is_added (Dead number) = false
+is_added _ = false
 
 -- the reply says that the obstacle was removed
 abbrev pub is_removed : Reply → Bool
-is_removed (Added number) = false
 is_removed Removed = true
-is_removed (Full live) = false
-is_removed (Dead number) = false
+is_removed _ = false
 
--- the entry added an obstacle; the entry removed the obstacle with a number
-abbrev pub is_adding : Entry → Bool
-is_adding entry = is_added entry.reply
-
+-- the entry removed the obstacle with a number
 abbrev pub is_removal_of : ℕ → Entry → Bool
 is_removal_of number entry = is_removing number entry.request && is_removed entry.reply
 
@@ -57,7 +50,7 @@ entry_at history (suc place) = slice_get history place
 
 -- the obstacle with a number is alive after the first k entries: the one of them with that number added it, and no later one removed it
 abbrev pub is_alive : List Entry → ℕ → ℕ → Bool
-is_alive history k number = option_map_or is_adding (entry_at (take k history) number) false
+is_alive history k number = option_map_or (λ (entry : Entry). is_added entry.reply) (entry_at (take k history) number) false
     && not (list_any (is_removal_of number) (drop number (take k history)))
 
 -- the numbers of the obstacles that are alive after the first k entries, rising

@@ -9,7 +9,8 @@ use Rattle.nav_ground.specs.declared.cell.Cell.{Cell}
 use Rattle.nav_ground.specs.declared.cell.CellRef.{CellRef}
 use Rattle.nav_ground.specs.Cells.{IsCellBefore}
 use Rattle.nav_ground.proofs.Selections.{filter_all, filter_none}
-use Rattle.mesh_types.specs.Floors.{is_in_column, column_of}
+use Rattle.mesh_types.specs.Floors.{is_in_column}
+use Rattle.mesh_types.specs.Words.{column_of}
 use Rattle.nav_query.specs.Columns.{AreOrdered, is_before_column}
 
 -- a column comes no later than another: by z, then by x

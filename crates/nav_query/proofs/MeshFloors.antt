@@ -18,8 +18,8 @@ use Rattle.layer_cut.specs.Tiles.{tile_at, IsInField}
 use Rattle.layer_cut.proofs.TilePlaces.{in_window_is, in_field}
 use Rattle.mesh_types.specs.declared.mesh.Mesh.{Mesh}
 use Rattle.mesh_types.specs.declared.tile.TileMesh.{TileMesh}
-use Rattle.mesh_types.specs.Floors.{column_of, floor_of, floors_at, is_in_column}
-use Rattle.mesh_types.specs.Right.{free_of}
+use Rattle.mesh_types.specs.Floors.{floors_at, is_in_column}
+use Rattle.mesh_types.specs.Words.{column_of, floor_of, free_of}
 use Rattle.mesh_types.specs.Soundness.{IsFit, IsSound}
 
 -- lists that are all empty, and lists of which one may not be empty

@@ -25,7 +25,8 @@ use Rattle.mesh_types.specs.declared.polygon.Polygon.{Polygon}
 use Rattle.mesh_types.specs.declared.tile.TileMesh.{TileMesh}
 use Rattle.mesh_types.specs.BorderLinks.{HasOnePair}
 use Rattle.mesh_types.specs.Builds.{build_of, mesh_under}
-use Rattle.mesh_types.specs.Chains.{IsFold, portal_at, some_portal}
+use Rattle.mesh_types.specs.Chains.{IsFold, portal_at}
+use Rattle.mesh_types.proofs.Words.{some_portal}
 use Rattle.mesh_types.specs.Corridors.{IsCheapest, IsLinkOf}
 use Rattle.mesh_types.specs.Folds.{IsUnfolded}
 use Rattle.mesh_types.specs.Passages.{IsTwoWay, reverse_of}

@@ -4,7 +4,7 @@ ghost use Rattle.std.specs.Prelude.{◌≡◌, ◌↔◌, IfOk, IsTrue};
 ghost use Rattle.nav_ground.specs.Limits.{IsSetting};
 ghost use Rattle.layer_cut.specs.Tiles.{IsInField};
 ghost use Rattle.mesh_types.specs.Floors.{floors_at};
-ghost use Rattle.mesh_types.specs.Right.{free_of};
+ghost use Rattle.mesh_types.specs.Words.{free_of};
 ghost use Rattle.mesh_types.specs.Soundness.{IsSound};
 
 use crate::columns::push_floors;

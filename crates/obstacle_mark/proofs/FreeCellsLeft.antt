@@ -10,7 +10,8 @@ use Rattle.nav_ground.specs.declared.cell.Cell.{Cell}
 use Rattle.nav_ground.specs.declared.cell.CellRef.{CellRef}
 use Rattle.nav_ground.specs.declared.shape.Shape.{Shape}
 use Rattle.nav_ground.specs.Cells.{IsCell, IsCells, IsCellBefore, is_naming, next_level}
-use Rattle.nav_ground.specs.FreeCells.{is_lost, area_under, free_next, free_cell_of}
+use Rattle.nav_ground.specs.FreeCells.{area_under, free_next, free_cell_of}
+use Rattle.nav_ground.proofs.Words.{is_lost}
 use Rattle.nav_ground.proofs.Kept.{AllPairs-map, All-kept}
 use Rattle.cell_table.specs.Columns.{IsPlace, column_of}
 use Rattle.obstacle_mark.specs.declared.places.Passed.{Passed}

@@ -19,7 +19,8 @@ use Rattle.nav_ground.specs.Fields.{IsField}
 use Rattle.nav_ground.specs.Cells.{IsCompact}
 use Rattle.nav_ground.specs.Tiling.{tile_window, widened, is_in_window}
 use Rattle.nav_ground.specs.Clearance.{is_kept, kept_cells, places_of, cells_in}
-use Rattle.nav_ground.specs.FreeCells.{is_blocked, is_unblocked, is_same_place, is_taken, is_free, free_cell_of, free_layer_of}
+use Rattle.nav_ground.specs.FreeCells.{is_blocked, is_unblocked, is_same_place, is_taken, free_cell_of, free_layer_of}
+use Rattle.nav_ground.proofs.Words.{is_free}
 use Rattle.nav_ground.specs.Layers.{cells_of, layer_cell, layer_of}
 use Rattle.nav_ground.specs.WholeFree.{whole_free}
 use Rattle.nav_ground.proofs.FreeLayers.{same_at_place, same_place}

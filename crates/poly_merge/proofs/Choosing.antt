@@ -15,7 +15,8 @@ use Rattle.std.proofs.lemmas.List.MinMax.{ranks_by}
 use Rattle.nav_base.specs.declared.point.Point.{Point}
 use Rattle.mesh_types.specs.declared.outline.Piece.{Piece}
 use Rattle.mesh_types.specs.Choices.{first_best, or_earlier, or_later}
-use Rattle.mesh_types.specs.Merging.{Merge, best_merge, is_admissible, is_facing, is_longer, merge_over, merges_between, merges_from, merges_of, places_at, shared_length}
+use Rattle.mesh_types.specs.Merging.{Merge, best_merge, is_admissible, is_facing, merge_over, merges_between, merges_from, merges_of, places_at, shared_length}
+use Rattle.mesh_types.proofs.Words.{is_longer}
 use Rattle.mesh_types.proofs.ChoiceLaws.{first_best-all, first_best-fold, filter-passes}
 use Rattle.mesh_types.proofs.ContourLaws.{first_best-least}
 use Rattle.mesh_types.proofs.Sorting.{Rises}

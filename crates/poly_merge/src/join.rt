@@ -1,7 +1,8 @@
 //! Two pieces of a list united.
 
 ghost use Rattle.std.specs.Prelude.{◌≡◌, ◌<◌, map, IfOk, OnOk};
-ghost use Rattle.mesh_types.specs.Merging.{joined, piece_of};
+ghost use Rattle.mesh_types.specs.Merging.{joined};
+ghost use Rattle.mesh_types.specs.Words.{piece_of};
 ghost use Rattle.poly_merge.specs.Seen.{IsMergeOf, seen};
 
 use crate::edge::{Merge, places_at};

@@ -17,7 +17,8 @@ use Rattle.mesh_types.specs.declared.links.Portal.{Portal}
 use Rattle.mesh_types.specs.declared.mesh.Mesh.{Mesh}
 use Rattle.mesh_types.specs.declared.polygon.Polygon.{Polygon}
 use Rattle.mesh_types.specs.Corridors.{IsLinkOf}
-use Rattle.mesh_types.specs.Rays.{exit_num, exit_den, side_of, IsExit, IsHeldAt, Meets}
+use Rattle.mesh_types.specs.Rays.{exit_den, side_of, IsExit, IsHeldAt, Meets}
+use Rattle.mesh_types.specs.Words.{exit_num}
 use Rattle.mesh_types.specs.Soundness.{edge_begin, edge_end, along, LiesAlong, IsPortalOut, IsSound}
 use Rattle.mesh_types.specs.WholeMesh.{poly_at}
 use Rattle.mesh_types.proofs.MeshLinks.{leads}

@@ -7,7 +7,8 @@ use Rattle.nav_base.proofs.Polynomials.{at, sum, difference, product, equal}
 use Rattle.nav_base.proofs.Signs.{product-not_negative, product-positive, factor-not_negative, factor-positive}
 use Rattle.mesh_types.specs.declared.polygon.Polygon.{Polygon}
 use Rattle.mesh_types.specs.Located.{Holds}
-use Rattle.mesh_types.specs.Rays.{side_of, exit_num, exit_den, IsExit, IsLeastExit}
+use Rattle.mesh_types.specs.Rays.{side_of, exit_den, IsExit, IsLeastExit}
+use Rattle.mesh_types.specs.Words.{exit_num}
 use Rattle.ray_walk.specs.declared.ray.Ray.{Ray}
 use Rattle.ray_walk.specs.declared.ray.Exit.{Exit}
 use Rattle.ray_walk.specs.Walking.{IsEntered, IsExitOver, IsEarliest, IsFirstBefore, IsFirstOf}

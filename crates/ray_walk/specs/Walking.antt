@@ -15,7 +15,8 @@ use Rattle.mesh_types.specs.declared.polygon.Polygon.{Polygon}
 use Rattle.mesh_types.specs.declared.tile.TileMesh.{TileMesh}
 use Rattle.mesh_types.specs.LinkIndex.{leaving_of}
 use Rattle.mesh_types.specs.LinkOrder.{link_cmp}
-use Rattle.mesh_types.specs.Rays.{side_of, exit_num, exit_den, IsExit, IsLeastExit, IsFirstExit, Meets}
+use Rattle.mesh_types.specs.Rays.{side_of, exit_den, IsExit, IsLeastExit, IsFirstExit, Meets}
+use Rattle.mesh_types.specs.Words.{exit_num}
 use Rattle.mesh_types.specs.Soundness.{edge_begin, edge_end}
 use Rattle.mesh_types.specs.WholeMesh.{poly_at}
 use Rattle.ray_walk.specs.declared.ray.Ray.{Ray}

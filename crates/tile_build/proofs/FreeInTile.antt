@@ -6,7 +6,8 @@ use Rattle.nav_ground.specs.declared.cell.Layer.{Layer}
 use Rattle.nav_ground.specs.declared.setting.Setting.{Setting}
 use Rattle.nav_ground.specs.declared.shape.Shape.{Shape}
 use Rattle.nav_ground.specs.Cells.{IsInTile}
-use Rattle.nav_ground.specs.FreeCells.{is_taken, is_free, free_cell_of, free_layer_of}
+use Rattle.nav_ground.specs.FreeCells.{is_taken, free_cell_of, free_layer_of}
+use Rattle.nav_ground.proofs.Words.{is_free}
 use Rattle.nav_ground.specs.Tiling.{tile_window, IsInWindow}
 
 pub free_in_tile : (setting : Setting) (layer : Layer) (shapes : List Shape) → IsInTile setting layer.tile layer.cells

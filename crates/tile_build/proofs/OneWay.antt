@@ -30,7 +30,8 @@ use Rattle.mesh_types.specs.declared.links.Portal.{Portal}
 use Rattle.mesh_types.specs.declared.polygon.Polygon.{Polygon}
 use Rattle.mesh_types.specs.declared.tile.TileMesh.{TileMesh}
 use Rattle.mesh_types.specs.Builds.{tile_mesh_of}
-use Rattle.mesh_types.specs.ContourMeshes.{Facet, are_facing, contour_mesh_of, door_link, door_links, door_over, doors_of, facet_doors, facets_of, link_through, mesh_of_free, no_facet, parts_mesh, parts_of}
+use Rattle.mesh_types.specs.ContourMeshes.{Facet, are_facing, contour_mesh_of, door_link, door_links, door_over, doors_of, facet_doors, facets_of, link_through, mesh_of_free, parts_mesh, parts_of}
+use Rattle.mesh_types.proofs.Words.{no_facet}
 use Rattle.mesh_types.specs.Regions.{regions_of}
 use Rattle.mesh_types.specs.Runs.{runs_of}
 use Rattle.mesh_types.specs.Soundness.{along, edge_begin, edge_end}

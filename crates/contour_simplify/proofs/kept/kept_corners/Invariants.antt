@@ -1,6 +1,7 @@
 use Rattle.std.proofs.Common.{◌≡◌, take}
 use Rattle.std.specs.List.{flat_map}
-use Rattle.mesh_types.specs.Simplified.{left_of_run, runs_between}
+use Rattle.mesh_types.specs.Simplified.{left_of_run}
+use Rattle.mesh_types.specs.Words.{runs_between}
 use Rattle.contour_simplify.proofs.kept.kept_corners.Given as goal
 
 -- what the runs so far leave

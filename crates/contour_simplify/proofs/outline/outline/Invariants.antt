@@ -1,7 +1,8 @@
 use Rattle.std.proofs.Common.{◌≡◌, take}
 use Rattle.std.specs.Prelude.{filter}
 use Rattle.mesh_types.specs.Rings.{beginnings}
-use Rattle.mesh_types.specs.Simplified.{begins_among, codes_of}
+use Rattle.mesh_types.specs.Simplified.{begins_among}
+use Rattle.mesh_types.specs.Words.{codes_of}
 use Rattle.contour_simplify.proofs.outline.outline.Given as goal
 
 -- the kept edges of those so far

@@ -7,7 +7,8 @@ use Rattle.nav_base.specs.declared.point.Point.{Point}
 use Rattle.mesh_types.specs.declared.region.UnitEdge.{UnitEdge}
 use Rattle.mesh_types.specs.Rings.{beginnings}
 use Rattle.mesh_types.specs.LinkOrder.{is_point_before}
-use Rattle.mesh_types.specs.Simplified.{begins_among, codes_of, kept_edges, kept_corners}
+use Rattle.mesh_types.specs.Simplified.{begins_among, kept_edges, kept_corners}
+use Rattle.mesh_types.specs.Words.{codes_of}
 use Rattle.mesh_types.proofs.LinkOrderLaws.{points_order}
 use Rattle.contour_simplify.proofs.Rising.{stops_are}
 use Rattle.contour_simplify.proofs.Outlines.{nothing_left, simplified_is, same_among, flat_if, corners_inside, outline_is}

@@ -2,7 +2,8 @@ use Rattle.std.proofs.Common.{◌≡◌, ◌<◌, length, filter}
 use Rattle.std.specs.Prelude.{IfSome}
 use Rattle.std.specs.List.{range_with_len}
 use Rattle.mesh_types.specs.Choices.{first_best}
-use Rattle.mesh_types.specs.Ears.{is_ear, is_narrower}
+use Rattle.mesh_types.specs.Ears.{is_ear}
+use Rattle.mesh_types.specs.Words.{is_narrower}
 use Rattle.ear_cut.proofs.ear.best_ear.Given as goal
 
 -- the best of the ears so far

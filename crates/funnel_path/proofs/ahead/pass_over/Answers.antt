@@ -1,7 +1,7 @@
 -- Each way out of the loop comes to what it says, and each portal that stays is passed over.
 use Rattle.std.proofs.Common.{◌≡◌, ◌-◌, length, subst, inl, inr, arith}
 use Rattle.std.proofs.lemmas.Int.{ints}
-use Rattle.mesh_types.specs.Chains.{some_portal}
+use Rattle.mesh_types.proofs.Words.{some_portal}
 use Rattle.funnel_path.specs.Cone.{ArePassed}
 use Rattle.funnel_path.proofs.PassedLaws.{passed_more}
 use Rattle.funnel_path.proofs.ConeLaws.{ahead_of, near_of, not_opposite, turned_back_at}

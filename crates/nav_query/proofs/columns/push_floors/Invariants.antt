@@ -1,5 +1,5 @@
 use Rattle.std.proofs.Common.{◌≡◌, ◌++◌, map, take}
-use Rattle.mesh_types.specs.Floors.{floor_of}
+use Rattle.mesh_types.specs.Words.{floor_of}
 use Rattle.nav_query.proofs.columns.push_floors.Given as goal
 
 -- the floors of the cells so far were appended

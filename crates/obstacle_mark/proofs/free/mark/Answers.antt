@@ -6,7 +6,8 @@ use Rattle.nav_ground.specs.declared.cell.FreeLayer.{FreeLayer}
 use Rattle.nav_ground.specs.declared.cell.Layer.{Layer}
 use Rattle.nav_ground.specs.Clearance.{places_of}
 use Rattle.nav_ground.specs.Cells.{IsCells, IsCut}
-use Rattle.nav_ground.specs.FreeCells.{is_taken, is_free, free_cell_of, free_layer_of}
+use Rattle.nav_ground.specs.FreeCells.{is_taken, free_cell_of, free_layer_of}
+use Rattle.nav_ground.proofs.Words.{is_free}
 use Rattle.nav_ground.proofs.FreeLayers.{free_layer_cut}
 use Rattle.obstacle_mark.specs.AreasLeft.{area_left}
 use Rattle.obstacle_mark.specs.Columns.{ArePlaces}

@@ -1,6 +1,6 @@
 use Rattle.std.proofs.Common.{◌∙◌, ap, map, sym}
 use Rattle.std.proofs.lemmas.List.{map_more, take_all}
-use Rattle.mesh_types.specs.Merging.{piece_of}
+use Rattle.mesh_types.specs.Words.{piece_of}
 use Rattle.poly_merge.proofs.join.triangular.Goals as goal
 
 pub loop-triangle-preserved : goal.loop-triangle-preserved

@@ -1,5 +1,5 @@
 use Rattle.std.proofs.Common.{◌≡◌, map, take}
-use Rattle.mesh_types.specs.Merging.{piece_of}
+use Rattle.mesh_types.specs.Words.{piece_of}
 use Rattle.poly_merge.proofs.join.triangular.Given as goal
 
 -- the triangles so far

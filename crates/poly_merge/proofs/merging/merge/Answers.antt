@@ -3,7 +3,8 @@ use Rattle.std.specs.Prelude.{None}
 use Rattle.std.specs.Option.{option_map}
 use Rattle.std.proofs.lemmas.List.{length-map}
 use Rattle.mesh_types.specs.Edges.{HaveEdgesOnce, KeepOutline}
-use Rattle.mesh_types.specs.Merging.{IsPieceOf, areas_of, best_merge, merge_all, piece_of}
+use Rattle.mesh_types.specs.Merging.{IsPieceOf, areas_of, best_merge, merge_all}
+use Rattle.mesh_types.specs.Words.{piece_of}
 use Rattle.mesh_types.proofs.EarLaws.{ears_of-triangles}
 use Rattle.mesh_types.proofs.AreaLaws.{ears_of-area}
 use Rattle.mesh_types.proofs.UnionEdges.{merged-once, merged-outline}

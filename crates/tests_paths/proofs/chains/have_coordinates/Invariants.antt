@@ -1,6 +1,6 @@
 -- The ends of the portals so far have coordinates.
 use Rattle.std.proofs.Common.{ℕ, ◌<◌, get_or}
-use Rattle.mesh_types.specs.Chains.{some_portal}
+use Rattle.mesh_types.proofs.Words.{some_portal}
 use Rattle.funnel_path.specs.Coordinates.{HasEndCoordinates}
 use Rattle.tests_paths.proofs.chains.have_coordinates.Given as goal
 
