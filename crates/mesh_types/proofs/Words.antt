@@ -1,5 +1,5 @@
 -- Words: short names for parts of definitions, for proofs alone. Each is the same as the text that the definitions say in full.
-use Rattle.std.specs.Prelude.{ℕ, ◌+◌, pos, Bool, ◌==◌, ◌&&◌, nat_lt, List, [], ◌⊎◌}
+use Rattle.std.specs.Prelude.{ℕ, ◌+◌, pos, Bool, false, ◌==◌, ◌&&◌, nat_lt, List, [], ◌⊎◌}
 use Rattle.std.specs.List.{list_any}
 use Rattle.std.specs.Option.{option_map_or}
 use Rattle.nav_base.specs.declared.point.Point.{Point}
