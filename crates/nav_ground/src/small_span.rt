@@ -18,8 +18,11 @@ pub struct SmallSpan {
 
 impl Model for SmallSpan {
     ghost use Rattle.nav_ground.specs.declared.field.Span.{Span};
+
     ghost Value = { Span };
+
     ghost view = { λ a. record { x = a.x; z = a.z; bottom = a.bottom; top = a.top; area = a.area } };
+
     ghost inverse = { λ s. record { x = s.x; z = s.z; bottom = s.bottom; top = s.top; area = s.area } };
 }
 
