@@ -10,7 +10,7 @@ use Rattle.corridor_search.proofs.Vertices.{there-contains}
 use Rattle.corridor_search.proofs.Searchable.{searchable, vertices-few}
 use Rattle.corridor_search.proofs.Extents.{extent-rules}
 use Rattle.corridor_search.proofs.MeshWalks.{steps-over, corridor-cheapest, none-joined}
-use Rattle.corridor_search.proofs.corridors.cheapest.Goals as goal
+use Rattle.corridor_search.proofs.corridors.cheapest_by.Goals as goal
 
 pub middle-goal-requires : goal.middle-goal-requires
 middle-goal-requires c = (extent-rules c.args.mesh.now c.args.to c.extent_at.result c.requires.sound c.requires.to c.extent_at.ensures).box
