@@ -1,5 +1,5 @@
 -- Answers that are right in the mesh at hand, as answers in the published one.
-use Rattle.std.proofs.Common.{◌≡◌, ◌∙◌, List, ap, subst, sym, Option}
+use Rattle.std.proofs.Common.{◌≡◌, ◌∙◌, List, ap, subst, Option}
 use Rattle.nav_base.specs.declared.answers.Question.{Question}
 use Rattle.mesh_types.specs.declared.answers.Answer.{Answer}
 use Rattle.mesh_types.specs.declared.mesh.Mesh.{Mesh}

@@ -1,6 +1,3 @@
-use Rattle.std.proofs.Common.{◌∙◌, ap, subst, sym}
-use Rattle.std.proofs.lemmas.Result.{IfOk-weaker}
-use Rattle.nav_level.specs.Results.{published_mesh}
 use Rattle.nav_level.proofs.KeptTiles.{setting_fits}
 use Rattle.nav_level.proofs.ShownAnswers.{right_published, unfolded_published}
 use Rattle.nav_level.proofs.level.Level.ask.Goals as goal
