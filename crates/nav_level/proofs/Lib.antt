@@ -5,4 +5,5 @@ pub mod KeptTiles
 pub mod Settled
 pub mod StepLaws
 pub mod JobLaws
+mod ShownAnswers
 mod Passing

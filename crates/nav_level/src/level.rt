@@ -19,12 +19,12 @@ ghost use Rattle.nav_level.specs.Settling.{IsUnclaimed};
 
 use crate::counts::{links, polygons};
 use crate::fresh::{empty, empty_places, news_of};
+use crate::shown::Shown;
 use mesh_types::{Answer, Asked, Mesh, TileMesh};
 use nav_base::Question;
 use nav_desk::{Desk, HistoryFull, Job, Published, Submitted};
 use nav_ground::{Entry, Ground, Reply, Request};
 use nav_list::Items;
-use nav_query::Asking;
 use nav_share::Shared;
 use std::alloc::{AllocError, Global};
 use std::marker::Model;
@@ -39,7 +39,7 @@ pub struct Level {
     desk: Desk,
     /// The tile meshes that are stored and not published yet, one place a tile.
     fresh: Vec<Option<Shared<TileMesh>>>,
-    mesh: Shared<Mesh>,
+    mesh: Shown,
 }
 
 impl Model for Level {
@@ -75,7 +75,7 @@ impl Level {
         Ok(Level {
             desk,
             fresh,
-            mesh: shared,
+            mesh: Shown::new(shared),
         })
     }
 
@@ -197,7 +197,7 @@ impl Level {
         ensures rules { IsBook self.new }
     {
         empty(self.fresh.as_mut_slice());
-        self.mesh = mesh;
+        self.mesh.show(mesh);
         self.desk.publish();
     }
 
@@ -268,12 +268,35 @@ impl Level {
         ensures low_cost { IfOk result (λ told. HasLowCost told.1) }
         ensures unfolded { IfOk result (λ told. HasUnfoldedWay told.1) }
     {
-        self.ask_by(
-            alloc,
-            &Asking {
-                question: *question,
-            },
-        )
+        let answer = self.mesh.ask(alloc, question)?;
+        Ok((self.desk.published(), answer))
+    }
+
+    /// The same, for one who asks much of a level that stands still: the 16th path question of one published mesh prepares it first, where memory
+    /// for that is left.
+    pub fn ask_and_prepare(
+        &mut self,
+        alloc: Global,
+        question: &Question,
+    ) -> Result<(u32, Answer), AllocError>
+        requires { IsAnswerable question.now }
+        ensures published { IfOk result (λ told. told.0 ≡ self.old.published) }
+        ensures right { IfOk result (λ told. IsRight (published_mesh self.old) question.now told.1) }
+        ensures low_cost { IfOk result (λ told. HasLowCost told.1) }
+        ensures unfolded { IfOk result (λ told. HasUnfoldedWay told.1) }
+        ensures same { self.new ≡ self.old }
+    {
+        self.mesh.count(alloc, question);
+        self.ask(alloc, question)
+    }
+
+    /// Makes landmarks of the published mesh where there are none, which costs about as much as sixty path questions, and lets each later one
+    /// close a fifth of the polygons. They go with the next publish that shows something new. Nothing that a caller sees has changed, also where
+    /// memory is refused.
+    pub fn prepare(&mut self, alloc: Global) -> Result<(), AllocError>
+        ensures same { self.new ≡ self.old }
+    {
+        self.mesh.prepare(alloc)
     }
 
     /// The published length, and an answer to a question of any kind that is right in the mesh as it was last published.

@@ -16,6 +16,7 @@ mod fresh;
 mod job_build;
 mod level;
 mod settle;
+mod shown;
 
 pub use job_build::build_job;
 pub use level::Level;

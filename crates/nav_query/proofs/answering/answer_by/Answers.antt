@@ -4,7 +4,7 @@ use Rattle.nav_base.specs.declared.answers.Question.{Question}
 use Rattle.mesh_types.specs.declared.answers.Answer.{Answer}
 use Rattle.mesh_types.specs.Right.{AreAlike, IsRight, IsRightPath, IsRightRay}
 use Rattle.mesh_types.proofs.RightLaws.{alike}
-use Rattle.nav_query.proofs.answering.answer.Goals as goal
+use Rattle.nav_query.proofs.answering.answer_by.Goals as goal
 
 pub returns-in-Path-clause-only : goal.returns-in-Path-clause-only
 returns-in-Path-clause-only c =
