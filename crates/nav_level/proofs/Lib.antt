@@ -1,5 +1,6 @@
 pub mod GroundTiles
 pub mod FreshTiles
+mod FreshLists
 pub mod StoredTiles
 pub mod KeptTiles
 pub mod Settled

@@ -18,7 +18,7 @@ ghost use Rattle.nav_level.specs.Results.{IsNew, published_mesh, target_mesh, ti
 ghost use Rattle.nav_level.specs.Settling.{IsUnclaimed};
 
 use crate::counts::{links, polygons};
-use crate::fresh::{empty, empty_places, news_of};
+use crate::fresh::FreshMeshes;
 use crate::shown::Shown;
 use mesh_types::{Answer, Asked, Mesh, TileMesh};
 use nav_base::Question;
@@ -37,8 +37,8 @@ use tile_links::{joined, replaced};
 #[derive(Drop)]
 pub struct Level {
     desk: Desk,
-    /// The tile meshes that are stored and not published yet, one place a tile.
-    fresh: Vec<Option<Shared<TileMesh>>>,
+    /// The tile meshes that are stored and not published yet.
+    fresh: FreshMeshes,
     mesh: Shown,
 }
 
@@ -68,7 +68,7 @@ impl Level {
         ensures state { IfOk result (λ made. made ≡ first_state (arc_value level)) }
         ensures rules { IfOk result IsBook }
     {
-        let fresh = empty_places(alloc, tiles.len())?;
+        let fresh = FreshMeshes::new(alloc, tiles.len())?;
         let mesh = joined(alloc, &level.setting, tiles)?;
         let shared = Shared::new(alloc, mesh)?;
         let desk = Desk::begin(alloc, level)?;
@@ -151,7 +151,7 @@ impl Level {
         let answer = self.desk.submit(tile, shapes);
         match answer {
             Submitted::Taken => {
-                self.fresh[tile as usize] = Some(mesh);
+                self.fresh.put(tile, mesh);
                 answer
             }
             Submitted::Stale => answer,
@@ -182,8 +182,7 @@ impl Level {
         ensures mesh { IfOk result (λ mesh. mesh ≡ target_mesh self.now) }
         ensures sound { IfOk result IsSound }
     {
-        let news = news_of(alloc, self.fresh.as_slice())?;
-        let mesh = replaced(alloc, self.mesh.get(), news.as_slice())?;
+        let mesh = replaced(alloc, self.mesh.get(), self.fresh.news())?;
         Ok(Shared::new(alloc, mesh)?)
     }
 
@@ -196,7 +195,7 @@ impl Level {
         ensures shown { self.new.published ≡ self.old.target }
         ensures rules { IsBook self.new }
     {
-        empty(self.fresh.as_mut_slice());
+        self.fresh.clear();
         self.mesh.show(mesh);
         self.desk.publish();
     }
