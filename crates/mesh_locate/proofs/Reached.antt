@@ -1,9 +1,9 @@
 -- A polygon holds the points of its box alone.
-use Rattle.std.proofs.Common.{◌≡◌, ℕ, ◌<◌, ℤ, pos, ◌≤ℤ◌, List, [], length, map, get_or, sym, subst, ap, ◌∙◌, arith}
+use Rattle.std.proofs.Common.{◌≡◌, ℕ, ◌<◌, ℤ, pos, ◌≤ℤ◌, List, [], length, get_or, sym, subst, ap, ◌∙◌, arith}
 use Rattle.std.specs.Prelude.{All, Some, slice_get}
 use Rattle.std.proofs.lemmas.Int.{ints}
-use Rattle.std.proofs.lemmas.List.{get_or_default, get_or-map}
-use Rattle.std.proofs.lemmas.Option.{get_or_from_slice_get, slice_get-get_or}
+use Rattle.std.proofs.lemmas.List.{get_or_default}
+use Rattle.std.proofs.lemmas.Option.{get_or_from_slice_get}
 use Rattle.nav_base.specs.declared.point.Point.{Point}
 use Rattle.nav_base.specs.Point.{IsCellCorner}
 use Rattle.mesh_types.specs.declared.links.PolyRef.{PolyRef}
