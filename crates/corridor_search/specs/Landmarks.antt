@@ -1,5 +1,5 @@
 -- Landmarks: heights of polygons over a few of them, no two of which differ by more than a walk between the two polygons costs.
-use Rattle.std.specs.Prelude.{◌≡◌, ℕ, zero, suc, ◌≤◌, ◌+◌, ◌-◌, max, min, List, [], ◌∷◌, slice_index_or, Option, Some, None, IfSome}
+use Rattle.std.specs.Prelude.{ℕ, zero, suc, ◌≤◌, ◌+◌, ◌-◌, max, min, List, [], ◌∷◌, slice_index_or, Option, Some, None, IfSome}
 use Rattle.nav_base.specs.declared.point.Point.{Point}
 use Rattle.mesh_types.specs.declared.links.PolyRef.{PolyRef}
 use Rattle.mesh_types.specs.declared.links.Link.{Link}

@@ -65,7 +65,7 @@ fn heights_in(rows: &[[u32; LANDMARKS]], place: usize) -> [u32; LANDMARKS]
 fn gap(heights: [u32; LANDMARKS], others: [u32; LANDMARKS]) -> u32
     ensures { result ≡ gap_of 8 heights others }
 {
-    let mut gap = 0;
+    let mut gap = 0u32;
     for place in 0..LANDMARKS {
         gap = gap.max(heights[place].abs_diff(others[place]));
     }

@@ -1,5 +1,6 @@
 use Rattle.std.proofs.Common.{◌*◌, ◌≤◌, List, All, Contains, length, arith, sym, ap, subst, map, refl, ◌∙◌}
 use Rattle.std.specs.Prelude.{Option, IfSome, IfNone}
+use Rattle.std.specs.Option.{option_copied}
 use Rattle.std.proofs.lemmas.Nat.{mul-le}
 use Rattle.graph_search.specs.declared.arcs.Vertex.{Vertex}
 use Rattle.graph_search.specs.declared.arcs.Step.{Step}
@@ -7,7 +8,8 @@ use Rattle.graph_search.specs.declared.arcs.Walk.{Walk}
 use Rattle.graph_search.specs.Walks as graph
 use Rattle.corridor_search.specs.MeshGraphs.{IsOver, vertex_of, vertices_of, arcs_from, link_of}
 use Rattle.corridor_search.proofs.Vertices.{there-contains}
-use Rattle.corridor_search.proofs.Searchable.{searchable, vertices-few}
+use Rattle.corridor_search.proofs.Searchable.{vertices-few}
+use Rattle.corridor_search.proofs.Gaps.{searchable-by}
 use Rattle.corridor_search.proofs.Extents.{extent-rules}
 use Rattle.corridor_search.proofs.MeshWalks.{steps-over, corridor-cheapest, none-joined}
 use Rattle.corridor_search.proofs.corridors.cheapest_by.Goals as goal
@@ -17,8 +19,11 @@ middle-goal-requires c = (extent-rules c.args.mesh.now c.args.to c.extent_at.res
 
 pub cheapest_walk-requires-clause-searchable : goal.cheapest_walk-requires-clause-searchable
 cheapest_walk-requires-clause-searchable c =
-    searchable c.args.mesh.now c.middle-goal.result
-    (record { sound = c.requires.sound; setting = c.requires.setting; in_field = c.middle-goal.ensures.in_field })
+    searchable-by c.args.mesh.now c.middle-goal.result (option_copied c.args.landmarks) c.heights_of-heights.result
+    (record {
+      searched = record { sound = c.requires.sound; setting = c.requires.setting; in_field = c.middle-goal.ensures.in_field };
+      landmarks = c.requires.landmarks;
+    })
 
 pub cheapest_walk-requires-clause-there : goal.cheapest_walk-requires-clause-there
 cheapest_walk-requires-clause-there c =
