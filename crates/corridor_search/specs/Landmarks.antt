@@ -1,4 +1,5 @@
--- Landmarks: heights of polygons over a few of them, no two of which differ by more than a walk between the two polygons costs.
+-- Landmarks: for each polygon its heights over a few of them; those of two polygons never differ by more than a walk from one to the other
+-- costs.
 use Rattle.std.specs.Prelude.{ℕ, zero, suc, ◌≤◌, ◌+◌, ◌-◌, max, min, List, [], ◌∷◌, slice_index_or, Option, Some, None, IfSome}
 use Rattle.nav_base.specs.declared.point.Point.{Point}
 use Rattle.mesh_types.specs.declared.links.PolyRef.{PolyRef}

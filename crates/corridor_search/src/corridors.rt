@@ -38,8 +38,8 @@ pub fn cheapest(
     cheapest_by(alloc, mesh, None, from, to)
 }
 
-/// The same, by landmarks of the mesh where there are some: the corridor found may be another one that costs as much, and it is found the
-/// sooner the farther the two polygons are from each other.
+/// The same, by landmarks of the mesh where there are some. Another corridor that costs as much may be found, and the search closes fewer
+/// polygons, the more so the farther apart the two are. Only memory can be refused.
 pub fn cheapest_by(
     alloc: Global,
     mesh: &Mesh,

@@ -2,6 +2,7 @@
 //!
 //! A link costs the distance between the middles of its two polygons, in sixteenths of a cell and rounded up, at least 1, times the cost of
 //! the area that it enters. The search goes toward the goal first: it adds to what a walk costs so far the distance that is left.
+//! On a mesh that is asked much, `landmarks_of` makes heights of its polygons over a few landmarks, by which `cheapest_by` sees farther.
 //!
 //! What a search of one's own needs of the links stands here too: the vertices of polygons, the link that a step takes, what it weighs.
 #![tactic(auto)]

@@ -95,7 +95,9 @@ abbrev pub facets_in : Part → ℕ → List Facet
 facets_in part region = map (λ (piece : Piece). record { region = region; outline = part.outline; places = piece.corners }) part.pieces
 
 unfoldable pub facets_of : List Part → List Facet
-facets_of parts = flat_map (λ region. facets_in (get_or parts region (record { outline = record { corners = []; codes = [] }; pieces = [] })) region) (range_with_len 0 (length parts))
+facets_of parts =
+    flat_map (λ region. facets_in (get_or parts region (record { outline = record { corners = []; codes = [] }; pieces = [] })) region)
+    (range_with_len 0 (length parts))
 
 -- the cells of a region
 abbrev pub cells_of : List Cell → Regions → ℕ → List Cell
@@ -139,7 +141,10 @@ facet_doors polygon facet = map (door_over polygon facet) (range_with_len 0 (len
 
 -- the doors: polygon by polygon, edge by edge
 unfoldable pub doors_of : List Facet → List Door
-doors_of facets = flat_map (λ polygon. facet_doors polygon (get_or facets polygon (record { region = 0; outline = record { corners = []; codes = [] }; places = [] }))) (range_with_len 0 (length facets))
+doors_of facets =
+    flat_map (λ polygon. facet_doors polygon
+        (get_or facets polygon (record { region = 0; outline = record { corners = []; codes = [] }; places = [] })))
+    (range_with_len 0 (length facets))
 
 -- ---- inner links
 
@@ -229,7 +234,8 @@ belongs_to window doors side door position = option_map_or (is_same_door door) (
 
 -- the cell of a region at a position of a side that has a kept neighbour across
 abbrev pub crossing_cell : Window → List Cell → Regions → ℕ → ℕ → ℕ → Option Cell
-crossing_cell window cells regions region side position = find (λ (cell : Cell). is_crossing window side cell && position_of side cell.at == position) (cells_of cells regions region)
+crossing_cell window cells regions region side position =
+    find (λ (cell : Cell). is_crossing window side cell && position_of side cell.at == position) (cells_of cells regions region)
 
 -- what the rim lists for a door along a run of its positions
 abbrev pub crossing_pair : Window → List Cell → Regions → ℕ → ℕ → ℕ → LevelPair

@@ -11,4 +11,7 @@ is_in_column x z cell = cell.at.x == x && cell.at.z == z
 
 -- the floors of a column in a list of free layers: of each layer in order, the height and the area of each of its cells in the column
 abbrev pub floors_at : ℕ → ℕ → List FreeLayer → List FloorAt
-floors_at x z layers = flat_map (λ (layer : FreeLayer). map (λ (cell : Cell). record { y = cell.floor; area = cell.area }) (filter (is_in_column x z) layer.cells)) layers
+floors_at x z layers =
+    flat_map (λ (layer : FreeLayer). map (λ (cell : Cell). record { y = cell.floor; area = cell.area })
+        (filter (is_in_column x z) layer.cells))
+    layers

@@ -31,7 +31,8 @@ pub record IsExit (polygon : Polygon) (to : Point) (edge : ℕ) : Type 0 where
   pub there : edge < length polygon.corners
   pub beyond : side_of polygon edge to <ℤ pos 0
 
--- the exit fraction, how far along the way between two points it meets the line of an edge, is on which side the first lies over this denominator
+-- the exit fraction tells how far along the way between two points the line of an edge is met: `side_of` of the first point is its numerator,
+-- and this its denominator
 abbrev pub exit_den : Polygon → Point → Point → ℕ → ℤ
 exit_den polygon from to edge = side_of polygon edge from -ℤ side_of polygon edge to
 

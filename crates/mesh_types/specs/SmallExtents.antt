@@ -4,6 +4,7 @@ use Rattle.std.proofs.Common.{refl}
 use Rattle.mesh_types.specs.declared.extent.Extent.{Extent}
 use Rattle.mesh_types.specs.declared.small_extent.SmallExtent.TheInside.{Inside}
 
+-- the extent that the small numbers stand for
 abbrev pub extent_view : Inside → Extent
 extent_view inside = record {
   low = record { x = pos inside.left; z = pos inside.bottom };
@@ -11,6 +12,7 @@ extent_view inside = record {
   area = inside.area;
 }
 
+-- the small numbers of an extent
 abbrev pub extent_inverse : Extent → Inside
 extent_inverse extent = record {
   left = unsigned_abs extent.low.x;

@@ -36,7 +36,8 @@ pub record Stop : Type 0 where
 
 abbrev pub stops_of : Point → List Portal → Point → List Corner → List Stop
 stops_of start portals goal corners =
-    record { at = start; number = 0 } ∷ map (λ (corner : Corner). record { at = corner.at; number = corner.portal + 1 }) corners ++ record { at = goal; number = length portals + 1 } ∷ []
+    record { at = start; number = 0 } ∷ map (λ (corner : Corner). record { at = corner.at; number = corner.portal + 1 }) corners
+    ++ record { at = goal; number = length portals + 1 } ∷ []
 
 abbrev pub stop_at : List Stop → ℕ → Stop
 stop_at stops k = get_or stops k (record { at = record { x = pos 0; z = pos 0 }; number = 0 })

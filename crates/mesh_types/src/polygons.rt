@@ -20,7 +20,7 @@ use std::marker::Model;
 #[derive(Drop)]
 pub struct Polygons {
     polygons: Vec<Polygon>,
-    /// None where one of them does not fit into small numbers, as no polygon of a field does: they are then reckoned from the corners.
+    /// None where one of them does not fit into small numbers, into which those of a field always do: then they are reckoned from the corners.
     extents: Option<Items<SmallExtent>>,
 }
 

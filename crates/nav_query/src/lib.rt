@@ -4,6 +4,7 @@
 //! start, that none holds the goal, that no walk over links joins the polygons that locate the two, or a corridor of least cost between them
 //! and a taut line through its portals; for a straight walk, that no polygon holds the start, the polygon in which the walk reaches the point, or
 //! the wall at which it ends. The parts are those of `mesh_locate`, `corridor_search`, `funnel_path` and `ray_walk`.
+//! `answer_by` does the same by landmarks of the mesh, which make the search for a path close fewer polygons.
 //!
 //! `Asking` is such a question as one that carries how it is answered, for what takes questions of any kind.
 //!
