@@ -143,7 +143,7 @@ facet_doors polygon facet = map (door_over polygon facet) (range_with_len 0 (len
 unfoldable pub doors_of : List Facet → List Door
 doors_of facets =
     flat_map (λ polygon. facet_doors polygon
-        (get_or facets polygon (record { region = 0; outline = record { corners = []; codes = [] }; places = [] })))
+    (get_or facets polygon (record { region = 0; outline = record { corners = []; codes = [] }; places = [] })))
     (range_with_len 0 (length facets))
 
 -- ---- inner links

@@ -13,5 +13,5 @@ is_in_column x z cell = cell.at.x == x && cell.at.z == z
 abbrev pub floors_at : ℕ → ℕ → List FreeLayer → List FloorAt
 floors_at x z layers =
     flat_map (λ (layer : FreeLayer). map (λ (cell : Cell). record { y = cell.floor; area = cell.area })
-        (filter (is_in_column x z) layer.cells))
+    (filter (is_in_column x z) layer.cells))
     layers
