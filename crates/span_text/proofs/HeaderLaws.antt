@@ -15,7 +15,9 @@ use Rattle.nav_text.proofs.Inversions.{ok_is, unless, one_is, two_is, three_is}
 use Rattle.span_text.specs.declared.header.TextForm.{TextForm}
 use Rattle.span_text.specs.declared.header.TextForm.TheVariants.{First, Second}
 use Rattle.span_text.specs.FieldText.{mesh_text, nav_text}
-use Rattle.span_text.specs.Header.{is_in, nav_line, size_in, size_line, number_in, limited, agent_with, agent_in, agent_line, mesh_line, clear_in, clear_line}
+use Rattle.span_text.specs.Header.{nav_line, size_in, size_line, number_in, limited, agent_in, agent_line, mesh_line, clear_in, clear_line}
+use Rattle.nav_ground.specs.Shapes.{is_in}
+use Rattle.span_text.specs.Words.{agent_with}
 
 in_range : (low high n : ℕ) → not (is_in low high n) ≡ false → (low ≤ n) × (n ≤ high)
 in_range low high n h = grind (arith, nat_tests)

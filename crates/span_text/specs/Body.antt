@@ -5,7 +5,7 @@ use Rattle.nav_text.specs.declared.fault.FaultKind.TheVariants.{Form, Range, Ord
 use Rattle.nav_text.specs.Forms.{numbers_of, has_word}
 use Rattle.span_text.specs.declared.body.BodyLine.{BodyLine}
 use Rattle.span_text.specs.declared.body.BodyLine.TheVariants as lines
-use Rattle.span_text.specs.Header.{is_in}
+use Rattle.nav_ground.specs.Shapes.{is_in}
 
 -- a cost: an area from 1 to 63, a cost from 1 to 1000, and the area above the one before
 abbrev pub cost_in : ℕ → Option (List ℕ) → BodyLine

@@ -3,15 +3,12 @@ use Rattle.std.specs.Prelude.{ℕ, ◌*◌, Bool, not, ◌&&◌, ◌||◌, ◌==
 use Rattle.nav_ground.specs.declared.setting.Agent.{Agent}
 use Rattle.nav_ground.specs.declared.setting.MeshKind.{MeshKind}
 use Rattle.nav_ground.specs.declared.setting.MeshKind.TheVariants.{Strips, Contours}
+pub use Rattle.nav_ground.specs.Shapes.{is_in}
 use Rattle.nav_text.specs.declared.fault.FaultKind.{FaultKind}
 use Rattle.nav_text.specs.declared.fault.FaultKind.TheVariants.{Form, Range, Climb}
 use Rattle.nav_text.specs.Forms.{numbers_of}
 use Rattle.span_text.specs.declared.header.TextForm.{TextForm}
 use Rattle.span_text.specs.declared.header.TextForm.TheVariants.{First, Second}
-
--- a number lies in a closed range
-abbrev pub is_in : ℕ → ℕ → ℕ → Bool
-is_in low high number = nat_le low number && nat_le number high
 
 -- `nav 1` or `nav 2`
 unfoldable pub nav_line : List ℕ → Result TextForm FaultKind
@@ -35,14 +32,11 @@ unfoldable pub limited : List ℕ → ℕ → ℕ → List ℕ → Result ℕ Fa
 limited word low high line = number_in low high (numbers_of word 1 line)
 
 -- `agent` and its height, climb and radius, the climb below the height
-abbrev pub agent_with : ℕ → ℕ → ℕ → Agent
-agent_with height climb radius = record { height = height; climb = climb; radius = radius }
-
 abbrev pub agent_in : Option (List ℕ) → Result Agent FaultKind
 agent_in None = Err Form
 agent_in (Some numbers) =
     if not (is_in 1 255 (slice_index numbers 0)) || nat_lt 254 (slice_index numbers 1) || nat_lt 15 (slice_index numbers 2) then Err Range
-    else (if nat_le (slice_index numbers 0) (slice_index numbers 1) then Err Climb else Ok (agent_with (slice_index numbers 0) (slice_index numbers 1) (slice_index numbers 2)))
+    else (if nat_le (slice_index numbers 0) (slice_index numbers 1) then Err Climb else Ok (record { height = slice_index numbers 0; climb = slice_index numbers 1; radius = slice_index numbers 2 }))
 
 unfoldable pub agent_line : List ℕ → Result Agent FaultKind
 agent_line line = agent_in (numbers_of (codes "agent") 3 line)
