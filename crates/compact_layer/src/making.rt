@@ -10,7 +10,7 @@ ghost use Rattle.compact_layer.specs.Making.{cell_with, level_over, ceiling_over
 
 use crate::compact_field::CompactField;
 use crate::sweep::connect;
-use nav_ground::{Agent, Cell, CellRef, Field, SmallCell, Span};
+use nav_ground::{Agent, Cell, CellRef, Field, SmallCell, SmallSpan};
 use nav_list::Items;
 use std::alloc::{AllocError, Global};
 
@@ -58,7 +58,13 @@ fn unconnected(alloc: Global, field: &Field, areas: &[u32]) -> Result<Vec<SmallC
 }
 
 /// The cell on a span with an area, not yet connected, from the cells before it in order and the index of the next span of the field.
-fn cell_on(before: &[SmallCell], spans: &[Span], next: usize, span: &Span, area: u32) -> SmallCell
+fn cell_on(
+    before: &[SmallCell],
+    spans: &[SmallSpan],
+    next: usize,
+    span: &SmallSpan,
+    area: u32,
+) -> SmallCell
     requires before { All (λ (cell : Cell). cell.at.level ≤ 8191) before.now }
     requires spans { All (IsSpan 1024 1024) spans.now }
     requires span { IsSpan 1024 1024 span.now }
@@ -67,11 +73,11 @@ fn cell_on(before: &[SmallCell], spans: &[Span], next: usize, span: &Span, area:
 {
     SmallCell::new(&Cell {
         at: CellRef {
-            x: span.x,
-            z: span.z,
+            x: span.x(),
+            z: span.z(),
             level: level_over(before, span),
         },
-        floor: span.top,
+        floor: span.top(),
         ceiling: ceiling_over(spans, next, span),
         area,
         next: [None; 4],
@@ -79,26 +85,26 @@ fn cell_on(before: &[SmallCell], spans: &[Span], next: usize, span: &Span, area:
 }
 
 /// The level of a cell on a span, from the cells before it in order: one above the last of them if that lies in the same column, else 0.
-fn level_over(cells: &[SmallCell], span: &Span) -> u32
+fn level_over(cells: &[SmallCell], span: &SmallSpan) -> u32
     requires { All (λ (cell : Cell). cell.at.level ≤ 8191) cells.now }
     ensures most { result ≤ 8192 }
     ensures level { result ≡ level_over cells.now span.now }
 {
     match cells.last().map(|last| last.at()) {
-        Some(at) if at.x == span.x && at.z == span.z => at.level + 1,
+        Some(at) if at.x == span.x() && at.z == span.z() => at.level + 1,
         _ => 0,
     }
 }
 
 /// The ceiling over a span, by the index of the next span of the field: the bottom of that, walkable or not, if it lies in the same column,
 /// else 65535.
-fn ceiling_over(spans: &[Span], next: usize, span: &Span) -> u32
+fn ceiling_over(spans: &[SmallSpan], next: usize, span: &SmallSpan) -> u32
     requires { All (IsSpan 1024 1024) spans.now }
     ensures most { result ≤ 65535 }
     ensures ceiling { result ≡ ceiling_over (slice_get spans.now next) span.now }
 {
     match spans.get(next) {
-        Some(above) if above.x == span.x && above.z == span.z => above.bottom,
+        Some(above) if above.x() == span.x() && above.z() == span.z() => above.bottom(),
         _ => 65535,
     }
 }

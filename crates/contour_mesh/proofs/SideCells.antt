@@ -1,5 +1,5 @@
 -- The cells of a region beside a side of the tile, and the edges of its contour along that side.
-use Rattle.std.proofs.Common.{◌≡◌, ℕ, zero, suc, ◌+◌, ◌<◌, ◌≤◌, Bool, true, false, ℤ, pos, ◌+ℤ◌, ◌≤ℤ◌, List, [], filter, length, get_or, Option, Some, None, ap, ◌∙◌, sym, refl, arith}
+use Rattle.std.proofs.Common.{◌≡◌, ℕ, zero, suc, ◌+◌, ◌<◌, Bool, true, false, ℤ, pos, ◌+ℤ◌, ◌≤ℤ◌, List, [], filter, length, get_or, Option, Some, None, ap, ◌∙◌, sym, refl, arith}
 use Rattle.std.specs.Prelude.{All, Contains, option_and_then, ◌==◌, nat_lt, not, if◌then◌else◌}
 use Rattle.std.specs.List.{count_by, list_any, range_with_len}
 use Rattle.std.specs.Option.{option_map_or}

@@ -7,3 +7,5 @@ pub mod Searchable
 pub mod MeshWalks
 pub mod Extents
 pub mod LeftAlone
+pub mod EachLink
+pub mod Gaps

@@ -69,7 +69,7 @@ vertices-few mesh sound =
     omega (arith, count, few)
 
 -- what holds of each link that leaves a polygon holds of each arc that leaves its vertex
-each-arc : (mesh : Mesh) (v : Vertex) (P : Arc → Type 0) → ((link : Link) → Contains (links_from mesh (polygon_of v)) link → P (arc_over mesh link)) → All P (arcs_from mesh v)
+pub each-arc : (mesh : Mesh) (v : Vertex) (P : Arc → Type 0) → ((link : Link) → Contains (links_from mesh (polygon_of v)) link → P (arc_over mesh link)) → All P (arcs_from mesh v)
 each-arc mesh v P each =
     All-map P (arc_over mesh) (links_from mesh (polygon_of v)) (λ k d there.
     each (get_or (links_from mesh (polygon_of v)) k d) (Contains-get_or (links_from mesh (polygon_of v)) k d there))

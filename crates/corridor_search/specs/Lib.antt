@@ -1,2 +1,3 @@
 pub mod MeshGraphs
 pub mod Islands
+pub mod Landmarks

@@ -1,13 +1,16 @@
 //! The cheapest corridor between two polygons.
 
 ghost use Rattle.std.specs.Prelude.{◌≡◌, ◌<◌, ◌^◌, IfOk, IfSome, IfNone, All, map, length};
+ghost use Rattle.std.specs.Option.{option_copied};
 ghost use Rattle.nav_ground.specs.Limits.{IsSetting};
 ghost use Rattle.mesh_types.specs.Soundness.{IsSound};
 ghost use Rattle.mesh_types.specs.Corridors.{IsCheapest};
 ghost use Rattle.graph_search.specs.declared.arcs.Step.{Step};
 ghost use Rattle.corridor_search.specs.MeshGraphs.{IsThere, IsApart, IsOver, link_of};
+ghost use Rattle.corridor_search.specs.Landmarks.{AreLandmarks};
 
 use crate::islands::is_cut_off;
+use crate::landmarks::{FLAT, LANDMARKS, Landmarks};
 use crate::mesh_graph::{MeshGraph, link_at, vertex_at};
 use crate::weights::{extent_at, middle};
 use graph_search::{Step, cheapest_walk};
@@ -32,11 +35,38 @@ pub fn cheapest(
     ensures none { IfOk result (λ answer. IfNone answer (IsApart mesh.now from to)) }
     ensures few { IfOk result (λ answer. IfSome answer (λ corridor. corridor.cost < 2 ^ 45)) }
 {
+    cheapest_by(alloc, mesh, None, from, to)
+}
+
+/// The same, by landmarks of the mesh where there are some: the corridor found may be another one that costs as much, and it is found the
+/// sooner the farther the two polygons are from each other.
+pub fn cheapest_by(
+    alloc: Global,
+    mesh: &Mesh,
+    landmarks: Option<&Landmarks>,
+    from: PolyRef,
+    to: PolyRef,
+) -> Result<Option<Corridor>, AllocError>
+    requires sound { IsSound mesh.now }
+    requires setting { IsSetting mesh.now.setting }
+    requires landmarks { IfSome (option_copied landmarks) (AreLandmarks mesh.now) }
+    requires from { IsThere mesh.now from }
+    requires to { IsThere mesh.now to }
+    ensures found { IfOk result (λ answer. IfSome answer (λ corridor. IsCheapest mesh.now from to corridor)) }
+    ensures none { IfOk result (λ answer. IfNone answer (IsApart mesh.now from to)) }
+    ensures few { IfOk result (λ answer. IfSome answer (λ corridor. corridor.cost < 2 ^ 45)) }
+{
     if is_cut_off(alloc, mesh, from, to)? {
         return Ok(None);
     }
     let goal = middle(extent_at(mesh, to));
-    let graph = MeshGraph { mesh, goal };
+    let heights = heights_of(landmarks, to);
+    let graph = MeshGraph {
+        mesh,
+        goal,
+        landmarks,
+        heights,
+    };
     match cheapest_walk(alloc, &graph, vertex_at(from), vertex_at(to))? {
         Some(walk) => {
             let links = links_along(alloc, mesh, walk.steps.as_slice())?;
@@ -44,6 +74,14 @@ pub fn cheapest(
             Ok(Some(Corridor { cost, links }))
         }
         None => Ok(None),
+    }
+}
+
+/// The heights of a polygon over landmarks.
+fn heights_of(landmarks: Option<&Landmarks>, at: PolyRef) -> [u32; LANDMARKS] {
+    match landmarks {
+        Some(marks) => marks.heights(at),
+        None => FLAT,
     }
 }
 

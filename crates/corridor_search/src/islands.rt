@@ -129,7 +129,7 @@ fn are_alone(island: &[PolyRef], reach: Reach, links: &[Link]) -> bool
 }
 
 /// The links inside a tile.
-fn inner_of(mesh: &Mesh, tile: usize) -> &[Link]
+pub(crate) fn inner_of(mesh: &Mesh, tile: usize) -> &[Link]
     ensures { result.now ≡ inner_of mesh.now tile }
 {
     match mesh.tiles.get(tile) {
@@ -139,7 +139,7 @@ fn inner_of(mesh: &Mesh, tile: usize) -> &[Link]
 }
 
 /// The links that leave a tile over its border.
-fn outer_of(mesh: &Mesh, tile: usize) -> &[Link]
+pub(crate) fn outer_of(mesh: &Mesh, tile: usize) -> &[Link]
     ensures { result.now ≡ outer_of mesh.now tile }
 {
     match mesh.cross.get(tile) {

@@ -7,6 +7,7 @@ ghost use Rattle.mesh_types.specs.Soundness.{IsSound};
 ghost use Rattle.graph_search.specs.Walks.{arc_of};
 ghost use Rattle.corridor_search.specs.MeshGraphs.{vertex_of, vertices_of, polygon_of, inner_links, outer_links, links_from, link_of, end_of, arcs_from};
 
+use crate::landmarks::{LANDMARKS, Landmarks, bound};
 use crate::weights::{distance, extent_at, middle, weight};
 use graph_search::{Graph, Step, Vertex};
 use mesh_types::{Link, Mesh, PolyRef};
@@ -134,18 +135,24 @@ pub(crate) struct MeshGraph<'a> {
     pub(crate) mesh: &'a Mesh,
     /// The middle of the goal's polygon, in sixteenths of a cell.
     pub(crate) goal: Point,
+    /// Landmarks of the mesh, where there are some.
+    pub(crate) landmarks: Option<&'a Landmarks>,
+    /// The heights of the goal's polygon over them.
+    pub(crate) heights: [u32; LANDMARKS],
 }
 
 impl Graph for MeshGraph<'_> {
-    ghost use Rattle.corridor_search.specs.MeshGraphs.{IsSearched, vertices_of, arcs_from, estimates_of};
+    ghost use Rattle.corridor_search.specs.MeshGraphs.{vertices_of, arcs_from};
+    ghost use Rattle.std.specs.Option.{option_copied};
+    ghost use Rattle.corridor_search.specs.Landmarks.{IsSearchedBy, estimates_by};
 
-    ghost is_sound = { λ g. IsSearched g.mesh.now g.goal };
+    ghost is_sound = { λ g. IsSearchedBy g.mesh.now g.goal (option_copied g.landmarks) };
 
     ghost vertices = { λ g. vertices_of g.mesh.now };
 
     ghost arcs = { λ g. arcs_from g.mesh.now };
 
-    ghost estimates = { λ g. estimates_of g.mesh.now g.goal };
+    ghost estimates = { λ g. estimates_by g.mesh.now g.goal (option_copied g.landmarks) g.heights };
 
     /// The middles of two linked polygons are at most the side of a tile apart along each axis: 128 cells, 2048 sixteenths. Rounded up, that
     /// is 2897 across, at a cost of at most 1000.
@@ -160,8 +167,13 @@ impl Graph for MeshGraph<'_> {
     }
 
     fn estimate(&self, from: Vertex) -> u64 {
-        let extent = extent_at(self.mesh, polygon_at(from));
-        u64::from(distance(middle(extent), self.goal))
+        let at = polygon_at(from);
+        let extent = extent_at(self.mesh, at);
+        let distance = distance(middle(extent), self.goal);
+        match self.landmarks {
+            Some(marks) => u64::from(distance.max(bound(marks.heights(at), self.heights))),
+            None => u64::from(distance),
+        }
     }
 }
 

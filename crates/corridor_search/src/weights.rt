@@ -1,13 +1,14 @@
 //! Middles of polygons, and what links cost.
 
-ghost use Rattle.std.specs.Prelude.{◌≡◌, ◌*◌, max, slice_index, slice_index_or, pos, ◌≤ℤ◌, ◌+ℤ◌, ◌*ℤ◌};
+ghost use Rattle.std.specs.Prelude.{◌≡◌, ◌*◌, map, max, slice_index, slice_index_or, pos, ◌≤ℤ◌, ◌+ℤ◌, ◌*ℤ◌};
 ghost use Rattle.nav_base.specs.Point.{IsInField};
 ghost use Rattle.nav_base.specs.Distance.{distance_of};
 ghost use Rattle.nav_ground.specs.Limits.{IsSetting, IsArea};
+ghost use Rattle.mesh_types.specs.Extents.{extent_of};
 ghost use Rattle.corridor_search.specs.MeshGraphs.{IsBox, nowhere, middle_of, extent_at};
 
 use crate::roots::root;
-use mesh_types::{Extent, Mesh, PolyRef};
+use mesh_types::{Extent, Mesh, PolyRef, Polygons};
 use nav_base::{Point, square_distance};
 use nav_ground::Setting;
 
@@ -23,18 +24,19 @@ pub fn extent_at(mesh: &Mesh, at: PolyRef) -> Extent
     ensures { result ≡ extent_at mesh.now at }
 {
     match mesh.tiles.get(at.tile as usize) {
-        Some(tile) => extent_in(tile.get().polys.extents(), at.index as usize),
+        Some(tile) => extent_in(&tile.get().polys, at.index as usize),
         None => NOWHERE,
     }
 }
 
-/// The extent at a place.
-fn extent_in(extents: &[Extent], place: usize) -> Extent
-    ensures { result ≡ slice_index_or extents.now place nowhere }
+/// The extent of the polygon at a place.
+fn extent_in(polygons: &Polygons, place: usize) -> Extent
+    ensures { result ≡ slice_index_or (map extent_of polygons.now) place nowhere }
 {
-    match extents.get(place) {
-        Some(extent) => *extent,
-        None => NOWHERE,
+    if place < polygons.len() {
+        polygons.extent(place)
+    } else {
+        NOWHERE
     }
 }
 

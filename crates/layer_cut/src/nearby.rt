@@ -8,7 +8,7 @@ ghost use Rattle.nav_ground.specs.Tiling.{widened};
 ghost use Rattle.layer_cut.specs.Nearby.{spans_in, field_in};
 
 use agent_erode::{is_near, rows_of};
-use nav_ground::{CellRef, Field, Span, Window};
+use nav_ground::{CellRef, Field, SmallSpan, Window};
 use nav_list::Items;
 use std::alloc::{AllocError, Global};
 
@@ -33,10 +33,10 @@ pub(crate) fn field_near(
 /// The spans over a rectangle with a margin of so many columns on each side, in order. Only the spans of its rows are looked at.
 fn spans_near(
     alloc: Global,
-    spans: &[Span],
+    spans: &[SmallSpan],
     window: Window,
     margin: u32,
-) -> Result<Vec<Span>, AllocError>
+) -> Result<Vec<SmallSpan>, AllocError>
     requires order { AllPairs IsSpanBefore spans.now }
     requires rows { All (λ (span : Span). span.z < 1024) spans.now }
     ensures { IfOk result (λ near. near.items ≡ spans_in (widened window margin) spans.now) }
@@ -52,22 +52,22 @@ fn spans_near(
 }
 
 /// How many of the spans stand in rows before one.
-fn spans_before(spans: &[Span], row: u32) -> usize
+fn spans_before(spans: &[SmallSpan], row: u32) -> usize
     requires { AllPairs IsSpanBefore spans.now }
     ensures most { result ≤ length spans.now }
     ensures before { (k : ℕ) (d : Span) → k < result → (slice_index_or spans.now k d).z < row }
     ensures after { (k : ℕ) (d : Span) → result ≤ k → k < length spans.now → row ≤ (slice_index_or spans.now k d).z }
 {
-    spans.partition_point(|span| span.z < row)
+    spans.partition_point(|span| span.z() < row)
 }
 
 /// The foot of a span's column, as a place.
-fn foot_of(span: &Span) -> CellRef
+fn foot_of(span: &SmallSpan) -> CellRef
     ensures { result ≡ Column.foot_of span.now }
 {
     CellRef {
-        x: span.x,
-        z: span.z,
+        x: span.x(),
+        z: span.z(),
         level: 0,
     }
 }

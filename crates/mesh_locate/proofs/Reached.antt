@@ -1,9 +1,9 @@
 -- A polygon holds the points of its box alone.
-use Rattle.std.proofs.Common.{◌≡◌, ℕ, ◌<◌, ℤ, pos, ◌≤ℤ◌, List, [], length, map, get_or, sym, subst, ap, ◌∙◌, arith}
+use Rattle.std.proofs.Common.{◌≡◌, ℕ, ◌<◌, ℤ, pos, ◌≤ℤ◌, List, [], length, get_or, sym, subst, ap, ◌∙◌, arith}
 use Rattle.std.specs.Prelude.{All, Some, slice_get}
 use Rattle.std.proofs.lemmas.Int.{ints}
-use Rattle.std.proofs.lemmas.List.{get_or_default, get_or-map}
-use Rattle.std.proofs.lemmas.Option.{get_or_from_slice_get, slice_get-get_or}
+use Rattle.std.proofs.lemmas.List.{get_or_default}
+use Rattle.std.proofs.lemmas.Option.{get_or_from_slice_get}
 use Rattle.nav_base.specs.declared.point.Point.{Point}
 use Rattle.nav_base.specs.Point.{IsCellCorner}
 use Rattle.mesh_types.specs.declared.links.PolyRef.{PolyRef}
@@ -69,22 +69,15 @@ cell_box polygon rules = record {
     up : (a b c : ℤ) → a ≤ℤ b → b ≤ℤ c → a ≤ℤ c
     up a b c first next = omega (arith, ints)
 
-module _ (polygons : List Polygon) (extents : List Extent) (k : ℕ) (e : Extent) (are : extents ≡ map extent_of polygons) (rules : All IsPolygon polygons)
+module _ (polygons : List Polygon) (k : ℕ) (e : Extent) (are : (d : Polygon) → e ≡ extent_of (get_or polygons k d)) (rules : All IsPolygon polygons)
     (there : k < length polygons) where
-  extent_is : (polygon : Polygon) → slice_get polygons k ≡ Some polygon → get_or extents k e ≡ extent_of polygon
-  extent_is polygon is =
-      ap (λ (es : List Extent). get_or es k e) are ∙ get_or-map extent_of polygons k polygon e there
-      ∙ ap extent_of (get_or_from_slice_get polygons k polygon polygon is)
-
-  pub box_there : IsCellBox (get_or extents k e)
-  box_there =
-      let polygon : Polygon = get_or polygons k no_polygon in
-      subst IsCellBox (sym (extent_is polygon (slice_get-get_or polygons k no_polygon there))) (cell_box polygon (rules k no_polygon there))
+  pub box_there : IsCellBox e
+  box_there = subst IsCellBox (sym (are no_polygon)) (cell_box (get_or polygons k no_polygon) (rules k no_polygon there))
 
   -- a polygon whose box does not hold the point does not hold it
-  pub not_in_box : (mesh : Mesh) (p : Point) (y : ℕ) (at : PolyRef) → poly_at mesh at ≡ slice_get polygons k → (IsInBox (get_or extents k e) p → ⊥)
-      → HoldsAt mesh p y at → ⊥
+  pub not_in_box : (mesh : Mesh) (p : Point) (y : ℕ) (at : PolyRef) → poly_at mesh at ≡ slice_get polygons k → (IsInBox e p → ⊥) → HoldsAt mesh p y at → ⊥
   not_in_box mesh p y at listed never held =
       let is : slice_get polygons k ≡ Some held.polygon = sym listed ∙ held.there in
-      let own : IsPolygon held.polygon = subst IsPolygon (get_or_from_slice_get polygons k held.polygon held.polygon is) (rules k held.polygon there) in
-      never (subst (λ (x : Extent). IsInBox x p) (sym (extent_is held.polygon is)) (held_in_box held.polygon p own held.holds))
+      let same : get_or polygons k held.polygon ≡ held.polygon = get_or_from_slice_get polygons k held.polygon held.polygon is in
+      let own : IsPolygon held.polygon = subst IsPolygon same (rules k held.polygon there) in
+      never (subst (λ (x : Extent). IsInBox x p) (sym (are held.polygon ∙ ap extent_of same)) (held_in_box held.polygon p own held.holds))

@@ -28,7 +28,7 @@ pub fn nearer_at(
     ensures { IsNearestBefore mesh.now sought.p sought.y at.tile (at.index + 1) result }
 {
     let place = at.index as usize;
-    if !is_in_box(polygons.extents()[place], sought.p) {
+    if !is_in_box(polygons.extent(place), sought.p) {
         return best;
     }
     nearer(mesh, at, &polygons.as_slice()[place], sought, best)

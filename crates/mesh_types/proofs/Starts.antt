@@ -7,7 +7,7 @@ use Rattle.std.proofs.lemmas.List.FromFn.{get_or-map-range_with_len, length-map-
 use Rattle.std.proofs.lemmas.List.Sums.{count_by-le-length}
 use Rattle.nav_ground.proofs.Selections.{filter_none}
 use Rattle.mesh_types.specs.declared.links.Link.{Link}
-use Rattle.mesh_types.specs.LinkIndex.{AreOrderedLinks, IsIndexed, is_before_polygon, leaving_of}
+use Rattle.mesh_types.specs.LinkIndex.{AreOrderedLinks, IsIndexed, is_before_polygon, kept_start, leaving_of}
 use Rattle.mesh_types.proofs.Keyed.{before_first, at_key, first_passes, later_fails, fewer_before}
 
 -- one link more leaves an earlier polygon
@@ -37,7 +37,7 @@ all_before links polygon start d order known late =
 starts_count : (links : List Link) (starts : List ℕ) (indexed : IsIndexed links starts) → length starts ≡ indexed.polygons + 1
 starts_count links starts indexed =
     ap length indexed.starts_are
-    ∙ length-map-range_with_len (λ polygon. count_by (is_before_polygon polygon) links) 0 (indexed.polygons + 1)
+    ∙ length-map-range_with_len (λ polygon. kept_start (count_by (is_before_polygon polygon) links)) 0 (indexed.polygons + 1)
 
 -- no link leaves a polygon past the last
 pub none_leave : (links : List Link) (starts : List ℕ) (polygon : ℕ) → IsIndexed links starts → length starts ≤ polygon + 1 → [] ≡ leaving_of polygon links
@@ -46,38 +46,45 @@ none_leave links starts polygon indexed past =
     let below = indexed.within k d there in
     ne_eqb _ _ (λ same. omega (arith, below, past, same, starts_count links starts indexed))))
 
--- the start of a polygon that is there
-start_at : (links : List Link) (starts : List ℕ) (polygon start : ℕ) → IsIndexed links starts → polygon < length starts
-    → start ≡ get_or starts polygon start → start ≡ count_by (is_before_polygon polygon) links
-start_at links starts polygon start indexed there at =
-    at ∙ ap (λ xs. get_or xs polygon start) indexed.starts_are
-    ∙ get_or-map-range_with_len (λ p. count_by (is_before_polygon p) links) 0 (indexed.polygons + 1) polygon polygon start
+-- what is kept of the start of a polygon that is there
+pub kept_at : (links : List Link) (starts : List ℕ) (polygon d : ℕ) → IsIndexed links starts → polygon < length starts
+    → get_or starts polygon d ≡ kept_start (count_by (is_before_polygon polygon) links)
+kept_at links starts polygon d indexed there =
+    ap (λ xs. get_or xs polygon d) indexed.starts_are
+    ∙ get_or-map-range_with_len (λ p. kept_start (count_by (is_before_polygon p) links)) 0 (indexed.polygons + 1) polygon polygon d
     (omega (arith, there, starts_count links starts indexed)) (omega arith)
 
-pub starts_rise : (links : List Link) (starts : List ℕ) (polygon start next : ℕ) → IsIndexed links starts → polygon + 1 < length starts
-    → start ≡ get_or starts polygon start → next ≡ get_or starts (polygon + 1) next → (start ≤ next) × (next ≤ length links)
-starts_rise links starts polygon start next indexed there at at' =
-    let first = start_at links starts polygon start indexed (omega (arith, there)) at in
-    let after = start_at links starts (polygon + 1) next indexed there at' in (
-      omega (arith, first, after, fewer_before (λ (link : Link). link.from.index) polygon links),
-      omega (arith, after, count_by-le-length (is_before_polygon (polygon + 1)) links),
-    )
+-- a start that is less than the greatest number is kept as it is
+pub kept_whole : (start count : ℕ) → start ≡ kept_start count → start < 4294967295 → start ≡ count
+kept_whole start count is less = omega (arith, is, less)
+
+-- no start is less than what is kept of it
+pub kept_most : (start count : ℕ) → start ≡ kept_start count → start ≤ count
+kept_most start count is = omega (arith, is)
+
+-- starts rise, and none is past the last link
+pub starts_rise : (links : List Link) (polygon first end : ℕ) → first ≡ count_by (is_before_polygon polygon) links
+    → end ≡ count_by (is_before_polygon (polygon + 1)) links → (first ≤ end) × (end ≤ length links)
+starts_rise links polygon first end first_is end_is = (
+  omega (arith, first_is, end_is, fewer_before (λ (link : Link). link.from.index) polygon links),
+  omega (arith, end_is, count_by-le-length (is_before_polygon (polygon + 1)) links),
+)
 
 -- the links of a polygon are those between its start and the next
-pub leaving_between : (links : List Link) (starts : List ℕ) (polygon start next : ℕ) → IsIndexed links starts → polygon + 1 < length starts
-    → start ≡ get_or starts polygon start → next ≡ get_or starts (polygon + 1) next → slice_range links start next ≡ leaving_of polygon links
-leaving_between links starts polygon start next indexed there at at' =
-    ap (λ a. slice_range links a next) (start_at links starts polygon start indexed (omega (arith, there)) at)
-    ∙ ap (slice_range links (count_by (is_before_polygon polygon) links)) (start_at links starts (polygon + 1) next indexed there at')
-    ∙ at_key (λ (link : Link). link.from.index) polygon links indexed.order
+pub leaving_between : (links : List Link) (polygon first end : ℕ) → AreOrderedLinks links → first ≡ count_by (is_before_polygon polygon) links
+    → end ≡ count_by (is_before_polygon (polygon + 1)) links → slice_range links first end ≡ leaving_of polygon links
+leaving_between links polygon first end order first_is end_is =
+    ap (λ a. slice_range links a end) first_is
+    ∙ ap (slice_range links (count_by (is_before_polygon polygon) links)) end_is
+    ∙ at_key (λ (link : Link). link.from.index) polygon links order
 
 -- a start more
 pub one_more_start : (links : List Link) (starts : List ℕ) (polygon : ℕ)
-    → starts ≡ map (λ p. count_by (is_before_polygon p) links) (range_with_len 0 polygon)
-    → starts ++ count_by (is_before_polygon polygon) links ∷ [] ≡ map (λ p. count_by (is_before_polygon p) links) (range_with_len 0 (polygon + 1))
+    → starts ≡ map (λ p. kept_start (count_by (is_before_polygon p) links)) (range_with_len 0 polygon)
+    → starts ++ kept_start (count_by (is_before_polygon polygon) links) ∷ [] ≡ map (λ p. kept_start (count_by (is_before_polygon p) links)) (range_with_len 0 (polygon + 1))
 one_more_start links starts polygon before =
-    ap (λ (xs : List ℕ). xs ++ count_by (is_before_polygon polygon) links ∷ []) before
-    ∙ sym (map-range_with_len_more (λ p. count_by (is_before_polygon p) links) 0 polygon polygon (omega arith))
+    ap (λ (xs : List ℕ). xs ++ kept_start (count_by (is_before_polygon polygon) links) ∷ []) before
+    ∙ sym (map-range_with_len_more (λ p. kept_start (count_by (is_before_polygon p) links)) 0 polygon polygon (omega arith))
 
 -- what leaves before a polygon leaves before the next
 pub known_before : (links : List Link) (polygon : ℕ) → count_by (is_before_polygon polygon) links ≤ count_by (is_before_polygon (polygon + 1)) links

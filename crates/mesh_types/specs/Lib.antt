@@ -1,6 +1,7 @@
 pub mod Inline
 pub mod LinkIndex
 pub mod Extents
+pub mod SmallExtents
 pub mod Runs
 pub mod Strips
 pub mod LinkOrder

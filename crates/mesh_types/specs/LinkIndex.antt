@@ -1,5 +1,5 @@
 -- LinkIndex: links in the order of the polygons that they leave, and where those of each polygon begin.
-use Rattle.std.specs.Prelude.{◌≡◌, ℕ, ◌+◌, ◌<◌, Bool, nat_lt, ◌==◌, List, map, filter, All}
+use Rattle.std.specs.Prelude.{◌≡◌, ℕ, ◌+◌, ◌<◌, Bool, nat_lt, ◌==◌, min, List, map, filter, All}
 use Rattle.std.specs.List.{count_by, range_with_len}
 use Rattle.std.specs.List.Sorted.{IsNonDecreasingBy}
 use Rattle.mesh_types.specs.declared.links.PolyRef.{PolyRef}
@@ -21,9 +21,13 @@ leaving_of polygon links = filter (λ (link : Link). link.from.index == polygon)
 abbrev pub is_before_polygon : ℕ → Link → Bool
 is_before_polygon polygon link = nat_lt link.from.index polygon
 
--- for each polygon, and the number after the last, how many links leave earlier ones
+-- a start as it is kept: the greatest number of 32 bits stands for all starts from it on
+abbrev pub kept_start : ℕ → ℕ
+kept_start start = min start 4294967295
+
+-- for each polygon, and the number after the last, how many links leave earlier ones, as it is kept
 abbrev pub starts_of : List Link → ℕ → List ℕ
-starts_of links polygons = map (λ polygon. count_by (is_before_polygon polygon) links) (range_with_len 0 (polygons + 1))
+starts_of links polygons = map (λ polygon. kept_start (count_by (is_before_polygon polygon) links)) (range_with_len 0 (polygons + 1))
 
 -- the starts stand beside ordered links of polygons below a number
 pub record IsIndexed (links : List Link) (starts : List ℕ) : Type 0 where

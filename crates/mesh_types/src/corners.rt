@@ -9,7 +9,7 @@ use std::marker::Model;
 #[derive(Clone, Copy, PartialEq, Eq, Debug)]
 pub struct Corners {
     points: [Point; 6],
-    count: usize,
+    count: u8,
 }
 
 impl Model for Corners {
@@ -38,7 +38,7 @@ impl Corners {
         kept[..points.len()].copy_from_slice(points);
         Corners {
             points: kept,
-            count: points.len(),
+            count: points.len() as u8,
         }
     }
 
@@ -47,6 +47,6 @@ impl Corners {
         ensures value { result.now ≡ self.now }
         ensures few { length self.now ≤ 6 }
     {
-        &self.points[..self.count]
+        &self.points[..self.count as usize]
     }
 }

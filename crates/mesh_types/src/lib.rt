@@ -26,6 +26,7 @@ mod outline;
 mod polygon;
 mod polygons;
 mod region;
+mod small_extent;
 mod strip;
 mod tile;
 mod walks;

@@ -2,7 +2,7 @@
 
 ghost use Rattle.std.specs.Prelude.{◌≡◌, ◌<◌, ◌≤◌, ◌+◌, IfOk, length, map, slice_range};
 ghost use Rattle.std.specs.List.{count_by};
-ghost use Rattle.mesh_types.specs.LinkIndex.{AreOrderedLinks, AreBelow, is_before_polygon, leaving_of, entered_by, starts_of};
+ghost use Rattle.mesh_types.specs.LinkIndex.{AreOrderedLinks, AreBelow, IsIndexed, is_before_polygon, leaving_of, entered_by, kept_start, starts_of};
 
 use crate::links::{Link, PolyRef};
 use nav_list::Duplicate;
@@ -14,7 +14,8 @@ use std::marker::Model;
 #[derive(Drop)]
 pub struct Links {
     links: Vec<Link>,
-    starts: Vec<usize>,
+    /// A start past the greatest number of 32 bits is kept as that number, and looked for from there on.
+    starts: Vec<u32>,
     entered: Vec<PolyRef>,
 }
 
@@ -69,11 +70,9 @@ impl Links {
         if self.starts.len() <= place + 1 {
             return &[];
         }
-        between(
-            self.links.as_slice(),
-            self.starts[place],
-            self.starts[place + 1],
-        )
+        let first = start_at(self.links.as_slice(), self.starts.as_slice(), place);
+        let end = start_at(self.links.as_slice(), self.starts.as_slice(), place + 1);
+        between(self.links.as_slice(), first, end)
     }
 
     /// The polygons that the links which leave a polygon enter, in order of the links.
@@ -84,11 +83,9 @@ impl Links {
         if self.starts.len() <= place + 1 {
             return &[];
         }
-        between(
-            self.entered.as_slice(),
-            self.starts[place],
-            self.starts[place + 1],
-        )
+        let first = start_at(self.links.as_slice(), self.starts.as_slice(), place);
+        let end = start_at(self.links.as_slice(), self.starts.as_slice(), place + 1);
+        between(self.entered.as_slice(), first, end)
     }
 }
 
@@ -111,8 +108,21 @@ fn between<T>(items: &[T], first: usize, end: usize) -> &[T]
     &items[first..end]
 }
 
-/// For each polygon, and the number after the last, how many links leave earlier ones.
-fn starts(alloc: Global, links: &[Link], polygons: u32) -> Result<Vec<usize>, AllocError>
+/// How many links leave polygons before one.
+fn start_at(links: &[Link], starts: &[u32], polygon: usize) -> usize
+    requires indexed { IsIndexed links.now starts.now }
+    requires there { polygon < length starts.now }
+    ensures { result ≡ count_by (is_before_polygon polygon) links.now }
+{
+    let start = starts[polygon];
+    if start < u32::MAX {
+        return start as usize;
+    }
+    start_from(links, start as usize, polygon)
+}
+
+/// For each polygon, and the number after the last, how many links leave earlier ones, as they are kept.
+fn starts(alloc: Global, links: &[Link], polygons: u32) -> Result<Vec<u32>, AllocError>
     requires { AreOrderedLinks links.now }
     ensures { IfOk result (λ starts. starts.items ≡ starts_of links.now polygons) }
 {
@@ -120,9 +130,16 @@ fn starts(alloc: Global, links: &[Link], polygons: u32) -> Result<Vec<usize>, Al
     let mut start = 0;
     for polygon in 0..polygons as usize + 1 {
         start = start_from(links, start, polygon);
-        starts.push(start)?;
+        starts.push(kept_start(start))?;
     }
     Ok(starts)
+}
+
+/// A start as it is kept.
+fn kept_start(start: usize) -> u32
+    ensures { result ≡ kept_start start }
+{
+    start.min(u32::MAX as usize) as u32
 }
 
 /// How many links leave polygons before one, of which the first ones are known to.

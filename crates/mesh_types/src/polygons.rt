@@ -1,15 +1,17 @@
 //! Lists of polygons beside which the extents stand.
 
-ghost use Rattle.std.specs.Prelude.{◌≡◌, IfOk, length, map, slice_get};
+ghost use Rattle.std.specs.Prelude.{◌≡◌, ◌<◌, IfOk, length, slice_get, slice_index_or};
 ghost use Rattle.std.specs.Option.{option_copied};
 ghost use Rattle.std.specs.Int.{int_min, int_max};
 ghost use Rattle.nav_base.specs.Convex.{corner_at};
-ghost use Rattle.mesh_types.specs.Extents.{extent_of};
+ghost use Rattle.mesh_types.specs.declared.polygon.Polygon.{Polygon};
+ghost use Rattle.mesh_types.specs.Extents.{AreExtents, extent_of};
 
 use crate::extent::Extent;
 use crate::polygon::Polygon;
+use crate::small_extent::SmallExtent;
 use nav_base::Point;
-use nav_list::Duplicate;
+use nav_list::{Duplicate, Items};
 use std::alloc::{AllocError, Global};
 use std::marker::Model;
 
@@ -18,19 +20,20 @@ use std::marker::Model;
 #[derive(Drop)]
 pub struct Polygons {
     polygons: Vec<Polygon>,
-    extents: Vec<Extent>,
+    /// None where one of them does not fit into small numbers, as no polygon of a field does: they are then reckoned from the corners.
+    extents: Option<Items<SmallExtent>>,
 }
 
 impl Model for Polygons {
-    ghost use Rattle.std.specs.Prelude.{◌≡◌, List, map};
+    ghost use Rattle.std.specs.Prelude.{List};
     ghost use Rattle.mesh_types.specs.declared.polygon.Polygon.{Polygon};
-    ghost use Rattle.mesh_types.specs.Extents.{extent_of};
+    ghost use Rattle.mesh_types.specs.Extents.{AreExtents};
 
     ghost Value = { List Polygon };
 
     ghost view = { λ a. a.polygons.items };
 
-    ghost invariant = { λ a. a.extents.items ≡ map extent_of a.polygons.items };
+    ghost invariant = { λ a. AreExtents a.polygons.items a.extents };
 }
 
 impl Polygons {
@@ -63,32 +66,43 @@ impl Polygons {
         self.polygons.get(place)
     }
 
-    /// The extents of the polygons, in order.
-    pub fn extents(&self) -> &[Extent]
-        ensures { result.now ≡ map extent_of self.now }
+    /// The extent of the polygon at a place, from 0.
+    pub fn extent(&self, place: usize) -> Extent
+        requires { place < length self.now }
+        ensures { (d : Polygon) → result ≡ extent_of (slice_index_or self.now place d) }
     {
-        self.extents.as_slice()
+        match &self.extents {
+            Some(extents) => extents.as_slice()[place].get(),
+            None => extent(&self.polygons[place]),
+        }
     }
 }
 
 impl Duplicate for Polygons {
     fn duplicate(&self, alloc: Global) -> Result<Self, AllocError> {
+        let extents = match &self.extents {
+            Some(extents) => Some(extents.duplicate(alloc)?),
+            None => None,
+        };
         Ok(Polygons {
             polygons: Vec::from_slice(alloc, self.polygons.as_slice())?,
-            extents: Vec::from_slice(alloc, self.extents.as_slice())?,
+            extents,
         })
     }
 }
 
-/// The extents of polygons.
-fn extents(alloc: Global, polygons: &[Polygon]) -> Result<Vec<Extent>, AllocError>
-    ensures { IfOk result (λ extents. extents.items ≡ map extent_of polygons.now) }
+/// The extents of polygons in small numbers; none where one of them does not fit.
+fn extents(alloc: Global, polygons: &[Polygon]) -> Result<Option<Items<SmallExtent>>, AllocError>
+    ensures { IfOk result (AreExtents polygons.now) }
 {
     let mut extents = Vec::with_capacity(alloc, polygons.len())?;
     for polygon in polygons {
-        extents.push(extent(polygon))?;
+        match SmallExtent::new(extent(polygon)) {
+            Some(small) => extents.push(small)?,
+            None => return Ok(None),
+        }
     }
-    Ok(extents)
+    Ok(Some(Items::from_vec(extents)))
 }
 
 /// The extent of a polygon.

@@ -288,6 +288,32 @@ impl Book {
         self.level.ask(alloc, question)
     }
 
+    /// The same, for one who asks much of a book that stands still: the 16th path question of one published mesh prepares it first, where memory
+    /// for that is left.
+    pub fn ask_and_prepare(
+        &mut self,
+        alloc: Global,
+        question: &Question,
+    ) -> Result<(u32, Answer), AllocError>
+        requires { IsAnswerable question.now }
+        ensures published { IfOk result (λ told. told.0 ≡ self.old.state.published) }
+        ensures right { IfOk result (λ told. IsRight (published_mesh self.old.state) question.now told.1) }
+        ensures low_cost { IfOk result (λ told. HasLowCost told.1) }
+        ensures unfolded { IfOk result (λ told. HasUnfoldedWay told.1) }
+        ensures same { self.new ≡ self.old }
+    {
+        self.level.ask_and_prepare(alloc, question)
+    }
+
+    /// Makes landmarks of the published mesh where there are none, which costs about as much as sixty path questions, and lets each later one
+    /// close a fifth of the polygons. They go with the next publish that shows something new. Nothing that a caller sees has changed, also where
+    /// memory is refused.
+    pub fn prepare(&mut self, alloc: Global) -> Result<(), AllocError>
+        ensures same { self.new ≡ self.old }
+    {
+        self.level.prepare(alloc)
+    }
+
     /// The published length, and an answer to a question of any kind that is right in the mesh as it was last published.
     pub fn ask_by<Q: Asked>(
         &self,

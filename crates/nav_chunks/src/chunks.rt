@@ -31,7 +31,7 @@ impl<T> Model for Chunks<T> {
 }
 
 impl<T> Chunks<T> {
-    /// The elements of a vector, in order.
+    /// The elements of a vector, in order. Only memory can be refused, and then the elements are dropped.
     pub fn from_vec(alloc: Global, items: Vec<T>) -> Result<Chunks<T>, AllocError>
     where
         T: Drop,

@@ -1,11 +1,11 @@
 -- Flags after one of them was written.
-use Rattle.std.proofs.Common.{◌≡◌, ◌≢◌, ℕ, zero, suc, ◌+◌, ◌<◌, ◌≤◌, Bool, true, false, not, ◌&&◌, Option, Some, None, List, [], ◌∷◌, length, set, replicate, cond, ap, sym, subst, ◌∙◌, refl, ⊎_elim, arith}
+use Rattle.std.proofs.Common.{◌≡◌, ◌≢◌, ℕ, zero, suc, ◌+◌, ◌<◌, Bool, true, false, not, ◌&&◌, Option, Some, None, List, [], ◌∷◌, length, set, replicate, cond, ap, sym, subst, ◌∙◌, refl, ⊎_elim, arith}
 use Rattle.std.specs.Prelude.{IfSome, if◌then◌else◌}
-use Rattle.std.proofs.lemmas.Bool.{both_ways, cases_eq, cases_lt}
+use Rattle.std.proofs.lemmas.Bool.{both_ways, cases_eq}
 use Rattle.std.proofs.lemmas.List.{get_or-set_same, get_or-set_other}
 use Rattle.std.proofs.lemmas.List.Sums.{sum_by-set}
 use Rattle.nav_desk.specs.Flags.{flag_of, set_count, least_below}
-use Rattle.nav_desk.specs.Waiting.{Waiting, AreReady, IsStart}
+use Rattle.nav_desk.specs.Waiting.{Waiting, AreReady}
 use Rattle.nav_desk.proofs.Leasts.{least_passes, none_below}
 
 -- a flag that was written, and the others
@@ -33,15 +33,6 @@ flag_of_none zero tile = refl
 flag_of_none (suc count) zero = refl
 flag_of_none (suc count) (suc tile) = flag_of_none count tile
 
--- a place to start from that was gone on from another
-pub IsStart-moved : (flags : List Bool) (start next : ℕ) → IsStart flags start → next ≤ length flags
-    → ((k : ℕ) → start ≤ k → k < next → flag_of flags k ≡ false) → IsStart flags next
-IsStart-moved flags start next is within unset = record {
-  few = is.few;
-  within = within;
-  none = λ k before. ⊎_elim (λ early. is.none k early) (λ late. unset k late before) (cases_lt k start);
-}
-
 -- how many flags are set, after one was written
 pub count_written : (flags : List Bool) (tile : ℕ) (b : Bool) → tile < length flags
     → set_count (set flags tile b) + cond (flag_of flags tile) 1 0 ≡ set_count flags + cond b 1 0
@@ -52,14 +43,6 @@ pub one_less : (flags : List Bool) (tile : ℕ) → tile < length flags → flag
 one_less flags tile there is =
     let counts = subst (λ (b : Bool). set_count (set flags tile false) + cond b 1 0 ≡ set_count flags + 0) is (count_written flags tile false there) in
     omega (arith, counts)
-
--- where a flag is set, they are not none
-pub some_set : (flags : List Bool) (tile : ℕ) → tile < length flags → flag_of flags tile ≡ true → 0 < set_count flags
-some_set flags tile there is = let less = one_less flags tile there is in omega (arith, less)
-
--- where none is set, each is not
-pub none_set : (flags : List Bool) (tile : ℕ) → set_count flags ≡ 0 → tile < length flags → flag_of flags tile ≡ false
-none_set flags tile none there = unset (flag_of flags tile) false (λ is. let some = some_set flags tile there is in absurd (omega (arith, some, none))) refl
 
 -- flags of which none is set
 pub all_unset : (flags : List Bool) → ((tile : ℕ) → tile < length flags → flag_of flags tile ≡ false) → flags ≡ replicate (length flags) false

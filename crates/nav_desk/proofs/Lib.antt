@@ -2,6 +2,7 @@ pub mod Leasts
 pub mod SameShapes
 pub mod BookLaws
 pub mod FlagLaws
+mod WordLaws
 pub mod Touched
 pub mod Meetings
 pub mod Keeping

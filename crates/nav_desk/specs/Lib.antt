@@ -1,5 +1,6 @@
 pub mod Bounds
 pub mod Flags
+pub mod Words
 pub mod SameShapes
 pub mod LiveTable
 pub mod BookState

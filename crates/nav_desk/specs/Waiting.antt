@@ -1,6 +1,6 @@
 -- Which tiles await a build, and which builds are claimed, as flags.
-use Rattle.std.specs.Prelude.{◌≡◌, ℕ, ◌<◌, ◌≤◌, ◌^◌, Bool, false, not, ◌&&◌, List, length, Option}
-use Rattle.nav_desk.specs.Flags.{flag_of, set_count, least_below}
+use Rattle.std.specs.Prelude.{◌≡◌, ℕ, ◌<◌, Bool, not, ◌&&◌, List, length, Option}
+use Rattle.nav_desk.specs.Flags.{flag_of, least_below}
 
 -- two flags a tile
 pub record Waiting : Type 0 where
@@ -20,14 +20,3 @@ pub record AreReady (waiting : Waiting) (ready : List Bool) : Type 0 where
   pub claims : length waiting.claimed ≡ length waiting.awaited
   pub each : length ready ≡ length waiting.awaited
   pub same : (tile : ℕ) → tile < length waiting.awaited → flag_of ready tile ≡ is_ready waiting tile
-
--- looking for the least flag that is set may start at a place: none before it is set; and tiles have 32-bit numbers
-pub record IsStart (flags : List Bool) (start : ℕ) : Type 0 where
-  pub few : length flags < 2 ^ 32
-  pub within : start ≤ length flags
-  pub none : (tile : ℕ) → tile < start → flag_of flags tile ≡ false
-
--- a set of flags as it is kept: looking for the least may start at a place, and so many flags are set
-pub record IsLeastSet (flags : List Bool) (start members : ℕ) : Type 0 where
-  pub place : IsStart flags start
-  pub counted : members ≡ set_count flags

@@ -201,7 +201,7 @@ impl Desk {
     }
 
     /// What a publish is answered now: `NotYet` with the least awaited tile, else `Same` where the target is published already, else `New`.
-    /// Nothing changes but the place from which the next look for that tile goes on, which no caller sees.
+    /// Nothing changes.
     pub fn publication(&mut self) -> Published
         ensures answer { result ≡ Rattle.nav_desk.specs.Steps.publication self.old }
         ensures same { self.new ≡ self.old }

@@ -77,26 +77,23 @@ impl WaitingTiles {
     }
 
     /// The least tile that is claimed, if there is one.
-    fn least_claimed(&mut self) -> Option<TileNo>
-        ensures least { result ≡ least_below (length self.old.claimed) (flag_of self.old.claimed) }
-        ensures there { IfSome result (λ tile. tile < length self.old.awaited) }
-        ensures kept { self.new ≡ self.old }
+    fn least_claimed(&self) -> Option<TileNo>
+        ensures least { result ≡ least_below (length self.now.claimed) (flag_of self.now.claimed) }
+        ensures there { IfSome result (λ tile. tile < length self.now.awaited) }
     {
         self.claimed.least()
     }
 
     /// The least tile that is awaited, if there is one.
-    pub(crate) fn least_awaited(&mut self) -> Option<TileNo>
-        ensures least { result ≡ least_below (length self.old.awaited) (flag_of self.old.awaited) }
-        ensures kept { self.new ≡ self.old }
+    pub(crate) fn least_awaited(&self) -> Option<TileNo>
+        ensures { result ≡ least_below (length self.now.awaited) (flag_of self.now.awaited) }
     {
         self.awaited.least()
     }
 
     /// The least tile that is awaited and not claimed, if there is one.
-    pub(crate) fn least_ready(&mut self) -> Option<TileNo>
-        ensures least { result ≡ least_ready self.old }
-        ensures kept { self.new ≡ self.old }
+    pub(crate) fn least_ready(&self) -> Option<TileNo>
+        ensures { result ≡ least_ready self.now }
     {
         self.ready.least()
     }

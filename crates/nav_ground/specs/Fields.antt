@@ -11,6 +11,14 @@ pub record IsSpan (width depth : ℕ) (span : Span) : Type 0 where
   pub top : span.top ≤ 8191
   pub area : span.area ≤ 63
 
+-- a span's numbers fit ten bytes: four of two bytes, and the area in one
+pub record IsSmallSpan (span : Span) : Type 0 where
+  pub x : span.x < 65536
+  pub z : span.z < 65536
+  pub bottom : span.bottom < 65536
+  pub top : span.top < 65536
+  pub area : span.area < 256
+
 -- a span comes before another: by z, then by x, and within one column the other begins where it ends or higher
 abbrev pub IsSpanBefore : Span → Span → Type 0
 IsSpanBefore a b = (a.z < b.z) ⊎ ((a.z ≡ b.z) × ((a.x < b.x) ⊎ ((a.x ≡ b.x) × (a.top ≤ b.bottom))))

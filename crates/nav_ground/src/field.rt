@@ -1,5 +1,6 @@
 //! A field of spans: what is solid in each column.
 
+use crate::small_span::SmallSpan;
 use nav_list::Items;
 
 /// A solid piece of one column, from its bottom up to its top. An agent stands on the top. As the spans of Recast's height field.
@@ -25,5 +26,5 @@ pub struct Field {
     /// Columns along z, 1 to 1024.
     pub depth: u32,
     /// At most 2000000, which do not overlap; two of one column may touch.
-    pub spans: Items<Span>,
+    pub spans: Items<SmallSpan>,
 }

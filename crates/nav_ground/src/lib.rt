@@ -21,6 +21,7 @@ mod history;
 mod setting;
 mod shape;
 mod small_cell;
+mod small_span;
 mod tiling;
 mod touch;
 
@@ -30,5 +31,6 @@ pub use history::{Entry, Ground, HISTORY_LIMIT, Reply, Request};
 pub use setting::{AREAS, Agent, MeshKind, Setting};
 pub use shape::{Shape, bounds, covers, sets};
 pub use small_cell::SmallCell;
+pub use small_span::SmallSpan;
 pub use tiling::{TileNo, tile_bounds, tiles};
 pub use touch::{margin_of, touch_window, touches};

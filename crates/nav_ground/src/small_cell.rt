@@ -8,7 +8,7 @@ ghost use Rattle.nav_ground.specs.SmallCells.{IsSmall};
 use crate::cell::{Cell, CellRef};
 use std::marker::Model;
 
-/// The number of a level that stands for none. No cell has so high a level.
+/// The number of a level that stands for none. No cell of a field has so high a level.
 const NO_LEVEL: u16 = 65535;
 
 /// A cell in twenty bytes, as lists keep it; contracts see the cell.

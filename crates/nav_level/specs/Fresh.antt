@@ -1,10 +1,11 @@
 -- Fresh tile meshes, which are stored and not published yet: one place a tile, empty where the stored mesh is the published one.
-use Rattle.std.specs.Prelude.{◌≡◌, ℕ, ◌+◌, ◌<◌, List, [], ◌∷◌, ◌++◌, get_or, Option, Some, None, unwrap_or}
+use Rattle.std.specs.Prelude.{◌≡◌, ℕ, ◌+◌, ◌<◌, ◌≤◌, List, [], ◌∷◌, ◌++◌, length, map, take, drop, get_or, All, Option, Some, None, unwrap_or}
+use Rattle.std.specs.List.{range_with_len}
 use Rattle.nav_ground.specs.declared.history.Ground.{Ground}
 use Rattle.nav_ground.specs.declared.shape.Shape.{Shape}
 use Rattle.nav_ground.specs.Tiling.{tile_count}
 use Rattle.mesh_types.specs.declared.tile.TileMesh.{TileMesh}
-use Rattle.tile_links.specs.NewTiles.{New}
+use Rattle.tile_links.specs.NewTiles.{New, AreRising, new_tile}
 use Rattle.nav_level.specs.Results.{tile_under}
 
 -- the number of a tile with its fresh mesh, if it has one
@@ -29,3 +30,24 @@ mesh_at_hand places published tile otherwise = unwrap_or (get_or places tile Non
 abbrev pub AreStored : Ground → List (List Shape) → List (Option TileMesh) → List TileMesh → Type 0
 AreStored whole stored places published = (tile : ℕ) (otherwise : TileMesh) → tile < tile_count whole.setting
     → mesh_at_hand places published tile otherwise ≡ tile_under whole tile (get_or stored tile [])
+
+-- the places of so many tiles, where the fresh tile meshes are those of a list
+abbrev pub places_of : ℕ → List New → List (Option TileMesh)
+places_of tiles news = map (new_tile news) (range_with_len 0 tiles)
+
+-- such a list as it is kept: the numbers rise and are those of tiles, and there is room for a mesh of each
+pub record AreKeptFresh (tiles room : ℕ) (news : List New) : Type 0 where
+  pub rising : AreRising news
+  pub there : All (λ (new : New). new.0 < tiles) news
+  pub enough : tiles ≤ room
+
+-- the mesh of a tile stands at a place of a list
+pub record IsPlaceOf (news : List New) (tile place : ℕ) : Type 0 where
+  pub there : place < length news
+  pub number : (d : New) → (get_or news place d).0 ≡ tile
+
+-- a list has none, and those before a place are of lower tiles, the others of higher ones
+pub record IsGapFor (news : List New) (tile place : ℕ) : Type 0 where
+  pub within : place ≤ length news
+  pub low : All (λ (new : New). new.0 < tile) (take place news)
+  pub high : All (λ (new : New). tile < new.0) (drop place news)

@@ -22,4 +22,4 @@ pub record AreKept (state : BookState) (places : List (Option TileMesh)) (mesh :
   pub sound : IsSound mesh
 
 abbrev pub IsKept : Inside → Type 0
-IsKept inside = AreKept inside.desk inside.fresh.items inside.mesh
+IsKept inside = AreKept inside.desk inside.fresh inside.mesh

@@ -18,13 +18,13 @@ ghost use Rattle.nav_level.specs.Results.{IsNew, published_mesh, target_mesh, ti
 ghost use Rattle.nav_level.specs.Settling.{IsUnclaimed};
 
 use crate::counts::{links, polygons};
-use crate::fresh::{empty, empty_places, news_of};
+use crate::fresh::FreshMeshes;
+use crate::shown::Shown;
 use mesh_types::{Answer, Asked, Mesh, TileMesh};
 use nav_base::Question;
 use nav_desk::{Desk, HistoryFull, Job, Published, Submitted};
 use nav_ground::{Entry, Ground, Reply, Request};
 use nav_list::Items;
-use nav_query::Asking;
 use nav_share::Shared;
 use std::alloc::{AllocError, Global};
 use std::marker::Model;
@@ -37,9 +37,9 @@ use tile_links::{joined, replaced};
 #[derive(Drop)]
 pub struct Level {
     desk: Desk,
-    /// The tile meshes that are stored and not published yet, one place a tile.
-    fresh: Vec<Option<Shared<TileMesh>>>,
-    mesh: Shared<Mesh>,
+    /// The tile meshes that are stored and not published yet.
+    fresh: FreshMeshes,
+    mesh: Shown,
 }
 
 impl Model for Level {
@@ -68,14 +68,14 @@ impl Level {
         ensures state { IfOk result (λ made. made ≡ first_state (arc_value level)) }
         ensures rules { IfOk result IsBook }
     {
-        let fresh = empty_places(alloc, tiles.len())?;
+        let fresh = FreshMeshes::new(alloc, tiles.len())?;
         let mesh = joined(alloc, &level.setting, tiles)?;
         let shared = Shared::new(alloc, mesh)?;
         let desk = Desk::begin(alloc, level)?;
         Ok(Level {
             desk,
             fresh,
-            mesh: shared,
+            mesh: Shown::new(shared),
         })
     }
 
@@ -151,7 +151,7 @@ impl Level {
         let answer = self.desk.submit(tile, shapes);
         match answer {
             Submitted::Taken => {
-                self.fresh[tile as usize] = Some(mesh);
+                self.fresh.put(tile, mesh);
                 answer
             }
             Submitted::Stale => answer,
@@ -182,8 +182,7 @@ impl Level {
         ensures mesh { IfOk result (λ mesh. mesh ≡ target_mesh self.now) }
         ensures sound { IfOk result IsSound }
     {
-        let news = news_of(alloc, self.fresh.as_slice())?;
-        let mesh = replaced(alloc, self.mesh.get(), news.as_slice())?;
+        let mesh = replaced(alloc, self.mesh.get(), self.fresh.news())?;
         Ok(Shared::new(alloc, mesh)?)
     }
 
@@ -196,8 +195,8 @@ impl Level {
         ensures shown { self.new.published ≡ self.old.target }
         ensures rules { IsBook self.new }
     {
-        empty(self.fresh.as_mut_slice());
-        self.mesh = mesh;
+        self.fresh.clear();
+        self.mesh.show(mesh);
         self.desk.publish();
     }
 
@@ -268,12 +267,35 @@ impl Level {
         ensures low_cost { IfOk result (λ told. HasLowCost told.1) }
         ensures unfolded { IfOk result (λ told. HasUnfoldedWay told.1) }
     {
-        self.ask_by(
-            alloc,
-            &Asking {
-                question: *question,
-            },
-        )
+        let answer = self.mesh.ask(alloc, question)?;
+        Ok((self.desk.published(), answer))
+    }
+
+    /// The same, for one who asks much of a level that stands still: the 16th path question of one published mesh prepares it first, where memory
+    /// for that is left.
+    pub fn ask_and_prepare(
+        &mut self,
+        alloc: Global,
+        question: &Question,
+    ) -> Result<(u32, Answer), AllocError>
+        requires { IsAnswerable question.now }
+        ensures published { IfOk result (λ told. told.0 ≡ self.old.published) }
+        ensures right { IfOk result (λ told. IsRight (published_mesh self.old) question.now told.1) }
+        ensures low_cost { IfOk result (λ told. HasLowCost told.1) }
+        ensures unfolded { IfOk result (λ told. HasUnfoldedWay told.1) }
+        ensures same { self.new ≡ self.old }
+    {
+        self.mesh.count(alloc, question);
+        self.ask(alloc, question)
+    }
+
+    /// Makes landmarks of the published mesh where there are none, which costs about as much as sixty path questions, and lets each later one
+    /// close a fifth of the polygons. They go with the next publish that shows something new. Nothing that a caller sees has changed, also where
+    /// memory is refused.
+    pub fn prepare(&mut self, alloc: Global) -> Result<(), AllocError>
+        ensures same { self.new ≡ self.old }
+    {
+        self.mesh.prepare(alloc)
     }
 
     /// The published length, and an answer to a question of any kind that is right in the mesh as it was last published.

@@ -7,6 +7,9 @@
 //! that are alive after the published entries. `ask` answers from it, and `mesh_counts` counts it. Requests, aims and builds that come in
 //! take no memory, since all their room was taken at the opening.
 //!
+//! `prepare` makes landmarks of the published mesh, by which path questions are answered sooner, and `ask_and_prepare` does so once there were many
+//! of them. What is answered is right either way, and nothing else of the level tells whether there are landmarks.
+//!
 //! A publishing comes in two halves besides: `next_mesh` makes what is published next, and takes all the memory; `show` takes it over, and
 //! cannot be refused. Who shows the mesh to others as well does so in between.
 #![tactic(auto)]
@@ -16,6 +19,7 @@ mod fresh;
 mod job_build;
 mod level;
 mod settle;
+mod shown;
 
 pub use job_build::build_job;
 pub use level::Level;

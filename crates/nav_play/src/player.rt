@@ -194,7 +194,7 @@ impl Player {
         requires room { HasRoom self.old.totals }
         ensures { (s : ℕ) → OnOk result (HasPlayed (Line.Ask question.now) self.old self.new s s) }
     {
-        let (k, answer) = self.book.ask(alloc, question)?;
+        let (k, answer) = self.book.ask_and_prepare(alloc, question)?;
         count(&mut self.totals, question, &answer);
         write_answer(&mut self.text, k, &answer)
     }

@@ -1,22 +1,24 @@
 //! The answer to a question.
 
-ghost use Rattle.std.specs.Prelude.{IfOk};
+ghost use Rattle.std.specs.Prelude.{IfOk, IfSome};
+ghost use Rattle.std.specs.Option.{option_copied};
 ghost use Rattle.nav_ground.specs.Limits.{IsSetting};
 ghost use Rattle.mesh_types.specs.declared.answers.Answer.{Answer};
 ghost use Rattle.mesh_types.specs.Right.{AreAlike, IsRight};
 ghost use Rattle.mesh_types.specs.Soundness.{IsSound};
+ghost use Rattle.corridor_search.specs.Landmarks.{AreLandmarks};
 ghost use Rattle.nav_query.specs.Questions.{HasLowCost, IsAnswerable};
 
 use crate::floors::floors;
-use crate::paths::path;
+use crate::paths::{PathEnds, path};
 use crate::rays::ray;
+use corridor_search::Landmarks;
 use mesh_types::Mesh;
 use nav_base::Question;
 use nav_list::Items;
 use std::alloc::{AllocError, Global};
 
 /// An answer to a question that is right in a mesh. A path that is found costs less than 2^45. Only memory can be refused.
-#[tactic(auto, using(mesh_types::proofs::RightLaws::alike))]
 pub fn answer(
     alloc: Global,
     mesh: &Mesh,
@@ -31,6 +33,25 @@ pub fn answer(
     // Every right answer is of this kind, with the same floors, or the same first polygon and cost; a right answer to a ray is equal to it.
     ensures only { IfOk result (λ answer. (other : Answer) → IsRight mesh.now question.now other → AreAlike answer other) }
 {
+    answer_by(alloc, mesh, None, question)
+}
+
+/// The same with landmarks of the mesh, where there are some: the search for a path then closes fewer polygons.
+#[tactic(auto, using(mesh_types::proofs::RightLaws::alike))]
+pub fn answer_by(
+    alloc: Global,
+    mesh: &Mesh,
+    landmarks: Option<&Landmarks>,
+    question: &Question,
+) -> Result<mesh_types::Answer, AllocError>
+    requires sound { IsSound mesh.now }
+    requires setting { IsSetting mesh.now.setting }
+    requires landmarks { IfSome (option_copied landmarks) (AreLandmarks mesh.now) }
+    requires question { IsAnswerable question.now }
+    ensures right { IfOk result (λ answer. IsRight mesh.now question.now answer) }
+    ensures low_cost { IfOk result HasLowCost }
+    ensures only { IfOk result (λ answer. (other : Answer) → IsRight mesh.now question.now other → AreAlike answer other) }
+{
     match *question {
         Question::Floor { x, z } => {
             let floors = floors(alloc, mesh, x, z)?;
@@ -41,7 +62,17 @@ pub fn answer(
             from_y,
             to,
             to_y,
-        } => path(alloc, mesh, from, from_y, to, to_y),
+        } => path(
+            alloc,
+            mesh,
+            landmarks,
+            PathEnds {
+                from,
+                from_y,
+                to,
+                to_y,
+            },
+        ),
         Question::Ray { from, from_y, to } => ray(alloc, mesh, from, from_y, to),
     }
 }

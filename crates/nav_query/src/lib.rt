@@ -17,5 +17,5 @@ mod paths;
 mod questions;
 mod rays;
 
-pub use answering::answer;
+pub use answering::{answer, answer_by};
 pub use questions::Asking;

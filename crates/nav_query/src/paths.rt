@@ -1,8 +1,10 @@
 //! Paths between two places.
 
-ghost use Rattle.std.specs.Prelude.{◌≡◌, ◌<◌, IfOk, length};
+ghost use Rattle.std.specs.Prelude.{◌≡◌, ◌<◌, IfOk, IfSome, length};
+ghost use Rattle.std.specs.Option.{option_copied};
 ghost use Rattle.nav_base.specs.Point.{HasCoordinates};
 ghost use Rattle.nav_ground.specs.Limits.{IsSetting};
+ghost use Rattle.corridor_search.specs.Landmarks.{AreLandmarks};
 ghost use Rattle.funnel_path.specs.Coordinates.{HasChainCoordinates};
 ghost use Rattle.mesh_types.specs.Chains.{IsChain};
 ghost use Rattle.mesh_types.specs.Right.{IsRightPath, portals_of};
@@ -10,7 +12,7 @@ ghost use Rattle.mesh_types.specs.Soundness.{IsSound};
 ghost use Rattle.mesh_types.specs.Taut.{IsTaut};
 ghost use Rattle.nav_query.specs.Questions.{HasLowCost};
 
-use corridor_search::cheapest;
+use corridor_search::{Landmarks, cheapest_by};
 use funnel_path::pull;
 use mesh_locate::locate;
 use mesh_types::{Answer, Corner, Link, Mesh, PathFound, Portal};
@@ -18,32 +20,41 @@ use nav_base::Point;
 use nav_list::Items;
 use std::alloc::{AllocError, Global};
 
-/// A right answer to the question for a path from one place to another.
+/// What a path is asked from and to, each a place and a height.
+#[derive(Clone, Copy)]
+pub struct PathEnds {
+    pub from: Point,
+    pub from_y: u32,
+    pub to: Point,
+    pub to_y: u32,
+}
+
+/// A right answer to the question for a path from one place to another. Landmarks of the mesh, if there are some, let the search close fewer
+/// polygons.
 pub fn path(
     alloc: Global,
     mesh: &Mesh,
-    from: Point,
-    from_y: u32,
-    to: Point,
-    to_y: u32,
+    landmarks: Option<&Landmarks>,
+    ends: PathEnds,
 ) -> Result<Answer, AllocError>
     requires sound { IsSound mesh.now }
     requires setting { IsSetting mesh.now.setting }
-    requires from { HasCoordinates from }
-    requires to { HasCoordinates to }
-    ensures right { IfOk result (λ answer. IsRightPath mesh.now from from_y to to_y answer) }
+    requires landmarks { IfSome (option_copied landmarks) (AreLandmarks mesh.now) }
+    requires from { HasCoordinates ends.from }
+    requires to { HasCoordinates ends.to }
+    ensures right { IfOk result (λ answer. IsRightPath mesh.now ends.from ends.from_y ends.to ends.to_y answer) }
     ensures low_cost { IfOk result HasLowCost }
 {
-    let Some(first) = locate(mesh, from, from_y) else {
+    let Some(first) = locate(mesh, ends.from, ends.from_y) else {
         return Ok(Answer::NoStart);
     };
-    let Some(last) = locate(mesh, to, to_y) else {
+    let Some(last) = locate(mesh, ends.to, ends.to_y) else {
         return Ok(Answer::NoGoal);
     };
-    let Some(corridor) = cheapest(alloc, mesh, first, last)? else {
+    let Some(corridor) = cheapest_by(alloc, mesh, landmarks, first, last)? else {
         return Ok(Answer::NoPath);
     };
-    let turns = turns(alloc, from, corridor.links.as_slice(), to)?;
+    let turns = turns(alloc, ends.from, corridor.links.as_slice(), ends.to)?;
     Ok(Answer::Path(PathFound {
         first,
         cost: corridor.cost,

@@ -98,7 +98,7 @@ first_of_them [] = None
 first_of_them (Some x ∷ more) = Some x
 first_of_them (None ∷ more) = first_of_them more
 
--- the forms of a question
+-- what a line says that asks a question
 unfoldable pub question_line : List ℕ → Option LineRead
 question_line line =
     first_of_them (form (codes "floor") 2 floor_line line
@@ -106,7 +106,7 @@ question_line line =
     ∷ form (codes "ray") 5 ray_line line
     ∷ [])
 
--- the forms of a line that asks for a change of the obstacles, where so many adds of its lane stand before it
+-- what a line says that asks for a change of the obstacles, where so many adds of its lane stand before it
 unfoldable pub request_line : ℕ → List ℕ → Option LineRead
 request_line adds line =
     first_of_them (form (codes "add block") 6 block_line line
@@ -115,7 +115,7 @@ request_line adds line =
     ∷ form (codes "drop") 1 (λ n. drop_line adds (slice_index n 0)) line
     ∷ [])
 
--- an obstacle that sets an area: its forms behind `add area` and the area
+-- an obstacle that sets an area: what is said behind `add area` and the area
 abbrev pub area_forms : ℕ → List ℕ → List (Option LineRead)
 area_forms area rest = form (codes " block") 6 (area_block_line area) rest ∷ form (codes " cylinder") 5 (area_cylinder_line area) rest ∷ []
 

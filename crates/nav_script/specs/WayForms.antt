@@ -6,7 +6,7 @@ use Rattle.nav_script.specs.declared.script.Way.{Way}
 use Rattle.nav_script.specs.declared.script.Way.TheVariants.{Play, Live}
 use Rattle.nav_script.specs.Forms.{LineRead, in_limits, below_count, floor_line, path_line, ray_line, block_line, cylinder_line, drop_line, point_at, are_standing, is_range, form, first_of_them, question_line, request_line, area_line, lane_line}
 
--- the forms of a line that leads workers, of which there are so many
+-- what a line says that leads workers, of which there are so many
 unfoldable pub worker_line : ℕ → List ℕ → Option LineRead
 worker_line workers line =
     first_of_them (form (codes "claim") 1 (λ n. below_count (slice_index n 0) workers (Claim (slice_index n 0))) line

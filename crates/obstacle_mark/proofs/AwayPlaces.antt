@@ -44,7 +44,7 @@ all_kept cell blocked f each away =
     let same : (dir : ℕ) → dir < 4 → next_level cell dir ≡ level_kept blocked cell dir = λ dir small. kept_away dir cell blocked small f each away in
     cc (same 0 (omega arith), same 1 (omega arith), same 2 (omega arith), same 3 (omega arith))
 
-four_levels : (nexts : List (Option ℕ)) → length nexts ≡ 4
+pub four_levels : (nexts : List (Option ℕ)) → length nexts ≡ 4
     → nexts ≡ level_in nexts 0 ∷ level_in nexts 1 ∷ level_in nexts 2 ∷ level_in nexts 3 ∷ []
 four_levels (a ∷ b ∷ c ∷ d ∷ []) four = refl
 four_levels [] four = absurd (omega (arith, four))

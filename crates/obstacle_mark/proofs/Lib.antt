@@ -8,3 +8,4 @@ pub mod WholeFree
 pub mod ClearPlaces
 pub mod AwayPlaces
 pub mod SmallAreas
+pub mod AllFree

@@ -21,7 +21,7 @@ use crate::clear::areas_clear;
 use crate::places::{Passed, are_away, blocked_places, next_kept};
 use cell_table::column_of;
 use nav_ground::{Cell, CellRef, FreeLayer, Layer, Shape, SmallCell};
-use nav_list::Items;
+use nav_list::{Duplicate, Items};
 use std::alloc::{AllocError, Global};
 
 /// The free cells of a layer, for a list of obstacles: its cells that none of them blocks and, where the layer has a radius, that keep it
@@ -34,6 +34,39 @@ pub fn mark(alloc: Global, layer: &Layer, shapes: &[Shape]) -> Result<FreeLayer,
     ensures rules { IfOk result (λ free. IsCut free.cells) }
     ensures whole { (setting : Setting) (field : Field) → IsSetting setting → IsField field → layer.now ≡ layer_of setting field layer.now.tile
         → IfOk result (λ free. places_of free.cells ≡ places_of (cells_in (tile_window setting layer.now.tile) (whole_free setting field shapes.now))) }
+{
+    let free = free_layer(alloc, layer, shapes)?;
+    Ok(free)
+}
+
+/// The free cells of a layer: where it has no radius and there are no obstacles, all of them as they are.
+fn free_layer(alloc: Global, layer: &Layer, shapes: &[Shape]) -> Result<FreeLayer, AllocError>
+    requires layer { IsLayer layer.now }
+    requires shapes { All IsShape shapes.now }
+    ensures { IfOk result (λ free. free ≡ free_layer_of layer.now shapes.now) }
+{
+    if shapes.is_empty() && layer.radius == 0 {
+        all_cells(alloc, layer)
+    } else {
+        cells_left(alloc, layer, shapes)
+    }
+}
+
+/// All cells of a layer.
+fn all_cells(alloc: Global, layer: &Layer) -> Result<FreeLayer, AllocError>
+    ensures { IfOk result (λ free. free ≡ record { tile = layer.now.tile; cells = layer.now.cells }) }
+{
+    Ok(FreeLayer {
+        tile: layer.tile,
+        cells: layer.cells.duplicate(alloc)?,
+    })
+}
+
+/// The cells of a layer that obstacles leave.
+fn cells_left(alloc: Global, layer: &Layer, shapes: &[Shape]) -> Result<FreeLayer, AllocError>
+    requires layer { IsLayer layer.now }
+    requires shapes { All IsShape shapes.now }
+    ensures { IfOk result (λ free. free ≡ free_layer_of layer.now shapes.now) }
 {
     let cells = layer.cells.as_slice();
     let areas = areas_clear(alloc, layer, shapes)?;

@@ -3,3 +3,4 @@ pub mod Unions
 pub mod Listed
 pub mod Choosing
 pub mod Renewed
+pub mod Apart

@@ -8,6 +8,7 @@ ghost use Rattle.mesh_types.specs.Merging.{IsPieceOf, merge_over, merges_between
 ghost use Rattle.poly_merge.specs.Seen.{admissible_of, after_removal, is_of, left_over, merges_onto, merges_with, seen};
 
 use crate::edge::{Merge, facing, places_at};
+use crate::rows::{reach, rows_of};
 use crate::union::is_admissible;
 use mesh_types::Piece;
 use nav_base::Point;
@@ -135,8 +136,11 @@ fn push_onto(
     ensures { OnOk result (map seen choices.new.items ≡ map seen choices.old.items
         ++ admissible_of corners.now pieces.now (merges_onto pieces.now second)) }
 {
+    let rows = rows_of(corners, places_at(pieces, second));
     for first in 0..second {
-        push_between(choices, corners, pieces, first, second)?;
+        if reach(corners, places_at(pieces, first), rows) {
+            push_between(choices, corners, pieces, first, second)?;
+        }
     }
     Ok(())
 }
@@ -154,8 +158,11 @@ fn push_from(
     ensures { OnOk result (map seen choices.new.items
         ≡ map seen choices.old.items ++ admissible_of corners.now pieces.now (merges_from pieces.now first)) }
 {
+    let rows = rows_of(corners, places_at(pieces, first));
     for second in first + 1..pieces.len() {
-        push_between(choices, corners, pieces, first, second)?;
+        if reach(corners, places_at(pieces, second), rows) {
+            push_between(choices, corners, pieces, first, second)?;
+        }
     }
     Ok(())
 }

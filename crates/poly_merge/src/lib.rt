@@ -11,6 +11,7 @@ mod choices;
 mod edge;
 mod join;
 mod merging;
+mod rows;
 mod union;
 
 pub use merging::merge;

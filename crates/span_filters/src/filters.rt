@@ -10,7 +10,7 @@ ghost use Rattle.span_filters.specs.Areas.{area_hung};
 
 use crate::columns::{ceiling_of, span_below};
 use crate::ledge::ledges;
-use nav_ground::{Agent, Field, Span};
+use nav_ground::{Agent, Field, SmallSpan};
 use std::alloc::{AllocError, Global};
 
 /// The areas of the spans, where each span with area 0 takes the area of the span directly below it if its top is at most the agent's
@@ -31,17 +31,17 @@ pub fn low_hanging(alloc: Global, field: &Field, agent: &Agent) -> Result<Vec<u3
 }
 
 /// The area of a span over the one directly below it.
-fn area_hung(climb: u32, span: &Span, below: Option<Span>) -> u32
+fn area_hung(climb: u32, span: &SmallSpan, below: Option<SmallSpan>) -> u32
     requires climb { climb < 256 }
     requires span { IsLargestSpan span.now }
     requires below { IfSome below IsLargestSpan }
     ensures { result ≡ Rattle.span_filters.specs.Areas.area_hung climb span.now below }
 {
-    if span.area != 0 {
-        return span.area;
+    if span.area() != 0 {
+        return span.area();
     }
     match below {
-        Some(below) if span.top <= below.top + climb => below.area,
+        Some(below) if span.top() <= below.top() + climb => below.area(),
         _ => 0,
     }
 }
@@ -63,7 +63,7 @@ pub fn low_ceilings(
     let mut left = Vec::with_capacity(alloc, spans.len())?;
     for (i, span) in spans.iter().enumerate() {
         let ceiling = ceiling_of(spans, i);
-        left.push(area_under(ceiling, span.top + agent.height, areas[i]))?;
+        left.push(area_under(ceiling, span.top() + agent.height, areas[i]))?;
     }
     Ok(left)
 }

@@ -12,7 +12,7 @@ ghost use Rattle.span_filters.specs.Looks.{ArePassed};
 
 use crate::columns::{OPEN_SKY, ceiling_of, column_beside, column_of, floor_over, pass, place_of};
 use crate::gaps::{Seen, Stand, is_in_reach, shows_ledge, with_gap};
-use nav_ground::{Agent, Field, Span};
+use nav_ground::{Agent, Field, SmallSpan};
 use std::alloc::{AllocError, Global};
 
 /// How many spans of the list lie before what a span can see of the neighbouring columns: in columns before them, or with their bottoms
@@ -87,7 +87,7 @@ fn is_ledge(field: &Field, agent: &Agent, passed: &mut Passed, i: usize) -> bool
         return true;
     }
     let stand = Stand {
-        floor: span.top,
+        floor: span.top(),
         ceiling: ceiling_of(spans, i),
         height: agent.height,
         climb: agent.climb,
@@ -97,15 +97,15 @@ fn is_ledge(field: &Field, agent: &Agent, passed: &mut Passed, i: usize) -> bool
 }
 
 /// Whether one of the columns beside a span's lies outside the field.
-fn is_at_edge(field: &Field, span: &Span) -> bool
+fn is_at_edge(field: &Field, span: &SmallSpan) -> bool
     requires { IsLargestSpan span.now }
     ensures { result ≡ is_at_edge field.now span.now }
 {
-    span.x == 0 || span.z == 0 || span.x + 1 == field.width || span.z + 1 == field.depth
+    span.x() == 0 || span.z() == 0 || span.x() + 1 == field.width || span.z() + 1 == field.depth
 }
 
 /// What a span sees of the gaps of the four columns beside its own.
-fn look_around(stand: &Stand, spans: &[Span], passed: &mut Passed, span: &Span) -> Seen
+fn look_around(stand: &Stand, spans: &[SmallSpan], passed: &mut Passed, span: &SmallSpan) -> Seen
     requires stand { IsStand stand.now }
     requires spans { AreSpans spans.now }
     requires span { IsLargestSpan span.now }
@@ -120,29 +120,33 @@ fn look_around(stand: &Stand, spans: &[Span], passed: &mut Passed, span: &Span) 
         least: stand.floor,
         greatest: stand.floor,
     };
-    let one = look_toward(0, stand, spans, &mut passed.left, span, own);
-    let two = look_toward(1, stand, spans, &mut passed.above, span, one);
-    let three = look_toward(2, stand, spans, &mut passed.right, span, two);
-    look_toward(3, stand, spans, &mut passed.below, span, three)
+    let post = Post { stand, spans, span };
+    let one = look_toward(0, post, &mut passed.left, own);
+    let two = look_toward(1, post, &mut passed.above, one);
+    let three = look_toward(2, post, &mut passed.right, two);
+    look_toward(3, post, &mut passed.below, three)
+}
+
+/// Where gaps are looked at from: a span of a field, and the agent that would stand on it.
+#[derive(Clone, Copy, Drop)]
+struct Post<'a> {
+    stand: &'a Stand,
+    spans: &'a [SmallSpan],
+    span: &'a SmallSpan,
 }
 
 /// What is seen once the gaps of the column beside a span's in a direction are looked at too.
-fn look_toward(
-    dir: usize,
-    stand: &Stand,
-    spans: &[Span],
-    passed: &mut usize,
-    span: &Span,
-    seen: Seen,
-) -> Seen
+fn look_toward(dir: usize, post: Post<'_>, passed: &mut usize, seen: Seen) -> Seen
     requires dir { dir < 4 }
-    requires stand { IsStand stand.now }
-    requires spans { AreSpans spans.now }
-    requires span { IsLargestSpan span.now }
-    requires passed { IsPassed spans.now passed.old (place_of (column_beside dir span.now) (stand.now.floor + stand.now.height)) }
-    ensures seen { result ≡ seen_over stand.now seen (gaps_of (column_toward dir spans.now span.now)) }
-    ensures passed { IsPassed spans.now passed.new (place_of (column_beside dir span.now) (stand.now.floor + stand.now.height)) }
+    requires stand { IsStand post.stand.now }
+    requires spans { AreSpans post.spans.now }
+    requires span { IsLargestSpan post.span.now }
+    requires passed { IsPassed post.spans.now passed.old (place_of (column_beside dir post.span.now) (post.stand.now.floor + post.stand.now.height)) }
+    ensures seen { result ≡ seen_over post.entry.stand.now seen (gaps_of (column_toward dir post.entry.spans.now post.entry.span.now)) }
+    ensures passed { IsPassed post.entry.spans.now passed.new
+        (place_of (column_beside dir post.entry.span.now) (post.entry.stand.now.floor + post.entry.stand.now.height)) }
 {
+    let Post { stand, spans, span } = post;
     let column = column_beside(dir, span);
     *passed = pass(spans, *passed, place_of(column, stand.floor + stand.height));
     look(stand, spans, *passed, column, seen)
@@ -150,7 +154,7 @@ fn look_toward(
 
 /// What is seen once the gaps of a column are looked at too, where the first span that begins high enough for an open gap is known.
 /// Gaps are looked at from the bottom up until their floors are too high.
-fn look(stand: &Stand, spans: &[Span], first: usize, column: u32, seen: Seen) -> Seen
+fn look(stand: &Stand, spans: &[SmallSpan], first: usize, column: u32, seen: Seen) -> Seen
     requires stand { IsStand stand.now }
     requires spans { AreSpans spans.now }
     requires first { IsCutAt spans.now first (place_of column (stand.now.floor + stand.now.height)) }
@@ -160,8 +164,8 @@ fn look(stand: &Stand, spans: &[Span], first: usize, column: u32, seen: Seen) ->
     let mut floor = floor_over(spans, first, column);
     let mut i = first;
     while i < spans.len() && column_of(&spans[i]) == column && is_in_reach(stand, floor) {
-        seen = with_gap(stand, seen, floor, spans[i].bottom);
-        floor = Some(spans[i].top);
+        seen = with_gap(stand, seen, floor, spans[i].bottom());
+        floor = Some(spans[i].top());
         i += 1;
     }
     with_gap(stand, seen, floor, OPEN_SKY)

@@ -25,6 +25,7 @@ pub record HasRead (bytes rest : List ℕ) (setting : Setting) (before : ℕ) (s
   pub reads : field_of bytes ≡ read field_format (AtBody setting before spans) count (lines rest)
   pub area : before ≤ 63
   pub few : length spans ≤ 2000000
+  pub sides : (setting.width ≤ 1024) × (setting.depth ≤ 1024)
   pub counted : count ≤ 8 + before + length spans
 
 -- the next line behind the header
@@ -46,6 +47,7 @@ HasRead_cost bytes rest setting before spans count line after area cost has thos
       reads = next_line bytes rest setting before spans count line after (Cost area cost) has those is;
       area = most;
       few = has.few;
+      sides = has.sides;
       counted = omega arith;
     }
 
@@ -60,6 +62,7 @@ HasRead_span bytes rest setting before spans count line after span has those spe
       reads = next_line bytes rest setting before spans count line after (Spans span) has those is;
       area = has.area;
       few = omega arith;
+      sides = has.sides;
       counted = omega arith;
     }
 

@@ -5,7 +5,7 @@ use Rattle.std.proofs.lemmas.Bool.{and_from, eq-eqb, or_parts, and_right, cond_b
 use Rattle.std.proofs.lemmas.Bool.Decides.{nat_tests}
 use Rattle.std.proofs.lemmas.Slice.Eq.{bytes_eq-Decides}
 use Rattle.nav_ground.specs.declared.field.Span.{Span}
-use Rattle.nav_ground.specs.Fields.{IsSpan, IsSpanBefore}
+use Rattle.nav_ground.specs.Fields.{IsSpan, IsSmallSpan, IsSpanBefore}
 use Rattle.nav_text.specs.declared.fault.FaultKind.TheVariants.{Form, Range, Order, Overlap, TooMany}
 use Rattle.nav_text.specs.Forms.{line_text, numbers_of, has_word}
 use Rattle.nav_text.proofs.FormLaws.{numbers_take, numbers_again, has_word-numbers}
@@ -131,6 +131,22 @@ body_says width depth before spans line =
     of_numbers room (Some numbers) is =
         span_says width depth before (length spans) (last_of spans) line numbers
         (λ full. let both = and_from _ _ (eq-eqb (length spans) 2000000 full) (has_word-numbers (codes "span") 4 line numbers is) in absurd cc) is
+
+-- A span that is read in a field of at most 1024 columns a side fits ten bytes.
+pub small_said : (width depth before : ℕ) (spans : List Span) (line : List ℕ) (span : Span) → body_line width depth before spans line ≡ Spans span
+    → (width ≤ 1024) × (depth ≤ 1024) → IsSmallSpan span
+small_said width depth before spans line span is sides =
+    let said = subst (Says width depth before (length spans) (last_of spans) line) is (body_says width depth before spans line) in
+    small said.2
+  where
+    small : IsSpan width depth span → IsSmallSpan span
+    small rules' = record {
+      x = omega (arith, rules'.x, sides.0);
+      z = omega (arith, rules'.z, sides.1);
+      bottom = omega (arith, rules'.solid, rules'.top);
+      top = omega (arith, rules'.top);
+      area = omega (arith, rules'.area);
+    }
 
 -- The `end` line is read as the end.
 pub end_again : (width depth before : ℕ) (spans : List Span) → body_line width depth before spans (codes "end") ≡ End

@@ -1,8 +1,8 @@
 -- The laws of the header's lines: what is read is spelled so, and what is spelled so is read.
-use Rattle.std.proofs.Common.{zero, suc, ⊎_elim, inl, inr, ◌⊎◌, ◌≡◌, ℕ, ◌<◌, ◌≤◌, ◌*◌, ◌^◌, Bool, true, false, cond, not, ◌||◌, ◌&&◌, ◌==◌, nat_lt, nat_le, bytes_eq, List, [], ◌∷◌, slice_index, codes, Option, Some, None, Result, Ok, Err, refl, ap, ap₂, ◌∙◌, subst, arith}
-use Rattle.std.specs.Prelude.{if◌then◌else◌}
+use Rattle.std.proofs.Common.{zero, suc, ⊎_elim, inl, inr, ◌⊎◌, ◌≡◌, ℕ, ◌<◌, ◌≤◌, ◌*◌, ◌^◌, Bool, true, false, cond, not, ◌||◌, ◌&&◌, ◌==◌, nat_lt, nat_le, bytes_eq, List, [], ◌∷◌, slice_index, codes, Option, Some, None, Result, Ok, Err, refl, ap, ap₂, ◌∙◌, sym, subst, arith}
+use Rattle.std.specs.Prelude.{MatchResult, if◌then◌else◌, is_ok}
 use Rattle.std.specs.Option.{option_map_or}
-use Rattle.std.proofs.lemmas.Bool.{or_parts, ltb-false}
+use Rattle.std.proofs.lemmas.Bool.{both_ways, or_parts, ltb-false}
 use Rattle.std.proofs.lemmas.Bool.Decides.{nat_tests}
 use Rattle.std.proofs.lemmas.Slice.Eq.{bytes_eq-Decides}
 use Rattle.nav_ground.specs.declared.setting.Agent.{Agent}
@@ -10,6 +10,7 @@ use Rattle.nav_ground.specs.declared.setting.MeshKind.{MeshKind}
 use Rattle.nav_ground.specs.declared.setting.MeshKind.TheVariants.{Strips, Contours}
 use Rattle.nav_ground.specs.Limits.{IsAgent}
 use Rattle.nav_text.specs.declared.fault.FaultKind.{FaultKind}
+use Rattle.nav_text.specs.declared.fault.TextFault.{TextFault}
 use Rattle.nav_text.specs.declared.fault.FaultKind.TheVariants.{Form, Range, Climb}
 use Rattle.nav_text.specs.Forms.{line_text, numbers_of}
 use Rattle.nav_text.proofs.FormLaws.{numbers_take, numbers_again}
@@ -91,6 +92,16 @@ size_takes line size e = of_numbers (numbers_of (codes "size") 2 line) refl e
           form.0 ∙ ap (line_text (codes "size")) (two_is numbers form.1),
           record { wide = width.0; width_most = width.1; deep = depth.0; depth_most = depth.1 },
         )
+
+-- the size that a line was read as, where the fault of another line was told in other words
+pub size_most : (line : List ℕ) (read : Result (ℕ × ℕ) FaultKind) (told : Result (ℕ × ℕ) TextFault) (R : FaultKind → Type 0) (width depth : ℕ)
+    → read ≡ size_line line → MatchResult read (λ x. told ≡ Ok x) R → is_ok told ≡ is_ok read → told ≡ Ok (width, depth)
+    → (width ≤ 1024) × (depth ≤ 1024)
+size_most line (Ok size) told R width depth is cases variant was =
+    let sizes : size ≡ (width, depth) = cc (cases, was) in
+    let same : size_line line ≡ Ok (width, depth) = sym is ∙ ap Ok sizes in
+    let most = (size_takes line (width, depth) same).1 in (most.width_most, most.depth_most)
+size_most line (Err kind) told R width depth is cases variant was = absurd (both_ways (is_ok told) variant (ap is_ok was))
 
 pub size_again : (width depth : ℕ) → IsSize width depth → size_line (line_text (codes "size") (width ∷ depth ∷ [])) ≡ Ok (width, depth)
 unfolding size_line

@@ -8,7 +8,7 @@ ghost use Rattle.nav_text.specs.Lines.{lines};
 ghost use Rattle.std.specs.Option.{option_copied};
 
 use crate::header::is_in;
-use nav_ground::Span;
+use nav_ground::{SmallSpan, Span};
 use nav_text::{FaultKind, first_line, has_word, number_after, numbers_of};
 
 /// The most spans that a field can have.
@@ -32,7 +32,7 @@ pub fn next_line<'a>(
     width: u32,
     depth: u32,
     before: u32,
-    spans: &[Span],
+    spans: &[SmallSpan],
     text: &'a [u8],
 ) -> Option<(BodyLine, &'a [u8])>
     requires { length spans.now ≤ MAX_SPANS }
@@ -79,7 +79,7 @@ fn next_number(bytes: &[u8]) -> Option<(u32, &[u8])>
 }
 
 /// The line of a span, after some spans.
-fn span_or_many(width: u32, depth: u32, spans: &[Span], span: Span) -> BodyLine
+fn span_or_many(width: u32, depth: u32, spans: &[SmallSpan], span: Span) -> BodyLine
     requires { length spans.now ≤ MAX_SPANS }
     ensures value { result ≡ span_or_many width depth spans.now span }
     ensures fits { (before : ℕ) → Fits before (length spans.now) result }
@@ -92,7 +92,7 @@ fn span_or_many(width: u32, depth: u32, spans: &[Span], span: Span) -> BodyLine
 
 /// A line behind the header, after some spans. `before` is the area of the last cost, 0 at first.
 #[tactic(auto, unfolding(crate::specs::Body::body_line))]
-pub fn body_line(width: u32, depth: u32, before: u32, spans: &[Span], line: &[u8]) -> BodyLine
+pub fn body_line(width: u32, depth: u32, before: u32, spans: &[SmallSpan], line: &[u8]) -> BodyLine
     requires { length spans.now ≤ MAX_SPANS }
     ensures value { result ≡ body_line width depth before spans.now line.now }
     // A cost is one of a further area, and a span has room.
@@ -165,7 +165,7 @@ fn span_of(numbers: &[u32; 5]) -> Span
 }
 
 /// A span after the last one, whose numbers may be past their limits.
-fn span_in(width: u32, depth: u32, last: Option<Span>, span: Span) -> BodyLine
+fn span_in(width: u32, depth: u32, last: Option<SmallSpan>, span: Span) -> BodyLine
     ensures { result ≡ span_in width depth last span }
 {
     if !is_span(width, depth, &span) {
@@ -177,12 +177,12 @@ fn span_in(width: u32, depth: u32, last: Option<Span>, span: Span) -> BodyLine
     }
 }
 
-fn span_after(last: &Span, span: Span) -> BodyLine
+fn span_after(last: &SmallSpan, span: Span) -> BodyLine
     ensures { result ≡ span_after (Some last.now) span }
 {
     if is_column_before(&span, last) {
         BodyLine::Fails(FaultKind::Order)
-    } else if is_column_of(&span, last) && span.bottom < last.top {
+    } else if is_column_of(&span, last) && span.bottom < last.top() {
         BodyLine::Fails(FaultKind::Overlap)
     } else {
         BodyLine::Spans(span)
@@ -201,15 +201,15 @@ fn is_span(width: u32, depth: u32, span: &Span) -> bool
 }
 
 /// Whether a span's column comes before another's, by z and then x.
-fn is_column_before(a: &Span, b: &Span) -> bool
+fn is_column_before(a: &Span, b: &SmallSpan) -> bool
     ensures { result ≡ is_column_before a.now b.now }
 {
-    a.z < b.z || a.z == b.z && a.x < b.x
+    a.z < b.z() || a.z == b.z() && a.x < b.x()
 }
 
 /// Whether two spans are of one column.
-fn is_column_of(a: &Span, b: &Span) -> bool
+fn is_column_of(a: &Span, b: &SmallSpan) -> bool
     ensures { result ≡ is_column_of a.now b.now }
 {
-    a.z == b.z && a.x == b.x
+    a.z == b.z() && a.x == b.x()
 }

@@ -13,7 +13,7 @@ ghost use Rattle.span_text.specs.Outcome.{IsRead, Gives, text_with};
 
 use crate::body::{BodyLine, next_line};
 use crate::front::read_front;
-use nav_ground::{Field, Setting, Span};
+use nav_ground::{Field, Setting, SmallSpan};
 use nav_list::Items;
 use nav_text::{FaultKind, TextFault};
 use std::alloc::Global;
@@ -40,7 +40,7 @@ pub enum FieldRefusal {
 }
 
 /// What is read of a whole text.
-fn field_text(setting: Setting, spans: Vec<Span>, used: usize, lines: u32) -> FieldText
+fn field_text(setting: Setting, spans: Vec<SmallSpan>, used: usize, lines: u32) -> FieldText
     ensures { result ≡ text_with setting spans.items used lines }
 {
     let field = Field {
@@ -67,10 +67,11 @@ fn read_body(
     requires said { field_of bytes.now ≡ read field_format (AtBody front 0 []) front_lines (lines body.now) }
     requires past { IsPast bytes.now body.now front_lines }
     requires few { front_lines ≤ 8 }
+    requires sides { (front.width ≤ 1024) × (front.depth ≤ 1024) }
     ensures { IsRead bytes.now result }
 {
     let mut setting = front;
-    let mut spans: Vec<Span> = Vec::new(alloc);
+    let mut spans: Vec<SmallSpan> = Vec::new(alloc);
     let mut before = 0;
     let mut count = front_lines;
     let mut rest = body;
@@ -87,7 +88,8 @@ fn read_body(
                 before = area;
             }
             BodyLine::Spans(span) => {
-                if spans.push(span).is_err() {
+                let small = SmallSpan::new(&span);
+                if spans.push(small).is_err() {
                     return Err(FieldRefusal::OutOfMemory);
                 }
             }

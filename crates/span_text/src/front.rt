@@ -50,6 +50,7 @@ pub(crate) fn read_front(bytes: &[u8]) -> Result<(Setting, u32, &[u8]), TextFaul
         (λ fault. header_of bytes.now ≡ Err fault) }
     ensures past { IfOk result (λ x. IsPast bytes.now x.2.now x.1) }
     ensures few { IfOk result (λ x. x.1 ≤ 8) }
+    ensures sides { IfOk result (λ x. (x.0.width ≤ 1024) × (x.0.depth ≤ 1024)) }
 {
     let (sizes, rest) = read_sizes(bytes)?;
     let (setting, rest) = read_making(sizes, rest)?;
@@ -76,6 +77,7 @@ fn read_sizes(bytes: &[u8]) -> Result<(Sizes, &[u8]), TextFault>
         (λ x. header_of bytes.now ≡ read header_format (AtError x.0.form x.0.width x.0.depth x.0.tile x.0.agent) 4 (lines x.1.now))
         (λ fault. header_of bytes.now ≡ Err fault) }
     ensures past { IfOk result (λ x. IsPast bytes.now x.1.now 4) }
+    ensures sides { IfOk result (λ x. (x.0.width ≤ 1024) × (x.0.depth ≤ 1024)) }
 {
     let (line, rest) = line_at(1, bytes)?;
     let form = nav_line(line).map_err(|kind| TextFault::new(1, kind))?;
@@ -107,6 +109,7 @@ fn read_making(sizes: Sizes, text: &[u8]) -> Result<(Setting, &[u8]), TextFault>
         ≡ read header_format (after_limit sizes.form x.0) 7 (lines x.1.now))
         (λ fault. read header_format (AtError sizes.form sizes.width sizes.depth sizes.tile sizes.agent) 4 (lines text.now) ≡ Err fault) }
     ensures past { IfOk result (λ x. (whole : List ℕ) → IsPast whole text.now 4 → IsPast whole x.1.now 7) }
+    ensures sides { IfOk result (λ x. (x.0.width ≡ sizes.width) × (x.0.depth ≡ sizes.depth)) }
 {
     let (line, rest) = line_at(5, text)?;
     let error = limited(b"error", 0, 10000, line).map_err(|kind| TextFault::new(5, kind))?;
@@ -144,6 +147,7 @@ fn read_clear(
         (λ fault. read header_format (after_limit form plain) 7 (lines text.now) ≡ Err fault) }
     ensures past { IfOk result (λ x. (whole : List ℕ) → IsPast whole text.now 7 → IsPast whole x.2.now x.1) }
     ensures few { IfOk result (λ x. x.1 ≤ 8) }
+    ensures sides { IfOk result (λ x. (x.0.width ≡ plain.width) × (x.0.depth ≡ plain.depth)) }
 {
     match form {
         TextForm::First => Ok((plain, 7, text)),

@@ -18,3 +18,4 @@ pub mod CoverLaws
 pub mod ConnectionLaws
 pub mod CrossingLaws
 pub mod StripTiles
+pub mod Passing

@@ -1,9 +1,12 @@
 -- Polygons and level pairs by the indices of cells, and where strips meet.
-use Rattle.std.specs.Prelude.{◌≡◌, ℕ, ◌-◌, ◌<◌, List, [], length, map, get_or, None}
+use Rattle.std.specs.Prelude.{◌≡◌, ℕ, ◌+◌, ◌-◌, ◌<◌, List, [], length, map, drop, get_or, Option, None, Some}
+use Rattle.std.specs.List.{prefix_len}
 use Rattle.nav_ground.specs.declared.cell.Cell.{Cell}
 use Rattle.mesh_types.specs.declared.polygon.Polygon.{Polygon}
 use Rattle.mesh_types.specs.declared.tile.LevelPair.{LevelPair}
-use Rattle.mesh_types.specs.StripMeshes.{strip_polygon, strip_beyond, level_pair, some_cell}
+use Rattle.mesh_types.specs.declared.label_runs.Run.{Run}
+use Rattle.mesh_types.specs.Runs.{has_label}
+use Rattle.mesh_types.specs.StripMeshes.{strip_polygon, strip_beyond, level_pair, outside_of, some_cell}
 use Rattle.mono_regions.specs.Indices.{cell_at}
 
 -- the rectangle of the cells with indices
@@ -22,3 +25,17 @@ last_of run = get_or run (length run - 1) some_cell
 abbrev pub MeetsOthersAt : List (List Cell) → ℕ → ℕ → ℕ → Type 0
 MeetsOthersAt runs s dir place =
     (k : ℕ) → k < length (get_or runs s []) → (k ≡ place → ⊥) → strip_beyond runs s dir (get_or (get_or runs s []) k some_cell) ≡ None
+
+-- the strips that lie beyond an edge of the strip s, cell by cell
+abbrev pub strips_over : List (List Cell) → ℕ → ℕ → List (Option ℕ)
+strips_over runs s edge = map (strip_beyond runs s (outside_of edge)) (get_or runs s [])
+
+-- the place behind that of a label, and behind those that follow it and have the same
+abbrev pub behind : List (Option ℕ) → ℕ → Option ℕ → ℕ
+behind labels place None = place + 1
+behind labels place (Some label) = place + 1 + prefix_len (has_label label) (drop (place + 1) labels)
+
+-- the run from one place to before another, where there is a label
+abbrev pub part_with : ℕ → ℕ → Option ℕ → Option Run
+part_with first end None = None
+part_with first end (Some label) = Some (record { first = first; last = end - 1; label = label })

@@ -1,14 +1,15 @@
 //! The links between the strips of a tile.
 
-ghost use Rattle.std.specs.Prelude.{◌≡◌, ◌<◌, ◌++◌, IfOk, OnOk, length, map};
-ghost use Rattle.std.specs.List.{flat_map, range_with_len};
-ghost use Rattle.mesh_types.specs.StripMeshes.{strip_beyond, strip_link, strip_links, strip_links_over, outside_of};
+ghost use Rattle.std.specs.Prelude.{◌≡◌, ◌<◌, ◌≤◌, ◌+◌, ◌++◌, [], None, IfOk, OnOk, drop, get_or, length, map};
+ghost use Rattle.std.specs.List.{cons_option, flat_map, prefix_len, range_with_len};
+ghost use Rattle.mesh_types.specs.Runs.{has_label};
+ghost use Rattle.mesh_types.specs.StripMeshes.{strip_link, strip_links, strip_links_over, outside_of};
 ghost use Rattle.strip_mesh.specs.Indexed.{AreIndexed, runs_in, run_in};
-ghost use Rattle.strip_mesh.specs.Strips.{MeetsOthersAt};
+ghost use Rattle.strip_mesh.specs.Strips.{MeetsOthersAt, behind, part_with, strips_over};
 
 use crate::portals::edge_portal;
 use crate::tile_strips::TileStrips;
-use mesh_types::{Link, Links, PolyRef, Run, order_links, runs};
+use mesh_types::{Link, Links, PolyRef, Run, order_links};
 use std::alloc::{AllocError, Global};
 
 /// The links between the strips of a tile, in order: over each edge one for each maximal run of columns whose cells are connected to cells
@@ -28,11 +29,10 @@ fn links(alloc: Global, strips: &TileStrips) -> Result<Vec<Link>, AllocError>
     ensures { IfOk result (λ links. links.items
         ≡ flat_map (λ s. flat_map (strip_links_over strips.now.free.tile (runs_in strips.now) s) (range_with_len 0 4)) (range_with_len 0 (length (runs_in strips.now)))) }
 {
-    let mut labels = Vec::new(alloc);
     let mut links = Vec::new(alloc);
     for strip in 0..strips.count() {
         let one = OneStrip { strips, strip };
-        push_links(alloc, one, &mut labels, &mut links)?;
+        push_links(one, &mut links)?;
     }
     Ok(links)
 }
@@ -44,32 +44,21 @@ struct OneStrip<'a> {
     strip: u32,
 }
 
-/// Appends the links from a strip. The labels are room to work in.
-fn push_links(
-    alloc: Global,
-    one: OneStrip,
-    labels: &mut Vec<Option<u32>>,
-    links: &mut Vec<Link>,
-) -> Result<(), AllocError>
+/// Appends the links from a strip.
+fn push_links(one: OneStrip, links: &mut Vec<Link>) -> Result<(), AllocError>
     requires rules { AreIndexed one.strips.now }
     requires there { one.strip < length (runs_in one.strips.now) }
     ensures { OnOk result (links.new.items
         ≡ links.old.items ++ flat_map (strip_links_over one.entry.strips.now.free.tile (runs_in one.entry.strips.now) one.entry.strip) (range_with_len 0 4)) }
 {
     for edge in 0..4 {
-        push_links_over(alloc, one, edge, labels, links)?;
+        push_links_over(one, edge, links)?;
     }
     Ok(())
 }
 
 /// Appends the links over an edge of a strip. Along its row a strip meets others with its ends alone.
-fn push_links_over(
-    alloc: Global,
-    one: OneStrip,
-    edge: u32,
-    labels: &mut Vec<Option<u32>>,
-    links: &mut Vec<Link>,
-) -> Result<(), AllocError>
+fn push_links_over(one: OneStrip, edge: u32, links: &mut Vec<Link>) -> Result<(), AllocError>
     requires rules { AreIndexed one.strips.now }
     requires there { one.strip < length (runs_in one.strips.now) }
     requires edge { edge < 4 }
@@ -81,7 +70,7 @@ fn push_links_over(
             push_end_link(one, edge, last as u32, links)
         }
         3 => push_end_link(one, edge, 0, links),
-        _ => push_links_along(alloc, one, edge, labels, links),
+        _ => push_links_along(one, edge, links),
     }
 }
 
@@ -111,39 +100,105 @@ fn push_end_link(
     Ok(())
 }
 
-/// Appends the links over an edge of a strip, along all of it.
-fn push_links_along(
-    alloc: Global,
-    one: OneStrip,
-    edge: u32,
-    labels: &mut Vec<Option<u32>>,
-    links: &mut Vec<Link>,
-) -> Result<(), AllocError>
+/// Appends the links over an edge of a strip, along all of it: from a cell on, the cells that are connected to the same strip are passed at
+/// once.
+fn push_links_along(one: OneStrip, edge: u32, links: &mut Vec<Link>) -> Result<(), AllocError>
     requires rules { AreIndexed one.strips.now }
     requires there { one.strip < length (runs_in one.strips.now) }
     requires edge { edge < 4 }
     ensures { OnOk result (links.new.items ≡ links.old.items ++ strip_links_over one.entry.strips.now.free.tile (runs_in one.entry.strips.now) one.entry.strip edge) }
 {
-    label_beyond(one, edge, labels)?;
-    let parts = runs(alloc, labels.as_slice())?;
-    let parts = parts.as_slice();
-    for part in parts {
-        links.push(link(one.strips, one.strip, edge, *part))?;
+    let count = one.strips.run(one.strip).len();
+    let mut place = 0;
+    while place < count {
+        let label = beyond_at(one, edge, place);
+        let end = end_of(one, edge, place, label);
+        push_part_link(one, edge, (place, end), label, links)?;
+        place = end;
     }
     Ok(())
 }
 
-/// The strips that lie beyond an edge of a strip, cell by cell.
-fn label_beyond(one: OneStrip, edge: u32, labels: &mut Vec<Option<u32>>) -> Result<(), AllocError>
+/// The strip that lies beyond an edge of a strip at one of its cells.
+fn beyond_at(one: OneStrip, edge: u32, place: usize) -> Option<u32>
     requires rules { AreIndexed one.strips.now }
     requires there { one.strip < length (runs_in one.strips.now) }
     requires edge { edge < 4 }
-    ensures { OnOk result (labels.new.items ≡ map (strip_beyond (runs_in one.entry.strips.now) one.entry.strip (outside_of edge)) (run_in one.entry.strips.now one.entry.strip)) }
+    requires place { place < length (run_in one.strips.now one.strip) }
+    ensures { result ≡ get_or (strips_over (runs_in one.entry.strips.now) one.entry.strip edge) place None }
 {
     let run = one.strips.run(one.strip);
-    labels.clear();
-    for at in run {
-        labels.push(one.strips.beyond(one.strip, 3 - edge, *at))?;
+    one.strips.beyond(one.strip, 3 - edge, run[place])
+}
+
+/// The place behind that of a cell, and behind those that follow it and are connected to the same strip, which is given.
+fn end_of(one: OneStrip, edge: u32, place: usize, label: Option<u32>) -> usize
+    requires rules { AreIndexed one.strips.now }
+    requires there { one.strip < length (runs_in one.strips.now) }
+    requires edge { edge < 4 }
+    requires place { place < length (run_in one.strips.now one.strip) }
+    ensures value { result ≡ behind (strips_over (runs_in one.entry.strips.now) one.entry.strip edge) place label }
+    ensures most { result ≤ length (run_in one.entry.strips.now one.entry.strip) }
+{
+    match label {
+        Some(label) => same_until(one, edge, place + 1, label),
+        None => place + 1,
+    }
+}
+
+/// The first place from one on at which a cell is not connected to a given strip.
+fn same_until(one: OneStrip, edge: u32, from: usize, label: u32) -> usize
+    requires rules { AreIndexed one.strips.now }
+    requires there { one.strip < length (runs_in one.strips.now) }
+    requires edge { edge < 4 }
+    requires from { from ≤ length (run_in one.strips.now one.strip) }
+    ensures value { result ≡ from + prefix_len (has_label label) (drop from (strips_over (runs_in one.entry.strips.now) one.entry.strip edge)) }
+    ensures most { result ≤ length (run_in one.entry.strips.now one.entry.strip) }
+{
+    let count = one.strips.run(one.strip).len();
+    let mut end = from;
+    while end < count && is_beyond(one, edge, end, label) {
+        end += 1;
+    }
+    end
+}
+
+/// Whether a given strip lies beyond an edge of a strip at one of its cells.
+fn is_beyond(one: OneStrip, edge: u32, place: usize, label: u32) -> bool
+    requires rules { AreIndexed one.strips.now }
+    requires there { one.strip < length (runs_in one.strips.now) }
+    requires edge { edge < 4 }
+    requires place { place < length (run_in one.strips.now one.strip) }
+    ensures { result ≡ has_label label (get_or (strips_over (runs_in one.entry.strips.now) one.entry.strip edge) place None) }
+{
+    match beyond_at(one, edge, place) {
+        Some(own) => own == label,
+        None => false,
+    }
+}
+
+/// Appends the link over an edge of a strip from one place up to another, if a strip lies beyond them.
+fn push_part_link(
+    one: OneStrip,
+    edge: u32,
+    part: (usize, usize),
+    label: Option<u32>,
+    links: &mut Vec<Link>,
+) -> Result<(), AllocError>
+    requires rules { AreIndexed one.strips.now }
+    requires there { one.strip < length (runs_in one.strips.now) }
+    requires order { part.0 < part.1 }
+    requires inside { part.1 ≤ length (run_in one.strips.now one.strip) }
+    ensures { OnOk result (links.new.items ≡ links.old.items
+        ++ map (strip_link one.entry.strips.now.free.tile (run_in one.entry.strips.now one.entry.strip) one.entry.strip edge) (cons_option (part_with part.0 part.1 label) [])) }
+{
+    if let Some(label) = label {
+        let run = Run {
+            first: part.0 as u32,
+            last: (part.1 - 1) as u32,
+            label,
+        };
+        links.push(link(one.strips, one.strip, edge, run))?;
     }
     Ok(())
 }

@@ -5,7 +5,7 @@ ghost use Rattle.std.specs.Prelude.{◌≡◌, ◌<◌, IfOk};
 use crate::books::{Asked, Layout, flat_ground, request_of};
 use crate::rows::all_hold;
 use mesh_types::Answer;
-use nav_base::Question;
+use nav_base::{Point, Question};
 use nav_ground::Reply;
 use nav_level::{Level, Published};
 use nav_steps::Steps;
@@ -30,6 +30,11 @@ enum Step {
     Lengths,
     /// The floors of a column.
     Floors(u32, u32),
+    Prepare,
+    /// The path from a row of the tile 0 to the other row of the tile 1.
+    Path,
+    /// The same, asked so many times of a level that prepares itself.
+    Paths(u32),
 }
 
 /// What a step was answered.
@@ -45,6 +50,9 @@ enum Told {
     Numbers(u32, u32),
     Published(Published),
     Floors(usize),
+    Done,
+    /// The cost of a path, and that of the last of several.
+    Cost(u64),
 }
 
 fn opened<L: Ledger>(alloc: Global, steps: &mut Steps<L>) -> Result<Level, AllocError> {
@@ -105,6 +113,40 @@ fn floors(level: &Level, alloc: Global, x: u32, z: u32) -> Told {
     }
 }
 
+fn prepared(level: &mut Level, alloc: Global) -> Told {
+    match level.prepare(alloc) {
+        Ok(()) => Told::Done,
+        Err(_) => Told::NoMemory,
+    }
+}
+
+const ACROSS: Question = Question::Path {
+    from: Point { x: 24, z: 24 },
+    from_y: 10,
+    to: Point { x: 88, z: 40 },
+    to_y: 10,
+};
+
+fn cost(answer: Result<(u32, Answer), AllocError>) -> Told {
+    match answer {
+        Ok((_length, Answer::Path(path))) => Told::Cost(path.cost),
+        Ok(_) => Told::Nothing,
+        Err(_) => Told::NoMemory,
+    }
+}
+
+fn across(level: &Level, alloc: Global) -> Told {
+    cost(level.ask(alloc, &ACROSS))
+}
+
+fn often_across(level: &mut Level, alloc: Global, times: u32) -> Told {
+    let mut last = Told::Nothing;
+    for _time in 0..times {
+        last = cost(level.ask_and_prepare(alloc, &ACROSS));
+    }
+    last
+}
+
 fn act<L: Ledger>(level: &mut Level, alloc: Global, steps: &mut Steps<L>, step: Step) -> Told {
     match step {
         Step::Ask(request) => asked(level, request),
@@ -115,6 +157,9 @@ fn act<L: Ledger>(level: &mut Level, alloc: Global, steps: &mut Steps<L>, step: 
         Step::Renew => renewed(level, alloc),
         Step::Lengths => Told::Numbers(level.length(), level.published()),
         Step::Floors(x, z) => floors(level, alloc, x, z),
+        Step::Prepare => prepared(level, alloc),
+        Step::Path => across(level, alloc),
+        Step::Paths(times) => often_across(level, alloc, times),
     }
 }
 
@@ -208,10 +253,35 @@ static RENEWAL: [Row; 19] = [
     (Step::Floors(5, 1), Told::Floors(0)),
 ];
 
+/// Paths before and after the level is prepared. The middles of the strips are 40 and 80 in x and 24 and 40 in z; the obstacle cuts one strip of
+/// the row that the path begins in to the middle 24, from which the next is 16 on in x and in z.
+static LANDMARKS: [Row; 15] = [
+    (Step::Path, Told::Cost(56)),
+    (Step::Prepare, Told::Done),
+    (Step::Path, Told::Cost(56)),
+    (
+        Step::Ask(Asked::Block(2)),
+        Told::Reply(1, Reply::Added { number: 1 }),
+    ),
+    (Step::Path, Told::Cost(56)),
+    (Step::Settle, Told::Number(1)),
+    (Step::Path, Told::Cost(63)),
+    (Step::Prepare, Told::Done),
+    (Step::Path, Told::Cost(63)),
+    (Step::Publish, Told::Published(Published::Same { k: 1 })),
+    (Step::Renew, Told::Numbers(1, 0)),
+    (Step::Path, Told::Cost(63)),
+    (Step::Ask(Asked::Remove(1)), Told::Reply(2, Reply::Removed)),
+    (Step::Settle, Told::Number(2)),
+    (Step::Paths(20), Told::Cost(56)),
+];
+
 #[test]
 fn plays_levels(rt: HostRuntime) {
     let wrong = wrong_in_play::<Brand>(rt.alloc(), &STEPS, Blank::new(1));
     all_hold(&rt, "steps of a level", wrong);
     let wrong = wrong_in_play::<Brand>(rt.alloc(), &RENEWAL, Blank::new(1));
     all_hold(&rt, "a history that begins again", wrong);
+    let wrong = wrong_in_play::<Brand>(rt.alloc(), &LANDMARKS, Blank::new(1));
+    all_hold(&rt, "paths by landmarks", wrong);
 }

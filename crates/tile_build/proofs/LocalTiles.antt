@@ -3,7 +3,6 @@ use Rattle.std.proofs.Common.{◌≡◌, ℕ, List, [], ap, ◌∙◌, sym, inl,
 use Rattle.std.specs.Prelude.{◌⊎◌}
 use Rattle.std.proofs.lemmas.List.Elements.{All-nil}
 use Rattle.nav_ground.specs.declared.cell.Cell.{Cell}
-use Rattle.nav_ground.specs.declared.cell.FreeLayer.{FreeLayer}
 use Rattle.nav_ground.specs.FreeCells.{free_layer_of}
 use Rattle.nav_ground.specs.Tiling.{IsInWindow, margin_of, tile_window, widened}
 use Rattle.nav_ground.specs.declared.cell.Layer.{Layer}

@@ -11,7 +11,7 @@ use Rattle.tile_links.specs.NewTiles.{New, is_new}
 abbrev pub AreInOrder : List TileMesh → Type 0
 AreInOrder tiles = (t : ℕ) (d : TileMesh) → t < length tiles → (get_or tiles t d).tile ≡ t
 
--- the links of each tile that is not new hold those over the sides across which nothing is
+-- of the links of each tile that is not new, those that lead to old tiles are those over the sides across which none is new
 abbrev pub ComeBeside : Setting → List New → List TileMesh → List (List Link) → Type 0
 ComeBeside setting news tiles cross = (t : ℕ) (d : List Link) (e : TileMesh) → t < length tiles → is_new news t ≡ false
     → KeepsOld setting news tiles (get_or tiles t e) (get_or cross t d)

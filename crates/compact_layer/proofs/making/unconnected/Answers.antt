@@ -1,10 +1,11 @@
 use Rattle.std.proofs.Common.{◌≡◌, ◌+◌, ◌≤◌, List, [], ◌∷◌, ◌++◌, length, get_or, ◌∙◌, refl, sym, ap, subst, arith}
 use Rattle.std.specs.Prelude.{All, slice_get}
 use Rattle.std.specs.Global.{Vec}
+use Rattle.std.proofs.lemmas.List.{get_or_default}
 use Rattle.nav_ground.specs.declared.cell.Cell.{Cell}
 use Rattle.nav_ground.specs.declared.field.Field.{Field}
 use Rattle.nav_ground.specs.declared.field.Span.{Span}
-use Rattle.nav_ground.specs.Fields.{IsField}
+use Rattle.nav_ground.specs.Fields.{IsField, IsSpan}
 use Rattle.nav_ground.specs.Connection.{unconnected_cells}
 use Rattle.compact_layer.specs.Making.{cell_with, level_over, ceiling_over}
 use Rattle.compact_layer.proofs.SpansSoFar.{one_more_cell, one_more_blocked, all_cells, levels_so_far, spans_of_field}
@@ -33,7 +34,8 @@ cell_on-requires-clause-spans c =
     (spans_of_field _ (field_with c.args.field.now c.as_slice-spans.result.now c.as_slice-spans.ensures c.requires.field)).each
 
 pub cell_on-requires-clause-span : goal.cell_on-requires-clause-span
-cell_on-requires-clause-span c = cell_on-requires-clause-spans c c.loop-i.i no_span c.loop-i-test.true
+cell_on-requires-clause-span c =
+    subst (IsSpan 1024 1024) (sym c.index-spans-i.is) (cell_on-requires-clause-spans c c.loop-i.i c.index-spans-i.result c.loop-i-test.true)
 
 pub cell_on-requires-clause-area : goal.cell_on-requires-clause-area
 cell_on-requires-clause-area c = c.requires.areas c.loop-i.i 0 (omega (arith, c.requires.each, c.loop-i-test.true, ap length c.as_slice-spans.ensures))
@@ -45,11 +47,14 @@ loop-i-preserved c =
     let same : length c.args.areas.now ≡ length field.spans = c.requires.each ∙ sym (ap length c.as_slice-spans.ensures) in
     elim c.if-area-ne0.branch [
       | then-area-ne0+in_ok-push w ↦
-          let span = get_or c.as_slice-spans.result.now c.loop-i.i no_span in
+          let area = get_or c.args.areas.now c.loop-i.i 0 in
+          let above = slice_get c.as_slice-spans.result.now (c.loop-i.i + 1) in
+          let read : Span = c.index-spans-i.result in
           ap (λ (v : Vec Cell). v.items) w.cells-is ∙ w.in_ok-push.ensures.items
           ∙ (λ i. c.loop-i.cells.items ++ (w.cell_on.ensures
-          ∙ ap (λ (before : List Cell). cell_with (record span { area = get_or c.args.areas.now c.loop-i.i 0 }) (level_over before span)
-          (ceiling_over (slice_get c.as_slice-spans.result.now (c.loop-i.i + 1)) span)) w.as_slice.ensures.value) i ∷ [])
+          ∙ ap (λ (before : List Cell). cell_with (record read { area = area }) (level_over before read) (ceiling_over above read)) w.as_slice.ensures.value
+          ∙ ap (λ (span : Span). cell_with (record span { area = area }) (level_over c.loop-i.cells.items span) (ceiling_over above span))
+          (c.index-spans-i.is ∙ get_or_default c.as_slice-spans.result.now c.loop-i.i read no_span c.loop-i-test.true)) i ∷ [])
           ∙ one_more_cell field c.args.areas.now c.loop-i.i no_span c.loop-i.cells.items _ _ rules' c.requires.areas
           same c.loop-i-test.true w.if-area-ne0.true refl refl c.loop-i.invariant
       | else-area-ne0 w ↦

@@ -10,16 +10,16 @@ use Rattle.mesh_locate.proofs.polygons.nearer_at.Goals as goal
 
 pub is_in_box-requires-clause-low : goal.is_in_box-requires-clause-low
 is_in_box-requires-clause-low c =
-    (box_there c.args.polygons.now c.extents.result.now c.args.at.index _ c.extents.ensures c.requires.polygons c.requires.there).low
+    (box_there c.args.polygons.now c.args.at.index c.extent.result c.extent.ensures c.requires.polygons c.requires.there).low
 
 pub is_in_box-requires-clause-high : goal.is_in_box-requires-clause-high
 is_in_box-requires-clause-high c =
-    (box_there c.args.polygons.now c.extents.result.now c.args.at.index _ c.extents.ensures c.requires.polygons c.requires.there).high
+    (box_there c.args.polygons.now c.args.at.index c.extent.result c.extent.ensures c.requires.polygons c.requires.there).high
 
 pub returns-then-not-is_in_box : goal.returns-then-not-is_in_box
 returns-then-not-is_in_box c =
     passed_over c.args.mesh.now c.args.sought.p c.args.sought.y c.args.at c.args.best
-    (not_in_box c.args.polygons.now c.extents.result.now c.args.at.index _ c.extents.ensures c.requires.polygons c.requires.there c.args.mesh.now c.args.sought.p c.args.sought.y
+    (not_in_box c.args.polygons.now c.args.at.index c.extent.result c.extent.ensures c.requires.polygons c.requires.there c.args.mesh.now c.args.sought.p c.args.sought.y
     c.args.at c.requires.listed (iff_false c.is_in_box.ensures c.if-not-is_in_box.true)) c.requires.best
 
 pub nearer-requires-clause-there : goal.nearer-requires-clause-there

@@ -10,19 +10,19 @@ use Rattle.nav_desk.proofs.marks.look_again.Goals as goal
 
 pub put-requires : goal.put-requires
 put-requires c =
-    let found = least_passes _ c.in-Some.tile (flag_of c.loop-tile.dirty) (sym c.in-Some.ensures.least) in
-    rw c.least.ensures.kept found.0
+    let found = least_passes _ c.in-Some.tile (flag_of c.loop-tile.dirty) (sym c.in-Some.ensures) in
+    found.0
 
 pub look_at-requires-clause-there : goal.look_at-requires-clause-there
 look_at-requires-clause-there c =
-    let found = (least_passes _ c.in-Some.tile (flag_of c.loop-tile.dirty) (sym c.in-Some.ensures.least)).0 in
+    let found = (least_passes _ c.in-Some.tile (flag_of c.loop-tile.dirty) (sym c.in-Some.ensures)).0 in
     omega (arith, found, c.loop-tile.invariant.marks, c.requires.marks)
 
 pub loop-tile-smaller : goal.loop-tile-smaller
 loop-tile-smaller c =
     let marks : List Bool = c.loop-tile.dirty in
-    let found = least_passes _ c.in-Some.tile (flag_of marks) (sym c.in-Some.ensures.least) in
-    let after : c.put.new.self ≡ set marks c.in-Some.tile false = c.put.ensures ∙ ap (λ (m : List Bool). set m c.in-Some.tile false) c.least.ensures.kept in
+    let found = least_passes _ c.in-Some.tile (flag_of marks) (sym c.in-Some.ensures) in
+    let after : c.put.new.self ≡ set marks c.in-Some.tile false = c.put.ensures in
     subst (λ (m : List Bool). set_count m < set_count marks) (sym after) (one_less marks c.in-Some.tile found.0 found.1)
 
 pub loop-tile-preserved : goal.loop-tile-preserved
@@ -31,9 +31,9 @@ loop-tile-preserved c =
     let flags : List Bool = c.loop-tile.waiting.awaited in
     let tile : ℕ = c.in-Some.tile in
     let fresh : ℕ → Bool = λ k. awaits c.args.setting.now c.args.aimed.now k (get_or c.args.stored.now k []) in
-    let found = least_passes _ tile (flag_of marks) (sym c.in-Some.ensures.least) in
+    let found = least_passes _ tile (flag_of marks) (sym c.in-Some.ensures) in
     let there = found.0 in
-    let marks_after : c.put.new.self ≡ set marks tile false = c.put.ensures ∙ ap (λ (m : List Bool). set m tile false) c.least.ensures.kept in
+    let marks_after : c.put.new.self ≡ set marks tile false = c.put.ensures in
     let flags_after : c.look_at.new.waiting.awaited ≡ set flags tile (fresh tile) = ap (λ (w : Waiting). w.awaited) c.look_at.ensures in
     record {
       marks = ap length marks_after ∙ length-set marks tile false ∙ c.loop-tile.invariant.marks;
@@ -49,11 +49,10 @@ loop-tile-preserved c =
 
 pub returns-clause-clean : goal.returns-clause-clean
 returns-clause-clean c = λ tile there.
-    rw c.least.ensures.kept
-    (none_below _ (flag_of c.loop-tile.dirty) tile (sym c.in_default.ensures.least) (omega (arith, there, c.loop-tile.invariant.marks, c.requires.marks)))
+    (none_below _ (flag_of c.loop-tile.dirty) tile (sym c.in_default.ensures) (omega (arith, there, c.loop-tile.invariant.marks, c.requires.marks)))
 
 pub returns-clause-awaited : goal.returns-clause-awaited
 returns-clause-awaited c = λ tile there.
-    let clean = none_below _ (flag_of c.loop-tile.dirty) tile (sym c.in_default.ensures.least) (omega (arith, there, c.loop-tile.invariant.marks, c.requires.marks)) in
+    let clean = none_below _ (flag_of c.loop-tile.dirty) tile (sym c.in_default.ensures) (omega (arith, there, c.loop-tile.invariant.marks, c.requires.marks)) in
     sym (ap (λ (b : Bool). if b then awaits c.args.setting.now c.args.aimed.now tile (get_or c.args.stored.now tile []) else flag_of c.loop-tile.waiting.awaited tile) clean)
     ∙ c.loop-tile.invariant.left tile

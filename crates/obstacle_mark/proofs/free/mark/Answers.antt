@@ -1,71 +1,21 @@
-use Rattle.std.proofs.Common.{List, map, length, ◌∙◌, sym, ap, subst, arith}
-use Rattle.std.specs.List.{filter}
-use Rattle.std.proofs.lemmas.List.{length-map}
-use Rattle.nav_ground.specs.declared.cell.Cell.{Cell}
+use Rattle.std.proofs.Common.{sym, ap, subst, ◌∙◌}
 use Rattle.nav_ground.specs.declared.cell.FreeLayer.{FreeLayer}
 use Rattle.nav_ground.specs.declared.cell.Layer.{Layer}
 use Rattle.nav_ground.specs.Clearance.{places_of}
-use Rattle.nav_ground.specs.Cells.{IsCells, IsCut}
-use Rattle.nav_ground.specs.FreeCells.{is_taken, free_cell_of, free_layer_of}
-use Rattle.nav_ground.proofs.Words.{is_free}
+use Rattle.nav_ground.specs.Cells.{IsCut}
+use Rattle.nav_ground.specs.FreeCells.{free_layer_of}
 use Rattle.nav_ground.proofs.FreeLayers.{free_layer_cut}
-use Rattle.obstacle_mark.specs.AreasLeft.{area_left}
-use Rattle.obstacle_mark.specs.Columns.{ArePlaces}
-use Rattle.obstacle_mark.proofs.FreeCellsLeft.{blocked_are_places}
-use Rattle.obstacle_mark.proofs.SmallAreas.{small_areas}
 use Rattle.obstacle_mark.proofs.WholeFree.{free_of_whole}
 use Rattle.obstacle_mark.proofs.free.mark.Goals as goal
 
-pub blocked_places-requires : goal.blocked_places-requires
-blocked_places-requires c =
-    ap length (c.as_slice.ensures.value ∙ c.in_ok-areas.ensures)
-    ∙ length-map c.args.layer.now.cells (area_left (is_taken c.args.layer.now c.args.shapes.now) c.args.shapes.now)
-    ∙ ap length (sym c.as_slice-cells.ensures)
-
-pub free_cells-requires-clause-cells : goal.free_cells-requires-clause-cells
-free_cells-requires-clause-cells c = subst IsCells (sym c.as_slice-cells.ensures) c.requires.layer.cells.rules
-
-pub free_cells-requires-clause-beside : goal.free_cells-requires-clause-beside
-free_cells-requires-clause-beside c =
-    ap length (c.as_slice-2.ensures.value ∙ c.in_ok-areas.ensures)
-    ∙ length-map c.args.layer.now.cells (area_left (is_taken c.args.layer.now c.args.shapes.now) c.args.shapes.now)
-    ∙ ap length (sym c.as_slice-cells.ensures)
-
-pub free_cells-requires-clause-areas : goal.free_cells-requires-clause-areas
-free_cells-requires-clause-areas c =
-    small_areas c.args.layer.now c.args.shapes.now c.as_slice-2.result.now c.requires.layer.cells c.requires.shapes
-    (c.as_slice-2.ensures.value ∙ c.in_ok-areas.ensures)
-
-pub free_cells-requires-clause-blocked : goal.free_cells-requires-clause-blocked
-free_cells-requires-clause-blocked c =
-    let taken = is_taken c.args.layer.now c.args.shapes.now in
-    let left = c.as_slice.ensures.value ∙ c.in_ok-areas.ensures ∙ ap (map (area_left taken c.args.shapes.now)) (sym c.as_slice-cells.ensures) in
-    let blocked = c.as_slice-3.ensures.value ∙ c.in_ok-blocked.ensures.places taken c.args.shapes.now left in
-    let rules' : IsCells c.as_slice-cells.result.now = subst IsCells (sym c.as_slice-cells.ensures) c.requires.layer.cells.rules in
-    subst ArePlaces (sym blocked) (blocked_are_places taken c.as_slice-cells.result.now rules')
-
-pub free_cells-requires-clause-few : goal.free_cells-requires-clause-few
-free_cells-requires-clause-few c = omega (arith, c.as_slice-3.ensures.len, c.in_ok-blocked.ensures.few)
-
-pub returns-clause-free : goal.returns-clause-free
-returns-clause-free c =
-    let shapes = c.args.shapes.now in
-    let taken = is_taken c.args.layer.now shapes in
-    let left = c.in_ok-areas.ensures ∙ ap (map (area_left taken shapes)) (sym c.as_slice-cells.ensures) in
-    ap (λ (cells : List Cell). record { tile = c.args.layer.now.tile; cells = cells })
-    (c.from_vec.ensures
-    ∙ c.in_ok-free.ensures taken shapes (c.as_slice-2.ensures.value ∙ left)
-    (c.as_slice-3.ensures.value ∙ c.in_ok-blocked.ensures.places taken shapes (c.as_slice.ensures.value ∙ left))
-    ∙ ap (λ (xs : List Cell). map (free_cell_of taken xs shapes) (filter (is_free c.args.layer.now shapes) xs)) c.as_slice-cells.ensures)
-
 pub returns-clause-rules : goal.returns-clause-rules
 returns-clause-rules c =
-    subst IsCut (sym (ap (λ (free : FreeLayer). free.cells) (returns-clause-free c)))
+    subst IsCut (sym (ap (λ (free : FreeLayer). free.cells) c.in_ok-free.ensures))
     (free_layer_cut c.args.layer.now c.args.shapes.now c.requires.layer.cells c.requires.shapes)
 
 pub returns-clause-whole : goal.returns-clause-whole
 returns-clause-whole c = λ setting field limits rules' is.
     let shapes = c.args.shapes.now in
-    ap (λ (free : FreeLayer). places_of free.cells) (returns-clause-free c)
+    ap (λ (free : FreeLayer). places_of free.cells) c.in_ok-free.ensures
     ∙ ap (λ (layer : Layer). places_of (free_layer_of layer shapes).cells) is
     ∙ free_of_whole setting field c.args.layer.now.tile shapes limits rules'

@@ -1,12 +1,13 @@
 use Rattle.std.proofs.Common.{◌≡◌, ◌∙◌, List, [], drop, ap, sym, arith}
 use Rattle.std.specs.List.{filter}
-use Rattle.std.proofs.lemmas.List.{drop_all, get_or_default}
+use Rattle.std.proofs.lemmas.List.{drop_all}
 use Rattle.nav_ground.specs.declared.field.Span.{Span}
 use Rattle.nav_ground.specs.Column.{gaps_over}
 use Rattle.span_filters.specs.Columns.{is_in, column_of}
 use Rattle.span_filters.specs.Gaps.{seen_over}
 use Rattle.span_filters.proofs.Neighbours.{none_in_later}
 use Rattle.span_filters.proofs.Stacks.{next_from, stack_from, seen_from, floor_from, past_reach}
+use Rattle.span_filters.proofs.ReadSpans.{read_at, largest_read, stack_more, seen_more}
 use Rattle.span_filters.proofs.ledge.look.Goals as goal
 use Rattle.span_filters.proofs.ledge.look.Goals.{then-loop-i-test+then-column_of-column+else-is_in_reach, then-loop-i-test+else-column_of-column, else-loop-i-test}
 
@@ -19,11 +20,29 @@ loop-i-init c = record {
   seen = seen_from c.args.stand.now c.args.spans.now c.args.first c.args.column c.requires.spans c.requires.stand c.requires.first _ c.floor_over-floor.ensures c.args.seen;
 }
 
-abbrev no_span : Span
-no_span = record { x = 0; z = 0; bottom = 0; top = 0; area = 0 }
-
 pub column_of-requires : goal.column_of-requires
-column_of-requires c = c.requires.spans.each c.loop-i.i no_span c.loop-i-test.true
+column_of-requires c =
+    largest_read c.args.spans.now c.loop-i.i c.index-spans-i.result c.requires.spans c.loop-i-test.true c.index-spans-i.is
+
+pub loop-i-preserved : goal.loop-i-preserved
+loop-i-preserved c =
+    let spans = c.args.spans.now in
+    let i = c.loop-i.i in
+    let span : Span = c.index-spans-i.result in
+    let under : Span = c.index-spans-i-in-loop-i.result in
+    let over : Span = c.index-spans-i-in-loop-i-2.result in
+    let same : column_of span ≡ c.args.column = sym c.column_of.ensures ∙ c.if-column_of-column.true in
+    let high = largest_read spans i over c.requires.spans c.loop-i-test.true c.index-spans-i-in-loop-i-2.is in
+    record {
+      most = omega (arith, c.loop-i-test.true);
+      floor = omega (arith, c.top.ensures, high.top);
+      next = λ k d later there. c.loop-i.invariant.next k d (omega (arith, later)) there;
+      stack = stack_more spans i c.args.column span c.loop-i-test.true c.index-spans-i.is same c.loop-i.floor over c.top.result c.index-spans-i-in-loop-i-2.is c.top.ensures
+          c.loop-i.invariant.stack;
+      seen = seen_more spans i c.args.column span c.loop-i-test.true c.index-spans-i.is same c.args.stand.now c.loop-i.seen c.with_gap-seen.result c.loop-i.floor under over
+          c.bottom.result c.top.result c.index-spans-i-in-loop-i.is c.index-spans-i-in-loop-i-2.is c.bottom.ensures c.top.ensures c.with_gap-seen.ensures
+          ∙ c.loop-i.invariant.seen;
+    }
 
 pub returns : goal.returns
 returns c =
@@ -38,7 +57,7 @@ returns c =
       | then-loop-i-test+else-column_of-column w ↦
           last (none_in_later c.args.spans.now c.loop-i.i c.args.column c.requires.spans (λ d there.
           let next = c.loop-i.invariant.next c.loop-i.i d (omega arith) there in
-          let at = ap column_of (get_or_default c.args.spans.now c.loop-i.i d no_span there) in
+          let at = ap column_of (read_at c.args.spans.now c.loop-i.i w.index-spans-i.result d there w.index-spans-i.is) in
           let apart = w.if-column_of-column.false in
           omega (arith, next, at, apart, w.column_of.ensures)))
           ∙ c.loop-i.invariant.seen

@@ -10,6 +10,6 @@ use Rattle.span_filters.proofs.ledge.look_toward.Goals as goal
 pub returns-clause-seen : goal.returns-clause-seen
 returns-clause-seen c =
     c.look.ensures
-    ∙ ap (λ column. seen_over c.args.stand.now c.args.seen (gaps_of (filter (is_in column) c.args.spans.now))) c.column_beside-column.ensures
-    ∙ ap (λ (xs : List Span). seen_over c.args.stand.now c.args.seen (gaps_of xs))
-    (spans_toward c.args.dir c.args.spans.now c.args.span.now c.requires.dir c.requires.spans c.requires.span)
+    ∙ ap (λ column. seen_over c.args.post.stand.now c.args.seen (gaps_of (filter (is_in column) c.args.post.spans.now))) c.column_beside-column.ensures
+    ∙ ap (λ (xs : List Span). seen_over c.args.post.stand.now c.args.seen (gaps_of xs))
+    (spans_toward c.args.dir c.args.post.spans.now c.args.post.span.now c.requires.dir c.requires.spans c.requires.span)

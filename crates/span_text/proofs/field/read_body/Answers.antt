@@ -2,6 +2,7 @@ use Rattle.std.proofs.Common.{◌≡◌, ◌<◌, ◌≤◌, ◌++◌, ◌∷◌
 use Rattle.std.proofs.lemmas.Grind.{common_steps}
 use Rattle.span_text.specs.Body.{Fits}
 use Rattle.span_text.proofs.BodyLaws.{HasRead_cost, HasRead_span, read_end_line, read_bad_line, read_no_line}
+use Rattle.span_text.proofs.BodyLineLaws.{small_said}
 use Rattle.span_text.proofs.field.read_body.Goals.{in-Cost, in-Spans+else-is_err}
 use Rattle.span_text.proofs.field.read_body.Goals as goal
 
@@ -15,6 +16,13 @@ pub returns-in-Fails : goal.returns-in-Fails
 returns-in-Fails c =
     let first = rw c.as_slice.ensures.value at c.in-Some.ensures.value in
     rw c.new-fault.ensures (read_bad_line _ _ _ _ _ _ _ c.in-Some.after.now _ c.loop-said.invariant first.first (first.says ∙ c.in-Fails.is))
+
+-- a span that is said lies in the field, and so fits ten bytes
+pub new-small-requires : goal.new-small-requires
+new-small-requires c =
+    let first = rw c.as_slice.ensures.value at c.in-Some.ensures.value in
+    small_said c.loop-said.setting.width c.loop-said.setting.depth c.loop-said.before c.loop-said.spans.items first.line c.in-Spans.span
+    (first.says ∙ c.in-Spans.is) c.loop-said.invariant.sides
 
 pub loop-said-preserved : goal.loop-said-preserved
 loop-said-preserved c =

@@ -1,9 +1,10 @@
-use Rattle.std.proofs.Common.{◌≡◌, ◌≤◌, ◌-◌, ℕ, List, map, take, drop, arith, ap, ◌∙◌, length}
+use Rattle.std.proofs.Common.{◌≡◌, ◌≤◌, ◌+◌, ◌-◌, ℕ, List, map, take, drop, arith, ap, ◌∙◌, length}
 use Rattle.std.specs.Prelude.{slice_range}
+use Rattle.std.specs.List.{count_by}
 use Rattle.std.proofs.lemmas.List.{length-map, take-map, drop-map}
 use Rattle.mesh_types.specs.declared.links.PolyRef.{PolyRef}
 use Rattle.mesh_types.specs.declared.links.Link.{Link}
-use Rattle.mesh_types.specs.LinkIndex.{leaving_of, entered_by}
+use Rattle.mesh_types.specs.LinkIndex.{is_before_polygon, leaving_of, entered_by}
 use Rattle.mesh_types.proofs.Starts.{none_leave, starts_rise, leaving_between}
 use Rattle.mesh_types.proofs.link_list.Links.entered_from.Goals as goal
 
@@ -23,16 +24,18 @@ returns-then-len-place c =
 
 pub between-requires : goal.between-requires
 between-requires c =
-    rw c.as_slice.ensures.value
-    (fits c.self.inside.links.items c.self.inside.entered.items c.index.result.now c.index-2.result.now c.self.invariant.entered_are
-    (starts_rise c.self.inside.links.items c.self.inside.starts.items c.args.polygon c.index.result.now c.index-2.result.now c.self.invariant.indexed
-    (omega arith) c.index.ensures c.index-2.ensures))
+    rw c.as_slice-5.ensures.value
+    (fits c.self.inside.links.items c.self.inside.entered.items c.start_at-first.result c.start_at-end.result c.self.invariant.entered_are
+    (starts_rise c.self.inside.links.items c.args.polygon c.start_at-first.result c.start_at-end.result
+    (c.start_at-first.ensures ∙ ap (count_by (is_before_polygon c.args.polygon)) c.as_slice.ensures.value)
+    (c.start_at-end.ensures ∙ ap (count_by (is_before_polygon (c.args.polygon + 1))) c.as_slice-3.ensures.value)))
 
 pub returns : goal.returns
 returns c =
     c.between.ensures
-    ∙ ap (λ ends. slice_range ends c.index.result.now c.index-2.result.now) c.as_slice.ensures.value
-    ∙ range-entered c.self.inside.links.items c.self.inside.entered.items c.index.result.now c.index-2.result.now c.self.invariant.entered_are
-    ∙ ap (map entered_by) (leaving_between c.self.inside.links.items c.self.inside.starts.items c.args.polygon c.index.result.now c.index-2.result.now c.self.invariant.indexed
-    (omega arith) c.index.ensures c.index-2.ensures)
+    ∙ ap (λ ends. slice_range ends c.start_at-first.result c.start_at-end.result) c.as_slice-5.ensures.value
+    ∙ range-entered c.self.inside.links.items c.self.inside.entered.items c.start_at-first.result c.start_at-end.result c.self.invariant.entered_are
+    ∙ ap (map entered_by) (leaving_between c.self.inside.links.items c.args.polygon c.start_at-first.result c.start_at-end.result c.self.invariant.indexed.order
+    (c.start_at-first.ensures ∙ ap (count_by (is_before_polygon c.args.polygon)) c.as_slice.ensures.value)
+    (c.start_at-end.ensures ∙ ap (count_by (is_before_polygon (c.args.polygon + 1))) c.as_slice-3.ensures.value))
     ∙ ap (λ links. map entered_by (leaving_of c.args.polygon links)) c.self.view_is

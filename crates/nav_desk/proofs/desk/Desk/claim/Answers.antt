@@ -9,64 +9,53 @@ use Rattle.nav_desk.proofs.desk.Desk.claim.Goals as goal
 
 pub touching_list-requires-clause-there : goal.touching_list-requires-clause-there
 touching_list-requires-clause-there c =
-    rw c.deref.ensures (least_passes _ c.in-Some.tile (is_claimable (state_of c.self.inside)) (sym (c.in-Some.ensures.least ∙ least_ready_is c.self.inside c.self.invariant))).0
+    rw c.deref.ensures (least_passes _ c.in-Some.tile (is_claimable (state_of c.self.inside)) (sym (c.in-Some.ensures ∙ least_ready_is c.self.inside c.self.invariant))).0
 
 pub set_claimed-requires : goal.set_claimed-requires
 set_claimed-requires c =
-    let there = (least_passes _ c.in-Some.tile (is_claimable (state_of c.self.inside)) (sym (c.in-Some.ensures.least ∙ least_ready_is c.self.inside c.self.invariant))).0 in
-    let same = ap (λ (w : Waiting). length w.awaited) c.least_ready.ensures.kept in
-    omega (arith, there, c.self.invariant.flags, same)
+    let there = (least_passes _ c.in-Some.tile (is_claimable (state_of c.self.inside)) (sym (c.in-Some.ensures ∙ least_ready_is c.self.inside c.self.invariant))).0 in
+    omega (arith, there, c.self.invariant.flags)
 
 pub returns-in-None-clause-job : goal.returns-in-None-clause-job
 returns-in-None-clause-job c =
-    rw (← c.self.view_is) (no_job (state_of c.self.inside) (sym (c.in-None.ensures.least ∙ least_ready_is c.self.inside c.self.invariant)))
+    rw (← c.self.view_is) (no_job (state_of c.self.inside) (sym (c.in-None.ensures ∙ least_ready_is c.self.inside c.self.invariant)))
 
 pub returns-in-None-clause-claimed : goal.returns-in-None-clause-claimed
 returns-in-None-clause-claimed c =
-    rw (← c.self.view_is, c.least_ready.ensures.kept)
-    (none_claimed (state_of c.self.inside) (sym (c.in-None.ensures.least ∙ least_ready_is c.self.inside c.self.invariant)))
+    rw (← c.self.view_is)
+    (none_claimed (state_of c.self.inside) (sym (c.in-None.ensures ∙ least_ready_is c.self.inside c.self.invariant)))
 
 pub returns-in_ok-shapes-in-Some-clause-job : goal.returns-in_ok-shapes-in-Some-clause-job
 returns-in_ok-shapes-in-Some-clause-job c =
     let list = rw (c.deref.ensures, c.as_slice.ensures.value) at c.in_ok-shapes-in-Some.ensures in
     rw (← c.self.view_is)
-    (one_job c.self.inside c.in-Some.tile c.in_ok-shapes-in-Some.shapes c.self.invariant (sym (c.in-Some.ensures.least ∙ least_ready_is c.self.inside c.self.invariant)) list)
+    (one_job c.self.inside c.in-Some.tile c.in_ok-shapes-in-Some.shapes c.self.invariant (sym (c.in-Some.ensures ∙ least_ready_is c.self.inside c.self.invariant)) list)
 
 pub returns-in_ok-shapes-in-Some-clause-fit : goal.returns-in_ok-shapes-in-Some-clause-fit
 returns-in_ok-shapes-in-Some-clause-fit c =
     let list = rw (c.deref.ensures, c.as_slice.ensures.value) at c.in_ok-shapes-in-Some.ensures in
     rw (← c.self.view_is)
-    (job_fits c.self.inside c.in-Some.tile c.in_ok-shapes-in-Some.shapes c.self.invariant (sym (c.in-Some.ensures.least ∙ least_ready_is c.self.inside c.self.invariant)) list)
+    (job_fits c.self.inside c.in-Some.tile c.in_ok-shapes-in-Some.shapes c.self.invariant (sym (c.in-Some.ensures ∙ least_ready_is c.self.inside c.self.invariant)) list)
 
 pub returns-in_ok-shapes-in-Some-clause-claimed : goal.returns-in_ok-shapes-in-Some-clause-claimed
 returns-in_ok-shapes-in-Some-clause-claimed c =
-    rw (← c.self.view_is, c.set_claimed.ensures, c.least_ready.ensures.kept)
-    (one_claimed (state_of c.self.inside) c.in-Some.tile (sym (c.in-Some.ensures.least ∙ least_ready_is c.self.inside c.self.invariant)))
+    rw (← c.self.view_is, c.set_claimed.ensures)
+    (one_claimed (state_of c.self.inside) c.in-Some.tile (sym (c.in-Some.ensures ∙ least_ready_is c.self.inside c.self.invariant)))
+
+pub returns-in-None-clause-rules : goal.returns-in-None-clause-rules
+returns-in-None-clause-rules c = rw (← c.self.view_is) (is_book _ c.self.invariant)
+
+pub returns-in_err-shapes-in-Some-clause-rules : goal.returns-in_err-shapes-in-Some-clause-rules
+returns-in_err-shapes-in-Some-clause-rules c = rw (← c.self.view_is) (is_book _ c.self.invariant)
 
 pub invariant_of-self : goal.invariant_of-self
 invariant_of-self c =
-    kept_claims c.self.inside c.least_ready.new.self c.self.invariant (ap (λ (w : Waiting). w.awaited) c.least_ready.ensures.kept)
-    (ap (λ (w : Waiting). length w.claimed) c.least_ready.ensures.kept)
-
-pub returns-in-None-clause-rules : goal.returns-in-None-clause-rules
-returns-in-None-clause-rules c = is_book _ (invariant_of-self c)
-
-pub invariant_of-self-in_err-shapes-in-Some : goal.invariant_of-self-in_err-shapes-in-Some
-invariant_of-self-in_err-shapes-in-Some c =
-    kept_claims c.self.inside c.least_ready.new.self c.self.invariant (ap (λ (w : Waiting). w.awaited) c.least_ready.ensures.kept)
-    (ap (λ (w : Waiting). length w.claimed) c.least_ready.ensures.kept)
-
-pub returns-in_err-shapes-in-Some-clause-rules : goal.returns-in_err-shapes-in-Some-clause-rules
-returns-in_err-shapes-in-Some-clause-rules c = is_book _ (invariant_of-self-in_err-shapes-in-Some c)
-
-pub invariant_of-self-in-Some : goal.invariant_of-self-in-Some
-invariant_of-self-in-Some c =
     kept_claims c.self.inside c.set_claimed.new.self c.self.invariant
-    (ap (λ (w : Waiting). w.awaited) c.set_claimed.ensures ∙ ap (λ (w : Waiting). w.awaited) c.least_ready.ensures.kept)
-    (ap (λ (w : Waiting). length w.claimed) c.set_claimed.ensures ∙ length-set _ _ _ ∙ ap (λ (w : Waiting). length w.claimed) c.least_ready.ensures.kept)
+    (ap (λ (w : Waiting). w.awaited) c.set_claimed.ensures)
+    (ap (λ (w : Waiting). length w.claimed) c.set_claimed.ensures ∙ length-set _ _ _)
 
 pub returns-in_ok-shapes-in-Some-clause-rules : goal.returns-in_ok-shapes-in-Some-clause-rules
-returns-in_ok-shapes-in-Some-clause-rules c = is_book _ (invariant_of-self-in-Some c)
+returns-in_ok-shapes-in-Some-clause-rules c = is_book _ (invariant_of-self c)
 
 pub touching_list-requires-clause-setting : goal.touching_list-requires-clause-setting
 touching_list-requires-clause-setting c = rw c.deref.ensures c.self.invariant.level.setting

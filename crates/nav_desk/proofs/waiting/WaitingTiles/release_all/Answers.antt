@@ -1,4 +1,4 @@
-use Rattle.std.proofs.Common.{◌≡◌, ◌<◌, Bool, false, List, set, ap, sym, subst, ◌∙◌}
+use Rattle.std.proofs.Common.{◌≡◌, ◌<◌, Bool, false, List, set, ap, sym, subst}
 use Rattle.nav_desk.specs.Flags.{flag_of, set_count}
 use Rattle.nav_desk.specs.Waiting.{Waiting}
 use Rattle.nav_desk.proofs.FlagLaws.{one_less, released}
@@ -10,10 +10,9 @@ loop-tile-smaller c =
     let claims : List Bool = c.loop-tile.self.claimed in
     let found = least_passes _ c.in-Some.tile (flag_of claims) (sym c.in-Some.ensures.least) in
     let after : c.set_claimed.new.self.claimed ≡ set claims c.in-Some.tile false =
-    ap (λ (w : Waiting). w.claimed) c.set_claimed.ensures ∙ ap (λ (w : Waiting). set w.claimed c.in-Some.tile false) c.least_claimed.ensures.kept in
+    ap (λ (w : Waiting). w.claimed) c.set_claimed.ensures in
     subst (λ (flags : List Bool). set_count flags < set_count claims) (sym after) (one_less claims c.in-Some.tile found.0 found.1)
 
 pub returns : goal.returns
 returns c =
-    c.least_claimed.ensures.kept
-    ∙ released c.args.self.now c.loop-tile.self c.loop-tile.invariant.awaited c.loop-tile.invariant.each (sym c.in_default.ensures.least)
+    released c.args.self.now c.loop-tile.self c.loop-tile.invariant.awaited c.loop-tile.invariant.each (sym c.in_default.ensures.least)

@@ -1,16 +1,14 @@
-use Rattle.std.proofs.lemmas.Result.{IfOk-weaker}
-use Rattle.nav_query.proofs.UnfoldedBuilds.{unfolded_answer}
+use Rattle.nav_level.proofs.KeptTiles.{setting_fits}
+use Rattle.nav_level.proofs.ShownAnswers.{right_published, unfolded_published}
 use Rattle.nav_level.proofs.level.Level.ask.Goals as goal
 
-pub returns-clause-right : goal.returns-clause-right
-returns-clause-right c = IfOk-weaker c.ask_by.result _ _ (λ told is. is.0) c.ask_by.ensures.right
+pub ask-requires-clause-setting : goal.ask-requires-clause-setting
+ask-requires-clause-setting c = setting_fits c.self.inside.desk c.self.inside.fresh.items c.self.inside.mesh c.self.invariant
 
-pub returns-clause-low_cost : goal.returns-clause-low_cost
-returns-clause-low_cost c = IfOk-weaker c.ask_by.result _ _ (λ told is. is.1) c.ask_by.ensures.right
+pub returns-clause-right : goal.returns-clause-right
+returns-clause-right c =
+    right_published c.self.inside.desk _ c.self.inside.fresh.items c.self.inside.mesh c.args.question.now _ c.self.view_is c.self.invariant c.in_ok-answer.ensures.right
 
 pub returns-clause-unfolded : goal.returns-clause-unfolded
 returns-clause-unfolded c =
-    let state = c.args.self.now in
-    IfOk-weaker c.ask_by.result _ _
-    (λ told is. unfolded_answer state.whole state.history state.published c.args.question.now told.1 c.ask_by.ensures.rules.level c.ask_by.ensures.rules.replied.requests is.0)
-    c.ask_by.ensures.right
+    unfolded_published c.self.inside.desk c.self.inside.fresh.items c.self.inside.mesh c.args.question.now _ c.self.invariant c.in_ok-answer.ensures.right

@@ -17,8 +17,8 @@ joined-requires-clause-tiles c =
 pub invariant_of-result : goal.invariant_of-result
 invariant_of-result c =
     let whole : Ground = arc_value c.args.level in
-    kept_first whole c.in_ok-desk.desk c.in_ok-fresh.fresh.items c.in_ok-shared.shared c.in_ok-desk.ensures.state c.in_ok-desk.ensures.rules c.requires.level
+    kept_first whole c.in_ok-desk.desk c.in_ok-fresh.fresh c.new-3.result c.in_ok-desk.ensures.state c.in_ok-desk.ensures.rules c.requires.level
     (c.in_ok-fresh.ensures ∙ ap (λ n. replicate n None) (c.len.ensures ∙ ap length c.requires.tiles ∙ length-tiles_under whole [] c.requires.level))
-    (c.in_ok-shared.ensures.ok ∙ c.in_ok-mesh.ensures.mesh ∙ ap (λ (w : Ground). mesh_of w.setting c.args.tiles) c.deref.ensures
+    (c.new-3.ensures ∙ c.in_ok-shared.ensures.ok ∙ c.in_ok-mesh.ensures.mesh ∙ ap (λ (w : Ground). mesh_of w.setting c.args.tiles) c.deref.ensures
     ∙ ap (mesh_of whole.setting) c.requires.tiles)
-    (subst IsSound (sym c.in_ok-shared.ensures.ok) c.in_ok-mesh.ensures.sound)
+    (subst IsSound (sym (c.new-3.ensures ∙ c.in_ok-shared.ensures.ok)) c.in_ok-mesh.ensures.sound)

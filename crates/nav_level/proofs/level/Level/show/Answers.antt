@@ -1,15 +1,14 @@
 use Rattle.std.proofs.Common.{◌≡◌, ◌∙◌, ap, None, subst, sym}
+use Rattle.mesh_types.specs.Soundness.{IsSound}
 use Rattle.nav_desk.specs.BookState.{BookState, least_awaited}
 use Rattle.nav_level.specs.Results.{target_mesh}
-use Rattle.nav_level.proofs.FreshTiles.{all_empty}
 use Rattle.nav_level.proofs.KeptTiles.{kept_shown}
 use Rattle.nav_level.proofs.level.Level.show.Goals as goal
 
 pub invariant_of-self : goal.invariant_of-self
 invariant_of-self c =
     let none = subst (λ (state : BookState). least_awaited state ≡ None) (sym c.self.view_is) c.requires.built in
-    kept_shown c.self.inside.desk c.self.inside.fresh.items c.self.inside.mesh c.self.invariant none _ _ c.args.mesh c.publish.ensures.state
+    kept_shown c.self.inside.desk c.self.inside.fresh c.self.inside.mesh c.self.invariant none _ _ c.show.new.self c.publish.ensures.state
     c.publish.ensures.shown c.publish.ensures.rules
-    (all_empty None c.self.inside.fresh.len c.self.inside.fresh.items c.as_mut_slice.result.now c.empty.new.places c.self.inside.fresh.ok.0
-    c.as_mut_slice.ensures.value c.empty.ensures)
-    (c.requires.mesh ∙ ap target_mesh (sym c.self.view_is)) c.requires.sound
+    c.clear.ensures
+    (c.show.ensures ∙ c.requires.mesh ∙ ap target_mesh (sym c.self.view_is)) (subst IsSound (sym c.show.ensures) c.requires.sound)

@@ -1,0 +1,199 @@
+//! How heights over landmarks are found. Nothing is promised of them: whether they keep the rule is tested behind it.
+
+ghost use Rattle.std.specs.Prelude.{◌<◌};
+
+use crate::landmarks::LANDMARKS;
+use crate::ring::Ring;
+use crate::ways::{Ways, number_at};
+use mesh_types::Mesh;
+use nav_list::Items;
+use std::alloc::{AllocError, Global};
+
+/// How many polygons are tried for one from which half of all are reached.
+const TRIES: usize = 4;
+
+/// How often all lists of the queue are looked at, at most: more often than it takes.
+const ROUNDS: u32 = u32::MAX;
+
+/// Heights of all polygons over landmarks, by tile and place. The first landmark is a polygon that is farthest from some polygon of the
+/// largest island, and each further one is the polygon that is farthest from all before it.
+pub(crate) fn fill(alloc: Global, mesh: &Mesh) -> Result<Vec<Items<[u32; LANDMARKS]>>, AllocError> {
+    let mut tiles = level(alloc, mesh)?;
+    let ways = Ways::of(alloc, mesh)?;
+    let mut search = Search::new(alloc, &ways)?;
+    search.begin(alloc, &ways)?;
+    for column in 0..LANDMARKS {
+        let Some(next) = farthest(search.nearest.as_slice()) else {
+            break;
+        };
+        search.measure(alloc, &ways, next)?;
+        if column == 0 {
+            copy(search.heights.as_slice(), search.nearest.as_mut_slice());
+        } else {
+            lower(search.nearest.as_mut_slice(), search.heights.as_slice());
+        }
+        write(tiles.as_mut_slice(), column, search.heights.as_slice());
+    }
+    as_items(alloc, tiles)
+}
+
+/// The same heights as lists that stay as they are.
+fn as_items(
+    alloc: Global,
+    tiles: Vec<Vec<[u32; LANDMARKS]>>,
+) -> Result<Vec<Items<[u32; LANDMARKS]>>, AllocError> {
+    let mut made = Vec::with_capacity(alloc, tiles.len())?;
+    for rows in tiles {
+        made.push(Items::from_vec(rows))?;
+    }
+    Ok(made)
+}
+
+/// Heights of 0 for all polygons.
+fn level(alloc: Global, mesh: &Mesh) -> Result<Vec<Vec<[u32; LANDMARKS]>>, AllocError> {
+    let mut tiles = Vec::with_capacity(alloc, mesh.tiles.len())?;
+    for tile in 0..mesh.tiles.len() {
+        let count = mesh.tiles.at(tile).get().polys.len();
+        tiles.push(vec![in alloc; [0; LANDMARKS]; count]?)?;
+    }
+    Ok(tiles)
+}
+
+/// The room in which heights are found.
+#[derive(Drop)]
+struct Search {
+    ring: Ring,
+    /// By number: the height over the last landmark; `u32::MAX` where no walk leads there.
+    heights: Vec<u32>,
+    /// By number: the least height over the landmarks so far.
+    nearest: Vec<u32>,
+}
+
+impl Search {
+    fn new(alloc: Global, ways: &Ways) -> Result<Self, AllocError> {
+        let count = ways.polygons();
+        Ok(Search {
+            ring: Ring::new(alloc, ways.heaviest())?,
+            heights: vec![in alloc; u32::MAX; count]?,
+            nearest: vec![in alloc; u32::MAX; count]?,
+        })
+    }
+
+    /// Finds a polygon from which half of all are reached, and takes the heights over it for the nearest.
+    fn begin(&mut self, alloc: Global, ways: &Ways) -> Result<(), AllocError> {
+        let mut start = 0;
+        for _try in 0..TRIES {
+            self.measure(alloc, ways, start)?;
+            copy(self.heights.as_slice(), self.nearest.as_mut_slice());
+            if ways.polygons() / 2 <= reached(self.heights.as_slice()) {
+                break;
+            }
+            start = unreached_after(self.heights.as_slice(), start);
+        }
+        Ok(())
+    }
+
+    /// Finds the heights of all polygons over one.
+    fn measure(&mut self, alloc: Global, ways: &Ways, landmark: u32) -> Result<(), AllocError> {
+        self.heights.clear();
+        self.heights.resize(ways.polygons(), u32::MAX)?;
+        set(self.heights.as_mut_slice(), landmark, 0);
+        self.ring.begin(landmark)?;
+        for _round in 0..ROUNDS {
+            let Some(list) = self.ring.take(alloc) else {
+                break;
+            };
+            for number in list.as_slice() {
+                self.follow(ways, *number)?;
+            }
+            self.ring.give_back(list);
+        }
+        Ok(())
+    }
+
+    /// Follows the ways from a polygon whose height stands in the lowest list; what waits there with a height that has fallen was followed.
+    fn follow(&mut self, ways: &Ways, number: u32) -> Result<(), AllocError> {
+        let height = number_at(self.heights.as_slice(), number as usize);
+        if !self.ring.is_lowest(height) {
+            return Ok(());
+        }
+        for way in ways.from(number) {
+            let through = height.saturating_add(way.weight);
+            if through < number_at(self.heights.as_slice(), way.to as usize) {
+                set(self.heights.as_mut_slice(), way.to, through);
+                self.ring.push(through, way.to)?;
+            }
+        }
+        Ok(())
+    }
+}
+
+/// Writes a number at a place, where there is one.
+fn set(numbers: &mut [u32], place: u32, number: u32) {
+    let place = place as usize;
+    if place < numbers.len() {
+        numbers[place] = number;
+    }
+}
+
+/// How many polygons are reached.
+fn reached(heights: &[u32]) -> usize {
+    heights.iter().filter(|height| **height < u32::MAX).count()
+}
+
+/// The next polygon after one that is not reached; that one where there is none.
+fn unreached_after(heights: &[u32], start: u32) -> u32 {
+    let mut number = 0u32;
+    for height in heights {
+        if start < number && *height == u32::MAX {
+            return number;
+        }
+        number = number.wrapping_add(1);
+    }
+    start
+}
+
+/// The polygon that is reached with the greatest height, where one is above 0.
+fn farthest(heights: &[u32]) -> Option<u32> {
+    let mut found = None;
+    let mut greatest = 0;
+    let mut number = 0u32;
+    for height in heights {
+        if greatest < *height && *height < u32::MAX {
+            greatest = *height;
+            found = Some(number);
+        }
+        number = number.wrapping_add(1);
+    }
+    found
+}
+
+/// Copies numbers over others.
+fn copy(from: &[u32], to: &mut [u32]) {
+    for place in 0..to.len() {
+        to[place] = number_at(from, place);
+    }
+}
+
+/// Lowers numbers to others, where these are less.
+fn lower(numbers: &mut [u32], others: &[u32]) {
+    for place in 0..numbers.len() {
+        numbers[place] = numbers[place].min(number_at(others, place));
+    }
+}
+
+/// Writes the heights over one landmark.
+fn write(tiles: &mut [Vec<[u32; LANDMARKS]>], column: usize, heights: &[u32])
+    requires { column < 8 }
+{
+    let mut first = 0usize;
+    for tile in 0..tiles.len() {
+        let count = tiles[tile].len();
+        for place in 0..count {
+            if place < tiles[tile].len() {
+                tiles[tile][place][column] = number_at(heights, first.wrapping_add(place));
+            }
+        }
+        first = first.wrapping_add(count);
+    }
+}

@@ -1,0 +1,151 @@
+//! Landmarks: heights of polygons, by which a search of a mesh that stands closes fewer of them.
+
+ghost use Rattle.std.specs.Prelude.{◌≡◌, ℕ, true, All, IfOk, min, slice_index_or};
+ghost use Rattle.nav_ground.specs.Limits.{IsSetting};
+ghost use Rattle.mesh_types.specs.Soundness.{IsSound};
+ghost use Rattle.mesh_types.specs.Corridors.{IsLinkOf};
+ghost use Rattle.corridor_search.specs.Islands.{inner_of, outer_of};
+ghost use Rattle.corridor_search.specs.Landmarks.{flat, heights_at, gap_of, IsGentle, AreLandmarks};
+
+use crate::filling::fill;
+use crate::islands::{inner_of, outer_of};
+use crate::link_weights::weight_over;
+use mesh_types::{Link, Mesh, PolyRef};
+use nav_list::Items;
+use std::alloc::{AllocError, Global};
+use std::marker::Model;
+
+/// How many landmarks there are.
+pub(crate) const LANDMARKS: usize = 8;
+
+/// The heights of a polygon that has none.
+pub(crate) const FLAT: [u32; LANDMARKS] = [0; LANDMARKS];
+
+/// Heights of the polygons of a mesh over a few landmarks, which are polygons far from each other. The height of a polygon is the least cost
+/// of a walk there from the landmark, each link of it weighed by the lesser of the costs of its two areas. So no walk between two polygons
+/// costs less than the difference of their heights, and a search on the mesh that they were made for sees farther with them. They take 32
+/// bytes a polygon.
+#[derive(Drop)]
+pub struct Landmarks {
+    /// By tile, and by the polygon's place there.
+    tiles: Vec<Items<[u32; LANDMARKS]>>,
+}
+
+impl Model for Landmarks {
+    ghost use Rattle.corridor_search.specs.Landmarks.{Heights};
+
+    ghost Value = { Heights };
+
+    ghost view = { λ a. a.tiles.items };
+}
+
+impl Landmarks {
+    /// The heights of a polygon over the landmarks, in order.
+    pub(crate) fn heights(&self, at: PolyRef) -> [u32; LANDMARKS]
+        ensures { result ≡ heights_at self.now at }
+    {
+        match self.tiles.get(at.tile as usize) {
+            Some(rows) => heights_in(rows.as_slice(), at.index as usize),
+            None => FLAT,
+        }
+    }
+}
+
+/// The heights at a place.
+fn heights_in(rows: &[[u32; LANDMARKS]], place: usize) -> [u32; LANDMARKS]
+    ensures { result ≡ slice_index_or rows.now place flat }
+{
+    match rows.get(place) {
+        Some(heights) => *heights,
+        None => FLAT,
+    }
+}
+
+/// The greatest difference of the heights of two polygons over a landmark.
+fn gap(heights: [u32; LANDMARKS], others: [u32; LANDMARKS]) -> u32
+    ensures { result ≡ gap_of 8 heights others }
+{
+    let mut gap = 0u32;
+    for place in 0..LANDMARKS {
+        gap = gap.max(heights[place].abs_diff(others[place]));
+    }
+    gap
+}
+
+/// The same, or what 32 bits hold at most where that is less.
+pub(crate) fn bound(heights: [u32; LANDMARKS], others: [u32; LANDMARKS]) -> u32
+    ensures { result ≡ min (gap_of 8 heights others) 4294967295 }
+{
+    gap(heights, others).min(u32::MAX)
+}
+
+/// Landmarks of a mesh. It takes a search of the whole mesh for each, so they pay where many corridors of one mesh are asked for.
+pub fn landmarks_of(alloc: Global, mesh: &Mesh) -> Result<Landmarks, AllocError>
+    requires sound { IsSound mesh.now }
+    requires setting { IsSetting mesh.now.setting }
+    ensures { IfOk result (λ made. AreLandmarks mesh.now made) }
+{
+    let marks = Landmarks {
+        tiles: fill(alloc, mesh)?,
+    };
+    if are_gentle(mesh, &marks) {
+        Ok(marks)
+    } else {
+        Ok(Landmarks {
+            tiles: Vec::new(alloc),
+        })
+    }
+}
+
+/// Whether along no link a height rises or falls by more than the link weighs.
+fn are_gentle(mesh: &Mesh, marks: &Landmarks) -> bool
+    requires sound { IsSound mesh.now }
+    requires setting { IsSetting mesh.now.setting }
+    ensures { result ≡ true → AreLandmarks mesh.now marks.now }
+{
+    are_inner_gentle(mesh, marks) && are_outer_gentle(mesh, marks)
+}
+
+/// Whether that holds of the links inside tiles.
+fn are_inner_gentle(mesh: &Mesh, marks: &Landmarks) -> bool
+    requires sound { IsSound mesh.now }
+    requires setting { IsSetting mesh.now.setting }
+    ensures { result ≡ true → (t : ℕ) → All (IsGentle mesh.now marks.now) (inner_of mesh.now t) }
+{
+    for tile in 0..mesh.tiles.len() {
+        if !are_gentle_along(mesh, marks, inner_of(mesh, tile)) {
+            return false;
+        }
+    }
+    true
+}
+
+/// Whether it holds of the links over the borders of tiles.
+fn are_outer_gentle(mesh: &Mesh, marks: &Landmarks) -> bool
+    requires sound { IsSound mesh.now }
+    requires setting { IsSetting mesh.now.setting }
+    ensures { result ≡ true → (t : ℕ) → All (IsGentle mesh.now marks.now) (outer_of mesh.now t) }
+{
+    for tile in 0..mesh.cross.len() {
+        if !are_gentle_along(mesh, marks, outer_of(mesh, tile)) {
+            return false;
+        }
+    }
+    true
+}
+
+/// Whether it holds of some links.
+fn are_gentle_along(mesh: &Mesh, marks: &Landmarks, links: &[Link]) -> bool
+    requires sound { IsSound mesh.now }
+    requires setting { IsSetting mesh.now.setting }
+    requires links { All (IsLinkOf mesh.now) links.now }
+    ensures { result ≡ true → All (IsGentle mesh.now marks.now) links.now }
+{
+    for link in links {
+        let gap = gap(marks.heights(link.from), marks.heights(link.to));
+        if weight_over(mesh, link) < u64::from(gap) {
+            return false;
+        }
+    }
+    true
+}
