@@ -35,7 +35,6 @@ agent_in read = option_map_or (λ (numbers : List ℕ).
     if not (is_in 1 255 (slice_index numbers 0)) || nat_lt 254 (slice_index numbers 1) || nat_lt 15 (slice_index numbers 2) then Err Range
     else (if nat_le (slice_index numbers 0) (slice_index numbers 1) then Err Climb else Ok (agent_with (slice_index numbers 0) (slice_index numbers 1) (slice_index numbers 2)))) read (Err Form)
 
-
 in_range : (low high n : ℕ) → not (is_in low high n) ≡ false → (low ≤ n) × (n ≤ high)
 in_range low high n h = grind (arith, nat_tests)
 
