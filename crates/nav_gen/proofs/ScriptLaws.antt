@@ -10,7 +10,8 @@ use Rattle.nav_text.proofs.Inversions.{some_is}
 use Rattle.nav_script.specs.declared.line.Line.{Line}
 use Rattle.nav_script.specs.declared.line.Line.TheVariants.{Ask, Add, Undo, Claim, Submit, Publish}
 use Rattle.nav_script.specs.declared.script.Way.TheVariants.{Play}
-use Rattle.nav_script.specs.Lanes.{next_lane, lane_after, is_add, is_jump, adds_from, adds_before}
+use Rattle.nav_script.specs.Lanes.{next_lane, lane_after, is_add, is_jump, adds_before}
+use Rattle.nav_script.proofs.LaneLaws.{adds_from, adds_step}
 use Rattle.nav_script.specs.Limits.{IsPlace, IsQuestion, IsLine, IsScript}
 use Rattle.nav_script.specs.Spelling.{line_of}
 use Rattle.nav_gen.specs.Draws.{draw, state_after}
@@ -41,7 +42,8 @@ next_at adds (first ∷ more) (suc k) line next e =
     let rest = next_at (adds_with adds first) more k line next.3 e in
     let count : adds_with adds first + adds_from 0 0 (take k more) ≡ adds + adds_from 0 0 (first ∷ take k more) =
     with_line (is_add first) adds (adds_from 0 0 (take k more))
-    ∙ ap (λ lane. adds + (cond (is_add first && eqb 0 0) 1 0 + adds_from 0 lane (take k more))) (sym next.1) in (
+    ∙ ap (λ lane. adds + (cond (is_add first && eqb 0 0) 1 0 + adds_from 0 lane (take k more))) (sym next.1)
+    ∙ ap (λ n. adds + n) (sym (adds_step 0 0 first (take k more))) in (
       subst (λ n. IsLine Play 1 1 n line) count rest.0,
       ap (λ lane. fold next_lane lane (take k more)) next.1 ∙ rest.1,
     )

@@ -18,10 +18,10 @@ use Rattle.nav_script.specs.declared.line.Line.{Line}
 use Rattle.nav_script.specs.declared.line.Line.TheVariants.{Lane, Ask, Add, Remove, Undo, Settle, Aim, Claim, Back, Submit, Publish, Jump, Hop, Send, March}
 use Rattle.nav_script.specs.declared.script.Script.{Script}
 use Rattle.nav_script.specs.declared.script.Way.TheVariants.{Live}
-use Rattle.nav_script.specs.Lanes.{adds_before, next_lane}
+use Rattle.nav_script.specs.Lanes.{adds_before, next_lane, lines_from, lines_of, names_lane}
 use Rattle.nav_script.specs.Limits.{IsLine, IsPlace, IsQuestion, IsScript}
 use Rattle.nav_lane.specs.LaneSteps.{IsRunnable}
-use Rattle.nav_live.specs.Dealing.{dealt, given, lines_from, lines_of, names_lane}
+use Rattle.nav_live.specs.Dealing.{dealt, given}
 
 -- so many of the lines are given: what each lane has, and what the lines left give it, are its lines
 pub record AreGiven (lanes : ℕ) (lines : List Line) (done current : ℕ) (lists : List (List Line)) : Type 0 where

@@ -14,7 +14,7 @@ use Rattle.mesh_types.proofs.Totals.{once_in_range, sum_by-exchanged, sum_by-no_
 use Rattle.nav_script.specs.declared.line.Line.{Line}
 use Rattle.nav_script.specs.declared.script.Script.{Script}
 use Rattle.nav_script.specs.declared.script.Way.TheVariants.{Live}
-use Rattle.nav_script.specs.Lanes.{is_request, next_lane}
+use Rattle.nav_script.specs.Lanes.{is_request, next_lane, lines_from, lines_of, names_lane}
 use Rattle.nav_script.specs.Limits.{IsScript}
 use Rattle.nav_lane.specs.Roots.{RootView}
 use Rattle.nav_lane.specs.LaneRecords.{entries_made}
@@ -22,7 +22,7 @@ use Rattle.nav_lane.specs.Stops.{HasMetFull}
 use Rattle.nav_lane.proofs.EntryLaws.{entries_extended}
 use Rattle.nav_lane.proofs.RecordLaws.{entries_made-count}
 use Rattle.nav_live.specs.Crews.{HaveMetFull}
-use Rattle.nav_live.specs.Dealing.{lines_from, lines_of, names_lane, requests_of}
+use Rattle.nav_live.specs.Dealing.{requests_of}
 use Rattle.nav_live.specs.Joined.{HaveAsked, IsClosed}
 
 -- a number of a range is there

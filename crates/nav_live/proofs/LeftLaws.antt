@@ -11,7 +11,7 @@ use Rattle.turn_lock.specs.Locks.{LockId, PassView, AreAll, IsOf}
 use Rattle.nav_ground.specs.declared.history.Entry.{Entry}
 use Rattle.nav_script.specs.declared.line.Line.{Line}
 use Rattle.nav_script.specs.declared.script.Script.{Script}
-use Rattle.nav_script.specs.Lanes.{is_request}
+use Rattle.nav_script.specs.Lanes.{is_request, lines_of}
 use Rattle.nav_lane.specs.Roots.{RootView}
 use Rattle.nav_lane.specs.declared.lane.Lane as lanes
 use Rattle.nav_lane.specs.declared.lane.Stop.TheVariants.{NoMemory, HistoryFull}
@@ -24,7 +24,7 @@ use Rattle.nav_live.specs.declared.hand.Hand.{Hand}
 use Rattle.nav_live.specs.declared.hand.Left.{Left}
 use Rattle.nav_live.specs.declared.hand.Task.{Task}
 use Rattle.nav_live.specs.declared.hand.Task.TheVariants.{Lane, Worker}
-use Rattle.nav_live.specs.Dealing.{dealt, lines_of, requests_of}
+use Rattle.nav_live.specs.Dealing.{dealt, requests_of}
 use Rattle.nav_live.specs.Joined.{HasEnded, MadeNone}
 use Rattle.nav_live.specs.Crews.{AreHands, End, EndsAs, HasEndedLane, HaveLeft, HaveMetFull, IsDone, IsLaneOf, IsSameTask, IsWorkerOf, eye_left, pass_left, text_left}
 use Rattle.nav_live.proofs.MusterLaws.{get_or-dealt, length-dealt}

@@ -15,7 +15,8 @@ use Rattle.nav_lane.specs.LaneSteps.{IsRunnable}
 use Rattle.nav_live.specs.declared.hand.Hand.{Hand}
 use Rattle.nav_live.specs.declared.hand.Task.{Task}
 use Rattle.nav_live.specs.declared.hand.Task.TheVariants.{Lane, Worker}
-use Rattle.nav_live.specs.Dealing.{dealt, lines_of}
+use Rattle.nav_live.specs.Dealing.{dealt}
+use Rattle.nav_script.specs.Lanes.{lines_of}
 use Rattle.nav_live.specs.Crews.{AreHands, AreMustered, AreNew, CanMuster, IsEyeOf, IsLaneOf, IsNew, IsNewLane, IsNumbered, IsReady, IsReadyLane, IsWorkerOf, pass_left}
 
 -- a script deals a list to each of its lanes

@@ -19,7 +19,8 @@ use Rattle.nav_live.specs.declared.hand.Hand.{Hand}
 use Rattle.nav_live.specs.declared.hand.Left.{Left}
 use Rattle.nav_live.specs.declared.hand.Task.{Task}
 use Rattle.nav_live.specs.declared.hand.Task.TheVariants as tasks
-use Rattle.nav_live.specs.Dealing.{dealt, lines_of}
+use Rattle.nav_live.specs.Dealing.{dealt}
+use Rattle.nav_script.specs.Lanes.{lines_of}
 use Rattle.nav_live.specs.Joined.{HaveAsked, HaveEnded, MadeNone}
 
 -- how an actor has ended: well, or why it stopped

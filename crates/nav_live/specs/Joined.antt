@@ -9,7 +9,8 @@ use Rattle.nav_lane.specs.LaneRecords.{Spoken, entries_made}
 use Rattle.nav_lane.specs.Lanes.{KeepsLane}
 use Rattle.nav_lane.specs.LiveBooks.{IsLegal}
 use Rattle.nav_lane.specs.Roots.{RootView}
-use Rattle.nav_live.specs.Dealing.{lines_of, requests_of}
+use Rattle.nav_live.specs.Dealing.{requests_of}
+use Rattle.nav_script.specs.Lanes.{lines_of}
 
 -- a lane that stands in a place has the number of the place, and has run all lines that a script deals to that number, with these answers
 pub record HasEnded (lock : LockId RootView) (script : Script) (place : ℕ) (spoken : List Spoken) (lane : Lane) : Type 0 where

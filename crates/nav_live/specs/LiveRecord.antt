@@ -9,7 +9,7 @@ use Rattle.mesh_types.specs.Builds.{build_of}
 use Rattle.mesh_types.specs.Soundness.{link_count, polygon_count}
 use Rattle.nav_record.specs.Texts.{history_text, entry_text, lane_text, final_text}
 use Rattle.nav_script.specs.declared.script.Script.{Script}
-use Rattle.nav_live.specs.Dealing.{lines_of}
+use Rattle.nav_script.specs.Lanes.{lines_of}
 use Rattle.nav_lane.specs.LaneRecords.{Spoken, IsLane}
 use Rattle.nav_lane.specs.LaneTexts.{told_text}
 

@@ -1,19 +1,50 @@
 -- The laws of lanes: what one more line does to the counts.
-use Rattle.std.proofs.Common.{◌≡◌, ℕ, ◌+◌, ◌<◌, ◌≤◌, Bool, true, false, cond, ◌&&◌, eqb, List, [], ◌∷◌, ◌++◌, length, get_or, set, fold, sym, subst, refl, ap, ◌∙◌, inl, inr, arith, ◌≢◌, eq-eqb, ne_eqb}
+use Rattle.std.proofs.Common.{◌≡◌, ℕ, ◌+◌, ◌<◌, ◌≤◌, Bool, true, false, cond, not, ◌&&◌, eqb, count_by, List, [], ◌∷◌, ◌++◌, length, get_or, set, fold, sym, subst, refl, ap, ◌∙◌, inl, inr, arith, ◌≢◌, eq-eqb, ne_eqb}
 use Rattle.std.proofs.lemmas.Bool.{cases_eq}
 use Rattle.std.proofs.lemmas.List.{length-set, get_or-set_same, get_or-set_other}
-use Rattle.std.proofs.lemmas.List.Sums.{fold_push, sum_by_push, count_by-le-length}
+use Rattle.std.proofs.lemmas.List.Sums.{fold_push, sum_by-cons, sum_by_push, count_by-le-length}
 use Rattle.nav_script.specs.declared.line.Line.{Line}
-use Rattle.nav_script.specs.declared.line.Line.TheVariants.{Lane}
-use Rattle.nav_script.specs.Lanes.{next_lane, lane_after, is_add, is_jump, is_request, adds_from, adds_in, NamesLaneBelow, IsCounted}
+use Rattle.nav_script.specs.declared.line.Line.TheVariants.{Lane, Add}
+use Rattle.nav_script.specs.Lanes.{next_lane, lane_after, is_add, is_jump, is_request, names_lane, lines_from, NamesLaneBelow, IsCounted}
+
+-- how many adds of a lane are among these lines, the first of which belongs to the lane `current`
+abbrev pub adds_from : (lane current : ℕ) → List Line → ℕ
+adds_from lane current lines = count_by is_add (lines_from lane current lines)
+
+abbrev adds_in : ℕ → List Line → ℕ
+adds_in lane lines = adds_from lane 0 lines
+
+-- a line that names a lane adds nothing
+names_none : (line : Line) → names_lane line ≡ true → is_add line ≡ false
+names_none (Add shape) names = absurd (cc names)
+names_none _ names = refl
+
+one_line : (names adds here : Bool) (line : Line) (rest : List Line) → is_add line ≡ adds → (names ≡ true → adds ≡ false)
+    → count_by is_add (cond (not names && here) (line ∷ []) [] ++ rest) ≡ cond (adds && here) 1 0 + count_by is_add rest
+one_line true true here line rest is none = absurd (cc (none refl))
+one_line true false here line rest is none = omega arith
+one_line false true true line rest is none = sum_by-cons (λ l. cond (is_add l) 1 0) line rest ∙ ap (λ (b : Bool). cond b 1 0 + count_by is_add rest) is
+one_line false false true line rest is none = sum_by-cons (λ l. cond (is_add l) 1 0) line rest ∙ ap (λ (b : Bool). cond b 1 0 + count_by is_add rest) is
+one_line false true false line rest is none = omega arith
+one_line false false false line rest is none = omega arith
+
+-- the adds of a line, and of those behind it
+pub adds_step : (lane current : ℕ) (line : Line) (more : List Line)
+    → adds_from lane current (line ∷ more) ≡ cond (is_add line && eqb current lane) 1 0 + adds_from lane (next_lane current line) more
+adds_step lane current line more =
+    one_line (names_lane line) (is_add line) (eqb current lane) line (lines_from lane (next_lane current line) more) refl (names_none line)
 
 one_more : (a b c d : ℕ) → b ≡ c + d → a + b ≡ (a + c) + d
 one_more a b c d e = omega arith
 
 adds_push : (lane current : ℕ) (lines : List Line) (line : Line)
     → adds_from lane current (lines ++ line ∷ []) ≡ adds_from lane current lines + cond (is_add line && eqb (fold next_lane current lines) lane) 1 0
-adds_push lane current [] line = omega arith
-adds_push lane current (first ∷ more) line = one_more _ _ _ _ (adds_push lane (next_lane current first) more line)
+adds_push lane current [] line =
+    adds_step lane current line [] ∙ (let n : (k : ℕ) → k + 0 ≡ 0 + k = λ k. omega arith in n (cond (is_add line && eqb current lane) 1 0))
+adds_push lane current (first ∷ more) line =
+    adds_step lane current first (more ++ line ∷ [])
+    ∙ (one_more _ _ _ _ (adds_push lane (next_lane current first) more line)
+    ∙ ap (λ n. n + cond (is_add line && eqb (fold next_lane (next_lane current first) more) lane) 1 0) (sym (adds_step lane current first more)))
 
 at_most_one : (b : Bool) → cond b 1 0 ≤ 1
 at_most_one true = omega arith
@@ -23,7 +54,8 @@ at_most_one false = omega arith
 pub adds_at_most : (lane current : ℕ) (lines : List Line) → adds_from lane current lines ≤ length lines
 adds_at_most lane current [] = omega arith
 adds_at_most lane current (line ∷ more) =
-    omega (arith, at_most_one (is_add line && eqb current lane), adds_at_most lane (next_lane current line) more)
+    subst (λ n. n ≤ length (line ∷ more)) (sym (adds_step lane current line more))
+    (omega (arith, at_most_one (is_add line && eqb current lane), adds_at_most lane (next_lane current line) more))
 
 next_below : (lane : ℕ) (line : Line) → NamesLaneBelow 16 line → lane < 16 → next_lane lane line < 16
 next_below lane (Lane other) named below = named

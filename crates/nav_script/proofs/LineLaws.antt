@@ -16,7 +16,7 @@ use Rattle.nav_script.specs.Spelling.{line_of}
 use Rattle.nav_script.specs.Lanes.{NamesLaneBelow}
 use Rattle.nav_script.specs.Limits.{AreEnds, IsPlace, IsLine}
 use Rattle.nav_script.specs.Forms.{LineRead, in_limits, below_count, floor_line, is_place, is_standing, point_at, path_line, ray_line, is_range, is_block, is_cylinder, block_line, cylinder_line, area_block_line, area_cylinder_line, drop_line, form, first_of_them, question_line, request_line, area_forms, area_line, lane_line}
-use Rattle.nav_script.specs.WayForms.{worker_line, jump_line, hop_line, jump_or_hop, send_line, march_line, walker_line, way_line, line_read}
+use Rattle.nav_script.specs.WayForms.{worker_line, jump_line, hop_line, jump_or_hop, send_line, march_line, walker_line, way_line, read_in_groups, way_forms, line_forms, line_read}
 
 -- the lists of a length, one element after another
 some_more : (P : List ℕ → Type 0) (n : List ℕ) (k : ℕ) → ((x : ℕ) (more : List ℕ) → length more ≡ k → P (x ∷ more)) → length n ≡ suc k → P n
@@ -371,10 +371,9 @@ known : (o : Option LineRead) (line : Line) → unwrap_or o (Err kinds.Line) ≡
 known (Some read) line e = ap Some e
 known None line e = absurd cc
 
--- What is read of a line is spelled so, and may stand there.
-pub line_right : (way : Way) (lanes workers adds : ℕ) (text : List ℕ) (line : Line)
-    → line_read way lanes workers adds text ≡ Ok line → (text ≡ line_of line) × IsLine way lanes workers adds line
-line_right way lanes workers adds text line e =
+right_in_groups : (way : Way) (lanes workers adds : ℕ) (text : List ℕ) (line : Line)
+    → read_in_groups way lanes workers adds text ≡ Ok line → (text ≡ line_of line) × IsLine way lanes workers adds line
+right_in_groups way lanes workers adds text line e =
     let Q : LineRead → Type 0 = IsRight way lanes workers adds text in
     let forms = question_line text ∷ request_line adds text ∷ area_line text ∷ lane_line lanes text ∷ way_line way workers text ∷ [] in
     first_is Q forms (
@@ -391,6 +390,51 @@ line_right way lanes workers adds text line e =
       ),
     )
     (Ok line) (known (first_of_them forms) line e) line refl
+
+-- the first of a group's forms and of those behind it is the first of all
+group : (xs ys zs : List (Option LineRead)) → first_of_them ys ≡ first_of_them zs → first_of_them (first_of_them xs ∷ ys) ≡ first_of_them (xs ++ zs)
+group [] ys zs e = e
+group (Some x ∷ xs) ys zs e = refl
+group (None ∷ xs) ys zs e = group xs ys zs e
+
+behind : (o : Option LineRead) (ys zs : List (Option LineRead)) → first_of_them ys ≡ first_of_them zs → first_of_them (o ∷ ys) ≡ first_of_them (o ∷ zs)
+behind (Some x) ys zs e = refl
+behind None ys zs e = e
+
+way_groups : (way : Way) (workers : ℕ) (line : List ℕ) → first_of_them (way_line way workers line ∷ []) ≡ first_of_them (way_forms way workers line)
+unfolding worker_line
+way_groups Play workers line = group (worker_line workers line ∷ jump_or_hop line ∷ []) [] [] refl ∙ group (worker_forms workers line) (jump_or_hop line ∷ []) (jump_or_hop line ∷ []) refl
+  where
+    worker_forms : ℕ → List ℕ → List (Option LineRead)
+    worker_forms workers line =
+        form (codes "claim") 1 (λ n. below_count (slice_index n 0) workers (Claim (slice_index n 0))) line
+        ∷ form (codes "submit") 1 (λ n. below_count (slice_index n 0) workers (Submit (slice_index n 0))) line
+        ∷ form (codes "back") 1 (λ n. below_count (slice_index n 0) workers (Back (slice_index n 0))) line
+        ∷ form (codes "aim") 0 (λ n. Ok Aim) line
+        ∷ form (codes "publish") 0 (λ n. Ok Publish) line
+        ∷ []
+way_groups Live workers line = refl
+
+-- a line is read in groups as the first of all its forms
+pub groups : (way : Way) (lanes workers adds : ℕ) (line : List ℕ) → read_in_groups way lanes workers adds line ≡ line_read way lanes workers adds line
+unfolding question_line request_line lane_line
+groups way lanes workers adds line =
+    ap (λ (o : Option LineRead). unwrap_or o (Err kinds.Line))
+    (group (form (codes "floor") 2 floor_line line ∷ form (codes "path") 6 path_line line ∷ form (codes "ray") 5 ray_line line ∷ []) _ _
+    (group (form (codes "add block") 6 block_line line
+    ∷ form (codes "add cylinder") 5 cylinder_line line
+    ∷ form (codes "remove") 1 (λ n. Ok (Remove (slice_index n 0))) line
+    ∷ form (codes "drop") 1 (λ n. drop_line adds (slice_index n 0)) line
+    ∷ []) _ _
+    (behind (area_line line) _ _
+    (group (form (codes "settle") 0 (λ n. Ok Settle) line
+    ∷ form (codes "lane") 1 (λ n. below_count (slice_index n 0) lanes (Lane (slice_index n 0))) line
+    ∷ []) _ _ (way_groups way workers line)))))
+
+-- What is read of a line is spelled so, and may stand there.
+pub line_right : (way : Way) (lanes workers adds : ℕ) (text : List ℕ) (line : Line)
+    → line_read way lanes workers adds text ≡ Ok line → (text ≡ line_of line) × IsLine way lanes workers adds line
+line_right way lanes workers adds text line e = right_in_groups way lanes workers adds text line (groups way lanes workers adds text ∙ e)
 
 names_below : (way : Way) (lanes workers adds : ℕ) (line : Line) → IsLine way lanes workers adds line → NamesLaneBelow lanes line
 names_below way lanes workers adds (Lane lane) is = is

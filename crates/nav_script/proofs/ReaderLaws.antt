@@ -5,7 +5,7 @@ use Rattle.nav_text.specs.declared.fault.FaultKind.{FaultKind}
 use Rattle.nav_text.specs.declared.fault.FaultKind.TheVariants as kinds
 use Rattle.nav_text.specs.Faults.{fault_at}
 use Rattle.nav_text.specs.Lines.{lines, is_ended}
-use Rattle.nav_text.specs.Reading.{Verdict, Goes, Refuses, read_on, read_end, read}
+use Rattle.nav_text.specs.Reading.{Verdict, Goes, Refuses, lead, read_on, read_end, read}
 use Rattle.nav_script.specs.declared.header.Header.{Header}
 use Rattle.nav_script.specs.declared.line.Line.{Line}
 use Rattle.nav_script.specs.declared.script.Way.{Way}
@@ -14,8 +14,13 @@ use Rattle.nav_script.specs.declared.script.ScriptRefusal.{ScriptRefusal}
 use Rattle.nav_script.specs.declared.script.ScriptRefusal.TheVariants as refusals
 use Rattle.nav_script.specs.Lanes.{adds_before}
 use Rattle.nav_script.specs.Forms.{LineRead}
-use Rattle.nav_script.specs.WayForms.{line_read}
-use Rattle.nav_script.specs.Reading.{Place, AtScript, AtLines, header_read, lacks_room, lacks_jumps, header_verdict, verdict_of, line_verdict, value_at, script_format, value_of, IsReading}
+use Rattle.nav_script.specs.WayForms.{read_in_groups}
+use Rattle.nav_script.specs.Reading.{Place, AtScript, AtLines, header_read, lacks_room, lacks_jumps, verdict_of, line_verdict, value_at, script_format, value_of, IsReading}
+use Rattle.nav_script.proofs.LineLaws.{groups}
+
+-- where the `script` line leads
+abbrev pub header_verdict : Result Header FaultKind → Verdict Place Script
+header_verdict told = lead told (λ (header : Header). AtLines header.lanes header.workers [])
 
 -- after these lines, reading the rest gives what reading the whole text gives
 pub record Keeps (way : Way) (lanes workers first : ℕ) (text rest : List ℕ) (before : List Line) : Type 0 where
@@ -50,10 +55,10 @@ pub verdict_jumps : (way : Way) (lanes workers : ℕ) (before : List Line) (line
 verdict_jumps way lanes workers before line full room jumps = cond-false _ _ _ full ∙ (cond-false _ _ _ room ∙ cond-true _ _ _ jumps)
 
 pub verdict_read : (way : Way) (lanes workers : ℕ) (before : List Line) (line : List ℕ) (told : LineRead) → leb 300000 (length before) ≡ false → lacks_room way before line ≡ false
-    → lacks_jumps before line ≡ false → told ≡ line_read way lanes workers (adds_before before) line
+    → lacks_jumps before line ≡ false → told ≡ read_in_groups way lanes workers (adds_before before) line
     → line_verdict way (AtLines lanes workers before) line ≡ verdict_of lanes workers before told
 verdict_read way lanes workers before line told full room jumps e =
-    cond-false _ _ _ full ∙ (cond-false _ _ _ room ∙ (cond-false _ _ _ jumps ∙ ap (verdict_of lanes workers before) (sym e)))
+    cond-false _ _ _ full ∙ (cond-false _ _ _ room ∙ (cond-false _ _ _ jumps ∙ ap (verdict_of lanes workers before) (sym (groups way lanes workers (adds_before before) line) ∙ sym e)))
 
 -- a line that fails gives its fault
 pub fails_next : (way : Way) (lanes workers first : ℕ) (text rest : List ℕ) (before : List Line) (line : List ℕ) (more : List (List ℕ)) (kind : FaultKind) (count : ℕ) (refusal : ScriptRefusal)

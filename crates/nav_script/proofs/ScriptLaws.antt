@@ -1,5 +1,7 @@
 -- The laws of scripts: what is read is a script, spelled so, and every script that is spelled so is read.
 use Rattle.std.proofs.Common.{◌≡◌, ℕ, zero, suc, ◌+◌, ◌^◌, ◌<◌, ◌≤◌, Bool, true, false, cond, ◌&&◌, leb, List, [], ◌∷◌, ◌++◌, length, take, map, sum_by, count_by, Option, Some, None, Result, Ok, Err, IfOk, codes, inl, inr, sym, subst, refl, ap, ap₂, ◌∙◌, arith, length-append, append-nil, append_assoc}
+use Rattle.std.specs.Prelude.{nat_le, slice_index, if◌then◌else◌}
+use Rattle.std.specs.Option.{option_map_or}
 use Rattle.std.specs.List.{slice_get, list_all}
 use Rattle.std.proofs.Math.Seq.{take-append_seam}
 use Rattle.std.proofs.lemmas.Bool.{cases_lt, and_from, and_right, cond-true, cond-false}
@@ -30,10 +32,11 @@ use Rattle.nav_script.specs.Lanes.{lane_after, adds_before, is_jump, is_request}
 use Rattle.nav_script.specs.Limits.{IsLine, IsScript, IsScriptText}
 use Rattle.nav_script.specs.Forms.{LineRead}
 use Rattle.nav_script.specs.WayForms.{line_read}
-use Rattle.nav_script.specs.Reading.{Place, AtScript, AtLines, in_counts, header_read, begins_request, lacks_room, lacks_jumps, header_verdict, verdict_of, line_verdict, value_at, script_format, one_later, IsFirstFaultFrom, value_of, IsReading, Gives}
+use Rattle.nav_script.specs.Reading.{Place, AtScript, AtLines, header_read, begins_request, lacks_room, lacks_jumps, verdict_of, line_verdict, value_at, script_format, one_later, IsFirstFaultFrom, value_of, IsReading, Gives}
 use Rattle.nav_script.proofs.LineLaws.{line_right, two}
 use Rattle.nav_script.proofs.SpellingLaws.{begins_spelled, jump_spelled, line_again, line_plain}
 use Rattle.nav_script.proofs.LaneLaws.{adds_at_most}
+use Rattle.nav_script.proofs.ReaderLaws.{header_verdict}
 use Rattle.nav_text.proofs.TextLaws.{text_ended, whole_text}
 
 abbrev script_at : ℕ → ℕ → List Line → Script
@@ -41,6 +44,13 @@ script_at lanes workers those = record { lanes = lanes; workers = workers; lines
 
 goes_to : {x y : Place} → ◌≡◌ {A = Verdict Place Script} (Goes x) (Goes y) → x ≡ y
 goes_to e = cc
+
+-- what the numbers of a `script` line say
+abbrev in_counts : Option (List ℕ) → Result Header FaultKind
+in_counts o = option_map_or (λ (n : List ℕ).
+    if nat_le 1 (slice_index n 0) && nat_le (slice_index n 0) 16 && nat_le 1 (slice_index n 1) && nat_le (slice_index n 1) 8
+    then Ok (record { lanes = slice_index n 0; workers = slice_index n 1 })
+    else Err kinds.Range) o (Err kinds.Form)
 
 -- what a `script` line says that is right
 record HeaderTold (text : List ℕ) (next : Place) : Type 0 where

@@ -1,5 +1,5 @@
 -- The laws of spelled lines: each is read as the line that it spells.
-use Rattle.std.proofs.Common.{◌≡◌, ℕ, ◌^◌, ◌<◌, ◌≤◌, true, false, not, nat_lt, eqb, List, [], ◌∷◌, ◌++◌, Some, Ok, Err, ℤ, pos, negsuc, ◌≤ℤ◌, nat_abs, codes, unwrap_or, refl, ap, ap₂, ◌∙◌, arith}
+use Rattle.std.proofs.Common.{◌≡◌, ℕ, ◌^◌, ◌<◌, ◌≤◌, true, false, not, nat_lt, eqb, List, [], ◌∷◌, ◌++◌, Some, Ok, Err, ℤ, pos, negsuc, ◌≤ℤ◌, nat_abs, codes, unwrap_or, refl, sym, ap, ap₂, ◌∙◌, arith}
 use Rattle.std.proofs.lemmas.Bool.{and_from, le-leb, lt-ltb}
 use Rattle.std.proofs.lemmas.Bool.Decides.{nat_tests}
 use Rattle.std.proofs.lemmas.Int.{ints}
@@ -23,8 +23,9 @@ use Rattle.nav_script.specs.Spelling.{ends_of, question_spelling, shape_spelling
 use Rattle.nav_script.specs.Lanes.{is_jump, is_request}
 use Rattle.nav_script.specs.Limits.{AreEnds, IsJump, IsPlace, IsLine, IsQuestion}
 use Rattle.nav_script.specs.Forms.{LineRead, is_place, is_standing, point_at, is_range, drop_line, question_line, request_line, area_line, lane_line}
-use Rattle.nav_script.specs.WayForms.{worker_line, jump_or_hop, walker_line, line_read}
+use Rattle.nav_script.specs.WayForms.{worker_line, jump_or_hop, walker_line, read_in_groups, line_read}
 use Rattle.nav_script.specs.Reading.{begins_request}
+use Rattle.nav_script.proofs.LineLaws.{groups}
 
 -- a line begins with the word of a request exactly where it is one
 pub begins_spelled : (line : Line) → begins_request (line_of line) ≡ is_request line
@@ -76,18 +77,18 @@ small : (n most : ℕ) → most < 4294967296 → n ≤ most → n < 2 ^ 32
 small n most fits le = omega arith
 
 floor_again : (way : Way) (lanes workers adds x z : ℕ) → x ≤ 1023 → z ≤ 1023
-    → line_read way lanes workers adds (line_of (Ask (Floor x z))) ≡ Ok (Ask (Floor x z))
+    → read_in_groups way lanes workers adds (line_of (Ask (Floor x z))) ≡ Ok (Ask (Floor x z))
 unfolding question_line numbers_of
 floor_again way lanes workers adds x z hx hz =
     let fit : AreNumbers (x ∷ z ∷ []) = (omega arith, (omega arith, tt)) in
     rw (fields_of_again (x ∷ z ∷ []) fit, le-leb x 1023 hx, le-leb z 1023 hz) refl
 
 remove_again : (way : Way) (lanes workers adds number : ℕ) → number < 2 ^ 32
-    → line_read way lanes workers adds (line_of (Remove number)) ≡ Ok (Remove number)
+    → read_in_groups way lanes workers adds (line_of (Remove number)) ≡ Ok (Remove number)
 unfolding question_line request_line numbers_of
 remove_again way lanes workers adds number fits = rw (fields_of_again (number ∷ []) (fits, tt)) refl
 
-settle_again : (way : Way) (lanes workers adds : ℕ) → line_read way lanes workers adds (line_of Settle) ≡ Ok Settle
+settle_again : (way : Way) (lanes workers adds : ℕ) → read_in_groups way lanes workers adds (line_of Settle) ≡ Ok Settle
 unfolding question_line request_line area_line lane_line numbers_of number_after
 settle_again way lanes workers adds = rw (fields_of_again [] tt) refl
 
@@ -112,7 +113,7 @@ point_is point is = ap₂ (λ x z. let p : Point = record { x = x; z = z } in p)
 
 path_numbers : (way : Way) (lanes workers adds x z y to_x to_z to_y : ℕ)
     → x ≤ 16384 → z ≤ 16384 → y ≤ 8191 → to_x ≤ 16384 → to_z ≤ 16384 → to_y ≤ 8191
-    → line_read way lanes workers adds (line_text (codes "path") (x ∷ z ∷ y ∷ to_x ∷ to_z ∷ to_y ∷ []))
+    → read_in_groups way lanes workers adds (line_text (codes "path") (x ∷ z ∷ y ∷ to_x ∷ to_z ∷ to_y ∷ []))
     ≡ Ok (Ask (Path (point_at x z) y (point_at to_x to_z) to_y))
 unfolding question_line numbers_of
 path_numbers way lanes workers adds x z y to_x to_z to_y hx hz hy htx htz hty =
@@ -120,7 +121,7 @@ path_numbers way lanes workers adds x z y to_x to_z to_y hx hz hy htx htz hty =
     rw (fields_of_again (x ∷ z ∷ y ∷ to_x ∷ to_z ∷ to_y ∷ []) fit, standing_true x z y hx hz hy, standing_true to_x to_z to_y htx htz hty) refl
 
 path_again : (way : Way) (lanes workers adds : ℕ) (from : Point) (from_y : ℕ) (to : Point) (to_y : ℕ) → IsQuestion (Path from from_y to to_y)
-    → line_read way lanes workers adds (line_of (Ask (Path from from_y to to_y))) ≡ Ok (Ask (Path from from_y to to_y))
+    → read_in_groups way lanes workers adds (line_of (Ask (Path from from_y to to_y))) ≡ Ok (Ask (Path from from_y to to_y))
 path_again way lanes workers adds from from_y to to_y is =
     let f = is.0 in
     let t = is.2 in
@@ -131,7 +132,7 @@ path_again way lanes workers adds from from_y to to_y is =
 
 ray_numbers : (way : Way) (lanes workers adds x z y to_x to_z : ℕ)
     → x ≤ 16384 → z ≤ 16384 → y ≤ 8191 → to_x ≤ 16384 → to_z ≤ 16384
-    → line_read way lanes workers adds (line_text (codes "ray") (x ∷ z ∷ y ∷ to_x ∷ to_z ∷ []))
+    → read_in_groups way lanes workers adds (line_text (codes "ray") (x ∷ z ∷ y ∷ to_x ∷ to_z ∷ []))
     ≡ Ok (Ask (Ray (point_at x z) y (point_at to_x to_z)))
 unfolding question_line numbers_of
 ray_numbers way lanes workers adds x z y to_x to_z hx hz hy htx htz =
@@ -139,7 +140,7 @@ ray_numbers way lanes workers adds x z y to_x to_z hx hz hy htx htz =
     rw (fields_of_again (x ∷ z ∷ y ∷ to_x ∷ to_z ∷ []) fit, standing_true x z y hx hz hy, place_true to_x to_z htx htz) refl
 
 ray_again : (way : Way) (lanes workers adds : ℕ) (from : Point) (from_y : ℕ) (to : Point) → IsQuestion (Ray from from_y to)
-    → line_read way lanes workers adds (line_of (Ask (Ray from from_y to))) ≡ Ok (Ask (Ray from from_y to))
+    → read_in_groups way lanes workers adds (line_of (Ask (Ray from from_y to))) ≡ Ok (Ask (Ray from from_y to))
 ray_again way lanes workers adds from from_y to is =
     let f = is.0 in
     let t = is.2 in
@@ -152,7 +153,7 @@ range_true : (low high most : ℕ) → low ≤ high → high ≤ most → is_ran
 range_true low high most order end = and_from _ _ (le-leb low high order) (le-leb high most end)
 
 block_again : (way : Way) (lanes workers adds x0 x1 y0 y1 z0 z1 : ℕ) → IsBox x0 x1 y0 y1 z0 z1
-    → line_read way lanes workers adds (line_of (Add (Block x0 x1 y0 y1 z0 z1))) ≡ Ok (Add (Block x0 x1 y0 y1 z0 z1))
+    → read_in_groups way lanes workers adds (line_of (Add (Block x0 x1 y0 y1 z0 z1))) ≡ Ok (Add (Block x0 x1 y0 y1 z0 z1))
 unfolding question_line request_line numbers_of
 block_again way lanes workers adds x0 x1 y0 y1 z0 z1 box =
     let fit : AreNumbers (x0 ∷ x1 ∷ y0 ∷ y1 ∷ z0 ∷ z1 ∷ []) = (omega arith, (omega arith, (omega arith, (omega arith, (omega arith, (omega arith, tt)))))) in
@@ -164,7 +165,7 @@ block_again way lanes workers adds x0 x1 y0 y1 z0 z1 box =
     ) refl
 
 cylinder_again : (way : Way) (lanes workers adds cx cz r y0 y1 : ℕ) → IsRound cx cz r y0 y1
-    → line_read way lanes workers adds (line_of (Add (Cylinder cx cz r y0 y1))) ≡ Ok (Add (Cylinder cx cz r y0 y1))
+    → read_in_groups way lanes workers adds (line_of (Add (Cylinder cx cz r y0 y1))) ≡ Ok (Add (Cylinder cx cz r y0 y1))
 unfolding question_line request_line numbers_of
 cylinder_again way lanes workers adds cx cz r y0 y1 round =
     let fit : AreNumbers (cx ∷ cz ∷ r ∷ y0 ∷ y1 ∷ []) = (omega arith, (omega arith, (omega arith, (omega arith, (omega arith, tt))))) in
@@ -180,7 +181,7 @@ area_true : (area : ℕ) → IsArea area → is_range 1 area 63 ≡ true
 area_true area rules = range_true 1 area 63 (omega arith) (omega arith)
 
 area_block_again : (way : Way) (lanes workers adds area x0 x1 y0 y1 z0 z1 : ℕ) → IsArea area → IsBox x0 x1 y0 y1 z0 z1
-    → line_read way lanes workers adds (line_of (Add (AreaBlock area x0 x1 y0 y1 z0 z1))) ≡ Ok (Add (AreaBlock area x0 x1 y0 y1 z0 z1))
+    → read_in_groups way lanes workers adds (line_of (Add (AreaBlock area x0 x1 y0 y1 z0 z1))) ≡ Ok (Add (AreaBlock area x0 x1 y0 y1 z0 z1))
 unfolding question_line request_line area_line numbers_of
 area_block_again way lanes workers adds area x0 x1 y0 y1 z0 z1 rules box =
     let n : List ℕ = x0 ∷ x1 ∷ y0 ∷ y1 ∷ z0 ∷ z1 ∷ [] in
@@ -195,7 +196,7 @@ area_block_again way lanes workers adds area x0 x1 y0 y1 z0 z1 rules box =
     ) refl
 
 area_cylinder_again : (way : Way) (lanes workers adds area cx cz r y0 y1 : ℕ) → IsArea area → IsRound cx cz r y0 y1
-    → line_read way lanes workers adds (line_of (Add (AreaCylinder area cx cz r y0 y1))) ≡ Ok (Add (AreaCylinder area cx cz r y0 y1))
+    → read_in_groups way lanes workers adds (line_of (Add (AreaCylinder area cx cz r y0 y1))) ≡ Ok (Add (AreaCylinder area cx cz r y0 y1))
 unfolding question_line request_line area_line numbers_of
 area_cylinder_again way lanes workers adds area cx cz r y0 y1 rules round =
     let n : List ℕ = cx ∷ cz ∷ r ∷ y0 ∷ y1 ∷ [] in
@@ -217,42 +218,42 @@ drop_true adds back least most =
     rw (some, there) refl
 
 undo_again : (way : Way) (lanes workers adds back : ℕ) → 1 ≤ back → back ≤ adds → adds < 2 ^ 32
-    → line_read way lanes workers adds (line_of (Undo back)) ≡ Ok (Undo back)
+    → read_in_groups way lanes workers adds (line_of (Undo back)) ≡ Ok (Undo back)
 unfolding question_line request_line numbers_of
 undo_again way lanes workers adds back least most few =
     rw (fields_of_again (back ∷ []) (omega arith, tt)) (ap (λ r. unwrap_or (Some r) (Err kinds.Line)) (drop_true adds back least most))
 
 lane_again : (way : Way) (lanes workers adds lane : ℕ) → lanes ≤ 16 → lane < lanes
-    → line_read way lanes workers adds (line_of (Lane lane)) ≡ Ok (Lane lane)
+    → read_in_groups way lanes workers adds (line_of (Lane lane)) ≡ Ok (Lane lane)
 unfolding question_line request_line area_line lane_line numbers_of number_after
 lane_again way lanes workers adds lane few below = rw (fields_of_again (lane ∷ []) (omega arith, tt), lt-ltb lane lanes below) refl
 
 claim_again : (lanes workers adds worker : ℕ) → workers ≤ 8 → worker < workers
-    → line_read Play lanes workers adds (line_of (Claim worker)) ≡ Ok (Claim worker)
+    → read_in_groups Play lanes workers adds (line_of (Claim worker)) ≡ Ok (Claim worker)
 unfolding question_line request_line area_line lane_line worker_line numbers_of number_after
 claim_again lanes workers adds worker few below = rw (fields_of_again (worker ∷ []) (omega arith, tt), lt-ltb worker workers below) refl
 
 back_again : (lanes workers adds worker : ℕ) → workers ≤ 8 → worker < workers
-    → line_read Play lanes workers adds (line_of (Back worker)) ≡ Ok (Back worker)
+    → read_in_groups Play lanes workers adds (line_of (Back worker)) ≡ Ok (Back worker)
 unfolding question_line request_line area_line lane_line worker_line numbers_of number_after
 back_again lanes workers adds worker few below = rw (fields_of_again (worker ∷ []) (omega arith, tt), lt-ltb worker workers below) refl
 
 submit_again : (lanes workers adds worker : ℕ) → workers ≤ 8 → worker < workers
-    → line_read Play lanes workers adds (line_of (Submit worker)) ≡ Ok (Submit worker)
+    → read_in_groups Play lanes workers adds (line_of (Submit worker)) ≡ Ok (Submit worker)
 unfolding question_line request_line area_line lane_line worker_line numbers_of number_after
 submit_again lanes workers adds worker few below = rw (fields_of_again (worker ∷ []) (omega arith, tt), lt-ltb worker workers below) refl
 
-aim_again : (lanes workers adds : ℕ) → line_read Play lanes workers adds (line_of Aim) ≡ Ok Aim
+aim_again : (lanes workers adds : ℕ) → read_in_groups Play lanes workers adds (line_of Aim) ≡ Ok Aim
 unfolding question_line request_line area_line lane_line worker_line numbers_of number_after
 aim_again lanes workers adds = rw (fields_of_again [] tt) refl
 
-publish_again : (lanes workers adds : ℕ) → line_read Play lanes workers adds (line_of Publish) ≡ Ok Publish
+publish_again : (lanes workers adds : ℕ) → read_in_groups Play lanes workers adds (line_of Publish) ≡ Ok Publish
 unfolding question_line request_line area_line lane_line worker_line numbers_of number_after
 publish_again lanes workers adds = rw (fields_of_again [] tt) refl
 
 jump_numbers : (lanes workers adds x z y to_x to_z to_y cost : ℕ)
     → x ≤ 16384 → z ≤ 16384 → y ≤ 8191 → to_x ≤ 16384 → to_z ≤ 16384 → to_y ≤ 8191 → 1 ≤ cost → cost ≤ 1000000
-    → line_read Play lanes workers adds (line_text (codes "jump") (x ∷ z ∷ y ∷ to_x ∷ to_z ∷ to_y ∷ cost ∷ []))
+    → read_in_groups Play lanes workers adds (line_text (codes "jump") (x ∷ z ∷ y ∷ to_x ∷ to_z ∷ to_y ∷ cost ∷ []))
     ≡ Ok (Jump (record { from = point_at x z; from_y = y; to = point_at to_x to_z; to_y = to_y; cost = cost }))
 unfolding question_line request_line area_line lane_line worker_line jump_or_hop numbers_of number_after
 jump_numbers lanes workers adds x z y to_x to_z to_y cost hx hz hy htx htz hty least most =
@@ -265,7 +266,7 @@ jump_numbers lanes workers adds x z y to_x to_z to_y cost hx hz hy htx htz hty l
       range_true 1 cost 1000000 least most,
     ) refl
 
-jump_again : (lanes workers adds : ℕ) (jump : jumps.Jump) → IsJump jump → line_read Play lanes workers adds (line_of (Jump jump)) ≡ Ok (Jump jump)
+jump_again : (lanes workers adds : ℕ) (jump : jumps.Jump) → IsJump jump → read_in_groups Play lanes workers adds (line_of (Jump jump)) ≡ Ok (Jump jump)
 jump_again lanes workers adds jump is =
     let f = is.0.0 in
     let t = is.0.2 in
@@ -275,7 +276,7 @@ jump_again lanes workers adds jump is =
     ∙ ap₂ (λ a b. let l : LineRead = Ok (Jump (record { from = a; from_y = jump.from_y; to = b; to_y = jump.to_y; cost = jump.cost })) in l) (point_is jump.from f) (point_is jump.to t)
 
 hop_numbers : (lanes workers adds x z y to_x to_z to_y : ℕ) → x ≤ 16384 → z ≤ 16384 → y ≤ 8191 → to_x ≤ 16384 → to_z ≤ 16384 → to_y ≤ 8191
-    → line_read Play lanes workers adds (line_text (codes "hop") (x ∷ z ∷ y ∷ to_x ∷ to_z ∷ to_y ∷ []))
+    → read_in_groups Play lanes workers adds (line_text (codes "hop") (x ∷ z ∷ y ∷ to_x ∷ to_z ∷ to_y ∷ []))
     ≡ Ok (Hop (point_at x z) y (point_at to_x to_z) to_y)
 unfolding question_line request_line area_line lane_line worker_line jump_or_hop numbers_of number_after
 hop_numbers lanes workers adds x z y to_x to_z to_y hx hz hy htx htz hty =
@@ -283,7 +284,7 @@ hop_numbers lanes workers adds x z y to_x to_z to_y hx hz hy htx htz hty =
     rw (fields_of_again (x ∷ z ∷ y ∷ to_x ∷ to_z ∷ to_y ∷ []) fit, standing_true x z y hx hz hy, standing_true to_x to_z to_y htx htz hty) refl
 
 hop_again : (lanes workers adds : ℕ) (from : Point) (from_y : ℕ) (to : Point) (to_y : ℕ) → AreEnds from from_y to to_y
-    → line_read Play lanes workers adds (line_of (Hop from from_y to to_y)) ≡ Ok (Hop from from_y to to_y)
+    → read_in_groups Play lanes workers adds (line_of (Hop from from_y to to_y)) ≡ Ok (Hop from from_y to to_y)
 hop_again lanes workers adds from from_y to to_y is =
     let f = is.0 in
     let t = is.2 in
@@ -293,7 +294,7 @@ hop_again lanes workers adds from from_y to to_y is =
     ∙ ap₂ (λ a b. let l : LineRead = Ok (Hop a from_y b to_y) in l) (point_is from f) (point_is to t)
 
 send_numbers : (lanes workers adds x z y to_x to_z to_y : ℕ) → x ≤ 16384 → z ≤ 16384 → y ≤ 8191 → to_x ≤ 16384 → to_z ≤ 16384 → to_y ≤ 8191
-    → line_read Live lanes workers adds (line_text (codes "send") (x ∷ z ∷ y ∷ to_x ∷ to_z ∷ to_y ∷ []))
+    → read_in_groups Live lanes workers adds (line_text (codes "send") (x ∷ z ∷ y ∷ to_x ∷ to_z ∷ to_y ∷ []))
     ≡ Ok (Send (point_at x z) y (point_at to_x to_z) to_y)
 unfolding question_line request_line area_line lane_line walker_line numbers_of number_after
 send_numbers lanes workers adds x z y to_x to_z to_y hx hz hy htx htz hty =
@@ -301,7 +302,7 @@ send_numbers lanes workers adds x z y to_x to_z to_y hx hz hy htx htz hty =
     rw (fields_of_again (x ∷ z ∷ y ∷ to_x ∷ to_z ∷ to_y ∷ []) fit, standing_true x z y hx hz hy, standing_true to_x to_z to_y htx htz hty) refl
 
 send_again : (lanes workers adds : ℕ) (from : Point) (from_y : ℕ) (to : Point) (to_y : ℕ) → AreEnds from from_y to to_y
-    → line_read Live lanes workers adds (line_of (Send from from_y to to_y)) ≡ Ok (Send from from_y to to_y)
+    → read_in_groups Live lanes workers adds (line_of (Send from from_y to to_y)) ≡ Ok (Send from from_y to to_y)
 send_again lanes workers adds from from_y to to_y is =
     let f = is.0 in
     let t = is.2 in
@@ -310,42 +311,47 @@ send_again lanes workers adds from from_y to to_y is =
     (size_most to.x 16384 t.x_least t.x_most) (size_most to.z 16384 t.z_least t.z_most) is.3
     ∙ ap₂ (λ a b. let l : LineRead = Ok (Send a from_y b to_y) in l) (point_is from f) (point_is to t)
 
-march_again : (lanes workers adds length : ℕ) → 1 ≤ length → length ≤ 65535 → line_read Live lanes workers adds (line_of (March length)) ≡ Ok (March length)
+march_again : (lanes workers adds length : ℕ) → 1 ≤ length → length ≤ 65535 → read_in_groups Live lanes workers adds (line_of (March length)) ≡ Ok (March length)
 unfolding question_line request_line area_line lane_line walker_line numbers_of number_after
 march_again lanes workers adds length least most = rw (fields_of_again (length ∷ []) (omega arith, tt), range_true 1 length 65535 least most) refl
+
+again_in_groups : (way : Way) (lanes workers adds : ℕ) (line : Line) → lanes ≤ 16 → workers ≤ 8 → adds < 2 ^ 32 → IsLine way lanes workers adds line
+    → read_in_groups way lanes workers adds (line_of line) ≡ Ok line
+again_in_groups way lanes workers adds (Lane lane) few crew counted is = lane_again way lanes workers adds lane few is
+again_in_groups way lanes workers adds (Ask (Floor x z)) few crew counted is = floor_again way lanes workers adds x z is.0 is.1
+again_in_groups way lanes workers adds (Ask (Path from from_y to to_y)) few crew counted is = path_again way lanes workers adds from from_y to to_y is
+again_in_groups way lanes workers adds (Ask (Ray from from_y to)) few crew counted is = ray_again way lanes workers adds from from_y to is
+again_in_groups way lanes workers adds (Add (Block x0 x1 y0 y1 z0 z1)) few crew counted is = block_again way lanes workers adds x0 x1 y0 y1 z0 z1 is
+again_in_groups way lanes workers adds (Add (Cylinder cx cz r y0 y1)) few crew counted is = cylinder_again way lanes workers adds cx cz r y0 y1 is
+again_in_groups way lanes workers adds (Add (AreaBlock area x0 x1 y0 y1 z0 z1)) few crew counted is = area_block_again way lanes workers adds area x0 x1 y0 y1 z0 z1 is.0 is.1
+again_in_groups way lanes workers adds (Add (AreaCylinder area cx cz r y0 y1)) few crew counted is = area_cylinder_again way lanes workers adds area cx cz r y0 y1 is.0 is.1
+again_in_groups way lanes workers adds (Remove number) few crew counted is = remove_again way lanes workers adds number is
+again_in_groups way lanes workers adds (Undo back) few crew counted is = undo_again way lanes workers adds back is.0 is.1 counted
+again_in_groups way lanes workers adds Settle few crew counted is = settle_again way lanes workers adds
+again_in_groups Play lanes workers adds Aim few crew counted is = aim_again lanes workers adds
+again_in_groups Live lanes workers adds Aim few crew counted is = absurd cc
+again_in_groups Play lanes workers adds (Claim worker) few crew counted is = claim_again lanes workers adds worker crew is.1
+again_in_groups Live lanes workers adds (Claim worker) few crew counted is = let no : Live ≡ Play = is.0 in absurd cc
+again_in_groups Play lanes workers adds (Back worker) few crew counted is = back_again lanes workers adds worker crew is.1
+again_in_groups Live lanes workers adds (Back worker) few crew counted is = let no : Live ≡ Play = is.0 in absurd cc
+again_in_groups Play lanes workers adds (Submit worker) few crew counted is = submit_again lanes workers adds worker crew is.1
+again_in_groups Live lanes workers adds (Submit worker) few crew counted is = let no : Live ≡ Play = is.0 in absurd cc
+again_in_groups Play lanes workers adds Publish few crew counted is = publish_again lanes workers adds
+again_in_groups Live lanes workers adds Publish few crew counted is = absurd cc
+again_in_groups Play lanes workers adds (Jump jump) few crew counted is = jump_again lanes workers adds jump is.1
+again_in_groups Live lanes workers adds (Jump jump) few crew counted is = let no : Live ≡ Play = is.0 in absurd cc
+again_in_groups Play lanes workers adds (Hop from from_y to to_y) few crew counted is = hop_again lanes workers adds from from_y to to_y is.1
+again_in_groups Live lanes workers adds (Hop from from_y to to_y) few crew counted is = let no : Live ≡ Play = is.0 in absurd cc
+again_in_groups Play lanes workers adds (Send from from_y to to_y) few crew counted is = let no : Play ≡ Live = is.0 in absurd cc
+again_in_groups Live lanes workers adds (Send from from_y to to_y) few crew counted is = send_again lanes workers adds from from_y to to_y is.1
+again_in_groups Play lanes workers adds (March length) few crew counted is = let no : Play ≡ Live = is.0 in absurd cc
+again_in_groups Live lanes workers adds (March length) few crew counted is = march_again lanes workers adds length is.1 is.2
 
 -- A line that may stand there, spelled, is read as that line.
 pub line_again : (way : Way) (lanes workers adds : ℕ) (line : Line) → lanes ≤ 16 → workers ≤ 8 → adds < 2 ^ 32 → IsLine way lanes workers adds line
     → line_read way lanes workers adds (line_of line) ≡ Ok line
-line_again way lanes workers adds (Lane lane) few crew counted is = lane_again way lanes workers adds lane few is
-line_again way lanes workers adds (Ask (Floor x z)) few crew counted is = floor_again way lanes workers adds x z is.0 is.1
-line_again way lanes workers adds (Ask (Path from from_y to to_y)) few crew counted is = path_again way lanes workers adds from from_y to to_y is
-line_again way lanes workers adds (Ask (Ray from from_y to)) few crew counted is = ray_again way lanes workers adds from from_y to is
-line_again way lanes workers adds (Add (Block x0 x1 y0 y1 z0 z1)) few crew counted is = block_again way lanes workers adds x0 x1 y0 y1 z0 z1 is
-line_again way lanes workers adds (Add (Cylinder cx cz r y0 y1)) few crew counted is = cylinder_again way lanes workers adds cx cz r y0 y1 is
-line_again way lanes workers adds (Add (AreaBlock area x0 x1 y0 y1 z0 z1)) few crew counted is = area_block_again way lanes workers adds area x0 x1 y0 y1 z0 z1 is.0 is.1
-line_again way lanes workers adds (Add (AreaCylinder area cx cz r y0 y1)) few crew counted is = area_cylinder_again way lanes workers adds area cx cz r y0 y1 is.0 is.1
-line_again way lanes workers adds (Remove number) few crew counted is = remove_again way lanes workers adds number is
-line_again way lanes workers adds (Undo back) few crew counted is = undo_again way lanes workers adds back is.0 is.1 counted
-line_again way lanes workers adds Settle few crew counted is = settle_again way lanes workers adds
-line_again Play lanes workers adds Aim few crew counted is = aim_again lanes workers adds
-line_again Live lanes workers adds Aim few crew counted is = absurd cc
-line_again Play lanes workers adds (Claim worker) few crew counted is = claim_again lanes workers adds worker crew is.1
-line_again Live lanes workers adds (Claim worker) few crew counted is = let no : Live ≡ Play = is.0 in absurd cc
-line_again Play lanes workers adds (Back worker) few crew counted is = back_again lanes workers adds worker crew is.1
-line_again Live lanes workers adds (Back worker) few crew counted is = let no : Live ≡ Play = is.0 in absurd cc
-line_again Play lanes workers adds (Submit worker) few crew counted is = submit_again lanes workers adds worker crew is.1
-line_again Live lanes workers adds (Submit worker) few crew counted is = let no : Live ≡ Play = is.0 in absurd cc
-line_again Play lanes workers adds Publish few crew counted is = publish_again lanes workers adds
-line_again Live lanes workers adds Publish few crew counted is = absurd cc
-line_again Play lanes workers adds (Jump jump) few crew counted is = jump_again lanes workers adds jump is.1
-line_again Live lanes workers adds (Jump jump) few crew counted is = let no : Live ≡ Play = is.0 in absurd cc
-line_again Play lanes workers adds (Hop from from_y to to_y) few crew counted is = hop_again lanes workers adds from from_y to to_y is.1
-line_again Live lanes workers adds (Hop from from_y to to_y) few crew counted is = let no : Live ≡ Play = is.0 in absurd cc
-line_again Play lanes workers adds (Send from from_y to to_y) few crew counted is = let no : Play ≡ Live = is.0 in absurd cc
-line_again Live lanes workers adds (Send from from_y to to_y) few crew counted is = send_again lanes workers adds from from_y to to_y is.1
-line_again Play lanes workers adds (March length) few crew counted is = let no : Play ≡ Live = is.0 in absurd cc
-line_again Live lanes workers adds (March length) few crew counted is = march_again lanes workers adds length is.1 is.2
+line_again way lanes workers adds line few crew counted is =
+    sym (groups way lanes workers adds (line_of line)) ∙ again_in_groups way lanes workers adds line few crew counted is
 
 -- the numbers of two points with their heights
 numbers_of_ends : (from : Point) (from_y : ℕ) (to : Point) (to_y : ℕ) → AreEnds from from_y to to_y → AreNumbers (ends_of from from_y to to_y)

@@ -1,5 +1,5 @@
 -- The lanes of a script: which lane a line belongs to, and how many requests, adds and jumps stand before it.
-use Rattle.std.specs.Prelude.{◌≡◌, ℕ, ◌+◌, ◌<◌, Bool, true, false, ◌==◌, ◌&&◌, if◌then◌else◌, List, [], ◌∷◌, length, get_or, fold, count_by, ⊤}
+use Rattle.std.specs.Prelude.{◌≡◌, ℕ, ◌+◌, ◌<◌, Bool, true, false, not, ◌==◌, ◌&&◌, if◌then◌else◌, List, [], ◌∷◌, ◌++◌, length, get_or, fold, count_by, ⊤}
 use Rattle.nav_script.specs.declared.line.Line.{Line}
 use Rattle.nav_script.specs.declared.line.Line.TheVariants.{Lane, Add, Remove, Undo, Jump}
 
@@ -29,19 +29,25 @@ abbrev pub is_jump : Line → Bool
 is_jump (Jump jump) = true
 is_jump _ = false
 
--- how many adds of a lane are among these lines, the first of which belongs to the lane `current`
-abbrev pub adds_from : (lane current : ℕ) → List Line → ℕ
-adds_from lane current [] = 0
-adds_from lane current (line ∷ more) =
-    (if is_add line && current == lane then 1 else 0) + adds_from lane (next_lane current line) more
+-- a line that names the lane of the lines after it; it belongs to no lane itself
+abbrev pub names_lane : Line → Bool
+names_lane (Lane other) = true
+names_lane _ = false
 
--- how many adds of a lane are among the lines of a script
-abbrev pub adds_in : ℕ → List Line → ℕ
-adds_in lane lines = adds_from lane 0 lines
+-- the lines that belong to a lane, where the first of these belongs to the lane `current`
+abbrev pub lines_from : (lane current : ℕ) → List Line → List Line
+lines_from lane current [] = []
+lines_from lane current (line ∷ more) =
+    (if not (names_lane line) && current == lane then line ∷ [] else []) ++ lines_from lane (next_lane current line) more
+
+-- the lines of a lane, in order: those after each line that names it, up to the next line that names one; the lines before the first such
+-- line belong to lane 0
+abbrev pub lines_of : ℕ → List Line → List Line
+lines_of lane lines = lines_from lane 0 lines
 
 -- how many adds of the lane of the line after these are among them
 abbrev pub adds_before : List Line → ℕ
-adds_before lines = adds_in (lane_after lines) lines
+adds_before lines = count_by is_add (lines_of (lane_after lines) lines)
 
 -- a line that names a lane names one below a count
 abbrev pub NamesLaneBelow : ℕ → Line → Type 0
@@ -53,6 +59,6 @@ pub record IsCounted (lines : List Line) (lane : ℕ) (adds : List ℕ) (request
   pub here : lane ≡ lane_after lines
   pub below : lane < 16
   pub places : length adds ≡ 16
-  pub each : (k : ℕ) → k < 16 → get_or adds k 0 ≡ adds_in k lines
+  pub each : (k : ℕ) → k < 16 → get_or adds k 0 ≡ count_by is_add (lines_of k lines)
   pub asked : requests ≡ count_by is_request lines
   pub declared : jumps ≡ count_by is_jump lines

@@ -1,12 +1,13 @@
 -- How a script's text is read: first its `script` line, then each of its lines, given those before it.
 use Rattle.std.specs.Prelude.{◌≡◌, ℕ, ◌+◌, Bool, false, nat_le, ◌&&◌, ◌||◌, if◌then◌else◌, List, [], ◌∷◌, ◌++◌, length, count_by, codes, slice_index, Option, Some, None, Result, Ok, Err, ⊤}
+use Rattle.std.specs.Option.{option_map_or}
 use Rattle.nav_ground.specs.History.{history_limit}
 use Rattle.nav_text.specs.declared.fault.TextFault.{TextFault}
 use Rattle.nav_text.specs.declared.fault.FaultKind.{FaultKind}
 use Rattle.nav_text.specs.declared.fault.FaultKind.TheVariants as kinds
 use Rattle.nav_text.specs.Lines.{lines, is_ended}
 use Rattle.nav_text.specs.Forms.{numbers_of, has_word}
-use Rattle.nav_text.specs.Reading.{Verdict, Goes, Refuses, Format, IsFirstFault}
+use Rattle.nav_text.specs.Reading.{Verdict, Refuses, Format, IsFirstFault, lead}
 use Rattle.nav_script.specs.declared.header.Header.{Header}
 use Rattle.nav_script.specs.declared.line.Line.{Line}
 use Rattle.nav_script.specs.declared.script.Way.{Way}
@@ -24,15 +25,11 @@ pub data Place : Type 0 where
   AtLines : (lanes workers : ℕ) (before : List Line) → Place
 
 -- the lanes and workers of a `script` line
-abbrev pub in_counts : Option (List ℕ) → Result Header FaultKind
-in_counts None = Err kinds.Form
-in_counts (Some n) =
+abbrev pub header_read : List ℕ → Result Header FaultKind
+header_read line = option_map_or (λ (n : List ℕ).
     if nat_le 1 (slice_index n 0) && nat_le (slice_index n 0) 16 && nat_le 1 (slice_index n 1) && nat_le (slice_index n 1) 8
     then Ok (record { lanes = slice_index n 0; workers = slice_index n 1 })
-    else Err kinds.Range
-
-abbrev pub header_read : List ℕ → Result Header FaultKind
-header_read line = in_counts (numbers_of (codes "script") 2 line)
+    else Err kinds.Range) (numbers_of (codes "script") 2 line) (Err kinds.Form)
 
 -- the first word of a line is that of a request
 abbrev pub begins_request : List ℕ → Bool
@@ -47,23 +44,15 @@ lacks_room Live before line = nat_le history_limit (count_by is_request before) 
 abbrev pub lacks_jumps : List Line → List ℕ → Bool
 lacks_jumps before line = nat_le 256 (count_by is_jump before) && has_word (codes "jump") line
 
-abbrev pub header_verdict : Result Header FaultKind → Verdict Place Script
-header_verdict (Ok header) = Goes (AtLines header.lanes header.workers [])
-header_verdict (Err kind) = Refuses kind
-
-abbrev pub verdict_of : (lanes workers : ℕ) → List Line → LineRead → Verdict Place Script
-verdict_of lanes workers before (Ok line) = Goes (AtLines lanes workers (before ++ line ∷ []))
-verdict_of lanes workers before (Err kind) = Refuses kind
-
 -- what a line is: after 300000 lines, or where there is no room for one more request, it is one too many; else, where there is none for one more
 -- jump, it is a jump too many; and else what is read of it decides
 abbrev pub line_verdict : Way → Place → List ℕ → Verdict Place Script
-line_verdict way AtScript line = header_verdict (header_read line)
+line_verdict way AtScript line = lead (header_read line) (λ (header : Header). AtLines header.lanes header.workers [])
 line_verdict way (AtLines lanes workers before) line =
     if nat_le 300000 (length before) then Refuses kinds.TooManyLines
     else (if lacks_room way before line then Refuses kinds.TooManyLines
     else (if lacks_jumps before line then Refuses kinds.TooManyJumps
-    else verdict_of lanes workers before (line_read way lanes workers (adds_before before) line)))
+    else lead (line_read way lanes workers (adds_before before) line) (λ (said : Line). AtLines lanes workers (before ++ said ∷ []))))
 
 -- the script, where the text may end there: after its `script` line, and with every line ended
 abbrev pub value_at : Bool → Place → Option Script
@@ -75,6 +64,10 @@ value_at ended (AtLines lanes workers before) =
 abbrev pub script_format : Way → Bool → Format Place Script
 script_format way ended = record { verdict = line_verdict way; value = value_at ended }
 
+-- where a line that is read leads, after lines of so many lanes and workers
+abbrev pub verdict_of : (lanes workers : ℕ) → List Line → LineRead → Verdict Place Script
+verdict_of lanes workers before told = lead told (λ (said : Line). AtLines lanes workers (before ++ said ∷ []))
+
 -- a fault whose line is one later
 abbrev pub one_later : TextFault → TextFault
 one_later fault = record { line = fault.line + 1; kind = fault.kind }
@@ -82,7 +75,7 @@ one_later fault = record { line = fault.line + 1; kind = fault.kind }
 -- the fault is that of the first line of these bytes that fails, where their first line has this number
 abbrev pub IsFirstFaultFrom : Way → ℕ → List ℕ → TextFault → Type 0
 IsFirstFaultFrom way first_line bytes fault =
-    IsFirstFault (script_format way (is_ended bytes)) AtScript first_line (lines bytes) (one_later fault)
+    IsFirstFault (script_format way (is_ended bytes)) AtScript first_line (lines bytes) (record { line = fault.line + 1; kind = fault.kind })
 
 -- the script of what is read
 abbrev pub value_of : Result (Script × ℕ) TextFault → Option Script

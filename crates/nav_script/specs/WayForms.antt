@@ -1,10 +1,10 @@
 -- The forms of lines that stand only in a script to be played, or only in one that runs live, and what any line says.
-use Rattle.std.specs.Prelude.{ℕ, ◌&&◌, List, [], ◌∷◌, slice_index, codes, Option, None, Ok, Err, unwrap_or}
+use Rattle.std.specs.Prelude.{ℕ, ◌&&◌, List, [], ◌∷◌, slice_index, codes, Option, Ok, Err, unwrap_or}
 use Rattle.nav_text.specs.declared.fault.FaultKind.TheVariants as kinds
-use Rattle.nav_script.specs.declared.line.Line.TheVariants.{Aim, Claim, Back, Submit, Publish, Jump, Hop, Send, March}
+use Rattle.nav_script.specs.declared.line.Line.TheVariants.{Lane, Remove, Settle, Aim, Claim, Back, Submit, Publish, Jump, Hop, Send, March}
 use Rattle.nav_script.specs.declared.script.Way.{Way}
 use Rattle.nav_script.specs.declared.script.Way.TheVariants.{Play, Live}
-use Rattle.nav_script.specs.Forms.{LineRead, in_limits, below_count, point_at, are_standing, is_range, form, first_of_them, question_line, request_line, area_line, lane_line}
+use Rattle.nav_script.specs.Forms.{LineRead, in_limits, below_count, floor_line, path_line, ray_line, block_line, cylinder_line, drop_line, point_at, are_standing, is_range, form, first_of_them, question_line, request_line, area_line, lane_line}
 
 -- what a line says that leads workers, of which there are so many
 unfoldable pub worker_line : ℕ → List ℕ → Option LineRead
@@ -62,9 +62,40 @@ abbrev pub way_line : Way → ℕ → List ℕ → Option LineRead
 way_line Play workers line = first_of_them (worker_line workers line ∷ jump_or_hop line ∷ [])
 way_line Live workers line = walker_line line
 
--- what a line of a script says; of no form, it is wrong as a line
-abbrev pub line_read : Way → (lanes workers adds : ℕ) → List ℕ → LineRead
-line_read way lanes workers adds line =
+-- what a line of a script says, its forms read in groups
+abbrev pub read_in_groups : Way → (lanes workers adds : ℕ) → List ℕ → LineRead
+read_in_groups way lanes workers adds line =
     unwrap_or
     (first_of_them (question_line line ∷ request_line adds line ∷ area_line line ∷ lane_line lanes line ∷ way_line way workers line ∷ []))
     (Err kinds.Line)
+
+-- the forms of a line that stands only in a script to be played, or only in one that runs live
+abbrev pub way_forms : Way → ℕ → List ℕ → List (Option LineRead)
+way_forms Play workers line =
+    form (codes "claim") 1 (λ n. below_count (slice_index n 0) workers (Claim (slice_index n 0))) line
+    ∷ form (codes "submit") 1 (λ n. below_count (slice_index n 0) workers (Submit (slice_index n 0))) line
+    ∷ form (codes "back") 1 (λ n. below_count (slice_index n 0) workers (Back (slice_index n 0))) line
+    ∷ form (codes "aim") 0 (λ n. Ok Aim) line
+    ∷ form (codes "publish") 0 (λ n. Ok Publish) line
+    ∷ jump_or_hop line
+    ∷ []
+way_forms Live workers line = walker_line line ∷ []
+
+-- all forms of a line: questions, changes of the obstacles, `settle`, the lane of the lines that follow, and those of the way
+abbrev pub line_forms : Way → (lanes workers adds : ℕ) → List ℕ → List (Option LineRead)
+line_forms way lanes workers adds line =
+    form (codes "floor") 2 floor_line line
+    ∷ form (codes "path") 6 path_line line
+    ∷ form (codes "ray") 5 ray_line line
+    ∷ form (codes "add block") 6 block_line line
+    ∷ form (codes "add cylinder") 5 cylinder_line line
+    ∷ form (codes "remove") 1 (λ n. Ok (Remove (slice_index n 0))) line
+    ∷ form (codes "drop") 1 (λ n. drop_line adds (slice_index n 0)) line
+    ∷ area_line line
+    ∷ form (codes "settle") 0 (λ n. Ok Settle) line
+    ∷ form (codes "lane") 1 (λ n. below_count (slice_index n 0) lanes (Lane (slice_index n 0))) line
+    ∷ way_forms way workers line
+
+-- what a line of a script says; of no form, it is wrong as a line
+abbrev pub line_read : Way → (lanes workers adds : ℕ) → List ℕ → LineRead
+line_read way lanes workers adds line = unwrap_or (first_of_them (line_forms way lanes workers adds line)) (Err kinds.Line)

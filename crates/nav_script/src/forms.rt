@@ -2,7 +2,7 @@
 ghost use Rattle.std.specs.Prelude.{◌≡◌, ◌≤◌, IfOk};
 ghost use Rattle.nav_script.specs.Lanes.{NamesLaneBelow};
 ghost use Rattle.nav_script.specs.Forms;
-ghost use Rattle.nav_script.specs.WayForms.{line_read};
+ghost use Rattle.nav_script.specs.WayForms.{read_in_groups};
 
 use crate::header::Header;
 use crate::line::Line;
@@ -376,7 +376,7 @@ fn way_line(way: Way, workers: u32, line: &[u8]) -> Option<Result<Line, FaultKin
 /// What a line of a script with so many lanes and workers says, where so many `add` lines of its lane stand before it;
 /// else what is wrong with it.
 pub fn read_line(way: Way, header: Header, adds: u32, line: &[u8]) -> Result<Line, FaultKind>
-    ensures value { result ≡ line_read way header.lanes header.workers adds line.now }
+    ensures value { result ≡ read_in_groups way header.lanes header.workers adds line.now }
     ensures lane { IfOk result (NamesLaneBelow header.lanes) }
 {
     if let Some(read) = question_line(line) {

@@ -11,6 +11,11 @@ pub data Verdict (P V : Type 0) : Type 0 where
   Ends : V → Verdict P V
   Refuses : FaultKind → Verdict P V
 
+-- what is read of a line leads to the place that it makes, and what is wrong with it refuses it
+abbrev pub lead : {A P V : Type 0} → Result A FaultKind → (A → P) → Verdict P V
+lead (Ok said) next = Goes (next said)
+lead (Err kind) next = Refuses kind
+
 -- a format of texts: what each line is at each place, and the value of a text that ends at a place; none where it may not end there
 pub record Format (P V : Type 0) : Type 0 where
   pub verdict : P → List ℕ → Verdict P V

@@ -15,8 +15,9 @@ use Rattle.std.proofs.lemmas.List.{length_push}
 use Rattle.span_text.specs.declared.body.BodyLine.{BodyLine}
 use Rattle.span_text.specs.declared.body.BodyLine.TheVariants.{Cost, Spans, End, Fails}
 use Rattle.span_text.specs.Body.{body_line, other_line, cost_in, Fits}
-use Rattle.span_text.specs.Header.{is_in}
-use Rattle.span_text.specs.FieldFormat.{AtBody, field_format, field_of, body_verdict, set_cost, field_with}
+use Rattle.nav_ground.specs.Shapes.{is_in}
+use Rattle.span_text.specs.FieldFormat.{AtBody, field_format, field_of, body_verdict, set_cost}
+use Rattle.span_text.specs.Words.{field_with}
 
 -- reading has come to a line behind the header: `count` lines are read, and reading goes on with the rest
 pub record HasRead (bytes rest : List ℕ) (setting : Setting) (before : ℕ) (spans : List Span) (count : ℕ) : Type 0 where

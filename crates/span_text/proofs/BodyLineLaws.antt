@@ -13,7 +13,7 @@ use Rattle.nav_text.proofs.Inversions.{two_is, five_is}
 use Rattle.span_text.specs.declared.body.BodyLine.{BodyLine}
 use Rattle.span_text.specs.declared.body.BodyLine.TheVariants.{Cost, Spans, End, Fails}
 use Rattle.span_text.specs.FieldText.{span_text}
-use Rattle.span_text.specs.Header.{is_in}
+use Rattle.nav_ground.specs.Shapes.{is_in}
 use Rattle.span_text.specs.Body.{cost_in, span_of, is_span, is_column_before, is_column_of, span_after, span_in, other_line, header_line, span_or_other, body_line}
 
 -- a span comes after the last one, where there is one

@@ -18,7 +18,7 @@ use Rattle.nav_ground.specs.Fields.{IsSpan, IsSpanBefore, IsField}
 use Rattle.nav_text.specs.declared.fault.FaultKind.{FaultKind}
 use Rattle.nav_text.specs.Forms.{line_text}
 use Rattle.nav_text.specs.Lines.{lines, text_of}
-use Rattle.nav_text.specs.Reading.{Verdict, Goes, Ends}
+use Rattle.nav_text.specs.Reading.{Verdict, Goes, Ends, lead}
 use Rattle.nav_text.proofs.ReadingLaws.{EndsAt, read_takes, leads_keep}
 use Rattle.span_text.specs.declared.header.TextForm.{TextForm}
 use Rattle.span_text.specs.declared.header.TextForm.TheVariants.{First, Second}
@@ -27,7 +27,8 @@ use Rattle.span_text.specs.declared.body.BodyLine.TheVariants as said
 use Rattle.span_text.specs.FieldText.{Cost, RiseAbove, with_cost, costs_of, mesh_text, nav_text, clear_lines, header_lines, cost_text, span_text, IsFieldText}
 use Rattle.span_text.specs.Header.{nav_line, size_line, limited, agent_line, mesh_line, clear_line}
 use Rattle.span_text.specs.Body.{body_line}
-use Rattle.span_text.specs.FieldFormat.{Place, AtNav, AtSize, AtTile, AtAgent, AtError, AtMesh, AtLimit, AtClear, AtBody, Value, plain_setting, after_limit, lead, set_cost, field_with, body_verdict, BodyVerdict, headed, field_body, field_format, field_of}
+use Rattle.span_text.specs.FieldFormat.{Place, AtNav, AtSize, AtTile, AtAgent, AtError, AtMesh, AtLimit, AtClear, AtBody, Value, plain_setting, after_limit, set_cost, body_verdict, BodyVerdict, headed, field_body, field_format, field_of}
+use Rattle.span_text.specs.Words.{field_with}
 use Rattle.span_text.proofs.HeaderLaws.{nav_takes, IsSize, size_takes, limited_takes, agent_takes, mesh_takes, clear_takes}
 use Rattle.span_text.proofs.BodyLineLaws.{IsAfter, last_of, Says, body_says}
 

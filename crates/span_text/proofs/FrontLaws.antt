@@ -13,7 +13,7 @@ use Rattle.nav_text.specs.declared.fault.TextFault.{TextFault}
 use Rattle.nav_text.specs.Faults.{fault_at}
 use Rattle.nav_text.specs.Lines.{lines, text_of, is_line, IsPast}
 use Rattle.nav_text.specs.Forms.{has_word}
-use Rattle.nav_text.specs.Reading.{Verdict, Goes, Ends, Leads, read, read_on, IsFirstFault}
+use Rattle.nav_text.specs.Reading.{Verdict, Goes, Ends, Leads, read, read_on, IsFirstFault, lead}
 use Rattle.nav_text.proofs.LineLaws.{lines_again, lines_of_first, IsPast_next, IsPast-used}
 use Rattle.nav_text.proofs.ReadingLaws.{EndsAt, read_takes, read_count, leads_keep, leads_read, first_fault}
 use Rattle.nav_text.proofs.Inversions.{ok_is}
@@ -28,7 +28,7 @@ use Rattle.span_text.specs.FieldText as said
 use Rattle.span_text.specs.FieldText.{RiseAbove, header_lines, cost_text, span_text, all_header_lines, IsHeaderText, GoesOn}
 use Rattle.span_text.specs.Header.{nav_line, size_line, limited, agent_line, mesh_line, clear_line}
 use Rattle.span_text.specs.Body.{header_line}
-use Rattle.span_text.specs.FieldFormat.{Place, AtNav, AtSize, AtTile, AtAgent, AtError, AtMesh, AtLimit, AtClear, AtBody, plain_setting, after_limit, lead, set_cost, headed, costs_verdict, header_body, header_format, header_of}
+use Rattle.span_text.specs.FieldFormat.{Place, AtNav, AtSize, AtTile, AtAgent, AtError, AtMesh, AtLimit, AtClear, AtBody, plain_setting, after_limit, set_cost, headed, costs_verdict, header_body, header_format, header_of}
 use Rattle.span_text.specs.Outcome.{IsHeaderRead, GivesHeader}
 use Rattle.span_text.proofs.BodyLineLaws.{HeaderSays, header_says, header_cost_again, header_end_again}
 use Rattle.span_text.proofs.FoundLaws.{HasSaid, Said, said_cost, last_area, spans_at, BodyGoes, header_goes, ends_behind}

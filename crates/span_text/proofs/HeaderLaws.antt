@@ -1,6 +1,7 @@
 -- The laws of the header's lines: what is read is spelled so, and what is spelled so is read.
 use Rattle.std.proofs.Common.{zero, suc, ⊎_elim, inl, inr, ◌⊎◌, ◌≡◌, ℕ, ◌<◌, ◌≤◌, ◌*◌, ◌^◌, Bool, true, false, cond, not, ◌||◌, ◌&&◌, ◌==◌, nat_lt, nat_le, bytes_eq, List, [], ◌∷◌, slice_index, codes, Option, Some, None, Result, Ok, Err, refl, ap, ap₂, ◌∙◌, sym, subst, arith}
-use Rattle.std.specs.Prelude.{MatchResult, is_ok}
+use Rattle.std.specs.Prelude.{MatchResult, if◌then◌else◌, is_ok}
+use Rattle.std.specs.Option.{option_map_or}
 use Rattle.std.proofs.lemmas.Bool.{both_ways, or_parts, ltb-false}
 use Rattle.std.proofs.lemmas.Bool.Decides.{nat_tests}
 use Rattle.std.proofs.lemmas.Slice.Eq.{bytes_eq-Decides}
@@ -17,7 +18,22 @@ use Rattle.nav_text.proofs.Inversions.{ok_is, unless, one_is, two_is, three_is}
 use Rattle.span_text.specs.declared.header.TextForm.{TextForm}
 use Rattle.span_text.specs.declared.header.TextForm.TheVariants.{First, Second}
 use Rattle.span_text.specs.FieldText.{mesh_text, nav_text}
-use Rattle.span_text.specs.Header.{is_in, nav_line, size_in, size_line, number_in, limited, agent_with, agent_in, agent_line, mesh_line, clear_in, clear_line}
+use Rattle.span_text.specs.Header.{nav_line, size_line, limited, agent_line, mesh_line, clear_in, clear_line}
+use Rattle.nav_ground.specs.Shapes.{is_in}
+use Rattle.span_text.specs.Words.{agent_with}
+
+-- what the numbers of a `size` line, of a line of one number and of an `agent` line say
+abbrev size_in : Option (List ℕ) → Result (ℕ × ℕ) FaultKind
+size_in read = option_map_or (λ (numbers : List ℕ).
+    if not (is_in 1 1024 (slice_index numbers 0)) || not (is_in 1 1024 (slice_index numbers 1)) then Err Range else Ok (slice_index numbers 0, slice_index numbers 1)) read (Err Form)
+
+abbrev number_in : ℕ → ℕ → Option (List ℕ) → Result ℕ FaultKind
+number_in low high read = option_map_or (λ (numbers : List ℕ). if not (is_in low high (slice_index numbers 0)) then Err Range else Ok (slice_index numbers 0)) read (Err Form)
+
+abbrev agent_in : Option (List ℕ) → Result Agent FaultKind
+agent_in read = option_map_or (λ (numbers : List ℕ).
+    if not (is_in 1 255 (slice_index numbers 0)) || nat_lt 254 (slice_index numbers 1) || nat_lt 15 (slice_index numbers 2) then Err Range
+    else (if nat_le (slice_index numbers 0) (slice_index numbers 1) then Err Climb else Ok (agent_with (slice_index numbers 0) (slice_index numbers 1) (slice_index numbers 2)))) read (Err Form)
 
 in_range : (low high n : ℕ) → not (is_in low high n) ≡ false → (low ≤ n) × (n ≤ high)
 in_range low high n h = grind (arith, nat_tests)

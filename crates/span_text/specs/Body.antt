@@ -1,18 +1,18 @@
 -- What each line behind the header says, in the order of the tests that it can fail.
 use Rattle.std.specs.Prelude.{ℕ, ◌<◌, ◌≤◌, ⊤, ◌-◌, Bool, not, ◌&&◌, ◌||◌, ◌==◌, nat_lt, nat_le, if◌then◌else◌, List, length, Option, Some, None, bytes_eq, slice_get, slice_index, codes}
+use Rattle.std.specs.Option.{option_map_or}
 use Rattle.nav_ground.specs.declared.field.Span.{Span}
 use Rattle.nav_text.specs.declared.fault.FaultKind.TheVariants.{Form, Range, Order, Overlap, TooMany}
 use Rattle.nav_text.specs.Forms.{numbers_of, has_word}
 use Rattle.span_text.specs.declared.body.BodyLine.{BodyLine}
 use Rattle.span_text.specs.declared.body.BodyLine.TheVariants as lines
-use Rattle.span_text.specs.Header.{is_in}
+use Rattle.nav_ground.specs.Shapes.{is_in}
 
 -- a cost: an area from 1 to 63, a cost from 1 to 1000, and the area above the one before
 abbrev pub cost_in : ℕ → Option (List ℕ) → BodyLine
-cost_in before None = lines.Fails Form
-cost_in before (Some numbers) =
+cost_in before read = option_map_or (λ (numbers : List ℕ).
     if not (is_in 1 63 (slice_index numbers 0)) || not (is_in 1 1000 (slice_index numbers 1)) then lines.Fails Range
-    else (if nat_le (slice_index numbers 0) before then lines.Fails Order else lines.Cost (slice_index numbers 0) (slice_index numbers 1))
+    else (if nat_le (slice_index numbers 0) before then lines.Fails Order else lines.Cost (slice_index numbers 0) (slice_index numbers 1))) read (lines.Fails Form)
 
 abbrev pub span_of : List ℕ → Span
 span_of numbers = record {

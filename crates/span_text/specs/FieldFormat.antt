@@ -1,14 +1,13 @@
 -- The formats of field texts and of their headers: what each line is, after what the lines before it have said.
-use Rattle.std.specs.Prelude.{ℕ, false, List, [], ◌∷◌, ◌++◌, replicate, slice_set, codes, None, Result, Ok, Err}
+use Rattle.std.specs.Prelude.{ℕ, false, List, [], ◌∷◌, ◌++◌, replicate, slice_set, codes, None, Result}
 use Rattle.nav_ground.specs.declared.setting.Agent.{Agent}
 use Rattle.nav_ground.specs.declared.setting.MeshKind.{MeshKind}
 use Rattle.nav_ground.specs.declared.setting.Setting.{Setting}
 use Rattle.nav_ground.specs.declared.field.Span.{Span}
 use Rattle.nav_ground.specs.declared.field.Field.{Field}
-use Rattle.nav_text.specs.declared.fault.FaultKind.{FaultKind}
 use Rattle.nav_text.specs.declared.fault.TextFault.{TextFault}
 use Rattle.nav_text.specs.Lines.{lines}
-use Rattle.nav_text.specs.Reading.{Verdict, Goes, Ends, Refuses, Format, read}
+use Rattle.nav_text.specs.Reading.{Verdict, Goes, Ends, Refuses, Format, lead, read}
 use Rattle.span_text.specs.declared.header.TextForm.{TextForm}
 use Rattle.span_text.specs.declared.header.TextForm.TheVariants.{First, Second}
 use Rattle.span_text.specs.declared.body.BodyLine.{BodyLine}
@@ -47,21 +46,15 @@ plain_setting width depth tile agent error mesh limit = record {
   clear = false;
 }
 
--- a right line leads to a further place
-abbrev pub lead : {A V : Type 0} → Result A FaultKind → (A → Place) → Verdict Place V
-lead (Ok said) next = Goes (next said)
-lead (Err kind) next = Refuses kind
-
+-- what an area costs by a further line
 abbrev pub set_cost : Setting → ℕ → ℕ → Setting
 set_cost setting area cost = record setting { costs = slice_set setting.costs area cost }
 
-abbrev pub field_with : Setting → List Span → Field
-field_with setting spans = record { width = setting.width; depth = setting.depth; spans = spans }
-
+-- a right line leads to a further place, and `end` to the text's value
 abbrev pub body_verdict : Setting → ℕ → List Span → BodyLine → Verdict Place Value
 body_verdict setting before spans (Cost area cost) = Goes (AtBody (set_cost setting area cost) area spans)
 body_verdict setting before spans (Spans span) = Goes (AtBody setting before (spans ++ span ∷ []))
-body_verdict setting before spans End = Ends (setting, field_with setting spans)
+body_verdict setting before spans End = Ends (setting, record { width = setting.width; depth = setting.depth; spans = spans })
 body_verdict setting before spans (Fails kind) = Refuses kind
 
 -- behind the seventh line texts of the second form say whether agents keep their radius from obstacles

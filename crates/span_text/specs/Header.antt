@@ -1,51 +1,37 @@
 -- What each line of the header says, in the order of the tests that it can fail.
 use Rattle.std.specs.Prelude.{ℕ, ◌*◌, Bool, not, ◌&&◌, ◌||◌, ◌==◌, nat_lt, nat_le, if◌then◌else◌, List, Option, Some, None, Result, Ok, Err, bytes_eq, slice_index, codes}
+use Rattle.std.specs.Option.{option_map_or}
 use Rattle.nav_ground.specs.declared.setting.Agent.{Agent}
 use Rattle.nav_ground.specs.declared.setting.MeshKind.{MeshKind}
 use Rattle.nav_ground.specs.declared.setting.MeshKind.TheVariants.{Strips, Contours}
+pub use Rattle.nav_ground.specs.Shapes.{is_in}
 use Rattle.nav_text.specs.declared.fault.FaultKind.{FaultKind}
 use Rattle.nav_text.specs.declared.fault.FaultKind.TheVariants.{Form, Range, Climb}
 use Rattle.nav_text.specs.Forms.{numbers_of}
 use Rattle.span_text.specs.declared.header.TextForm.{TextForm}
 use Rattle.span_text.specs.declared.header.TextForm.TheVariants.{First, Second}
 
--- a number lies in a closed range
-abbrev pub is_in : ℕ → ℕ → ℕ → Bool
-is_in low high number = nat_le low number && nat_le number high
-
 -- `nav 1` or `nav 2`
 unfoldable pub nav_line : List ℕ → Result TextForm FaultKind
 nav_line line = if bytes_eq line (codes "nav 1") then Ok First else (if bytes_eq line (codes "nav 2") then Ok Second else Err Form)
 
 -- `size` and two numbers, 1 to 1024 each
-abbrev pub size_in : Option (List ℕ) → Result (ℕ × ℕ) FaultKind
-size_in None = Err Form
-size_in (Some numbers) =
-    if not (is_in 1 1024 (slice_index numbers 0)) || not (is_in 1 1024 (slice_index numbers 1)) then Err Range else Ok (slice_index numbers 0, slice_index numbers 1)
-
 unfoldable pub size_line : List ℕ → Result (ℕ × ℕ) FaultKind
-size_line line = size_in (numbers_of (codes "size") 2 line)
+size_line line = option_map_or (λ (numbers : List ℕ).
+    if not (is_in 1 1024 (slice_index numbers 0)) || not (is_in 1 1024 (slice_index numbers 1)) then Err Range else Ok (slice_index numbers 0, slice_index numbers 1))
+    (numbers_of (codes "size") 2 line) (Err Form)
 
 -- a word and a number within limits
-abbrev pub number_in : ℕ → ℕ → Option (List ℕ) → Result ℕ FaultKind
-number_in low high None = Err Form
-number_in low high (Some numbers) = if not (is_in low high (slice_index numbers 0)) then Err Range else Ok (slice_index numbers 0)
-
 unfoldable pub limited : List ℕ → ℕ → ℕ → List ℕ → Result ℕ FaultKind
-limited word low high line = number_in low high (numbers_of word 1 line)
+limited word low high line = option_map_or (λ (numbers : List ℕ).
+    if not (is_in low high (slice_index numbers 0)) then Err Range else Ok (slice_index numbers 0)) (numbers_of word 1 line) (Err Form)
 
 -- `agent` and its height, climb and radius, the climb below the height
-abbrev pub agent_with : ℕ → ℕ → ℕ → Agent
-agent_with height climb radius = record { height = height; climb = climb; radius = radius }
-
-abbrev pub agent_in : Option (List ℕ) → Result Agent FaultKind
-agent_in None = Err Form
-agent_in (Some numbers) =
-    if not (is_in 1 255 (slice_index numbers 0)) || nat_lt 254 (slice_index numbers 1) || nat_lt 15 (slice_index numbers 2) then Err Range
-    else (if nat_le (slice_index numbers 0) (slice_index numbers 1) then Err Climb else Ok (agent_with (slice_index numbers 0) (slice_index numbers 1) (slice_index numbers 2)))
-
 unfoldable pub agent_line : List ℕ → Result Agent FaultKind
-agent_line line = agent_in (numbers_of (codes "agent") 3 line)
+agent_line line = option_map_or (λ (numbers : List ℕ).
+    if not (is_in 1 255 (slice_index numbers 0)) || nat_lt 254 (slice_index numbers 1) || nat_lt 15 (slice_index numbers 2) then Err Range
+    else (if nat_le (slice_index numbers 0) (slice_index numbers 1) then Err Climb else Ok (record { height = slice_index numbers 0; climb = slice_index numbers 1; radius = slice_index numbers 2 })))
+    (numbers_of (codes "agent") 3 line) (Err Form)
 
 -- `mesh strips` or `mesh contours`
 unfoldable pub mesh_line : List ℕ → Result MeshKind FaultKind

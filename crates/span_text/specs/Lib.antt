@@ -1,3 +1,4 @@
+pub mod Words
 pub mod FieldText
 pub mod Header
 pub mod Body

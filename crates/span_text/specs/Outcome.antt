@@ -9,7 +9,8 @@ use Rattle.span_text.specs.declared.field.FieldRefusal.{FieldRefusal}
 use Rattle.span_text.specs.declared.field.FieldRefusal.TheVariants.{Fault, OutOfMemory}
 use Rattle.span_text.specs.declared.front.HeaderText.{HeaderText}
 use Rattle.span_text.specs.FieldText.{GoesOn}
-use Rattle.span_text.specs.FieldFormat.{field_of, field_with, header_of}
+use Rattle.span_text.specs.FieldFormat.{field_of, header_of}
+use Rattle.span_text.specs.Words.{field_with}
 use Rattle.std.specs.Prelude.{List}
 
 -- a text with its setting and spans

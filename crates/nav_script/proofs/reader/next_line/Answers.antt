@@ -1,7 +1,7 @@
 use Rattle.std.proofs.Common.{◌∙◌, ap, sym, arith}
 use Rattle.std.proofs.lemmas.Bool.Decides.{nat_tests}
 use Rattle.std.proofs.lemmas.Result.{IfOk-weaker}
-use Rattle.nav_script.specs.WayForms.{line_read}
+use Rattle.nav_script.specs.WayForms.{read_in_groups}
 use Rattle.nav_script.proofs.ReaderLaws.{verdict_full, verdict_room, verdict_jumps, verdict_read}
 use Rattle.nav_script.proofs.reader.next_line.Goals as goal
 
@@ -23,7 +23,7 @@ returns-clause-value c =
     sym (verdict_read c.args.way c.args.header.lanes c.args.header.workers c.args.progress.now c.args.line.now c.read_line.result (sym c.if-is_full.ensures)
     (sym c.if-lacks_room.ensures)
     (sym c.if-lacks_jumps.ensures)
-    (c.read_line.ensures.value ∙ ap (λ adds. line_read c.args.way c.args.header.lanes c.args.header.workers adds c.args.line.now) c.adds_here.ensures))
+    (c.read_line.ensures.value ∙ ap (λ adds. read_in_groups c.args.way c.args.header.lanes c.args.header.workers adds c.args.line.now) c.adds_here.ensures))
 
 pub returns-clause-room : goal.returns-clause-room
 returns-clause-room c =
