@@ -1,13 +1,19 @@
 //! Corridors in a small mesh by hand.
 
-ghost use Rattle.std.specs.Prelude.{◌≡◌, ◌<◌, [], ◌∷◌, pos, IfOk};
+ghost use Rattle.std.specs.Prelude.{◌≡◌, ◌<◌, [], ◌∷◌, pos, IfOk, IfSome};
+ghost use Rattle.std.specs.Option.{option_copied};
+ghost use Rattle.mesh_types.specs.Soundness.{IsSound};
+ghost use Rattle.corridor_search.specs.Landmarks.{AreLandmarks};
 ghost use Rattle.tests_mesh.specs.HandSettings.{costly_setting};
 ghost use Rattle.tests_paths.specs.CorridorMesh.{reference, hand_tile, left_tile, right_tile, border_link, hand_mesh};
 
+use crate::chains::has_coordinates;
 use crate::places::no_links;
+use crate::questions::{SETTING, mesh as few_cells};
 use crate::rows::all_hold;
 use crate::settings::PLAIN;
-use corridor_search::cheapest;
+use corridor_search::{Landmarks, cheapest_by, landmarks_of};
+use mesh_locate::locate;
 use mesh_types::{
     Corners, Corridor, Link, Links, Mesh, PolyRef, Polygon, Polygons, Portal, TileMesh,
 };
@@ -172,13 +178,15 @@ fn mesh(alloc: Global) -> Result<Mesh, AllocError>
 fn corridor(
     alloc: Global,
     mesh: &Mesh,
+    landmarks: Option<&Landmarks>,
     from: (u32, u32),
     to: (u32, u32),
 ) -> Result<Option<Corridor>, AllocError>
     requires mesh { mesh.now ≡ hand_mesh }
+    requires landmarks { IfSome (option_copied landmarks) (AreLandmarks hand_mesh) }
 {
     if from.0 < 2 && from.1 < 2 && to.0 < 2 && to.1 < 2 {
-        cheapest(alloc, mesh, at(from), at(to))
+        cheapest_by(alloc, mesh, landmarks, at(from), at(to))
     } else {
         Ok(None)
     }
@@ -212,30 +220,50 @@ fn is_wanted(found: &Option<Corridor>, wanted: Option<(u64, &[Link])>) -> bool {
 }
 
 /// Whether the corridor between two polygons is as wanted.
-fn is_corridor(alloc: Global, mesh: &Mesh, row: Row) -> bool
+fn is_corridor(alloc: Global, mesh: &Mesh, landmarks: Option<&Landmarks>, row: Row) -> bool
     requires mesh { mesh.now ≡ hand_mesh }
+    requires landmarks { IfSome (option_copied landmarks) (AreLandmarks hand_mesh) }
 {
-    match corridor(alloc, mesh, row.0, row.1) {
+    match corridor(alloc, mesh, landmarks, row.0, row.1) {
         Ok(found) => is_wanted(&found, row.2),
         Err(_) => false,
     }
 }
 
-fn wrong_row(alloc: Global, mesh: &Mesh, rows: &[Row]) -> Option<usize>
+fn wrong_row(
+    alloc: Global,
+    mesh: &Mesh,
+    landmarks: Option<&Landmarks>,
+    rows: &[Row],
+) -> Option<usize>
     requires mesh { mesh.now ≡ hand_mesh }
+    requires landmarks { IfSome (option_copied landmarks) (AreLandmarks hand_mesh) }
 {
     for row in 0..rows.len() {
-        if !is_corridor(alloc, mesh, rows[row]) {
+        if !is_corridor(alloc, mesh, landmarks, rows[row]) {
             return Some(row);
         }
     }
     None
 }
 
-/// A row that is wrong; 99 where there is no memory.
+/// The same by landmarks of the mesh; 99 where there is no memory. Its links have none back, so that the heights are tested and let go.
+fn wrong_by_landmarks(alloc: Global, mesh: &Mesh) -> Option<usize>
+    requires mesh { mesh.now ≡ hand_mesh }
+{
+    match landmarks_of(alloc, mesh) {
+        Ok(made) => wrong_row(alloc, mesh, Some(&made), &ROWS),
+        Err(_) => Some(99),
+    }
+}
+
+/// A row that is wrong, without landmarks or with them; 99 where there is no memory.
 fn wrong(alloc: Global) -> Option<usize> {
     match mesh(alloc) {
-        Ok(mesh) => wrong_row(alloc, &mesh, &ROWS),
+        Ok(mesh) => match wrong_row(alloc, &mesh, None, &ROWS) {
+            Some(row) => Some(row),
+            None => wrong_by_landmarks(alloc, &mesh),
+        },
         Err(_) => Some(99),
     }
 }
@@ -243,4 +271,76 @@ fn wrong(alloc: Global) -> Option<usize> {
 #[test]
 fn finds_corridors(rt: HostRuntime) {
     all_hold(&rt, "corridors", wrong(rt.alloc()));
+}
+
+/// Two points, at the height of the floors, and what a corridor between their polygons costs.
+type CostRow = ((i32, i32), (i32, i32), Option<u64>);
+
+/// In the mesh of a few cells links have links back: its two large polygons have middles 16 sixteenths from each other along each axis, 23
+/// across, and each area costs 2. The third polygon stands alone.
+static COSTS: [CostRow; 5] = [
+    ((8, 8), (40, 24), Some(46)),
+    ((40, 24), (8, 8), Some(46)),
+    ((8, 8), (24, 8), Some(0)),
+    ((8, 8), (8, 56), None),
+    ((8, 56), (40, 24), None),
+];
+
+/// What a corridor costs by landmarks.
+fn cost_by_landmarks(
+    alloc: Global,
+    mesh: &Mesh,
+    from: (i32, i32),
+    to: (i32, i32),
+) -> Result<Option<u64>, AllocError>
+    requires sound { IsSound mesh.now }
+    requires setting { mesh.now.setting ≡ SETTING }
+{
+    let from = corner!(from.0, from.1);
+    let to = corner!(to.0, to.1);
+    if !has_coordinates(from) || !has_coordinates(to) {
+        return Ok(None);
+    }
+    let Some(from) = locate(mesh, from, 10) else {
+        return Ok(None);
+    };
+    let Some(to) = locate(mesh, to, 10) else {
+        return Ok(None);
+    };
+    let made = landmarks_of(alloc, mesh)?;
+    match cheapest_by(alloc, mesh, Some(&made), from, to)? {
+        Some(corridor) => Ok(Some(corridor.cost)),
+        None => Ok(None),
+    }
+}
+
+fn wrong_cost(alloc: Global, mesh: &Mesh, rows: &[CostRow]) -> Option<usize>
+    requires sound { IsSound mesh.now }
+    requires setting { mesh.now.setting ≡ SETTING }
+{
+    for row in 0..rows.len() {
+        let (from, to, wanted) = rows[row];
+        match cost_by_landmarks(alloc, mesh, from, to) {
+            Ok(cost) => {
+                if cost != wanted {
+                    return Some(row);
+                }
+            }
+            Err(_) => return Some(99),
+        }
+    }
+    None
+}
+
+/// A row that is wrong; 99 where there is no memory.
+fn wrong_costs(alloc: Global) -> Option<usize> {
+    match few_cells(alloc) {
+        Ok(mesh) => wrong_cost(alloc, &mesh, &COSTS),
+        Err(_) => Some(99),
+    }
+}
+
+#[test]
+fn costs_corridors_by_landmarks(rt: HostRuntime) {
+    all_hold(&rt, "costs by landmarks", wrong_costs(rt.alloc()));
 }
