@@ -14,8 +14,8 @@ use nav_share::Shared;
 use std::alloc::{AllocError, Global};
 use std::marker::Model;
 
-/// At which path question of one mesh landmarks are made of it. They cost about as much as sixty questions, and each later one is answered in
-/// about a fifth of the time: so a level that changes after a few questions never pays for them, and one that stands still has them soon.
+/// At which path question of one mesh landmarks are made of it. They cost about as much as sixty questions, and let each later one close a fifth
+/// of the polygons: so a level that changes after a few questions never pays for them, and one that stands still has them soon.
 const PATHS_BEFORE_LANDMARKS: u32 = 16;
 
 /// A mesh, landmarks of it once they were made, and how many path questions were counted. Contracts see the mesh alone.
