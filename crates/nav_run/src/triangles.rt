@@ -4,7 +4,7 @@ ghost use Rattle.std.specs.Prelude.{◌≡◌, ◌≤◌, length, IfOk};
 ghost use Rattle.nav_run.specs.Inputs.{input_limit};
 ghost use Rattle.nav_run.specs.Triangles.{IsRastered, IsTriLineOf, field_text};
 
-use nav_ground::Span;
+use nav_ground::SmallSpan;
 use nav_record::write_fault;
 use nav_text::TextFault;
 use span_text::{FieldRefusal, write_span};
@@ -54,7 +54,7 @@ pub(crate) fn answer_to_triangles(alloc: Global, bytes: &[u8]) -> Rastered
 }
 
 /// A header as it was read, the lines of a field's spans, and `end`.
-fn spelled(alloc: Global, header: &[u8], spans: &[Span]) -> Result<Vec<u8>, AllocError>
+fn spelled(alloc: Global, header: &[u8], spans: &[SmallSpan]) -> Result<Vec<u8>, AllocError>
     requires header { length header.now ≤ input_limit }
     requires spans { length spans.now ≤ 2000000 }
     ensures { IfOk result (λ text. text.items ≡ field_text header.now spans.now) }
@@ -62,7 +62,7 @@ fn spelled(alloc: Global, header: &[u8], spans: &[Span]) -> Result<Vec<u8>, Allo
     let mut text = Vec::with_capacity(alloc, header.len() + SPAN_LINE * spans.len() + 4)?;
     text.extend_from_slice(header)?;
     for span in spans {
-        write_span(&mut text, span)?;
+        write_span(&mut text, &span.get())?;
     }
     text.extend_from_slice(b"end\n")?;
     Ok(text)

@@ -7,9 +7,10 @@ use Rattle.std.proofs.lemmas.List.{take-append-drop, drop_all, take_all, append_
 use Rattle.std.proofs.lemmas.List.Elements.{All-contains, All-nil, All-more, All-push, Contains-get_or, Contains-append_left, Contains-append_right, Contains-append_cases, Contains-push_cases, Contains-push}
 use Rattle.std.proofs.lemmas.List.Quantifiers.{all_pairs_push}
 use Rattle.nav_ground.specs.declared.field.Span.{Span}
+use Rattle.nav_ground.specs.Fields.{IsSmallSpan}
 use Rattle.tri_rows.specs.declared.shadow.Shadow.{Shadow}
 use Rattle.tri_rows.specs.Rasters.{Meets, AreLinked}
-use Rattle.tri_raster.specs.Columns.{IsUpright, AreLinkedIn, no_shadow, first_of, IsFirstGroup, IsNear, IsTopArea, StandFor, Reaches, IsApart, IsGroupSpan, AreGroupSpans, AreColumnSpans}
+use Rattle.tri_raster.specs.Columns.{IsUpright, IsLimited, AreLinkedIn, no_shadow, first_of, IsFirstGroup, IsNear, IsTopArea, StandFor, Reaches, IsApart, IsGroupSpan, AreGroupSpans, AreColumnSpans}
 use Rattle.tri_raster.specs.declared.refusal.RasterRefusal.{RasterRefusal}
 use Rattle.tri_raster.specs.declared.refusal.RasterRefusal.TheVariants as refusals
 use Rattle.tri_raster.specs.Sweeps.{AppendsSpans, ExceedsSpans, HasPushed}
@@ -409,3 +410,30 @@ pushed_for climb x z these shadows before after (Err refusals.OutOfMemory) stand
 pub upright_for : (these shadows : List Shadow) → StandFor these shadows → All IsUpright these → All IsUpright shadows
 upright_for these shadows stand upright =
     each_of IsUpright shadows (λ s there. All-contains IsUpright these s upright (All-contains (Contains these) shadows s stand.are there))
+
+-- and so with limited ones
+pub limited_for : (these shadows : List Shadow) → StandFor these shadows → All IsLimited these → All IsLimited shadows
+limited_for these shadows stand limited =
+    each_of IsLimited shadows (λ s there. All-contains IsLimited these s limited (All-contains (Contains these) shadows s stand.are there))
+
+-- the span of a group of limited shadows fits ten bytes
+pub group_small : (climb x z : ℕ) (rest : List Shadow) (count top area : ℕ) → x < 1024 → z < 1024 → All IsUpright rest → All IsLimited rest
+    → IsFirstGroup rest count top → IsTopArea climb top (take count rest) area → IsSmallSpan (next_span x z rest top area)
+group_small climb x z rest count top area left front upright limited group shown =
+    let there : Contains rest (first_of rest) = Contains-get_or rest 0 no_shadow (omega (arith, group.some, group.within)) in
+    let stands = All-contains IsUpright rest (first_of rest) upright there in
+    let low = All-contains IsLimited rest (first_of rest) limited there in
+    let tall = in_rest group.tallest group.listed in
+    let near = in_rest shown.chosen.1 (member_of (λ (shadow : Shadow). IsNear climb top shadow × (shadow.area ≡ area)) (take count rest) shown.chosen) in
+    record {
+      x = omega (arith, left);
+      z = omega (arith, front);
+      bottom = omega (arith, stands, low.top);
+      top = omega (arith, group.greatest, tall.top);
+      area = omega (arith, shown.chosen.4.1, near.area);
+    }
+  where
+    in_rest : (s : Shadow) → Contains (take count rest) s → IsLimited s
+    in_rest s there =
+        let C : List Shadow → Type 0 = λ xs. Contains xs s in
+        All-contains IsLimited rest s limited (subst C (take-append-drop count rest) (Contains-append_left (take count rest) (drop count rest) s there))

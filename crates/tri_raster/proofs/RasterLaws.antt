@@ -13,8 +13,8 @@ use Rattle.tri_rows.specs.declared.shadow.Shadow.{Shadow}
 use Rattle.tri_rows.specs.declared.triangle.Tri.{Tri}
 use Rattle.tri_rows.specs.Triangles.{IsTriangle}
 use Rattle.tri_rows.specs.Rasters.{IsShadow, Meets, AreLinked, IsOfGroup, IsSpanOf, HoldsShadow, IsSpanBefore, IsRaster, HasManySpans}
-use Rattle.tri_raster.specs.Columns.{Reaches}
-use Rattle.tri_raster.proofs.ShadowLaws.{each_of, member_of, solid_shadow, limited_shadow, IsLimited}
+use Rattle.tri_raster.specs.Columns.{IsLimited, Reaches}
+use Rattle.tri_raster.proofs.ShadowLaws.{each_of, member_of, solid_shadow, limited_shadow}
 use Rattle.tri_raster.proofs.LinkLaws.{linked_on, linked_back, linked_more, last_is, passes_at}
 
 -- lists in a strict order

@@ -12,7 +12,7 @@ use Rattle.tri_rows.specs.declared.shadow.Shadow.{Shadow}
 use Rattle.tri_rows.specs.declared.triangle.Tri.{Tri}
 use Rattle.tri_rows.specs.Triangles.{Weights, count_of, y_of, IsOver, IsInside, IsTriangle}
 use Rattle.tri_rows.specs.Rasters.{IsShadow, IsBottom, IsHighest}
-use Rattle.tri_raster.specs.Columns.{Covers, covers, IsCovered, StandFor, AreKept, IsUpright}
+use Rattle.tri_raster.specs.Columns.{IsLimited, Covers, covers, IsCovered, StandFor, AreKept, IsUpright}
 
 -- members
 
@@ -77,10 +77,6 @@ over_inside : (t : Tri) (x z : ℕ) (p : Weights) → IsInside t x z p → IsOve
 over_inside t x z p in' = record { some = in'.some; left = omega (arith, in'.left); right = omega (arith, in'.right); front = omega (arith, in'.front); back = omega (arith, in'.back) }
 
 -- a shadow of triangles within their limits is within its own
-pub record IsLimited (s : Shadow) : Type 0 where
-  pub top : s.top ≤ 8191
-  pub area : s.area ≤ 63
-
 pub limited_shadow : (tris : List Tri) (x z : ℕ) (s : Shadow) → All IsTriangle tris → IsShadow tris x z s → IsLimited s
 limited_shadow tris x z s limits is =
     let fine = All-contains IsTriangle tris is.tri limits is.listed in

@@ -16,12 +16,12 @@ use Rattle.tri_rows.specs.Rows.{MeetsRow, AreRowShadows, shadow_of}
 use Rattle.tri_rows.specs.Triangles.{IsTriangle}
 use Rattle.tri_rows.specs.Rasters.{IsShadow, IsSpanOf, HoldsShadow, IsSpanBefore, IsRaster, HasManySpans}
 use Rattle.tri_raster.specs.ActiveRows.{first_row, end_row, BeginIn, AreByRow, MayReach, CanEnter, reaches_row}
-use Rattle.tri_raster.specs.Columns.{Covers, IsCovered, IsUpright, StandFor, AreKept, Reaches, IsGroupSpan, AreGroupSpans, AreColumnSpans}
+use Rattle.tri_raster.specs.Columns.{IsLimited, Covers, IsCovered, IsUpright, StandFor, AreKept, Reaches, IsGroupSpan, AreGroupSpans, AreColumnSpans}
 use Rattle.tri_raster.specs.declared.refusal.RasterRefusal.{RasterRefusal}
 use Rattle.tri_raster.specs.declared.refusal.RasterRefusal.TheVariants as refusals
 use Rattle.tri_raster.specs.Sweeps.{column_at, AreAdded, IsColumnBefore, AreSpansBefore, AppendsSpans, ExceedsSpans, HasPushed, IsRowOf, HasRow, HasRows, AreEmpty, IsAtRow, IsBeforeRow}
 use Rattle.tri_raster.proofs.LinkLaws.{span_of_group}
-use Rattle.tri_raster.proofs.ShadowLaws.{each_of, any_of, member_of, kept_on, kept_more, kept_passed, solid_shadow}
+use Rattle.tri_raster.proofs.ShadowLaws.{each_of, any_of, member_of, kept_on, kept_more, kept_passed, solid_shadow, limited_shadow}
 use Rattle.tri_raster.proofs.ActiveLaws.{meets_row, reaches_from}
 
 -- two lists in order, of which the first stands before the second
@@ -405,6 +405,10 @@ kept_upright tris x z kept are =
   where
     upright : (s : Shadow) → s.bottom < s.top → IsUpright s
     upright s solid = omega (arith, solid)
+
+pub kept_limited : (tris : List Tri) (x z : ℕ) (kept : List Shadow) → All IsTriangle tris → AreKept tris x z kept → All IsLimited kept
+kept_limited tris x z kept limits are =
+    each_of IsLimited kept (λ s there. limited_shadow tris x z s limits (All-contains (IsShadow tris x z) kept s are.are there))
 
 -- the triangles before a row, and those that begin there, are within their limits
 pub can_enter : (tris : List Tri) (z : ℕ) (active entering : List Tri) → All IsTriangle tris → MayReach tris z active → BeginIn tris z entering

@@ -31,6 +31,11 @@ pub record AreKept (tris : List Tri) (x z : ℕ) (kept : List Shadow) : Type 0 w
 abbrev pub IsUpright : Shadow → Type 0
 IsUpright shadow = shadow.bottom ≤ shadow.top
 
+-- a shadow ends where a span may, and has an area that a span may have
+pub record IsLimited (shadow : Shadow) : Type 0 where
+  pub top : shadow.top ≤ 8191
+  pub area : shadow.area ≤ 63
+
 -- two shadows are linked by a chain of shadows of a list
 pub record AreLinkedIn (shadows : List Shadow) (a b : Shadow) : Type 0 where
   pub way : List Shadow

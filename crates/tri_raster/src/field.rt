@@ -11,7 +11,7 @@ ghost use Rattle.tri_raster.specs.Sweeps.{HasRows};
 use crate::active::by_row;
 use crate::refusal::RasterRefusal;
 use crate::sweep::Sweep;
-use nav_ground::{Field, Setting, Span};
+use nav_ground::{Field, Setting, SmallSpan};
 use nav_list::Items;
 use std::alloc::Global;
 use tri_rows::Tri;
@@ -43,7 +43,11 @@ pub fn raster(alloc: Global, setting: &Setting, tris: &[Tri]) -> Result<Field, R
 }
 
 /// The spans of triangles, by z, then x, then from the bottom up.
-fn spans_of(alloc: Global, setting: &Setting, tris: &[Tri]) -> Result<Items<Span>, RasterRefusal>
+fn spans_of(
+    alloc: Global,
+    setting: &Setting,
+    tris: &[Tri],
+) -> Result<Items<SmallSpan>, RasterRefusal>
     requires setting { IsSetting setting.now }
     requires triangles { All IsTriangle tris.now }
     ensures { HasRows setting.now tris.now setting.now.depth result }

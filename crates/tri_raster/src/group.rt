@@ -2,12 +2,12 @@
 ghost use Rattle.std.specs.Prelude.{◌≡◌, ◌<◌, ◌≤◌, length, All, Any};
 ghost use Rattle.std.specs.List.Sorted.{IsNonDecreasingBy};
 ghost use Rattle.tri_rows.specs.declared.shadow.Shadow.{Shadow};
-ghost use Rattle.tri_raster.specs.Columns.{IsUpright, IsFirstGroup, IsNear, IsTopArea};
+ghost use Rattle.tri_raster.specs.Columns.{IsUpright, IsLimited, IsFirstGroup, IsNear, IsTopArea};
 ghost use Rattle.tri_raster.specs.Sweeps.{HasPushed};
 
 use crate::column::Column;
 use crate::refusal::RasterRefusal;
-use nav_ground::Span;
+use nav_ground::{SmallSpan, Span};
 use tri_rows::Shadow;
 
 /// The most spans that a field can have.
@@ -51,9 +51,11 @@ pub(crate) fn push_spans(
     climb: u32,
     x: u32,
     z: u32,
-    spans: &mut Vec<Span>,
+    spans: &mut Vec<SmallSpan>,
 ) -> Result<(), RasterRefusal>
+    requires column { (x < 1024) × (z < 1024) }
     requires upright { All IsUpright column.old }
+    requires limited { All IsLimited column.old }
     requires few { length spans.old.items ≤ 2000000 }
     ensures { HasPushed climb x z column.old spans.old.items spans.new.items result }
 {
@@ -67,9 +69,11 @@ fn push_groups(
     climb: u32,
     x: u32,
     z: u32,
-    spans: &mut Vec<Span>,
+    spans: &mut Vec<SmallSpan>,
 ) -> Result<(), RasterRefusal>
+    requires column { (x < 1024) × (z < 1024) }
     requires upright { All IsUpright shadows.now }
+    requires limited { All IsLimited shadows.now }
     requires order { IsNonDecreasingBy (λ (shadow : Shadow). shadow.bottom) shadows.now }
     requires few { length spans.old.items ≤ 2000000 }
     ensures { HasPushed climb x z shadows.now spans.old.items spans.new.items result }
@@ -89,7 +93,7 @@ fn push_groups(
         if spans.len() == MAX_SPANS {
             return Err(RasterRefusal::TooManySpans);
         }
-        spans.push(span)?;
+        spans.push(SmallSpan::new(&span))?;
         rest = behind;
     }
     Ok(())

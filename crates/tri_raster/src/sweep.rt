@@ -6,14 +6,14 @@ ghost use Rattle.tri_rows.specs.Bounds.{bound_at};
 ghost use Rattle.tri_rows.specs.Rows.{MeetsRow};
 ghost use Rattle.tri_rows.specs.Triangles.{IsTriangle};
 ghost use Rattle.tri_raster.specs.ActiveRows.{BeginIn, CanEnter};
-ghost use Rattle.tri_raster.specs.Columns.{IsUpright, AreKept};
+ghost use Rattle.tri_raster.specs.Columns.{IsUpright, IsLimited, AreKept};
 ghost use Rattle.tri_raster.specs.Sweeps.{column_at, AreAdded, AreEmpty, IsRowOf, HasRow, IsAtRow, IsBeforeRow};
 
 use crate::active::to_row;
 use crate::column::Column;
 use crate::group::push_spans;
 use crate::refusal::RasterRefusal;
-use nav_ground::Span;
+use nav_ground::SmallSpan;
 use std::alloc::{AllocError, Global};
 use tri_rows::{Bound, FRESH, Hits, Tri, row_shadows, shadow_of};
 
@@ -48,7 +48,7 @@ impl Sweep {
         entering: &[Tri],
         climb: u32,
         z: u32,
-        spans: &mut Vec<Span>,
+        spans: &mut Vec<SmallSpan>,
     ) -> Result<(), RasterRefusal>
         requires triangles { CanEnter z self.old.active.items entering.now }
         requires width { length self.old.bounds.items ≤ 1024 }
@@ -136,11 +136,13 @@ fn push_row(
     columns: &mut [Column],
     climb: u32,
     z: u32,
-    spans: &mut Vec<Span>,
+    spans: &mut Vec<SmallSpan>,
 ) -> Result<(), RasterRefusal>
     requires width { length columns.old ≤ 1024 }
+    requires depth { z < 1024 }
     requires few { length spans.old.items ≤ 2000000 }
     requires upright { (x : ℕ) → x < length columns.old → All IsUpright (column_at columns.old x) }
+    requires limited { (x : ℕ) → x < length columns.old → All IsLimited (column_at columns.old x) }
     ensures spans { (setting : Setting) (tris : List Tri) → IsRowOf setting tris climb z columns.old spans.old.items
         → HasRow setting tris z spans.new.items result }
     ensures few { OnOk result (length spans.new.items ≤ 2000000) }

@@ -1,6 +1,6 @@
 use Rattle.std.proofs.Common.{◌≤◌, length}
 use Rattle.std.specs.Prelude.{All}
-use Rattle.tri_raster.specs.Columns.{IsUpright}
+use Rattle.tri_raster.specs.Columns.{IsUpright, IsLimited}
 use Rattle.tri_raster.proofs.GroupLaws.{HasGroups, IsByBottoms}
 use Rattle.tri_raster.proofs.group.push_groups.Given as goal
 
@@ -11,6 +11,7 @@ invariant-loop-rest l =
     × (length l.spans.items ≤ 2000000)
     × All IsUpright l.rest
     × IsByBottoms l.rest
+    × All IsLimited l.rest
 
 abbrev pub decreases-loop-rest : goal.decreases-loop-rest
 decreases-loop-rest l = length l.rest

@@ -1,15 +1,20 @@
 use Rattle.std.proofs.Common.{List, subst, sym}
 use Rattle.std.specs.Prelude.{All}
 use Rattle.tri_rows.specs.declared.shadow.Shadow.{Shadow}
-use Rattle.tri_raster.specs.Columns.{IsUpright}
+use Rattle.tri_raster.specs.Columns.{IsUpright, IsLimited}
 use Rattle.tri_raster.specs.Sweeps.{HasPushed}
-use Rattle.tri_raster.proofs.GroupLaws.{pushed_for, upright_for}
+use Rattle.tri_raster.proofs.GroupLaws.{pushed_for, upright_for, limited_for}
 use Rattle.tri_raster.proofs.group.push_spans.Goals as goal
 
 pub push_groups-requires-clause-upright : goal.push_groups-requires-clause-upright
 push_groups-requires-clause-upright c =
     let P : List Shadow → Type 0 = λ xs. All IsUpright xs in
     subst P (sym c.as_slice.ensures) (upright_for c.args.column.now c.sort.new.self c.sort.ensures.same c.requires.upright)
+
+pub push_groups-requires-clause-limited : goal.push_groups-requires-clause-limited
+push_groups-requires-clause-limited c =
+    let P : List Shadow → Type 0 = λ xs. All IsLimited xs in
+    subst P (sym c.as_slice.ensures) (limited_for c.args.column.now c.sort.new.self c.sort.ensures.same c.requires.limited)
 
 pub returns : goal.returns
 returns c =

@@ -9,11 +9,11 @@ use Rattle.tri_rows.specs.declared.triangle.Tri.{Tri}
 use Rattle.tri_rows.specs.Rows.{MeetsRow}
 use Rattle.tri_rows.specs.Triangles.{IsTriangle}
 use Rattle.tri_raster.specs.ActiveRows.{BeginIn, reaches_row}
-use Rattle.tri_raster.specs.Columns.{IsUpright, AreKept}
+use Rattle.tri_raster.specs.Columns.{IsUpright, IsLimited, AreKept}
 use Rattle.tri_raster.specs.Sweeps.{column_at, AreEmpty, IsAtRow, IsRowOf, HasRow, IsBeforeRow}
 use Rattle.tri_raster.proofs.ActiveLaws.{to_active, to_next, kept_of_active}
 use Rattle.tri_raster.proofs.ShadowLaws.{written_back}
-use Rattle.tri_raster.proofs.SweepLaws.{can_fill, kept_upright}
+use Rattle.tri_raster.proofs.SweepLaws.{can_fill, kept_upright, kept_limited}
 use Rattle.tri_raster.proofs.sweep.Sweep.row.Goals as goal
 
 pub fill-requires-clause-triangles : goal.fill-requires-clause-triangles
@@ -37,6 +37,20 @@ push_row-requires-clause-upright c =
     let lent : c.as_mut_slice-3.result.now ≡ c.fill.new.columns = c.as_mut_slice-3.ensures.value ∙ filled in
     let P : List (List Shadow) → Type 0 = λ cs. (x : ℕ) → x < length cs → All IsUpright (column_at cs x) in
     subst P (sym lent) (λ x inside. kept_upright c.as_slice.result.now x c.args.z (column_at c.fill.new.columns x)
+    (c.in_ok-fill.ensures.kept x (omega (arith, inside, c.fill.ensures.columns))))
+
+pub push_row-requires-clause-limited : goal.push_row-requires-clause-limited
+push_row-requires-clause-limited c =
+    let columns = c.args.self.now.columns in
+    let filled : take columns.len (c.fill.new.columns ++ drop (length c.fill.new.columns) columns.items) ≡ c.fill.new.columns =
+    written_back columns.len columns.items c.as_mut_slice.result.now c.fill.new.columns columns.ok.0 c.as_mut_slice.ensures.value c.fill.ensures.columns in
+    let lent : c.as_mut_slice-3.result.now ≡ c.fill.new.columns = c.as_mut_slice-3.ensures.value ∙ filled in
+    let T : List Tri → Type 0 = λ xs. All IsTriangle xs in
+    let triangles : All IsTriangle c.as_slice.result.now =
+    subst T (sym c.as_slice.ensures.value) (All-weaker (λ (tri : Tri). IsTriangle tri × MeetsRow tri c.args.z) IsTriangle (λ tri fits. fits.0) c.to_row.new.active.items
+    (can_fill c.args.z c.args.self.now.active.items c.args.entering.now c.to_row.new.active.items c.requires.triangles c.in_ok-to_row.ensures)) in
+    let P : List (List Shadow) → Type 0 = λ cs. (x : ℕ) → x < length cs → All IsLimited (column_at cs x) in
+    subst P (sym lent) (λ x inside. kept_limited c.as_slice.result.now x c.args.z (column_at c.fill.new.columns x) triangles
     (c.in_ok-fill.ensures.kept x (omega (arith, inside, c.fill.ensures.columns))))
 
 pub returns-clause-at : goal.returns-clause-at
