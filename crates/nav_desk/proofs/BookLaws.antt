@@ -7,7 +7,8 @@ use Rattle.nav_ground.specs.declared.shape.Shape.{Shape}
 use Rattle.nav_ground.specs.Tiling.{tile_count}
 use Rattle.nav_desk.specs.declared.answers.Published.{Published}
 use Rattle.nav_desk.specs.declared.answers.Published.TheVariants.{New, Same, NotYet}
-use Rattle.nav_desk.specs.BookState.{BookState, is_awaited, is_claimable, least_awaited, least_claimable, stored_at, wanted_at}
+use Rattle.nav_desk.specs.BookState.{BookState, is_awaited, is_claimable, least_awaited, least_claimable, wanted_at}
+use Rattle.nav_desk.proofs.Words.{stored_at}
 use Rattle.nav_desk.specs.SameShapes.{are_same}
 use Rattle.nav_desk.specs.Steps.{is_taken, after_put_back_all, after_submit, publication, publication_by, published_by, after_publish}
 use Rattle.nav_desk.proofs.Leasts.{none_below, least_below-same}

@@ -22,7 +22,8 @@ use Rattle.nav_desk.specs.Flags.{flag_of, least_below}
 use Rattle.nav_desk.specs.LiveTable.{shapes_in}
 use Rattle.nav_desk.specs.Representation.{state_of, IsKept}
 use Rattle.nav_desk.specs.SameShapes.{are_same}
-use Rattle.nav_desk.specs.Steps.{IsJob, after_claim, after_request, job_of, is_taken, next_job, next_reply, publication, publication_by, request_answer, requested}
+use Rattle.nav_desk.specs.Steps.{IsJob, after_claim, after_request, is_taken, next_job, next_reply, publication, publication_by, request_answer, requested}
+use Rattle.nav_desk.proofs.Words.{job_of}
 use Rattle.nav_desk.specs.Waiting.{Waiting, is_ready, least_ready}
 use Rattle.nav_desk.proofs.FlagLaws.{flag_written, flag_other}
 use Rattle.nav_desk.proofs.Histories.{alive_limits}

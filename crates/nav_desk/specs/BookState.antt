@@ -7,7 +7,7 @@ use Rattle.nav_ground.specs.Grounds.{IsGround}
 use Rattle.nav_ground.specs.History.{IsHistory, shapes_alive}
 use Rattle.nav_ground.specs.Tiling.{tile_count}
 use Rattle.nav_ground.specs.Touching.{touching_shapes}
-use Rattle.nav_desk.specs.Flags.{flag_of, least_below}
+use Rattle.nav_desk.specs.Flags.{least_below}
 use Rattle.nav_desk.specs.SameShapes.{are_same}
 
 -- the ground and its history; how many entries the tiles are to show, the target, and how many the published mesh shows; and for each tile
@@ -31,24 +31,17 @@ first_state whole = record {
   claimed = replicate (tile_count whole.setting) false;
 }
 
--- the touching list of a tile at a length: the shapes alive after the first k entries that touch the tile, in order of number
-abbrev pub touching_at : BookState → ℕ → ℕ → List Shape
-touching_at state k tile = touching_shapes state.whole.setting tile (shapes_alive state.history k)
-
--- the touching list of a tile at the target
+-- the touching list of a tile at the target: the shapes alive after so many entries that touch the tile, in order of number
 abbrev pub wanted_at : BookState → ℕ → List Shape
-wanted_at state tile = touching_at state state.target tile
+wanted_at state tile = touching_shapes state.whole.setting tile (shapes_alive state.history state.target)
 
--- the stored list of a tile; whether the tile is claimed
-abbrev pub stored_at : BookState → ℕ → List Shape
-stored_at state tile = slice_index_or state.stored tile []
-
+-- whether a tile is claimed
 abbrev pub is_claimed : BookState → ℕ → Bool
-is_claimed state tile = flag_of state.claimed tile
+is_claimed state tile = slice_index_or state.claimed tile false
 
 -- a tile is awaited where its stored list differs from its touching list at the target; lists are compared by shapes, not by numbers
 abbrev pub is_awaited : BookState → ℕ → Bool
-is_awaited state tile = not (are_same (stored_at state tile) (wanted_at state tile))
+is_awaited state tile = not (are_same (slice_index_or state.stored tile []) (wanted_at state tile))
 
 -- a tile can be claimed where it is awaited and not claimed
 abbrev pub is_claimable : BookState → ℕ → Bool

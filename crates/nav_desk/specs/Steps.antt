@@ -42,11 +42,8 @@ abbrev pub after_aim : BookState → BookState
 after_aim state = record state { target = length state.history }
 
 -- a claim gives the least tile that is awaited and not claimed, with its touching list at the target, and claims it
-abbrev pub job_of : BookState → ℕ → Job
-job_of state tile = record { tile = tile; shapes = wanted_at state tile }
-
 abbrev pub next_job : BookState → Option Job
-next_job state = option_map (job_of state) (least_claimable state)
+next_job state = option_map (λ tile. record { tile = tile; shapes = wanted_at state tile }) (least_claimable state)
 
 abbrev pub after_claim : BookState → BookState
 after_claim state = record state { claimed = option_map_or (λ tile. slice_set state.claimed tile true) (least_claimable state) state.claimed }
@@ -84,8 +81,7 @@ publication state = publication_by (least_awaited state) state.target state.publ
 -- only a new version changes what is published
 abbrev pub published_by : Published → ℕ → ℕ
 published_by (New k) published = k
-published_by (Same k) published = published
-published_by (NotYet tile) published = published
+published_by _ published = published
 
 abbrev pub after_publish : BookState → BookState
 after_publish state = record state { published = published_by (publication state) state.published }

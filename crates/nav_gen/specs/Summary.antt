@@ -6,8 +6,8 @@ use Rattle.nav_record.specs.declared.totals.Totals.{Totals}
 
 -- what was made; how many bytes and lines the input has; the history's length and the published one; how many paths were found and how many
 -- questions had no path, no start and no goal; what the paths cost together; and the polygons and directed links of the last mesh
-abbrev pub summary_lines : (number size bytes lines : ℕ) → Totals → List (List ℕ)
-summary_lines number size bytes lines totals =
+abbrev pub summary_text : (number size bytes lines : ℕ) → Totals → List ℕ
+summary_text number size bytes lines totals = text_of (
     line_text (codes "gen") (number ∷ size ∷ [])
     ∷ line_text (codes "input") (bytes ∷ lines ∷ [])
     ∷ (line_text (codes "history") (totals.entries ∷ []) ++ line_text (codes " published") (totals.published ∷ []))
@@ -15,7 +15,4 @@ summary_lines number size bytes lines totals =
     ++ line_text (codes " nostart") (totals.nostart ∷ []) ++ line_text (codes " nogoal") (totals.nogoal ∷ []))
     ∷ line_text (codes "cost") (totals.cost ∷ [])
     ∷ line_text (codes "mesh") (totals.polys ∷ totals.links ∷ [])
-    ∷ []
-
-abbrev pub summary_text : (number size bytes lines : ℕ) → Totals → List ℕ
-summary_text number size bytes lines totals = text_of (summary_lines number size bytes lines totals)
+    ∷ [])

@@ -2,18 +2,18 @@
 use Rattle.std.specs.Prelude.{◌≡◌, ℕ, ◌+◌, ◌-◌, ◌^◌, ◌<◌, ◌≤◌, min, List, length, take, Option, None, Some, Result, IfOk, OnErr, MatchResult}
 use Rattle.std.specs.Io.KnownBytes.{Consumes, Appends, IsAtEnd}
 
--- a count of faults after one more fault: it stays at its last value, 2 ^ 64 - 1, once it is there
-abbrev pub next_count : ℕ → ℕ
-next_count count = min (count + 1) (2 ^ 64 - 1)
-
--- the count rose; at its last value it counts as risen
+-- the count of faults rose; at its last value, 2 ^ 64 - 1, where it stays, it counts as risen
 abbrev pub Rose : ℕ → ℕ → Type 0
-Rose before now = next_count before ≤ now
+Rose before now = min (before + 1) (2 ^ 64 - 1) ≤ now
 
 -- a call that failed has its cause: the count of faults never falls, and it rose where the call failed
 pub record HasCause {T E : Type 0} (before now : ℕ) (result : Result T E) : Type 0 where
   pub later : before ≤ now
   pub failed : OnErr result (Rose before now)
+
+-- a count of faults after one more fault: it stays at its last value, 2 ^ 64 - 1, once it is there
+abbrev pub next_count : ℕ → ℕ
+next_count count = min (count + 1) (2 ^ 64 - 1)
 
 -- the count counts the failed calls: it is one more after a failed call, and the same after any other
 abbrev pub CountsFailures : {T E : Type 0} → ℕ → ℕ → Result T E → Type 0

@@ -4,7 +4,8 @@ use Rattle.std.specs.List.{cons_option, enumerate_from}
 use Rattle.std.proofs.lemmas.List.Elements.{All-head, All-tail, filter-append}
 use Rattle.turn_lock.specs.Growth.{Extends}
 use Rattle.nav_ground.specs.declared.history.Entry.{Entry}
-use Rattle.nav_lane.specs.LaneRecords.{Spoken, AreEntries, adds_of, adds_with, entries_from, entries_made, entries_said, entry_said}
+use Rattle.nav_lane.specs.LaneRecords.{Spoken, adds_of, adds_with, entries_from, entries_made, entry_said}
+use Rattle.nav_lane.specs.Lanes.{AreEntries}
 
 -- the numbers of what follows go on from the length of what is before it
 pub enumerate_from-append : {A : Type 0} (n : ℕ) (xs ys : List A) → enumerate_from n (xs ++ ys) ≡ enumerate_from n xs ++ enumerate_from (n + length xs) ys
@@ -57,14 +58,14 @@ entries_from-append lane adds (first ∷ more) one =
 
 -- what one line more adds to the entries that are said
 pub entries_said-one_more : (lane : ℕ) (spoken : List Spoken) (one : Spoken)
-    → entries_said lane (spoken ++ one ∷ []) ≡ entries_said lane spoken ++ cons_option (entry_said lane (adds_of spoken) one.0 one.1) []
+    → entries_from lane [] (spoken ++ one ∷ []) ≡ entries_from lane [] spoken ++ cons_option (entry_said lane (adds_of spoken) one.0 one.1) []
 entries_said-one_more lane spoken one = entries_from-append lane [] spoken one
 
 -- a line that leaves no entry keeps the entries
 pub entries_of_no_request : (history : List Entry) (lane : ℕ) (spoken : List Spoken) (one : Spoken) → entry_said lane (adds_of spoken) one.0 one.1 ≡ None
     → AreEntries history lane spoken → AreEntries history lane (spoken ++ one ∷ [])
 entries_of_no_request history lane spoken one none are =
-    are ∙ sym (entries_said-one_more lane spoken one ∙ ap (λ said. entries_said lane spoken ++ cons_option said []) none ∙ append-nil (entries_said lane spoken))
+    are ∙ sym (entries_said-one_more lane spoken one ∙ ap (λ said. entries_from lane [] spoken ++ cons_option said []) none ∙ append-nil (entries_from lane [] spoken))
 
 -- the entry that a request line left comes to both
 pub entries_of_request : (history : List Entry) (e : Entry) (spoken : List Spoken) (one : Spoken)
@@ -73,4 +74,4 @@ pub entries_of_request : (history : List Entry) (e : Entry) (spoken : List Spoke
 entries_of_request history e spoken one is are =
     entries_one_more history e
     ∙ ap (λ made. made ++ (length (history ++ e ∷ []), e) ∷ []) are
-    ∙ sym (entries_said-one_more e.lane spoken one ∙ ap (λ said. entries_said e.lane spoken ++ cons_option said []) is)
+    ∙ sym (entries_said-one_more e.lane spoken one ∙ ap (λ said. entries_from e.lane [] spoken ++ cons_option said []) is)

@@ -60,10 +60,6 @@ abbrev pub entries_from : ℕ → List ℕ → List Spoken → List (ℕ × Entr
 entries_from lane adds [] = []
 entries_from lane adds (one ∷ more) = cons_option (entry_said lane adds one.0 one.1) (entries_from lane (adds_with adds one) more)
 
--- the entries that all lines of a lane say they left
-abbrev pub entries_said : ℕ → List Spoken → List (ℕ × Entry)
-entries_said lane spoken = entries_from lane [] spoken
-
 -- what a line may be answered. A question is answered from a version with the first k entries of the history, by an answer that is right in the
 -- ground with the obstacles that these leave; a request is replied to: which number and reply it is told, the entries say; a `settle` and a
 -- `send` name a length of the history, and a `march` does or tells that there is no walker: what else they are told, the lines before them say.
@@ -96,22 +92,6 @@ length_told _ = None
 
 abbrev pub lengths_told : List Spoken → List ℕ
 lengths_told spoken = filter_map (λ (one : Spoken). length_told one.1) spoken
-
--- the entries of a lane in a history are the requests of its lines in order, each once, with the numbers and replies that the lines were told
-abbrev pub AreEntries : List Entry → ℕ → List Spoken → Type 0
-AreEntries history lane spoken = entries_made lane history ≡ entries_said lane spoken
-
--- each line is answered as it may be, given a history: questions are answered right, and no line names a length beyond the history
-abbrev pub AreAnswers : Ground → List Entry → List Spoken → Type 0
-AreAnswers whole history spoken = All (λ (one : Spoken). IsSaid whole history one.0 one.1) spoken
-
--- each `settled K` names at least the number of the lane's last entry before it
-abbrev pub CoverEntries : List Spoken → Type 0
-CoverEntries spoken = (place k : ℕ) (line : Line) → slice_get spoken place ≡ Some (line, Settled k) → last_number (take place spoken) ≤ k
-
--- the lengths that lines name never fall
-abbrev pub NeverFall : List Spoken → Type 0
-NeverFall spoken = AllPairs (λ (a b : ℕ). a ≤ b) (lengths_told spoken)
 
 -- a lane's walker between two of its lines: the length that its last lines name, the polygon and the point where they place it, and its goal
 pub record Standing : Type 0 where
@@ -170,11 +150,14 @@ abbrev pub AreMoved : Ground → List Entry → Option Standing → List Spoken 
 AreMoved whole history standing [] = ⊤
 AreMoved whole history standing (one ∷ more) = IsMoved whole history standing one.0 one.1 × AreMoved whole history (standing_with standing one) more
 
--- what the lines of a lane may say: each line is answered once, in order
+-- what the lines of a lane may say. Each line is answered once, in order. The entries of the lane in the history are the requests of its lines in
+-- order, each once, with the numbers and replies that the lines were told. Each line is answered as it may be, given the history: questions are
+-- answered right, and no line names a length beyond the history. Each `settled K` names at least the number of the lane's last entry before it,
+-- the lengths that lines name never fall, and its walker moves as its lines say
 pub record IsLane (whole : Ground) (history : List Entry) (lane : ℕ) (lines : List Line) (spoken : List Spoken) : Type 0 where
   pub each : map (λ (one : Spoken). one.0) spoken ≡ lines
-  pub entries : AreEntries history lane spoken
-  pub answers : AreAnswers whole history spoken
-  pub settled : CoverEntries spoken
-  pub rising : NeverFall spoken
+  pub entries : entries_made lane history ≡ entries_from lane [] spoken
+  pub answers : All (λ (one : Spoken). IsSaid whole history one.0 one.1) spoken
+  pub settled : (place k : ℕ) (line : Line) → slice_get spoken place ≡ Some (line, Settled k) → last_number (take place spoken) ≤ k
+  pub rising : AllPairs (λ (a b : ℕ). a ≤ b) (lengths_told spoken)
   pub walks : AreMoved whole history None spoken

@@ -1,5 +1,5 @@
 -- What lanes and workers keep between two of their steps.
-use Rattle.std.specs.Prelude.{◌≡◌, ℕ, ◌≤◌, ⊤, List, [], length, Option, Some, None, IfSome}
+use Rattle.std.specs.Prelude.{◌≡◌, ℕ, ◌≤◌, ⊤, List, [], length, slice_get, take, All, AllPairs, Option, Some, None, IfSome}
 use Rattle.turn_lock.specs.Locks.{LockId, PassView, IsOf}
 use Rattle.nav_ground.specs.declared.history.Entry.{Entry}
 use Rattle.nav_ground.specs.declared.history.Ground.{Ground}
@@ -11,8 +11,10 @@ use Rattle.agent_walks.specs.Walkers.{IsWalker}
 use Rattle.nav_version.specs.Lists.{ToldView}
 use Rattle.nav_version.specs.Pairs.{EyeView}
 use Rattle.nav_lane.specs.Roots.{RootView}
+use Rattle.nav_script.specs.declared.line.Line.{Line}
+use Rattle.nav_lane.specs.declared.said.Said.TheVariants.{Settled}
 use Rattle.nav_lane.specs.declared.lane.Lane.{Lane}
-use Rattle.nav_lane.specs.LaneRecords.{Spoken, Standing, AreAnswers, AreEntries, AreMoved, CoverEntries, NeverFall, adds_of, entries_made, last_number, last_standing}
+use Rattle.nav_lane.specs.LaneRecords.{Spoken, Standing, AreMoved, IsSaid, adds_of, entries_from, entries_made, last_number, last_standing, lengths_told}
 use Rattle.nav_lane.specs.LaneTexts.{told_text}
 
 -- a pass has acted without asking: it is of the lock, has its number, and has seen no further entry of its own
@@ -53,6 +55,22 @@ IsWalkerOf whole history (Some standing) (Some walker) = IsThatWalker whole hist
 IsWalkerOf whole history (Some standing) None = ⊥
 IsWalkerOf whole history None (Some walker) = ⊥
 IsWalkerOf whole history None None = ⊤
+
+-- the entries of a lane in a history are the requests of its lines in order, each once, with the numbers and replies that the lines were told
+abbrev pub AreEntries : List Entry → ℕ → List Spoken → Type 0
+AreEntries history lane spoken = entries_made lane history ≡ entries_from lane [] spoken
+
+-- each line is answered as it may be, given a history
+abbrev pub AreAnswers : Ground → List Entry → List Spoken → Type 0
+AreAnswers whole history spoken = All (λ (one : Spoken). IsSaid whole history one.0 one.1) spoken
+
+-- each `settled K` names at least the number of the lane's last entry before it
+abbrev pub CoverEntries : List Spoken → Type 0
+CoverEntries spoken = (place k : ℕ) (line : Line) → slice_get spoken place ≡ Some (line, Settled k) → last_number (take place spoken) ≤ k
+
+-- the lengths that lines name never fall
+abbrev pub NeverFall : List Spoken → Type 0
+NeverFall spoken = AllPairs (λ (a b : ℕ). a ≤ b) (lengths_told spoken)
 
 -- a lane that was answered so was told of its walker what it may be told, and has the walker that its lines leave
 pub record KeepsWalker (whole : Ground) (history : List Entry) (spoken : List Spoken) (walker : Option Walker) : Type 0 where

@@ -7,7 +7,8 @@ use Rattle.std.proofs.lemmas.Option.{same_Some}
 use Rattle.nav_ground.specs.Tiling.{tile_count}
 use Rattle.nav_desk.specs.declared.answers.Job.{Job}
 use Rattle.nav_desk.specs.BookState.{BookState, is_awaited, is_claimable, is_claimed, least_claimable}
-use Rattle.nav_desk.specs.Steps.{after_claim, after_put_back, after_submit, job_of, next_job}
+use Rattle.nav_desk.specs.Steps.{after_claim, after_put_back, after_submit, next_job}
+use Rattle.nav_desk.proofs.Words.{job_of}
 use Rattle.nav_desk.proofs.Leasts.{least_passes}
 use Rattle.nav_level.specs.Settling.{after_job, after_step, steps_due}
 

@@ -1,6 +1,6 @@
 -- What a claim comes to.
 use Rattle.std.proofs.Common.{◌≡◌, ℕ, ◌+◌, List, set, get_or, ap, ◌∙◌, sym, subst, refl, arith, true, false, Option, None, Some}
-use Rattle.std.specs.Prelude.{is_some}
+use Rattle.std.specs.Prelude.{is_some, if◌then◌else◌}
 use Rattle.std.proofs.lemmas.Bool.{both_ways}
 use Rattle.nav_ground.specs.declared.history.Ground.{Ground}
 use Rattle.nav_desk.specs.declared.answers.Job.{Job}
@@ -11,9 +11,13 @@ use Rattle.nav_book.specs.Results.{IsBuild, job_built}
 use Rattle.nav_record.specs.declared.step.StepAnswer.TheVariants as answers
 use Rattle.nav_steps.specs.Counts.{HasRisenAtMost}
 use Rattle.nav_play.specs.Claims.{HasClaimed}
-use Rattle.nav_play.specs.Jobs.{book_after_claim, claim_said, held_after_claim, job_said, jobs_given, jobs_of_claim}
+use Rattle.nav_play.specs.Jobs.{book_after_claim, claim_said, held_after_claim, job_said, jobs_of_claim}
 use Rattle.nav_play.specs.Players.{AreHeld, held_job}
 use Rattle.nav_play.proofs.Held.{claim_jobs, held_set, idle, job_held, jobs_same}
+
+-- 1 where a claim gave a job, else 0
+abbrev jobs_given : Option Job → ℕ
+jobs_given job = if is_some job then 1 else 0
 
 -- a worker that holds a tile is busy
 pub busy_claims : (book : BookState) (held : List (Option TileResult)) (worker n : ℕ) → is_some (get_or held worker None) ≡ true → AreHeld book.whole held

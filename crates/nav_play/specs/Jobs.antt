@@ -1,5 +1,6 @@
 -- The steps of workers, each of which holds one tile that it built, or nothing.
-use Rattle.std.specs.Prelude.{ℕ, Option, Some, None}
+use Rattle.std.specs.Prelude.{ℕ, ◌&&◌, if◌then◌else◌, Option, is_none, is_some}
+use Rattle.std.specs.Option.{option_map_or}
 use Rattle.nav_desk.specs.declared.answers.Job.{Job}
 use Rattle.nav_desk.specs.declared.answers.Published.{Published}
 use Rattle.nav_desk.specs.declared.answers.Published.TheVariants as publications
@@ -12,38 +13,27 @@ use Rattle.nav_record.specs.declared.step.StepAnswer.TheVariants as answers
 
 -- a claim: a worker that holds a tile is busy; any other gets the job that the book gives, if it gives one, and holds that tile's build
 abbrev pub job_said : ℕ → Option Job → StepAnswer
-job_said worker (Some job) = answers.Claimed worker job.tile
-job_said worker None = answers.NoTile worker
+job_said worker given = option_map_or (λ (job : Job). answers.Claimed worker job.tile) given (answers.NoTile worker)
 
 abbrev pub claim_said : BookState → ℕ → Option Job → StepAnswer
-claim_said book worker (Some held) = answers.Busy worker
-claim_said book worker None = job_said worker (next_job book)
+claim_said book worker held = if is_some held then answers.Busy worker else job_said worker (next_job book)
 
 abbrev pub held_after_claim : BookState → Option Job → Option Job
-held_after_claim book (Some held) = Some held
-held_after_claim book None = next_job book
+held_after_claim book held = if is_some held then held else next_job book
 
 abbrev pub book_after_claim : BookState → Option Job → BookState
-book_after_claim book (Some held) = book
-book_after_claim book None = after_claim book
+book_after_claim book held = if is_some held then book else after_claim book
 
--- 1 where a claim gave a job, else 0
-abbrev pub jobs_given : Option Job → ℕ
-jobs_given (Some job) = 1
-jobs_given None = 0
-
+-- how many jobs a claim gives
 abbrev pub jobs_of_claim : BookState → Option Job → ℕ
-jobs_of_claim book (Some held) = 0
-jobs_of_claim book None = jobs_given (next_job book)
+jobs_of_claim book held = if is_none held && is_some (next_job book) then 1 else 0
 
 -- a worker puts back the job of the tile that it holds, if it holds one, and holds nothing afterwards
 abbrev pub back_said : ℕ → Option Job → StepAnswer
-back_said worker (Some held) = answers.Back worker held.tile
-back_said worker None = answers.Idle worker
+back_said worker held = option_map_or (λ (job : Job). answers.Back worker job.tile) held (answers.Idle worker)
 
 abbrev pub book_after_back : BookState → Option Job → BookState
-book_after_back book (Some held) = after_put_back book held.tile
-book_after_back book None = book
+book_after_back book held = option_map_or (λ (job : Job). after_put_back book job.tile) held book
 
 -- a worker submits the tile that it holds, if it holds one, and holds nothing afterwards
 abbrev pub submission_said : ℕ → ℕ → Submitted → StepAnswer
@@ -51,12 +41,11 @@ submission_said worker tile submissions.Taken = answers.Taken worker tile
 submission_said worker tile submissions.Stale = answers.Stale worker tile
 
 abbrev pub submit_said : BookState → ℕ → Option Job → StepAnswer
-submit_said book worker (Some held) = submission_said worker held.tile (submission book held.tile held.shapes)
-submit_said book worker None = answers.Idle worker
+submit_said book worker held =
+    option_map_or (λ (job : Job). submission_said worker job.tile (submission book job.tile job.shapes)) held (answers.Idle worker)
 
 abbrev pub book_after_submit : BookState → Option Job → BookState
-book_after_submit book (Some held) = after_submit book held.tile held.shapes
-book_after_submit book None = book
+book_after_submit book held = option_map_or (λ (job : Job). after_submit book job.tile job.shapes) held book
 
 -- what a publish is answered
 abbrev pub publication_said : Published → StepAnswer

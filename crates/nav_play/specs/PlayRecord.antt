@@ -4,7 +4,7 @@ use Rattle.nav_ground.specs.declared.setting.Setting.{Setting}
 use Rattle.nav_ground.specs.declared.field.Field.{Field}
 use Rattle.nav_ground.specs.declared.history.Ground.{Ground}
 use Rattle.nav_ground.specs.declared.history.Reply.{Reply}
-use Rattle.nav_ground.specs.declared.history.Reply.TheVariants.{Added, Removed, Full, Dead}
+use Rattle.nav_ground.specs.declared.history.Reply.TheVariants.{Added}
 use Rattle.nav_ground.specs.declared.history.Request.{Request}
 use Rattle.nav_ground.specs.declared.history.Request.TheVariants as requests
 use Rattle.mesh_types.specs.declared.hops.Jump as jumps
@@ -53,9 +53,7 @@ request_text book request = answered_text (request_answer book request)
 -- the number of an obstacle that was added; 0 where none was
 abbrev pub number_added : Reply → ℕ
 number_added (Added number) = number
-number_added Removed = 0
-number_added (Full live) = 0
-number_added (Dead number) = 0
+number_added _ = 0
 
 -- the number that an add line gets for its lane, whose request is answered so
 abbrev pub number_answered : Result (ℕ × Reply) HistoryFull → ℕ
@@ -75,10 +73,6 @@ adds_and adds lane number = slice_set adds lane (adds_of adds lane ++ number ∷
 abbrev pub number_in : List (List ℕ) → ℕ → ℕ → ℕ
 number_in adds lane j = unwrap_or (slice_get (adds_of adds lane) (j - 1)) 0
 
--- a `drop` asks to remove what the lane's j-th add line added
-abbrev pub drop_request : PlayState → ℕ → Request
-drop_request state j = requests.Remove (number_in state.adds state.lane j)
-
 -- the job of the tile that a worker holds
 abbrev pub held_by : PlayState → ℕ → Option Job
 held_by state worker = get_or state.held worker None
@@ -89,7 +83,7 @@ IsSaid state (Lane lane) text = text ≡ []
 IsSaid state (Ask question) text = IsAnswered state.book question text
 IsSaid state (Add shape) text = text ≡ request_text state.book (requests.Add shape)
 IsSaid state (Remove number) text = text ≡ request_text state.book (requests.Remove number)
-IsSaid state (Undo j) text = text ≡ request_text state.book (drop_request state j)
+IsSaid state (Undo j) text = text ≡ request_text state.book (requests.Remove (number_in state.adds state.lane j))
 IsSaid state Settle text = text ≡ step_text (answers.Settled (length state.book.history))
 IsSaid state Aim text = text ≡ step_text (answers.Aim (length state.book.history))
 IsSaid state (Claim worker) text = text ≡ step_text (claim_said state.book worker (held_by state worker))
@@ -110,7 +104,7 @@ state_after state (Add shape) = record state {
   adds = adds_and state.adds state.lane (number_got state.book (requests.Add shape));
 }
 state_after state (Remove number) = record state { book = requested state.book state.lane (requests.Remove number) }
-state_after state (Undo j) = record state { book = requested state.book state.lane (drop_request state j) }
+state_after state (Undo j) = record state { book = requested state.book state.lane (requests.Remove (number_in state.adds state.lane j)) }
 state_after state Settle = record state { book = after_settle state.book; held = replicate (length state.held) None }
 state_after state Aim = record state { book = after_aim state.book }
 state_after state (Claim worker) = record state {

@@ -26,8 +26,7 @@ pub record IsOneRight (mesh : Mesh) (question : Question) (given : List Answer) 
 -- the answers to a question that count: a question for a path has one right answer, and no other counts
 abbrev pub IsPathAnswer : Mesh → Question → List Answer → Type 0
 IsPathAnswer mesh (questions.Path from from_y to to_y) given = IsOneRight mesh (questions.Path from from_y to to_y) given
-IsPathAnswer mesh (questions.Floor x z) given = given ≡ []
-IsPathAnswer mesh (questions.Ray from from_y to) given = given ≡ []
+IsPathAnswer mesh _ given = given ≡ []
 
 -- the answers of a line that count: that of a `path` line, in the mesh that is published then
 abbrev pub IsCounted : PlayState → Line → List Answer → Type 0

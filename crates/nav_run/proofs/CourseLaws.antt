@@ -127,12 +127,12 @@ module _ (words : List (String Global)) (before after : Option (List ℕ)) (read
   -- words in no form
   pub run_no_form : (status : Status) → Run status → (¬ IsForm words) → (status ≡ statuses.Usage) ⊎ (status ≡ statuses.WriteFault)
   run_no_form statuses.Ok run none = absurd (none (elim run [
-    | inl answered ↦ inl (reads_for words answered.due.way answered.due.form)
-    | inr (inl summed) ↦ inr (record { number = summed.due.number; size = summed.due.size; form = summed.due.form })
+    | inl answered ↦ inl (reads_for words answered.due.read.way answered.due.read.form)
+    | inr (inl summed) ↦ inr summed.due.gen
     | inr (inr rastered) ↦ inl (inr rastered.due.read.form)
   ]))
   run_no_form statuses.BadText run none = absurd (none (elim run [
-    | inl told ↦ inl (reads_for words told.due.way told.due.form)
+    | inl told ↦ inl (reads_for words told.due.read.way told.due.read.form)
     | inr level ↦ inl (inr level.due.read.form)
   ]))
   run_no_form statuses.TooManySpans run none = absurd (none (inl (inr run.due.read.form)))
@@ -147,12 +147,12 @@ module _ (words : List (String Global)) (before after : Option (List ℕ)) (read
       → (¬ Rose reads_before reads_after) → (¬ Rose writes_before writes_after)
       → (status ≡ statuses.TooLong) ⊎ (status ≡ statuses.OutOfMemory)
   run_more statuses.Ok run form more calm quiet = elim run [
-    | inl answered ↦ not_more before after answered.due.input _ answered.due.read answered.due.short more
-    | inr (inl summed) ↦ one_form words _ form (record { number = summed.due.number; size = summed.due.size; form = summed.due.form })
+    | inl answered ↦ not_more before after answered.due.read.input _ answered.due.read.read answered.due.read.short more
+    | inr (inl summed) ↦ one_form words _ form summed.due.gen
     | inr (inr rastered) ↦ not_more before after rastered.due.input _ rastered.due.read.read rastered.due.read.short more
   ]
   run_more statuses.BadText run form more calm quiet = elim run [
-    | inl told ↦ not_more before after told.due.input _ told.due.read told.due.short more
+    | inl told ↦ not_more before after told.due.read.input _ told.due.read.read told.due.read.short more
     | inr level ↦ not_more before after level.due.input _ level.due.read.read level.due.read.short more
   ]
   run_more statuses.TooManySpans run form more calm quiet = not_more before after run.due.input _ run.due.read.read run.due.read.short more
@@ -167,7 +167,7 @@ module _ (words : List (String Global)) (before after : Option (List ℕ)) (read
       → (status ≡ statuses.Ok) ⊎ (status ≡ statuses.OutOfMemory)
   run_made statuses.Ok run gen quiet = inl refl
   run_made statuses.BadText run gen quiet = elim run [
-    | inl told ↦ one_form words _ (reads_for words told.due.way told.due.form) gen
+    | inl told ↦ one_form words _ (reads_for words told.due.read.way told.due.read.form) gen
     | inr level ↦ one_form words _ (inr level.due.read.form) gen
   ]
   run_made statuses.TooManySpans run gen quiet = one_form words _ (inr run.due.read.form) gen
@@ -188,8 +188,8 @@ run_complete words None after rb ra hb ha wb wa status run = tt
 run_complete words (Some input) after rb ra hb ha wb wa statuses.Ok run = λ way form fits short calm quiet. inl refl
 run_complete words (Some input) after rb ra hb ha wb wa statuses.BadText run = λ way form fits short calm quiet. elim run [
   | inl told ↦
-      let same = GivesAll-known (Some input) after told.due.input told.due.read in
-      absurd (told.due.no_input (same_input words way told.due.way input told.due.input form told.due.form (sym same) fits))
+      let same = GivesAll-known (Some input) after told.due.read.input told.due.read.read in
+      absurd (told.due.no_input (same_input words way told.due.read.way input told.due.read.input form told.due.read.form (sym same) fits))
   | inr level ↦ one_word words way _ form level.due.read.form
 ]
 run_complete words (Some input) after rb ra hb ha wb wa statuses.TooManySpans run = λ way form fits short calm quiet.
@@ -212,10 +212,10 @@ run_wrong words None after rb ra hb ha wb wa status run = tt
 run_wrong words (Some input) after rb ra hb ha wb wa statuses.Ok run = λ way form no_input short calm quiet. elim run [
   | inl answered ↦
       let due = answered.due in
-      absurd (no_input (same_input words due.way way due.input input due.form form (GivesAll-known (Some input) after due.input due.read)
-      (input_for due.way due.input answered.text due.ran)))
+      absurd (no_input (same_input words due.read.way way due.read.input input due.read.form form (GivesAll-known (Some input) after due.read.input due.read.read)
+      (input_for due.read.way due.read.input answered.text due.ran)))
   | inr (inl summed) ↦
-      one_form words _ (reads_for words way form) (record { number = summed.due.number; size = summed.due.size; form = summed.due.form })
+      one_form words _ (reads_for words way form) summed.due.gen
   | inr (inr rastered) ↦ one_word words way _ form rastered.due.read.form
 ]
 run_wrong words (Some input) after rb ra hb ha wb wa statuses.TooManySpans run = λ way form no_input short calm quiet.

@@ -94,7 +94,7 @@ pub run_raster : (words : List (String Global)) (before after : Option (List ℕ
 run_raster words None after rb ra hb ha wb wa status run = tt
 run_raster words (Some input) after rb ra hb ha wb wa statuses.Ok run = λ form fits short calm quiet. inl refl
 run_raster words (Some input) after rb ra hb ha wb wa statuses.BadText run = λ form fits short calm quiet. elim run [
-  | inl told ↦ one_word words told.due.way _ told.due.form form
+  | inl told ↦ one_word words told.due.read.way _ told.due.read.form form
   | inr level ↦
       let same : level.due.input ≡ input = GivesAll-known (Some input) after level.due.input level.due.read.read in
       absurd (level.due.tells.no_level (subst IsLevel (sym same) fits.level))
@@ -115,8 +115,8 @@ pub run_no_level : (words : List (String Global)) (before after : Option (List �
     → (status ≡ statuses.BadText) ⊎ (status ≡ statuses.OutOfMemory))
 run_no_level words None after rb ra hb ha wb wa status run = tt
 run_no_level words (Some input) after rb ra hb ha wb wa statuses.Ok run = λ form none short calm quiet. elim run [
-  | inl answered ↦ one_word words answered.due.way _ answered.due.form form
-  | inr (inl summed) ↦ one_form words _ (inr form) (record { number = summed.due.number; size = summed.due.size; form = summed.due.form })
+  | inl answered ↦ one_word words answered.due.read.way _ answered.due.read.form form
+  | inr (inl summed) ↦ one_form words _ (inr form) summed.due.gen
   | inr (inr rastered) ↦
       let same : rastered.due.input ≡ input = GivesAll-known (Some input) after rastered.due.input rastered.due.read.read in
       absurd (none (subst IsLevel same rastered.due.raster.one.level))
@@ -138,14 +138,14 @@ pub run_many : (words : List (String Global)) (before after : Option (List ℕ))
     → (status ≡ statuses.TooManySpans) ⊎ (status ≡ statuses.OutOfMemory))
 run_many words None after rb ra hb ha wb wa status run = tt
 run_many words (Some input) after rb ra hb ha wb wa statuses.Ok run = λ form over short calm quiet. elim run [
-  | inl answered ↦ one_word words answered.due.way _ answered.due.form form
-  | inr (inl summed) ↦ one_form words _ (inr form) (record { number = summed.due.number; size = summed.due.size; form = summed.due.form })
+  | inl answered ↦ one_word words answered.due.read.way _ answered.due.read.form form
+  | inr (inl summed) ↦ one_form words _ (inr form) summed.due.gen
   | inr (inr rastered) ↦
       let same : rastered.due.input ≡ input = GivesAll-known (Some input) after rastered.due.input rastered.due.read.read in
       absurd (clash_other rastered.due.input rastered.text rastered.due.raster (subst HasTooManySpans (sym same) over))
 ]
 run_many words (Some input) after rb ra hb ha wb wa statuses.BadText run = λ form over short calm quiet. elim run [
-  | inl told ↦ one_word words told.due.way _ told.due.form form
+  | inl told ↦ one_word words told.due.read.way _ told.due.read.form form
   | inr level ↦
       let same : level.due.input ≡ input = GivesAll-known (Some input) after level.due.input level.due.read.read in
       absurd (level.due.tells.no_level (subst IsLevel (sym same) over.level))

@@ -27,7 +27,7 @@ text_due : (words : List (String Global)) (way : Way) (before after : Option (Li
 text_due words way before after input bytes written text form gave short same as_text ran =
     let B : List ℕ → Type 0 = λ xs. IsRunText way xs text in
     let T : List ℕ → Type 0 = λ xs. IsRunText way input xs in
-    record { way = way; form = form; input = input; read = gave; short = short; ran = subst T (sym as_text) (subst B same ran) }
+    record { read = record { way = way; form = form; input = input; read = gave; short = short }; ran = subst T (sym as_text) (subst B same ran) }
 
 -- the line of the fault of what was read is due
 fault_due : (words : List (String Global)) (way : Way) (before after : Option (List ℕ)) (input bytes written text : List ℕ) → IsWayForm way words
@@ -37,12 +37,8 @@ fault_due words way before after input bytes written text form gave short same a
     let B : List ℕ → Type 0 = λ xs. IsFault way xs tells.fault in
     let I : List ℕ → Type 0 = λ xs. IsInputFor way xs in
     record {
-      way = way;
-      form = form;
-      input = input;
+      read = record { way = way; form = form; input = input; read = gave; short = short };
       fault = tells.fault;
-      read = gave;
-      short = short;
       wrong = subst B same tells.wrong;
       told = as_text ∙ tells.told;
       no_input = λ fits. none (subst I (sym same) fits);
@@ -110,7 +106,7 @@ pub summed_run : (words : List (String Global)) (before : Option (List ℕ)) (re
 summed_run words before rb ra hb ha wb wa number size written text status form summary as_text ended =
     let T : List ℕ → Type 0 = λ xs. IsMadeSummary number size xs in
     let due : IsSummaryDue words before before written =
-    record { number = number; size = size; form = form; unread = refl; summary = subst T (sym as_text) summary } in
+    record { gen = record { number = number; size = size; form = form }; unread = refl; summary = subst T (sym as_text) summary } in
     wrote words before before rb ra hb ha wb wa written statuses.Ok status ended (inr (inl due))
     (λ there. inr (inl (record { text = written; due = due; written = there })))
 
@@ -144,11 +140,11 @@ read_stepped way before after input bytes sb sa gave short same stepped words fo
     let B : List ℕ → Type 0 = λ xs. HasStepped way xs sb sa in
     elim (subst B same stepped) [
       | inl none ↦ inl none
-      | inr some ↦ inr (inl (record { way = way; form = form; input = input; read = gave; short = short; steps = some }))
+      | inr some ↦ inr (inl (record { way = way; form = form; input = input; read = gave; short = short }, some))
     ]
 
 pub gen_stepped : (words : List (String Global)) (before after : Option (List ℕ)) (number size steps_before steps_after : ℕ)
     → IsGenForm number size words → HasRisenAtMost (made_builds number size) steps_before steps_after
     → HasRunStepped words before after steps_before steps_after
 gen_stepped words before after number size sb sa form risen =
-    inr (inr (record { number = number; size = size; form = form; steps = risen }))
+    inr (inr (record { number = number; size = size; form = form }, risen))

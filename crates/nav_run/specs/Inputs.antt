@@ -61,10 +61,6 @@ pub record IsRunText (way : Way) (input text : List ℕ) : Type 0 where
   pub fits : IsInputFor way input
   pub written : IsTextOf way fits.setting fits.field fits.script text
 
--- the input does not begin with a field text: the fault is that of its first line that fails
-abbrev pub IsFieldFault : List ℕ → TextFault → Type 0
-IsFieldFault input fault = IsFirstFault field_format AtNav 0 (lines input) fault
-
 -- the input begins with a field text, and what is behind it is no script for this way: the fault is that of the first line there that fails
 pub record IsScriptFault (way : Way) (input : List ℕ) (fault : TextFault) : Type 0 where
   pub head : List ℕ
@@ -76,4 +72,4 @@ pub record IsScriptFault (way : Way) (input : List ℕ) (fault : TextFault) : Ty
 
 -- what is wrong with an input that is to be run this way
 abbrev pub IsFault : Way → List ℕ → TextFault → Type 0
-IsFault way input fault = IsFieldFault input fault ⊎ IsScriptFault way input fault
+IsFault way input fault = IsFirstFault field_format AtNav 0 (lines input) fault ⊎ IsScriptFault way input fault

@@ -9,37 +9,34 @@ use Rattle.nav_text.specs.declared.fault.TextFault.{TextFault}
 use Rattle.nav_run.specs.Inputs.{IsInputFor, IsRunText, IsFault, input_limit}
 use Rattle.nav_run.specs.Made.{IsMadeSummary}
 use Rattle.nav_run.specs.Triangles.{IsFieldDue, IsTriFaultDue, IsManyDue}
-use Rattle.nav_run.specs.Words.{IsForm, IsGenForm, IsReadForm, IsWayForm}
+use Rattle.nav_run.specs.Words.{IsForm, IsGen, IsReadForm, IsWayForm}
 
--- the words ask for an input to be run some way, the whole of it was read, and this text is one of it for that way: a play text for the word
--- `play`, a live text for the word `live`
+-- the words ask for an input to be run some way, and the whole of it was read
+pub record HasReadInput (words : List (String Global)) (before after : Option (List ℕ)) : Type 0 where
+  pub way : Way
+  pub form : IsWayForm way words
+  pub input : List ℕ
+  pub read : GivesAll before after input
+  pub short : length input ≤ input_limit
+
+-- and this text is one of it for that way: a play text for the word `play`, a live text for the word `live`
 pub record IsTextDue (words : List (String Global)) (before after : Option (List ℕ)) (text : List ℕ) : Type 0 where
-  pub way : Way
-  pub form : IsWayForm way words
-  pub input : List ℕ
-  pub read : GivesAll before after input
-  pub short : length input ≤ input_limit
-  pub ran : IsRunText way input text
+  pub read : HasReadInput words before after
+  pub ran : IsRunText read.way read.input text
 
--- the words ask for an input to be run some way, the whole of it was read, and this text tells its fault: it is no input for that way
+-- or this text tells its fault: it is no input for that way
 pub record IsFaultDue (words : List (String Global)) (before after : Option (List ℕ)) (text : List ℕ) : Type 0 where
-  pub way : Way
-  pub form : IsWayForm way words
-  pub input : List ℕ
+  pub read : HasReadInput words before after
   pub fault : TextFault
-  pub read : GivesAll before after input
-  pub short : length input ≤ input_limit
-  pub wrong : IsFault way input fault
+  pub wrong : IsFault read.way read.input fault
   pub told : text ≡ fault_text fault
-  pub no_input : ¬ IsInputFor way input
+  pub no_input : ¬ IsInputFor read.way read.input
 
 -- the words ask for a made input, and this text is its summary; nothing was read
 pub record IsSummaryDue (words : List (String Global)) (before after : Option (List ℕ)) (text : List ℕ) : Type 0 where
-  pub number : ℕ
-  pub size : ℕ
-  pub form : IsGenForm number size words
+  pub gen : IsGen words
   pub unread : after ≡ before
-  pub summary : IsMadeSummary number size text
+  pub summary : IsMadeSummary gen.number gen.size text
 
 -- the text is what the run owed its sink: after words in no form the usage line, with nothing read; after the word `play` or `live` the line
 -- that says that too many bytes were read, or a text or the fault of the whole input; after the word `raster` that line, or the field of the whole

@@ -1,18 +1,19 @@
 -- Step counts: how many steps a run takes at most.
-use Rattle.std.specs.Prelude.{◌≡◌, ℕ, ◌*◌, ◌≤◌, ◌⊎◌, List, length, Option, String}
+use Rattle.std.specs.Prelude.{◌≡◌, ℕ, ◌*◌, ◌⊎◌, List, Option, String}
 use Rattle.nav_ground.specs.declared.setting.Setting.{Setting}
 use Rattle.nav_ground.specs.declared.field.Field.{Field}
 use Rattle.nav_ground.specs.Tiling.{tile_count}
-use Rattle.nav_io.specs.Causes.{GivesAll}
 use Rattle.nav_play.specs.Work.{builds_of}
 use Rattle.nav_script.specs.declared.script.Script.{Script}
 use Rattle.nav_script.specs.declared.script.Way.{Way}
 use Rattle.nav_script.specs.declared.script.Way.TheVariants.{Play, Live}
 use Rattle.nav_steps.specs.Counts.{HasRisenAtMost}
 use Rattle.std.specs.declared.alloc.Global.{Global}
-use Rattle.nav_run.specs.Inputs.{IsInputFor, input_limit}
+use Rattle.nav_run.specs.Inputs.{IsInputFor}
 use Rattle.nav_run.specs.Made.{made_builds}
-use Rattle.nav_run.specs.Words.{IsGenForm, IsWayForm}
+use Rattle.nav_run.specs.Outcomes.{HasReadInput}
+use Rattle.nav_run.specs.Words.{IsGen}
+
 
 -- how many steps a run of a script over a field takes at most: a play one for each tile at its beginning, and one for each claim that gives a
 -- tile; a live run one for each tile before its threads and one for each after their join, since each thread counts its own
@@ -29,23 +30,10 @@ pub record IsRunStepped (way : Way) (input : List ℕ) (before after : ℕ) : Ty
 abbrev pub HasStepped : Way → List ℕ → ℕ → ℕ → Type 0
 HasStepped way input before after = (after ≡ before) ⊎ IsRunStepped way input before after
 
--- the words ask for an input to be run some way, the whole of it was read, and no more steps were taken than its run may take
-pub record IsReadStepped (words : List (String Global)) (left_before left_after : Option (List ℕ)) (before after : ℕ) : Type 0 where
-  pub way : Way
-  pub form : IsWayForm way words
-  pub input : List ℕ
-  pub read : GivesAll left_before left_after input
-  pub short : length input ≤ input_limit
-  pub steps : IsRunStepped way input before after
-
--- the words ask for a made input, and no more steps were taken than its play may take
-pub record IsMadeStepped (words : List (String Global)) (before after : ℕ) : Type 0 where
-  pub number : ℕ
-  pub size : ℕ
-  pub form : IsGenForm number size words
-  pub steps : HasRisenAtMost (made_builds number size) before after
-
--- no step was taken, or those of the run of the input that was read, or those of the play of the made one that the words ask for
+-- no step was taken; or the words ask for an input to be run some way, the whole of it was read, and no more steps were taken than its run may take;
+-- or they ask for a made input, and no more steps were taken than its play may take
 abbrev pub HasRunStepped : List (String Global) → (left_before left_after : Option (List ℕ)) → (before after : ℕ) → Type 0
 HasRunStepped words left_before left_after before after =
-    (after ≡ before) ⊎ (IsReadStepped words left_before left_after before after ⊎ IsMadeStepped words before after)
+    (after ≡ before)
+    ⊎ (((read : HasReadInput words left_before left_after) × IsRunStepped read.way read.input before after)
+    ⊎ ((gen : IsGen words) × HasRisenAtMost (made_builds gen.number gen.size) before after))
