@@ -135,9 +135,8 @@ pub record IsMarchOf (whole : Ground) (history : List Entry) (standing : Standin
 -- a march without a walker is told that there is none, and no other is
 abbrev pub IsMarchTold : Ground → List Entry → ℕ → Option Standing → Said → Type 0
 IsMarchTold whole history far (Some standing) (Walked k answer) = IsMarchOf whole history standing far k answer
-IsMarchTold whole history far (Some standing) _ = ⊥
 IsMarchTold whole history far None NoWalker = ⊤
-IsMarchTold whole history far None _ = ⊥
+IsMarchTold whole history far _ _ = ⊥
 
 -- what a line of a walker may be told, given the walker before it
 abbrev pub IsMoved : Ground → List Entry → Option Standing → Line → Said → Type 0

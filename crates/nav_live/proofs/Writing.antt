@@ -3,12 +3,13 @@ use Rattle.std.proofs.Common.{◌≡◌, ℕ, ◌+◌, ◌<◌, ◌≤◌, List,
 use Rattle.std.specs.List.{enumerate_from, flat_map}
 use Rattle.std.proofs.lemmas.List.{at_drop_all, at_drop_more}
 use Rattle.nav_ground.specs.declared.history.Entry.{Entry}
+use Rattle.mesh_types.specs.declared.mesh.Mesh.{Mesh}
 use Rattle.mesh_types.specs.Builds.{build_of}
 use Rattle.mesh_types.specs.Soundness.{link_count, polygon_count}
 use Rattle.nav_desk.specs.BookState.{BookState}
 use Rattle.nav_book.specs.Results.{published_mesh}
 use Rattle.nav_record.specs.Texts.{final_text, history_text, lane_text}
-use Rattle.nav_live.specs.LiveRecord.{end_text, entries_text, live_text, lane_lines}
+use Rattle.nav_live.specs.LiveRecord.{entries_text, live_text, lane_lines}
 
 -- one part more is written, and the rest is left
 pub part_written : (before after part rest whole : List ℕ) → before ++ (part ++ rest) ≡ whole → after ≡ before ++ part → after ++ rest ≡ whole
@@ -44,6 +45,10 @@ pub lane_written : (before named after slice told : List ℕ) (lane : ℕ) → n
     → after ≡ before ++ lane_lines (lane, told)
 lane_written before named after slice told lane one two same =
     two ∙ ap (λ front. front ++ slice) one ∙ append_assoc before (lane_text lane) slice ∙ ap (λ last. before ++ (lane_text lane ++ last)) same
+
+-- the last line of a live text
+abbrev end_text : ℕ → Mesh → List ℕ
+end_text n mesh = final_text n (polygon_count mesh.tiles) (link_count mesh)
 
 -- the parts of a live text, where the whole history is published
 pub live_written : (state : BookState) (lanes : List (List ℕ)) (none first second third last : List ℕ) (n m polygons links : ℕ) (entries : List Entry)

@@ -4,7 +4,6 @@ use Rattle.std.specs.List.{enumerate_from}
 use Rattle.nav_ground.specs.declared.history.Entry.{Entry}
 use Rattle.nav_ground.specs.declared.history.Ground.{Ground}
 use Rattle.nav_ground.specs.History.{IsHistory}
-use Rattle.mesh_types.specs.declared.mesh.Mesh.{Mesh}
 use Rattle.mesh_types.specs.Builds.{build_of}
 use Rattle.mesh_types.specs.Soundness.{link_count, polygon_count}
 use Rattle.nav_record.specs.Texts.{history_text, entry_text, lane_text, final_text}
@@ -21,15 +20,13 @@ entries_text history = flat_map (λ (entry : ℕ × Entry). entry_text entry.0 e
 abbrev pub lane_lines : ℕ × List ℕ → List ℕ
 lane_lines lane = lane_text lane.0 ++ lane.1
 
--- the last line: the length of the history, and the counts of the mesh of the ground with the obstacles that all entries leave
-abbrev pub end_text : ℕ → Mesh → List ℕ
-end_text n mesh = final_text n (polygon_count mesh.tiles) (link_count mesh)
-
--- the live text of a history and of what was told of the lanes' lines, the lanes in the order of their numbers
+-- the live text of a history and of what was told of the lanes' lines, the lanes in the order of their numbers. Its last line has the length
+-- of the history, and the counts of the mesh of the ground with the obstacles that all entries leave
 abbrev pub live_text : Ground → List Entry → List (List ℕ) → List ℕ
 live_text whole history told =
     history_text (length history) ++ (entries_text history ++ (flat_map lane_lines (enumerate_from 0 told)
-    ++ end_text (length history) (build_of whole history (length history))))
+    ++ final_text (length history) (polygon_count (build_of whole history (length history)).tiles)
+        (link_count (build_of whole history (length history)))))
 
 -- a run of a live script over a ground may write a text. The history in it is well replied; each lane's lines say what they may, given that
 -- history; and no entry of it is of another lane

@@ -92,8 +92,7 @@ IsSaid state (Submit worker) text = text ≡ step_text (submit_said state.book w
 IsSaid state Publish text = text ≡ step_text (publication_said (publication state.book))
 IsSaid state (Jump jump) text = text ≡ []
 IsSaid state (Hop from from_y to to_y) text = IsHopAnswered state.book state.jumps from from_y to to_y text
-IsSaid state (Send from from_y to to_y) text = ⊥
-IsSaid state (March far) text = ⊥
+IsSaid state _ text = ⊥
 
 -- the state after a line; a `settle` puts back the jobs of the tiles that workers hold with all others, so that no worker holds a tile
 abbrev pub state_after : PlayState → Line → PlayState

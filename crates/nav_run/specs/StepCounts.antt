@@ -34,6 +34,5 @@ HasStepped way input before after = (after ≡ before) ⊎ IsRunStepped way inpu
 -- or they ask for a made input, and no more steps were taken than its play may take
 abbrev pub HasRunStepped : List (String Global) → (left_before left_after : Option (List ℕ)) → (before after : ℕ) → Type 0
 HasRunStepped words left_before left_after before after =
-    (after ≡ before)
-    ⊎ (((read : HasReadInput words left_before left_after) × IsRunStepped read.way read.input before after)
+    (after ≡ before) ⊎ (((read : HasReadInput words left_before left_after) × IsRunStepped read.way read.input before after)
     ⊎ ((gen : IsGen words) × HasRisenAtMost (made_builds gen.number gen.size) before after))
