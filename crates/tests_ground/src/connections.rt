@@ -1,14 +1,14 @@
 //! A small bridge, by hand.
 
-ghost use Rattle.std.specs.Prelude.{◌≡◌, IfOk, length, OnOk};
-ghost use Rattle.nav_ground.specs.Fields.{IsField, AreAreas};
+ghost use Rattle.std.specs.Prelude.{IfOk};
 ghost use Rattle.nav_ground.specs.Cells.{IsCompact};
 
 use crate::checks::same;
 use crate::rows::{CellRow, NO, are_same, check_cells, place};
+use crate::rules::{keeps_rules, small_spans};
 use compact_layer::{CompactField, compact, neighbour};
 use nav_ground::{Agent, Field, Span};
-use nav_list::{Duplicate, Items};
+use nav_list::Duplicate;
 use std::alloc::{AllocError, Global};
 use std::process::Abort;
 
@@ -114,14 +114,11 @@ static ROWS: [CellRow; 9] = [
     ((2, 1, 1), (45, 65535, 63), (NO, NO, NO, NO)),
 ];
 
-fn field(alloc: Global) -> Result<Field, AllocError>
-    ensures rules { IfOk result (λ field. IsField field) }
-    ensures few { IfOk result (λ field. length field.spans ≡ 11) }
-{
+fn field(alloc: Global) -> Result<Field, AllocError> {
     Ok(Field {
         width: 3,
         depth: 2,
-        spans: Items::from_vec(Vec::from_array(alloc, SPANS)?),
+        spans: small_spans(alloc, &SPANS)?,
     })
 }
 
@@ -165,15 +162,17 @@ fn check(rt: &impl Abort, alloc: Global, compact: &CompactField) -> Result<(), A
     check_copy(rt, alloc, compact)
 }
 
-fn connected(alloc: Global) -> Result<CompactField, AllocError>
+fn connected(rt: &impl Abort, alloc: Global) -> Result<CompactField, AllocError>
     ensures { IfOk result (λ compact. IsCompact compact.cells) }
 {
     let field = field(alloc)?;
+    assert!(rt; keeps_rules(&field));
+    assert!(rt; field.spans.len() == BESIDE.len());
     compact(alloc, &field, &BESIDE, &AGENT)
 }
 
 #[test]
 fn bridge(rt: HostRuntime) -> Result<(), AllocError> {
-    let compact = connected(rt.alloc())?;
+    let compact = connected(&rt, rt.alloc())?;
     check(&rt, rt.alloc(), &compact)
 }

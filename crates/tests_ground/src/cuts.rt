@@ -8,7 +8,7 @@ ghost use Rattle.nav_ground.specs.Tiling.{tile_count};
 
 use crate::checks::same;
 use crate::rows::are_same;
-use crate::rules::keeps_rules;
+use crate::rules::{keeps_rules, small};
 use layer_cut::{ground, layer, tile_of};
 use nav_ground::{
     AREAS, Agent, CellRef, Field, Ground, Layer, MeshKind, Setting, SmallCell, Span, TileNo,
@@ -113,15 +113,17 @@ fn field_of(alloc: Global, case: &Case) -> Result<Field, AllocError>
     let mut spans = Vec::new(alloc);
     for i in 0..case.side * case.side {
         let (x, z) = (i % case.side, i / case.side);
-        spans.push(Span {
+        spans.push(small(&Span {
             x,
             z,
             bottom: 0,
             top: 10,
             area: 63,
-        })?;
+        }))?;
         if x == 2 && z == 2 {
-            spans.extend_from_slice(spans_over(case.over))?;
+            for span in spans_over(case.over) {
+                spans.push(small(span))?;
+            }
         }
     }
     Ok(Field {

@@ -1,12 +1,11 @@
 //! Filters by hand, on fields of 3 by 3 columns: the middle one, which alone is not at the edge, and the four beside it.
 
-ghost use Rattle.std.specs.Prelude.{◌≡◌, IfOk, IsTrue, length};
+ghost use Rattle.std.specs.Prelude.{◌≡◌, IsTrue, length};
 ghost use Rattle.nav_ground.specs.Fields.{IsField, AreAreas};
 
 use crate::checks::same;
-use crate::rules::{are_areas, keeps_rules};
+use crate::rules::{are_areas, keeps_rules, small_spans};
 use nav_ground::{Agent, Field, Span};
-use nav_list::Items;
 use span_filters::{filtered, ledges, low_ceilings, low_hanging};
 use std::alloc::{AllocError, Global};
 use std::process::Abort;
@@ -82,13 +81,11 @@ const LOW_ROOF: Span = Span {
     ..STEP
 };
 
-fn field_of(alloc: Global, spans: &[Span]) -> Result<Field, AllocError>
-    ensures { IfOk result (λ field. field.spans ≡ spans.now) }
-{
+fn field_of(alloc: Global, spans: &[Span]) -> Result<Field, AllocError> {
     Ok(Field {
         width: 3,
         depth: 3,
-        spans: Items::from_vec(Vec::from_slice(alloc, spans)?),
+        spans: small_spans(alloc, spans)?,
     })
 }
 

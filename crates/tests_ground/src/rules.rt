@@ -5,7 +5,9 @@ ghost use Rattle.std.specs.List.{list_all};
 ghost use Rattle.nav_ground.specs.Fields.{IsField, AreAreas};
 ghost use Rattle.nav_ground.proofs.Literals;
 
-use nav_ground::{Field, Span};
+use nav_ground::{Field, SmallSpan, Span};
+use nav_list::Items;
+use std::alloc::{AllocError, Global};
 
 /// Whether a field keeps the rules of fields.
 pub(crate) fn keeps_rules(field: &Field) -> bool
@@ -32,7 +34,7 @@ fn both(a: bool, b: bool) -> bool
     a && b
 }
 
-fn are_spans(width: u32, depth: u32, spans: &[Span]) -> bool
+fn are_spans(width: u32, depth: u32, spans: &[SmallSpan]) -> bool
     ensures { result ≡ list_all (Literals.is_span width depth) spans.now }
 {
     match spans {
@@ -41,7 +43,7 @@ fn are_spans(width: u32, depth: u32, spans: &[Span]) -> bool
     }
 }
 
-fn are_after(first: &Span, rest: &[Span]) -> bool
+fn are_after(first: &SmallSpan, rest: &[SmallSpan]) -> bool
     ensures { result ≡ list_all (Literals.is_span_before first.now) rest.now }
 {
     match rest {
@@ -56,17 +58,17 @@ fn is_size(n: u32) -> bool
     1 <= n && n <= 1024
 }
 
-fn is_span(width: u32, depth: u32, span: &Span) -> bool
+fn is_span(width: u32, depth: u32, span: &SmallSpan) -> bool
     ensures { result ≡ Literals.is_span width depth span.now }
 {
-    span.x < width
-        && span.z < depth
-        && span.bottom < span.top
-        && span.top <= 8191
-        && span.area <= 63
+    span.x() < width
+        && span.z() < depth
+        && span.bottom() < span.top()
+        && span.top() <= 8191
+        && span.area() <= 63
 }
 
-fn is_ordered(spans: &[Span]) -> bool
+fn is_ordered(spans: &[SmallSpan]) -> bool
     ensures { result ≡ Literals.is_ordered_by Literals.is_span_before spans.now }
 {
     match spans {
@@ -75,10 +77,11 @@ fn is_ordered(spans: &[Span]) -> bool
     }
 }
 
-fn is_span_before(a: &Span, b: &Span) -> bool
+fn is_span_before(a: &SmallSpan, b: &SmallSpan) -> bool
     ensures { result ≡ Literals.is_span_before a.now b.now }
 {
-    a.z < b.z || (a.z == b.z && (a.x < b.x || (a.x == b.x && a.top <= b.bottom)))
+    a.z() < b.z()
+        || (a.z() == b.z() && (a.x() < b.x() || (a.x() == b.x() && a.top() <= b.bottom())))
 }
 
 /// Whether areas are those of spans.
@@ -95,4 +98,23 @@ fn all_small(areas: &[u32]) -> bool
         [] => true,
         [first, rest @ ..] => both(*first <= 63, all_small(rest)),
     }
+}
+
+/// A span of a test's table, whose numbers are within their limits.
+pub(crate) fn small(span: &Span) -> SmallSpan {
+    SmallSpan::new(&Span {
+        x: span.x.min(1023),
+        z: span.z.min(1023),
+        bottom: span.bottom.min(8191),
+        top: span.top.min(8191),
+        area: span.area.min(63),
+    })
+}
+
+pub(crate) fn small_spans(alloc: Global, spans: &[Span]) -> Result<Items<SmallSpan>, AllocError> {
+    let mut small_ones = Vec::with_capacity(alloc, spans.len())?;
+    for span in spans {
+        small_ones.push(small(span))?;
+    }
+    Ok(Items::from_vec(small_ones))
 }

@@ -5,7 +5,7 @@ use Rattle.std.proofs.lemmas.Bool.{cases_order}
 use Rattle.std.proofs.lemmas.List.Elements.{All-map}
 use Rattle.std.proofs.lemmas.List.FromFn.{get_or-range_with_len, length-range_with_len, length-map-range_with_len}
 use Rattle.nav_ground.specs.declared.field.Span.{Span}
-use Rattle.nav_ground.specs.Fields.{IsField, IsSpan, IsSpanBefore}
+use Rattle.nav_ground.specs.Fields.{IsField, IsSpan, IsSmallSpan, IsSpanBefore}
 use Rattle.nav_ground.proofs.Kept.{AllPairs-map}
 
 -- the span over a column, by the column's number
@@ -23,6 +23,11 @@ span_fits width depth i some there = record {
   top = omega arith;
   area = omega arith;
 }
+
+pub flat_small : (width depth i : ℕ) → 1 ≤ width → width ≤ 1024 → depth ≤ 1024 → i < width * depth → IsSmallSpan (flat_span width i)
+flat_small width depth i some wide far there =
+    let fits = span_fits width depth i some there in
+    record { x = omega (arith, fits.x, wide); z = omega (arith, fits.z, far); bottom = omega arith; top = omega arith; area = omega arith }
 
 in_order : (width i j : ℕ) → 1 ≤ width → i < j → IsSpanBefore (flat_span width i) (flat_span width j)
 in_order width i j some less =

@@ -19,7 +19,7 @@ use nav_base::{FloorAt, Point, Question};
 use nav_book::{Book, HistoryFull, Job, Published, Submitted, TileResult, build_job};
 use nav_ground::{
     AREAS, Agent, Entry, Field, Ground, HISTORY_LIMIT, MeshKind, Reply, Request, Setting, Shape,
-    Span, tiles,
+    SmallSpan, Span, tiles,
 };
 use nav_list::Items;
 use nav_share::Shared;
@@ -85,13 +85,14 @@ pub(crate) fn flat_field(alloc: Global, width: u32, depth: u32) -> Result<Field,
 {
     let mut spans = Vec::new(alloc);
     for i in 0..width * depth {
-        spans.push(Span {
+        let span = Span {
             x: i % width,
             z: i / width,
             bottom: 0,
             top: 10,
             area: 63,
-        })?;
+        };
+        spans.push(SmallSpan::new(&span))?;
     }
     Ok(Field {
         width,

@@ -1,7 +1,6 @@
 use Rattle.std.proofs.Common.{rules, [], ◌∷◌, refl}
 use Rattle.std.proofs.lemmas.List.Elements.{All-nil, All-cons}
 use Rattle.nav_ground.specs.Levels.{IsSmallLevel}
-use Rattle.nav_ground.specs.SmallCells.{IsSmall}
 use Rattle.tests_ground.proofs.rows.cell.Goals as goal
 
 pub returns-clause-small : goal.returns-clause-small
