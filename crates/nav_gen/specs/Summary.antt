@@ -14,5 +14,4 @@ summary_text number size bytes lines totals = text_of (
     ∷ (line_text (codes "paths") (totals.paths ∷ []) ++ line_text (codes " nopath") (totals.nopath ∷ [])
     ++ line_text (codes " nostart") (totals.nostart ∷ []) ++ line_text (codes " nogoal") (totals.nogoal ∷ []))
     ∷ line_text (codes "cost") (totals.cost ∷ [])
-    ∷ line_text (codes "mesh") (totals.polys ∷ totals.links ∷ [])
-    ∷ [])
+    ∷ line_text (codes "mesh") (totals.polys ∷ totals.links ∷ []) ∷ [])

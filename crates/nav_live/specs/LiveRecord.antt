@@ -25,8 +25,7 @@ lane_lines lane = lane_text lane.0 ++ lane.1
 abbrev pub live_text : Ground → List Entry → List (List ℕ) → List ℕ
 live_text whole history told =
     history_text (length history) ++ (entries_text history ++ (flat_map lane_lines (enumerate_from 0 told)
-    ++ final_text (length history) (polygon_count (build_of whole history (length history)).tiles)
-        (link_count (build_of whole history (length history)))))
+    ++ final_text (length history) (polygon_count (build_of whole history (length history)).tiles) (link_count (build_of whole history (length history)))))
 
 -- a run of a live script over a ground may write a text. The history in it is well replied; each lane's lines say what they may, given that
 -- history; and no entry of it is of another lane

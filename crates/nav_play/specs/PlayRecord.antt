@@ -63,15 +63,12 @@ number_answered (Err refused) = 0
 abbrev pub number_got : BookState → Request → ℕ
 number_got book request = number_answered (request_answer book request)
 
--- the numbers of a lane; those of all lanes, with one more for one lane; and the one of the lane's j-th add line, where j is at least 1
-abbrev pub adds_of : List (List ℕ) → ℕ → List ℕ
-adds_of adds lane = get_or adds lane []
-
+-- the numbers of all lanes, with one more for one lane; and the one of a lane's j-th add line, where j is at least 1
 abbrev pub adds_and : List (List ℕ) → ℕ → ℕ → List (List ℕ)
-adds_and adds lane number = slice_set adds lane (adds_of adds lane ++ number ∷ [])
+adds_and adds lane number = slice_set adds lane (get_or adds lane [] ++ number ∷ [])
 
 abbrev pub number_in : List (List ℕ) → ℕ → ℕ → ℕ
-number_in adds lane j = unwrap_or (slice_get (adds_of adds lane) (j - 1)) 0
+number_in adds lane j = unwrap_or (slice_get (get_or adds lane []) (j - 1)) 0
 
 -- the job of the tile that a worker holds
 abbrev pub held_by : PlayState → ℕ → Option Job
