@@ -14,7 +14,6 @@ use Rattle.nav_run.specs.Made.{made_builds}
 use Rattle.nav_run.specs.Outcomes.{HasReadInput}
 use Rattle.nav_run.specs.Words.{IsGen}
 
-
 -- how many steps a run of a script over a field takes at most: a play one for each tile at its beginning, and one for each claim that gives a
 -- tile; a live run one for each tile before its threads and one for each after their join, since each thread counts its own
 abbrev pub builds_for : Way → Setting → Field → Script → ℕ
