@@ -1,6 +1,7 @@
 //! The cells of one column among ordered cells.
 
 ghost use Rattle.std.specs.Prelude.{◌≡◌, ◌++◌, OnOk, map};
+ghost use Rattle.mesh_types.specs.Floors;
 ghost use Rattle.mesh_types.specs.Words.{column_of, floor_of};
 ghost use Rattle.nav_query.specs.Columns.{AreOrdered};
 
