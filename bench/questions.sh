@@ -6,11 +6,11 @@
 # The levels are path_input.py's, or those that GENERATOR writes: a command that takes the columns along a side, the columns along a tile's
 # side, how many obstacles, how many questions and a seed, of whose script the path lines alone are taken.
 # Build the program first: cd crates/navd && rt run -- play < stdin.
-# usage: [LIMIT=6] bench/questions.sh [PEER [GENERATOR]]
+# usage: [LIMIT=1.3] bench/questions.sh [PEER [GENERATOR]]
 set -eu
 here=$(cd "$(dirname "$0")" && pwd)
 navd=${NAVD:-$here/../crates/navd/out/navd}
-limit=${LIMIT:-6}
+limit=${LIMIT:-1.3}
 peer=${1:-}
 generator=${2:-}
 work=$(mktemp -d)
