@@ -1,11 +1,10 @@
 //! Which cells make which strip, by their indices.
 
-ghost use Rattle.std.specs.Prelude.{◌≡◌, ℕ, ◌<◌, ◌≤◌, ◌++◌, ◌==◌, ◌&&◌, IfOk, OnOk, List, map, replicate, length};
-ghost use Rattle.std.specs.List.{position_or_len, range_with_len};
-ghost use Rattle.nav_ground.specs.declared.cell.Cell.{Cell};
-ghost use Rattle.nav_ground.specs.Cells.{IsCut, IsCells, is_naming};
+ghost use Rattle.std.specs.Prelude.{◌≡◌, ◌<◌, ◌++◌, ◌==◌, ◌&&◌, IfOk, OnOk, map, replicate, length};
+ghost use Rattle.std.specs.List.{range_with_len};
+ghost use Rattle.nav_ground.specs.Cells.{IsCut};
 ghost use Rattle.cell_table.specs.Table.{neighbour_table};
-ghost use Rattle.mono_regions.specs.Indices.{cell_at, along, run_at, index_runs, owner_of, IsMarkedWith};
+ghost use Rattle.mono_regions.specs.Indices.{along, run_at, index_runs, owner_of, IsMarkedWith};
 
 use crate::index_lists::IndexLists;
 use nav_ground::SmallCell;
@@ -41,7 +40,7 @@ pub fn strip_index(
     let mut strip = 0;
     for first in 0..cells.len() {
         if owners[first] == none {
-            push_run(&mut order, &mut owners, cells, table, (first, strip))?;
+            push_run(&mut order, &mut owners, cells, table, first, strip)?;
             starts.push(order.len())?;
             strip += 1;
         }
@@ -59,22 +58,22 @@ fn unowned(alloc: Global, count: usize, none: u32) -> Result<Vec<u32>, AllocErro
     Ok(vec![in alloc; none; count]?)
 }
 
-/// Appends the cells of the strip that begins at the first of two numbers, and writes the second at each.
+/// Appends the cells of the strip that begins at a cell, and writes the strip's number at each.
 fn push_run(
     order: &mut Vec<u32>,
     owners: &mut Vec<u32>,
     cells: &[SmallCell],
     table: &[[u32; 4]],
-    strip: (usize, u32),
+    first: usize,
+    number: u32,
 ) -> Result<(), AllocError>
     requires cells { IsCut cells.now }
     requires table { table.now ≡ neighbour_table cells.now }
-    requires there { strip.0 < length cells.now }
+    requires there { first < length cells.now }
     requires owners { length owners.old.items ≡ length cells.now }
-    ensures order { OnOk result (order.new.items ≡ order.old.items ++ run_at cells.now strip.0) }
-    ensures owners { OnOk result (IsMarkedWith (run_at cells.now strip.0) strip.1 owners.old.items owners.new.items) }
+    ensures order { OnOk result (order.new.items ≡ order.old.items ++ run_at cells.now first) }
+    ensures owners { OnOk result (IsMarkedWith (run_at cells.now first) number owners.old.items owners.new.items) }
 {
-    let (first, number) = strip;
     let mut at = first;
     while at < cells.len() {
         order.push(at as u32)?;
