@@ -21,6 +21,10 @@ use nav_ground::{FreeLayer, Setting};
 use nav_list::Items;
 use std::alloc::{AllocError, Global};
 
+/// How many edges a walk has room for at first, a strip: its two ends, and six where it reaches beyond the strips below and above it, which
+/// most strips do by fewer columns.
+const EDGES_A_STRIP: usize = 8;
+
 /// The walk round a stack of strips, from the left end of its first strip's bottom.
 fn walk(alloc: Global, rim: Rim, strips: &[Strip]) -> Result<Vec<UnitEdge>, AllocError>
     requires rim { IsRim rim }
@@ -29,7 +33,7 @@ fn walk(alloc: Global, rim: Rim, strips: &[Strip]) -> Result<Vec<UnitEdge>, Allo
     requires upon { AreUpon strips.now }
     ensures { IfOk result (λ edges. edges.items ≡ round (edge_at rim.entry.table.now.window rim.entry.cells.now rim.entry.regions.now) strips.now) }
 {
-    let mut edges = Vec::with_capacity(alloc, strips.len().saturating_mul(8))?;
+    let mut edges = Vec::with_capacity(alloc, strips.len().saturating_mul(EDGES_A_STRIP))?;
     push_round(&mut edges, rim, strips)?;
     Ok(edges)
 }
