@@ -1,2 +1,3 @@
+pub mod Mutuals
 pub mod Places
 pub mod Tables

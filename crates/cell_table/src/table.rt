@@ -56,7 +56,7 @@ fn indices_named(cells: &[SmallCell], guesses: &mut Guesses, cell: &SmallCell) -
 
 /// The index of the cell that a cell names in a direction, or the number of cells.
 #[inline(always)]
-fn index_named(
+pub fn index_named(
     cells: &[SmallCell],
     guess: &mut usize,
     cell: &SmallCell,

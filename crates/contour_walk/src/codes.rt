@@ -55,7 +55,12 @@ pub fn region_table_over(
     ensures window { IfOk result (λ table. table.window ≡ tile_window setting.now free.now.tile) }
     ensures tables { IfOk result (λ table. IsTableOf free.now.cells regions.now.regions table) }
 {
-    let owners = owners(alloc, free.cells.as_slice(), regions.regions.as_slice())?;
+    let owners = owners(
+        alloc,
+        free.cells.as_slice(),
+        neighbours.as_slice(),
+        regions.regions.as_slice(),
+    )?;
     Ok(RegionTable {
         window: tile_bounds(setting, free.tile),
         neighbours,

@@ -12,10 +12,12 @@ use mesh_types::{Region, Strip};
 use nav_ground::SmallCell;
 use std::alloc::{AllocError, Global};
 
-/// For each cell the number of the first region that holds it, or the number of regions where none does.
+/// For each cell the number of the first region that holds it, or the number of regions where none does. Along the neighbour table the next
+/// cell of a strip is found at once, and mostly the first cell of the next strip too; what is found there is looked at.
 pub fn owners(
     alloc: Global,
     cells: &[SmallCell],
+    table: &[[u32; 4]],
     regions: &[Region],
 ) -> Result<Vec<u32>, AllocError>
     requires cells { IsCells cells.now }
@@ -28,6 +30,7 @@ pub fn owners(
         mark_region(
             owners.as_mut_slice(),
             cells,
+            table,
             regions[number].strips.as_slice(),
             number as u32,
         );
@@ -43,29 +46,79 @@ fn unowned(alloc: Global, count: usize, none: u32) -> Result<Vec<u32>, AllocErro
 }
 
 /// Writes the number of a region at the index of each cell of its strips.
-fn mark_region(owners: &mut [u32], cells: &[SmallCell], strips: &[Strip], number: u32)
+fn mark_region(
+    owners: &mut [u32],
+    cells: &[SmallCell],
+    table: &[[u32; 4]],
+    strips: &[Strip],
+    number: u32,
+)
     requires cells { IsCells cells.now }
     requires same { length owners.old ≡ length cells.now }
     requires fit { All IsFit strips.now }
     ensures { IsMarked (λ at. list_any (is_holding at) strips.now) cells.now number owners.old owners.new }
 {
+    let mut first = 0;
+    let mut from = first_column(strips);
     for k in 0..strips.len() {
-        mark_strip(owners, cells, &strips[k], number);
+        let strip = &strips[k];
+        let guess = over(table, first, from, strip.x0);
+        first = index_of(cells, guess, place_in(strip, strip.x0));
+        from = strip.x0;
+        mark_strip(owners, cells, table, strip, number, first);
     }
 }
 
-/// Writes a number at the index of each cell of a strip.
-fn mark_strip(owners: &mut [u32], cells: &[SmallCell], strip: &Strip, number: u32)
+/// The column at which the first of some strips begins.
+fn first_column(strips: &[Strip]) -> u32 {
+    match strips.first() {
+        Some(strip) => strip.x0,
+        None => 0,
+    }
+}
+
+/// Where a cell of the next row may stand, in the column `to`, from the index of a cell in the column `from`.
+fn over(table: &[[u32; 4]], first: usize, from: u32, to: u32) -> usize {
+    let mut at = first;
+    for _ in from..to {
+        at = next(table, at, 2);
+    }
+    at = next(table, at, 1);
+    for _ in to..from {
+        at = next(table, at, 0);
+    }
+    at
+}
+
+/// The index that a table has at an index and a direction, or the same index.
+fn next(table: &[[u32; 4]], at: usize, dir: usize) -> usize
+    requires { dir < 4 }
+{
+    match table.get(at) {
+        Some(row) => row[dir] as usize,
+        None => at,
+    }
+}
+
+/// Writes a number at the index of each cell of a strip. The first is looked for at a guess first, each other along the table.
+fn mark_strip(
+    owners: &mut [u32],
+    cells: &[SmallCell],
+    table: &[[u32; 4]],
+    strip: &Strip,
+    number: u32,
+    first: usize,
+)
     requires cells { IsCells cells.now }
     requires same { length owners.old ≡ length cells.now }
     requires fit { IsFit strip.now }
     ensures { IsMarked (λ at. is_holding at strip.now) cells.now number owners.old owners.new }
 {
-    let mut guess = 0;
+    let mut guess = first;
     for x in strip.x0..strip.x1 + 1 {
         let index = index_of(cells, guess, place_in(strip, x));
         mark(owners, index, number);
-        guess = index.saturating_add(1);
+        guess = next(table, index, 2);
     }
 }
 

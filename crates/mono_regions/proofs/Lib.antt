@@ -8,6 +8,7 @@ pub mod Named
 pub mod StripLaws
 pub mod Scans
 pub mod Touches
+pub mod Marking
 pub mod JoinLaws
 pub mod Tabled
 pub mod Upon

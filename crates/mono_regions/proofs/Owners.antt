@@ -1,21 +1,21 @@
 -- The first cells of strips, and the strips that hold cells.
 use Rattle.std.proofs.Common.{◌≡◌, ℕ, ◌+◌, ◌-◌, ◌<◌, ◌≤◌, Bool, true, false, length, List, [], ◌∷◌, ◌++◌, map, filter, get_or, ap, ◌∙◌, sym, refl, arith, zero, suc, inl, inr}
-use Rattle.std.specs.Prelude.{◌==◌, ◌||◌, ◌&&◌, nat_lt, not, All}
+use Rattle.std.specs.Prelude.{◌==◌, ◌||◌, nat_lt, not, All}
 use Rattle.std.specs.List.{position_or_len, range_with_len, concat}
 use Rattle.std.proofs.lemmas.Bool.{cases_lt, lt-ltb, le-ltb, ltb-false, cond-true, ne_eqb, eq-eqb, not-true}
 use Rattle.std.proofs.lemmas.List.{get_or_at, get_or_append_left, length-append, length-map, map_push, append-nil}
 use Rattle.std.proofs.lemmas.List.Elements.{All-head, All-tail, All-filter, All-map, filter-append, filter_passes}
 use Rattle.std.proofs.lemmas.List.Folds.{concat-append}
-use Rattle.std.proofs.lemmas.List.FromFn.{get_or-range_with_len, length-range_with_len, get_or-map-range_with_len, map-range_with_len_more}
+use Rattle.std.proofs.lemmas.List.FromFn.{get_or-range_with_len, length-range_with_len}
 use Rattle.std.proofs.lemmas.List.Sums.{position_or_len_is, length-filter, count_by-le-length}
 use Rattle.nav_ground.specs.declared.cell.Cell.{Cell}
-use Rattle.nav_ground.specs.Cells.{IsCut, is_naming}
+use Rattle.nav_ground.specs.Cells.{IsCut}
 use Rattle.cell_table.proofs.Tables.{any_position}
 use Rattle.mesh_types.specs.Strips.{is_followed_by}
 use Rattle.mono_regions.specs.Lists.{starts_of}
 use Rattle.mono_regions.specs.Indices.{cell_at, along, run_at, begins_at, firsts_below, index_runs, has_index, owner_of}
 use Rattle.mono_regions.proofs.Cuts.{one_more_start}
-use Rattle.mono_regions.proofs.Found.{position_same, position_most, passes_next, fails_next}
+use Rattle.mono_regions.proofs.Found.{position_same, passes_next, fails_next}
 use Rattle.mono_regions.proofs.Chains.{along_before, begins_where, followed_back, follows_back}
 use Rattle.mono_regions.proofs.Walks.{held_with, held_alone}
 
@@ -99,7 +99,7 @@ owner_after cells cut p here next =
     position_same (has_index (along cells 2 p)) (has_index p) (index_runs cells) (held_same cells cut p here next)
 
 -- a range in two parts
-range_split : (first m n : ℕ) → range_with_len first (m + n) ≡ range_with_len first m ++ range_with_len (first + m) n
+pub range_split : (first m n : ℕ) → range_with_len first (m + n) ≡ range_with_len first m ++ range_with_len (first + m) n
 range_split first zero n = ap (λ k. range_with_len first k) {x = 0 + n} {y = n} (omega arith) ∙ ap (λ k. range_with_len k n) {x = first} {y = first + 0} (omega arith)
 range_split first (suc m) n =
     ap (λ k. range_with_len first k) {x = suc m + n} {y = suc (m + n)} (omega arith)
@@ -107,7 +107,7 @@ range_split first (suc m) n =
     ∙ ap (λ k. range_with_len first (suc m) ++ range_with_len k n) {x = (first + 1) + m} {y = first + suc m} (omega arith)
 
 -- the first cells before a cell at which a strip begins, that cell, and those after it
-firsts_around : (cells : List Cell) (i : ℕ) → i < length cells → begins_at cells i ≡ true
+pub firsts_around : (cells : List Cell) (i : ℕ) → i < length cells → begins_at cells i ≡ true
     → firsts_below cells (length cells) ≡ firsts_below cells i ++ i ∷ filter (begins_at cells) (range_with_len (i + 1) (length cells - (i + 1)))
 firsts_around cells i there begins =
     ap (λ n. firsts_below cells n) {x = length cells} {y = i + suc (length cells - (i + 1))} (omega (arith, there))
@@ -176,65 +176,3 @@ owner_below cells cut (suc n) i small there =
 
 pub owner_there : (cells : List Cell) → IsCut cells → (i : ℕ) → i < length cells → owner_of cells i < length (index_runs cells)
 owner_there cells cut i there = owner_below cells cut (i + 1) i (omega arith) there
-
--- the owner of one cell more
-pub owner_kept : (cells : List Cell) → IsCut cells → (at before owner : ℕ) (owners : List ℕ) → at < length cells → before ≡ along cells 0 at → before < at
-    → owners ≡ map (owner_of cells) (range_with_len 0 at) → owner ≡ get_or owners before owner
-    → owners ++ owner ∷ [] ≡ map (owner_of cells) (range_with_len 0 (at + 1))
-owner_kept cells cut at before owner owners there is less owners_are owner_is =
-    let inside : along cells 0 at < length cells = omega (arith, is, less, there) in
-    let back = followed_back cells cut at there inside in
-    let next : along cells 2 (along cells 0 at) < length cells = omega (arith, back, there) in
-    let own : owner ≡ owner_of cells at =
-    owner_is ∙ ap (λ xs. get_or xs before owner) owners_are
-    ∙ get_or-map-range_with_len (owner_of cells) 0 at before before owner less (omega arith)
-    ∙ ap (owner_of cells) is
-    ∙ sym (owner_after cells cut (along cells 0 at) inside next)
-    ∙ ap (owner_of cells) back in
-    ap (λ (xs : List ℕ). xs ++ owner ∷ []) owners_are
-    ∙ ap (λ o. map (owner_of cells) (range_with_len 0 at) ++ o ∷ []) own
-    ∙ sym (map-range_with_len_more (owner_of cells) 0 at at (omega arith))
-
-pub owner_new : (cells : List Cell) → IsCut cells → (at before strips : ℕ) (owners : List ℕ) → at < length cells → before ≡ along cells 0 at → at ≤ before
-    → owners ≡ map (owner_of cells) (range_with_len 0 at) → strips ≡ length (firsts_below cells at)
-    → owners ++ strips ∷ [] ≡ map (owner_of cells) (range_with_len 0 (at + 1))
-owner_new cells cut at before strips owners there is past owners_are strips_are =
-    ap (λ (xs : List ℕ). xs ++ strips ∷ []) owners_are
-    ∙ ap (λ o. map (owner_of cells) (range_with_len 0 at) ++ o ∷ []) (strips_are ∙ sym (owner_first cells cut at there (follows_none cells cut at before there is past)))
-    ∙ sym (map-range_with_len_more (owner_of cells) 0 at at (omega arith))
-  where
-    follows_none : (cells : List Cell) → IsCut cells → (at before : ℕ) → at < length cells → before ≡ along cells 0 at → at ≤ before → length cells ≤ along cells 0 at
-    follows_none cells cut at before there is past =
-        elim (cases_lt (along cells 0 at) (length cells)) [
-          | inl inside ↦ absurd (omega (arith, along_before cells cut.rules at there inside, is, past))
-          | inr none ↦ none
-        ]
-
-pub strips_kept : (cells : List Cell) → IsCut cells → (at before strips : ℕ) → at < length cells → before ≡ along cells 0 at → before < at
-    → strips ≡ length (firsts_below cells at) → strips ≡ length (firsts_below cells (at + 1))
-strips_kept cells cut at before strips there is less same =
-    same ∙ ap length (sym (no_first cells at (begins_false cells cut at there (omega (arith, is, less, there)))))
-
-pub strips_more : (cells : List Cell) → IsCut cells → (at before strips : ℕ) → at < length cells → before ≡ along cells 0 at → at ≤ before
-    → strips ≡ length (firsts_below cells at) → strips + 1 ≡ length (firsts_below cells (at + 1))
-strips_more cells cut at before strips there is past same =
-    let none : length cells ≤ along cells 0 at = elim (cases_lt (along cells 0 at) (length cells)) [
-      | inl inside ↦ absurd (omega (arith, along_before cells cut.rules at there inside, is, past))
-      | inr none ↦ none
-    ] in
-    let more = ap length (one_first cells at (begins_true cells cut at there none)) ∙ length-append (firsts_below cells at) (at ∷ []) in
-    omega (arith, more, same)
-
--- what the code's test says
-pub begins_from_equal : (cells : List Cell) → IsCut cells → (i before : ℕ) → i < length cells → before ≡ along cells 0 i → before ≡ length cells
-    → begins_at cells i ≡ true
-begins_from_equal cells cut i before there is none = begins_true cells cut i there (omega (arith, is, none))
-
-pub begins_from_other : (cells : List Cell) → IsCut cells → (i before : ℕ) → i < length cells → before ≡ along cells 0 i → (before ≡ length cells → ⊥)
-    → begins_at cells i ≡ false
-begins_from_other cells cut i before there is some =
-    let most = position_most (λ (other : Cell). is_naming 0 (cell_at cells i) other.at && other.area == (cell_at cells i).area) cells in
-    begins_false cells cut i there (elim (cases_lt (along cells 0 i) (length cells)) [
-      | inl inside ↦ inside
-      | inr past ↦ absurd (some (omega (arith, is, past, most)))
-    ])

@@ -1,5 +1,5 @@
 -- Strips by the indices of their cells.
-use Rattle.std.specs.Prelude.{ℕ, zero, suc, ◌+◌, ◌-◌, ◌<◌, ◌≤◌, nat_lt, ◌==◌, ◌&&◌, Bool, if◌then◌else◌, List, [], ◌∷◌, length, map, filter, slice_index, slice_index_or, All}
+use Rattle.std.specs.Prelude.{◌≡◌, ℕ, zero, suc, ◌+◌, ◌-◌, ◌<◌, ◌≤◌, nat_lt, ◌==◌, ◌&&◌, Bool, if◌then◌else◌, List, [], ◌∷◌, length, map, filter, slice_index, slice_index_or, All}
 use Rattle.std.specs.List.{position_or_len, range_with_len, list_any}
 use Rattle.nav_ground.specs.declared.cell.Cell.{Cell}
 use Rattle.nav_ground.specs.Cells.{is_naming}
@@ -43,6 +43,11 @@ has_index i run = list_any (λ j. j == i) run
 -- the number of the strip that holds the cell with an index
 abbrev pub owner_of : List Cell → ℕ → ℕ
 owner_of cells i = position_or_len (has_index i) (index_runs cells)
+
+-- a number is written at some indices, and elsewhere nothing changes
+pub record IsMarkedWith (run : List ℕ) (number : ℕ) (old new : List ℕ) : Type 0 where
+  pub same : length new ≡ length old
+  pub each : (k : ℕ) → k < length old → slice_index_or new k 0 ≡ (if has_index k run then number else slice_index_or old k 0)
 
 -- indices of cells, at least one
 pub record AreIndices (cells : List Cell) (run : List ℕ) : Type 0 where

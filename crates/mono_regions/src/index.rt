@@ -1,11 +1,11 @@
 //! Which cells make which strip, by their indices.
 
-ghost use Rattle.std.specs.Prelude.{◌≡◌, ℕ, ◌<◌, ◌≤◌, ◌++◌, ◌==◌, ◌&&◌, IfOk, OnOk, List, map, length};
+ghost use Rattle.std.specs.Prelude.{◌≡◌, ℕ, ◌<◌, ◌≤◌, ◌++◌, ◌==◌, ◌&&◌, IfOk, OnOk, List, map, replicate, length};
 ghost use Rattle.std.specs.List.{position_or_len, range_with_len};
 ghost use Rattle.nav_ground.specs.declared.cell.Cell.{Cell};
 ghost use Rattle.nav_ground.specs.Cells.{IsCut, IsCells, is_naming};
 ghost use Rattle.cell_table.specs.Table.{neighbour_table};
-ghost use Rattle.mono_regions.specs.Indices.{cell_at, along, run_at, index_runs, owner_of};
+ghost use Rattle.mono_regions.specs.Indices.{cell_at, along, run_at, index_runs, owner_of, IsMarkedWith};
 
 use crate::index_lists::IndexLists;
 use nav_ground::SmallCell;
@@ -21,7 +21,8 @@ pub struct StripIndex {
     pub owners: Items<u32>,
 }
 
-/// The strips of a list of cells, along its neighbour table.
+/// The strips of a list of cells, along its neighbour table, in the order of their first cells: a cell that stands in no strip before it is
+/// the first of one.
 pub fn strip_index(
     alloc: Global,
     cells: &[SmallCell],
@@ -32,68 +33,55 @@ pub fn strip_index(
     ensures runs { IfOk result (λ index. index.runs ≡ index_runs cells.now) }
     ensures owners { IfOk result (λ index. index.owners ≡ map (owner_of cells.now) (range_with_len 0 (length cells.now))) }
 {
-    let runs = runs(alloc, cells, table)?;
-    let owners = owners(alloc, cells, table)?;
-    Ok(StripIndex { runs, owners })
-}
-
-/// The strips in the order of their first cells. A cell that follows no cell is the first of a strip.
-fn runs(alloc: Global, cells: &[SmallCell], table: &[[u32; 4]]) -> Result<IndexLists, AllocError>
-    requires cells { IsCut cells.now }
-    requires table { table.now ≡ neighbour_table cells.now }
-    ensures { IfOk result (λ runs. runs ≡ index_runs cells.now) }
-{
+    let none = cells.len() as u32;
+    let mut owners = unowned(alloc, cells.len(), none)?;
     let mut order = Vec::with_capacity(alloc, cells.len())?;
     let mut starts = Vec::new(alloc);
     starts.push(0)?;
+    let mut strip = 0;
     for first in 0..cells.len() {
-        if along(cells, table, first, 0) == cells.len() {
-            push_run(&mut order, cells, table, first)?;
+        if owners[first] == none {
+            push_run(&mut order, &mut owners, cells, table, (first, strip))?;
             starts.push(order.len())?;
+            strip += 1;
         }
     }
-    Ok(IndexLists::from_parts(order, starts))
+    Ok(StripIndex {
+        runs: IndexLists::from_parts(order, starts),
+        owners: Items::from_vec(owners),
+    })
 }
 
-/// Appends the cells of the strip that begins at a cell.
+/// So many owners that are none.
+fn unowned(alloc: Global, count: usize, none: u32) -> Result<Vec<u32>, AllocError>
+    ensures { IfOk result (λ owners. owners.items ≡ replicate count none) }
+{
+    Ok(vec![in alloc; none; count]?)
+}
+
+/// Appends the cells of the strip that begins at the first of two numbers, and writes the second at each.
 fn push_run(
     order: &mut Vec<u32>,
+    owners: &mut Vec<u32>,
     cells: &[SmallCell],
     table: &[[u32; 4]],
-    first: usize,
+    strip: (usize, u32),
 ) -> Result<(), AllocError>
     requires cells { IsCut cells.now }
     requires table { table.now ≡ neighbour_table cells.now }
-    requires there { first < length cells.now }
-    ensures { OnOk result (order.new.items ≡ order.old.items ++ run_at cells.now first) }
+    requires there { strip.0 < length cells.now }
+    requires owners { length owners.old.items ≡ length cells.now }
+    ensures order { OnOk result (order.new.items ≡ order.old.items ++ run_at cells.now strip.0) }
+    ensures owners { OnOk result (IsMarkedWith (run_at cells.now strip.0) strip.1 owners.old.items owners.new.items) }
 {
+    let (first, number) = strip;
     let mut at = first;
     while at < cells.len() {
         order.push(at as u32)?;
+        owners[at] = number;
         at = along(cells, table, at, 2);
     }
     Ok(())
-}
-
-/// For each cell the number of its strip: that of the cell that it follows, or a new one.
-fn owners(alloc: Global, cells: &[SmallCell], table: &[[u32; 4]]) -> Result<Items<u32>, AllocError>
-    requires cells { IsCut cells.now }
-    requires table { table.now ≡ neighbour_table cells.now }
-    ensures { IfOk result (λ owners. owners ≡ map (owner_of cells.now) (range_with_len 0 (length cells.now))) }
-{
-    let mut owners = Vec::with_capacity(alloc, cells.len())?;
-    let mut strips = 0;
-    for at in 0..cells.len() {
-        let before = along(cells, table, at, 0);
-        if before < at {
-            let owner = owners[before];
-            owners.push(owner)?;
-        } else {
-            owners.push(strips)?;
-            strips += 1;
-        }
-    }
-    Ok(Items::from_vec(owners))
 }
 
 /// The index of the cell of the same area that a cell names in a direction, or the number of cells where there is none.

@@ -11,7 +11,7 @@ ghost use Rattle.mono_regions.specs.Joining.{IsTableOf, touched_from};
 use crate::index::strip_index;
 use crate::seen::Seen;
 use crate::strip_table::StripTable;
-use cell_table::neighbour_table;
+use cell_table::mutual_table;
 use nav_ground::SmallCell;
 use nav_list::Items;
 use std::alloc::{AllocError, Global};
@@ -21,7 +21,7 @@ pub fn tabled_strips(alloc: Global, cells: &[SmallCell]) -> Result<StripTable, A
     requires { IsCut cells.now }
     ensures { IfOk result (λ strips. IsTableOf cells.now strips) }
 {
-    let table = neighbour_table(alloc, cells)?;
+    let table = mutual_table(alloc, cells)?;
     let index = strip_index(alloc, cells, table.as_slice())?;
     Ok(StripTable {
         table: Items::from_vec(table),

@@ -9,7 +9,7 @@ pub owners-requires-clause-few : goal.owners-requires-clause-few
 owners-requires-clause-few c =
     omega (
       arith,
-      ap length c.as_slice-2.ensures,
+      ap length c.as_slice-3.ensures,
       few_regions c.args.free.now.cells c.requires.cells c.args.regions.now c.requires.regions,
       c.requires.cells.few,
     )
@@ -17,4 +17,4 @@ owners-requires-clause-few c =
 pub owners-requires-clause-fit : goal.owners-requires-clause-fit
 owners-requires-clause-fit c =
     let P : List Region → Type 0 = All (λ (region : Region). All IsFit region.strips) in
-    subst P (sym c.as_slice-2.ensures) (strips_fit c.args.free.now.cells c.requires.cells c.args.regions.now c.requires.regions)
+    subst P (sym c.as_slice-3.ensures) (strips_fit c.args.free.now.cells c.requires.cells c.args.regions.now c.requires.regions)
