@@ -17,7 +17,7 @@ use std::alloc::{AllocError, Global};
 pub(crate) fn twice_round(alloc: Global, edges: &[UnitEdge]) -> Result<Vec<Point>, AllocError>
     ensures { IfOk result (λ corners. corners.items ≡ twice_round edges.now) }
 {
-    let mut corners = Vec::new(alloc);
+    let mut corners = Vec::with_capacity(alloc, edges.len().saturating_add(edges.len()))?;
     push_corners(&mut corners, edges)?;
     push_corners(&mut corners, edges)?;
     Ok(corners)
@@ -44,7 +44,7 @@ pub(crate) fn kept_corners(
     requires stops { AreStops (length round.now) stops.now }
     ensures { IfOk result (λ corners. corners.items ≡ flat_map (left_of_run error round.now) (runs_between stops.now)) }
 {
-    let mut corners = Vec::new(alloc);
+    let mut corners = Vec::with_capacity(alloc, stops.len())?;
     for run in 0..stops.len() - 1 {
         let ends = (stops[run], stops[run + 1]);
         push_run(alloc, &mut corners, round, ends, error)?;

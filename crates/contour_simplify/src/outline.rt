@@ -43,8 +43,8 @@ fn outline(alloc: Global, edges: &[UnitEdge], kept: &[Point]) -> Result<Outline,
     ensures corners { IfOk result (λ outline. outline.corners ≡ beginnings (filter (begins_among kept.now) edges.now)) }
     ensures codes { IfOk result (λ outline. outline.codes ≡ codes_of (filter (begins_among kept.now) edges.now)) }
 {
-    let mut corners = Vec::new(alloc);
-    let mut codes = Vec::new(alloc);
+    let mut corners = Vec::with_capacity(alloc, kept.len())?;
+    let mut codes = Vec::with_capacity(alloc, kept.len())?;
     for edge in edges {
         if is_among(kept, edge.from) {
             push_edge(&mut corners, &mut codes, edge)?;

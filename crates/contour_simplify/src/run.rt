@@ -63,6 +63,9 @@ fn walk(
     requires last { IsCellCorner last }
     ensures { IfOk result (λ kept. kept.items ≡ kept_walking (length inner.now) error first inner.now last) }
 {
+    if inner.is_empty() {
+        return Ok(Vec::new(alloc));
+    }
     let mut kept = Vec::new(alloc);
     let mut halves = Vec::new(alloc);
     halves.push(Half { first, inner, last })?;

@@ -29,7 +29,7 @@ fn walk(alloc: Global, rim: Rim, strips: &[Strip]) -> Result<Vec<UnitEdge>, Allo
     requires upon { AreUpon strips.now }
     ensures { IfOk result (λ edges. edges.items ≡ round (edge_at rim.entry.table.now.window rim.entry.cells.now rim.entry.regions.now) strips.now) }
 {
-    let mut edges = Vec::new(alloc);
+    let mut edges = Vec::with_capacity(alloc, strips.len().saturating_mul(8))?;
     push_round(&mut edges, rim, strips)?;
     Ok(edges)
 }

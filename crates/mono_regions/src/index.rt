@@ -36,7 +36,7 @@ pub fn strip_index(
     let none = cells.len() as u32;
     let mut owners = unowned(alloc, cells.len(), none)?;
     let mut order = Vec::with_capacity(alloc, cells.len())?;
-    let mut starts = Vec::new(alloc);
+    let mut starts = Vec::with_capacity(alloc, cells.len().saturating_add(1))?;
     starts.push(0)?;
     let mut strip = 0;
     for first in 0..cells.len() {

@@ -60,7 +60,7 @@ fn regions_joined(
     requires joined { joined.now ≡ map (joined_from (strip_runs cells.now)) (numbers (strip_runs cells.now)) }
     ensures { IfOk result (λ regions. regions ≡ regions_of cells.now) }
 {
-    let mut regions = Vec::new(alloc);
+    let mut regions = Vec::with_capacity(alloc, joined.len())?;
     for first in 0..joined.len() {
         if is_unjoined(joined, below[first], first as u32) {
             regions.push(region(alloc, cells, strips, joined, first as u32)?)?;

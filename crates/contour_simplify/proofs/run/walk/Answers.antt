@@ -1,8 +1,9 @@
-use Rattle.std.proofs.Common.{List, ◌∷◌, [], ◌++◌, length}
+use Rattle.std.proofs.Common.{List, ◌∷◌, [], ◌++◌, length, ◌∙◌, sym}
+use Rattle.std.proofs.lemmas.Bool.{eqb-true}
 use Rattle.nav_base.specs.declared.point.Point.{Point}
 use Rattle.mesh_types.specs.Simplified.{origin, kept_walking}
 use Rattle.contour_simplify.specs.declared.run.Half.{Half}
-use Rattle.contour_simplify.proofs.Halving.{smaller, less_on_stack, walked_split, walked_straight, parts_corners, rest_of}
+use Rattle.contour_simplify.proofs.Halving.{smaller, less_on_stack, walked_split, walked_straight, parts_corners, rest_of, nothing_kept}
 use Rattle.contour_simplify.proofs.run.walk.Goals as goal
 
 pub loop-half-smaller-in-Continue-branch-2 : goal.loop-half-smaller-in-Continue-branch-2
@@ -36,3 +37,6 @@ loop-half-preserved c =
           (rw c.in-Some.ensures.items at c.loop-half.invariant.told) c.in-None.ensures);
       each = rest_of rest half (rw c.in-Some.ensures.items at c.loop-half.invariant.each);
     }
+
+pub returns-then-is_empty : goal.returns-then-is_empty
+returns-then-is_empty c = c.new.ensures.items ∙ nothing_kept c.args.error c.args.first c.args.inner.now c.args.last (eqb-true _ _ (sym c.is_empty.ensures ∙ c.if-is_empty.true))

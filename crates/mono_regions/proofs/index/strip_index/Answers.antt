@@ -12,7 +12,7 @@ use Rattle.mono_regions.proofs.index.strip_index.Goals.{then-index-none+in_ok-pu
 pub loop-first-init : goal.loop-first-init
 loop-first-init c = record {
   order = c.in_ok-order.ensures.items;
-  starts = c.in_ok-push.ensures.items ∙ ap (λ (xs : List ℕ). xs ++ 0 ∷ []) c.new-starts.ensures.items;
+  starts = c.in_ok-push.ensures.items ∙ ap (λ (xs : List ℕ). xs ++ 0 ∷ []) c.in_ok-starts.ensures.items;
   owners = no_owners c.args.cells.now c.in_ok-owners.owners.items c.in_ok-owners.ensures;
   strip = refl;
 }
