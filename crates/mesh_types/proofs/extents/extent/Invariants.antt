@@ -2,7 +2,7 @@ use Rattle.std.proofs.Common.{◌≡◌, map, take}
 use Rattle.nav_base.specs.declared.point.Point.{Point}
 use Rattle.nav_base.specs.Convex.{corner_at}
 use Rattle.mesh_types.specs.Extents.{least_of, greatest_of}
-use Rattle.mesh_types.proofs.polygons.extent.Given as goal
+use Rattle.mesh_types.proofs.extents.extent.Given as goal
 
 -- the box of the corners so far
 abbrev pub invariant-loop-corner : goal.invariant-loop-corner

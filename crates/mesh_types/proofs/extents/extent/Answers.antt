@@ -4,7 +4,7 @@ use Rattle.std.proofs.lemmas.List.{take_all}
 use Rattle.nav_base.specs.declared.point.Point.{Point}
 use Rattle.mesh_types.specs.Extents.{extent_of}
 use Rattle.mesh_types.proofs.ExtentLaws.{least-more, greatest-more, box}
-use Rattle.mesh_types.proofs.polygons.extent.Goals as goal
+use Rattle.mesh_types.proofs.extents.extent.Goals as goal
 
 pub loop-corner-preserved : goal.loop-corner-preserved
 loop-corner-preserved c =

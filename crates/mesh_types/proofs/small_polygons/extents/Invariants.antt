@@ -1,6 +1,6 @@
 use Rattle.std.proofs.Common.{◌≡◌, map, take}
 use Rattle.mesh_types.specs.Extents.{extent_of}
-use Rattle.mesh_types.proofs.polygons.extents.Given as goal
+use Rattle.mesh_types.proofs.small_polygons.extents.Given as goal
 
 -- the extents of the polygons so far
 abbrev pub invariant-loop-polygon : goal.invariant-loop-polygon
