@@ -4,7 +4,7 @@ ghost use Rattle.std.specs.Prelude.{◌≡◌, ◌<◌, All};
 ghost use Rattle.nav_ground.specs.Limits.{IsShape};
 
 use crate::rows::hold;
-use crate::stored::stored;
+use crate::stored::shared;
 use mesh_types::TileMesh;
 use nav_ground::{AREAS, Agent, Cell, CellRef, Layer, MeshKind, Setting, Shape};
 use nav_list::Items;
@@ -88,7 +88,7 @@ fn built<L: Ledger>(
     let cells = CELLS;
     let layer = Layer {
         tile: 0,
-        cells: stored(alloc, &cells)?,
+        cells: shared(alloc, &cells)?,
         radius: 0,
         wide: Items::new(alloc),
     };
