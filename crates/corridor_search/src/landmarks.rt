@@ -103,8 +103,8 @@ pub(crate) fn are_seen(heights: [u32; LANDMARKS]) -> bool {
     false
 }
 
-/// Landmarks of a mesh; none of which anything is told where heights that were found fail the test. It takes a search of the whole mesh for
-/// each, so they pay where many corridors of one mesh are asked for. Only memory can be refused.
+/// Landmarks of a mesh. It takes a search of the whole mesh for each, so they pay where many corridors of one mesh are asked for. A mesh on
+/// which the heights that are found fail the test gets none, as one some of whose links have no links back. Only memory can be refused.
 pub fn landmarks_of(alloc: Global, mesh: &Mesh) -> Result<Landmarks, AllocError>
     requires sound { IsSound mesh.now }
     requires setting { IsSetting mesh.now.setting }

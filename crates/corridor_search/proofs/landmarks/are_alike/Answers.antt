@@ -1,5 +1,5 @@
 use Rattle.std.proofs.Common.{Bool, sym, ap, get_or, ◌∙◌}
-use Rattle.std.specs.Prelude.{◌&&◌, ◌==◌}
+use Rattle.std.specs.Prelude.{◌&&◌}
 use Rattle.std.specs.Bool.{beq}
 use Rattle.corridor_search.specs.Landmarks.{is_unreached}
 use Rattle.corridor_search.proofs.Alike.{alike-first, alike-more}
