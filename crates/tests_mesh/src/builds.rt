@@ -95,13 +95,13 @@ fn built<L: Ledger>(
     build_tile(alloc, &layer, &SETTING, shapes, steps)
 }
 
-/// How many polygons the tile has.
+/// How many polygons the tile has, if it keeps its free cells over its layer.
 fn count<L: Ledger>(alloc: Global, shapes: &[Shape], steps: &mut Steps<L>) -> Option<usize>
     requires { All IsShape shapes.now }
 {
     match built(alloc, shapes, steps) {
-        Ok(tile) => Some(tile.polys.len()),
-        Err(_) => None,
+        Ok(tile) if tile.free.is_over() => Some(tile.polys.len()),
+        _ => None,
     }
 }
 
