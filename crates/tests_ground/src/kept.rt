@@ -82,11 +82,12 @@ fn check_column(
     rt: &impl Abort,
     alloc: Global,
     kept: &KeptLayer,
-    (x, z): (u32, u32),
+    at: (u32, u32),
     wanted: &[CellRow],
 ) -> Result<(), AllocError>
     requires { AreOrdered kept.now.cells }
 {
+    let (x, z) = at;
     let column = kept.column(alloc, x, z)?;
     let rows = wanted
         .iter()
