@@ -66,7 +66,7 @@ impl KeptLayer {
         }
     }
 
-    /// Whether they are kept over the cells of a layer, and not as a list of their own.
+    /// Whether they are kept over the cells of a layer, and not as a list of their own; contracts do not see it.
     pub fn is_over(&self) -> bool {
         match &self.cells {
             KeptCells::Own(_) => false,

@@ -1,6 +1,6 @@
 //! The free cells of a tile as marks beside the cells of its layer.
 
-ghost use Rattle.std.specs.Prelude.{◌≡◌, ◌≤◌, ◌++◌, [], length, take, filter, IfOk, IfSome, IsTrue};
+ghost use Rattle.std.specs.Prelude.{◌≡◌, ◌≤◌, ◌++◌, [], length, take, filter, IfOk, IfSome};
 ghost use Rattle.std.specs.List.{cons_option};
 ghost use Rattle.nav_ground.specs.CellColumns.{AreOrdered, is_in_column};
 ghost use Rattle.nav_ground.specs.Marks.{AreLeft, cell_left, cells_left};
@@ -86,7 +86,7 @@ fn left(alloc: Global, marks: &[Mark], cells: &[SmallCell]) -> Result<Vec<SmallC
     requires { length marks.now ≡ length cells.now }
     ensures { IfOk result (λ left. left.items ≡ cells_left marks.now cells.now) }
 {
-    let mut left = Vec::new(alloc);
+    let mut left = Vec::with_capacity(alloc, cells.len())?;
     for (i, cell) in cells.iter().enumerate() {
         let mark = marks[i];
         if mark.area != 0 {

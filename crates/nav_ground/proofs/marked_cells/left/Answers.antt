@@ -1,4 +1,4 @@
-use Rattle.std.proofs.Common.{◌≡◌, ◌∙◌, ap}
+use Rattle.std.proofs.Common.{◌∙◌, ap}
 use Rattle.nav_ground.specs.declared.mark.Mark.{Mark}
 use Rattle.nav_ground.proofs.MarkLaws.{left_kept, left_lost}
 use Rattle.nav_ground.proofs.marked_cells.left.Goals as goal
