@@ -3,12 +3,12 @@
 # 4096 and 16384 tiles, 4000 settles of one block in a tile without cells: what the history, the desk and the publishing take. A floor: 512 by
 # 512 columns in 1024 tiles, 20000 settles of one block of 4 by 4, beside a peer if one is given, a command that plays the same input. Each is
 # the least processor time of three runs, less that of the level without a settle; microseconds a settle. Fails where an empty tile takes more
-# than 60 microseconds at 1024 tiles, or the floor more than LIMIT times the peer's.
+# than 20 microseconds at 1024 tiles or 30 at 16384, or the floor more than LIMIT times the peer's.
 # Build the program first: cd crates/navd && rt run -- play < stdin.
-# usage: [LIMIT=4] bench/publish.sh [PEER]
+# usage: [LIMIT=1.0] bench/publish.sh [PEER]
 set -eu
 navd=${NAVD:-$(cd "$(dirname "$0")" && pwd)/../crates/navd/out/navd}
-limit=${LIMIT:-4}
+limit=${LIMIT:-1.0}
 peer=${1:-}
 work=$(mktemp -d)
 trap 'rm -rf "$work"' EXIT
@@ -54,7 +54,8 @@ for tile in 128 32 16 8; do
     timed_level 1024 $tile one 4000 ""
     own=$(each own 4000)
     echo "an empty tile of $((1024 / tile * 1024 / tile)): $own us a settle"
-    [ $tile -ne 32 ] || echo "$own" | awk '{ exit !($1 <= 60) }' || status=1
+    case $tile in 32) most=20 ;; 8) most=30 ;; *) continue ;; esac
+    echo "$own $most" | awk '{ exit !($1 <= $2) }' || status=1
 done
 timed_level 512 16 floor 20000 "$peer"
 own=$(each own 20000)

@@ -31,7 +31,7 @@ use crate::rim::door_rim;
 use contour_walk::{RegionTable, Rim, region_table_over};
 use mesh_types::{Door, Links, Part, Polygons, Regions, RimEdge, TileMesh};
 use mono_regions::{StripIndex, StripTable, regions_over, tabled_strips};
-use nav_ground::{FreeLayer, Setting, TileNo};
+use nav_ground::{FreeLayer, KeptLayer, Setting, TileNo};
 use nav_list::Items;
 use std::alloc::{AllocError, Global};
 
@@ -159,7 +159,7 @@ fn mesh(
     let WaysOut { links, rim } = part_ways(alloc, source, parts, free.tile, count)?;
     Ok(TileMesh {
         tile: free.tile,
-        free,
+        free: KeptLayer::own(free),
         polys,
         links,
         rim,

@@ -11,13 +11,13 @@ use Rattle.mesh_types.specs.declared.mesh.Mesh.{Mesh}
 use Rattle.mesh_types.specs.Corridors.{IsLinkOf}
 use Rattle.corridor_search.specs.Islands.{inner_of, outer_of}
 
-module _ (P : Link → Type 0) where
+module _ {X : Type 0} (P : X → Type 0) where
   -- one element of a list more
-  pub one-link-more : (links : List Link) (n : ℕ) (e : Link) → n < length links → ((k : ℕ) (d : Link) → k < n → P (get_or links k d)) → P (get_or links n e)
-      → (k : ℕ) (d : Link) → k < n + 1 → P (get_or links k d)
-  one-link-more links n e there before here k d below =
+  pub one-more : (xs : List X) (n : ℕ) (e : X) → n < length xs → ((k : ℕ) (d : X) → k < n → P (get_or xs k d)) → P (get_or xs n e)
+      → (k : ℕ) (d : X) → k < n + 1 → P (get_or xs k d)
+  one-more xs n e there before here k d below =
       elim (cases_eq k n) [
-        | inl is ↦ subst (λ (m : ℕ). P (get_or links m d)) (sym is) (subst P (get_or_default links n e d there) here)
+        | inl is ↦ subst (λ (m : ℕ). P (get_or xs m d)) (sym is) (subst P (get_or_default xs n e d there) here)
         | inr differ ↦ before k d (omega (arith, below, differ))
       ]
 

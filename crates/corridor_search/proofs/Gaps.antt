@@ -1,6 +1,7 @@
 -- Gaps between heights: they keep the triangle's rule, and so an estimate by landmarks falls along a link by no more than it weighs.
 use Rattle.std.proofs.Common.{◌≡◌, ℕ, zero, suc, ◌<◌, ◌≤◌, ◌+◌, min, max, List, [], length, get_or, refl, sym, subst, ap, ◌∙◌, arith, inl, inr}
 use Rattle.std.specs.Prelude.{All, Option, Some, None, slice_get, slice_index_or}
+use Rattle.std.specs.Int.{abs_diff}
 use Rattle.std.specs.Option.{option_map_or}
 use Rattle.std.proofs.lemmas.Nat.{mul-le}
 use Rattle.std.proofs.lemmas.Option.{slice_get_within, get_or_from_slice_get}
@@ -16,9 +17,10 @@ use Rattle.graph_search.specs.declared.arcs.Vertex.{Vertex}
 use Rattle.graph_search.specs.Walks.{IsSearchable}
 use Rattle.corridor_search.specs.MeshGraphs.{vertex_of, polygon_of, vertices_of, arcs_from, estimates_of}
 use Rattle.corridor_search.specs.Islands.{inner_of, outer_of}
-use Rattle.corridor_search.specs.Landmarks.{Heights, flat, heights_at, apart, gap_of, AreLandmarks, estimates_by, IsSearchedBy}
+use Rattle.corridor_search.specs.Landmarks.{Heights, flat, heights_at, gap_of, AreLandmarks, estimates_by, IsSearchedBy}
 use Rattle.corridor_search.proofs.Sound.{tile-fit, tile-number, leads}
 use Rattle.corridor_search.proofs.LinkWeights.{estimate-falls, estimate-most}
+use Rattle.corridor_search.proofs.Alike.{alike-same}
 use Rattle.corridor_search.proofs.Searchable.{searchable, each-arc, vertices-few}
 
 -- the triangle's rule
@@ -28,7 +30,7 @@ gap-triangle zero xs ys zs = omega arith
 gap-triangle (suc n) xs ys zs =
     step (gap_of n xs zs) (gap_of n xs ys) (gap_of n ys zs) (slice_index_or xs n 0) (slice_index_or ys n 0) (slice_index_or zs n 0) (gap-triangle n xs ys zs)
   where
-    step : (p q r a b c : ℕ) → p ≤ q + r → max p (apart a c) ≤ max q (apart a b) + max r (apart b c)
+    step : (p q r a b c : ℕ) → p ≤ q + r → max p (abs_diff a c) ≤ max q (abs_diff a b) + max r (abs_diff b c)
     step p q r a b c h = omega (arith, h)
 
 -- heights do not differ from themselves
@@ -37,15 +39,15 @@ unfolding gap_of
 gap-same zero xs = refl
 gap-same (suc n) xs = none (gap_of n xs xs) (slice_index_or xs n 0) (gap-same n xs)
   where
-    none : (p a : ℕ) → p ≡ 0 → max p (apart a a) ≡ 0
+    none : (p a : ℕ) → p ≡ 0 → max p (abs_diff a a) ≡ 0
     none p a h = omega (arith, h)
 
 -- one landmark more
-gap-next : (n : ℕ) (xs ys : List ℕ) → gap_of (suc n) xs ys ≡ max (gap_of n xs ys) (apart (slice_index_or xs n 0) (slice_index_or ys n 0))
+gap-next : (n : ℕ) (xs ys : List ℕ) → gap_of (suc n) xs ys ≡ max (gap_of n xs ys) (abs_diff (slice_index_or xs n 0) (slice_index_or ys n 0))
 unfolding gap_of
 gap-next n xs ys = refl
 
-pub gap-more : (n : ℕ) (xs ys : List ℕ) → gap_of (n + 1) xs ys ≡ max (gap_of n xs ys) (apart (slice_index_or xs n 0) (slice_index_or ys n 0))
+pub gap-more : (n : ℕ) (xs ys : List ℕ) → gap_of (n + 1) xs ys ≡ max (gap_of n xs ys) (abs_diff (slice_index_or xs n 0) (slice_index_or ys n 0))
 gap-more n xs ys =
     let is : n + 1 ≡ suc n = omega arith in
     ap (λ (m : ℕ). gap_of m xs ys) is ∙ gap-next n xs ys
@@ -60,7 +62,10 @@ nowhere_in t d = refl
 
 pub no-landmarks : (mesh : Mesh) (marks : Heights) → marks ≡ [] → AreLandmarks mesh marks
 no-landmarks mesh marks none = subst (AreLandmarks mesh) (sym none) (record {
-  each = λ link of_mesh. record { gap = subst (λ (n : ℕ). n ≤ weight_of mesh link) (sym (level link)) (omega arith) };
+  each = λ link of_mesh. record {
+    gap = subst (λ (n : ℕ). n ≤ weight_of mesh link) (sym (level link)) (omega arith);
+    alike = alike-same 8 flat;
+  };
 })
   where
     level : (link : Link) → gap_of 8 (heights_at [] link.from) (heights_at [] link.to) ≡ 0

@@ -6,6 +6,8 @@ pub mod LinkWeights
 pub mod Searchable
 pub mod MeshWalks
 pub mod Extents
-pub mod LeftAlone
 pub mod EachLink
+pub mod LeftAlone
+pub mod Alike
+pub mod Beside
 pub mod Gaps

@@ -111,14 +111,14 @@ estimate-most mesh goal at sound in_field = by_polygon (poly_at mesh at) refl
         ceil_sqrt_of-at_most (square_of (from_to (centre_of polygon.corners) goal)) 23171 (omega (arith, square))
 
 -- a point in the box of a polygon, in sixteenths
-record IsInBox (polygon : Polygon) (p : Point) : Type 0 where
+pub record IsInBox (polygon : Polygon) (p : Point) : Type 0 where
   pub left : (pos 16 *ℤ low (λ q. q.x) polygon.corners) ≤ℤ p.x
   pub right : p.x ≤ℤ (pos 16 *ℤ high (λ q. q.x) polygon.corners)
   pub bottom : (pos 16 *ℤ low (λ q. q.z) polygon.corners) ≤ℤ p.z
   pub top : p.z ≤ℤ (pos 16 *ℤ high (λ q. q.z) polygon.corners)
 
 -- a point on an edge lies in the box
-edge_in_box : (polygon : Polygon) (edge : ℕ) (p : Point) → edge < length polygon.corners → IsOn (edge_begin polygon edge) (edge_end polygon edge) p → IsInBox polygon p
+pub edge_in_box : (polygon : Polygon) (edge : ℕ) (p : Point) → edge < length polygon.corners → IsOn (edge_begin polygon edge) (edge_end polygon edge) p → IsInBox polygon p
 edge_in_box polygon edge p there on = record {
   left = on_above_x _ _ p on _ (scaled_le _ _ (low-corner (λ q. q.x) polygon.corners edge there)) (scaled_le _ _ (low-corner (λ q. q.x) polygon.corners next next_there));
   right = on_below_x _ _ p on _ (scaled_le _ _ (high-corner (λ q. q.x) polygon.corners edge there)) (scaled_le _ _ (high-corner (λ q. q.x) polygon.corners next next_there));

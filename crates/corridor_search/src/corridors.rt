@@ -1,16 +1,16 @@
 //! The cheapest corridor between two polygons.
 
-ghost use Rattle.std.specs.Prelude.{◌≡◌, ◌<◌, ◌^◌, IfOk, IfSome, IfNone, All, map, length};
-ghost use Rattle.std.specs.Option.{option_copied};
+ghost use Rattle.std.specs.Prelude.{◌≡◌, ◌<◌, ◌^◌, true, IfOk, IfSome, IfNone, All, map, length};
+ghost use Rattle.std.specs.Option.{option_copied, option_map_or};
 ghost use Rattle.nav_ground.specs.Limits.{IsSetting};
 ghost use Rattle.mesh_types.specs.Soundness.{IsSound};
 ghost use Rattle.mesh_types.specs.Corridors.{IsCheapest};
 ghost use Rattle.graph_search.specs.declared.arcs.Step.{Step};
 ghost use Rattle.corridor_search.specs.MeshGraphs.{IsThere, IsApart, IsOver, link_of};
-ghost use Rattle.corridor_search.specs.Landmarks.{AreLandmarks};
+ghost use Rattle.corridor_search.specs.Landmarks.{Heights, flat, heights_at, AreLandmarks};
 
 use crate::islands::is_cut_off;
-use crate::landmarks::{FLAT, LANDMARKS, Landmarks};
+use crate::landmarks::{FLAT, LANDMARKS, Landmarks, are_alike, are_seen};
 use crate::mesh_graph::{MeshGraph, link_at, vertex_at};
 use crate::weights::{extent_at, middle};
 use graph_search::{Step, cheapest_walk};
@@ -56,7 +56,7 @@ pub fn cheapest_by(
     ensures none { IfOk result (λ answer. IfNone answer (IsApart mesh.now from to)) }
     ensures few { IfOk result (λ answer. IfSome answer (λ corridor. corridor.cost < 2 ^ 45)) }
 {
-    if is_cut_off(alloc, mesh, from, to)? {
+    if is_seen_apart(alloc, mesh, landmarks, from, to)? {
         return Ok(None);
     }
     let goal = middle(extent_at(mesh, to));
@@ -77,8 +77,35 @@ pub fn cheapest_by(
     }
 }
 
-/// The heights of a polygon over landmarks.
-fn heights_of(landmarks: Option<&Landmarks>, at: PolyRef) -> [u32; LANDMARKS] {
+/// Whether it is seen before a search that no walk joins two polygons: a landmark reaches one of them alone, or the second stands on a small
+/// island. Where one is seen to reach both, no island is looked for.
+fn is_seen_apart(
+    alloc: Global,
+    mesh: &Mesh,
+    landmarks: Option<&Landmarks>,
+    from: PolyRef,
+    to: PolyRef,
+) -> Result<bool, AllocError>
+    requires sound { IsSound mesh.now }
+    requires setting { IsSetting mesh.now.setting }
+    requires landmarks { IfSome (option_copied landmarks) (AreLandmarks mesh.now) }
+    ensures { IfOk result (λ apart. apart ≡ true → IsApart mesh.now from to) }
+{
+    let heights = heights_of(landmarks, from);
+    let others = heights_of(landmarks, to);
+    if !are_alike(heights, others) {
+        return Ok(true);
+    }
+    if are_seen(others) {
+        return Ok(false);
+    }
+    is_cut_off(alloc, mesh, from, to)
+}
+
+/// The heights of a polygon over landmarks, where there are some.
+fn heights_of(landmarks: Option<&Landmarks>, at: PolyRef) -> [u32; LANDMARKS]
+    ensures { result ≡ option_map_or (λ (marks : Heights). heights_at marks at) (option_copied landmarks.entry) flat }
+{
     match landmarks {
         Some(marks) => marks.heights(at),
         None => FLAT,

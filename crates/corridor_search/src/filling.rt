@@ -2,7 +2,7 @@
 
 ghost use Rattle.std.specs.Prelude.{◌<◌};
 
-use crate::landmarks::LANDMARKS;
+use crate::landmarks::{LANDMARKS, UNREACHED};
 use crate::ring::Ring;
 use crate::ways::{Ways, number_at};
 use mesh_types::Mesh;
@@ -63,7 +63,7 @@ fn level(alloc: Global, mesh: &Mesh) -> Result<Vec<Vec<[u32; LANDMARKS]>>, Alloc
 #[derive(Drop)]
 struct Search {
     ring: Ring,
-    /// By number: the height over the last landmark; `u32::MAX` where no walk leads there.
+    /// By number: the height over the last landmark; `UNREACHED` where no walk leads there, and less elsewhere.
     heights: Vec<u32>,
     /// By number: the least height over the landmarks so far.
     nearest: Vec<u32>,
@@ -74,8 +74,8 @@ impl Search {
         let count = ways.polygons();
         Ok(Search {
             ring: Ring::new(alloc, ways.heaviest())?,
-            heights: vec![in alloc; u32::MAX; count]?,
-            nearest: vec![in alloc; u32::MAX; count]?,
+            heights: vec![in alloc; UNREACHED; count]?,
+            nearest: vec![in alloc; UNREACHED; count]?,
         })
     }
 
@@ -96,8 +96,11 @@ impl Search {
     /// Finds the heights of all polygons over one.
     fn measure(&mut self, alloc: Global, ways: &Ways, landmark: u32) -> Result<(), AllocError> {
         self.heights.clear();
-        self.heights.resize(ways.polygons(), u32::MAX)?;
-        set(self.heights.as_mut_slice(), landmark, 0);
+        self.heights.resize(ways.polygons(), UNREACHED)?;
+        let place = landmark as usize;
+        if place < self.heights.len() {
+            self.heights[place] = 0;
+        }
         self.ring.begin(landmark)?;
         for _round in 0..ROUNDS {
             let Some(list) = self.ring.take(alloc) else {
@@ -118,9 +121,10 @@ impl Search {
             return Ok(());
         }
         for way in ways.from(number) {
-            let through = height.saturating_add(way.weight);
-            if through < number_at(self.heights.as_slice(), way.to as usize) {
-                set(self.heights.as_mut_slice(), way.to, through);
+            let through = height.saturating_add(way.weight).min(UNREACHED - 1);
+            let to = way.to as usize;
+            if to < self.heights.len() && through < self.heights[to] {
+                self.heights[to] = through;
                 self.ring.push(through, way.to)?;
             }
         }
@@ -128,24 +132,16 @@ impl Search {
     }
 }
 
-/// Writes a number at a place, where there is one.
-fn set(numbers: &mut [u32], place: u32, number: u32) {
-    let place = place as usize;
-    if place < numbers.len() {
-        numbers[place] = number;
-    }
-}
-
 /// How many polygons are reached.
 fn reached(heights: &[u32]) -> usize {
-    heights.iter().filter(|height| **height < u32::MAX).count()
+    heights.iter().filter(|height| **height < UNREACHED).count()
 }
 
 /// The next polygon after one that is not reached; that one where there is none.
 fn unreached_after(heights: &[u32], start: u32) -> u32 {
     let mut number = 0u32;
     for height in heights {
-        if start < number && *height == u32::MAX {
+        if start < number && *height == UNREACHED {
             return number;
         }
         number = number.wrapping_add(1);
@@ -159,7 +155,7 @@ fn farthest(heights: &[u32]) -> Option<u32> {
     let mut greatest = 0;
     let mut number = 0u32;
     for height in heights {
-        if greatest < *height && *height < u32::MAX {
+        if greatest < *height && *height < UNREACHED {
             greatest = *height;
             found = Some(number);
         }
@@ -187,13 +183,11 @@ fn write(tiles: &mut [Vec<[u32; LANDMARKS]>], column: usize, heights: &[u32])
     requires { column < 8 }
 {
     let mut first = 0usize;
-    for tile in 0..tiles.len() {
-        let count = tiles[tile].len();
-        for place in 0..count {
-            if place < tiles[tile].len() {
-                tiles[tile][place][column] = number_at(heights, first.wrapping_add(place));
-            }
+    for rows in tiles {
+        let rows = rows.as_mut_slice();
+        for place in 0..rows.len() {
+            rows[place][column] = number_at(heights, first.wrapping_add(place));
         }
-        first = first.wrapping_add(count);
+        first = first.wrapping_add(rows.len());
     }
 }

@@ -1,9 +1,10 @@
 //! Islands around goals: where a goal stands on a small one that no link leads to, no walk leads there.
 
-ghost use Rattle.std.specs.Prelude.{◌≡◌, ◌≤◌, true, false, ℕ, Contains, All, IfOk};
+ghost use Rattle.std.specs.Prelude.{◌≡◌, true, false, ℕ, Contains, All, IfOk, OnOk};
+ghost use Rattle.nav_ground.specs.Limits.{IsSetting};
 ghost use Rattle.mesh_types.specs.Soundness.{IsSound};
 ghost use Rattle.corridor_search.specs.MeshGraphs.{IsApart};
-ghost use Rattle.corridor_search.specs.Islands.{inner_of, outer_of, IsFromInside, IsLeftAlone, IsReached};
+ghost use Rattle.corridor_search.specs.Islands.{inner_of, outer_of, IsFromInside, IsLeftAlone, IsReached, AreFar};
 
 use crate::mesh_graph::{entered_inside, entered_outside};
 use mesh_types::{Link, Mesh, PolyRef};
@@ -20,7 +21,8 @@ pub(crate) fn is_cut_off(
     from: PolyRef,
     to: PolyRef,
 ) -> Result<bool, AllocError>
-    requires { IsSound mesh.now }
+    requires sound { IsSound mesh.now }
+    requires setting { IsSetting mesh.now.setting }
     ensures { IfOk result (λ apart. apart ≡ true → IsApart mesh.now from to) }
 {
     let island = island_of(alloc, mesh, from, to)?;
@@ -28,7 +30,8 @@ pub(crate) fn is_cut_off(
     if island.len() > MOST || !has(island, to) || has(island, from) {
         return Ok(false);
     }
-    Ok(is_left_alone(mesh, island))
+    let tiles = tiles_of(alloc, island)?;
+    Ok(is_left_alone(mesh, island, tiles.as_slice()))
 }
 
 /// The polygons that links lead to from the goal, the nearest first; some of them where they are more than `MOST`, or where the start is met.
@@ -76,49 +79,100 @@ fn has(island: &[PolyRef], at: PolyRef) -> bool
     false
 }
 
-/// Whether each link that leads to a polygon of an island leaves one.
-fn is_left_alone(mesh: &Mesh, island: &[PolyRef]) -> bool
-    requires { IsSound mesh.now }
+/// Whether each link that leads to a polygon of an island leaves one. The tiles in which the island has polygons are among those given.
+fn is_left_alone(mesh: &Mesh, island: &[PolyRef], tiles: &[u32]) -> bool
+    requires sound { IsSound mesh.now }
+    requires setting { IsSetting mesh.now.setting }
+    requires reach { All (IsReached tiles.now) island.now }
     ensures { result ≡ true → IsLeftAlone mesh.now island.now }
 {
-    let reach = reach_of(island);
-    are_inner_alone(mesh, island, reach) && are_outer_alone(mesh, island, reach)
+    are_inner_alone(mesh, island, tiles) && are_outer_alone(mesh, island, tiles)
 }
 
-/// Whether that holds of the links inside tiles. No link inside a tile that the island does not reach leads to it.
-fn are_inner_alone(mesh: &Mesh, island: &[PolyRef], reach: Reach) -> bool
+/// The tiles in which an island has polygons.
+fn tiles_of(alloc: Global, island: &[PolyRef]) -> Result<Vec<u32>, AllocError>
+    ensures { IfOk result (λ tiles. All (IsReached tiles.items) island.now) }
+{
+    let mut tiles = Vec::new(alloc);
+    for at in island {
+        add_tile(&mut tiles, at.tile)?;
+    }
+    Ok(tiles)
+}
+
+/// Adds a tile to some, where it is none of them.
+fn add_tile(tiles: &mut Vec<u32>, tile: u32) -> Result<(), AllocError>
+    ensures there { OnOk result (Contains tiles.new.items tile) }
+    ensures kept { OnOk result ((t : ℕ) → Contains tiles.old.items t → Contains tiles.new.items t) }
+{
+    if !has_tile(tiles.as_slice(), tile as usize) {
+        tiles.push(tile)?;
+    }
+    Ok(())
+}
+
+/// Whether a tile is one of some.
+fn has_tile(tiles: &[u32], tile: usize) -> bool
+    ensures there { result ≡ true → Contains tiles.now tile }
+    ensures not { result ≡ false → Contains tiles.now tile → ⊥ }
+{
+    for other in tiles {
+        if *other as usize == tile {
+            return true;
+        }
+    }
+    false
+}
+
+/// Whether that holds of the links inside tiles. No link inside a tile in which the island has no polygon leads to it.
+fn are_inner_alone(mesh: &Mesh, island: &[PolyRef], tiles: &[u32]) -> bool
     requires sound { IsSound mesh.now }
-    requires reach { All (IsReached reach) island.now }
+    requires reach { All (IsReached tiles.now) island.now }
     ensures { result ≡ true → (t : ℕ) → All (IsFromInside island.now) (inner_of mesh.now t) }
 {
     for tile in 0..mesh.tiles.len() {
-        if is_within(reach, tile) && !are_alone(island, reach, inner_of(mesh, tile)) {
+        if has_tile(tiles, tile) && !are_alone(island, tiles, inner_of(mesh, tile)) {
             return false;
         }
     }
     true
 }
 
-/// Whether it holds of the links over the borders of tiles.
-fn are_outer_alone(mesh: &Mesh, island: &[PolyRef], reach: Reach) -> bool
-    requires reach { All (IsReached reach) island.now }
+/// Whether it holds of the links over the borders of tiles. They lead to tiles whose squares touch: in the same row of tiles, or the next.
+fn are_outer_alone(mesh: &Mesh, island: &[PolyRef], tiles: &[u32]) -> bool
+    requires sound { IsSound mesh.now }
+    requires setting { IsSetting mesh.now.setting }
+    requires reach { All (IsReached tiles.now) island.now }
     ensures { result ≡ true → (t : ℕ) → All (IsFromInside island.now) (outer_of mesh.now t) }
 {
+    let row = mesh.setting.width.div_ceil(mesh.setting.tile);
     for tile in 0..mesh.cross.len() {
-        if !are_alone(island, reach, outer_of(mesh, tile)) {
+        if is_beside(tiles, tile, row) && !are_alone(island, tiles, outer_of(mesh, tile)) {
             return false;
         }
     }
     true
+}
+
+/// Whether the numbers of a tile and of one of some tiles differ by no more than one more than given.
+fn is_beside(tiles: &[u32], tile: usize, row: u32) -> bool
+    ensures { result ≡ false → All (AreFar row tile) tiles.now }
+{
+    for other in tiles {
+        if tile.abs_diff(*other as usize) <= row as usize + 1 {
+            return true;
+        }
+    }
+    false
 }
 
 /// Whether it holds of some links.
-fn are_alone(island: &[PolyRef], reach: Reach, links: &[Link]) -> bool
-    requires { All (IsReached reach) island.now }
+fn are_alone(island: &[PolyRef], tiles: &[u32], links: &[Link]) -> bool
+    requires { All (IsReached tiles.now) island.now }
     ensures { result ≡ true → All (IsFromInside island.now) links.now }
 {
     for link in links {
-        if is_within(reach, link.to.tile as usize)
+        if has_tile(tiles, link.to.tile as usize)
             && has(island, link.to)
             && !has(island, link.from)
         {
@@ -146,31 +200,4 @@ pub(crate) fn outer_of(mesh: &Mesh, tile: usize) -> &[Link]
         Some(links) => links.get().as_slice(),
         None => &[],
     }
-}
-
-/// The first and the last tile in which an island has polygons.
-#[derive(Clone, Copy)]
-struct Reach {
-    first: u32,
-    last: u32,
-}
-
-/// The reach of an island.
-fn reach_of(island: &[PolyRef]) -> Reach
-    ensures { All (IsReached result) island.now }
-{
-    let mut first = u32::MAX;
-    let mut last = 0;
-    for at in island {
-        first = first.min(at.tile);
-        last = last.max(at.tile);
-    }
-    Reach { first, last }
-}
-
-/// Whether a tile lies between the first and the last that are reached.
-fn is_within(reach: Reach, tile: usize) -> bool
-    ensures { result ≡ false → (reach.first ≤ tile) × (tile ≤ reach.last) → ⊥ }
-{
-    reach.first as usize <= tile && tile <= reach.last as usize
 }

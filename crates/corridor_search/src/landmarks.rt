@@ -5,7 +5,7 @@ ghost use Rattle.nav_ground.specs.Limits.{IsSetting};
 ghost use Rattle.mesh_types.specs.Soundness.{IsSound};
 ghost use Rattle.mesh_types.specs.Corridors.{IsLinkOf};
 ghost use Rattle.corridor_search.specs.Islands.{inner_of, outer_of};
-ghost use Rattle.corridor_search.specs.Landmarks.{flat, heights_at, gap_of, IsGentle, AreLandmarks};
+ghost use Rattle.corridor_search.specs.Landmarks.{flat, heights_at, gap_of, are_alike, IsGentle, AreLandmarks};
 
 use crate::filling::fill;
 use crate::islands::{inner_of, outer_of};
@@ -17,6 +17,9 @@ use std::marker::Model;
 
 /// How many landmarks there are.
 pub(crate) const LANDMARKS: usize = 8;
+
+/// The height of a polygon that the landmark does not reach.
+pub(crate) const UNREACHED: u32 = u32::MAX;
 
 /// The heights of a polygon that has none.
 pub(crate) const FLAT: [u32; LANDMARKS] = [0; LANDMARKS];
@@ -79,7 +82,29 @@ pub(crate) fn bound(heights: [u32; LANDMARKS], others: [u32; LANDMARKS]) -> u32
     gap(heights, others).min(u32::MAX)
 }
 
-/// Landmarks of a mesh. It takes a search of the whole mesh for each, so they pay where many corridors of one mesh are asked for.
+/// Whether each landmark reaches both of two polygons or neither.
+pub(crate) fn are_alike(heights: [u32; LANDMARKS], others: [u32; LANDMARKS]) -> bool
+    ensures { result ≡ are_alike 8 heights others }
+{
+    let mut alike = true;
+    for place in 0..LANDMARKS {
+        alike &= (heights[place] == UNREACHED) == (others[place] == UNREACHED);
+    }
+    alike
+}
+
+/// Whether it is seen that a landmark reaches a polygon. Heights of 0 do not tell: they are those of all polygons where landmarks are none.
+pub(crate) fn are_seen(heights: [u32; LANDMARKS]) -> bool {
+    for place in 0..LANDMARKS {
+        if 0 < heights[place] && heights[place] < UNREACHED {
+            return true;
+        }
+    }
+    false
+}
+
+/// Landmarks of a mesh. It takes a search of the whole mesh for each, so they pay where many corridors of one mesh are asked for. A mesh on
+/// which the heights that are found fail the test gets none, as one some of whose links have no links back. Only memory can be refused.
 pub fn landmarks_of(alloc: Global, mesh: &Mesh) -> Result<Landmarks, AllocError>
     requires sound { IsSound mesh.now }
     requires setting { IsSetting mesh.now.setting }
@@ -97,7 +122,7 @@ pub fn landmarks_of(alloc: Global, mesh: &Mesh) -> Result<Landmarks, AllocError>
     }
 }
 
-/// Whether along no link a height rises or falls by more than the link weighs.
+/// Whether along no link a height rises or falls by more than the link weighs, nor a landmark reaches one end alone.
 fn are_gentle(mesh: &Mesh, marks: &Landmarks) -> bool
     requires sound { IsSound mesh.now }
     requires setting { IsSetting mesh.now.setting }
@@ -142,10 +167,21 @@ fn are_gentle_along(mesh: &Mesh, marks: &Landmarks, links: &[Link]) -> bool
     ensures { result ≡ true → All (IsGentle mesh.now marks.now) links.now }
 {
     for link in links {
-        let gap = gap(marks.heights(link.from), marks.heights(link.to));
-        if weight_over(mesh, link) < u64::from(gap) {
+        if !is_gentle(mesh, marks, link) {
             return false;
         }
     }
     true
+}
+
+/// Whether it holds of one link.
+fn is_gentle(mesh: &Mesh, marks: &Landmarks, link: &Link) -> bool
+    requires sound { IsSound mesh.now }
+    requires setting { IsSetting mesh.now.setting }
+    requires link { IsLinkOf mesh.now link.now }
+    ensures { result ≡ true → IsGentle mesh.now marks.now link.now }
+{
+    let heights = marks.heights(link.from);
+    let others = marks.heights(link.to);
+    are_alike(heights, others) && u64::from(gap(heights, others)) <= weight_over(mesh, link)
 }

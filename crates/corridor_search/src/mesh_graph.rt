@@ -8,7 +8,7 @@ ghost use Rattle.graph_search.specs.Walks.{arc_of};
 ghost use Rattle.corridor_search.specs.MeshGraphs.{vertex_of, vertices_of, polygon_of, inner_links, outer_links, links_from, link_of, end_of, arcs_from};
 
 use crate::landmarks::{LANDMARKS, Landmarks, bound};
-use crate::weights::{distance, extent_at, middle, weight};
+use crate::weights::{distance, distance_or, extent_at, middle, weight};
 use graph_search::{Graph, Step, Vertex};
 use mesh_types::{Link, Mesh, PolyRef};
 use nav_base::Point;
@@ -169,10 +169,13 @@ impl Graph for MeshGraph<'_> {
     fn estimate(&self, from: Vertex) -> u64 {
         let at = polygon_at(from);
         let extent = extent_at(self.mesh, at);
-        let distance = distance(middle(extent), self.goal);
+        let middle = middle(extent);
         match self.landmarks {
-            Some(marks) => u64::from(distance.max(bound(marks.heights(at), self.heights))),
-            None => u64::from(distance),
+            Some(marks) => {
+                let bound = bound(marks.heights(at), self.heights);
+                u64::from(distance_or(middle, self.goal, bound))
+            }
+            None => u64::from(distance(middle, self.goal)),
         }
     }
 }

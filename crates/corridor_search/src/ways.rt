@@ -1,8 +1,8 @@
 //! The links of a mesh as flat lists, for searches of all of it. Nothing is promised of them.
 
-use crate::mesh_graph::{entered_inside, entered_outside};
+ghost use Rattle.std.specs.Prelude.{◌<◌, length};
+
 use crate::roots::root;
-use crate::weights::extent_at;
 use mesh_types::{Extent, Mesh, PolyRef};
 use nav_ground::Setting;
 use std::alloc::{AllocError, Global};
@@ -18,49 +18,56 @@ pub(crate) struct Way {
 #[derive(Drop)]
 pub(crate) struct Ways {
     /// By number, and after the last: where the ways from there begin.
-    starts: Vec<usize>,
+    starts: Vec<u32>,
     ways: Vec<Way>,
+    /// The greatest weight of a way.
+    heaviest: u32,
 }
 
 impl Ways {
     /// The ways of a mesh.
     pub(crate) fn of(alloc: Global, mesh: &Mesh) -> Result<Self, AllocError> {
-        let firsts = firsts(alloc, mesh)?;
+        let level = Level::of(alloc, mesh)?;
         let mut ways = Ways {
-            starts: Vec::new(alloc),
+            starts: Vec::with_capacity(alloc, level.spots.len().saturating_add(1))?,
             ways: Vec::new(alloc),
+            heaviest: 0,
         };
         ways.starts.push(0)?;
         for tile in 0..mesh.tiles.len() {
-            let count = mesh.tiles.at(tile).get().polys.len();
-            for index in 0..count {
-                let at = PolyRef {
-                    tile: low_half(tile),
-                    index: low_half(index),
-                };
-                ways.add(mesh, firsts.as_slice(), at, entered_inside(mesh, at))?;
-                ways.add(mesh, firsts.as_slice(), at, entered_outside(mesh, at))?;
-                ways.starts.push(ways.ways.len())?;
-            }
+            ways.add_tile(mesh, &level, tile)?;
         }
         Ok(ways)
     }
 
+    /// Adds the ways from the polygons of a tile.
+    fn add_tile(&mut self, mesh: &Mesh, level: &Level, tile: usize) -> Result<(), AllocError>
+        requires { tile < length mesh.now.tiles }
+    {
+        let inside = mesh.tiles.at(tile).get();
+        let outside = mesh.cross.get(tile);
+        let first = number_at(level.firsts.as_slice(), tile);
+        for index in 0..inside.polys.len() {
+            let place = low_half(index);
+            let left = level.spot(first.wrapping_add(place));
+            self.add(level, left, inside.links.entered_from(place))?;
+            if let Some(links) = outside {
+                self.add(level, left, links.get().entered_from(place))?;
+            }
+            self.starts.push(low_half(self.ways.len()))?;
+        }
+        Ok(())
+    }
+
     /// Adds ways from a polygon to others.
-    fn add(
-        &mut self,
-        mesh: &Mesh,
-        firsts: &[u32],
-        at: PolyRef,
-        polygons: &[PolyRef],
-    ) -> Result<(), AllocError> {
-        let left = extent_at(mesh, at);
+    fn add(&mut self, level: &Level, left: Spot, polygons: &[PolyRef]) -> Result<(), AllocError> {
         for polygon in polygons {
-            let first = number_at(firsts, polygon.tile as usize);
-            self.ways.push(Way {
-                to: first.wrapping_add(polygon.index),
-                weight: lesser_weight(&mesh.setting, left, extent_at(mesh, *polygon)),
-            })?;
+            let to = number_at(level.firsts.as_slice(), polygon.tile as usize).wrapping_add(
+                polygon.index,
+            );
+            let weight = lesser_weight(left, level.spot(to));
+            self.heaviest = self.heaviest.max(weight);
+            self.ways.push(Way { to, weight })?;
         }
         Ok(())
     }
@@ -76,8 +83,8 @@ impl Ways {
         if self.starts.len() <= place + 1 {
             return &[];
         }
-        let first = self.starts[place];
-        let end = self.starts[place + 1];
+        let first = self.starts[place] as usize;
+        let end = self.starts[place + 1] as usize;
         if first <= end && end <= self.ways.len() {
             &self.ways.as_slice()[first..end]
         } else {
@@ -87,26 +94,69 @@ impl Ways {
 
     /// The greatest weight of a way.
     pub(crate) fn heaviest(&self) -> u32 {
-        let mut heaviest = 0;
-        for way in self.ways.as_slice() {
-            heaviest = heaviest.max(way.weight);
+        self.heaviest
+    }
+}
+
+/// The middle of a polygon's box, in half cells, and what its area costs.
+#[derive(Clone, Copy)]
+struct Spot {
+    x: i32,
+    z: i32,
+    cost: u32,
+}
+
+/// Where the polygons of a mesh stand, by number.
+#[derive(Drop)]
+struct Level {
+    /// By tile: the number of its first polygon.
+    firsts: Vec<u32>,
+    spots: Vec<Spot>,
+}
+
+impl Level {
+    /// The polygons of a mesh.
+    fn of(alloc: Global, mesh: &Mesh) -> Result<Self, AllocError> {
+        let mut level = Level {
+            firsts: Vec::with_capacity(alloc, mesh.tiles.len())?,
+            spots: Vec::new(alloc),
+        };
+        for tile in 0..mesh.tiles.len() {
+            let polygons = &mesh.tiles.at(tile).get().polys;
+            level.firsts.push(low_half(level.spots.len()))?;
+            for place in 0..polygons.len() {
+                level
+                    .spots
+                    .push(spot_of(&mesh.setting, polygons.extent(place)))?;
+            }
         }
-        heaviest
+        Ok(level)
+    }
+
+    /// Where a polygon stands; at (0, 0) where there is none.
+    fn spot(&self, number: u32) -> Spot {
+        match self.spots.get(number as usize) {
+            Some(spot) => *spot,
+            None => Spot {
+                x: 0,
+                z: 0,
+                cost: 1,
+            },
+        }
     }
 }
 
-/// By tile: how many polygons the tiles before have.
-fn firsts(alloc: Global, mesh: &Mesh) -> Result<Vec<u32>, AllocError> {
-    let mut firsts = Vec::with_capacity(alloc, mesh.tiles.len())?;
-    let mut first = 0u32;
-    for tile in 0..mesh.tiles.len() {
-        firsts.push(first)?;
-        first = first.wrapping_add(low_half(mesh.tiles.at(tile).get().polys.len()));
+/// Where a polygon with an extent stands.
+fn spot_of(setting: &Setting, extent: Extent) -> Spot {
+    let costs: &[u32] = &setting.costs;
+    Spot {
+        x: extent.low.x.wrapping_add(extent.high.x),
+        z: extent.low.z.wrapping_add(extent.high.z),
+        cost: number_at(costs, extent.area as usize).max(1),
     }
-    Ok(firsts)
 }
 
-/// A number of fewer than 2^32.
+/// The lowest 32 bits of a number.
 fn low_half(number: usize) -> u32 {
     (number % 4294967296) as u32
 }
@@ -120,29 +170,13 @@ pub(crate) fn number_at(numbers: &[u32], place: usize) -> u32 {
 }
 
 /// What a link between two polygons weighs at the lesser of the costs of their areas.
-fn lesser_weight(setting: &Setting, left: Extent, entered: Extent) -> u32 {
-    let across = apart(
-        left.low.x.wrapping_add(left.high.x),
-        entered.low.x.wrapping_add(entered.high.x),
-    );
-    let along = apart(
-        left.low.z.wrapping_add(left.high.z),
-        entered.low.z.wrapping_add(entered.high.z),
-    );
+fn lesser_weight(left: Spot, entered: Spot) -> u32 {
+    let across = left.x.abs_diff(entered.x).wrapping_mul(8);
+    let along = left.z.abs_diff(entered.z).wrapping_mul(8);
     let square = across
         .wrapping_mul(across)
         .wrapping_add(along.wrapping_mul(along));
-    let cost = cost_of(setting, left.area).min(cost_of(setting, entered.area));
-    root(square % 4294967296).max(1).wrapping_mul(cost)
-}
-
-/// Eight times the difference of two numbers.
-fn apart(a: i32, b: i32) -> u64 {
-    8 * u64::from(a.abs_diff(b))
-}
-
-/// The cost of an area.
-fn cost_of(setting: &Setting, area: u32) -> u32 {
-    let costs: &[u32] = &setting.costs;
-    number_at(costs, area as usize).max(1)
+    root(u64::from(square))
+        .max(1)
+        .wrapping_mul(left.cost.min(entered.cost))
 }

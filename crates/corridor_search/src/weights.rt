@@ -70,6 +70,20 @@ pub(crate) fn distance(from: Point, to: Point) -> u32
     root(square_distance(from, to))
 }
 
+/// The distance between two points, rounded up, or a number where that is greater; no root is taken where it is.
+pub(crate) fn distance_or(from: Point, to: Point, other: u32) -> u32
+    requires from { IsInField from }
+    requires to { IsInField to }
+    ensures { result ≡ max (distance_of from to) other }
+{
+    let square = square_distance(from, to);
+    if square <= u64::from(other) * u64::from(other) {
+        other
+    } else {
+        root(square).max(other)
+    }
+}
+
 /// What a step costs from a point into a polygon with an extent: the distance to its middle, rounded up and at least 1, times the cost of its
 /// area.
 pub(crate) fn weight(setting: &Setting, from: Point, to: Extent) -> u64

@@ -109,16 +109,16 @@ none_handed setting all kept layers tile layer before is =
 
 -- one more kept cell, which was pushed into the layer of its tile
 pub kept_step : (setting : Setting) (all kept cells : List Cell) (p : Cell → Bool) (i : ℕ) (e : Cell) (layers layers' : List Layer) (tile : ℕ)
-    (now : Layer) (cell : Cell) (pushed : List Cell)
+    (now : Layer) (cell : Cell) (pushed : Layer)
     → IsSetting setting → AreInField setting cells → i < length cells → p (get_or cells i e) ≡ true
     → tile ≡ tile_at setting (get_or cells i e).at.x (get_or cells i e).at.z → tile < tile_count setting
-    → cell ≡ layer_cell kept (get_or cells i e) → now ≡ get_or layers tile now → pushed ≡ now.cells ++ cell ∷ []
-    → layers' ≡ slice_set layers tile (record { tile = now.tile; cells = pushed; radius = now.radius; wide = now.wide })
+    → cell ≡ layer_cell kept (get_or cells i e) → now ≡ get_or layers tile now → pushed ≡ record now { cells = now.cells ++ cell ∷ [] }
+    → layers' ≡ slice_set layers tile pushed
     → layers ≡ map (layer_with setting all kept (filter p (take i cells))) (range_with_len 0 (tile_count setting))
     → layers' ≡ map (layer_with setting all kept (filter p (take (i + 1) cells))) (range_with_len 0 (tile_count setting))
 kept_step setting all kept cells p i e layers layers' tile now cell pushed limits inside there passes at tile_is cell_is now_is pushed_is after before =
     after
-    ∙ ap (λ (cs : List Cell). slice_set layers tile (record { tile = now.tile; cells = cs; radius = now.radius; wide = now.wide })) pushed_is
+    ∙ ap (λ (l : Layer). slice_set layers tile l) pushed_is
     ∙ ap (λ (c : Cell). slice_set layers tile (record now { cells = now.cells ++ c ∷ [] })) cell_is
     ∙ ap (λ (l : Layer). slice_set layers tile (record l { cells = l.cells ++ layer_cell kept (get_or cells i e) ∷ [] })) now_is
     ∙ handed_one setting all kept (filter p (take i cells)) (get_or cells i e) tile layers now limits (inside i e there) at tile_is before

@@ -6,6 +6,7 @@
 
 mod nearby;
 mod neighbours;
+mod open_layer;
 mod tile_layers;
 mod whole;
 

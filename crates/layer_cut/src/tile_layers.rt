@@ -11,11 +11,11 @@ ghost use Rattle.nav_ground.specs.Tiling.{tile_count, margin_of, is_in_window};
 ghost use Rattle.layer_cut.specs.Tiles.{tile_at, IsInField, AreInField, layer_with};
 
 use crate::neighbours::layer_cell;
+use crate::open_layer::{OpenLayer, closed};
 use agent_erode::cells_near;
 use nav_ground::{
     CellRef, Layer, Setting, SmallCell, TileNo, Window, margin_of, tile_bounds, tiles,
 };
-use nav_list::Items;
 use std::alloc::{AllocError, Global};
 
 /// The tile of a column of the field.
@@ -50,10 +50,10 @@ pub(crate) fn hand_out(
             let place = cell.at();
             let tile = tile_of(setting, place.x, place.z);
             let kept = layer_cell(cells, marks, &mut firsts, cell);
-            layers[tile as usize].cells.push(kept)?;
+            layers[tile as usize].push(kept)?;
         }
     }
-    Ok(layers)
+    closed(alloc, layers)
 }
 
 /// The layers of all tiles before any cell is handed out: with what agents keep from obstacles and with their wide cells.
@@ -61,7 +61,7 @@ fn empty_layers(
     alloc: Global,
     setting: &Setting,
     cells: &[SmallCell],
-) -> Result<Vec<Layer>, AllocError>
+) -> Result<Vec<OpenLayer>, AllocError>
     requires setting { IsSetting setting.now }
     requires cells { IsCells cells.now }
     ensures { (kept : List Cell) → IfOk result (λ layers. layers.items ≡ map (layer_with setting.now cells.now kept []) (range_with_len 0 (tile_count setting.now))) }
@@ -98,7 +98,8 @@ pub(crate) fn cut(
             kept.push(layer_cell(cells, marks, &mut firsts, cell))?;
         }
     }
-    layer_of_cells(alloc, setting, cells, tile, kept)
+    let open = layer_of_cells(alloc, setting, cells, tile, kept)?;
+    open.close(alloc)
 }
 
 /// The layer of a tile with some kept cells: what agents keep from obstacles, and its wide cells from those of the whole field.
@@ -108,19 +109,15 @@ fn layer_of_cells(
     cells: &[SmallCell],
     tile: TileNo,
     kept: Vec<SmallCell>,
-) -> Result<Layer, AllocError>
+) -> Result<OpenLayer, AllocError>
     requires setting { IsSetting setting.now }
     requires cells { IsCells cells.now }
     requires there { tile < tile_count setting.now }
     ensures { IfOk result (λ layer. layer ≡ record { tile = tile; cells = kept.items; radius = margin_of setting.now; wide = wide_cells setting.now cells.now tile }) }
 {
     let wide = wide_cells(alloc, setting, cells, tile)?;
-    Ok(Layer {
-        tile,
-        cells: Items::from_vec(kept),
-        radius: margin_of(setting),
-        wide: Items::from_vec(wide),
-    })
+    let radius = margin_of(setting);
+    Ok(OpenLayer::new(tile, kept, radius, wide))
 }
 
 /// The cells of a tile and of the columns that agents keep from obstacles on each side; none where they keep no distance.

@@ -31,7 +31,7 @@ pub fn nearer_at(
     if !is_in_box(polygons.extent(place), sought.p) {
         return best;
     }
-    nearer(mesh, at, &polygons.as_slice()[place], sought, best)
+    nearer(mesh, at, &polygons.at(place), sought, best)
 }
 
 /// Whether a point lies in a box of cells or on its border.

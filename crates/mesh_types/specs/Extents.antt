@@ -1,5 +1,5 @@
 -- Extents: the box of a polygon's corners, and its area.
-use Rattle.std.specs.Prelude.{◌≡◌, ℤ, List, map, Option, IfSome}
+use Rattle.std.specs.Prelude.{ℤ, List, map}
 use Rattle.std.specs.List.{fold}
 use Rattle.std.specs.Int.{int_min, int_max}
 use Rattle.nav_base.specs.declared.point.Point.{Point}
@@ -25,7 +25,3 @@ extent_of polygon =
       high = record { x = greatest_of first.x xs; z = greatest_of first.z zs };
       area = polygon.area;
     }
-
--- the extents stand beside polygons, if they are kept
-abbrev pub AreExtents : List Polygon → Option (List Extent) → Type 0
-AreExtents polygons extents = IfSome extents (λ (kept : List Extent). kept ≡ map extent_of polygons)

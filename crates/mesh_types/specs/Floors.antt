@@ -1,13 +1,10 @@
 -- Floors: where one stands in a column of cells, from the bottom up.
-use Rattle.std.specs.Prelude.{ℕ, Bool, ◌==◌, ◌&&◌, List, map, filter}
+use Rattle.std.specs.Prelude.{ℕ, List, map, filter}
 use Rattle.std.specs.List.{flat_map}
 use Rattle.nav_base.specs.declared.answers.FloorAt.{FloorAt}
 use Rattle.nav_ground.specs.declared.cell.Cell.{Cell}
 use Rattle.nav_ground.specs.declared.cell.FreeLayer.{FreeLayer}
-
--- a cell stands in the column
-abbrev pub is_in_column : ℕ → ℕ → Cell → Bool
-is_in_column x z cell = cell.at.x == x && cell.at.z == z
+use Rattle.nav_ground.specs.CellColumns.{is_in_column}
 
 -- the floors of a column in a list of free layers: of each layer in order, the height and the area of each of its cells in the column
 abbrev pub floors_at : ℕ → ℕ → List FreeLayer → List FloorAt

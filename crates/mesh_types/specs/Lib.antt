@@ -1,7 +1,10 @@
 pub mod Inline
 pub mod LinkIndex
 pub mod Extents
+pub mod SmallNumbers
 pub mod SmallExtents
+pub mod SmallPolygons
+pub mod Kept
 pub mod Runs
 pub mod Strips
 pub mod LinkOrder

@@ -16,7 +16,7 @@ use Rattle.mesh_types.specs.declared.tile.TileMesh.{TileMesh}
 use Rattle.mesh_types.specs.LinkOrder.{point_cmp}
 use Rattle.mesh_types.specs.Rings.{beginnings}
 use Rattle.mesh_types.specs.Ears.{width_at}
-use Rattle.mesh_types.specs.Floors.{is_in_column}
+use Rattle.nav_ground.specs.CellColumns.{is_in_column}
 use Rattle.mesh_types.specs.Rays.{side_of}
 
 -- the corners, twice round

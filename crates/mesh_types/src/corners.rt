@@ -1,7 +1,5 @@
 //! The corners of a polygon, which lie in the polygon itself.
 
-ghost use Rattle.std.specs.Prelude.{◌≡◌, ◌≤◌, length};
-
 use nav_base::Point;
 use std::marker::Model;
 
@@ -29,6 +27,9 @@ impl Model for Corners {
 }
 
 impl Corners {
+    ghost use Rattle.std.specs.Prelude.{◌≡◌, ◌≤◌, length, take};
+    ghost use Rattle.mesh_types.specs.Inline.{IsInline, corners_inverse};
+
     /// The points of a slice, in order.
     pub fn from_slice(points: &[Point]) -> Self
         requires { length points.now ≤ 6 }
@@ -40,6 +41,22 @@ impl Corners {
             points: kept,
             count: points.len() as u8,
         }
+    }
+
+    /// Points that lie in the first of six places, of which the others hold the point (0, 0).
+    pub(crate) fn from_places(points: [Point; 6], count: u8) -> Self
+        requires { IsInline (record { points = points; count = count }) }
+        ensures { result ≡ take count points }
+    {
+        Corners { points, count }
+    }
+
+    /// The six places, and in how many of them the points lie.
+    pub(crate) fn places(&self) -> ([Point; 6], u8)
+        ensures places { corners_inverse self.now ≡ record { points = result.0; count = result.1 } }
+        ensures inline { IsInline (corners_inverse self.now) }
+    {
+        (self.points, self.count)
     }
 
     /// The points, in order.

@@ -1,7 +1,6 @@
 //! The mesh of a whole ground.
 
 ghost use Rattle.std.specs.Prelude.{◌≡◌, IfOk};
-ghost use Rattle.std.specs.Option.{option_copied};
 ghost use Rattle.mesh_types.specs.WholeMesh.{poly_at};
 
 use crate::link_list::Links;
@@ -27,8 +26,8 @@ pub struct Mesh {
 }
 
 /// The polygon that a reference names; none exactly where there is no such polygon.
-pub fn poly(mesh: &Mesh, at: PolyRef) -> Option<&Polygon>
-    ensures { option_copied result ≡ poly_at mesh.now at }
+pub fn poly(mesh: &Mesh, at: PolyRef) -> Option<Polygon>
+    ensures { result ≡ poly_at mesh.now at }
 {
     match mesh.tiles.get(at.tile as usize) {
         Some(tile) => tile.get().polys.get(at.index as usize),

@@ -1,39 +1,33 @@
-//! Lists of polygons beside which the extents stand.
+//! The polygons of a tile, of which the extents are read faster than the rest.
 
 ghost use Rattle.std.specs.Prelude.{◌≡◌, ◌<◌, IfOk, length, slice_get, slice_index_or};
-ghost use Rattle.std.specs.Option.{option_copied};
-ghost use Rattle.std.specs.Int.{int_min, int_max};
-ghost use Rattle.nav_base.specs.Convex.{corner_at};
 ghost use Rattle.mesh_types.specs.declared.polygon.Polygon.{Polygon};
-ghost use Rattle.mesh_types.specs.Extents.{AreExtents, extent_of};
+ghost use Rattle.mesh_types.specs.Extents.{extent_of};
 
 use crate::extent::Extent;
+use crate::extents::extent;
+use crate::kept::Kept;
 use crate::polygon::Polygon;
-use crate::small_extent::SmallExtent;
-use nav_base::Point;
+use crate::small_polygons::SmallPolygons;
 use nav_list::{Duplicate, Items};
 use std::alloc::{AllocError, Global};
 use std::marker::Model;
 
-/// The polygons of one tile, seen by contracts as their list. Beside them stand their extents, so that a search reads of a polygon only what
-/// it asks for.
+/// The polygons of one tile, seen by contracts as their list. They are kept in small numbers, with their extents beside them, so that a search
+/// reads of a polygon only what it asks for; a list in which one number does not fit is kept as it is.
 #[derive(Drop)]
 pub struct Polygons {
-    polygons: Vec<Polygon>,
-    /// None where one of them does not fit into small numbers, into which those of a field always do: then they are reckoned from the corners.
-    extents: Option<Items<SmallExtent>>,
+    kept: Kept,
 }
 
 impl Model for Polygons {
     ghost use Rattle.std.specs.Prelude.{List};
     ghost use Rattle.mesh_types.specs.declared.polygon.Polygon.{Polygon};
-    ghost use Rattle.mesh_types.specs.Extents.{AreExtents};
+    ghost use Rattle.mesh_types.specs.Kept.{polygons_in};
 
     ghost Value = { List Polygon };
 
-    ghost view = { λ a. a.polygons.items };
-
-    ghost invariant = { λ a. AreExtents a.polygons.items a.extents };
+    ghost view = { λ a. polygons_in a.kept };
 }
 
 impl Polygons {
@@ -41,29 +35,43 @@ impl Polygons {
     pub fn from_vec(alloc: Global, polygons: Vec<Polygon>) -> Result<Polygons, AllocError>
         ensures { IfOk result (λ made. made ≡ polygons.items) }
     {
-        let extents = extents(alloc, polygons.as_slice())?;
-        Ok(Polygons { polygons, extents })
+        let kept = match SmallPolygons::new(alloc, polygons.as_slice())? {
+            Some(small) => Kept::Small(small),
+            None => Kept::Wide(Items::from_vec(polygons)),
+        };
+        Ok(Polygons { kept })
     }
 
     /// How many polygons there are.
     pub fn len(&self) -> usize
         ensures { result ≡ length self.now }
     {
-        self.polygons.len()
+        match &self.kept {
+            Kept::Small(small) => small.len(),
+            Kept::Wide(wide) => wide.len(),
+        }
     }
 
-    /// The polygons, in order.
-    pub fn as_slice(&self) -> &[Polygon]
-        ensures { result.now ≡ self.now }
+    /// The polygon at a place, from 0. Where the extent is enough, `extent` is faster.
+    pub fn at(&self, place: usize) -> Polygon
+        requires { place < length self.now }
+        ensures { (d : Polygon) → result ≡ slice_index_or self.now place d }
     {
-        self.polygons.as_slice()
+        match &self.kept {
+            Kept::Small(small) => small.at(place),
+            Kept::Wide(wide) => wide.as_slice()[place],
+        }
     }
 
     /// The polygon at a place, from 0; none where there are fewer.
-    pub fn get(&self, place: usize) -> Option<&Polygon>
-        ensures { option_copied result ≡ slice_get self.now place }
+    pub fn get(&self, place: usize) -> Option<Polygon>
+        ensures { result ≡ slice_get self.now place }
     {
-        self.polygons.get(place)
+        if place < self.len() {
+            Some(self.at(place))
+        } else {
+            None
+        }
     }
 
     /// The extent of the polygon at a place, from 0.
@@ -71,86 +79,17 @@ impl Polygons {
         requires { place < length self.now }
         ensures { (d : Polygon) → result ≡ extent_of (slice_index_or self.now place d) }
     {
-        match &self.extents {
-            Some(extents) => extents.as_slice()[place].get(),
-            None => extent(&self.polygons[place]),
+        match &self.kept {
+            Kept::Small(small) => small.extent(place),
+            Kept::Wide(wide) => extent(&wide.as_slice()[place]),
         }
     }
 }
 
 impl Duplicate for Polygons {
     fn duplicate(&self, alloc: Global) -> Result<Self, AllocError> {
-        let extents = match &self.extents {
-            Some(extents) => Some(extents.duplicate(alloc)?),
-            None => None,
-        };
         Ok(Polygons {
-            polygons: Vec::from_slice(alloc, self.polygons.as_slice())?,
-            extents,
+            kept: self.kept.duplicate(alloc)?,
         })
-    }
-}
-
-/// The extents of polygons in small numbers; none where one of them does not fit.
-fn extents(alloc: Global, polygons: &[Polygon]) -> Result<Option<Items<SmallExtent>>, AllocError>
-    ensures { IfOk result (AreExtents polygons.now) }
-{
-    let mut extents = Vec::with_capacity(alloc, polygons.len())?;
-    for polygon in polygons {
-        match SmallExtent::new(extent(polygon)) {
-            Some(small) => extents.push(small)?,
-            None => return Ok(None),
-        }
-    }
-    Ok(Some(Items::from_vec(extents)))
-}
-
-/// The extent of a polygon.
-fn extent(polygon: &Polygon) -> Extent
-    ensures { result ≡ extent_of polygon.now }
-{
-    let corners = polygon.corners.as_slice();
-    let mut low = first(corners);
-    let mut high = first(corners);
-    for corner in corners {
-        low = least_corner(low, *corner);
-        high = greatest_corner(high, *corner);
-    }
-    Extent {
-        low,
-        high,
-        area: polygon.area,
-    }
-}
-
-/// The first of some corners.
-fn first(corners: &[Point]) -> Point
-    ensures { result ≡ corner_at corners.now 0 }
-{
-    match corners.first() {
-        Some(corner) => *corner,
-        None => Point { x: 0, z: 0 },
-    }
-}
-
-/// The corner of a box with the lesser parts of two corners.
-fn least_corner(a: Point, b: Point) -> Point
-    ensures x { result.x ≡ int_min a.x b.x }
-    ensures z { result.z ≡ int_min a.z b.z }
-{
-    Point {
-        x: a.x.min(b.x),
-        z: a.z.min(b.z),
-    }
-}
-
-/// The corner of a box with the greater parts of two corners.
-fn greatest_corner(a: Point, b: Point) -> Point
-    ensures x { result.x ≡ int_max a.x b.x }
-    ensures z { result.z ≡ int_max a.z b.z }
-{
-    Point {
-        x: a.x.max(b.x),
-        z: a.z.max(b.z),
     }
 }

@@ -1,6 +1,7 @@
 //! Extents as they are stored: each in ten bytes, seen by contracts as the extent.
 
-ghost use Rattle.std.specs.Prelude.{◌≡◌, pos, IfSome};
+ghost use Rattle.std.specs.Prelude.{◌≡◌, ◌↔◌, pos, IsNone, IfSome, IsTrue};
+ghost use Rattle.mesh_types.specs.SmallNumbers.{IsSmallCoordinate, IsSmallPoint, IsSmallExtent};
 
 use crate::extent::Extent;
 use nav_base::Point;
@@ -30,16 +31,20 @@ impl Model for SmallExtent {
 }
 
 impl SmallExtent {
-    /// An extent in small numbers; none where one of its numbers is too great for them or less than 0.
+    /// An extent in small numbers; none exactly where one of its numbers is too great for them or less than 0.
     pub fn new(extent: Extent) -> Option<Self>
-        ensures { IfSome result (λ small. small ≡ extent) }
+        ensures value { IfSome result (λ small. small ≡ extent) }
+        ensures none { IsNone result ↔ (IsSmallExtent extent → ⊥) }
     {
+        if !is_small(extent) {
+            return None;
+        }
         Some(SmallExtent {
-            left: small(extent.low.x)?,
-            bottom: small(extent.low.z)?,
-            right: small(extent.high.x)?,
-            top: small(extent.high.z)?,
-            area: small_area(extent.area)?,
+            left: extent.low.x as u16,
+            bottom: extent.low.z as u16,
+            right: extent.high.x as u16,
+            top: extent.high.z as u16,
+            area: extent.area as u8,
         })
     }
 
@@ -61,16 +66,23 @@ impl SmallExtent {
     }
 }
 
-/// A coordinate in 16 bits, if it fits into them.
-fn small(coordinate: i32) -> Option<u16>
-    ensures { IfSome result (λ kept. pos kept ≡ coordinate) }
+/// Whether an extent fits into small numbers.
+fn is_small(extent: Extent) -> bool
+    ensures { IsTrue result ↔ IsSmallExtent extent }
 {
-    u16::try_from(coordinate).ok()
+    is_small_point(extent.low) && is_small_point(extent.high) && extent.area <= 255
 }
 
-/// An area in 8 bits, if it fits into them.
-fn small_area(area: u32) -> Option<u8>
-    ensures { IfSome result (λ kept. kept ≡ area) }
+/// Whether a point fits into small numbers.
+fn is_small_point(point: Point) -> bool
+    ensures { IsTrue result ↔ IsSmallPoint point }
 {
-    u8::try_from(area).ok()
+    fits(point.x) && fits(point.z)
+}
+
+/// Whether a coordinate fits into 16 bits.
+fn fits(coordinate: i32) -> bool
+    ensures { IsTrue result ↔ IsSmallCoordinate coordinate }
+{
+    0 <= coordinate && coordinate <= 65535
 }

@@ -2,7 +2,7 @@
 
 use crate::link_list::Links;
 use crate::polygons::Polygons;
-use nav_ground::{FreeLayer, TileNo};
+use nav_ground::{KeptLayer, TileNo};
 use nav_list::{Duplicate, Items};
 use std::alloc::{AllocError, Global};
 
@@ -37,7 +37,7 @@ pub struct TileMesh {
     /// The tile's number, row by row, from 0.
     pub tile: TileNo,
     /// The cells that no obstacle covers.
-    pub free: FreeLayer,
+    pub free: KeptLayer,
     pub polys: Polygons,
     /// The links between polygons of this tile.
     pub links: Links,

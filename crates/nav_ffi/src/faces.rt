@@ -6,7 +6,7 @@ ghost use Rattle.nav_ffi.specs.Looking.{corner_at_place, obstacle_of};
 ghost use Rattle.nav_ffi.specs.Wire.{laid};
 
 use crate::wire::{NavdBlock, NavdCylinder};
-use mesh_types::Polygon;
+use mesh_types::{Polygon, Polygons};
 use nav_base::Point;
 use nav_ground::{Entry, Request, Shape};
 
@@ -78,12 +78,12 @@ fn face_told(polygon: &Polygon) -> NavdFace
 }
 
 /// Lays polygons into a room.
-pub(crate) fn lay_faces(polygons: &[Polygon], room: &mut [NavdFace])
+pub(crate) fn lay_faces(polygons: &Polygons, room: &mut [NavdFace])
     ensures { room.new ≡ laid (map Rattle.nav_ffi.specs.Looking.face_told polygons.now) room.old }
 {
     let count = polygons.len().min(room.len());
     for place in 0..count {
-        room[place] = face_told(&polygons[place]);
+        room[place] = face_told(&polygons.at(place));
     }
 }
 

@@ -19,7 +19,7 @@ pub(crate) fn tell_faces(mesh: &Mesh, tile: u32, faces: &mut [NavdFace], count: 
     let Some(tile) = mesh.tiles.get(tile as usize) else {
         return OUT_OF_RANGE;
     };
-    let polygons = tile.get().polys.as_slice();
+    let polygons = &tile.get().polys;
     *count = polygons.len();
     lay_faces(polygons, faces);
     OK

@@ -19,3 +19,5 @@ pub mod Locality
 pub mod Meeting
 pub mod Literals
 pub mod SmallCellLaws
+mod ColumnParts
+mod MarkLaws

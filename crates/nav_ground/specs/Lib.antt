@@ -2,6 +2,8 @@ pub mod Limits
 pub mod Tiling
 pub mod Fields
 pub mod Cells
+pub mod CellColumns
+pub mod ColumnParts
 pub mod Levels
 pub mod SmallCells
 pub mod Packing
@@ -14,5 +16,7 @@ pub mod Shapes
 pub mod Touching
 pub mod FreeCells
 pub mod WholeFree
+pub mod Marks
+pub mod KeptLayers
 pub mod History
 pub mod Grounds

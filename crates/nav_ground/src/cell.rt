@@ -3,6 +3,7 @@
 use crate::small_cell::SmallCell;
 use crate::tiling::TileNo;
 use nav_list::{Duplicate, Items};
+use nav_share::Shared;
 use std::alloc::{AllocError, Global};
 
 /// A cell by its place: its column, and its level, which is how many cells of the whole field lie below it in that column.
@@ -46,8 +47,8 @@ pub struct Window {
 #[derive(Drop)]
 pub struct Layer {
     pub tile: TileNo,
-    /// By z, then x, then level.
-    pub cells: Items<SmallCell>,
+    /// By z, then x, then level. The meshes of its tile share them.
+    pub cells: Shared<Items<SmallCell>>,
     /// How far agents keep from obstacles, in cells: the agent's radius where the setting says clear, else 0, and then obstacles block
     /// only what they cover.
     pub radius: u32,

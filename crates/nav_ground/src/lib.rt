@@ -4,7 +4,8 @@
 //! block cells or set their areas; a history of requests says which shapes are alive. What these records keep, in which order they stand
 //! and which numbers they may hold are definitions of `specs/`.
 //!
-//! Lists keep cells as `SmallCell`, in twenty bytes each; contracts see the `Cell`.
+//! Lists keep cells as `SmallCell`, in twenty bytes each; contracts see the `Cell`. A `KeptLayer` keeps the free cells of a tile as what they
+//! differ by from those of its layer, in two bytes each; contracts see the `FreeLayer`.
 //!
 //! `tiles` and `tile_bounds` give the number of tiles and the columns of one. `covers`, `bounds` and `sets` say of an obstacle which cells it
 //! covers, how far it reaches and which area it sets. `margin_of` gives how many columns agents keep from obstacles, `touch_window` the
@@ -16,8 +17,12 @@
 #![tactic(auto)]
 
 mod cell;
+mod columns;
 mod field;
 mod history;
+mod kept_layer;
+mod mark;
+mod marked_cells;
 mod setting;
 mod shape;
 mod small_cell;
@@ -28,6 +33,7 @@ mod touch;
 pub use cell::{Cell, CellRef, FreeLayer, Layer, Window};
 pub use field::{Field, Span};
 pub use history::{Entry, Ground, HISTORY_LIMIT, Reply, Request};
+pub use kept_layer::KeptLayer;
 pub use setting::{AREAS, Agent, MeshKind, Setting};
 pub use shape::{Shape, bounds, covers, sets};
 pub use small_cell::SmallCell;

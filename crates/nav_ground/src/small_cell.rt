@@ -1,11 +1,13 @@
 //! Cells as they are stored: each in twenty bytes, seen by contracts as the cell.
 
-ghost use Rattle.std.specs.Prelude.{◌≡◌, ◌<◌};
+ghost use Rattle.std.specs.Prelude.{◌≡◌, ◌<◌, ◌==◌, ◌%◌, IsTrue, None, if◌then◌else◌};
 ghost use Rattle.nav_ground.specs.Cells.{next_level};
 ghost use Rattle.nav_ground.specs.Levels.{IsSmallLevel, level_of, number_of};
+ghost use Rattle.nav_ground.specs.Marks.{marked_cell};
 ghost use Rattle.nav_ground.specs.SmallCells.{IsSmall};
 
 use crate::cell::{Cell, CellRef};
+use crate::mark::Mark;
 use std::marker::Model;
 
 /// The number of a level that stands for none. No cell of a field has so high a level.
@@ -118,6 +120,62 @@ impl SmallCell {
     {
         level_of(self.levels[dir])
     }
+
+    /// Whether another cell is the same.
+    pub(crate) fn is(&self, other: &SmallCell) -> bool
+        ensures { IsTrue result → self.now ≡ other.now }
+    {
+        self.x == other.x
+            && self.z == other.z
+            && self.level == other.level
+            && self.floor == other.floor
+            && self.ceiling == other.ceiling
+            && self.area == other.area
+            && self.levels == other.levels
+    }
+
+    /// A mark with the cell's area, which keeps the levels in those directions in which the cell names one.
+    pub(crate) fn mark(&self) -> Mark {
+        Mark {
+            area: self.area,
+            sides: bit(self.levels[0], 1)
+                | bit(self.levels[1], 2)
+                | bit(self.levels[2], 4)
+                | bit(self.levels[3], 8),
+        }
+    }
+
+    /// The cell with a mark's area and those of its levels that the mark keeps.
+    pub(crate) fn marked(&self, mark: Mark) -> SmallCell
+        ensures { result ≡ marked_cell mark self.now }
+    {
+        SmallCell {
+            x: self.x,
+            z: self.z,
+            level: self.level,
+            floor: self.floor,
+            ceiling: self.ceiling,
+            area: mark.area,
+            levels: [
+                number_left(mark.sides, self.levels[0]),
+                number_left(mark.sides / 2, self.levels[1]),
+                number_left(mark.sides / 2 / 2, self.levels[2]),
+                number_left(mark.sides / 2 / 2 / 2, self.levels[3]),
+            ],
+        }
+    }
+}
+
+/// A bit of a mark where a number names a level, else 0.
+fn bit(number: u16, bit: u8) -> u8 {
+    if number < NO_LEVEL { bit } else { 0 }
+}
+
+/// The number of a level that is left where the lowest bit is set, else of none.
+fn number_left(sides: u8, number: u16) -> u16
+    ensures { level_of result ≡ (if sides % 2 == 1 then level_of number else None) }
+{
+    if sides % 2 == 1 { number } else { NO_LEVEL }
 }
 
 fn number_of(level: Option<u32>) -> u16

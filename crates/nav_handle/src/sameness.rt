@@ -32,7 +32,7 @@ fn is_same_layer(a: &Layer, b: &Layer) -> bool
 {
     a.tile == b.tile
         && a.radius == b.radius
-        && are_same_cells(a.cells.as_slice(), b.cells.as_slice())
+        && are_same_cells(a.cells.get().as_slice(), b.cells.get().as_slice())
         && are_same_cells(a.wide.as_slice(), b.wide.as_slice())
 }
 

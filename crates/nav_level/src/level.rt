@@ -271,7 +271,7 @@ impl Level {
         Ok((self.desk.published(), answer))
     }
 
-    /// The same, for one who asks much of a level that stands still: the 64th path question that is so asked of one published mesh prepares it
+    /// The same, for one who asks much of a level that stands still: the 24th path question that is so asked of one published mesh prepares it
     /// first, where memory for that is left. Only memory for the answer is refused.
     pub fn ask_and_prepare(
         &mut self,
@@ -289,7 +289,7 @@ impl Level {
         self.ask(alloc, question)
     }
 
-    /// Makes landmarks of the published mesh where there are none. They cost about as much as forty path questions, and each later one closes a
+    /// Makes landmarks of the published mesh where there are none. They cost about as much as thirty path questions, and each later one closes a
     /// fifth of the polygons that it would, or fewer. They go with the next publish that shows something new. Nothing that a caller sees has
     /// changed, also where memory is refused.
     pub fn prepare(&mut self, alloc: Global) -> Result<(), AllocError>

@@ -14,10 +14,10 @@ use nav_share::Shared;
 use std::alloc::{AllocError, Global};
 use std::marker::Model;
 
-/// At which path question of one mesh landmarks are made of it. They cost about as much as forty questions without them, and a later question
-/// closes a fifth of the polygons that it would, or fewer: so a level that changes after a few questions never pays for them, and one that
-/// stands still has them soon.
-const PATHS_BEFORE_LANDMARKS: u32 = 64;
+/// At which path question of one mesh landmarks are made of it. They cost about as much as thirty questions without them, and a later question
+/// takes about a fifth of what it would: so a level that changes after a few questions never pays for them, and where some sixty are asked
+/// of one that stands still, they have paid for themselves.
+const PATHS_BEFORE_LANDMARKS: u32 = 24;
 
 /// A mesh, landmarks of it once they were made, and how many path questions were counted. Contracts see the mesh alone.
 #[derive(Drop)]

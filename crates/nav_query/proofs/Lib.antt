@@ -1,4 +1,3 @@
-mod ColumnParts
 mod MeshFloors
 pub mod FewLinks
 pub mod NeverBack

@@ -18,7 +18,8 @@ use Rattle.layer_cut.specs.Tiles.{tile_at, IsInField}
 use Rattle.layer_cut.proofs.TilePlaces.{in_window_is, in_field}
 use Rattle.mesh_types.specs.declared.mesh.Mesh.{Mesh}
 use Rattle.mesh_types.specs.declared.tile.TileMesh.{TileMesh}
-use Rattle.mesh_types.specs.Floors.{floors_at, is_in_column}
+use Rattle.nav_ground.specs.CellColumns.{AreOrdered, is_in_column}
+use Rattle.mesh_types.specs.Floors.{floors_at}
 use Rattle.mesh_types.specs.Words.{column_of, floor_of, free_of}
 use Rattle.mesh_types.specs.Soundness.{IsFit, IsSound}
 
@@ -111,6 +112,12 @@ tile_floors mesh x z tile sound limits inside there is =
     (in_window_is mesh.setting k x z limits inside (omega (arith, below', sound.tiles.each)) ∙ ne_eqb k (tile_at mesh.setting x z) other))
     ∙ ap (λ (free : FreeLayer). map floor_of (column_of x z free.cells))
     (get_or-map (λ (t : TileMesh). t.free) mesh.tiles (tile_at mesh.setting x z) tile tile.free there ∙ ap (λ (t : TileMesh). t.free) (sym is))
+
+-- the free cells of a tile of the mesh are in order
+pub free_ordered : (mesh : Mesh) (t : ℕ) (tile got : TileMesh) → IsSound mesh → t < tile_count mesh.setting → tile ≡ get_or mesh.tiles t tile → got ≡ tile
+    → AreOrdered got.free.cells
+free_ordered mesh t tile got sound there is same =
+    subst (λ (one : TileMesh). AreOrdered one.free.cells) (sym (same ∙ is)) (sound.tiles.fit t tile (omega (arith, there, sound.tiles.each))).free.rules.order
 
 -- what was read of a tile of the mesh
 pub floors_found : (mesh : Mesh) (x z t : ℕ) (tile : TileMesh) (cells : List Cell) (before after : List FloorAt) → IsSound mesh → IsSetting mesh.setting

@@ -12,7 +12,6 @@
 #![tactic(auto)]
 
 mod answering;
-mod columns;
 mod floors;
 mod paths;
 mod questions;

@@ -1,13 +1,14 @@
 //! The parts of a mesh.
 
 ghost use Rattle.std.specs.Prelude.{◌≡◌, ◌++◌, OnOk};
-ghost use Rattle.nav_scene.specs.Scenes.{cell_text, link_text, links_text, mesh_text, polygon_text, spaced_point};
+ghost use Rattle.std.specs.List.{flat_map};
+ghost use Rattle.nav_scene.specs.Scenes.{StandsInFront, cell_text, link_text, links_text, mesh_text, polygon_text, spaced_point};
 
 use crate::lines::{write_line, write_point};
 use crate::told::{Told, append_all};
-use mesh_types::{Link, Links, Polygon, TileMesh};
+use mesh_types::{Link, Links, Polygon, Polygons, TileMesh};
 use nav_base::Point;
-use nav_ground::SmallCell;
+use nav_ground::{KeptLayer, SmallCell};
 use nav_text::append_line;
 use std::alloc::AllocError;
 
@@ -38,6 +39,18 @@ impl Told for Polygon {
         append_line(out, b"poly", &[self.area, self.low, self.high])?;
         append_all(out, self.corners.as_slice())?;
         out.extend_from_slice(b"\n")
+    }
+}
+
+/// The lines of a tile's polygons, in order.
+impl Told for Polygons {
+    ghost text = { flat_map polygon_text };
+
+    fn append_to(&self, out: &mut Vec<u8>) -> Result<(), AllocError> {
+        for place in 0..self.len() {
+            self.at(place).append_to(out)?;
+        }
+        Ok(())
     }
 }
 
@@ -77,8 +90,17 @@ impl Told for TileMesh {
 
     fn append_to(&self, out: &mut Vec<u8>) -> Result<(), AllocError> {
         write_line(out, b"mesh", &[self.tile])?;
-        append_all(out, self.free.cells.as_slice())?;
-        append_all(out, self.polys.as_slice())?;
+        append_free(out, &self.free)?;
+        self.polys.append_to(out)?;
         self.links.append_to(out)
     }
+}
+
+/// Appends the lines of the free cells of a tile, in order.
+fn append_free(out: &mut Vec<u8>, free: &KeptLayer) -> Result<(), AllocError>
+    ensures ok { OnOk result (out.new.items ≡ out.old.items ++ flat_map cell_text free.now.cells) }
+    ensures front { StandsInFront out.old.items out.new.items }
+{
+    let cells = free.cells(*out.allocator())?;
+    append_all(out, cells.as_slice())
 }

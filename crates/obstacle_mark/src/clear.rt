@@ -34,7 +34,7 @@ pub fn areas_clear(
     requires shapes { All IsShape shapes.now }
     ensures { IfOk result (λ areas. areas.items ≡ map (area_left (is_taken layer.now shapes.now) shapes.now) layer.now.cells) }
 {
-    let cells = layer.cells.as_slice();
+    let cells = layer.cells.get().as_slice();
     let mut areas = areas_left(alloc, cells, shapes)?;
     if is_plain(layer) {
         return Ok(areas);

@@ -58,7 +58,7 @@ fn all_cells(alloc: Global, layer: &Layer) -> Result<FreeLayer, AllocError>
 {
     Ok(FreeLayer {
         tile: layer.tile,
-        cells: layer.cells.duplicate(alloc)?,
+        cells: layer.cells.get().duplicate(alloc)?,
     })
 }
 
@@ -68,7 +68,7 @@ fn cells_left(alloc: Global, layer: &Layer, shapes: &[Shape]) -> Result<FreeLaye
     requires shapes { All IsShape shapes.now }
     ensures { IfOk result (λ free. free ≡ free_layer_of layer.now shapes.now) }
 {
-    let cells = layer.cells.as_slice();
+    let cells = layer.cells.get().as_slice();
     let areas = areas_clear(alloc, layer, shapes)?;
     let blocked = blocked_places(alloc, cells, areas.as_slice())?;
     let free = free_cells(alloc, cells, areas.as_slice(), blocked.as_slice())?;

@@ -43,24 +43,28 @@ pub fn walk(
     loop {
         visited.insert((at.tile, at.index))?;
         let polygon = polygon_at(mesh, at);
-        let Some(exit) = first_exit(polygon, ray) else {
+        let Some(exit) = first_exit(&polygon, ray) else {
             return Ok(mesh_types::RayAnswer::Reached(at));
         };
-        let inside = Inside { polygon, ray, exit };
+        let inside = Inside {
+            polygon: &polygon,
+            ray,
+            exit,
+        };
         let next = next_link(mesh, at, inside, &visited, &mut onward)?;
         let Some(link) = next else {
-            return Ok(wall(polygon, exit));
+            return Ok(wall(&polygon, exit));
         };
         at = link.to;
     }
 }
 
 /// The polygon that a reference names.
-fn polygon_at(mesh: &Mesh, at: PolyRef) -> &Polygon
+fn polygon_at(mesh: &Mesh, at: PolyRef) -> Polygon
     requires sound { IsSound mesh.now }
     requires there { IsThere mesh.now at }
-    ensures named { poly_at mesh.now at ≡ Some result.now }
-    ensures corners { All IsCellCorner result.now.corners }
+    ensures named { poly_at mesh.now at ≡ Some result }
+    ensures corners { All IsCellCorner result.corners }
 {
     poly(mesh, at).unwrap()
 }

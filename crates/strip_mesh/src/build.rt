@@ -16,7 +16,7 @@ use crate::rim::rim;
 use crate::tile_strips::TileStrips;
 use mesh_types::{Links, Polygons, RimEdge, TileMesh};
 use mono_regions::{StripTable, tabled_strips};
-use nav_ground::{FreeLayer, Setting, Window, tile_bounds};
+use nav_ground::{FreeLayer, KeptLayer, Setting, Window, tile_bounds};
 use nav_list::{Duplicate, Items};
 use std::alloc::{AllocError, Global};
 
@@ -96,7 +96,7 @@ fn mesh(alloc: Global, strips: TileStrips, setting: &Setting) -> Result<TileMesh
     let StripParts { polys, links, rim } = strip_parts(alloc, &strips, &window)?;
     Ok(TileMesh {
         tile,
-        free: strips.into_free(),
+        free: KeptLayer::own(strips.into_free()),
         polys,
         links,
         rim,

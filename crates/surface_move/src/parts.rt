@@ -58,7 +58,7 @@ fn furthest(mesh: &Mesh, polys: &[PolyRef], way: Way, rest: u32) -> u32
     let mut gone = 0;
     for later in 0..polys.len() {
         let polygon = polygon_at(mesh, polys[polys.len() - 1 - later]);
-        gone = furthest_in(polygon, way, gone, rest);
+        gone = furthest_in(&polygon, way, gone, rest);
     }
     gone
 }
@@ -105,7 +105,7 @@ fn first_holder(mesh: &Mesh, polys: &[PolyRef], p: Point) -> Option<u32>
     ensures { IsFirstHolder mesh.now polys.now p result }
 {
     for place in 0..polys.len() {
-        if holds(polygon_at(mesh, polys[place]), p) {
+        if holds(&polygon_at(mesh, polys[place]), p) {
             return Some(place as u32);
         }
     }
@@ -113,11 +113,11 @@ fn first_holder(mesh: &Mesh, polys: &[PolyRef], p: Point) -> Option<u32>
 }
 
 /// The polygon that a reference names.
-fn polygon_at(mesh: &Mesh, at: PolyRef) -> &Polygon
+fn polygon_at(mesh: &Mesh, at: PolyRef) -> Polygon
     requires sound { IsSound mesh.now }
     requires there { IsThere mesh.now at }
-    ensures named { poly_at mesh.now at ≡ Some result.now }
-    ensures corners { All IsCellCorner result.now.corners }
+    ensures named { poly_at mesh.now at ≡ Some result }
+    ensures corners { All IsCellCorner result.corners }
 {
     poly(mesh, at).unwrap()
 }

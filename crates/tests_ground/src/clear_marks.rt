@@ -7,6 +7,7 @@ ghost use Rattle.nav_ground.specs.Cells.{IsCells, IsCut, IsLayer};
 use crate::rows::{CellRow, NO, Row, cells_of, check_cells};
 use nav_ground::{FreeLayer, Layer, Shape, SmallCell};
 use nav_list::Items;
+use nav_share::Shared;
 use obstacle_mark::mark;
 use std::alloc::{AllocError, Global};
 use std::process::Abort;
@@ -110,7 +111,7 @@ fn layer(alloc: Global, radius: u32, wide: Vec<SmallCell>) -> Result<Layer, Allo
     let cells = inner(alloc)?;
     Ok(Layer {
         tile: 5,
-        cells: Items::from_vec(cells),
+        cells: Shared::new(alloc, Items::from_vec(cells))?,
         radius,
         wide: Items::from_vec(wide),
     })

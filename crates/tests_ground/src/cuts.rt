@@ -196,7 +196,7 @@ fn cells_wanted(case: &Case) -> usize
 fn cells_in(layers: &[Layer]) -> usize {
     let mut cells = 0usize;
     for layer in layers {
-        cells = cells.saturating_add(layer.cells.len());
+        cells = cells.saturating_add(layer.cells.get().len());
     }
     cells
 }
@@ -276,7 +276,7 @@ fn is_cut_alone(
     Ok(
         alone.tile == there.tile
             && alone.radius == there.radius
-            && are_same(alone.cells.as_slice(), there.cells.as_slice())
+            && are_same(alone.cells.get().as_slice(), there.cells.get().as_slice())
             && are_same(alone.wide.as_slice(), there.wide.as_slice()),
     )
 }
@@ -296,7 +296,7 @@ fn check_layers(
     for tile in 0..tiles(setting) {
         let there = &layers[tile as usize];
         assert!(rt; there.tile == tile);
-        check_cells(rt, case, setting, tile, there.cells.as_slice());
+        check_cells(rt, case, setting, tile, there.cells.get().as_slice());
         let wide = wide_wanted(alloc, case, &tile_bounds(setting, tile))?;
         check_wide(rt, case, there, wide.as_slice());
         assert!(rt; is_cut_alone(alloc, whole, tile, there)?);

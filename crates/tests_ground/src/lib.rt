@@ -19,6 +19,8 @@ mod erosion;
 #[cfg(test)]
 mod filters;
 #[cfg(test)]
+mod kept;
+#[cfg(test)]
 mod marks;
 #[cfg(test)]
 mod neighbours;

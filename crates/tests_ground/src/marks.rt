@@ -5,8 +5,9 @@ ghost use Rattle.nav_ground.specs.Limits.{IsShape};
 ghost use Rattle.nav_ground.specs.Cells.{IsLayer};
 
 use crate::checks::same;
-use crate::rows::{CellRow, NO, check_cells, whole_cells_of};
-use nav_ground::{FreeLayer, Layer, Shape};
+use crate::kept::check_kept;
+use crate::rows::{CellRow, NO, check_cells, stored};
+use nav_ground::{Layer, Shape};
 use nav_list::Items;
 use obstacle_mark::mark;
 use std::alloc::{AllocError, Global};
@@ -25,17 +26,10 @@ fn layer(alloc: Global) -> Result<Layer, AllocError>
 {
     Ok(Layer {
         tile: 5,
-        cells: Items::from_vec(whole_cells_of(alloc, &CELLS)?),
+        cells: stored(alloc, &CELLS)?,
         radius: 0,
         wide: Items::new(alloc),
     })
-}
-
-fn marked(alloc: Global, shapes: &[Shape]) -> Result<FreeLayer, AllocError>
-    requires { All IsShape shapes.now }
-{
-    let layer = layer(alloc)?;
-    mark(alloc, &layer, shapes)
 }
 
 fn check(
@@ -46,10 +40,11 @@ fn check(
 ) -> Result<(), AllocError>
     requires { All IsShape shapes.now }
 {
-    let free = marked(alloc, shapes)?;
+    let layer = layer(alloc)?;
+    let free = mark(alloc, &layer, shapes)?;
     same(rt, free.tile, 5);
     check_cells(rt, free.cells.as_slice(), wanted);
-    Ok(())
+    check_kept(rt, alloc, &layer, free, wanted)
 }
 
 /// The block of one column, or none where its heights miss the floor.

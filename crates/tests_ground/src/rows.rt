@@ -7,6 +7,8 @@ ghost use Rattle.tests_ground.specs.Rows.{cell_of, named_by, whole_cell_of};
 
 use crate::checks::same;
 use nav_ground::{Cell, CellRef, SmallCell};
+use nav_list::Items;
+use nav_share::Shared;
 use std::alloc::{AllocError, Global};
 use std::process::Abort;
 
@@ -88,6 +90,17 @@ pub(crate) fn whole_cells_of(alloc: Global, rows: &[CellRow]) -> Result<Vec<Smal
         cells.push(small_cell(row))?;
     }
     Ok(cells)
+}
+
+/// The cells of whole rows, in order, as a layer keeps them.
+pub(crate) fn stored(
+    alloc: Global,
+    rows: &[CellRow],
+) -> Result<Shared<Items<SmallCell>>, AllocError>
+    ensures { IfOk result (λ cells. cells ≡ map whole_cell_of rows.now) }
+{
+    let cells = whole_cells_of(alloc, rows)?;
+    Ok(Shared::new(alloc, Items::from_vec(cells))?)
 }
 
 /// Cells are just those of rows.

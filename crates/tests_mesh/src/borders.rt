@@ -11,7 +11,7 @@ use mesh_types::{
     Corners, LevelPair, Link, Links, Mesh, PolyRef, Polygon, Polygons, Portal, RimEdge, TileMesh,
 };
 use nav_base::Point;
-use nav_ground::{AREAS, Agent, FreeLayer, MeshKind, Setting, TileNo};
+use nav_ground::{AREAS, Agent, FreeLayer, KeptLayer, MeshKind, Setting, TileNo};
 use nav_list::Items;
 use nav_share::Shared;
 use std::alloc::{AllocError, Global};
@@ -66,10 +66,10 @@ pub(crate) fn tile(
     let links = Links::new(alloc, Vec::new(alloc), polygons)?;
     Ok(TileMesh {
         tile,
-        free: FreeLayer {
+        free: KeptLayer::own(FreeLayer {
             tile,
             cells: Items::new(alloc),
-        },
+        }),
         polys: Polygons::from_vec(alloc, polys)?,
         links,
         rim: Items::from_vec(rim),

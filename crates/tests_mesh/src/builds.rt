@@ -4,7 +4,7 @@ ghost use Rattle.std.specs.Prelude.{◌≡◌, ◌<◌, All};
 ghost use Rattle.nav_ground.specs.Limits.{IsShape};
 
 use crate::rows::hold;
-use crate::stored::stored;
+use crate::stored::shared;
 use mesh_types::TileMesh;
 use nav_ground::{AREAS, Agent, Cell, CellRef, Layer, MeshKind, Setting, Shape};
 use nav_list::Items;
@@ -88,20 +88,20 @@ fn built<L: Ledger>(
     let cells = CELLS;
     let layer = Layer {
         tile: 0,
-        cells: stored(alloc, &cells)?,
+        cells: shared(alloc, &cells)?,
         radius: 0,
         wide: Items::new(alloc),
     };
     build_tile(alloc, &layer, &SETTING, shapes, steps)
 }
 
-/// How many polygons the tile has.
+/// How many polygons the tile has, if it keeps its free cells over its layer.
 fn count<L: Ledger>(alloc: Global, shapes: &[Shape], steps: &mut Steps<L>) -> Option<usize>
     requires { All IsShape shapes.now }
 {
     match built(alloc, shapes, steps) {
-        Ok(tile) => Some(tile.polys.len()),
-        Err(_) => None,
+        Ok(tile) if tile.free.is_over() => Some(tile.polys.len()),
+        _ => None,
     }
 }
 

@@ -13,6 +13,8 @@ mod five_cells;
 #[cfg(test)]
 mod meshes;
 #[cfg(test)]
+mod polygons;
+#[cfg(test)]
 mod rows;
 pub mod stored;
 #[cfg(test)]

@@ -5,6 +5,7 @@ ghost use Rattle.tests_mesh.specs.Stored.{AreSmall};
 
 use nav_ground::{Cell, SmallCell};
 use nav_list::Items;
+use nav_share::Shared;
 use std::alloc::{AllocError, Global};
 
 /// The list of cells whose numbers are small.
@@ -17,4 +18,13 @@ pub fn stored(alloc: Global, cells: &[Cell]) -> Result<Items<SmallCell>, AllocEr
         stored.push(SmallCell::new(cell))?;
     }
     Ok(Items::from_vec(stored))
+}
+
+/// The same, as a layer keeps them.
+pub fn shared(alloc: Global, cells: &[Cell]) -> Result<Shared<Items<SmallCell>>, AllocError>
+    requires { AreSmall cells.now }
+    ensures { IfOk result (λ shared. shared ≡ cells.now) }
+{
+    let cells = stored(alloc, cells)?;
+    Ok(Shared::new(alloc, cells)?)
 }

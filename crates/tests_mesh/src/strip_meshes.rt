@@ -5,6 +5,7 @@ ghost use Rattle.nav_ground.specs.Cells.{IsCut, IsInTile};
 ghost use Rattle.nav_ground.specs.Limits.{IsSetting};
 
 use crate::five_cells::CELLS;
+use crate::polygons::are_polygons;
 use crate::rows::hold;
 use crate::stored::stored;
 use mesh_types::{Corners, LevelPair, Link, PolyRef, Polygon, Portal, RimEdge, TileMesh};
@@ -62,7 +63,7 @@ fn has_polygons(mesh: &TileMesh) -> bool {
         rectangle((1, 2), 1, 63, 8, 8),
         rectangle((2, 3), 1, 63, 14, 14),
     ];
-    mesh.polys.as_slice() == polys.as_slice()
+    are_polygons(&mesh.polys, polys.as_slice())
 }
 
 /// The polygon that a link leaves, the edge, the polygon entered, and x and z of the right and of the left end of the portal.

@@ -19,7 +19,7 @@ use mesh_types::{
 };
 use nav_base::Point;
 use nav_chunks::Chunks;
-use nav_ground::{AREAS, FreeLayer, Setting};
+use nav_ground::{AREAS, FreeLayer, KeptLayer, Setting};
 use nav_list::Items;
 use nav_share::Shared;
 use std::alloc::{AllocError, Global};
@@ -67,10 +67,10 @@ fn tile(
     let polys = Vec::from_array(alloc, [lower, upper])?;
     let made = TileMesh {
         tile,
-        free: FreeLayer {
+        free: KeptLayer::own(FreeLayer {
             tile,
             cells: Items::new(alloc),
-        },
+        }),
         polys: Polygons::from_vec(alloc, polys)?,
         links,
         rim: Items::new(alloc),

@@ -9,7 +9,7 @@ use mesh_locate::locate;
 use mesh_types::{Corners, Links, Mesh, PolyRef, Polygon, Polygons, TileMesh};
 use nav_base::Point;
 use nav_chunks::Chunks;
-use nav_ground::FreeLayer;
+use nav_ground::{FreeLayer, KeptLayer};
 use nav_list::Items;
 use nav_share::Shared;
 use std::alloc::{AllocError, Global};
@@ -47,10 +47,10 @@ fn tile(alloc: Global, tile: u32, polys: Vec<Polygon>) -> Result<Shared<TileMesh
     let links = Links::new(alloc, Vec::new(alloc), 0)?;
     let made = TileMesh {
         tile,
-        free: FreeLayer {
+        free: KeptLayer::own(FreeLayer {
             tile,
             cells: Items::new(alloc),
-        },
+        }),
         polys: Polygons::from_vec(alloc, polys)?,
         links,
         rim: Items::new(alloc),

@@ -5,7 +5,7 @@ ghost use Rattle.std.specs.Prelude.{◌≤◌, length};
 use crate::cell_rows::{RING, STEP, free_of};
 use crate::checks::same;
 use contour_mesh::{ContourMesh, contour_mesh_over};
-use mesh_types::{Corners, LevelPair, Link, Polygon, Portal, RimEdge, TileMesh};
+use mesh_types::{Corners, LevelPair, Link, Polygon, Polygons, Portal, RimEdge, TileMesh};
 use nav_base::Point;
 use nav_ground::{AREAS, Agent, MeshKind, Setting};
 use std::alloc::{AllocError, Global};
@@ -132,10 +132,12 @@ fn two_regions() -> [Polygon; 2] {
 }
 
 /// So many polygons begin with the wanted.
-fn check_polygons(rt: &impl Abort, polygons: &[Polygon], count: usize, wanted: &[Polygon]) {
+fn check_polygons(rt: &impl Abort, polygons: &Polygons, count: usize, wanted: &[Polygon]) {
     same(rt, polygons.len(), count);
     assert!(rt; wanted.len() <= polygons.len());
-    same(rt, &polygons[..wanted.len()], wanted);
+    for place in 0..wanted.len() {
+        same(rt, polygons.at(place), wanted[place]);
+    }
 }
 
 /// The polygon that a link leaves, the edge, the polygon entered, and the right and the left end of the portal.
@@ -187,7 +189,7 @@ fn made(rt: &impl Abort, mesh: ContourMesh) -> TileMesh {
 }
 
 fn check_ring(rt: &impl Abort, mesh: &TileMesh) {
-    check_polygons(rt, mesh.polys.as_slice(), 8, &thin_row());
+    check_polygons(rt, &mesh.polys, 8, &thin_row());
     same(rt, (mesh.links.len(), mesh.rim.len()), (16, 0));
 }
 
@@ -209,7 +211,7 @@ fn outlines_that_cannot_be_cut(rt: HostRuntime) -> Result<(), AllocError> {
 }
 
 fn check_pair(rt: &impl Abort, mesh: &TileMesh) {
-    check_polygons(rt, mesh.polys.as_slice(), 2, &two_regions());
+    check_polygons(rt, &mesh.polys, 2, &two_regions());
     check_links(rt, mesh.links.as_slice());
     check_rim(rt, mesh.rim.as_slice());
 }

@@ -9,7 +9,7 @@ use crate::rows::all_hold;
 use mesh_types::{Corners, Links, Mesh, PolyRef, Polygon, Polygons, TileMesh, poly};
 use nav_base::Point;
 use nav_chunks::Chunks;
-use nav_ground::{AREAS, Agent, FreeLayer, MeshKind, Setting};
+use nav_ground::{AREAS, Agent, FreeLayer, KeptLayer, MeshKind, Setting};
 use nav_list::Items;
 use nav_share::Shared;
 use std::alloc::{AllocError, Global};
@@ -101,10 +101,10 @@ fn tile(alloc: Global) -> Result<TileMesh, AllocError>
     let links = no_links(alloc)?;
     Ok(TileMesh {
         tile: 0,
-        free: FreeLayer {
+        free: KeptLayer::own(FreeLayer {
             tile: 0,
             cells: Items::new(alloc),
-        },
+        }),
         polys: Polygons::from_vec(alloc, polys)?,
         links,
         rim: Items::new(alloc),

@@ -1,6 +1,7 @@
 //! The build of one tile.
 
 ghost use Rattle.std.specs.Prelude.{◌≡◌, ◌+◌, ◌⊎◌, IfOk, All, unwrap_or};
+ghost use Rattle.nav_ground.specs.CellColumns.{AreOrdered};
 ghost use Rattle.nav_ground.specs.Cells.{IsCut, IsInTile};
 ghost use Rattle.nav_ground.specs.Grounds.{IsLayerOf, IsWideWithin};
 ghost use Rattle.nav_ground.specs.Limits.{IsSetting, IsShape};
@@ -47,7 +48,22 @@ pub fn build_tile<L: Ledger>(
 {
     steps.tick();
     let free = mark(alloc, layer, shapes)?;
-    free_mesh(alloc, free, setting)
+    let tile = free_mesh(alloc, free, setting)?;
+    over_layer(alloc, layer, tile)
+}
+
+/// The same mesh with its free cells as what they differ by from the cells of its layer.
+fn over_layer(alloc: Global, layer: &Layer, tile: TileMesh) -> Result<TileMesh, AllocError>
+    requires { AreOrdered layer.now.cells }
+    ensures { IfOk result (λ made. made ≡ tile) }
+{
+    Ok(TileMesh {
+        tile: tile.tile,
+        free: tile.free.over(alloc, layer)?,
+        polys: tile.polys,
+        links: tile.links,
+        rim: tile.rim,
+    })
 }
 
 /// The mesh of free cells: by the outlines of their regions where the setting asks for outlines and each region has one that can be cut,

@@ -6,7 +6,7 @@ ghost use Rattle.mesh_types.specs.BorderLinks.{border_link, line_of, scaled, sid
 ghost use Rattle.tile_links.specs.Across.{IsNamed, IsOnField};
 
 use crate::border::Border;
-use mesh_types::{Link, PolyRef, Polygon, Portal, RimEdge, Run};
+use mesh_types::{Link, PolyRef, Polygon, Polygons, Portal, RimEdge, Run};
 use nav_base::Point;
 
 /// The link from an entry of a tile on its side of the border to an entry of the tile across, along a run of the first one's positions.
@@ -15,7 +15,7 @@ pub fn border_link(border: Border, entry: &RimEdge, other: &RimEdge, run: Run) -
     requires run { (run.first ≤ run.last) × (entry.now.first + run.last < 1024) }
     ensures { result ≡ border_link border.entry.tile.now border.entry.across.now border.entry.side entry.now other.now run }
 {
-    let line = line_of(border.side, border.tile.polys.as_slice(), entry);
+    let line = line_of(border.side, &border.tile.polys, entry);
     Link {
         from: PolyRef {
             tile: border.tile.tile,
@@ -36,11 +36,11 @@ pub fn border_link(border: Border, entry: &RimEdge, other: &RimEdge, run: Run) -
 }
 
 /// Where the edge of an entry along a side lies, in whole cells: x for the sides 0 and 2, z for the sides 1 and 3.
-fn line_of(side: u32, polys: &[Polygon], entry: &RimEdge) -> i32
+fn line_of(side: u32, polys: &Polygons, entry: &RimEdge) -> i32
     ensures { result ≡ line_of side polys.now entry.now }
 {
     match polys.get(entry.poly as usize) {
-        Some(polygon) => along(side, corner_at(polygon, entry.edge)),
+        Some(polygon) => along(side, corner_at(&polygon, entry.edge)),
         None => 0,
     }
 }

@@ -1,5 +1,5 @@
 use Rattle.std.proofs.Common.{ℕ, max, get_or, sym, ap, ◌∙◌}
-use Rattle.corridor_search.specs.Landmarks.{apart}
+use Rattle.std.specs.Int.{abs_diff}
 use Rattle.corridor_search.proofs.Gaps.{gap-first, gap-more}
 use Rattle.corridor_search.proofs.landmarks.gap.Goals as goal
 
@@ -12,5 +12,5 @@ loop-place-preserved c =
     let height : ℕ = get_or c.args.heights place 0 in
     let other : ℕ = get_or c.args.others place 0 in
     c.max-gap.ensures ∙ ap (max c.loop-place.gap) c.abs_diff.ensures
-    ∙ ap (λ (n : ℕ). max n (apart height other)) c.loop-place.invariant
+    ∙ ap (λ (n : ℕ). max n (abs_diff height other)) c.loop-place.invariant
     ∙ sym (gap-more place c.args.heights c.args.others)

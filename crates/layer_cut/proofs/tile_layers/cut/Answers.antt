@@ -60,9 +60,9 @@ returns c =
     let cells = c.args.cells.now in
     let p = is_kept cells c.args.setting.now.agent.radius in
     let all = take_all c.loop-i.i cells c.loop-i-test.false in
-    IfOk-weaker c.layer_of_cells.result _ _
-    (λ layer made. made
+    IfOk-weaker c.close.result _ _
+    (λ layer made. made ∙ c.in_ok-open.ensures
     ∙ ap (λ (cs : List Cell). record { tile = c.args.tile; cells = cs; radius = margin_of c.args.setting.now; wide = wide_cells c.args.setting.now cells c.args.tile })
     (c.loop-i.invariant
     ∙ (λ i. map (layer_cell (kept_cells cells c.args.setting.now.agent.radius)) (cells_in (c.tile_bounds-window.ensures i) (filter p (all i))))))
-    c.layer_of_cells.ensures
+    c.close.ensures

@@ -1,8 +1,12 @@
-use Rattle.std.proofs.Common.{true, false, arith, length, ap, ◌∙◌, sym, subst}
+use Rattle.std.proofs.Common.{true, false, arith, length, List, map, filter, ap, ◌∙◌, sym, subst}
+use Rattle.std.specs.List.{range_with_len}
+use Rattle.std.proofs.lemmas.List.{take_all}
+use Rattle.std.proofs.lemmas.Result.{IfOk-weaker}
 use Rattle.nav_ground.specs.declared.cell.Cell.{Cell}
 use Rattle.nav_ground.specs.declared.cell.CellRef.{CellRef}
 use Rattle.nav_ground.specs.Layers.{layer_cell}
-use Rattle.layer_cut.specs.Tiles.{IsInField, tile_at}
+use Rattle.nav_ground.specs.Tiling.{tile_count}
+use Rattle.layer_cut.specs.Tiles.{IsInField, layer_with, tile_at}
 use Rattle.std.proofs.lemmas.List.FromFn.{length-map-range_with_len}
 use Rattle.nav_ground.specs.Clearance.{is_kept, kept_cells}
 use Rattle.layer_cut.proofs.HandedOut.{kept_step, unkept_step, mark_is, marks_beside}
@@ -46,9 +50,20 @@ loop-i-preserved c =
           (w.tile_of-tile.ensures.value
           ∙ ap (λ (at : CellRef). tile_at setting at.x at.z) (w.at-place.ensures ∙ ap (λ (cell : Cell). cell.at) c.index-cells-i.is))
           w.tile_of-tile.ensures.there (w.layer_cell-kept.ensures p c.requires.marks ∙ ap (layer_cell kept) c.index-cells-i.is)
-          w.index_mut.ensures.value w.in_ok-push.ensures.ok (ap (λ v. v.items) w.layers-is) c.loop-i.invariant
+          w.index_mut.ensures.value w.in_ok-push.ensures (ap (λ v. v.items) w.layers-is) c.loop-i.invariant
       | else-marks-i w ↦
           (ap (λ v. v.items) w.layers-is)
           ∙ unkept_step setting cells kept cells c.args.marks.now p c.loop-i.i c.loop-i.layers.items c.requires.marks c.loop-i-test.true w.if-marks-i.false
           c.loop-i.invariant
     ]
+
+pub returns : goal.returns
+returns c =
+    let setting = c.args.setting.now in
+    let cells = c.args.cells.now in
+    let radius = setting.agent.radius in
+    IfOk-weaker c.closed.result _ _
+    (λ layers made. made ∙ c.loop-i.invariant
+    ∙ ap (λ (some : List Cell). map (layer_with setting cells (kept_cells cells radius) (filter (is_kept cells radius) some)) (range_with_len 0 (tile_count setting)))
+    (take_all c.loop-i.i cells c.loop-i-test.false))
+    c.closed.ensures

@@ -1,4 +1,4 @@
-use Rattle.std.proofs.Common.{List, length, get_or, ap, refl, sym, subst, ◌∙◌}
+use Rattle.std.proofs.Common.{length, refl, sym, subst, ◌∙◌}
 use Rattle.std.specs.Prelude.{All}
 use Rattle.std.proofs.lemmas.Bool.{iff_false}
 use Rattle.std.proofs.lemmas.Option.{slice_get_read}
@@ -24,12 +24,12 @@ returns-then-not-is_in_box c =
 
 pub nearer-requires-clause-there : goal.nearer-requires-clause-there
 nearer-requires-clause-there c =
-    let polygon = c.index-as_slice-place.result in
-    let is = c.index-as_slice-place.is ∙ ap (λ (ps : List Polygon). get_or ps c.args.at.index polygon) c.as_slice.ensures in
+    let polygon = c.at.result in
+    let is = c.at.ensures polygon in
     c.requires.listed ∙ slice_get_read c.args.polygons.now (length c.args.polygons.now) c.args.at.index polygon refl c.requires.there is
 
 pub nearer-requires-clause-corners : goal.nearer-requires-clause-corners
 nearer-requires-clause-corners c =
-    let polygon = c.index-as_slice-place.result in
-    let is = c.index-as_slice-place.is ∙ ap (λ (ps : List Polygon). get_or ps c.args.at.index polygon) c.as_slice.ensures in
+    let polygon = c.at.result in
+    let is = c.at.ensures polygon in
     subst (λ (d : Polygon). All IsCellCorner d.corners) (sym is) (c.requires.polygons c.args.at.index polygon c.requires.there).corners

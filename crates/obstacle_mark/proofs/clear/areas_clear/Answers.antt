@@ -14,7 +14,7 @@ use Rattle.obstacle_mark.proofs.clear.areas_clear.Goals as goal
 pub returns-then-is_plain : goal.returns-then-is_plain
 returns-then-is_plain c =
     let shapes = c.args.shapes.now in
-    c.in_ok-areas.ensures ∙ ap (map (area_left (is_blocked shapes) shapes)) c.as_slice-cells.ensures
+    c.in_ok-areas.ensures ∙ ap (map (area_left (is_blocked shapes) shapes)) (c.as_slice-cells.ensures ∙ c.get.ensures)
     ∙ areas_plain c.args.layer.now shapes (sym c.is_plain.ensures ∙ c.if-is_plain.true)
 
 pub leave_clear-requires-clause-clear : goal.leave_clear-requires-clause-clear
@@ -45,5 +45,5 @@ returns c =
     ∙ areas_left_clear clear (is_blocked shapes) shapes cells old new
     (c.as_mut_slice.ensures.value ∙ c.in_ok-areas.ensures) c.leave_clear.auto.areas c.leave_clear.ensures
     ∙ ap (λ (places : List CellRef). map (area_left (crowded places) shapes) cells) are
-    ∙ ap (map (area_left (crowded (clear_places layer shapes)) shapes)) c.as_slice-cells.ensures
+    ∙ ap (map (area_left (crowded (clear_places layer shapes)) shapes)) (c.as_slice-cells.ensures ∙ c.get.ensures)
     ∙ areas_crowded layer shapes (sym c.is_plain.ensures ∙ c.if-is_plain.false)

@@ -14,7 +14,7 @@ loop-later-preserved c =
     let i : ℕ = length polys - (later + 1) in
     let next : length polys - later ≡ i + 1 = omega (arith, below) in
     let same : length polys - 1 - later ≡ i = omega arith in
-    one_more_polygon mesh polys c.args.way.from c.args.way.to c.args.rest c.loop-later.gone c.furthest_in-gone.result i c.polygon_at-polygon.result.now
+    one_more_polygon mesh polys c.args.way.from c.args.way.to c.args.rest c.loop-later.gone c.furthest_in-gone.result i c.polygon_at-polygon.result
     (omega (arith, below))
     (ap (λ (n : ℕ). poly_at mesh (nth_polygon polys n)) (sym same) ∙ c.polygon_at-polygon.ensures.named)
     (subst (λ (n : ℕ). IsGreatest (HoldsNearFrom mesh polys c.args.way.from c.args.way.to n) 0 c.args.rest c.loop-later.gone) next c.loop-later.invariant)

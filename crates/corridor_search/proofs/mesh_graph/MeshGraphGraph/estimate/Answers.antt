@@ -8,8 +8,8 @@ use Rattle.corridor_search.proofs.Vertices.{contains-there}
 use Rattle.corridor_search.proofs.Extents.{extent-rules, estimate-by}
 use Rattle.corridor_search.proofs.mesh_graph.MeshGraphGraph.estimate.Goals as goal
 
-pub middle-requires : goal.middle-requires
-middle-requires c =
+pub middle-middle-requires : goal.middle-middle-requires
+middle-middle-requires c =
     let mesh = c.args.self.now.mesh.now in
     (extent-rules mesh (polygon_of c.args.from) c.extent_at-extent.result c.requires.sound.searched.sound (contains-there mesh c.args.from c.requires.there)
     (c.extent_at-extent.ensures ∙ ap (extent_at mesh) c.polygon_at-at.ensures)).box
@@ -19,21 +19,21 @@ returns-in-Some c =
     let mesh = c.args.self.now.mesh.now in
     let goal = c.args.self.now.goal in
     let others = c.args.self.now.heights in
-    let distance : c.distance-distance.result ≡ estimates_of mesh goal c.args.from =
-    c.distance-distance.ensures ∙ ap (λ (p : Point). distance_of p goal) c.middle.ensures.value
+    let middle : distance_of c.middle-middle.result goal ≡ estimates_of mesh goal c.args.from =
+    ap (λ (p : Point). distance_of p goal) c.middle-middle.ensures.value
     ∙ estimate-by mesh goal c.args.from c.extent_at-extent.result (contains-there mesh c.args.from c.requires.there)
     (c.extent_at-extent.ensures ∙ ap (extent_at mesh) c.polygon_at-at.ensures) in
     let heights = c.heights.ensures ∙ ap (heights_at c.in-Some.marks.now) c.polygon_at-at.ensures in
-    c.from.ensures ∙ c.max.ensures
-    ∙ ap (λ (n : ℕ). max n c.bound.result) distance
-    ∙ ap (max (estimates_of mesh goal c.args.from)) (c.bound.ensures ∙ ap (λ hs. min (gap_of 8 hs others) 4294967295) heights)
+    c.from.ensures ∙ c.distance_or.ensures
+    ∙ ap (λ (n : ℕ). max n c.bound-bound.result) middle
+    ∙ ap (max (estimates_of mesh goal c.args.from)) (c.bound-bound.ensures ∙ ap (λ hs. min (gap_of 8 hs others) 4294967295) heights)
     ∙ sym (ap (λ marks. estimates_by mesh goal (option_copied marks) others c.args.from) c.in-Some.is)
 
 pub returns-in-None : goal.returns-in-None
 returns-in-None c =
     let mesh = c.args.self.now.mesh.now in
     let goal = c.args.self.now.goal in
-    c.from-in-None.ensures ∙ c.distance-distance.ensures ∙ ap (λ (p : Point). distance_of p goal) c.middle.ensures.value
+    c.from-in-None.ensures ∙ c.distance.ensures ∙ ap (λ (p : Point). distance_of p goal) c.middle-middle.ensures.value
     ∙ estimate-by mesh goal c.args.from c.extent_at-extent.result (contains-there mesh c.args.from c.requires.there)
     (c.extent_at-extent.ensures ∙ ap (extent_at mesh) c.polygon_at-at.ensures)
     ∙ sym (ap (λ marks. estimates_by mesh goal (option_copied marks) c.args.self.now.heights c.args.from) c.in-None.is)
