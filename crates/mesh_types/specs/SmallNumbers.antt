@@ -3,10 +3,11 @@ use Rattle.std.specs.Prelude.{ℤ, pos, ◌≤ℤ◌, ◌≤◌}
 use Rattle.nav_base.specs.declared.point.Point.{Point}
 use Rattle.mesh_types.specs.declared.extent.Extent.{Extent}
 
--- a coordinate fits into 16 bits, and both coordinates of a point
+-- a coordinate fits into 16 bits
 abbrev pub IsSmallCoordinate : ℤ → Type 0
 IsSmallCoordinate coordinate = (pos 0 ≤ℤ coordinate) × (coordinate ≤ℤ pos 65535)
 
+-- both coordinates of a point fit into 16 bits
 abbrev pub IsSmallPoint : Point → Type 0
 IsSmallPoint point = IsSmallCoordinate point.x × IsSmallCoordinate point.z
 

@@ -10,6 +10,7 @@ use Rattle.mesh_types.specs.Inline.{IsInline, corners_view, corners_inverse, cor
 abbrev pub places_of : Inside → corners.Inside
 places_of inside = record { points = inside.points; count = inside.count }
 
+-- the places after the last corner hold (0, 0)
 abbrev pub HasInline : Inside → Type 0
 HasInline inside = IsInline (places_of inside)
 

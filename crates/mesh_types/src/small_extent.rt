@@ -1,6 +1,6 @@
 //! Extents as they are stored: each in ten bytes, seen by contracts as the extent.
 
-ghost use Rattle.std.specs.Prelude.{◌≡◌, ◌↔◌, pos, IsNone, IfSome, IsTrue};
+ghost use Rattle.std.specs.Prelude.{◌≡◌, ◌↔◌, IsNone, IfSome, IsTrue};
 ghost use Rattle.mesh_types.specs.SmallNumbers.{IsSmallCoordinate, IsSmallPoint, IsSmallExtent};
 
 use crate::extent::Extent;
