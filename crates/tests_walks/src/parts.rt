@@ -135,8 +135,9 @@ fn are_there(mesh: &Mesh, polys: &[PolyRef]) -> bool
     ensures { IsTrue result → AreThere mesh.now polys.now }
 {
     for at in polys {
-        if poly(mesh, *at).is_none() {
-            return false;
+        match poly(mesh, *at) {
+            Some(_) => {}
+            None => return false,
         }
     }
     true
