@@ -13,14 +13,14 @@ use crate::nearby::field_near;
 use crate::tile_layers::{cut, hand_out};
 use agent_erode::kept_marks;
 use compact_layer::{CompactField, compact};
-use nav_ground::{Field, Ground, Layer, Setting, TileNo, tile_bounds};
+use nav_ground::{Field, Ground, Layer, PastField, Setting, TileNo, tile_bounds};
 use nav_list::Items;
 use span_filters::filtered;
 use std::alloc::{AllocError, Global};
 
 /// The ground that a field makes for a setting: its layers have the kept cells of each tile, in order of tiles, each connected to its
 /// kept neighbours in its own tile and across the border; where the setting says clear they also have the agent's radius and all cells so
-/// near the tile. It takes one pass over the field for each stage. Only memory can be refused.
+/// near the tile. It takes one pass over the field for each stage, and the spans are let go at the end. Only memory can be refused.
 pub fn ground(alloc: Global, setting: Setting, field: Field) -> Result<Ground, AllocError>
     requires setting { IsSetting setting }
     requires field { IsField field }
@@ -35,7 +35,7 @@ pub fn ground(alloc: Global, setting: Setting, field: Field) -> Result<Ground, A
     let layers = layers(alloc, &setting, &field)?;
     Ok(Ground {
         setting,
-        field,
+        field: PastField::of(&field),
         layers: Items::from_vec(layers),
     })
 }

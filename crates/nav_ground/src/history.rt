@@ -1,7 +1,7 @@
 //! Requests to change the obstacles, and the history that they leave.
 
 use crate::cell::Layer;
-use crate::field::Field;
+use crate::past_field::PastField;
 use crate::setting::Setting;
 use crate::shape::Shape;
 use nav_list::Items;
@@ -38,12 +38,12 @@ pub struct Entry {
     pub reply: Reply,
 }
 
-/// A ground as it was built, before any obstacle: its setting, its spans, and its layers, one a tile.
+/// A ground as it was built, before any obstacle: its setting, the field that it was made of, and its layers, one a tile.
 #[derive(Drop)]
 pub struct Ground {
     pub setting: Setting,
-    /// As wide and as deep as the setting says.
-    pub field: Field,
+    /// As wide and as deep as the setting says. It is known to contracts alone and takes no memory.
+    pub field: PastField,
     /// By the numbers of their tiles.
     pub layers: Items<Layer>,
 }
