@@ -1,6 +1,7 @@
 //! The one order of links.
 
 ghost use Rattle.std.specs.Prelude.{◌≡◌};
+ghost use Rattle.std.specs.Ordering.{ordering_then};
 ghost use Rattle.mesh_types.specs.LinkOrder.{link_cmp, poly_cmp, point_cmp, ordered_links};
 
 use crate::links::{Link, PolyRef};
@@ -15,16 +16,27 @@ pub fn order_links(links: &mut [Link])
     links.sort_unstable_by(|a, b| link_order(a, b))
 }
 
-/// Which of two links comes first.
+/// Which of two links comes first. Most differ in what they leave, so the rest is looked at only where that is the same.
 fn link_order(a: &Link, b: &Link) -> Ordering
     ensures { result ≡ link_cmp a.now b.now }
+{
+    let left = poly_order(a.from, b.from).then(a.edge.cmp(&b.edge));
+    match left {
+        Ordering::Equal => entered_order(a, b),
+        _ => left,
+    }
+}
+
+/// Which of two links comes first by the polygon entered and then by the portal.
+fn entered_order(a: &Link, b: &Link) -> Ordering
+    ensures { result ≡ ordering_then (poly_cmp a.now.to b.now.to)
+        (ordering_then (point_cmp a.now.portal.right b.now.portal.right) (point_cmp a.now.portal.left b.now.portal.left)) }
 {
     let portal = point_order(a.portal.right, b.portal.right).then(point_order(
         a.portal.left,
         b.portal.left,
     ));
-    let entered = poly_order(a.to, b.to).then(portal);
-    poly_order(a.from, b.from).then(a.edge.cmp(&b.edge).then(entered))
+    poly_order(a.to, b.to).then(portal)
 }
 
 fn poly_order(a: PolyRef, b: PolyRef) -> Ordering

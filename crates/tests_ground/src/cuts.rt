@@ -1,8 +1,9 @@
 //! Square fields cut by hand: flat but for a few spans over the column (2, 2), so that every layer can be said by its floors.
 
-ghost use Rattle.std.specs.Prelude.{◌≡◌, ◌<◌, ◌≤◌, ◌*◌, true, IfOk, IsTrue};
+ghost use Rattle.std.specs.Prelude.{◌≡◌, ◌<◌, ◌≤◌, ◌*◌, true, length, IfOk, IsTrue};
 ghost use Rattle.nav_ground.specs.Cells.{IsLayer};
-ghost use Rattle.nav_ground.specs.Grounds.{IsGround};
+ghost use Rattle.nav_ground.specs.Fields.{IsField};
+ghost use Rattle.nav_ground.specs.Grounds.{IsGround, IsSized};
 ghost use Rattle.nav_ground.specs.Limits.{IsSetting};
 ghost use Rattle.nav_ground.specs.Tiling.{tile_count};
 
@@ -262,26 +263,35 @@ fn check_wide(rt: &impl Abort, case: &Case, layer: &Layer, places: &[CellRef]) {
     }
 }
 
-/// Whether the layer of a tile alone is the one that is there.
-fn is_cut_alone(
+/// The layer of each tile alone, from a part of the field, is the one that is there.
+fn check_alone(
+    rt: &impl Abort,
     alloc: Global,
-    whole: &Ground,
-    tile: TileNo,
-    there: &Layer,
-) -> Result<bool, AllocError>
-    requires whole { IsGround whole.now }
-    requires tile { tile < tile_count whole.now.setting }
+    setting: &Setting,
+    field: &Field,
+    layers: &[Layer],
+) -> Result<(), AllocError>
+    requires setting { IsSetting setting.now }
+    requires field { IsField field.now }
+    requires sized { IsSized setting.now field.now }
+    requires each { length layers.now ≡ tile_count setting.now }
 {
-    let alone = layer(alloc, &whole.field, &whole.setting, tile)?;
-    Ok(
-        alone.tile == there.tile
-            && alone.radius == there.radius
-            && are_same(alone.cells.get().as_slice(), there.cells.get().as_slice())
-            && are_same(alone.wide.as_slice(), there.wide.as_slice()),
-    )
+    for tile in 0..tiles(setting) {
+        let alone = layer(alloc, field, setting, tile)?;
+        assert!(rt; is_same_layer(&alone, &layers[tile as usize]));
+    }
+    Ok(())
 }
 
-/// There is a layer for each tile, as wanted, and the layer of that tile alone is the same.
+/// Whether two layers are the same.
+fn is_same_layer(alone: &Layer, there: &Layer) -> bool {
+    alone.tile == there.tile
+        && alone.radius == there.radius
+        && are_same(alone.cells.get().as_slice(), there.cells.get().as_slice())
+        && are_same(alone.wide.as_slice(), there.wide.as_slice())
+}
+
+/// There is a layer for each tile, as wanted.
 fn check_layers(
     rt: &impl Abort,
     alloc: Global,
@@ -299,7 +309,6 @@ fn check_layers(
         check_cells(rt, case, setting, tile, there.cells.get().as_slice());
         let wide = wide_wanted(alloc, case, &tile_bounds(setting, tile))?;
         check_wide(rt, case, there, wide.as_slice());
-        assert!(rt; is_cut_alone(alloc, whole, tile, there)?);
     }
     Ok(())
 }
@@ -342,7 +351,26 @@ fn check(rt: &impl Abort, alloc: Global, case: &Case) -> Result<(), AllocError>
 {
     let whole = ground_of(rt, alloc, case)?;
     same(rt, cells_in(whole.layers.as_slice()), cells_wanted(case));
-    check_layers(rt, alloc, case, &whole)
+    check_layers(rt, alloc, case, &whole)?;
+    check_parts(rt, alloc, case, whole.layers.as_slice())
+}
+
+/// Each layer is also had from a part of the field.
+fn check_parts(
+    rt: &impl Abort,
+    alloc: Global,
+    case: &Case,
+    layers: &[Layer],
+) -> Result<(), AllocError>
+    requires side { (1 ≤ case.now.side) × (case.now.side ≤ 16) }
+    requires tile { (4 ≤ case.now.tile) × (case.now.tile ≤ 16) }
+    requires radius { case.now.radius ≤ 15 }
+    requires clear { case.now.clear ≡ true → 2 * case.now.radius ≤ case.now.tile }
+{
+    let field = field_of(alloc, case)?;
+    let setting = setting_of(case);
+    assert!(rt; keeps_rules(&field) && layers.len() == tiles(&setting) as usize);
+    check_alone(rt, alloc, &setting, &field, layers)
 }
 
 const FLAT: Case = Case {
