@@ -1,7 +1,7 @@
 #!/bin/sh
 # Times one tile of 128 by 128 columns by outlines of error 0. Its 42 regions are lanes of two columns that zigzag between walls of one: each has
 # an outline of 512 corners, which is cut into 510 triangles that are united again. Prints the processor seconds of reading and building it,
-# the least of three runs, and fails where they are more than 0.5. With BEFORE, another build of the program, that is timed in turn with it,
+# the least of three runs, and fails where they are more than 0.3. With BEFORE, another build of the program, that is timed in turn with it,
 # once, and must answer the same.     Build the program first: cd crates/navd && rt run -- play < stdin
 # usage: bench/merge.sh [BEFORE]
 set -eu
@@ -36,4 +36,4 @@ if [ $# -gt 0 ]; then
     before=$(seconds before)
     awk -v now="$now" -v before="$before" 'BEGIN { printf "before: %s s, %.3f times as long now\n", before, now / before }'
 fi
-awk -v now="$now" 'BEGIN { exit !(now <= 0.5) }' || { echo "more than 0.5 s"; exit 1; }
+awk -v now="$now" 'BEGIN { exit !(now <= 0.3) }' || { echo "more than 0.3 s"; exit 1; }

@@ -20,7 +20,7 @@ use std::alloc::{AllocError, Global};
 
 /// The ground that a field makes for a setting: its layers have the kept cells of each tile, in order of tiles, each connected to its
 /// kept neighbours in its own tile and across the border; where the setting says clear they also have the agent's radius and all cells so
-/// near the tile. It takes one pass over the field for each stage, and the spans are let go at the end. Only memory can be refused.
+/// near the tile. It takes one pass over the field for each stage, and the spans are let go on the way. Only memory can be refused.
 pub fn ground(alloc: Global, setting: Setting, field: Field) -> Result<Ground, AllocError>
     requires setting { IsSetting setting }
     requires field { IsField field }
@@ -32,10 +32,11 @@ pub fn ground(alloc: Global, setting: Setting, field: Field) -> Result<Ground, A
     // No wide cell is further from its tile than agents keep from obstacles.
     ensures wide { IfOk result (λ whole. All (IsWideWithin whole.setting) whole.layers) }
 {
-    let layers = layers(alloc, &setting, &field)?;
+    let past = PastField::of(&field);
+    let layers = layers(alloc, &setting, field)?;
     Ok(Ground {
         setting,
-        field: PastField::of(&field),
+        field: past,
         layers: Items::from_vec(layers),
     })
 }
@@ -91,16 +92,28 @@ fn layer_from(
     )
 }
 
-/// The layers of all tiles, in order.
-fn layers(alloc: Global, setting: &Setting, field: &Field) -> Result<Vec<Layer>, AllocError>
+/// The layers of all tiles, in order. The spans are let go before the layers are made, so that at most two of the three lists stand at once.
+fn layers(alloc: Global, setting: &Setting, field: Field) -> Result<Vec<Layer>, AllocError>
     requires setting { IsSetting setting.now }
-    requires field { IsField field.now }
-    requires sized { IsSized setting.now field.now }
-    ensures { IfOk result (λ layers. layers.items ≡ layers_of setting.now field.now) }
+    requires field { IsField field }
+    requires sized { IsSized setting.now field }
+    ensures { IfOk result (λ layers. layers.items ≡ layers_of setting.now field) }
 {
-    let compact = cells(alloc, setting, field)?;
+    let compact = last_cells(alloc, setting, field)?;
     let marks = kept_marks(alloc, compact.cells.as_slice(), setting.agent.radius)?;
     hand_out(alloc, setting, compact.cells.as_slice(), marks.as_slice())
+}
+
+/// The cells of a field, which ends with this.
+fn last_cells(alloc: Global, setting: &Setting, field: Field) -> Result<CompactField, AllocError>
+    requires setting { IsSetting setting.now }
+    requires field { IsField field }
+    requires sized { IsSized setting.now field }
+    ensures cells { IfOk result (λ compact. compact.cells ≡ cells_of setting.now field) }
+    ensures rules { IfOk result (λ compact. IsCompact compact.cells) }
+    ensures inside { IfOk result (λ compact. AreInField setting.now compact.cells) }
+{
+    cells(alloc, setting, &field)
 }
 
 /// The cells of a field, on the spans that the filters leave walkable.
