@@ -1,6 +1,7 @@
 pub mod Words
 pub mod Keyed
 pub mod Starts
+pub mod SmallLaws
 pub mod Labels
 pub mod Sorting
 pub mod LinkOrderLaws

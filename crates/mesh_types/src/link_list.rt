@@ -93,11 +93,7 @@ impl Links {
 fn entered(alloc: Global, links: &[Link]) -> Result<Vec<PolyRef>, AllocError>
     ensures { IfOk result (λ ends. ends.items ≡ map entered_by links.now) }
 {
-    let mut ends = Vec::with_capacity(alloc, links.len())?;
-    for link in links {
-        ends.push(link.to)?;
-    }
-    Ok(ends)
+    links.iter().map(|link| link.to).collect(alloc)
 }
 
 /// The elements from one place up to another.

@@ -1,6 +1,7 @@
 //! Points as they are stored: each in four bytes, seen by contracts as the point.
 
-ghost use Rattle.std.specs.Prelude.{◌≡◌, pos, IfSome};
+ghost use Rattle.std.specs.Prelude.{◌≡◌, ◌↔◌, pos, IfSome, IsNone};
+ghost use Rattle.mesh_types.specs.SmallNumbers.{IsSmallCoordinate, IsSmallPoint};
 
 use nav_base::Point;
 use std::marker::Model;
@@ -24,9 +25,10 @@ impl Model for SmallPoint {
 }
 
 impl SmallPoint {
-    /// A point in small numbers; none where one of its numbers is too great for them or less than 0.
+    /// A point in small numbers; none exactly where one of its numbers is too great for them or less than 0.
     pub(crate) fn new(point: Point) -> Option<Self>
-        ensures { IfSome result (λ kept. kept ≡ point) }
+        ensures value { IfSome result (λ kept. kept ≡ point) }
+        ensures none { IsNone result ↔ (IsSmallPoint point → ⊥) }
     {
         Some(SmallPoint {
             x: small(point.x)?,
@@ -45,9 +47,10 @@ impl SmallPoint {
     }
 }
 
-/// A coordinate in 16 bits, if it fits into them.
+/// A coordinate in 16 bits; none exactly where it does not fit into them.
 fn small(coordinate: i32) -> Option<u16>
-    ensures { IfSome result (λ kept. pos kept ≡ coordinate) }
+    ensures value { IfSome result (λ kept. pos kept ≡ coordinate) }
+    ensures none { IsNone result ↔ (IsSmallCoordinate coordinate → ⊥) }
 {
     u16::try_from(coordinate).ok()
 }

@@ -1,6 +1,7 @@
 //! Polygons as they are stored: each in thirty bytes, seen by contracts as the polygon.
 
-ghost use Rattle.std.specs.Prelude.{◌≡◌, IfSome};
+ghost use Rattle.std.specs.Prelude.{◌≡◌, ◌↔◌, IfSome, IsNone};
+ghost use Rattle.mesh_types.specs.SmallNumbers.{IsSmallArea, IsSmallFloor, IsSmallPolygon};
 
 use crate::corners::Corners;
 use crate::polygon::Polygon;
@@ -34,9 +35,10 @@ impl Model for SmallPolygon {
 }
 
 impl SmallPolygon {
-    /// A polygon in small numbers; none where one of its numbers is too great for them or less than 0.
+    /// A polygon in small numbers; none exactly where one of its numbers is too great for them or less than 0.
     pub(crate) fn new(polygon: &Polygon) -> Option<Self>
-        ensures { IfSome result (λ small. small ≡ polygon.now) }
+        ensures value { IfSome result (λ small. small ≡ polygon.now) }
+        ensures none { IsNone result ↔ (IsSmallPolygon polygon.now → ⊥) }
     {
         let (points, count) = polygon.corners.places();
         Some(SmallPolygon {
@@ -76,16 +78,18 @@ impl SmallPolygon {
     }
 }
 
-/// A floor in 16 bits, if it fits into them.
+/// A floor in 16 bits; none exactly where it does not fit into them.
 fn small_floor(floor: u32) -> Option<u16>
-    ensures { IfSome result (λ kept. kept ≡ floor) }
+    ensures value { IfSome result (λ kept. kept ≡ floor) }
+    ensures none { IsNone result ↔ (IsSmallFloor floor → ⊥) }
 {
     u16::try_from(floor).ok()
 }
 
-/// An area in 8 bits, if it fits into them.
+/// An area in 8 bits; none exactly where it does not fit into them.
 fn small_area(area: u32) -> Option<u8>
-    ensures { IfSome result (λ kept. kept ≡ area) }
+    ensures value { IfSome result (λ kept. kept ≡ area) }
+    ensures none { IsNone result ↔ (IsSmallArea area → ⊥) }
 {
     u8::try_from(area).ok()
 }

@@ -1,8 +1,9 @@
 //! Lists of polygons in small numbers, beside which the extents stand.
 
-ghost use Rattle.std.specs.Prelude.{◌≡◌, ◌<◌, map, IfOk, IfSome, length, slice_index_or};
+ghost use Rattle.std.specs.Prelude.{◌≡◌, ◌<◌, ◌↔◌, map, IfOk, IfSome, IsNone, length, slice_index_or};
 ghost use Rattle.mesh_types.specs.declared.polygon.Polygon.{Polygon};
 ghost use Rattle.mesh_types.specs.Extents.{extent_of};
+ghost use Rattle.mesh_types.specs.SmallNumbers.{AreSmallPolygons, HaveSmallExtents};
 
 use crate::extent::Extent;
 use crate::extents::extent;
@@ -34,12 +35,13 @@ impl Model for SmallPolygons {
 }
 
 impl SmallPolygons {
-    /// Polygons in small numbers, in order; none where one of them does not fit.
+    /// Polygons in small numbers, in order; none exactly where one of them does not fit.
     pub(crate) fn new(
         alloc: Global,
         polygons: &[Polygon],
     ) -> Result<Option<SmallPolygons>, AllocError>
-        ensures { IfOk result (λ kept. IfSome kept (λ small. small ≡ polygons.now)) }
+        ensures value { IfOk result (λ kept. IfSome kept (λ small. small ≡ polygons.now)) }
+        ensures none { IfOk result (λ kept. IsNone kept ↔ (AreSmallPolygons polygons.now → ⊥)) }
     {
         let Some(small) = shapes(alloc, polygons)? else {
             return Ok(None);
@@ -86,9 +88,10 @@ impl Duplicate for SmallPolygons {
     }
 }
 
-/// Polygons in small numbers; none where one of them does not fit.
+/// Polygons in small numbers; none exactly where one of them does not fit.
 fn shapes(alloc: Global, polygons: &[Polygon]) -> Result<Option<Items<SmallPolygon>>, AllocError>
-    ensures { IfOk result (λ kept. IfSome kept (λ small. small ≡ polygons.now)) }
+    ensures value { IfOk result (λ kept. IfSome kept (λ small. small ≡ polygons.now)) }
+    ensures none { IfOk result (λ kept. IsNone kept ↔ (AreSmallPolygons polygons.now → ⊥)) }
 {
     let mut shapes = Vec::with_capacity(alloc, polygons.len())?;
     for polygon in polygons {
@@ -100,9 +103,10 @@ fn shapes(alloc: Global, polygons: &[Polygon]) -> Result<Option<Items<SmallPolyg
     Ok(Some(Items::from_vec(shapes)))
 }
 
-/// The extents of polygons in small numbers; none where one of them does not fit.
+/// The extents of polygons in small numbers; none exactly where one of them does not fit.
 fn extents(alloc: Global, polygons: &[Polygon]) -> Result<Option<Items<SmallExtent>>, AllocError>
-    ensures { IfOk result (λ kept. IfSome kept (λ small. small ≡ map extent_of polygons.now)) }
+    ensures value { IfOk result (λ kept. IfSome kept (λ small. small ≡ map extent_of polygons.now)) }
+    ensures none { IfOk result (λ kept. IsNone kept ↔ (HaveSmallExtents polygons.now → ⊥)) }
 {
     let mut extents = Vec::with_capacity(alloc, polygons.len())?;
     for polygon in polygons {
