@@ -51,6 +51,12 @@ kept_first whole state places mesh first rules rules' empty is sound' =
       sound = sound';
     })
 
+-- a step that may be refused with nothing changed leaves the ground, where it does if it is taken
+pub whole_unless : {A E : Type 0} (state : BookState) (result : Result A E) (next new : BookState) → OnOk result (new ≡ next) → OnErr result (new ≡ state)
+    → next.whole ≡ state.whole → new.whole ≡ state.whole
+whole_unless state (Ok answer) next new taken refused whole = ap (λ (s : BookState). s.whole) taken ∙ whole
+whole_unless state (Err error) next new taken refused whole = ap (λ (s : BookState). s.whole) refused
+
 module _ (state : BookState) (places : List (Option TileMesh)) (mesh : Mesh) (kept : AreKept state places mesh) where
   shown_within : state.published ≤ length state.history
   shown_within = omega (arith, kept.rules.aimed, kept.rules.shown)

@@ -8,3 +8,4 @@ pub mod StepLaws
 pub mod JobLaws
 mod ShownAnswers
 mod Passing
+mod SameJobs

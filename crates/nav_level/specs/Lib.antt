@@ -3,3 +3,4 @@ pub mod Fresh
 pub mod Representation
 pub mod Openings
 pub mod Settling
+pub mod Remembered

@@ -21,5 +21,7 @@ pub record AreKept (state : BookState) (places : List (Option TileMesh)) (mesh :
   pub shown : mesh ≡ published_mesh state
   pub sound : IsSound mesh
 
-abbrev pub IsKept : Inside → Type 0
-IsKept inside = AreKept inside.desk inside.fresh inside.mesh
+-- and the builds that are remembered are of the state's ground
+pub record IsKept (inside : Inside) : Type 0 where
+  pub tiles : AreKept inside.desk inside.fresh inside.mesh
+  pub builds : inside.builds ≡ inside.desk.whole

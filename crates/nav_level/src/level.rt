@@ -19,6 +19,7 @@ ghost use Rattle.nav_level.specs.Settling.{IsUnclaimed};
 
 use crate::counts::{links, polygons};
 use crate::fresh::FreshMeshes;
+use crate::last_builds::LastBuilds;
 use crate::shown::Shown;
 use mesh_types::{Answer, Asked, Mesh, TileMesh};
 use nav_base::Question;
@@ -26,9 +27,11 @@ use nav_desk::{Desk, HistoryFull, Job, Published, Submitted};
 use nav_ground::{Entry, Ground, Reply, Request};
 use nav_list::Items;
 use nav_share::Shared;
+use nav_steps::Steps;
 use std::alloc::{AllocError, Global};
 use std::marker::Model;
 use std::sync::Arc;
+use std::sync::ledger::Ledger;
 use tile_links::{joined, replaced};
 
 /// The history of the requests to a ground, the tiles that wait for a build, and the published mesh.
@@ -40,6 +43,8 @@ pub struct Level {
     /// The tile meshes that are stored and not published yet.
     fresh: FreshMeshes,
     mesh: Shown,
+    /// The builds that were made last.
+    builds: LastBuilds,
 }
 
 impl Model for Level {
@@ -68,6 +73,7 @@ impl Level {
         ensures state { IfOk result (λ made. made ≡ first_state (arc_value level)) }
         ensures rules { IfOk result IsBook }
     {
+        let builds = LastBuilds::new(alloc, Arc::try_clone(&level)?);
         let fresh = FreshMeshes::new(alloc, tiles.len())?;
         let mesh = joined(alloc, &level.setting, tiles)?;
         let shared = Shared::new(alloc, mesh)?;
@@ -76,6 +82,7 @@ impl Level {
             desk,
             fresh,
             mesh: Shown::new(shared),
+            builds,
         })
     }
 
@@ -136,6 +143,22 @@ impl Level {
         ensures rules { IsBook self.new }
     {
         self.desk.put_back_all()
+    }
+
+    /// The mesh of a job's tile under the job's shapes, built or taken from the builds that are remembered. It takes one step, also where memory
+    /// is refused.
+    pub(crate) fn build<L: Ledger>(
+        &mut self,
+        alloc: Global,
+        job: &Job,
+        steps: &mut Steps<L>,
+    ) -> Result<Shared<TileMesh>, AllocError>
+        requires { IsJob self.old.whole.setting job.now }
+        ensures same { self.new ≡ self.old }
+        ensures mesh { IfOk result (λ mesh. mesh ≡ tile_under self.old.whole job.now.tile job.now.shapes) }
+        ensures step { steps.new ≡ steps.old + 1 }
+    {
+        self.builds.build(alloc, job, steps)
     }
 
     /// Takes the build of a job in: its tile is claimed no more. It is stale exactly where the tile is not awaited, or was not built under

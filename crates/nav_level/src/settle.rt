@@ -5,7 +5,6 @@ ghost use Rattle.nav_desk.specs.BookState.{IsBook, least_awaited, least_claimabl
 ghost use Rattle.nav_steps.specs.Counts.{HasRisenAtMost};
 ghost use Rattle.nav_level.specs.Settling.{IsUnclaimed, after_settle, after_step, all_built, awaited_tiles, settling, steps_due};
 
-use crate::job_build::build_job;
 use crate::level::Level;
 use nav_ground::TileNo;
 use nav_steps::Steps;
@@ -65,7 +64,8 @@ impl Level {
     }
 
     /// Claims the least tile that is awaited and not claimed, builds it, with one step, and takes the build in; its number is given. None
-    /// exactly where there is no such tile, and then nothing is done. Where memory is refused, nothing has changed.
+    /// exactly where there is no such tile, and then nothing is done. A build of the same job that is remembered is taken in place of a new one,
+    /// and is one step too. Where memory is refused, nothing has changed.
     pub fn step<L: Ledger>(
         &mut self,
         alloc: Global,
@@ -82,7 +82,7 @@ impl Level {
             return Ok(None);
         };
         let tile = job.tile;
-        match build_job(alloc, self.level(), &job, steps) {
+        match self.build(alloc, &job, steps) {
             Ok(mesh) => {
                 let _ = self.submit(job, mesh);
                 Ok(Some(tile))

@@ -1,4 +1,4 @@
-use Rattle.std.proofs.Common.{[], ◌∙◌, ap, length, subst, sym}
+use Rattle.std.proofs.Common.{[], ◌∙◌, ap, length, rules, subst, sym}
 use Rattle.std.specs.Prelude.{replicate, None}
 use Rattle.std.proofs.lemmas.List.Elements.{All-nil}
 use Rattle.std.specs.Arc.{arc_value}
@@ -17,8 +17,11 @@ joined-requires-clause-tiles c =
 pub invariant_of-result : goal.invariant_of-result
 invariant_of-result c =
     let whole : Ground = arc_value c.args.level in
-    kept_first whole c.in_ok-desk.desk c.in_ok-fresh.fresh c.new-3.result c.in_ok-desk.ensures.state c.in_ok-desk.ensures.rules c.requires.level
-    (c.in_ok-fresh.ensures ∙ ap (λ n. replicate n None) (c.len.ensures ∙ ap length c.requires.tiles ∙ length-tiles_under whole [] c.requires.level))
-    (c.new-3.ensures ∙ c.in_ok-shared.ensures.ok ∙ c.in_ok-mesh.ensures.mesh ∙ ap (λ (w : Ground). mesh_of w.setting c.args.tiles) c.deref.ensures
-    ∙ ap (mesh_of whole.setting) c.requires.tiles)
-    (subst IsSound (sym (c.new-3.ensures ∙ c.in_ok-shared.ensures.ok)) c.in_ok-mesh.ensures.sound)
+    record {
+      tiles = kept_first whole c.in_ok-desk.desk c.in_ok-fresh.fresh c.new-3.result c.in_ok-desk.ensures.state c.in_ok-desk.ensures.rules c.requires.level
+          (c.in_ok-fresh.ensures ∙ ap (λ n. replicate n None) (c.len.ensures ∙ ap length c.requires.tiles ∙ length-tiles_under whole [] c.requires.level))
+          (c.new-3.ensures ∙ c.in_ok-shared.ensures.ok ∙ c.in_ok-mesh.ensures.mesh ∙ ap (λ (w : Ground). mesh_of w.setting c.args.tiles) c.deref.ensures
+          ∙ ap (mesh_of whole.setting) c.requires.tiles)
+          (subst IsSound (sym (c.new-3.ensures ∙ c.in_ok-shared.ensures.ok)) c.in_ok-mesh.ensures.sound);
+      builds = search rules;
+    }

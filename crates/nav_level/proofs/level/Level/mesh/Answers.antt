@@ -4,4 +4,4 @@ use Rattle.nav_level.proofs.level.Level.mesh.Goals as goal
 
 pub returns-clause-lasting : goal.returns-clause-lasting
 returns-clause-lasting c =
-    rw (← c.self.view_is) (λ more. c.get.ensures ∙ lasting c.self.inside.desk c.self.inside.fresh c.self.inside.mesh c.self.invariant more)
+    rw (← c.self.view_is) (λ more. c.get.ensures ∙ lasting c.self.inside.desk c.self.inside.fresh c.self.inside.mesh c.self.invariant.tiles more)

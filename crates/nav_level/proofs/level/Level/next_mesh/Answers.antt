@@ -8,25 +8,25 @@ use Rattle.nav_level.proofs.KeptTiles.{are_news, few_after, is_whole, setting_fi
 use Rattle.nav_level.proofs.level.Level.next_mesh.Goals as goal
 
 pub replaced-requires-clause-setting : goal.replaced-requires-clause-setting
-replaced-requires-clause-setting c = rw c.get.ensures (setting_fits c.self.inside.desk c.self.inside.fresh c.self.inside.mesh c.self.invariant)
+replaced-requires-clause-setting c = rw c.get.ensures (setting_fits c.self.inside.desk c.self.inside.fresh c.self.inside.mesh c.self.invariant.tiles)
 
 pub replaced-requires-clause-mesh : goal.replaced-requires-clause-mesh
-replaced-requires-clause-mesh c = rw c.get.ensures (is_whole c.self.inside.desk c.self.inside.fresh c.self.inside.mesh c.self.invariant)
+replaced-requires-clause-mesh c = rw c.get.ensures (is_whole c.self.inside.desk c.self.inside.fresh c.self.inside.mesh c.self.invariant.tiles)
 
 pub replaced-requires-clause-news : goal.replaced-requires-clause-news
 replaced-requires-clause-news c =
     let none = subst (λ (state : BookState). least_awaited state ≡ None) (sym c.self.view_is) c.requires in
-    rw c.get.ensures (are_news c.self.inside.desk c.self.inside.fresh c.self.inside.mesh c.self.invariant none _ (search rules))
+    rw c.get.ensures (are_news c.self.inside.desk c.self.inside.fresh c.self.inside.mesh c.self.invariant.tiles none _ (search rules))
 
 pub replaced-requires-clause-few : goal.replaced-requires-clause-few
 replaced-requires-clause-few c =
     let none = subst (λ (state : BookState). least_awaited state ≡ None) (sym c.self.view_is) c.requires in
-    rw c.get.ensures (few_after c.self.inside.desk c.self.inside.fresh c.self.inside.mesh c.self.invariant none _ (search rules))
+    rw c.get.ensures (few_after c.self.inside.desk c.self.inside.fresh c.self.inside.mesh c.self.invariant.tiles none _ (search rules))
 
 pub returns-clause-mesh : goal.returns-clause-mesh
 returns-clause-mesh c =
     let none = subst (λ (state : BookState). least_awaited state ≡ None) (sym c.self.view_is) c.requires in
     c.in_ok-new.ensures.ok ∙ c.in_ok-mesh.ensures.mesh
     ∙ ap (λ (mesh : Mesh). mesh_of mesh.setting (tiles_after c.news.result.now mesh.tiles)) c.get.ensures
-    ∙ target_is c.self.inside.desk c.self.inside.fresh c.self.inside.mesh c.self.invariant none c.news.result.now (search rules)
+    ∙ target_is c.self.inside.desk c.self.inside.fresh c.self.inside.mesh c.self.invariant.tiles none c.news.result.now (search rules)
     ∙ ap target_mesh c.self.view_is

@@ -23,7 +23,7 @@ returns-in-Ok-clause-tile g c = (is_given c.args.self.now c.in_ok-job.field-0 c.
 
 pub returns-in-Ok-clause-stepped : goal.returns-in-Ok-clause-stepped
 returns-in-Ok-clause-stepped g c =
-    c.submit.ensures.stored ∙ ap (λ (s : BookState). after_submit s c.in-Some.job.tile c.in-Some.job.shapes) c.in_ok-job.ensures.claimed
+    c.submit.ensures.stored ∙ ap (λ (s : BookState). after_submit s c.in-Some.job.tile c.in-Some.job.shapes) (c.in-Ok.ensures.same ∙ c.in_ok-job.ensures.claimed)
     ∙ (is_given c.args.self.now c.in_ok-job.field-0 c.in-Some.job c.in_ok-job.ensures.job c.in-Some.is).taken
 
 pub returns-in-Ok-clause-steps : goal.returns-in-Ok-clause-steps
@@ -47,5 +47,5 @@ returns-in-Err-clause-most g c =
 
 pub returns-in-Err-clause-refused : goal.returns-in-Err-clause-refused
 returns-in-Err-clause-refused g c =
-    c.put_back.ensures.back ∙ ap (λ (s : BookState). after_put_back s c.in-Some.job.tile) c.in_ok-job.ensures.claimed
+    c.put_back.ensures.back ∙ ap (λ (s : BookState). after_put_back s c.in-Some.job.tile) (c.in-Err.ensures.same ∙ c.in_ok-job.ensures.claimed)
     ∙ (is_given c.args.self.now c.in_ok-job.field-0 c.in-Some.job c.in_ok-job.ensures.job c.in-Some.is).back

@@ -1,0 +1,13 @@
+use Rattle.std.proofs.Common.{◌∙◌, refl, sym}
+use Rattle.nav_desk.specs.Steps.{after_claim}
+use Rattle.nav_level.proofs.KeptTiles.{kept_unless, whole_unless}
+use Rattle.nav_level.proofs.level.Level.claim.Goals as goal
+
+pub invariant_of-self : goal.invariant_of-self
+invariant_of-self c =
+    let state = c.self.inside.desk in
+    record {
+      tiles = kept_unless state c.self.inside.fresh c.self.inside.mesh c.self.invariant.tiles c.claim.result (after_claim state) _ c.claim.ensures.claimed
+          c.claim.ensures.refused c.claim.ensures.rules refl refl refl;
+      builds = c.self.invariant.builds ∙ sym (whole_unless state c.claim.result (after_claim state) _ c.claim.ensures.claimed c.claim.ensures.refused refl);
+    }

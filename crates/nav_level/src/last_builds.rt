@@ -1,0 +1,134 @@
+//! The builds that were made last, so that a door which opens and closes is not built again each time.
+
+ghost use Rattle.std.specs.Prelude.{◌≡◌, ◌↔◌, ◌+◌, IsTrue, IfOk, IfSome};
+ghost use Rattle.std.specs.Arc.{arc_value};
+ghost use Rattle.nav_ground.specs.Grounds.{IsGround};
+ghost use Rattle.nav_desk.specs.Steps.{IsJob};
+ghost use Rattle.nav_level.specs.Results.{tile_under};
+
+use crate::job_build::build_job;
+use mesh_types::TileMesh;
+use nav_desk::Job;
+use nav_ground::Ground;
+use nav_list::Duplicate;
+use nav_share::Shared;
+use nav_steps::Steps;
+use std::alloc::{AllocError, Global};
+use std::marker::Model;
+use std::sync::Arc;
+use std::sync::ledger::Ledger;
+
+/// How many builds are remembered. A door seldom touches more than four tiles, and asks for two builds of each: so this is enough for four doors
+/// that open and close in turn. A tile's mesh is about ten KB, and the shapes that touch a tile are few, so all of them keep less than half a MB.
+const ROOM: usize = 32;
+
+/// What was built for a job.
+#[derive(Drop)]
+struct Build {
+    job: Job,
+    mesh: Shared<TileMesh>,
+}
+
+/// A ground, and the builds of its tiles that were made last. Contracts see the ground alone: a build that is remembered is what a new one
+/// would be.
+#[derive(Drop)]
+pub(crate) struct LastBuilds {
+    level: Arc<Ground>,
+    builds: Vec<Build>,
+    /// The place of the next build: that of the oldest one, once there are `ROOM` of them.
+    next: usize,
+}
+
+impl Model for LastBuilds {
+    ghost use Rattle.std.specs.Arc.{arc_value};
+    ghost use Rattle.nav_ground.specs.declared.history.Ground.{Ground};
+    ghost use Rattle.nav_level.specs.Remembered.{AreKeptBuilds};
+
+    ghost Value = { Ground };
+
+    ghost view = { λ a. arc_value a.level };
+
+    ghost invariant = { λ a. AreKeptBuilds (arc_value a.level) a.builds.items };
+}
+
+impl LastBuilds {
+    /// A ground with no builds yet. It takes no memory.
+    pub(crate) fn new(alloc: Global, level: Arc<Ground>) -> LastBuilds
+        ensures { result ≡ arc_value level }
+    {
+        LastBuilds {
+            level,
+            builds: Vec::new(alloc),
+            next: 0,
+        }
+    }
+
+    /// The mesh of a job's tile under the job's shapes: that of the same job where it is remembered, else a new one, which is remembered from
+    /// then on where memory for that is left. It takes one step, also where memory is refused.
+    pub(crate) fn build<L: Ledger>(
+        &mut self,
+        alloc: Global,
+        job: &Job,
+        steps: &mut Steps<L>,
+    ) -> Result<Shared<TileMesh>, AllocError>
+        requires level { IsGround self.old }
+        requires job { IsJob self.old.setting job.now }
+        ensures same { self.new ≡ self.old }
+        ensures mesh { IfOk result (λ mesh. mesh ≡ tile_under self.old job.now.tile job.now.shapes) }
+        ensures step { steps.new ≡ steps.old + 1 }
+    {
+        if let Some(mesh) = self.remembered(job) {
+            steps.tick();
+            return Ok(mesh);
+        }
+        let mesh = build_job(alloc, &self.level, job, steps)?;
+        let _ = self.remember(alloc, job, &mesh);
+        Ok(mesh)
+    }
+
+    /// A further owner of the mesh that was built for the same job; none where there is none at hand.
+    fn remembered(&self, job: &Job) -> Option<Shared<TileMesh>>
+        ensures { IfSome result (λ mesh. mesh ≡ tile_under self.now job.now.tile job.now.shapes) }
+    {
+        for build in self.builds.as_slice() {
+            if is_same_job(&build.job, job) {
+                return build.mesh.share().ok();
+            }
+        }
+        None
+    }
+
+    /// Remembers the build of a job, in the place of the oldest one where there is no more room. Where memory is refused, nothing has changed.
+    fn remember(
+        &mut self,
+        alloc: Global,
+        job: &Job,
+        mesh: &Shared<TileMesh>,
+    ) -> Result<(), AllocError>
+        requires { mesh.now ≡ tile_under self.old job.now.tile job.now.shapes }
+        ensures { self.new ≡ self.old }
+    {
+        let build = Build {
+            job: Job {
+                tile: job.tile,
+                shapes: job.shapes.duplicate(alloc)?,
+            },
+            mesh: mesh.share()?,
+        };
+        let place = self.next % ROOM;
+        if place < self.builds.len() {
+            self.builds[place] = build;
+        } else {
+            self.builds.push(build)?;
+        }
+        self.next = place + 1;
+        Ok(())
+    }
+}
+
+/// Whether two jobs are the same: of one tile, under the same shapes in the same order.
+fn is_same_job(a: &Job, b: &Job) -> bool
+    ensures { IsTrue result ↔ (a.now ≡ b.now) }
+{
+    a.tile == b.tile && a.shapes == b.shapes
+}
