@@ -1,6 +1,5 @@
-use Rattle.std.proofs.Common.{◌-◌, length, take, drop, ◌∙◌, ap, subst}
+use Rattle.std.proofs.Common.{take, drop, ◌∙◌, ap}
 use Rattle.std.specs.List.{prefix_len}
-use Rattle.std.specs.List.Sorted.{IsPartitionedBy}
 use Rattle.std.proofs.lemmas.List.{take_rest}
 use Rattle.tile_links.specs.RimPlaces.{is_at_place}
 use Rattle.tile_links.proofs.PlaceOrder.{at_first, found_at, counted}
