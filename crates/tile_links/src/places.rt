@@ -13,12 +13,15 @@ use mesh_types::RimEdge;
 use std::alloc::{AllocError, Global};
 use std::cmp::Ordering;
 
+/// How many places are made room for at first: as many as most sides have.
+const ROOM: usize = 64;
+
 /// The places of the entries of a rim along a side, by position and then by level. In the order n log n for n places.
 pub fn side_places(alloc: Global, rim: &[RimEdge], side: u32) -> Result<Vec<Place>, AllocError>
     requires { All IsWithinField rim.now }
     ensures { IfOk result (λ places. ArePlaces side rim.now places.items) }
 {
-    let mut places = Vec::new(alloc);
+    let mut places = Vec::with_capacity(alloc, ROOM)?;
     for number in 0..rim.len() {
         push_side_places(&mut places, &rim[number], number, side)?;
     }
