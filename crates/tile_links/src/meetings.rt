@@ -3,7 +3,7 @@
 ghost use Rattle.std.specs.Prelude.{◌≡◌, ◌+◌, ◌<◌, ◌≤◌, ◌++◌, [], map, drop, length, OnOk, IfSome, Some};
 ghost use Rattle.std.specs.List.{prefix_len, cons_option};
 ghost use Rattle.mesh_types.specs.Runs.{has_label};
-ghost use Rattle.mesh_types.specs.BorderLinks.{are_meeting, pair_at, meetings, border_link};
+ghost use Rattle.mesh_types.specs.BorderLinks.{are_meeting, pair_at, meetings, border_link, line_of};
 ghost use Rattle.tile_links.specs.Across.{IsNamed, IsWithinField};
 ghost use Rattle.tile_links.specs.Loose.{run_at};
 
@@ -22,6 +22,7 @@ pub fn push_run_link(
     place: usize,
 ) -> Result<(), AllocError>
     requires entry { IsNamed border.tile.now entry.now }
+    requires line { border.line ≡ line_of border.side border.tile.now.polys entry.now }
     requires there { place < length entry.now.pairs }
     ensures { OnOk result (links.new.items ≡ links.old.items ++ map (border_link border.entry.tile.now border.entry.across.now border.entry.side entry.now other.now)
         (cons_option (run_at entry.now other.now place) [])) }

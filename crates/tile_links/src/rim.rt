@@ -3,7 +3,7 @@
 ghost use Rattle.std.specs.Prelude.{◌≡◌, ◌+◌, ◌<◌, ◌++◌, IfOk, OnOk, All, List, filter, length};
 ghost use Rattle.std.specs.List.{flat_map};
 ghost use Rattle.nav_ground.specs.Cells.{opposite};
-ghost use Rattle.mesh_types.specs.BorderLinks.{border_links};
+ghost use Rattle.mesh_types.specs.BorderLinks.{border_links, line_of};
 ghost use Rattle.tile_links.specs.Across.{AreAcross, IsNamed, IsWithinField};
 ghost use Rattle.tile_links.specs.declared.place.Place.{Place};
 ghost use Rattle.tile_links.specs.RimPlaces.{ArePlaces, AreInOrder, entry_of, pair_of, is_at_place};
@@ -13,6 +13,7 @@ use crate::border::Border;
 use crate::meetings::push_run_link;
 use crate::place::Place;
 use crate::places::{places_at, side_places};
+use crate::portals::rim_line;
 use mesh_types::{Link, RimEdge, TileMesh, order_links};
 use std::alloc::{AllocError, Global};
 
@@ -50,6 +51,7 @@ pub fn push_links(
     let facing = (side % 4 + 2) % 4;
     let places = side_places(alloc, b.rim.as_slice(), facing)?;
     let across = places.as_slice();
+    let line = rim_line(a, side);
     let mut guess = 0;
     for entry in a.rim.as_slice() {
         if entry.side == side {
@@ -57,6 +59,7 @@ pub fn push_links(
                 tile: a,
                 across: b,
                 side,
+                line,
             };
             push_entry_links(links, border, entry, across, &mut guess)?;
         }
@@ -74,6 +77,7 @@ fn push_entry_links(
     guess: &mut usize,
 ) -> Result<(), AllocError>
     requires entry { IsNamed border.tile.now entry.now }
+    requires line { border.line ≡ line_of border.side border.tile.now.polys entry.now }
     requires places { ArePlaces (opposite border.side) border.across.now.rim places.now }
     ensures { OnOk result (links.new.items ≡ links.old.items ++ placed_links border.entry.tile.now border.entry.across.now border.entry.side places.now entry.now) }
 {
@@ -109,6 +113,7 @@ fn push_place_links(
     across: &[Place],
 ) -> Result<(), AllocError>
     requires entry { IsNamed border.tile.now entry.now }
+    requires line { border.line ≡ line_of border.side border.tile.now.polys entry.now }
     requires there { place < length entry.now.pairs }
     requires across { All (λ (found : Place). found.entry < length border.across.now.rim) across.now }
     ensures { OnOk result (links.new.items ≡ links.old.items
