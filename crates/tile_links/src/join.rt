@@ -7,13 +7,14 @@ ghost use Rattle.nav_ground.specs.Tiling.{tile_count};
 ghost use Rattle.mesh_types.specs.declared.tile.TileMesh.{TileMesh};
 ghost use Rattle.mesh_types.specs.Passages.{AreTwoWay, IsTwoWay};
 ghost use Rattle.mesh_types.specs.Soundness.{AreTiles, IsFit, IsSound};
+ghost use Rattle.mesh_types.specs.BorderLinks.{along_side};
 ghost use Rattle.mesh_types.specs.LinkOrder.{ordered_links};
 ghost use Rattle.mesh_types.specs.WholeMesh.{tile_across, cross_links, mesh_of};
 ghost use Rattle.tile_links.specs.Loose.{loose_over, HasGained};
 
 use crate::merge::merged;
 use crate::rim::push_links;
-use mesh_types::{Link, Links, Mesh, TileMesh, order_links};
+use mesh_types::{Link, Links, Mesh, RimEdge, TileMesh, order_links};
 use nav_chunks::Chunks;
 use nav_ground::{Setting, TileNo};
 use nav_list::Items;
@@ -164,10 +165,23 @@ fn side_links(
     requires side { side < 4 }
     ensures { IfOk result (λ links. links.items ≡ ordered_links (loose_over tiled.entry.setting.now tiled.entry.tiles.now tile.now side)) }
 {
-    let mut links = Vec::new(alloc);
+    let mut links = Vec::with_capacity(alloc, count_along(tile.rim.as_slice(), side))?;
     push_side_links(alloc, &mut links, tiled, tile, side)?;
     order_links(links.as_mut_slice());
     Ok(links)
+}
+
+/// How many entries of a rim run along a side. Mostly each has one link.
+fn count_along(rim: &[RimEdge], side: u32) -> usize
+    ensures { result ≡ length (along_side side rim.now) }
+{
+    let mut count = 0;
+    for entry in rim {
+        if entry.side == side {
+            count += 1;
+        }
+    }
+    count
 }
 
 /// Appends the links that leave a tile over one of its sides, in the order in which they are found.
