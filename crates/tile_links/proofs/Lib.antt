@@ -1,4 +1,5 @@
 pub mod MeetingPlaces
+pub mod MergedLinks
 pub mod RimEntries
 pub mod TilesAcross
 pub mod LooseLinks

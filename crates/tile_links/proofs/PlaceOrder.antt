@@ -1,7 +1,8 @@
 -- Places in order: those with one position and level stand together.
-use Rattle.std.proofs.Common.{◌≡◌, ℕ, ◌+◌, ◌<◌, ◌≤◌, ◌⊎◌, Bool, true, false, List, ◌++◌, length, take, drop, filter, get_or, ap, ◌∙◌, sym, arith, tests, inl, inr}
+use Rattle.std.proofs.Common.{◌≡◌, ℕ, ◌+◌, ◌-◌, ◌<◌, ◌≤◌, ◌⊎◌, Bool, true, false, not, List, ◌++◌, length, take, drop, filter, get_or, ap, ◌∙◌, sym, refl, arith, tests, inl, inr}
 use Rattle.std.specs.Prelude.{All}
-use Rattle.std.specs.List.{AllWithin}
+use Rattle.std.specs.Bool.{IsTrue}
+use Rattle.std.specs.List.{AllWithin, prefix_len}
 use Rattle.std.specs.List.Sorted.{IsPartitionedBy, IsPartitionPoint}
 use Rattle.std.specs.Ordering.{is_lt, nat_cmp, ordering_then, on}
 use Rattle.std.specs.declared.cmp.Ordering.{Ordering}
@@ -9,10 +10,11 @@ use Rattle.std.specs.declared.cmp.Ordering.TheVariants.{Less, Equal}
 use Rattle.std.specs.Cmp.{IsStrictWeakOrder, IsTotalOrder, nat_cmp_is}
 use Rattle.std.proofs.lemmas.Bool.{both_ways, cases_order}
 use Rattle.std.proofs.lemmas.Cmp.{then_total, on_total, nat_cmp_total}
-use Rattle.std.proofs.lemmas.List.{take-append-drop, append-nil, get_or-take, get_or-drop, length-take, length-drop}
+use Rattle.std.proofs.lemmas.List.{get_or_default, take-append-drop, append-nil, get_or-take, get_or-drop, length-take, length-drop}
 use Rattle.std.proofs.lemmas.List.Elements.{filter-append}
 use Rattle.std.proofs.lemmas.List.MinMax.{ranks_by}
 use Rattle.std.proofs.lemmas.List.Sorted.{sorted_far}
+use Rattle.std.proofs.lemmas.List.Sums.{prefix_len_passes, prefix_len_stops}
 use Rattle.nav_ground.proofs.Selections.{filter_all, filter_none}
 use Rattle.tile_links.specs.declared.place.Place.{Place}
 use Rattle.tile_links.specs.RimPlaces.{place_cmp, AreInOrder, is_before_place, is_at_place}
@@ -92,6 +94,55 @@ before_first position level places order i j d le there later =
     let b : Place = get_or places j d in
     before_from position level a
     (before_still a b position level (not_after a b (sorted_far comes_before places_order places order i j d le there)) (before_is position level b later))
+
+-- a place of zeros
+abbrev pub blank : Place
+blank = record { position = 0; level = 0; entry = 0 }
+
+-- what cannot pass fails
+fails_if : (b : Bool) → (b ≡ true → ⊥) → b ≡ false
+fails_if true never = absurd (never refl)
+fails_if false never = refl
+
+-- so the last of some places tells whether they all come before them,
+pub last_tells : (position level : ℕ) (places : List Place) (count : ℕ) (test : Bool) → AreInOrder places → 0 < count → count ≤ length places
+    → test ≡ is_before_place position level (get_or places (count - 1) blank)
+    → (IsTrue test → AllWithin (λ (place : Place). is_before_place position level place ≡ true) places 0 count)
+    × (AllWithin (λ (place : Place). is_before_place position level place ≡ true) places 0 count → IsTrue test)
+last_tells position level places count test order some there is = (forward, λ each. is ∙ each (count - 1) blank (omega arith) (omega (arith, some)))
+  where
+    forward : IsTrue test → AllWithin (λ (place : Place). is_before_place position level place ≡ true) places 0 count
+    forward passes k d low below =
+        before_first position level places order k (count - 1) d (omega (arith, below)) (omega (arith, some, there))
+        (ap (is_before_place position level) (get_or_default places (count - 1) d blank (omega (arith, some, there))) ∙ sym is ∙ passes)
+
+-- and the first of those from one on whether none of them does,
+pub first_tells : (position level : ℕ) (places : List Place) (first : ℕ) (test : Bool) → AreInOrder places → first < length places
+    → test ≡ is_before_place position level (get_or places first blank)
+    → (IsTrue (not test) → AllWithin (λ (place : Place). is_before_place position level place ≡ false) places first (length places))
+    × (AllWithin (λ (place : Place). is_before_place position level place ≡ false) places first (length places) → IsTrue (not test))
+first_tells position level places first test order there is = (forward test is, back)
+  where
+    forward : (b : Bool) → b ≡ is_before_place position level (get_or places first blank) → IsTrue (not b)
+        → AllWithin (λ (place : Place). is_before_place position level place ≡ false) places first (length places)
+    forward true same fails k d low below = absurd cc
+    forward false same fails k d low below =
+        fails_if (is_before_place position level (get_or places k d))
+        (λ early.
+        both_ways (is_before_place position level (get_or places first d))
+        (ap (is_before_place position level) (get_or_default places first d blank there) ∙ sym same)
+        (before_first position level places order first k d low below early))
+
+    back : AllWithin (λ (place : Place). is_before_place position level place ≡ false) places first (length places) → IsTrue (not test)
+    back each = ap not (is ∙ each first blank (omega arith) there)
+
+-- as many as pass from the first on are all that do, where those that pass stand first
+pub counted : {X : Type 0} (p : X → Bool) (xs : List X) → IsPartitionedBy p xs → IsPartitionPoint (λ x. p x ≡ true) (λ x. p x ≡ false) xs (prefix_len p xs)
+counted p xs parted = (
+  λ k d low below. prefix_len_passes p xs k d below,
+  λ k d low below. fails_if (p (get_or xs k d))
+      (λ passes. both_ways (p (get_or xs (prefix_len p xs) d)) (prefix_len_stops p xs d (omega (arith, low, below))) (parted (prefix_len p xs) k d low below passes)),
+)
 
 -- of the others those that have them,
 pub at_first : (position level : ℕ) (places : List Place) (first : ℕ) → AreInOrder places

@@ -1,11 +1,12 @@
 -- Across: tiles that lie side by side, and what their rim entries name.
-use Rattle.std.specs.Prelude.{◌≡◌, ℕ, ◌+◌, ◌<◌, ◌≤◌, ℤ, pos, ◌≤ℤ◌, ◌==◌, if◌then◌else◌, length, slice_get, Some}
+use Rattle.std.specs.Prelude.{◌≡◌, ℕ, ◌+◌, ◌<◌, ◌≤◌, ℤ, pos, ◌≤ℤ◌, ◌==◌, if◌then◌else◌, length, slice_get, All, Some}
 use Rattle.nav_base.specs.declared.point.Point.{Point}
 use Rattle.nav_base.specs.Convex.{corner_at}
 use Rattle.nav_ground.specs.declared.setting.Setting.{Setting}
 use Rattle.mesh_types.specs.declared.polygon.Polygon.{Polygon}
 use Rattle.mesh_types.specs.declared.tile.RimEdge.{RimEdge}
 use Rattle.mesh_types.specs.declared.tile.TileMesh.{TileMesh}
+use Rattle.mesh_types.specs.BorderLinks.{line_of}
 use Rattle.mesh_types.specs.WholeMesh.{tile_across}
 use Rattle.mesh_types.specs.Soundness.{IsFit}
 
@@ -40,3 +41,8 @@ fixed_of side corner =
     else (if side == 1 then corner.z
     else (if side == 2 then corner.x
     else corner.z))
+
+-- the edges of a tile's rim along a side lie on one line
+pub record HasLine (side : ℕ) (tile : TileMesh) : Type 0 where
+  pub line : ℤ
+  pub each : All (λ (entry : RimEdge). entry.side ≡ side → line_of side tile.polys entry ≡ line) tile.rim

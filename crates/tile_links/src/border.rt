@@ -11,4 +11,6 @@ pub struct Border<'a> {
     pub across: &'a TileMesh,
     /// The side of the first tile.
     pub side: u32,
+    /// Where that side lies, in whole cells: x for the sides 0 and 2, z for the sides 1 and 3.
+    pub line: i32,
 }

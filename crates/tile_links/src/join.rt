@@ -7,11 +7,14 @@ ghost use Rattle.nav_ground.specs.Tiling.{tile_count};
 ghost use Rattle.mesh_types.specs.declared.tile.TileMesh.{TileMesh};
 ghost use Rattle.mesh_types.specs.Passages.{AreTwoWay, IsTwoWay};
 ghost use Rattle.mesh_types.specs.Soundness.{AreTiles, IsFit, IsSound};
+ghost use Rattle.mesh_types.specs.BorderLinks.{along_side};
+ghost use Rattle.mesh_types.specs.LinkOrder.{ordered_links};
 ghost use Rattle.mesh_types.specs.WholeMesh.{tile_across, cross_links, mesh_of};
 ghost use Rattle.tile_links.specs.Loose.{loose_over, HasGained};
 
+use crate::merge::merged;
 use crate::rim::push_links;
-use mesh_types::{Link, Links, Mesh, TileMesh, order_links};
+use mesh_types::{Link, Links, Mesh, RimEdge, TileMesh, order_links};
 use nav_chunks::Chunks;
 use nav_ground::{Setting, TileNo};
 use nav_list::Items;
@@ -122,7 +125,8 @@ pub struct Tiled<'a> {
     pub tiles: &'a Chunks<Shared<TileMesh>>,
 }
 
-/// The links that leave a tile over its four sides, in the order of links, given some of them and the sides over which the others lead.
+/// The links that leave a tile over its four sides, in the order of links, given some of them and the sides over which the others lead. Those
+/// of each side are put in order and merged into the others, which is cheaper than to put all in order at once.
 pub fn links_with(
     alloc: Global,
     known: Vec<Link>,
@@ -141,10 +145,43 @@ pub fn links_with(
 {
     let mut links = known;
     for side in sides {
-        push_side_links(alloc, &mut links, tiled, tile, *side)?;
+        let found = side_links(alloc, tiled, tile, *side)?;
+        links = merged(alloc, links, found)?;
     }
     order_links(links.as_mut_slice());
     Links::new(alloc, links, tile.polys.len() as u32)
+}
+
+/// The links that leave a tile over one of its sides, in the order of links.
+fn side_links(
+    alloc: Global,
+    tiled: Tiled,
+    tile: &TileMesh,
+    side: u32,
+) -> Result<Vec<Link>, AllocError>
+    requires setting { IsSetting tiled.setting.now }
+    requires tiles { AreTiles tiled.setting.now tiled.tiles.now }
+    requires tile { IsFit tiled.setting.now tile.now }
+    requires side { side < 4 }
+    ensures { IfOk result (λ links. links.items ≡ ordered_links (loose_over tiled.entry.setting.now tiled.entry.tiles.now tile.now side)) }
+{
+    let mut links = Vec::with_capacity(alloc, count_along(tile.rim.as_slice(), side))?;
+    push_side_links(alloc, &mut links, tiled, tile, side)?;
+    order_links(links.as_mut_slice());
+    Ok(links)
+}
+
+/// How many entries of a rim run along a side. Mostly each has one link.
+fn count_along(rim: &[RimEdge], side: u32) -> usize
+    ensures { result ≡ length (along_side side rim.now) }
+{
+    let mut count = 0;
+    for entry in rim {
+        if entry.side == side {
+            count += 1;
+        }
+    }
+    count
 }
 
 /// Appends the links that leave a tile over one of its sides, in the order in which they are found.

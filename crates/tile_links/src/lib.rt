@@ -13,6 +13,7 @@
 mod border;
 mod join;
 mod meetings;
+mod merge;
 mod new_tiles;
 mod place;
 mod places;

@@ -1,9 +1,9 @@
 //! Where two rim entries meet: the runs of positions at which each names the other's level.
 
-ghost use Rattle.std.specs.Prelude.{◌≡◌, ◌+◌, ◌<◌, ◌≤◌, ◌++◌, [], map, drop, length, OnOk, IfSome};
+ghost use Rattle.std.specs.Prelude.{◌≡◌, ◌+◌, ◌<◌, ◌≤◌, ◌++◌, [], map, drop, length, OnOk, IfSome, Some};
 ghost use Rattle.std.specs.List.{prefix_len, cons_option};
 ghost use Rattle.mesh_types.specs.Runs.{has_label};
-ghost use Rattle.mesh_types.specs.BorderLinks.{are_meeting, pair_at, meetings, border_link};
+ghost use Rattle.mesh_types.specs.BorderLinks.{are_meeting, pair_at, meetings, border_link, line_of};
 ghost use Rattle.tile_links.specs.Across.{IsNamed, IsWithinField};
 ghost use Rattle.tile_links.specs.Loose.{run_at};
 
@@ -22,6 +22,7 @@ pub fn push_run_link(
     place: usize,
 ) -> Result<(), AllocError>
     requires entry { IsNamed border.tile.now entry.now }
+    requires line { border.line ≡ line_of border.side border.tile.now.polys entry.now }
     requires there { place < length entry.now.pairs }
     ensures { OnOk result (links.new.items ≡ links.old.items ++ map (border_link border.entry.tile.now border.entry.across.now border.entry.side entry.now other.now)
         (cons_option (run_at entry.now other.now place) [])) }
@@ -32,7 +33,8 @@ pub fn push_run_link(
     Ok(())
 }
 
-/// The maximal run of places of an entry where it meets another that begins at a place, if one does.
+/// The maximal run of places of an entry where it meets another that begins at a place, if one does. At most places a run goes on, so that is
+/// looked at first.
 #[tactic(auto, using(crate::proofs::MeetingPlaces::meeting_at))]
 fn run_from(entry: &RimEdge, other: &RimEdge, place: usize) -> Option<Run>
     requires inside { IsWithinField entry.now }
@@ -40,10 +42,10 @@ fn run_from(entry: &RimEdge, other: &RimEdge, place: usize) -> Option<Run>
     ensures value { result ≡ run_at entry.now other.now place }
     ensures inside { IfSome result (λ run. (run.first ≤ run.last) × (run.last < length entry.now.pairs)) }
 {
-    if !are_met(entry, other, place) {
+    if place != 0 && are_met(entry, other, place - 1) {
         return None;
     }
-    if place != 0 && are_met(entry, other, place - 1) {
+    if !are_met(entry, other, place) {
         return None;
     }
     let more = run_len(entry, other, place + 1);
@@ -74,18 +76,18 @@ fn are_met(entry: &RimEdge, other: &RimEdge, place: usize) -> bool
     requires there { place < length entry.now.pairs }
     ensures { result ≡ are_meeting (pair_at entry.now (entry.now.first + place)) (pair_at other.now (entry.now.first + place)) }
 {
-    let position = entry.first + place as u32;
-    are_meeting(pair_at(entry, position), pair_at(other, position))
+    let pair = entry.pairs.as_slice()[place];
+    match pair_at(other, entry.first + place as u32) {
+        Some(across) => are_meeting(pair, across),
+        None => false,
+    }
 }
 
 /// Whether two pairs of levels name each other.
-fn are_meeting(a: Option<LevelPair>, b: Option<LevelPair>) -> bool
-    ensures { result ≡ are_meeting a b }
+fn are_meeting(a: LevelPair, b: LevelPair) -> bool
+    ensures { result ≡ are_meeting (Some a) (Some b) }
 {
-    match (a, b) {
-        (Some(a), Some(b)) => a.own == b.other && a.other == b.own,
-        _ => false,
-    }
+    a.own == b.other && a.other == b.own
 }
 
 /// The levels that an entry has at a position, if it has some there.

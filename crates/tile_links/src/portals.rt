@@ -1,21 +1,22 @@
 //! The link from one rim entry to another along a run of positions, and its portal.
 
-ghost use Rattle.std.specs.Prelude.{◌≡◌, ◌+◌, ◌<◌, ◌≤◌, pos, ◌≤ℤ◌};
+ghost use Rattle.std.specs.Prelude.{◌≡◌, ◌+◌, ◌<◌, ◌≤◌, pos, ◌≤ℤ◌, All};
 ghost use Rattle.nav_base.specs.Convex.{corner_at};
 ghost use Rattle.mesh_types.specs.BorderLinks.{border_link, line_of, scaled, side_portal};
-ghost use Rattle.tile_links.specs.Across.{IsNamed, IsOnField};
+ghost use Rattle.mesh_types.specs.declared.tile.RimEdge.{RimEdge};
+ghost use Rattle.tile_links.specs.Across.{HasLine, IsNamed, IsOnField};
 
 use crate::border::Border;
-use mesh_types::{Link, PolyRef, Polygon, Polygons, Portal, RimEdge, Run};
+use mesh_types::{Link, PolyRef, Polygon, Polygons, Portal, RimEdge, Run, TileMesh};
 use nav_base::Point;
 
 /// The link from an entry of a tile on its side of the border to an entry of the tile across, along a run of the first one's positions.
 pub fn border_link(border: Border, entry: &RimEdge, other: &RimEdge, run: Run) -> Link
     requires entry { IsNamed border.tile.now entry.now }
+    requires line { border.line ≡ line_of border.side border.tile.now.polys entry.now }
     requires run { (run.first ≤ run.last) × (entry.now.first + run.last < 1024) }
     ensures { result ≡ border_link border.entry.tile.now border.entry.across.now border.entry.side entry.now other.now run }
 {
-    let line = line_of(border.side, &border.tile.polys, entry);
     Link {
         from: PolyRef {
             tile: border.tile.tile,
@@ -28,11 +29,24 @@ pub fn border_link(border: Border, entry: &RimEdge, other: &RimEdge, run: Run) -
         },
         portal: side_portal(
             border.side,
-            line,
+            border.line,
             entry.first + run.first,
             entry.first + run.last,
         ),
     }
+}
+
+/// Where the edges of a tile's rim along a side lie, in whole cells: x for the sides 0 and 2, z for the sides 1 and 3. The first one tells.
+pub fn rim_line(tile: &TileMesh, side: u32) -> i32
+    requires { HasLine side tile.now }
+    ensures { All (λ (entry : RimEdge). entry.side ≡ side → result ≡ line_of side tile.now.polys entry) tile.now.rim }
+{
+    for entry in tile.rim.as_slice() {
+        if entry.side == side {
+            return line_of(side, &tile.polys, entry);
+        }
+    }
+    0
 }
 
 /// Where the edge of an entry along a side lies, in whole cells: x for the sides 0 and 2, z for the sides 1 and 3.

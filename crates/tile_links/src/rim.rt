@@ -1,16 +1,19 @@
 //! The links from a tile to the tile across one of its sides.
 
-ghost use Rattle.std.specs.Prelude.{◌≡◌, ◌<◌, ◌++◌, IfOk, OnOk, List, length};
+ghost use Rattle.std.specs.Prelude.{◌≡◌, ◌+◌, ◌<◌, ◌++◌, IfOk, OnOk, All, List, filter, length};
+ghost use Rattle.std.specs.List.{flat_map};
 ghost use Rattle.nav_ground.specs.Cells.{opposite};
-ghost use Rattle.mesh_types.specs.BorderLinks.{border_links};
-ghost use Rattle.tile_links.specs.Across.{AreAcross, IsNamed};
-ghost use Rattle.tile_links.specs.RimPlaces.{ArePlaces, entry_of};
-ghost use Rattle.tile_links.specs.Loose.{loose_links, placed_links, place_links, HasGained};
+ghost use Rattle.mesh_types.specs.BorderLinks.{border_links, line_of};
+ghost use Rattle.tile_links.specs.Across.{AreAcross, IsNamed, IsWithinField};
+ghost use Rattle.tile_links.specs.declared.place.Place.{Place};
+ghost use Rattle.tile_links.specs.RimPlaces.{ArePlaces, AreInOrder, entry_of, pair_of, is_at_place};
+ghost use Rattle.tile_links.specs.Loose.{loose_links, placed_links, run_links, HasGained};
 
 use crate::border::Border;
 use crate::meetings::push_run_link;
 use crate::place::Place;
 use crate::places::{places_at, side_places};
+use crate::portals::rim_line;
 use mesh_types::{Link, RimEdge, TileMesh, order_links};
 use std::alloc::{AllocError, Global};
 
@@ -48,51 +51,74 @@ pub fn push_links(
     let facing = (side % 4 + 2) % 4;
     let places = side_places(alloc, b.rim.as_slice(), facing)?;
     let across = places.as_slice();
+    let line = rim_line(a, side);
+    let mut guess = 0;
     for entry in a.rim.as_slice() {
         if entry.side == side {
             let border = Border {
                 tile: a,
                 across: b,
                 side,
+                line,
             };
-            push_entry_links(links, border, entry, across)?;
+            push_entry_links(links, border, entry, across, &mut guess)?;
         }
     }
     Ok(())
 }
 
-/// Appends the links from an entry of a tile on its side of the border, by the places of the tile across on the opposite side.
+/// Appends the links from an entry of a tile on its side of the border, by the places of the tile across on the opposite side. Those that
+/// the entry leads to are looked for at a guess first, which becomes the next one.
 fn push_entry_links(
     links: &mut Vec<Link>,
     border: Border,
     entry: &RimEdge,
     places: &[Place],
+    guess: &mut usize,
 ) -> Result<(), AllocError>
     requires entry { IsNamed border.tile.now entry.now }
+    requires line { border.line ≡ line_of border.side border.tile.now.polys entry.now }
     requires places { ArePlaces (opposite border.side) border.across.now.rim places.now }
     ensures { OnOk result (links.new.items ≡ links.old.items ++ placed_links border.entry.tile.now border.entry.across.now border.entry.side places.now entry.now) }
 {
     for place in 0..entry.pairs.len() {
-        push_place_links(links, border, entry, places, place)?;
+        let across = places_across(places, guess, entry, place);
+        push_place_links(links, border, entry, place, across)?;
     }
     Ok(())
 }
 
-/// Appends the links from an entry along the runs that begin at one of its places.
+/// The places across to which an entry leads at one of its places.
+fn places_across<'a>(
+    places: &'a [Place],
+    guess: &mut usize,
+    entry: &RimEdge,
+    place: usize,
+) -> &'a [Place]
+    requires order { AreInOrder places.now }
+    requires positions { IsWithinField entry.now }
+    requires there { place < length entry.now.pairs }
+    ensures { result.now ≡ filter (is_at_place (entry.now.first + place) (pair_of entry.now place).other) places.now }
+{
+    let level = entry.pairs.as_slice()[place].other;
+    places_at(places, guess, entry.first + place as u32, level)
+}
+
+/// Appends the links from an entry along the runs that begin at one of its places, by the places across that it leads to there.
 fn push_place_links(
     links: &mut Vec<Link>,
     border: Border,
     entry: &RimEdge,
-    places: &[Place],
     place: usize,
+    across: &[Place],
 ) -> Result<(), AllocError>
     requires entry { IsNamed border.tile.now entry.now }
-    requires places { ArePlaces (opposite border.side) border.across.now.rim places.now }
+    requires line { border.line ≡ line_of border.side border.tile.now.polys entry.now }
     requires there { place < length entry.now.pairs }
-    ensures { OnOk result (links.new.items ≡ links.old.items ++ place_links border.entry.tile.now border.entry.across.now border.entry.side entry.now places.now place) }
+    requires across { All (λ (found : Place). found.entry < length border.across.now.rim) across.now }
+    ensures { OnOk result (links.new.items ≡ links.old.items
+        ++ flat_map (run_links border.entry.tile.now border.entry.across.now border.entry.side entry.now place) across.now) }
 {
-    let level = entry.pairs.as_slice()[place].other;
-    let across = places_at(places, entry.first + place as u32, level);
     for found in across {
         let other = entry_at(border.across.rim.as_slice(), found.entry);
         push_run_link(links, border, entry, other, place)?;

@@ -10,6 +10,7 @@ use Rattle.mesh_types.proofs.LinksInOrder.{ordered_links-polygons, All-ordered_l
 use Rattle.tile_links.specs.Loose.{loose_over, HasGained}
 use Rattle.tile_links.proofs.FoundLinks.{gained_more}
 use Rattle.tile_links.proofs.KeptLinks.{all_gained}
+use Rattle.tile_links.proofs.MergedLinks.{gained_in_order}
 use Rattle.tile_links.proofs.LooseLinks.{one_more_taken, ordered_back, all_leave_tile, cross_links_found}
 use Rattle.tile_links.proofs.join.links_with.Goals as goal
 
@@ -22,18 +23,20 @@ made f sides i len known items lent new count same kept order past gained others
     ordered_back len items lent new (flat_map f (range_with_len 0 4)) count same kept order
     (all_gained f sides i known (flat_map f (range_with_len 0 4)) items past gained others)
 
-pub push_side_links-requires-clause-side : goal.push_side_links-requires-clause-side
-push_side_links-requires-clause-side c = c.requires.sides c.loop-side.side-index 0 c.loop-side-test.true
+pub side_links-requires-clause-side : goal.side_links-requires-clause-side
+side_links-requires-clause-side c = c.requires.sides c.loop-side.side-index 0 c.loop-side-test.true
 
 pub loop-side-preserved : goal.loop-side-preserved
 loop-side-preserved c =
     let f = loose_over c.args.tiled.setting.now c.args.tiled.tiles.now c.args.tile.now in
     let sides = c.args.sides.now in
     let i = c.loop-side.side-index in
-    let more = gained_more c.args.known.items (flat_map f (take i sides)) (f (get_or sides i 0)) c.loop-side.links.items c.push_side_links.new.links.items
-    c.loop-side.invariant c.in_ok-push_side_links.ensures in
+    let found = gained_in_order c.loop-side.links.items c.in_ok-found.found.items (f (get_or sides i 0)) c.in_ok-links.links.items
+    c.in_ok-found.ensures c.in_ok-links.ensures in
+    let more = gained_more c.args.known.items (flat_map f (take i sides)) (f (get_or sides i 0)) c.loop-side.links.items c.in_ok-links.links.items
+    c.loop-side.invariant found in
     let all = one_more_taken f sides i 0 [] (flat_map f (take i sides)) (flat_map f (take i sides) ++ f (get_or sides i 0)) c.loop-side-test.true refl refl in
-    subst (λ (links : List Link). HasGained c.args.known.items links c.push_side_links.new.links.items) all more
+    subst (λ (links : List Link). HasGained c.args.known.items links c.in_ok-links.links.items) all more
 
 pub new-requires-clause-order : goal.new-requires-clause-order
 new-requires-clause-order c =

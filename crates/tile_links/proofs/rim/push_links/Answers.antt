@@ -5,16 +5,28 @@ use Rattle.std.specs.Global.{Vec}
 use Rattle.std.proofs.lemmas.Bool.{eq-eqb, ne_eqb}
 use Rattle.std.proofs.lemmas.List.{take_all}
 use Rattle.nav_ground.specs.Cells.{opposite}
+use Rattle.nav_ground.specs.Tiling.{tile_window}
 use Rattle.mesh_types.specs.declared.links.Link.{Link}
 use Rattle.mesh_types.specs.declared.tile.RimEdge.{RimEdge}
 use Rattle.mesh_types.specs.BorderLinks.{along_side}
 use Rattle.tile_links.specs.Across.{IsWithinField}
 use Rattle.tile_links.specs.Loose.{placed_links}
+use Rattle.tile_links.proofs.BorderPortals.{side_line}
 use Rattle.tile_links.proofs.FoundLinks.{gained}
 use Rattle.tile_links.proofs.RimEntries.{named_in, rim_within_field, one_more_kept, one_more_left}
 use Rattle.tile_links.proofs.RimTables.{same_places}
+use Rattle.tile_links.proofs.SoundMeshes.{line_is}
 use Rattle.tile_links.proofs.rim.push_links.Goals as goal
 use Rattle.tile_links.proofs.rim.push_links.Goals.{then-entry-side+in_ok-push_entry_links, else-entry-side}
+
+pub rim_line-line-requires : goal.rim_line-line-requires
+rim_line-line-requires c =
+    let setting = c.requires.setting in
+    let a = c.args.a.now in
+    record {
+      line = side_line (tile_window setting a.tile) c.args.side;
+      each = λ k d there on. line_is setting a (get_or a.rim k d) c.args.side (c.requires.first_fit.rim k d there) on;
+    }
 
 pub push_entry_links-requires-clause-entry : goal.push_entry_links-requires-clause-entry
 push_entry_links-requires-clause-entry c =
