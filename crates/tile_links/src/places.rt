@@ -78,7 +78,11 @@ fn order_places(places: &mut [Place])
 fn place_order(a: &Place, b: &Place) -> Ordering
     ensures { result ≡ place_cmp a.now b.now }
 {
-    a.position.cmp(&b.position).then(a.level.cmp(&b.level))
+    if a.position == b.position {
+        a.level.cmp(&b.level)
+    } else {
+        a.position.cmp(&b.position)
+    }
 }
 
 /// How many places a search goes on from its guess before all of them are halved instead.
