@@ -16,10 +16,13 @@ pub fn order_links(links: &mut [Link])
     links.sort_unstable_by(|a, b| link_order(a, b))
 }
 
-/// Which of two links comes first. Most differ in what they leave, so the rest is looked at only where that is the same.
+/// Which of two links comes first. Most leave two polygons of one tile, so that is looked at first; the rest only where it tells nothing.
 fn link_order(a: &Link, b: &Link) -> Ordering
     ensures { result ≡ link_cmp a.now b.now }
 {
+    if a.from.index != b.from.index && a.from.tile == b.from.tile {
+        return a.from.index.cmp(&b.from.index);
+    }
     let left = poly_order(a.from, b.from).then(a.edge.cmp(&b.edge));
     match left {
         Ordering::Equal => entered_order(a, b),
