@@ -104,7 +104,7 @@ fn layers(alloc: Global, setting: &Setting, field: Field) -> Result<Vec<Layer>, 
     hand_out(alloc, setting, compact.cells.as_slice(), marks.as_slice())
 }
 
-/// The cells of a field, which ends with this.
+/// The cells of a field, whose spans are let go at the end.
 fn last_cells(alloc: Global, setting: &Setting, field: Field) -> Result<CompactField, AllocError>
     requires setting { IsSetting setting.now }
     requires field { IsField field }

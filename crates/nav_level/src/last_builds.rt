@@ -19,8 +19,15 @@ use std::sync::Arc;
 use std::sync::ledger::Ledger;
 
 /// How many builds are remembered. A door seldom touches more than four tiles, and asks for two builds of each: so this is enough for four doors
-/// that open and close in turn. A tile's mesh is about ten KB, and the shapes that touch a tile are few, so all of them keep less than half a MB.
+/// that open and close in turn.
 const ROOM: usize = 32;
+
+/// Only builds that are no larger than these are remembered: of so many cells of the tile's layer, so many polygons and links between them,
+/// under so many shapes. Such a build takes a quarter of a MB at most, and some ten KB where a tile has 32 columns a side.
+const MOST_CELLS: usize = 4096;
+const MOST_POLYGONS: usize = 512;
+const MOST_LINKS: usize = 2048;
+const MOST_SHAPES: usize = 64;
 
 /// What was built for a job.
 #[derive(Drop)]
@@ -64,7 +71,8 @@ impl LastBuilds {
     }
 
     /// The mesh of a job's tile under the job's shapes: that of the same job where it is remembered, else a new one, which is remembered from
-    /// then on where memory for that is left. It takes one step, also where memory is refused.
+    /// then on where it is small and memory for that is left. It takes one step, also where memory is refused; then nothing is remembered any
+    /// more, so that there is more memory for the next one.
     pub(crate) fn build<L: Ledger>(
         &mut self,
         alloc: Global,
@@ -81,9 +89,16 @@ impl LastBuilds {
             steps.tick();
             return Ok(mesh);
         }
-        let mesh = build_job(alloc, &self.level, job, steps)?;
-        let _ = self.remember(alloc, job, &mesh);
-        Ok(mesh)
+        match build_job(alloc, &self.level, job, steps) {
+            Ok(mesh) => {
+                let _ = self.remember(alloc, job, &mesh);
+                Ok(mesh)
+            }
+            Err(refused) => {
+                self.builds.clear();
+                Err(refused)
+            }
+        }
     }
 
     /// A further owner of the mesh that was built for the same job; none where there is none at hand.
@@ -98,7 +113,21 @@ impl LastBuilds {
         None
     }
 
-    /// Remembers the build of a job, in the place of the oldest one where there is no more room. Where memory is refused, nothing has changed.
+    /// Whether the build of a job is small enough to be remembered.
+    fn is_small(&self, job: &Job, mesh: &TileMesh) -> bool {
+        let layers = self.level.layers.as_slice();
+        let is_few = match layers.get(job.tile as usize) {
+            Some(layer) => layer.cells.get().as_slice().len() <= MOST_CELLS,
+            None => false,
+        };
+        is_few
+            && mesh.polys.len() <= MOST_POLYGONS
+            && mesh.links.len() <= MOST_LINKS
+            && job.shapes.len() <= MOST_SHAPES
+    }
+
+    /// Remembers the build of a job if it is small, in the place of the oldest one where there is no more room. Where memory is refused, nothing
+    /// has changed.
     fn remember(
         &mut self,
         alloc: Global,
@@ -108,6 +137,9 @@ impl LastBuilds {
         requires { mesh.now ≡ tile_under self.old job.now.tile job.now.shapes }
         ensures { self.new ≡ self.old }
     {
+        if !self.is_small(job, mesh.get()) {
+            return Ok(());
+        }
         let build = Build {
             job: Job {
                 tile: job.tile,

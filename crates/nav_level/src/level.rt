@@ -43,7 +43,7 @@ pub struct Level {
     /// The tile meshes that are stored and not published yet.
     fresh: FreshMeshes,
     mesh: Shown,
-    /// The builds that were made last.
+    /// The ground, with the builds that the level itself made last.
     builds: LastBuilds,
 }
 

@@ -10,8 +10,9 @@
 //! `prepare` makes landmarks of the published mesh, by which path questions are answered sooner, and `ask_and_prepare` does so once there were many
 //! of them. What is answered is right either way, and nothing else of the level tells whether there are landmarks.
 //!
-//! The builds that a level made last are remembered: where an obstacle comes, goes and comes again, as a door does, its tiles are built for the
-//! first two of these only, and each later build is one of those. That too is seen in nothing but the time that it takes.
+//! Small builds that `step` and `settle` made last are remembered, 32 of them: where an obstacle comes, goes and comes again, as a door does,
+//! they take a build that is remembered in place of a new one. That is promised by nothing, and seen in nothing but time and memory; such a
+//! build takes one step like any other.
 //!
 //! A publishing comes in two halves besides: `next_mesh` makes what is published next, and takes all the memory; `show` takes it over, and
 //! cannot be refused. Who shows the mesh to others as well does so in between.

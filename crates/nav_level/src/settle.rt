@@ -12,7 +12,8 @@ use std::alloc::{AllocError, Global};
 use std::sync::ledger::Ledger;
 
 impl Level {
-    /// Puts every job back, builds every tile that is awaited for the whole history, with one step each, and publishes the history, whose
+    /// Puts every job back, builds every tile that is awaited for the whole history, or takes a build that is remembered, with one step each, and
+    /// publishes the history, whose
     /// length it gives. No tile is claimed then, also where memory is refused: then
     /// some of that is done.
     pub fn settle<L: Ledger>(
@@ -38,8 +39,8 @@ impl Level {
         Ok(k)
     }
 
-    /// Puts every job back, makes the whole history the target, whose length it gives, and builds every tile that is awaited for it, with one
-    /// step each; to publish it is all that is left. No tile is claimed then, also where memory is refused: then
+    /// Puts every job back, makes the whole history the target, whose length it gives, and builds every tile that is awaited for it, or takes a
+    /// build that is remembered, with one step each; to publish it is all that is left. No tile is claimed then, also where memory is refused: then
     /// some of that is done.
     pub fn build_target<L: Ledger>(
         &mut self,

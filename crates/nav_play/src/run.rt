@@ -56,7 +56,7 @@ pub struct Start {
 }
 
 /// Plays a script over a field: for each script line in order what it is answered, and then the published length and the history's length.
-/// It takes one step for each tile that it builds: each tile at its beginning, and one for each claim that gives one, of a `claim` line or
+/// It takes one step for each build of a tile, new or remembered: each tile at its beginning, and one for each claim that gives one, of a `claim` line or
 /// within a `settle` line. Only memory can be refused.
 pub fn play<R: Wait, L: Ledger>(
     rt: &R,

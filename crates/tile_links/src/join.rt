@@ -126,7 +126,7 @@ pub struct Tiled<'a> {
 }
 
 /// The links that leave a tile over its four sides, in the order of links, given some of them and the sides over which the others lead. Those
-/// of each side are put in order and merged into the others, which is cheaper than to put all in order at once.
+/// of each side are put in order and merged into the others, so that all are in order already when they are put in order at last.
 pub fn links_with(
     alloc: Global,
     known: Vec<Link>,

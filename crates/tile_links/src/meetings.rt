@@ -33,7 +33,7 @@ pub fn push_run_link(
     Ok(())
 }
 
-/// The maximal run of places of an entry where it meets another that begins at a place, if one does. At most places a run goes on, so that is
+/// The maximal run of places of an entry where it meets another that begins at a place, if one does. In most places a run goes on, so that is
 /// looked at first.
 #[tactic(auto, using(crate::proofs::MeetingPlaces::meeting_at))]
 fn run_from(entry: &RimEdge, other: &RimEdge, place: usize) -> Option<Run>

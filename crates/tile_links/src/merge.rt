@@ -6,8 +6,9 @@ ghost use Rattle.tile_links.specs.Loose.{HasGained};
 use mesh_types::Link;
 use std::alloc::{AllocError, Global};
 
-/// The links of two lists. Where each of them stands by the polygon and the edge that its links leave, so do all, and the known ones come
-/// first where two leave one edge. One list of the two is handed on as it is where the other is empty.
+/// The links of two lists, of which only that is promised: `links_with` puts them in order at the end. Where each of the two stands by the
+/// polygon and the edge that its links leave, so do all, and that takes one pass then. One list of the two is handed on as it is where the
+/// other is empty.
 pub fn merged(alloc: Global, known: Vec<Link>, found: Vec<Link>) -> Result<Vec<Link>, AllocError>
     ensures { IfOk result (λ links. HasGained known.items found.items links.items) }
 {
