@@ -25,8 +25,11 @@ const ROOM: usize = 32;
 /// Only builds that are no larger than these are remembered: of so many cells of the tile's layer, so many polygons and links between them,
 /// under so many shapes. Such a build takes a quarter of a MB at most, and some ten KB where a tile has 32 columns a side.
 const MOST_CELLS: usize = 4096;
+
 const MOST_POLYGONS: usize = 512;
+
 const MOST_LINKS: usize = 2048;
+
 const MOST_SHAPES: usize = 64;
 
 /// What was built for a job.
