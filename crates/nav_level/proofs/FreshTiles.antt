@@ -1,10 +1,10 @@
 -- Fresh tile meshes with their numbers are new tile meshes, and put into the published tiles they make the stored ones.
-use Rattle.std.proofs.Common.{◌≡◌, ℕ, zero, suc, ◌+◌, ◌<◌, Bool, List, [], ◌∷◌, ◌++◌, length, get_or, set, take, drop, replicate, append_assoc, drop-cons, ap, ◌∙◌, refl, sym, subst, arith, Option, Some, None}
+use Rattle.std.proofs.Common.{◌≡◌, ℕ, zero, suc, ◌+◌, ◌<◌, Bool, List, [], ◌∷◌, length, get_or, ap, ◌∙◌, refl, sym, subst, arith, Option, Some, None}
 use Rattle.std.specs.Prelude.{All, ◌==◌, unwrap_or}
 use Rattle.std.specs.List.{find}
 use Rattle.std.specs.Option.{option_map}
 use Rattle.std.proofs.lemmas.Bool.{cond-true, cond-false, eq-eqb, ne_eqb}
-use Rattle.std.proofs.lemmas.List.{length-map, get_or-map, ext_get_or, length-replicate, replicate-append-replicate, set_at, take-append-le, take_all}
+use Rattle.std.proofs.lemmas.List.{length-map, get_or-map, ext_get_or}
 use Rattle.std.proofs.lemmas.List.Elements.{All-nil, All-cons}
 use Rattle.std.proofs.lemmas.List.Kept.{AllPairs-cons}
 use Rattle.nav_ground.specs.declared.setting.Setting.{Setting}

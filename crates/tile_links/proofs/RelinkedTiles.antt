@@ -1,5 +1,5 @@
 -- New tile meshes written one after the other, and lists of links made again one after the other.
-use Rattle.std.proofs.Common.{◌≡◌, ℕ, ◌+◌, ◌<◌, ◌≤◌, Bool, true, false, cond, List, [], ◌∷◌, ◌++◌, length, map, take, set, get_or, ap, ◌∙◌, sym, refl, subst, ⊎_elim, arith, Some, None}
+use Rattle.std.proofs.Common.{◌≡◌, ℕ, ◌+◌, ◌<◌, Bool, true, false, cond, List, [], ◌∷◌, ◌++◌, length, map, take, set, get_or, ap, ◌∙◌, sym, refl, subst, ⊎_elim, arith, Some, None}
 use Rattle.std.specs.Prelude.{All, ◌==◌, unwrap_or, replicate}
 use Rattle.std.specs.List.{find}
 use Rattle.std.specs.Option.{option_map}
@@ -7,7 +7,6 @@ use Rattle.std.proofs.lemmas.Bool.{both_ways, cases_Bool, cases_eq, cases_lt, eq
 use Rattle.std.proofs.lemmas.List.{get_or-map, get_or-replicate, get_or-set_same, get_or-set_other, get_or-take, get_or_default, get_or_past, get_or_read, length-map, length-replicate, length-set, length-take, same_lists, take_more}
 use Rattle.std.proofs.lemmas.List.Elements.{All-head, All-tail}
 use Rattle.nav_ground.specs.declared.setting.Setting.{Setting}
-use Rattle.nav_ground.specs.Tiling.{tile_count}
 use Rattle.mesh_types.specs.declared.links.Link.{Link}
 use Rattle.mesh_types.specs.declared.tile.TileMesh.{TileMesh}
 use Rattle.mesh_types.specs.Soundness.{AreTiles}

@@ -5,7 +5,7 @@ use Rattle.std.proofs.lemmas.List.Elements.{All-push, All-weaker}
 use Rattle.tile_links.specs.NearTiles.{IsMarked}
 use Rattle.tile_links.specs.NewTiles.{New}
 use Rattle.tile_links.proofs.NearTiles.{IsMarked-kept}
-use Rattle.tile_links.proofs.RelinkedTiles.{relinked_none, relinked_all}
+use Rattle.tile_links.proofs.RelinkedTiles.{relinked_all}
 use Rattle.tile_links.proofs.new_tiles.cross_after.Goals as goal
 
 pub loop-new-preserved : goal.loop-new-preserved

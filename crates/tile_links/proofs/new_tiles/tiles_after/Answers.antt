@@ -1,4 +1,4 @@
-use Rattle.std.proofs.Common.{ap, ◌∙◌, List, map, sym}
+use Rattle.std.proofs.Common.{ap, ◌∙◌, List, sym}
 use Rattle.std.proofs.lemmas.List.{map-id, take_all}
 use Rattle.tile_links.specs.NewTiles.{New, tiles_after}
 use Rattle.tile_links.proofs.RelinkedTiles.{tiles_step}
