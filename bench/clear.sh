@@ -1,7 +1,8 @@
 #!/bin/sh
 # Times what it costs that agents keep their radius from obstacles, in the built program: the same levels with `clear 1` and with `clear 0`.
-# Rebuilding: 96 by 96 columns in nine tiles of 32, radius 2, of one storey and of two; a block of 4 by 4 in the middle of the middle tile comes
-# and goes 2000 times, a settle after each; microseconds a settle, less what the level takes without one. Opening: 1024 by 1024 columns of one
+# Rebuilding: 96 by 96 columns in nine tiles of 32, radius 2, of one storey and of two; a block of 4 by 4 comes at one of 625 places in the
+# middle tile, the one before it goes, and then a settle, 4000 times, so that each build is new; microseconds a settle, less what the level
+# takes without one. Opening: 1024 by 1024 columns of one
 # storey, tiles of 32, radius 2, no obstacle; seconds and megabytes. Each is the least of three runs. Fails where a settle takes more than LIMIT
 # times as long, or the opening more than 1.5 times as long or 1.5 times as much memory.
 # Build the program first: cd crates/navd && rt run -- play < stdin.
@@ -21,7 +22,12 @@ level() {
             if (storeys == 2) printf "span %d %d 30 40 63\n", x, z
         }
         print "end\nscript 1 1"
-        for (n = 1; n <= settles / 2; n++) printf "add block 46 49 0 100 46 49\nsettle\ndrop %d\nsettle\n", n }'
+        for (n = 1; n <= settles; n++) {
+            at = n * 7 % 625; x = 34 + at % 25; z = 34 + int(at / 25)
+            printf "add block %d %d 0 100 %d %d\n", x, x + 3, z, z + 3
+            if (n > 1) printf "drop %d\n", n - 1
+            print "settle"
+        } }'
 }
 
 # timed NAME INPUT: three runs; their processor seconds and kilobytes are kept under the name

@@ -1,6 +1,6 @@
 #!/bin/sh
 # Times one changed tile and its settle in the built program, on a level of 1024 by 1024 columns on two storeys in tiles of 32, as the GENERATOR
-# writes it. A block of 4 by 4 inside one tile comes and goes 2000 times, as a door does, a settle after each; and a block comes, at 784 places
+# writes it. A block of 4 by 4 inside one tile comes and goes 8000 times, as a door does, a settle after each; and a block comes, at 784 places
 # in that tile in turn, and the one before it goes, and then a settle, 4000 times. The first asks for the same two builds again and again, which
 # the level remembers; of the second each is new. No place touches another tile. Each is the least processor time of RUNS runs, less that of the
 # level alone; microseconds a settle. Where a PEER is given, a command that plays the same input, its runs stand between. Fails where a settle of
@@ -20,7 +20,7 @@ trap 'rm -rf "$work"' EXIT
 $generator 1024 32 2048 4096 1 | awk '{ print } /^script / { exit }' > "$work/none"
 {
     cat "$work/none"
-    awk 'BEGIN { for (n = 1; n <= 2000; n++) printf "add block 526 529 0 100 526 529\nsettle\ndrop %d\nsettle\n", n }'
+    awk 'BEGIN { for (n = 1; n <= 8000; n++) printf "add block 526 529 0 100 526 529\nsettle\ndrop %d\nsettle\n", n }'
 } > "$work/door"
 {
     cat "$work/none"
@@ -46,17 +46,17 @@ for _ in $(seq "${RUNS:-3}"); do
 done
 
 least() { awk '{ print $1 + $2 }' "$work/$1" | sort -n | head -n 1; }
-# each NAME CUT: microseconds a settle
-each() { echo "$(least "$1.$2") $(least "$1.none")" | awk '{ printf "%.1f", ($1 - $2) * 1000000 / 4000 }'; }
+# each NAME CUT SETTLES: microseconds a settle
+each() { echo "$(least "$1.$2") $(least "$1.none") $3" | awk '{ printf "%.1f", ($1 - $2) * 1000000 / $3 }'; }
 
 status=0
-door=$(each own door)
-new=$(each own moving)
+door=$(each own door 16000)
+new=$(each own moving 4000)
 echo "a changed tile and its settle, a door: $door us (limit $limit)"
 echo "$door $limit" | awk '{ exit !($1 <= $2) }' || status=1
 echo "a changed tile and its settle, a block that moves: $new us"
 if [ -n "$peer" ]; then
-    echo "$door $(each peer door)" | awk '{ printf "the peer, a door: %.1f us, ratio %.2f\n", $2, $1 / $2 }'
-    echo "$new $(each peer moving) $moving" | awk '{ printf "the peer, a block that moves: %.1f us, ratio %.2f (limit %s)\n", $2, $1 / $2, $3; exit !($1 <= $3 * $2) }' || status=1
+    echo "$door $(each peer door 16000)" | awk '{ printf "the peer, a door: %.1f us, ratio %.2f\n", $2, $1 / $2 }'
+    echo "$new $(each peer moving 4000) $moving" | awk '{ printf "the peer, a block that moves: %.1f us, ratio %.2f (limit %s)\n", $2, $1 / $2, $3; exit !($1 <= $3 * $2) }' || status=1
 fi
 exit $status

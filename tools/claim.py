@@ -323,7 +323,8 @@ def page(house):
                     "nobody has to read more: no code, no proof, and none of the other definitions."), ""]
     out += [wrapped("`tools/claim.py` writes it from the files, and `tools/claim.py --check` fails where it is not what they say. Do not edit it by hand."), ""]
     out += ["```sh", "python3 tools/claim.py            # writes this page; under a second, nothing else changes",
-            "python3 tools/claim.py --check    # compares it", "```", ""]
+            "python3 tools/claim.py --check    # compares it",
+            "python3 tools/claim.py --of IsRightPath    # what stands behind one definition", "```", ""]
     out += ["## How much it is", "", "| | the claim | all of `specs/` |", "|---|---|---|",
             f"| files of definitions | {len(modules)} | {len(house.specs)} |",
             f"| definitions | {len(definitions)} | {len(everything)} |",
