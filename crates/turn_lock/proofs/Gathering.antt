@@ -10,7 +10,8 @@ use Rattle.turn_lock.specs.declared.view.Claim.{Claim}
 use Rattle.turn_lock.specs.declared.view.View.{View}
 use Rattle.turn_lock.specs.Growth.{Extends}
 use Rattle.turn_lock.specs.Locks.{PassView, claim_of}
-use Rattle.turn_lock.specs.Turns.{Stands, Turns, claims_of}
+use Rattle.turn_lock.specs.Turns.{Stands, Turns}
+use Rattle.turn_lock.specs.SeatViews.{claims_of}
 use Rattle.turn_lock.proofs.Seats.{Ended, ends}
 
 module _ {G E : Type 0} where

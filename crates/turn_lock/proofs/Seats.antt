@@ -9,7 +9,8 @@ use Rattle.atomic_table.specs.Table.{State, Splits, Joins, opening, Final, Seen}
 use Rattle.atomic_table.proofs.Lists.{at_set, at_longer, set_else}
 use Rattle.turn_lock.specs.declared.view.Claim.{Claim}
 use Rattle.turn_lock.specs.declared.view.View.{View}
-use Rattle.turn_lock.specs.Turns.{Stands, Knows, Turns, claims_of, first_view, left_view, right_view, joined_view, spent_view, new_claim}
+use Rattle.turn_lock.specs.Turns.{Stands, Knows, Turns}
+use Rattle.turn_lock.specs.SeatViews.{claims_of, first_view, left_view, right_view, joined_view, spent_view, new_claim}
 use Rattle.turn_lock.proofs.Steps.{resting, holds_on}
 use Rattle.turn_lock.proofs.GrowthLemmas.{Extends-itself, Extends-nothing}
 use Rattle.turn_lock.proofs.TableLemmas.{at_end, same_at}

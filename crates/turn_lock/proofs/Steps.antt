@@ -12,7 +12,8 @@ use Rattle.atomic_table.proofs.Lists.{at_set, set_here, set_else, set_again, exc
 use Rattle.turn_lock.specs.declared.view.Claim.{Claim}
 use Rattle.turn_lock.specs.declared.view.View.{View}
 use Rattle.turn_lock.specs.Growth.{Extends, Grows}
-use Rattle.turn_lock.specs.Turns.{Stands, Knows, HasTurn, Phase, Turns, Takes, Gives, Looks, Returns, having_seen, having_met, claims_of}
+use Rattle.turn_lock.specs.Turns.{Stands, Knows, HasTurn, Phase, Turns, Takes, Gives, Looks, Returns}
+use Rattle.turn_lock.specs.SeatViews.{having_seen, having_met, claims_of}
 use Rattle.turn_lock.proofs.GrowthLemmas.{Extends-itself, Extends-length, Extends-grown, Grows-length, Grows-makers}
 use Rattle.turn_lock.proofs.TableLemmas.{at_below, same_at, set_itself}
 

@@ -4,7 +4,8 @@ use lib.ListN.{get_elem?}
 use Rattle.atomic_table.specs.Table.{State}
 use Rattle.turn_lock.specs.declared.view.Claim.{Claim}
 use Rattle.turn_lock.specs.declared.view.View.{View}
-use Rattle.turn_lock.specs.Turns.{Stands, Knows, Phase, Turns, claims_of}
+use Rattle.turn_lock.specs.Turns.{Stands, Knows, Phase, Turns}
+use Rattle.turn_lock.specs.SeatViews.{claims_of}
 use Rattle.turn_lock.specs.OneHistory.{IsSeat, IsClaim, AtRest, InTurn, OneHistory}
 use Rattle.turn_lock.proofs.GrowthLemmas.{Extends-own}
 use Rattle.turn_lock.proofs.TableLemmas.{All-at}

@@ -7,7 +7,7 @@ use Rattle.atomic_table.specs.Table.{State}
 use Rattle.turn_lock.specs.declared.view.Claim.{Claim}
 use Rattle.turn_lock.specs.declared.view.View.{View}
 use Rattle.turn_lock.specs.Growth.{made_by}
-use Rattle.turn_lock.specs.Turns.{claims_of}
+use Rattle.turn_lock.specs.SeatViews.{claims_of}
 
 -- a seat that was not joined away, with its view
 pub record IsSeat {B G E : Type 0} (s : State B (View G E)) (seat : ℕ) (v : View G E) : Type 0 where

@@ -1,50 +1,14 @@
 -- The rule of a lock's table, and what each step on it does. The table has one word and one slot.
 -- The word is twice the length of the current list, and one more while a seat has the turn. The slot holds the value,
 -- or it is out with that seat.
-use Rattle.std.specs.Prelude.{◌≡◌, ◌≢◌, ℕ, ◌+◌, ◌*◌, ◌/◌, ◌<◌, ◌≤◌, Bool, true, false, List, [], ◌∷◌, ◌++◌, length, slice_index, All, Option, Some, None}
+use Rattle.std.specs.Prelude.{◌≡◌, ◌≢◌, ℕ, ◌+◌, ◌*◌, ◌/◌, ◌<◌, ◌≤◌, true, false, List, [], ◌∷◌, length, slice_index, All, Option, Some, None}
 use mathlib.Core.Option as maybe
 use lib.ListN.{get_elem?}
 use Rattle.atomic_table.specs.Table.{State, Me, Step, rest}
 use Rattle.turn_lock.specs.declared.view.Claim.{Claim}
 use Rattle.turn_lock.specs.declared.view.View.{View}
 use Rattle.turn_lock.specs.Growth.{Extends, Grows}
-
-abbrev pub new_claim : {E : Type 0} → ℕ → Claim E
-new_claim number = record { number = number; seen = []; met = 0 }
-
-module _ {G E : Type 0} where
-  -- the claims for which a seat speaks
-  abbrev pub claims_of : View G E → List (Claim E)
-  claims_of v = v.own ∷ v.taken
-
-  -- the seat that gives the numbers, where the last that it gave is its own
-  abbrev pub giving_view : G → ℕ → View G E
-  giving_view r number = record { root = Some r; own = new_claim number; taken = []; holds = false; given = number + 1 }
-
-  -- the first seat has the number 0
-  abbrev pub first_view : G → View G E
-  first_view r = giving_view r 0
-
-  -- the seat has seen the whole list
-  abbrev pub having_seen : Bool → List E → View G E → View G E
-  having_seen holds current v = record v { own = record { number = v.own.number; seen = current; met = length current }; holds = holds }
-
-  abbrev pub having_met : ℕ → View G E → View G E
-  having_met met v = record v { own = record { number = v.own.number; seen = v.own.seen; met = met } }
-
-  -- of the two seats after a split, the new one has the next number, and gives the numbers from then on
-  abbrev pub left_view : View G E → View G E
-  left_view v = record v { given = 0 }
-
-  abbrev pub right_view : View G E → View G E
-  right_view v = record { root = v.root; own = new_claim v.given; taken = []; holds = false; given = v.given + 1 }
-
-  -- a seat that takes another in speaks for the claims of both
-  abbrev pub joined_view : View G E → View G E → View G E
-  joined_view v other = record v { own = other.own; taken = other.taken ++ claims_of v }
-
-  abbrev pub spent_view : View G E
-  spent_view = record { root = None; own = new_claim 0; taken = []; holds = false; given = 0 }
+use Rattle.turn_lock.specs.SeatViews.{claims_of, having_seen, having_met}
 
 module _ {E : Type 0} (maker : E → ℕ) where
   -- What a claim says of the current list. Its number was given, and to the seat that speaks for it; the list goes on

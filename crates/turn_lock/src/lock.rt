@@ -2,7 +2,8 @@
 ghost use Rattle.std.specs.Prelude.{◌≡◌, ◌%◌, ◌≤◌, true, false, [], ◌∷◌, length, map, IfOk, IfErr, All, Any, vec_capacity};
 ghost use Rattle.turn_lock.specs.Growth.{made_by, Extends};
 ghost use Rattle.turn_lock.specs.Locks.{IsOf, AreFresh, AreAll, MayName, Acts, claim_of};
-ghost use Rattle.turn_lock.specs.Turns.{Finds, Returns, having_seen, held_list, first_view, claims_of};
+ghost use Rattle.turn_lock.specs.Turns.{Finds, Returns, held_list};
+ghost use Rattle.turn_lock.specs.SeatViews.{having_seen, first_view, claims_of};
 
 use crate::booked::Booked;
 use crate::turns::{Board, Dealing, Gathering, Giving, Looking, Place, Start, Taking};

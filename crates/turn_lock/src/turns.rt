@@ -1,6 +1,7 @@
 // The lock's table: its rule, and the five kinds of step on it.
 ghost use Rattle.std.specs.Prelude.{ℕ};
-ghost use Rattle.turn_lock.specs.Turns.{Turns, Takes, Gives, Looks, first_view, left_view, right_view, joined_view, spent_view};
+ghost use Rattle.turn_lock.specs.Turns.{Turns, Takes, Gives, Looks};
+ghost use Rattle.turn_lock.specs.SeatViews.{first_view, left_view, right_view, joined_view, spent_view};
 
 use crate::booked::Booked;
 use crate::view::View;

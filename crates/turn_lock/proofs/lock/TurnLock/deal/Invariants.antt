@@ -1,6 +1,6 @@
 use Rattle.std.proofs.Common.{◌≡◌, ℕ, ◌+◌, ◌<◌, ◌≤◌, [], length, Some, vec_capacity, slice_get}
 use Rattle.turn_lock.specs.Locks.{fresh_pass}
-use Rattle.turn_lock.specs.Turns.{giving_view}
+use Rattle.turn_lock.specs.SeatViews.{giving_view}
 use Rattle.turn_lock.proofs.lock.TurnLock.deal.Given as goal
 
 -- as many passes as the counter says are made but one, and the giver has the next number

@@ -1,7 +1,7 @@
 use Rattle.std.proofs.Common.{rules, ap, sym, ◌∙◌, ◌++◌, map, Some}
 use Rattle.std.proofs.lemmas.List.Elements.{All-pop}
 use Rattle.turn_lock.specs.Locks.{IsOf, claim_of}
-use Rattle.turn_lock.specs.Turns.{claims_of}
+use Rattle.turn_lock.specs.SeatViews.{claims_of}
 use Rattle.turn_lock.proofs.Gathering.{gathered, gathered_first}
 use Rattle.turn_lock.proofs.Seats.{joins}
 use Rattle.turn_lock.proofs.lock.TurnLock.gather.Goals as goal

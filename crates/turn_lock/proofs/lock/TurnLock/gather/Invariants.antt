@@ -1,6 +1,6 @@
 use Rattle.std.proofs.Common.{◌≡◌, false, [], ◌++◌, map, Some, All}
 use Rattle.turn_lock.specs.Locks.{IsOf, claim_of}
-use Rattle.turn_lock.specs.Turns.{claims_of}
+use Rattle.turn_lock.specs.SeatViews.{claims_of}
 use Rattle.turn_lock.proofs.lock.TurnLock.gather.Given as goal
 
 abbrev pub invariant-loop-pass : goal.invariant-loop-pass
