@@ -15,7 +15,9 @@ use Rattle.nav_script.specs.declared.script.Way.TheVariants.{Play, Live}
 use Rattle.nav_script.specs.Spelling.{line_of}
 use Rattle.nav_script.specs.Lanes.{NamesLaneBelow}
 use Rattle.nav_script.specs.Limits.{AreEnds, IsPlace, IsLine}
-use Rattle.nav_script.specs.Forms.{LineRead, in_limits, below_count, floor_line, is_place, is_standing, point_at, path_line, ray_line, is_range, is_block, is_cylinder, block_line, cylinder_line, area_block_line, area_cylinder_line, drop_line, form, first_of_them, question_line, request_line, area_forms, area_line, lane_line}
+use Rattle.nav_script.specs.Forms.{LineRead, in_limits, below_count, is_range, form, first_of_them, lane_line}
+use Rattle.nav_script.specs.QuestionForms.{floor_line, is_place, is_standing, point_at, path_line, ray_line, question_line}
+use Rattle.nav_script.specs.RequestForms.{is_block, is_cylinder, block_line, cylinder_line, area_block_line, area_cylinder_line, drop_line, request_line, area_forms, area_line}
 use Rattle.nav_script.specs.WayForms.{worker_line, jump_line, hop_line, jump_or_hop, send_line, march_line, walker_line, way_line, read_in_groups, way_forms, line_forms, line_read}
 
 -- the lists of a length, one element after another

@@ -22,7 +22,9 @@ use Rattle.nav_script.specs.declared.script.Way.TheVariants.{Play, Live}
 use Rattle.nav_script.specs.Spelling.{ends_of, question_spelling, shape_spelling, line_of}
 use Rattle.nav_script.specs.Lanes.{is_jump, is_request}
 use Rattle.nav_script.specs.Limits.{AreEnds, IsJump, IsPlace, IsLine, IsQuestion}
-use Rattle.nav_script.specs.Forms.{LineRead, is_place, is_standing, point_at, is_range, drop_line, question_line, request_line, area_line, lane_line}
+use Rattle.nav_script.specs.Forms.{LineRead, is_range, lane_line}
+use Rattle.nav_script.specs.QuestionForms.{is_place, is_standing, point_at, question_line}
+use Rattle.nav_script.specs.RequestForms.{drop_line, request_line, area_line}
 use Rattle.nav_script.specs.WayForms.{worker_line, jump_or_hop, walker_line, read_in_groups, line_read}
 use Rattle.nav_script.specs.Reading.{begins_request}
 use Rattle.nav_script.proofs.LineLaws.{groups}

@@ -4,7 +4,9 @@ use Rattle.nav_text.specs.declared.fault.FaultKind.TheVariants as kinds
 use Rattle.nav_script.specs.declared.line.Line.TheVariants.{Lane, Remove, Settle, Aim, Claim, Back, Submit, Publish, Jump, Hop, Send, March}
 use Rattle.nav_script.specs.declared.script.Way.{Way}
 use Rattle.nav_script.specs.declared.script.Way.TheVariants.{Play, Live}
-use Rattle.nav_script.specs.Forms.{LineRead, in_limits, below_count, floor_line, path_line, ray_line, block_line, cylinder_line, drop_line, point_at, are_standing, is_range, form, first_of_them, question_line, request_line, area_line, lane_line}
+use Rattle.nav_script.specs.Forms.{LineRead, in_limits, below_count, is_range, form, first_of_them, lane_line}
+use Rattle.nav_script.specs.QuestionForms.{floor_line, path_line, ray_line, point_at, are_standing, question_line}
+use Rattle.nav_script.specs.RequestForms.{block_line, cylinder_line, drop_line, request_line, area_line}
 
 -- what a line says that leads workers, of which there are so many
 unfoldable pub worker_line : ℕ → List ℕ → Option LineRead

@@ -2,6 +2,8 @@
 ghost use Rattle.std.specs.Prelude.{◌≡◌, ◌≤◌, IfOk};
 ghost use Rattle.nav_script.specs.Lanes.{NamesLaneBelow};
 ghost use Rattle.nav_script.specs.Forms;
+ghost use Rattle.nav_script.specs.QuestionForms;
+ghost use Rattle.nav_script.specs.RequestForms;
 ghost use Rattle.nav_script.specs.WayForms.{read_in_groups};
 
 use crate::header::Header;
@@ -51,13 +53,13 @@ fn below_count(number: u32, count: u32, line: Line) -> Result<Line, FaultKind>
 }
 
 fn is_place(x: u32, z: u32) -> bool
-    ensures { result ≡ Rattle.nav_script.specs.Forms.is_place x z }
+    ensures { result ≡ Rattle.nav_script.specs.QuestionForms.is_place x z }
 {
     x <= LAST_SIXTEENTH && z <= LAST_SIXTEENTH
 }
 
 fn is_standing(x: u32, z: u32, y: u32) -> bool
-    ensures { result ≡ Rattle.nav_script.specs.Forms.is_standing x z y }
+    ensures { result ≡ Rattle.nav_script.specs.QuestionForms.is_standing x z y }
 {
     is_place(x, z) && y <= HIGHEST
 }
@@ -65,7 +67,7 @@ fn is_standing(x: u32, z: u32, y: u32) -> bool
 fn point_at(x: u32, z: u32) -> Point
     requires x { x ≤ 16384 }
     requires z { z ≤ 16384 }
-    ensures { result ≡ Rattle.nav_script.specs.Forms.point_at x z }
+    ensures { result ≡ Rattle.nav_script.specs.QuestionForms.point_at x z }
 {
     Point {
         x: x as i32,
@@ -80,7 +82,7 @@ fn is_range(low: u32, high: u32, most: u32) -> bool
 }
 
 fn floor_line(n: [u32; 2]) -> Result<Line, FaultKind>
-    ensures { result ≡ Rattle.nav_script.specs.Forms.floor_line n }
+    ensures { result ≡ Rattle.nav_script.specs.QuestionForms.floor_line n }
 {
     let [x, z] = n;
     in_limits(
@@ -90,7 +92,7 @@ fn floor_line(n: [u32; 2]) -> Result<Line, FaultKind>
 }
 
 fn path_line(n: [u32; 6]) -> Result<Line, FaultKind>
-    ensures { result ≡ Rattle.nav_script.specs.Forms.path_line n }
+    ensures { result ≡ Rattle.nav_script.specs.QuestionForms.path_line n }
 {
     let [x, z, from_y, to_x, to_z, to_y] = n;
     if !(is_standing(x, z, from_y) && is_standing(to_x, to_z, to_y)) {
@@ -105,7 +107,7 @@ fn path_line(n: [u32; 6]) -> Result<Line, FaultKind>
 }
 
 fn ray_line(n: [u32; 5]) -> Result<Line, FaultKind>
-    ensures { result ≡ Rattle.nav_script.specs.Forms.ray_line n }
+    ensures { result ≡ Rattle.nav_script.specs.QuestionForms.ray_line n }
 {
     let [x, z, from_y, to_x, to_z] = n;
     if !(is_standing(x, z, from_y) && is_place(to_x, to_z)) {
@@ -119,21 +121,21 @@ fn ray_line(n: [u32; 5]) -> Result<Line, FaultKind>
 }
 
 fn is_block(n: [u32; 6]) -> bool
-    ensures { result ≡ Rattle.nav_script.specs.Forms.is_block n }
+    ensures { result ≡ Rattle.nav_script.specs.RequestForms.is_block n }
 {
     let [x0, x1, y0, y1, z0, z1] = n;
     is_range(x0, x1, LAST_COLUMN) && is_range(y0, y1, HIGHEST) && is_range(z0, z1, LAST_COLUMN)
 }
 
 fn is_cylinder(n: [u32; 5]) -> bool
-    ensures { result ≡ Rattle.nav_script.specs.Forms.is_cylinder n }
+    ensures { result ≡ Rattle.nav_script.specs.RequestForms.is_cylinder n }
 {
     let [cx, cz, r, y0, y1] = n;
     cx <= LAST_CENTRE && cz <= LAST_CENTRE && r <= LARGEST_RADIUS && is_range(y0, y1, HIGHEST)
 }
 
 fn block_line(n: [u32; 6]) -> Result<Line, FaultKind>
-    ensures { result ≡ Rattle.nav_script.specs.Forms.block_line n }
+    ensures { result ≡ Rattle.nav_script.specs.RequestForms.block_line n }
 {
     let [x0, x1, y0, y1, z0, z1] = n;
     in_limits(
@@ -150,7 +152,7 @@ fn block_line(n: [u32; 6]) -> Result<Line, FaultKind>
 }
 
 fn cylinder_line(n: [u32; 5]) -> Result<Line, FaultKind>
-    ensures { result ≡ Rattle.nav_script.specs.Forms.cylinder_line n }
+    ensures { result ≡ Rattle.nav_script.specs.RequestForms.cylinder_line n }
 {
     let [cx, cz, r, y0, y1] = n;
     in_limits(
@@ -160,7 +162,7 @@ fn cylinder_line(n: [u32; 5]) -> Result<Line, FaultKind>
 }
 
 fn area_block_line(area: u32, n: [u32; 6]) -> Result<Line, FaultKind>
-    ensures { result ≡ Rattle.nav_script.specs.Forms.area_block_line area n }
+    ensures { result ≡ Rattle.nav_script.specs.RequestForms.area_block_line area n }
 {
     let [x0, x1, y0, y1, z0, z1] = n;
     in_limits(
@@ -178,7 +180,7 @@ fn area_block_line(area: u32, n: [u32; 6]) -> Result<Line, FaultKind>
 }
 
 fn area_cylinder_line(area: u32, n: [u32; 5]) -> Result<Line, FaultKind>
-    ensures { result ≡ Rattle.nav_script.specs.Forms.area_cylinder_line area n }
+    ensures { result ≡ Rattle.nav_script.specs.RequestForms.area_cylinder_line area n }
 {
     let [cx, cz, r, y0, y1] = n;
     in_limits(
@@ -250,7 +252,7 @@ fn march_line(length: u32) -> Result<Line, FaultKind>
 }
 
 fn drop_line(adds: u32, back: u32) -> Result<Line, FaultKind>
-    ensures { result ≡ Rattle.nav_script.specs.Forms.drop_line adds back }
+    ensures { result ≡ Rattle.nav_script.specs.RequestForms.drop_line adds back }
 {
     if back == 0 {
         return Err(FaultKind::Range);
@@ -261,9 +263,9 @@ fn drop_line(adds: u32, back: u32) -> Result<Line, FaultKind>
     Ok(Line::Undo(back))
 }
 
-#[tactic(auto, unfolding(crate::specs::Forms::question_line))]
+#[tactic(auto, unfolding(crate::specs::QuestionForms::question_line))]
 fn question_line(line: &[u8]) -> Option<Result<Line, FaultKind>>
-    ensures { result ≡ Rattle.nav_script.specs.Forms.question_line line.now }
+    ensures { result ≡ Rattle.nav_script.specs.QuestionForms.question_line line.now }
 {
     if let Some(n) = numbers_of::<2>(b"floor", line) {
         return Some(floor_line(n));
@@ -275,9 +277,9 @@ fn question_line(line: &[u8]) -> Option<Result<Line, FaultKind>>
     Some(ray_line(n))
 }
 
-#[tactic(auto, unfolding(crate::specs::Forms::request_line))]
+#[tactic(auto, unfolding(crate::specs::RequestForms::request_line))]
 fn request_line(adds: u32, line: &[u8]) -> Option<Result<Line, FaultKind>>
-    ensures { result ≡ Rattle.nav_script.specs.Forms.request_line adds line.now }
+    ensures { result ≡ Rattle.nav_script.specs.RequestForms.request_line adds line.now }
 {
     if let Some(n) = numbers_of::<6>(b"add block", line) {
         return Some(block_line(n));
@@ -292,9 +294,9 @@ fn request_line(adds: u32, line: &[u8]) -> Option<Result<Line, FaultKind>>
     Some(drop_line(adds, n[0]))
 }
 
-#[tactic(auto, unfolding(crate::specs::Forms::area_line))]
+#[tactic(auto, unfolding(crate::specs::RequestForms::area_line))]
 fn area_line(line: &[u8]) -> Option<Result<Line, FaultKind>>
-    ensures { result ≡ Rattle.nav_script.specs.Forms.area_line line.now }
+    ensures { result ≡ Rattle.nav_script.specs.RequestForms.area_line line.now }
 {
     let (area, rest) = number_after(b"add area", line)?;
     if let Some(n) = numbers_of::<6>(b" block", rest) {

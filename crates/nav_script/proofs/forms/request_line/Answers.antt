@@ -1,5 +1,5 @@
 use Rattle.std.proofs.Common.{refl}
-use Rattle.nav_script.specs.Forms.{request_line}
+use Rattle.nav_script.specs.RequestForms.{request_line}
 use Rattle.nav_script.proofs.forms.request_line.Goals as goal
 
 pub returns-in-Some-numbers_of : goal.returns-in-Some-numbers_of
