@@ -2,7 +2,9 @@
 use Rattle.std.specs.Prelude.{ℕ, List}
 use Rattle.std.specs.List.{flat_map}
 use Rattle.nav_record.specs.declared.step.StepAnswer.TheVariants as steps
-use Rattle.nav_record.specs.Texts.{reply_text, answer_text, step_text}
+use Rattle.nav_record.specs.EntryTexts.{reply_text}
+use Rattle.nav_record.specs.AnswerTexts.{answer_text}
+use Rattle.nav_record.specs.StepTexts.{step_text}
 use Rattle.nav_record.specs.WalkTexts.{walk_text, no_walker_text}
 use Rattle.nav_lane.specs.declared.said.Said.{Said}
 use Rattle.nav_lane.specs.declared.said.Said.TheVariants.{Replied, Answered, Settled, Walked, NoWalker}

@@ -8,7 +8,7 @@ use Rattle.mesh_types.specs.Builds.{build_of}
 use Rattle.mesh_types.specs.Soundness.{link_count, polygon_count}
 use Rattle.nav_desk.specs.BookState.{BookState}
 use Rattle.nav_book.specs.Results.{published_mesh}
-use Rattle.nav_record.specs.Texts.{final_text, history_text, lane_text}
+use Rattle.nav_record.specs.FrameTexts.{final_text, history_text, lane_text}
 use Rattle.nav_live.specs.LiveRecord.{entries_text, live_text, lane_lines}
 
 -- one part more is written, and the rest is left

@@ -6,7 +6,8 @@ use Rattle.nav_ground.specs.declared.history.Ground.{Ground}
 use Rattle.nav_ground.specs.History.{IsHistory}
 use Rattle.mesh_types.specs.Builds.{build_of}
 use Rattle.mesh_types.specs.Soundness.{link_count, polygon_count}
-use Rattle.nav_record.specs.Texts.{history_text, entry_text, lane_text, final_text}
+use Rattle.nav_record.specs.FrameTexts.{history_text, lane_text, final_text}
+use Rattle.nav_record.specs.EntryTexts.{entry_text}
 use Rattle.nav_script.specs.declared.script.Script.{Script}
 use Rattle.nav_script.specs.Lanes.{lines_of}
 use Rattle.nav_lane.specs.LaneRecords.{Spoken, IsLane}

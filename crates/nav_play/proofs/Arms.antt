@@ -24,7 +24,8 @@ use Rattle.nav_book.specs.Results.{published_mesh}
 use Rattle.nav_record.specs.declared.step.StepAnswer.{StepAnswer}
 use Rattle.nav_record.specs.declared.step.StepAnswer.TheVariants as answers
 use Rattle.nav_record.specs.HopTexts.{hop_text}
-use Rattle.nav_record.specs.Texts.{answer_text, step_text}
+use Rattle.nav_record.specs.AnswerTexts.{answer_text}
+use Rattle.nav_record.specs.StepTexts.{step_text}
 use Rattle.off_links.specs.Leaps.{AreJumps, HasJumpCoordinates}
 use Rattle.nav_script.specs.declared.line.Line.{Line}
 use Rattle.nav_script.specs.declared.line.Line.TheVariants.{Lane, Ask, Add, Remove, Undo, Settle, Aim, Claim, Back, Submit, Publish, Jump, Hop}

@@ -9,7 +9,7 @@ use Rattle.mesh_types.specs.Soundness.{link_count, polygon_count}
 use Rattle.nav_book.specs.Results.{published_mesh}
 use Rattle.nav_book.specs.declared.result.TileResult.{TileResult}
 use Rattle.nav_record.specs.declared.totals.Totals.{Totals}
-use Rattle.nav_record.specs.Texts.{done_text}
+use Rattle.nav_record.specs.FrameTexts.{done_text}
 use Rattle.nav_script.specs.declared.line.Line.{Line}
 use Rattle.nav_script.specs.Lanes.{is_jump}
 use Rattle.nav_script.specs.declared.script.Script.{Script}

@@ -10,7 +10,7 @@ use Rattle.mesh_types.specs.Right.{IsRight}
 use Rattle.nav_desk.specs.BookState.{BookState}
 use Rattle.nav_book.specs.Results.{published_mesh}
 use Rattle.nav_record.specs.HopTexts.{hop_text}
-use Rattle.nav_record.specs.Texts.{answer_text}
+use Rattle.nav_record.specs.AnswerTexts.{answer_text}
 
 -- an answer that is right in the published mesh, with the length that it was asked at
 pub record IsAnswered (book : BookState) (question : Question) (text : List ℕ) : Type 0 where

@@ -16,7 +16,9 @@ use Rattle.nav_desk.specs.Steps.{after_aim, after_publish, publication, request_
 use Rattle.nav_book.specs.Openings.{ground_of}
 use Rattle.nav_book.specs.Settling.{after_settle}
 use Rattle.nav_record.specs.declared.step.StepAnswer.TheVariants as answers
-use Rattle.nav_record.specs.Texts.{reply_text, step_text, done_text}
+use Rattle.nav_record.specs.EntryTexts.{reply_text}
+use Rattle.nav_record.specs.StepTexts.{step_text}
+use Rattle.nav_record.specs.FrameTexts.{done_text}
 use Rattle.nav_script.specs.declared.line.Line.{Line}
 use Rattle.nav_script.specs.declared.line.Line.TheVariants.{Lane, Ask, Add, Remove, Undo, Settle, Aim, Claim, Back, Submit, Publish, Jump, Hop, Send, March}
 use Rattle.nav_script.specs.declared.script.Script.{Script}

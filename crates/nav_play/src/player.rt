@@ -10,7 +10,7 @@ ghost use Rattle.nav_play.specs.Players.{HasBegun, HasPlayed, HasRequested, IsPl
 ghost use Rattle.nav_play.specs.Tallies.{HasRoom, totals_at};
 ghost use Rattle.nav_play.specs.Work.{jobs_from, jobs_of};
 ghost use Rattle.nav_query.specs.Questions.{IsAnswerable};
-ghost use Rattle.nav_record.specs.Texts.{step_text};
+ghost use Rattle.nav_record.specs.StepTexts.{step_text};
 ghost use Rattle.nav_script.specs.Limits.{IsScript};
 ghost use Rattle.nav_script.specs.declared.script.Way.TheVariants.{Play};
 ghost use Rattle.off_links.specs.Leaps.{HasJumpCoordinates};

@@ -18,7 +18,7 @@ use Rattle.mesh_types.specs.declared.links.Link.{Link}
 use Rattle.mesh_types.specs.declared.links.PolyRef.{PolyRef}
 use Rattle.nav_text.specs.Lines.{ended, is_line, text_of}
 use Rattle.nav_record.specs.OneLine.{IsOneLine, HasLines}
-use Rattle.nav_record.specs.Texts.{floor_text, floors_text, poly_text, point_text, link_text, side_text, turn_text, first_line_text, answer_text, line_count}
+use Rattle.nav_record.specs.AnswerTexts.{floor_text, floors_text, poly_text, point_text, link_text, side_text, turn_text, first_line_text, answer_text, line_count}
 use Rattle.nav_record.proofs.OneLineLaws.{is_line-decimal, is_line-append}
 
 -- one line

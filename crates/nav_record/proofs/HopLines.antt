@@ -7,7 +7,7 @@ use Rattle.mesh_types.specs.declared.hops.HopStep.{HopStep}
 use Rattle.mesh_types.specs.declared.hops.HopStep.TheVariants as hops
 use Rattle.nav_record.specs.HopTexts.{hop_line_count, hop_line_text, hop_step_text, hop_text}
 use Rattle.nav_record.specs.OneLine.{IsOneLine, HasLines}
-use Rattle.nav_record.specs.Texts.{poly_text, turn_text}
+use Rattle.nav_record.specs.AnswerTexts.{poly_text, turn_text}
 use Rattle.nav_record.proofs.AnswerLines.{one, both, each, spaced, line_of, poly_plain, named, link_line, turn_line}
 use Rattle.nav_record.proofs.OneLineLaws.{is_line-decimal}
 

@@ -19,7 +19,9 @@ use Rattle.nav_script.specs.Spelling.{shape_spelling}
 use Rattle.nav_record.specs.declared.step.StepAnswer.{StepAnswer}
 use Rattle.nav_record.specs.declared.step.StepAnswer.TheVariants.{Aim, Claimed, NoTile, Busy, Idle, Back, Taken, Stale, Published, Same, NotYet, Settled, HistoryFull}
 use Rattle.nav_record.specs.OneLine.{IsOneLine}
-use Rattle.nav_record.specs.Texts.{reply_text, outcome_text, request_spelling, entry_text, step_text, done_text, history_text, lane_text, final_text, fault_text}
+use Rattle.nav_record.specs.EntryTexts.{reply_text, outcome_text, request_spelling, entry_text}
+use Rattle.nav_record.specs.StepTexts.{step_text}
+use Rattle.nav_record.specs.FrameTexts.{done_text, history_text, lane_text, final_text, fault_text}
 
 -- a glyph is no line feed
 glyph_plain : (small : Bool) (d : ℕ) → not (eqb (cond small (48 + d) (87 + d)) 10) ≡ true

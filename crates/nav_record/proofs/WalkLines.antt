@@ -5,7 +5,7 @@ use Rattle.mesh_types.specs.declared.links.PolyRef.{PolyRef}
 use Rattle.mesh_types.specs.declared.walks.WalkAnswer.{WalkAnswer}
 use Rattle.mesh_types.specs.declared.walks.WalkAnswer.TheVariants.{Walking, NoStart, NoGoal, NoPath}
 use Rattle.nav_record.specs.OneLine.{IsOneLine, HasLines}
-use Rattle.nav_record.specs.Texts.{poly_text, point_text, link_text}
+use Rattle.nav_record.specs.AnswerTexts.{poly_text, point_text, link_text}
 use Rattle.nav_record.specs.WalkTexts.{no_walker_text, walk_line_count, walk_text, walker_line_text}
 use Rattle.nav_record.proofs.AnswerLines.{one, both, each, spaced, line_of, poly_plain, point_plain, named, link_line}
 use Rattle.nav_record.proofs.OneLineLaws.{is_line-decimal}

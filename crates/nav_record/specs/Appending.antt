@@ -1,7 +1,7 @@
 -- What is written of the fields of a line.
 use Rattle.std.specs.Prelude.{ℕ, List, [], ◌∷◌, ◌++◌, codes, decimal, Option, Some, None}
 use Rattle.std.specs.Fmt.{signed_decimal}
-use Rattle.nav_record.specs.Texts.{poly_text, point_text, side_text}
+use Rattle.nav_record.specs.AnswerTexts.{poly_text, point_text, side_text}
 use Rattle.nav_record.specs.declared.append.Field.{Field}
 use Rattle.nav_record.specs.declared.append.Field.TheVariants as fields
 

@@ -6,7 +6,7 @@ use Rattle.mesh_types.specs.declared.hops.HopAnswer.TheVariants.{Found, NoStart,
 use Rattle.mesh_types.specs.declared.hops.HopFound.{HopFound}
 use Rattle.mesh_types.specs.declared.hops.HopStep.{HopStep}
 use Rattle.mesh_types.specs.declared.hops.HopStep.TheVariants as hops
-use Rattle.nav_record.specs.Texts.{poly_text, link_text, turn_text}
+use Rattle.nav_record.specs.AnswerTexts.{poly_text, link_text, turn_text}
 
 -- a step of a hop walk: a link as in a path, or the number of a jump and the polygon that it enters
 abbrev pub hop_step_text : HopStep → List ℕ

@@ -6,7 +6,7 @@ use Rattle.mesh_types.specs.declared.links.Link.{Link}
 use Rattle.mesh_types.specs.declared.links.PolyRef.{PolyRef}
 use Rattle.mesh_types.specs.declared.walks.WalkAnswer.{WalkAnswer}
 use Rattle.mesh_types.specs.declared.walks.WalkAnswer.TheVariants.{Walking, NoStart, NoGoal, NoPath}
-use Rattle.nav_record.specs.Texts.{poly_text, point_text, link_text}
+use Rattle.nav_record.specs.AnswerTexts.{poly_text, point_text, link_text}
 
 -- a walker: the polygon and the point where it stands, and the cost and the number of the links from there to its goal's polygon; then a line for
 -- each of these links

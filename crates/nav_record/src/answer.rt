@@ -2,7 +2,7 @@
 ghost use Rattle.std.specs.Prelude.{◌≡◌, ◌+◌, ◌≤◌, ◌++◌, length, IsOk, OnOk, OnErr, vec_len, vec_capacity};
 ghost use Rattle.nav_text.specs.Appends.{Appends};
 ghost use Rattle.nav_record.specs.OneLine.{HasLines};
-ghost use Rattle.nav_record.specs.Texts.{answer_text, line_count};
+ghost use Rattle.nav_record.specs.AnswerTexts.{answer_text, line_count};
 
 use crate::append::{Field, append_parts};
 use crate::floors::append_floors;

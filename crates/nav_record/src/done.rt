@@ -1,7 +1,7 @@
 //! The last line of a play.
 ghost use Rattle.std.specs.Prelude.{◌≡◌, ◌+◌, ◌≤◌, ◌++◌, length, IsOk, OnOk, OnErr, vec_len, vec_capacity};
 ghost use Rattle.nav_record.specs.OneLine.{IsOneLine};
-ghost use Rattle.nav_record.specs.Texts.{done_text};
+ghost use Rattle.nav_record.specs.FrameTexts.{done_text};
 
 use crate::append::{Field, append};
 use std::alloc::AllocError;

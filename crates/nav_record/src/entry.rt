@@ -2,7 +2,7 @@
 ghost use Rattle.std.specs.Prelude.{◌≡◌, ◌+◌, ◌≤◌, [], ◌∷◌, ◌++◌, length, codes, IsOk, OnOk, OnErr, vec_len, vec_capacity};
 ghost use Rattle.nav_text.specs.Appends.{Appends};
 ghost use Rattle.nav_record.specs.OneLine.{IsOneLine};
-ghost use Rattle.nav_record.specs.Texts.{entry_text, outcome_text, request_spelling};
+ghost use Rattle.nav_record.specs.EntryTexts.{entry_text, outcome_text, request_spelling};
 ghost use Rattle.nav_text.specs.Forms.{line_text};
 ghost use Rattle.nav_script.specs.Spelling.{shape_spelling};
 

@@ -1,7 +1,7 @@
 //! Faults of the input, as the output tells them.
 ghost use Rattle.std.specs.Prelude.{◌≡◌, ◌+◌, ◌≤◌, ◌++◌, length, IsOk, OnOk, OnErr, vec_len, vec_capacity};
 ghost use Rattle.nav_record.specs.OneLine.{IsOneLine};
-ghost use Rattle.nav_record.specs.Texts.{fault_text};
+ghost use Rattle.nav_record.specs.FrameTexts.{fault_text};
 
 use crate::append::{Field, append};
 use nav_text::TextFault;

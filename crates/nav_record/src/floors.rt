@@ -1,6 +1,6 @@
 //! The floors of a column.
 ghost use Rattle.nav_text.specs.Appends.{Appends};
-ghost use Rattle.nav_record.specs.Texts.{floors_text};
+ghost use Rattle.nav_record.specs.AnswerTexts.{floors_text};
 
 use crate::append::{Field, append_fields};
 use nav_base::FloorAt;

@@ -1,7 +1,7 @@
 //! The lines of a live text that stand between the lines of its lanes.
 ghost use Rattle.std.specs.Prelude.{◌≡◌, ◌+◌, ◌≤◌, ◌++◌, length, IsOk, OnOk, OnErr, vec_len, vec_capacity};
 ghost use Rattle.nav_record.specs.OneLine.{IsOneLine};
-ghost use Rattle.nav_record.specs.Texts.{history_text, lane_text, final_text};
+ghost use Rattle.nav_record.specs.FrameTexts.{history_text, lane_text, final_text};
 
 use crate::append::{Field, append};
 use std::alloc::AllocError;

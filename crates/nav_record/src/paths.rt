@@ -1,7 +1,7 @@
 //! Paths. Where memory is refused a part of the lines may stand at the end.
 ghost use Rattle.std.specs.List.{flat_map};
 ghost use Rattle.nav_text.specs.Appends.{Appends};
-ghost use Rattle.nav_record.specs.Texts.{link_text, turn_text, first_line_text, path_text};
+ghost use Rattle.nav_record.specs.AnswerTexts.{link_text, turn_text, first_line_text, path_text};
 
 use crate::append::{Field, append_parts};
 use mesh_types::{Corner, Link, PathFound};

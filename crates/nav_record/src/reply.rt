@@ -2,7 +2,7 @@
 ghost use Rattle.std.specs.Prelude.{◌≡◌, ◌+◌, ◌≤◌, ◌++◌, length, IsOk, OnOk, OnErr, vec_len, vec_capacity};
 ghost use Rattle.nav_text.specs.Appends.{Appends};
 ghost use Rattle.nav_record.specs.OneLine.{IsOneLine};
-ghost use Rattle.nav_record.specs.Texts.{reply_text};
+ghost use Rattle.nav_record.specs.EntryTexts.{reply_text};
 
 use crate::append::{Field, append_fields};
 use crate::entry::append_outcome;

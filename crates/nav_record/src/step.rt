@@ -3,7 +3,7 @@ ghost use Rattle.std.specs.Prelude.{◌≡◌, ◌+◌, ◌≤◌, ◌++◌, len
 ghost use Rattle.nav_record.specs.Appending.{phrase_text};
 ghost use Rattle.nav_text.specs.Appends.{Appends};
 ghost use Rattle.nav_record.specs.OneLine.{IsOneLine};
-ghost use Rattle.nav_record.specs.Texts.{step_text};
+ghost use Rattle.nav_record.specs.StepTexts.{step_text};
 
 use crate::append::{Field, append_parts};
 use std::alloc::AllocError;

@@ -6,7 +6,7 @@ use Rattle.std.specs.Io.KnownBytes.{Appends, Keeps}
 use Rattle.std.proofs.lemmas.List.{length-append}
 use Rattle.nav_io.specs.Causes.{Rose, GivesAll, TookMany, HasMore}
 use Rattle.nav_io.proofs.Laws.{GivesAll-known}
-use Rattle.nav_record.specs.Texts.{usage_text, too_long_text}
+use Rattle.nav_record.specs.FrameTexts.{usage_text, too_long_text}
 use Rattle.nav_script.specs.declared.script.Way.{Way}
 use Rattle.nav_script.specs.declared.script.Way.TheVariants.{Play, Live}
 use Rattle.nav_run.specs.declared.status.Status.{Status}

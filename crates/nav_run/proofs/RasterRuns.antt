@@ -5,7 +5,7 @@ use Rattle.std.specs.declared.alloc.Global.{Global}
 use Rattle.nav_ground.specs.declared.setting.Setting.{Setting}
 use Rattle.nav_io.specs.Causes.{Rose, GivesAll, TookMany}
 use Rattle.nav_io.proofs.Laws.{GivesAll-known}
-use Rattle.nav_record.specs.Texts.{too_long_text}
+use Rattle.nav_record.specs.FrameTexts.{too_long_text}
 use Rattle.tri_rows.specs.declared.triangle.Tri.{Tri}
 use Rattle.tri_rows.specs.Rasters.{IsRaster, HasManySpans}
 use Rattle.tri_raster.proofs.RasterLaws.{many_or_few}

@@ -4,7 +4,7 @@ use Rattle.std.specs.Prelude.{Option, Some, None, String}
 use Rattle.std.specs.declared.alloc.Global.{Global}
 use Rattle.nav_io.specs.Causes.{GivesAll, TookMany, TookAtMost}
 use Rattle.nav_steps.specs.Counts.{HasRisenAtMost}
-use Rattle.nav_record.specs.Texts.{usage_text, too_long_text}
+use Rattle.nav_record.specs.FrameTexts.{usage_text, too_long_text}
 use Rattle.nav_script.specs.declared.script.Way.{Way}
 use Rattle.nav_run.specs.declared.status.Status.{Status}
 use Rattle.nav_run.specs.declared.status.Status.TheVariants as statuses

@@ -1,6 +1,6 @@
 -- What an input is answered with.
 use Rattle.std.specs.Prelude.{◌≡◌, ℕ, List, ⊤}
-use Rattle.nav_record.specs.Texts.{fault_text}
+use Rattle.nav_record.specs.FrameTexts.{fault_text}
 use Rattle.nav_script.specs.declared.script.Way.{Way}
 use Rattle.nav_text.specs.declared.fault.TextFault.{TextFault}
 use Rattle.nav_run.specs.declared.answer.Answer.{Answer}

@@ -3,7 +3,7 @@ use Rattle.std.specs.Prelude.{◌≡◌, ℕ, ◌+◌, List, Option, String}
 use Rattle.std.specs.declared.alloc.Global.{Global}
 use Rattle.std.specs.Io.KnownBytes.{Appends, Keeps}
 use Rattle.nav_io.specs.Causes.{Rose, TookMany}
-use Rattle.nav_record.specs.Texts.{usage_text, too_long_text}
+use Rattle.nav_record.specs.FrameTexts.{usage_text, too_long_text}
 use Rattle.nav_run.specs.declared.status.Status.{Status}
 use Rattle.nav_run.specs.declared.status.Status.TheVariants as statuses
 use Rattle.nav_run.specs.Inputs.{input_limit}

@@ -3,7 +3,7 @@ use Rattle.std.specs.Prelude.{◌≡◌, ℕ, ◌+◌, ◌≤◌, ◌⊎◌, Lis
 use Rattle.std.specs.declared.alloc.Global.{Global}
 use Rattle.std.specs.Io.KnownBytes.{Appends}
 use Rattle.nav_io.specs.Causes.{GivesAll, TookMany, AppendsPrefix}
-use Rattle.nav_record.specs.Texts.{fault_text, usage_text, too_long_text}
+use Rattle.nav_record.specs.FrameTexts.{fault_text, usage_text, too_long_text}
 use Rattle.nav_script.specs.declared.script.Way.{Way}
 use Rattle.nav_text.specs.declared.fault.TextFault.{TextFault}
 use Rattle.nav_run.specs.Inputs.{IsInputFor, IsRunText, IsFault, input_limit}

@@ -5,7 +5,7 @@ use Rattle.nav_ground.specs.declared.setting.Setting.{Setting}
 use Rattle.nav_ground.specs.declared.field.Field.{Field}
 use Rattle.nav_ground.specs.declared.field.Span.{Span}
 use Rattle.nav_io.specs.Causes.{GivesAll}
-use Rattle.nav_record.specs.Texts.{fault_text}
+use Rattle.nav_record.specs.FrameTexts.{fault_text}
 use Rattle.nav_text.specs.declared.fault.TextFault.{TextFault}
 use Rattle.nav_text.specs.Lines.{text_of}
 use Rattle.span_text.specs.FieldText.{IsFieldText, span_text}

@@ -4,7 +4,7 @@ ghost use Rattle.std.specs.Prelude.{◌≡◌, ◌+◌, ◌<◌, ◌≤◌, ◌�
 ghost use Rattle.std.specs.declared.alloc.Global.{Global};
 ghost use Rattle.std.specs.Io.KnownBytes.{Appends, Keeps};
 ghost use Rattle.nav_io.specs.Causes.{Rose, TookMany, TookAtMost, HasMore};
-ghost use Rattle.nav_record.specs.Texts.{usage_text, too_long_text};
+ghost use Rattle.nav_record.specs.FrameTexts.{usage_text, too_long_text};
 ghost use Rattle.nav_script.specs.declared.script.Way.{Way};
 ghost use Rattle.nav_run.specs.Inputs.{IsInputFor, input_limit};
 ghost use Rattle.nav_run.specs.Outcomes.{HasDone, HasTold, HasBroken, HasToldMany};

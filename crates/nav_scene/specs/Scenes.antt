@@ -16,7 +16,8 @@ use Rattle.mesh_types.specs.Soundness.{link_count, polygon_count}
 use Rattle.nav_desk.specs.BookState.{BookState}
 use Rattle.nav_book.specs.Results.{published_entries, published_mesh}
 use Rattle.nav_play.specs.PlayRecord.{IsPlayText, first_state_of, state_after_all}
-use Rattle.nav_record.specs.Texts.{entry_text, point_text}
+use Rattle.nav_record.specs.EntryTexts.{entry_text}
+use Rattle.nav_record.specs.AnswerTexts.{point_text}
 use Rattle.nav_script.specs.declared.script.Script.{Script}
 use Rattle.nav_text.specs.Forms.{line_text}
 

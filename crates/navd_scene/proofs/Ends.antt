@@ -4,7 +4,7 @@ use Rattle.std.specs.Prelude.{Option, Some, None, IfSome}
 use Rattle.std.specs.Io.KnownBytes.{Appends, Keeps}
 use Rattle.nav_io.specs.Causes.{GivesAll, HasMore, Rose, TookMany}
 use Rattle.nav_io.proofs.Laws.{GivesAll-known}
-use Rattle.nav_record.specs.Texts.{too_long_text}
+use Rattle.nav_record.specs.FrameTexts.{too_long_text}
 use Rattle.nav_run.specs.declared.status.Status.{Status}
 use Rattle.nav_run.specs.declared.status.Status.TheVariants as statuses
 use Rattle.nav_run.specs.Answers.{TellsFault}

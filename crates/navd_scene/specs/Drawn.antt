@@ -4,7 +4,7 @@ use Rattle.std.specs.Io.KnownBytes.{Appends, Keeps}
 use Rattle.nav_ground.specs.declared.setting.Setting.{Setting}
 use Rattle.nav_ground.specs.declared.field.Field.{Field}
 use Rattle.nav_io.specs.Causes.{AppendsPrefix, GivesAll, Rose, TookMany}
-use Rattle.nav_record.specs.Texts.{fault_text, too_long_text}
+use Rattle.nav_record.specs.FrameTexts.{fault_text, too_long_text}
 use Rattle.nav_run.specs.declared.status.Status.{Status}
 use Rattle.nav_run.specs.declared.status.Status.TheVariants as statuses
 use Rattle.nav_run.specs.Answers.{TellsFault}

@@ -3,7 +3,7 @@
 ghost use Rattle.std.specs.Prelude.{◌≡◌, ◌+◌, ◌<◌, ◌≤◌, ◌⊎◌, length, IfOk, IfSome};
 ghost use Rattle.std.specs.Io.KnownBytes.{Appends, Keeps};
 ghost use Rattle.nav_io.specs.Causes.{Rose, TookMany, TookAtMost, HasMore};
-ghost use Rattle.nav_record.specs.Texts.{too_long_text};
+ghost use Rattle.nav_record.specs.FrameTexts.{too_long_text};
 ghost use Rattle.nav_run.specs.Inputs.{IsInputFor, IsRunnable, input_limit};
 ghost use Rattle.nav_run.specs.Endings.{HasEnded};
 ghost use Rattle.nav_scene.specs.Scenes.{IsSceneText};

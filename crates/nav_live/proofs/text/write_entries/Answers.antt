@@ -1,6 +1,6 @@
 use Rattle.std.proofs.Common.{ℕ, ◌+◌, refl}
 use Rattle.nav_ground.specs.declared.history.Entry.{Entry}
-use Rattle.nav_record.specs.Texts.{entry_text}
+use Rattle.nav_record.specs.EntryTexts.{entry_text}
 use Rattle.nav_live.proofs.Writing.{all_counted, one_counted}
 use Rattle.nav_live.proofs.text.write_entries.Goals as goal
 

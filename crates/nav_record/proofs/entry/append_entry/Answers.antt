@@ -1,5 +1,5 @@
 use Rattle.std.proofs.Common.{◌++◌, codes, decimal}
-use Rattle.nav_record.specs.Texts.{outcome_text, request_spelling}
+use Rattle.nav_record.specs.EntryTexts.{outcome_text, request_spelling}
 use Rattle.nav_text.proofs.AppendLaws.{and_then, longer, handed}
 use Rattle.nav_record.proofs.entry.append_entry.Goals as goal
 

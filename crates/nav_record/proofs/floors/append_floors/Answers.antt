@@ -2,7 +2,7 @@ use Rattle.std.proofs.Common.{ap, sym, ℕ, ◌+◌, List, ◌++◌, codes, deci
 use Rattle.std.specs.List.{flat_map}
 use Rattle.std.proofs.lemmas.List.{append-nil, take_all}
 use Rattle.nav_base.specs.declared.answers.FloorAt.{FloorAt}
-use Rattle.nav_record.specs.Texts.{floor_text}
+use Rattle.nav_record.specs.AnswerTexts.{floor_text}
 use Rattle.nav_text.proofs.AppendLaws.{extended, spelled, and_then, longer, handed, one_more, and_rest}
 use Rattle.nav_record.proofs.floors.append_floors.Goals as goal
 

@@ -1,6 +1,6 @@
 use Rattle.std.proofs.Common.{◌++◌, codes, decimal, length, take}
 use Rattle.std.specs.List.{flat_map}
-use Rattle.nav_record.specs.Texts.{floor_text}
+use Rattle.nav_record.specs.AnswerTexts.{floor_text}
 use Rattle.nav_text.proofs.AppendLaws.{Appended}
 use Rattle.nav_record.proofs.floors.append_floors.Given as goal
 

@@ -1,7 +1,7 @@
 use Rattle.std.proofs.Common.{ap, append_assoc, ◌++◌}
 use Rattle.std.specs.List.{flat_map}
 use Rattle.nav_record.specs.HopTexts.{hop_line_text, hop_step_text}
-use Rattle.nav_record.specs.Texts.{turn_text}
+use Rattle.nav_record.specs.AnswerTexts.{turn_text}
 use Rattle.nav_text.proofs.AppendLaws.{spelled, and_then, longer, handed}
 use Rattle.nav_record.proofs.hops.append_found.Goals as goal
 

@@ -1,6 +1,6 @@
 use Rattle.std.proofs.Common.{take}
 use Rattle.std.specs.List.{flat_map}
-use Rattle.nav_record.specs.Texts.{link_text}
+use Rattle.nav_record.specs.AnswerTexts.{link_text}
 use Rattle.nav_text.proofs.AppendLaws.{Appended}
 use Rattle.nav_record.proofs.paths.append_links.Given as goal
 

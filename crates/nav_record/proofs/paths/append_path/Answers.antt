@@ -1,6 +1,6 @@
 use Rattle.std.proofs.Common.{ap, append_assoc, ◌++◌}
 use Rattle.std.specs.List.{flat_map}
-use Rattle.nav_record.specs.Texts.{link_text, turn_text, first_line_text}
+use Rattle.nav_record.specs.AnswerTexts.{link_text, turn_text, first_line_text}
 use Rattle.nav_text.proofs.AppendLaws.{spelled, and_then, longer, handed}
 use Rattle.nav_record.proofs.paths.append_path.Goals as goal
 

@@ -1,7 +1,7 @@
 use Rattle.std.proofs.Common.{ap, ◌+◌, [], take, drop}
 use Rattle.std.specs.List.{flat_map}
 use Rattle.std.proofs.lemmas.List.{take_all}
-use Rattle.nav_record.specs.Texts.{turn_text}
+use Rattle.nav_record.specs.AnswerTexts.{turn_text}
 use Rattle.nav_text.proofs.AppendLaws.{nothing, spelled, and_then, longer, handed, one_more, and_rest}
 use Rattle.nav_record.proofs.paths.append_turns.Goals as goal
 

@@ -1,6 +1,6 @@
 use Rattle.std.proofs.Common.{take}
 use Rattle.std.specs.List.{flat_map}
-use Rattle.nav_record.specs.Texts.{turn_text}
+use Rattle.nav_record.specs.AnswerTexts.{turn_text}
 use Rattle.nav_text.proofs.AppendLaws.{Appended}
 use Rattle.nav_record.proofs.paths.append_turns.Given as goal
 

@@ -1,6 +1,6 @@
 use Rattle.std.proofs.Common.{ℕ, ◌+◌, refl}
 use Rattle.nav_ground.specs.declared.history.Entry.{Entry}
-use Rattle.nav_record.specs.Texts.{entry_text}
+use Rattle.nav_record.specs.EntryTexts.{entry_text}
 use Rattle.nav_scene.proofs.Writing.{all_counted, one_counted, stands_further, stands_same}
 use Rattle.nav_scene.proofs.front.append_entries.Goals as goal
 

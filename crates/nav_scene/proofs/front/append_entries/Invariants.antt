@@ -1,7 +1,7 @@
 use Rattle.std.proofs.Common.{◌≡◌, ◌+◌, ◌++◌, drop, ℕ}
 use Rattle.std.specs.List.{enumerate_from, flat_map}
 use Rattle.nav_ground.specs.declared.history.Entry.{Entry}
-use Rattle.nav_record.specs.Texts.{entry_text}
+use Rattle.nav_record.specs.EntryTexts.{entry_text}
 use Rattle.nav_scene.specs.Scenes.{StandsInFront, entries_text}
 use Rattle.nav_scene.proofs.front.append_entries.Given as goal
 
