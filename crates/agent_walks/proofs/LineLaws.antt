@@ -11,12 +11,13 @@ use Rattle.mesh_types.specs.declared.links.Link.{Link}
 use Rattle.mesh_types.specs.declared.links.PolyRef.{PolyRef}
 use Rattle.mesh_types.specs.declared.links.Portal.{Portal}
 use Rattle.mesh_types.specs.declared.mesh.Mesh.{Mesh}
-use Rattle.mesh_types.specs.Chains.{portal_at}
+use Rattle.mesh_types.specs.Chains.{portal_at, end_of}
 use Rattle.mesh_types.proofs.Words.{some_portal}
 use Rattle.mesh_types.specs.Rays.{IsHeldAt}
 use Rattle.mesh_types.specs.Right.{portals_of}
 use Rattle.mesh_types.specs.Soundness.{IsSound}
-use Rattle.mesh_types.specs.Taut.{IsNamed, AreInTurn, some_corner, end_of}
+use Rattle.mesh_types.specs.Taut.{IsNamed, AreInTurn}
+use Rattle.mesh_types.specs.Bends.{some_corner}
 use Rattle.mesh_types.proofs.MeshLinks.{leads, ends_entered, IsHeldIn}
 use Rattle.mesh_types.proofs.WalkChains.{some_link, link_at, walk_link, held_in_coordinates}
 use Rattle.surface_move.specs.Moves.{leg_of, nth_polygon}

@@ -9,7 +9,8 @@ use Rattle.mesh_types.specs.declared.mesh.Mesh.{Mesh}
 use Rattle.mesh_types.specs.Corridors.{WalksTo}
 use Rattle.mesh_types.specs.Rays.{IsHeldAt}
 use Rattle.mesh_types.specs.Right.{portals_of}
-use Rattle.mesh_types.specs.Taut.{IsTaut, some_corner}
+use Rattle.mesh_types.specs.Taut.{IsTaut}
+use Rattle.mesh_types.specs.Bends.{some_corner}
 use Rattle.surface_move.specs.Moves.{leg_of, nth_polygon, AreThere}
 use Rattle.agent_walks.specs.declared.standings.Standing.{Standing}
 use Rattle.agent_walks.specs.declared.standings.Stop.{Stop}

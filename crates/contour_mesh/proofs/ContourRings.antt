@@ -26,14 +26,14 @@ use Rattle.mesh_types.specs.declared.region.Regions.{Regions}
 use Rattle.mesh_types.specs.declared.region.UnitEdge.{UnitEdge}
 use Rattle.mesh_types.specs.declared.strip.Strip.{Strip}
 use Rattle.mesh_types.specs.declared.tile.TileMesh.{TileMesh}
-use Rattle.mesh_types.specs.ContourMeshes.{contour_of, cut_part, part_of, parts_of, region_numbers, region_part}
+use Rattle.mesh_types.specs.Parts.{cut_part, part_of, parts_of, region_numbers, region_part}
 use Rattle.mesh_types.specs.Words.{no_part}
-use Rattle.mesh_types.specs.Contours.{cell_in, region_at, rim_of, strips_in}
+use Rattle.mesh_types.specs.Contours.{cell_in, region_at, rim_of, strips_in, contour_of}
 use Rattle.mesh_types.specs.Ears.{ears_of}
 use Rattle.mesh_types.specs.Merging.{merged}
 use Rattle.mesh_types.specs.Regions.{AreRegionsOf, IsIn, IsStrip, place_in, regions_of}
 use Rattle.mesh_types.specs.Simplified.{changes, does_change, kept_edges, simplified_of}
-use Rattle.mesh_types.specs.Soundness.{IsFit}
+use Rattle.mesh_types.specs.FitTiles.{IsFit}
 use Rattle.mesh_types.proofs.FacetLaws.{parts_are}
 use Rattle.mesh_types.proofs.RegionLaws.{cell_there, own_region, stack, woven}
 use Rattle.mono_regions.proofs.RegionsKept.{regions_kept}

@@ -11,7 +11,8 @@ use Rattle.mesh_types.specs.declared.door.Door.{Door}
 use Rattle.mesh_types.specs.declared.door.Part.{Part}
 use Rattle.mesh_types.specs.declared.outline.Piece.{Piece}
 use Rattle.mesh_types.specs.Edges.{edges_between, edges_round, leads}
-use Rattle.mesh_types.specs.ContourMeshes.{Facet, door_over, doors_of, facet_doors, facets_in, facets_of}
+use Rattle.mesh_types.specs.Facets.{Facet, facets_in, facets_of}
+use Rattle.mesh_types.specs.Doors.{door_over, doors_of, facet_doors}
 use Rattle.mesh_types.proofs.Words.{no_facet}
 use Rattle.mesh_types.specs.Words.{no_part}
 use Rattle.mesh_types.proofs.Totals.{once_in_range, sum_by-flat_map, sum_by-map, sum_by-numbers, sum_by-same, sum_by-zero}

@@ -14,7 +14,8 @@ use Rattle.mesh_types.specs.declared.door.Door.{Door}
 use Rattle.mesh_types.specs.Simplified.{IsOutline}
 use Rattle.mesh_types.specs.Ears.{is_same_point}
 use Rattle.mesh_types.specs.Merging.{edge_end}
-use Rattle.mesh_types.specs.ContourMeshes.{Facet, facets_of, doors_of, door_over, facet_doors, are_facing, share_places, share_corners, names_region}
+use Rattle.mesh_types.specs.Facets.{Facet, facets_of}
+use Rattle.mesh_types.specs.Doors.{doors_of, door_over, facet_doors, are_facing, share_places, share_corners, names_region}
 use Rattle.mesh_types.specs.Words.{no_part}
 use Rattle.mesh_types.proofs.ContourLaws.{same_point, is_same_point-from}
 use Rattle.contour_mesh.specs.Parts.{IsCutPart, facets_at}

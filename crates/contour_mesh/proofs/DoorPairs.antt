@@ -24,7 +24,8 @@ use Rattle.mesh_types.specs.Ears.{is_same_point}
 use Rattle.mesh_types.specs.Edges.{edges_between}
 use Rattle.mesh_types.specs.Merging.{edge_end}
 use Rattle.mesh_types.specs.Passages.{AreTwoWay, HasReverse, reverse_of}
-use Rattle.mesh_types.specs.ContourMeshes.{Facet, are_facing, code_between, door_link, door_links, door_over, doors_of, facet_doors, facets_of, link_through, names_region, share_corners, share_places}
+use Rattle.mesh_types.specs.Facets.{Facet, facets_of}
+use Rattle.mesh_types.specs.Doors.{are_facing, code_between, door_link, door_links, door_over, doors_of, facet_doors, link_through, names_region, share_corners, share_places}
 use Rattle.mesh_types.proofs.Words.{no_facet}
 use Rattle.mesh_types.specs.Words.{no_part}
 use Rattle.mesh_types.proofs.ContourLaws.{is_same_point-from, same_point}

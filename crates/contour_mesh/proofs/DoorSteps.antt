@@ -5,7 +5,8 @@ use Rattle.mesh_types.specs.declared.door.Part.{Part}
 use Rattle.mesh_types.specs.declared.door.Door.{Door}
 use Rattle.mesh_types.specs.declared.outline.Piece.{Piece}
 use Rattle.mesh_types.specs.declared.polygon.Polygon.{Polygon}
-use Rattle.mesh_types.specs.ContourMeshes.{Facet, facets_in, facets_of, doors_of, facet_doors}
+use Rattle.mesh_types.specs.Facets.{Facet, facets_in, facets_of}
+use Rattle.mesh_types.specs.Doors.{doors_of, facet_doors}
 use Rattle.mesh_types.proofs.Words.{no_facet}
 use Rattle.mono_regions.proofs.RunLaws.{map-map}
 use Rattle.contour_mesh.specs.declared.footing.Footing.{Footing}

@@ -16,7 +16,7 @@ use Rattle.mesh_types.specs.declared.links.Link.{Link}
 use Rattle.mesh_types.specs.LinkIndex.{AreBelow, AreOrderedLinks}
 use Rattle.mesh_types.specs.LinkOrder.{is_point_before}
 use Rattle.mesh_types.specs.Ears.{is_same_point}
-use Rattle.mesh_types.specs.ContourMeshes.{are_facing, door_link, door_links, link_through}
+use Rattle.mesh_types.specs.Doors.{are_facing, door_link, door_links, link_through}
 use Rattle.mesh_types.proofs.ContourLaws.{same_point, is_same_point-from}
 use Rattle.mesh_types.proofs.LinkOrderLaws.{point_total, points_order, points_tie}
 use Rattle.mesh_types.proofs.LinksInOrder.{All-ordered_links, ordered_links-polygons}

@@ -10,8 +10,8 @@ use Rattle.std.proofs.lemmas.List.Sums.{fold-append}
 use Rattle.nav_ground.specs.declared.cell.Cell.{Cell}
 use Rattle.mesh_types.specs.declared.region.Regions.{Regions}
 use Rattle.mesh_types.specs.Contours.{region_at}
-use Rattle.mesh_types.specs.StripMeshes.{first_of, low_of, high_of}
-use Rattle.mesh_types.specs.ContourMeshes.{Facet, cells_of, facet_polygon}
+use Rattle.mesh_types.specs.StripPolygons.{first_of, low_of, high_of}
+use Rattle.mesh_types.specs.Facets.{Facet, cells_of, facet_polygon}
 use Rattle.mesh_types.proofs.Words.{is_of}
 use Rattle.contour_walk.specs.Tables.{owner_of}
 use Rattle.contour_mesh.specs.declared.footing.Footing.{Footing}

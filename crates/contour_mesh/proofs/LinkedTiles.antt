@@ -13,8 +13,11 @@ use Rattle.mesh_types.specs.declared.door.Part.{Part}
 use Rattle.mesh_types.specs.declared.tile.TileMesh.{TileMesh}
 use Rattle.mesh_types.specs.Passages.{AreTwoWay}
 use Rattle.mesh_types.specs.Regions.{AreRegionsOf, regions_of}
-use Rattle.mesh_types.specs.Soundness.{IsFit}
-use Rattle.mesh_types.specs.ContourMeshes.{contour_mesh_of, doors_of, facets_of, parts_mesh, parts_of}
+use Rattle.mesh_types.specs.FitTiles.{IsFit}
+use Rattle.mesh_types.specs.ContourMeshes.{contour_mesh_of, parts_mesh}
+use Rattle.mesh_types.specs.Doors.{doors_of}
+use Rattle.mesh_types.specs.Facets.{facets_of}
+use Rattle.mesh_types.specs.Parts.{parts_of}
 use Rattle.mesh_types.proofs.DoorLaws.{IsDoorOf, doors_are}
 use Rattle.mesh_types.proofs.FacetLaws.{IsFacetOf, facets_are, parts_are}
 use Rattle.mono_regions.proofs.RegionsKept.{regions_kept}

@@ -28,15 +28,20 @@ use Rattle.mesh_types.specs.declared.region.UnitEdge.{UnitEdge}
 use Rattle.mesh_types.specs.declared.tile.LevelPair.{LevelPair}
 use Rattle.mesh_types.specs.declared.tile.RimEdge.{RimEdge}
 use Rattle.mesh_types.specs.declared.tile.TileMesh.{TileMesh}
-use Rattle.mesh_types.specs.Contours.{edge_beginning, edge_ending, region_at}
-use Rattle.mesh_types.specs.ContourMeshes.{belongs_to, cells_of, code_between, contour_mesh_of, contour_of, crossing_cell, crossing_pair, door_entries, door_entry, door_rim, doors_of, end_position, facets_of, first_position, is_listed, is_on_line, is_same_door, lies_on, names_side, parts_mesh, parts_of, point_position, positions_of, runs_over, side_entries, side_of}
+use Rattle.mesh_types.specs.Contours.{edge_beginning, edge_ending, region_at, contour_of}
+use Rattle.mesh_types.specs.DoorRim.{belongs_to, crossing_cell, crossing_pair, door_entries, door_entry, door_rim, end_position, first_position, is_listed, is_on_line, is_same_door, lies_on, names_side, point_position, positions_of, runs_over, side_entries, side_of}
+use Rattle.mesh_types.specs.Facets.{cells_of, facets_of}
+use Rattle.mesh_types.specs.Doors.{code_between, doors_of}
+use Rattle.mesh_types.specs.ContourMeshes.{contour_mesh_of, parts_mesh}
+use Rattle.mesh_types.specs.Parts.{parts_of}
 use Rattle.mesh_types.proofs.Words.{crosses_at, is_of}
 use Rattle.mesh_types.specs.Words.{no_part}
 use Rattle.mesh_types.specs.Passages.{ListsCrossings, is_listing}
 use Rattle.mesh_types.specs.Regions.{AreRegionsOf, regions_of}
 use Rattle.mesh_types.specs.Rings.{IsRing}
 use Rattle.mesh_types.specs.Runs.{label_if, runs_of}
-use Rattle.mesh_types.specs.StripMeshes.{is_at_side, is_crossing, level_pair, position_of, some_cell}
+use Rattle.mesh_types.specs.Crossings.{is_at_side, is_crossing, level_pair, position_of}
+use Rattle.mesh_types.specs.StripPolygons.{some_cell}
 use Rattle.mesh_types.proofs.ChoiceLaws.{filter-passes}
 use Rattle.mesh_types.proofs.DoorLaws.{IsDoorOf, doors_are}
 use Rattle.mesh_types.proofs.FacetLaws.{IsFacetOf, facets_are, parts_are}

@@ -18,7 +18,11 @@ use Rattle.mesh_types.specs.declared.door.Door.{Door}
 use Rattle.mesh_types.specs.declared.polygon.Polygon.{Polygon}
 use Rattle.mesh_types.specs.declared.links.Link.{Link}
 use Rattle.mesh_types.specs.declared.tile.RimEdge.{RimEdge}
-use Rattle.mesh_types.specs.ContourMeshes.{contour_mesh_of, door_links, door_rim, doors_of, facet_polygon, facets_of, parts_mesh, parts_of}
+use Rattle.mesh_types.specs.ContourMeshes.{contour_mesh_of, parts_mesh}
+use Rattle.mesh_types.specs.Doors.{door_links, doors_of}
+use Rattle.mesh_types.specs.DoorRim.{door_rim}
+use Rattle.mesh_types.specs.Facets.{facet_polygon, facets_of}
+use Rattle.mesh_types.specs.Parts.{parts_of}
 use Rattle.mesh_types.proofs.DoorTotals.{few_facets}
 use Rattle.mesh_types.proofs.FacetLaws.{parts_are}
 use Rattle.contour_mesh.specs.Sides.{IsFieldWindow}

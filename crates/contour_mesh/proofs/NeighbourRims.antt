@@ -27,7 +27,8 @@ use Rattle.mesh_types.specs.declared.region.UnitEdge.{UnitEdge}
 use Rattle.mesh_types.specs.declared.strip.Strip.{Strip}
 use Rattle.mesh_types.specs.Contours.{cell_in, code_beyond, columns, edge_of, edge_beginning, edge_ending, is_rim, places_in, region_at, region_beyond, rim_edges_of, rim_of, strips_in}
 use Rattle.mesh_types.specs.Regions.{AreRegionsOf, IsIn, IsStrip, is_holding, place_in}
-use Rattle.mesh_types.specs.StripMeshes.{corner, is_at_side, is_crossing}
+use Rattle.mesh_types.specs.StripPolygons.{corner}
+use Rattle.mesh_types.specs.Crossings.{is_at_side, is_crossing}
 use Rattle.mesh_types.proofs.Gathered.{all_of_each, Contains-filter, Contains-flat_map, Contains-map}
 use Rattle.mesh_types.proofs.Opposites.{opposite_small}
 use Rattle.mesh_types.proofs.RegionLaws.{cell_there, own_region, stack, woven}

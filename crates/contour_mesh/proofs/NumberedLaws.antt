@@ -5,7 +5,8 @@ use Rattle.std.specs.List.{flat_map, range_with_len}
 use Rattle.std.proofs.lemmas.List.{append-nil, append_assoc, length-append, length-take-le, take-append-drop, take_more}
 use Rattle.std.proofs.lemmas.List.Elements.{All-append, All-nil}
 use Rattle.mesh_types.specs.declared.door.Part.{Part}
-use Rattle.mesh_types.specs.ContourMeshes.{Facet, facets_of, doors_of, facet_doors}
+use Rattle.mesh_types.specs.Facets.{Facet, facets_of}
+use Rattle.mesh_types.specs.Doors.{doors_of, facet_doors}
 use Rattle.mesh_types.proofs.Words.{no_facet}
 use Rattle.mesh_types.specs.Words.{no_part}
 use Rattle.contour_mesh.specs.Parts.{numbered, facets_at}

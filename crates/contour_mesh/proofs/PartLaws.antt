@@ -15,11 +15,11 @@ use Rattle.mesh_types.specs.declared.region.UnitEdge.{UnitEdge}
 use Rattle.mesh_types.specs.declared.outline.Outline as outlines
 use Rattle.mesh_types.specs.declared.outline.Simplified.{Simplified}
 use Rattle.mesh_types.specs.declared.outline.Simplified.TheVariants.{Flat, Outline}
-use Rattle.mesh_types.specs.Contours.{IsContour}
+use Rattle.mesh_types.specs.Contours.{IsContour, contour_of}
 use Rattle.mesh_types.specs.Rings.{IsRing}
 use Rattle.mesh_types.specs.Simplified.{simplified_of}
 use Rattle.mesh_types.specs.Ears.{ears_of}
-use Rattle.mesh_types.specs.ContourMeshes.{contour_of, cut_part, part_of, parts_of, region_part, region_numbers}
+use Rattle.mesh_types.specs.Parts.{cut_part, part_of, parts_of, region_part, region_numbers}
 use Rattle.mesh_types.proofs.ContourLaws.{contour_is}
 use Rattle.contour_mesh.specs.Parts.{IsCutPart}
 

@@ -15,9 +15,11 @@ use Rattle.mesh_types.specs.declared.label_runs.Run.{Run}
 use Rattle.mesh_types.specs.declared.tile.LevelPair.{LevelPair}
 use Rattle.mesh_types.specs.declared.tile.RimEdge.{RimEdge}
 use Rattle.mesh_types.specs.Runs.{runs_of, label_if}
-use Rattle.mesh_types.specs.StripMeshes.{some_cell, is_crossing, position_of, level_pair}
+use Rattle.mesh_types.specs.StripPolygons.{some_cell}
+use Rattle.mesh_types.specs.Crossings.{is_crossing, position_of, level_pair}
 use Rattle.mesh_types.specs.Contours.{region_at}
-use Rattle.mesh_types.specs.ContourMeshes.{belongs_to, cells_of, crossing_cell, crossing_pair, door_entries, door_entry, door_rim, end_position, first_position, is_listed, is_on_line, is_same_door, lies_on, names_side, positions_of, runs_over, side_entries, side_of}
+use Rattle.mesh_types.specs.DoorRim.{belongs_to, crossing_cell, crossing_pair, door_entries, door_entry, door_rim, end_position, first_position, is_listed, is_on_line, is_same_door, lies_on, names_side, positions_of, runs_over, side_entries, side_of}
+use Rattle.mesh_types.specs.Facets.{cells_of}
 use Rattle.mesh_types.proofs.Words.{crosses_at, is_of}
 use Rattle.mono_regions.proofs.JoinLaws.{find_passes}
 use Rattle.contour_mesh.specs.declared.side_place.SidePlace.{SidePlace}

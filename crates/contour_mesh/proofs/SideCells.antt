@@ -24,10 +24,10 @@ use Rattle.mesh_types.specs.declared.region.Region as regions_types
 use Rattle.mesh_types.specs.declared.region.Regions.{Regions}
 use Rattle.mesh_types.specs.declared.region.UnitEdge.{UnitEdge}
 use Rattle.mesh_types.specs.declared.strip.Strip.{Strip}
-use Rattle.mesh_types.specs.Contours.{cell_in, code_beyond, edge_beginning, edge_ending, edge_of, is_rim, places_in, region_at, region_beyond, rim_edges_of, rim_of}
-use Rattle.mesh_types.specs.ContourMeshes.{contour_of, is_on_line, point_position}
+use Rattle.mesh_types.specs.Contours.{cell_in, code_beyond, edge_beginning, edge_ending, edge_of, is_rim, places_in, region_at, region_beyond, rim_edges_of, rim_of, contour_of}
+use Rattle.mesh_types.specs.DoorRim.{is_on_line, point_position}
 use Rattle.mesh_types.specs.Regions.{AreRegionsOf, is_holding, place_in, times_held}
-use Rattle.mesh_types.specs.StripMeshes.{is_at_side, is_crossing, position_of}
+use Rattle.mesh_types.specs.Crossings.{is_at_side, is_crossing, position_of}
 use Rattle.mesh_types.proofs.Gathered.{all_of_each, Contains-filter, Contains-flat_map, Contains-map}
 use Rattle.mesh_types.proofs.RegionLaws.{region_is}
 use Rattle.mesh_types.proofs.SidePlaces.{at_most, squeezed}

@@ -23,7 +23,8 @@ use Rattle.mesh_types.specs.Words.{codes_of}
 use Rattle.mesh_types.specs.Ears.{ears_of}
 use Rattle.mesh_types.specs.Edges.{HaveEdgesOnce, KeepOutline}
 use Rattle.mesh_types.specs.Merging.{merged}
-use Rattle.mesh_types.specs.ContourMeshes.{contour_of, cut_part, part_of, parts_of, region_numbers, region_part}
+use Rattle.mesh_types.specs.Contours.{contour_of}
+use Rattle.mesh_types.specs.Parts.{cut_part, part_of, parts_of, region_numbers, region_part}
 use Rattle.mesh_types.proofs.RunLaws.{All-found}
 use Rattle.mesh_types.proofs.UnionEdges.{merged-once, merged-outline}
 use Rattle.contour_walk.proofs.ContourRings.{contour_ring}

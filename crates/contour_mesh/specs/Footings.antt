@@ -5,7 +5,7 @@ use Rattle.nav_base.specs.Convex.{corner_at}
 use Rattle.nav_ground.specs.declared.cell.Cell.{Cell}
 use Rattle.mesh_types.specs.declared.region.Regions.{Regions}
 use Rattle.mesh_types.specs.declared.polygon.Polygon.{Polygon}
-use Rattle.mesh_types.specs.ContourMeshes.{Facet, cells_of}
+use Rattle.mesh_types.specs.Facets.{Facet, cells_of}
 use Rattle.contour_mesh.specs.declared.footing.Footing.{Footing}
 
 -- the footing of the cells so far, if there were any, with one cell more

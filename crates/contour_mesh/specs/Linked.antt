@@ -6,7 +6,10 @@ use Rattle.mesh_types.specs.declared.door.Part.{Part}
 use Rattle.mesh_types.specs.declared.door.Door.{Door}
 use Rattle.mesh_types.specs.declared.tile.TileMesh.{TileMesh}
 use Rattle.mesh_types.specs.Regions.{regions_of}
-use Rattle.mesh_types.specs.ContourMeshes.{are_facing, contour_mesh_of, door_link, doors_of, facets_of, parts_of}
+use Rattle.mesh_types.specs.Doors.{are_facing, door_link, doors_of}
+use Rattle.mesh_types.specs.ContourMeshes.{contour_mesh_of}
+use Rattle.mesh_types.specs.Facets.{facets_of}
+use Rattle.mesh_types.specs.Parts.{parts_of}
 
 -- a tile is built by the outlines of its regions
 abbrev pub IsOfOutlines : Setting → TileMesh → Type 0

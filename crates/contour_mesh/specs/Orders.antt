@@ -5,7 +5,7 @@ use Rattle.nav_base.specs.Point.{IsCellCorner}
 use Rattle.mesh_types.specs.declared.door.Door.{Door}
 use Rattle.mesh_types.specs.LinkOrder.{is_point_before}
 use Rattle.mesh_types.specs.Ears.{is_same_point}
-use Rattle.mesh_types.specs.ContourMeshes.{are_facing}
+use Rattle.mesh_types.specs.Doors.{are_facing}
 
 -- a list put in order by a test: elements of which neither comes before the other stand as they stood
 pub record IsSortOf {X : Type 0} (before : X → X → Bool) (xs sorted : List X) : Type 0 where

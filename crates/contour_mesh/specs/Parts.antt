@@ -4,7 +4,7 @@ use Rattle.mesh_types.specs.declared.outline.Outline as outlines
 use Rattle.mesh_types.specs.declared.door.Part.{Part}
 use Rattle.mesh_types.specs.Simplified.{IsOutline}
 use Rattle.mesh_types.specs.Merging.{IsPieceOf}
-use Rattle.mesh_types.specs.ContourMeshes.{Facet, facets_in}
+use Rattle.mesh_types.specs.Facets.{Facet, facets_in}
 
 -- the outline of a part can be cut, and its pieces are pieces of that outline
 pub record IsCutPart (part : Part) : Type 0 where

@@ -11,8 +11,9 @@ use Rattle.mesh_types.specs.declared.region.Regions.{Regions}
 use Rattle.mesh_types.specs.declared.tile.LevelPair.{LevelPair}
 use Rattle.mesh_types.specs.declared.tile.RimEdge.{RimEdge}
 use Rattle.mesh_types.specs.Runs.{runs_of, label_if}
-use Rattle.mesh_types.specs.StripMeshes.{some_cell, level_pair}
-use Rattle.mesh_types.specs.ContourMeshes.{first_position, is_same_door, positions_of, side_of}
+use Rattle.mesh_types.specs.StripPolygons.{some_cell}
+use Rattle.mesh_types.specs.Crossings.{level_pair}
+use Rattle.mesh_types.specs.DoorRim.{first_position, is_same_door, positions_of, side_of}
 use Rattle.contour_mesh.specs.declared.side_place.SidePlace.{SidePlace}
 use Rattle.contour_mesh.specs.declared.side_tables.SideTables.{SideTables}
 use Rattle.contour_mesh.specs.Orders.{IsSortOf}

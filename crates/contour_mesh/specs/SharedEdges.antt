@@ -9,7 +9,7 @@ use Rattle.mesh_types.specs.declared.door.Part.{Part}
 use Rattle.mesh_types.specs.declared.outline.Outline as outlines
 use Rattle.mesh_types.specs.declared.region.Code.{Code}
 use Rattle.mesh_types.specs.declared.region.Code.TheVariants.{Region}
-use Rattle.mesh_types.specs.ContourMeshes.{parts_of}
+use Rattle.mesh_types.specs.Parts.{parts_of}
 use Rattle.mesh_types.specs.Words.{no_part}
 use Rattle.mesh_types.specs.Regions.{regions_of}
 

@@ -8,9 +8,9 @@ use Rattle.nav_ground.specs.declared.cell.Cell.{Cell}
 use Rattle.nav_ground.specs.declared.cell.Window.{Window}
 use Rattle.mesh_types.specs.declared.door.Door.{Door}
 use Rattle.mesh_types.specs.declared.region.Regions.{Regions}
-use Rattle.mesh_types.specs.StripMeshes.{is_crossing, position_of}
+use Rattle.mesh_types.specs.Crossings.{is_crossing, position_of}
 use Rattle.mesh_types.specs.Contours.{region_at}
-use Rattle.mesh_types.specs.ContourMeshes.{positions_of, side_of}
+use Rattle.mesh_types.specs.DoorRim.{positions_of, side_of}
 use Rattle.contour_mesh.specs.declared.side_place.SidePlace.{SidePlace}
 use Rattle.contour_mesh.specs.declared.side_place.Placed.{Placed}
 

@@ -2,7 +2,7 @@
 use Rattle.std.specs.Prelude.{ℕ, nat_lt, ◌&&◌, if◌then◌else◌, pos, ◌<ℤ◌, ◌≤ℤ◌, Option, Some, None}
 use Rattle.nav_ground.specs.declared.cell.Window.{Window}
 use Rattle.mesh_types.specs.declared.door.Door.{Door}
-use Rattle.mesh_types.specs.ContourMeshes.{is_on_line}
+use Rattle.mesh_types.specs.DoorRim.{is_on_line}
 
 -- the last columns of a tile are columns of the largest field
 pub record IsFieldWindow (window : Window) : Type 0 where

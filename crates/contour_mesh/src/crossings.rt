@@ -3,7 +3,7 @@
 ghost use Rattle.std.specs.Prelude.{◌≡◌, ◌<◌, ◌++◌, [], ◌∷◌, IfOk, OnOk, nat_lt, if◌then◌else◌, Some, None, length};
 ghost use Rattle.std.specs.Option.{option_map_or};
 ghost use Rattle.nav_ground.specs.Cells.{IsCell, IsCells};
-ghost use Rattle.mesh_types.specs.StripMeshes.{is_crossing, position_of};
+ghost use Rattle.mesh_types.specs.Crossings.{is_crossing, position_of};
 ghost use Rattle.contour_walk.specs.Tables.{IsTableOf};
 ghost use Rattle.contour_mesh.specs.SidePlaces.{cell_at_side, crossings_in, placed_cells};
 

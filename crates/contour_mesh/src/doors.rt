@@ -3,7 +3,8 @@
 ghost use Rattle.std.specs.Prelude.{◌≡◌, ◌+◌, ◌<◌, ◌≤◌, ◌++◌, IfOk, OnOk, All, length};
 ghost use Rattle.nav_base.specs.Convex.{place_after};
 ghost use Rattle.mesh_types.specs.Simplified.{IsOutline};
-ghost use Rattle.mesh_types.specs.ContourMeshes.{facets_in, facets_of, facet_doors, doors_of, door_over, code_between};
+ghost use Rattle.mesh_types.specs.Facets.{facets_in, facets_of};
+ghost use Rattle.mesh_types.specs.Doors.{facet_doors, doors_of, door_over, code_between};
 ghost use Rattle.contour_mesh.specs.Parts.{IsCutPart, numbered, facet_over};
 
 use mesh_types::{Code, Door, Outline, Part};

@@ -5,7 +5,7 @@ ghost use Rattle.std.specs.List.{find};
 ghost use Rattle.std.specs.List.Sorted.{IsSortedBy};
 ghost use Rattle.mesh_types.specs.LinkOrder.{is_point_before, point_cmp};
 ghost use Rattle.mesh_types.specs.Ears.{is_same_point};
-ghost use Rattle.mesh_types.specs.ContourMeshes.{are_facing, share_places, share_corners, names_region};
+ghost use Rattle.mesh_types.specs.Doors.{are_facing, share_places, share_corners, names_region};
 ghost use Rattle.contour_mesh.specs.Orders.{IsSortOf, door_begins_before, MeetsFacing};
 
 use mesh_types::{Code, Door};

@@ -6,7 +6,7 @@ ghost use Rattle.std.specs.List.{cons_option, filter_map};
 ghost use Rattle.nav_base.specs.Point.{IsCellCorner};
 ghost use Rattle.mesh_types.specs.declared.door.Door.{Door};
 ghost use Rattle.mesh_types.specs.BorderLinks.{scaled};
-ghost use Rattle.mesh_types.specs.ContourMeshes.{door_link, door_links, link_through};
+ghost use Rattle.mesh_types.specs.Doors.{door_link, door_links, link_through};
 ghost use Rattle.contour_mesh.specs.Orders.{IsSortOf, door_begins_before, MeetsFacing, JoinsCorners};
 
 use crate::facing::{by_begin, facing};

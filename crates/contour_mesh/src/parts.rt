@@ -4,7 +4,7 @@ ghost use Rattle.std.specs.Prelude.{◌≡◌, ◌<◌, [], true, None, IfOk, If
 ghost use Rattle.mesh_types.specs.Regions.{AreRegionsOf};
 ghost use Rattle.mesh_types.specs.Simplified.{IsOutline};
 ghost use Rattle.mesh_types.specs.Ears.{ears_of};
-ghost use Rattle.mesh_types.specs.ContourMeshes.{cut_part, region_part, parts_of};
+ghost use Rattle.mesh_types.specs.Parts.{cut_part, region_part, parts_of};
 ghost use Rattle.contour_walk.specs.Tables.{IsRim};
 ghost use Rattle.contour_mesh.specs.Parts.{IsCutPart};
 

@@ -4,7 +4,7 @@ ghost use Rattle.std.specs.Prelude.{◌≡◌, ◌<◌, ◌++◌, [], map, IfOk,
 ghost use Rattle.std.specs.Option.{option_map_or};
 ghost use Rattle.std.specs.List.Sorted.{IsSortedBy};
 ghost use Rattle.nav_ground.specs.Cells.{IsCells};
-ghost use Rattle.mesh_types.specs.ContourMeshes.{positions_of};
+ghost use Rattle.mesh_types.specs.DoorRim.{positions_of};
 ghost use Rattle.contour_walk.specs.Tables.{IsTableOf};
 ghost use Rattle.contour_mesh.specs.Orders.{IsSortOf};
 ghost use Rattle.contour_mesh.specs.SidePlaces.{side_place_cmp, is_place_before, is_same_place, stands_before, first_at, door_at, door_places, placed_doors};

@@ -2,7 +2,7 @@
 
 ghost use Rattle.std.specs.Prelude.{◌≡◌, ◌<◌, ◌≤◌, ◌++◌, IfOk, OnOk, Option, All, length, map};
 ghost use Rattle.mesh_types.specs.declared.outline.Piece.{Piece};
-ghost use Rattle.mesh_types.specs.ContourMeshes.{facets_of};
+ghost use Rattle.mesh_types.specs.Facets.{facets_of};
 ghost use Rattle.contour_mesh.specs.Parts.{IsCutPart};
 ghost use Rattle.contour_mesh.specs.Footings.{polygon_over, facet_over_footing};
 

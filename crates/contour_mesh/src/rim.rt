@@ -4,8 +4,8 @@ ghost use Rattle.std.specs.Prelude.{◌≡◌, ◌<◌, ◌≤◌, ◌+◌, ◌-
 ghost use Rattle.std.specs.Option.{option_map_or};
 ghost use Rattle.std.specs.List.{range_with_len};
 ghost use Rattle.mesh_types.specs.Runs.{label_if};
-ghost use Rattle.mesh_types.specs.StripMeshes.{level_pair};
-ghost use Rattle.mesh_types.specs.ContourMeshes.{first_position, is_same_door};
+ghost use Rattle.mesh_types.specs.Crossings.{level_pair};
+ghost use Rattle.mesh_types.specs.DoorRim.{first_position, is_same_door};
 ghost use Rattle.contour_mesh.specs.Sides.{IsFieldWindow};
 ghost use Rattle.contour_mesh.specs.RimTables.{AreInOrder, IsRunAlong, is_listed_in, pair_in, entry_in, labels_in, entries_on, rim_in};
 

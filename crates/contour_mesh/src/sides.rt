@@ -1,7 +1,7 @@
 //! How doors lie along the sides of a tile.
 
 ghost use Rattle.std.specs.Prelude.{◌≡◌, ◌<◌, ◌+ℤ◌, ◌≤ℤ◌, ◌<ℤ◌, pos, IfSome};
-ghost use Rattle.mesh_types.specs.ContourMeshes.{side_of, is_on_line, point_position, first_position, end_position};
+ghost use Rattle.mesh_types.specs.DoorRim.{side_of, is_on_line, point_position, first_position, end_position};
 ghost use Rattle.contour_mesh.specs.Sides.{IsFieldWindow, side_along};
 
 use mesh_types::{Code, Door};

@@ -14,7 +14,8 @@ use Rattle.nav_ground.proofs.Found.{find_none}
 use Rattle.mesh_types.specs.declared.region.Region.{Region}
 use Rattle.mesh_types.specs.declared.region.Regions.{Regions}
 use Rattle.mesh_types.specs.declared.region.Code.TheVariants.{Wall, Side, Region as Beyond}
-use Rattle.mesh_types.specs.StripMeshes.{some_cell, is_at_side}
+use Rattle.mesh_types.specs.StripPolygons.{some_cell}
+use Rattle.mesh_types.specs.Crossings.{is_at_side}
 use Rattle.mesh_types.specs.Contours.{is_at, cell_in, region_at, region_beyond, code_beyond}
 use Rattle.cell_table.specs.Table.{index_named, indices_named, neighbour_table}
 use Rattle.cell_table.proofs.Places.{naming_nowhere}

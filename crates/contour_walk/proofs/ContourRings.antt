@@ -14,9 +14,8 @@ use Rattle.mesh_types.specs.declared.region.UnitEdge.{UnitEdge}
 use Rattle.mesh_types.specs.Regions.{AreRegionsOf}
 use Rattle.mesh_types.specs.Rings.{IsRing}
 use Rattle.mesh_types.specs.Simplified.{origin}
-use Rattle.mesh_types.specs.Contours.{IsContour, rim_of, strips_in}
+use Rattle.mesh_types.specs.Contours.{IsContour, rim_of, strips_in, contour_of}
 use Rattle.mesh_types.specs.LinkOrder.{is_point_before}
-use Rattle.mesh_types.specs.ContourMeshes.{contour_of}
 use Rattle.mesh_types.proofs.ContourLaws.{contour_is}
 use Rattle.contour_walk.specs.Walk.{edge_at, round}
 use Rattle.contour_walk.proofs.Contoured.{walk_contour, walk_ring}

@@ -15,7 +15,7 @@ use Rattle.nav_ground.specs.declared.cell.CellRef.{CellRef}
 use Rattle.nav_ground.specs.Cells.{IsCells}
 use Rattle.mesh_types.specs.declared.strip.Strip.{Strip}
 use Rattle.mesh_types.specs.declared.region.Region.{Region}
-use Rattle.mesh_types.specs.StripMeshes.{some_cell}
+use Rattle.mesh_types.specs.StripPolygons.{some_cell}
 use Rattle.mesh_types.specs.Regions.{is_holding, IsStrip, IsIn, place_in}
 use Rattle.mesh_types.specs.Contours.{is_at}
 use Rattle.contour_walk.specs.Tables.{index_of, is_in_region, owner_of, IsMarked, IsFit}

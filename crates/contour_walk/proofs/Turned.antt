@@ -21,7 +21,7 @@ use Rattle.nav_ground.proofs.Kept.{AllPairs-map}
 use Rattle.mesh_types.specs.declared.strip.Strip.{Strip}
 use Rattle.mesh_types.specs.declared.region.Regions.{Regions}
 use Rattle.mesh_types.specs.declared.region.UnitEdge.{UnitEdge}
-use Rattle.mesh_types.specs.StripMeshes.{corner, some_cell}
+use Rattle.mesh_types.specs.StripPolygons.{corner, some_cell}
 use Rattle.mesh_types.specs.Regions.{place_in}
 use Rattle.mesh_types.specs.Contours.{is_at, cell_in, is_rim, edge_of, columns, strips_in, places_in, rim_edges_of, rim_of}
 use Rattle.mesh_types.specs.Rings.{beginnings, endings, AreApart, IsRing}

@@ -6,7 +6,8 @@ ghost use Rattle.nav_ground.specs.Cells.{IsCell, IsCells};
 ghost use Rattle.nav_ground.specs.Tiling.{tile_count, tile_window};
 ghost use Rattle.nav_ground.specs.declared.cell.Cell.{Cell};
 ghost use Rattle.nav_ground.specs.declared.cell.CellRef.{CellRef};
-ghost use Rattle.mesh_types.specs.StripMeshes.{corner, is_crossing};
+ghost use Rattle.mesh_types.specs.StripPolygons.{corner};
+ghost use Rattle.mesh_types.specs.Crossings.{is_crossing};
 ghost use Rattle.mesh_types.specs.Regions.{AreRegionsOf};
 ghost use Rattle.mesh_types.specs.Contours.{cell_in, edge_of, code_beyond, region_beyond};
 ghost use Rattle.cell_table.specs.Table.{neighbour_table};
@@ -173,7 +174,7 @@ pub fn is_crossing(window: &Window, dir: u32, cell: &SmallCell) -> bool
 fn is_at_side(window: &Window, dir: u32, at: CellRef) -> bool
     requires x { at.x < 1024 }
     requires z { at.z < 1024 }
-    ensures { result ≡ Rattle.mesh_types.specs.StripMeshes.is_at_side window.now dir at }
+    ensures { result ≡ Rattle.mesh_types.specs.Crossings.is_at_side window.now dir at }
 {
     match dir {
         0 => at.x as i32 <= window.x0,

@@ -17,7 +17,9 @@ use Rattle.mesh_types.specs.declared.links.Link.{Link}
 use Rattle.mesh_types.specs.declared.polygon.Polygon.{Polygon}
 use Rattle.mesh_types.specs.declared.mesh.Mesh.{Mesh}
 use Rattle.mesh_types.specs.WholeMesh.{poly_at}
-use Rattle.mesh_types.specs.Soundness.{IsInSquare, IsCrossLink, IsSound, LeadsThrough}
+use Rattle.mesh_types.specs.FitTiles.{IsInSquare}
+use Rattle.mesh_types.specs.Soundness.{IsCrossLink, IsSound}
+use Rattle.mesh_types.specs.Portals.{LeadsThrough}
 use Rattle.corridor_search.specs.Islands.{outer_of, IsFromInside, IsReached, AreFar}
 use Rattle.corridor_search.proofs.Boxes.{low, high, low-bound, high-bound, begin_on, end_on}
 use Rattle.corridor_search.proofs.Sound.{placed, tile-fit, tile-number, polygon-rules}

@@ -13,7 +13,7 @@ use Rattle.nav_base.proofs.Polynomials.{at, sum, difference, product, equal}
 use Rattle.nav_base.proofs.PointTerms.{place, coordinates, from_to_term, dot_term, orient_term}
 use Rattle.nav_base.proofs.Signs.{product-not_negative, product-not_positive, factor-not_negative, factor-not_positive}
 use Rattle.mesh_types.specs.Extents.{least_of, greatest_of}
-use Rattle.mesh_types.specs.Soundness.{along, LiesAlong}
+use Rattle.mesh_types.specs.Portals.{along, LiesAlong}
 
 -- the least of numbers is none above the first and none above any other, and the greatest none below
 least_first : (first : ℤ) (xs : List ℤ) → least_of first xs ≤ℤ first

@@ -18,7 +18,8 @@ use Rattle.mesh_types.specs.declared.mesh.Mesh.{Mesh}
 use Rattle.mesh_types.specs.Extents.{extent_of}
 use Rattle.mesh_types.specs.WholeMesh.{poly_at}
 use Rattle.mesh_types.specs.Corridors.{centre_of}
-use Rattle.mesh_types.specs.Soundness.{IsPolygon, IsSound}
+use Rattle.mesh_types.specs.FitTiles.{IsPolygon}
+use Rattle.mesh_types.specs.Soundness.{IsSound}
 use Rattle.graph_search.specs.declared.arcs.Vertex.{Vertex}
 use Rattle.graph_search.specs.declared.arcs.Step.{Step}
 use Rattle.graph_search.specs.Walks.{arc_of}

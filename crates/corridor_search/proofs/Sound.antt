@@ -13,7 +13,9 @@ use Rattle.mesh_types.specs.declared.mesh.Mesh.{Mesh}
 use Rattle.mesh_types.specs.LinkIndex.{leaving_of}
 use Rattle.mesh_types.specs.WholeMesh.{poly_at}
 use Rattle.mesh_types.specs.Corridors.{IsLinkOf}
-use Rattle.mesh_types.specs.Soundness.{IsPolygon, IsInnerLink, IsCrossLink, IsFit, IsSound, LeadsThrough}
+use Rattle.mesh_types.specs.FitTiles.{IsPolygon, IsInnerLink, IsFit}
+use Rattle.mesh_types.specs.Soundness.{IsCrossLink, IsSound}
+use Rattle.mesh_types.specs.Portals.{LeadsThrough}
 use Rattle.graph_search.proofs.Members.{contains_none}
 use Rattle.corridor_search.specs.MeshGraphs.{inner_links, outer_links, links_from}
 use Rattle.corridor_search.proofs.Lists.{kept_element, kept_passes, kept_if_passes}

@@ -10,8 +10,8 @@ use Rattle.mesh_types.specs.declared.links.Portal.{Portal}
 use Rattle.mesh_types.specs.declared.corner.Side.{Side}
 use Rattle.mesh_types.specs.declared.corner.Side.TheVariants.{L, R}
 use Rattle.mesh_types.specs.declared.corner.Corner.{Corner}
-use Rattle.mesh_types.specs.Chains.{IsAhead, IsChain, IsFold, portal_at}
-use Rattle.mesh_types.specs.Taut.{IsHolding, IsStraightOn, end_of, other_end_of}
+use Rattle.mesh_types.specs.Chains.{IsAhead, IsChain, IsFold, portal_at, end_of, other_end_of}
+use Rattle.mesh_types.specs.Bends.{IsHolding, IsStraightOn}
 use Rattle.funnel_path.specs.Cone.{IsCornerNext, IsGoalNext, IsInLine, IsInside, IsNear, LookOpposite}
 use Rattle.funnel_path.proofs.SideRules.{zero-at_least, signs}
 use Rattle.funnel_path.proofs.PointLaws.{ahead-between, turned-zero}

@@ -8,8 +8,8 @@ use Rattle.mesh_types.specs.declared.links.Portal.{Portal}
 use Rattle.mesh_types.specs.declared.corner.Side.{Side}
 use Rattle.mesh_types.specs.declared.corner.Side.TheVariants.{L, R}
 use Rattle.mesh_types.specs.declared.corner.Corner.{Corner}
-use Rattle.mesh_types.specs.Chains.{IsBehind, IsChain, portal_at}
-use Rattle.mesh_types.specs.Taut.{IsHolding, end_of, other_end_of}
+use Rattle.mesh_types.specs.Chains.{IsBehind, IsChain, portal_at, end_of, other_end_of}
+use Rattle.mesh_types.specs.Bends.{IsHolding}
 use Rattle.funnel_path.specs.declared.wedge.Wedge.{Wedge}
 use Rattle.funnel_path.specs.Corners.{IsNearerEnd}
 use Rattle.funnel_path.specs.Cone.{IsBeside, IsEndFrom, IsCornerNext, IsCornerThrough, IsFoldedBack, IsLeftTurn, IsNear, IsRightTurn, folded_back, left_turn, near, right_turn, through, turned_back}

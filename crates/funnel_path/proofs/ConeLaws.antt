@@ -8,8 +8,7 @@ use Rattle.nav_base.specs.Point.{dot_of, from_to, orient_of}
 use Rattle.mesh_types.specs.declared.links.Portal.{Portal}
 use Rattle.mesh_types.specs.declared.corner.Side.TheVariants.{L}
 use Rattle.mesh_types.specs.declared.corner.Corner.{Corner}
-use Rattle.mesh_types.specs.Chains.{IsBehind, IsChain, portal_at}
-use Rattle.mesh_types.specs.Taut.{end_of}
+use Rattle.mesh_types.specs.Chains.{IsBehind, IsChain, portal_at, end_of}
 use Rattle.funnel_path.specs.declared.wedge.Wedge.{Wedge}
 use Rattle.funnel_path.specs.Corners.{IsNearerCorner, IsNearerEnd, corner_at_end}
 use Rattle.funnel_path.specs.Cone.{ArePassed, GoesThroughAll, IsAheadOf, IsCornerThrough, IsFoldedBack, IsInWedge, IsInside, IsLook, IsNear, IsNext, IsThrough, IsTurnedBack, LookOpposite, folded_back, in_wedge, left_turn, through, portal_or_goal, right_turn}

@@ -9,8 +9,8 @@ use Rattle.nav_base.proofs.PointTerms.{Place, place, coordinates, from_to_term, 
 use Rattle.nav_base.proofs.OrientLaws.{dot_of-exchanged, dot_of-product}
 use Rattle.nav_base.proofs.Signs.{product-negative}
 use Rattle.mesh_types.specs.declared.links.Portal.{Portal}
-use Rattle.mesh_types.specs.Soundness.{along}
-use Rattle.mesh_types.specs.Taut.{LiesOn}
+use Rattle.mesh_types.specs.Portals.{along}
+use Rattle.mesh_types.specs.Segments.{LiesOn}
 use Rattle.funnel_path.specs.Cone.{IsInside}
 use Rattle.funnel_path.proofs.SideRules.{without}
 use Rattle.funnel_path.proofs.PointLaws.{exchanged-zero, length-positive}

@@ -8,9 +8,9 @@ use Rattle.mesh_types.specs.declared.links.Portal.{Portal}
 use Rattle.mesh_types.specs.declared.corner.Side.{Side}
 use Rattle.mesh_types.specs.declared.corner.Side.TheVariants.{L, R}
 use Rattle.mesh_types.specs.declared.corner.Corner.{Corner}
-use Rattle.mesh_types.specs.Chains.{IsAhead, IsBehind, IsChain, portal_at}
+use Rattle.mesh_types.specs.Chains.{IsAhead, IsBehind, IsChain, portal_at, end_of}
 use Rattle.mesh_types.proofs.Words.{some_portal}
-use Rattle.mesh_types.specs.Taut.{IsNamed, end_of}
+use Rattle.mesh_types.specs.Taut.{IsNamed}
 use Rattle.funnel_path.specs.declared.wedge.Wedge.{Wedge}
 use Rattle.funnel_path.specs.Coordinates.{HasEndCoordinates}
 use Rattle.funnel_path.specs.Cone.{ArePassed, IsAheadOf, IsCornerNext, IsCornerThrough, IsEndFrom, IsFoldedBack, IsGoalNext, IsLeftTurn, IsLook, IsNear, IsRightTurn, IsTurnedBack, all_passed, folded_back, in_wedge, left_turn, near, right_turn, turned_back, through}

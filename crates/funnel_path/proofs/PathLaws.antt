@@ -8,7 +8,9 @@ use Rattle.nav_base.specs.declared.point.Point.{Point}
 use Rattle.mesh_types.specs.declared.links.Portal.{Portal}
 use Rattle.mesh_types.specs.declared.corner.Corner.{Corner}
 use Rattle.mesh_types.specs.Chains.{IsChain}
-use Rattle.mesh_types.specs.Taut.{AreInTurn, IsBend, IsNamed, IsTaut, IsTight, Stop, some_corner, stop_at, stops_of}
+use Rattle.mesh_types.specs.Taut.{AreInTurn, IsNamed, IsTaut}
+use Rattle.mesh_types.specs.Bends.{IsBend, some_corner}
+use Rattle.mesh_types.specs.Segments.{IsTight, Stop, stop_at, stops_of}
 use Rattle.mesh_types.proofs.Words.{IsHeld, corner_stop}
 use Rattle.funnel_path.proofs.StopLaws.{corner-added, corner-kept, goal_stop, length-more, length-stops_of, stop_at-added, stop_at-goal, stop_at-kept, stop_at-so_far, stops_so_far}
 use Rattle.funnel_path.proofs.SightLaws.{IsSeen}

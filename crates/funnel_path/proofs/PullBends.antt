@@ -4,8 +4,9 @@ use Rattle.nav_base.specs.declared.point.Point.{Point}
 use Rattle.mesh_types.specs.declared.links.Portal.{Portal}
 use Rattle.mesh_types.specs.declared.corner.Side.{Side}
 use Rattle.mesh_types.specs.declared.corner.Corner.{Corner}
-use Rattle.mesh_types.specs.Chains.{IsFold, portal_at}
-use Rattle.mesh_types.specs.Taut.{HasSide, IsBend, IsFoldedOn, IsHolding, Stop, corner_of, other_end_of, stop_at}
+use Rattle.mesh_types.specs.Chains.{IsFold, portal_at, other_end_of}
+use Rattle.mesh_types.specs.Bends.{HasSide, IsBend, IsFoldedOn, IsHolding, corner_of}
+use Rattle.mesh_types.specs.Segments.{Stop, stop_at}
 use Rattle.mesh_types.proofs.Words.{IsHeld}
 
 -- ---- stops and corners that two paths have in common

@@ -6,7 +6,8 @@ use Rattle.nav_base.specs.Point.{dot_of, from_to}
 use Rattle.mesh_types.specs.declared.links.Portal.{Portal}
 use Rattle.mesh_types.specs.declared.corner.Corner.{Corner}
 use Rattle.mesh_types.specs.Chains.{IsChain}
-use Rattle.mesh_types.specs.Taut.{IsTaut, Stop, stop_at}
+use Rattle.mesh_types.specs.Taut.{IsTaut}
+use Rattle.mesh_types.specs.Segments.{Stop, stop_at}
 use Rattle.funnel_path.specs.Cone.{IsCornerNext, IsGoalNext}
 use Rattle.funnel_path.proofs.SideRules.{not_negative-signs}
 use Rattle.funnel_path.proofs.PointLaws.{dot_of-still, length-not_negative, length-zero}

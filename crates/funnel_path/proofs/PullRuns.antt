@@ -4,7 +4,8 @@ use Rattle.std.proofs.lemmas.Bool.{cases_lt, cases_order}
 use Rattle.nav_base.specs.declared.point.Point.{Point}
 use Rattle.mesh_types.specs.declared.links.Portal.{Portal}
 use Rattle.mesh_types.specs.declared.corner.Corner.{Corner}
-use Rattle.mesh_types.specs.Taut.{IsBend, Stop, corner_of, some_corner, stop_at, stops_of}
+use Rattle.mesh_types.specs.Bends.{IsBend, corner_of, some_corner}
+use Rattle.mesh_types.specs.Segments.{Stop, stop_at, stops_of}
 use Rattle.mesh_types.proofs.Words.{IsHeld}
 use Rattle.funnel_path.proofs.StopLaws.{corner-added, corner-kept, length-more, length-stops_of, length-stops_so_far, stop_at-added, stop_at-goal, stop_at-kept, stop_at-so_far, stops_so_far}
 use Rattle.funnel_path.proofs.PullBends.{AreAlike, IsHeldFor, bend_alike, held_alike, held_at, held_for_alike, held_of}

@@ -5,8 +5,9 @@ use Rattle.mesh_types.specs.declared.links.Portal.{Portal}
 use Rattle.mesh_types.specs.declared.corner.Side.{Side}
 use Rattle.mesh_types.specs.declared.corner.Side.TheVariants.{L, R}
 use Rattle.mesh_types.specs.declared.corner.Corner.{Corner}
-use Rattle.mesh_types.specs.Chains.{IsChain, IsFold, portal_at}
-use Rattle.mesh_types.specs.Taut.{HasSide, IsFoldedOn, IsHolding, Stop, corner_of, other_end_of, stop_at}
+use Rattle.mesh_types.specs.Chains.{IsChain, IsFold, portal_at, other_end_of}
+use Rattle.mesh_types.specs.Bends.{HasSide, IsFoldedOn, IsHolding, corner_of}
+use Rattle.mesh_types.specs.Segments.{Stop, stop_at}
 use Rattle.funnel_path.specs.Cone.{IsCornerNext, IsGoalNext, IsNear}
 use Rattle.funnel_path.proofs.StopLaws.{length-more, stop_at-corner, stops_so_far}
 use Rattle.funnel_path.proofs.PullBends.{IsHeldFor, by_end, by_fold, by_next, held_for_alike}

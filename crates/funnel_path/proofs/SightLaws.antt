@@ -7,10 +7,9 @@ use Rattle.nav_base.specs.Point.{orient_of, from_to}
 use Rattle.mesh_types.specs.declared.links.Portal.{Portal}
 use Rattle.mesh_types.specs.declared.corner.Side.{Side}
 use Rattle.mesh_types.specs.declared.corner.Side.TheVariants.{L, R}
-use Rattle.mesh_types.specs.Soundness.{along}
-use Rattle.mesh_types.specs.Chains.{IsAhead, IsBehind, IsChain, portal_at}
-use Rattle.mesh_types.specs.Taut.{GoesThrough, IsNoFurther, IsReached, LiesOnLine, end_of}
-use Rattle.mesh_types.specs.Taut.{LiesOn}
+use Rattle.mesh_types.specs.Portals.{along}
+use Rattle.mesh_types.specs.Chains.{IsAhead, IsBehind, IsChain, portal_at, end_of}
+use Rattle.mesh_types.specs.Segments.{GoesThrough, IsNoFurther, IsReached, LiesOnLine, LiesOn}
 use Rattle.funnel_path.specs.Cone.{ArePassed}
 use Rattle.funnel_path.proofs.SideRules.{positive-weak}
 use Rattle.funnel_path.proofs.PointLaws.{LiesBetweenRays, ahead-between, exchanged-not_positive, exchanged-zero, faces_back, length-not_negative, rays-meet}

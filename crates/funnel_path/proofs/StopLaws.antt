@@ -4,7 +4,8 @@ use Rattle.std.proofs.lemmas.List.{get_or-map, get_or_append_left, get_or-append
 use Rattle.nav_base.specs.declared.point.Point.{Point}
 use Rattle.mesh_types.specs.declared.links.Portal.{Portal}
 use Rattle.mesh_types.specs.declared.corner.Corner.{Corner}
-use Rattle.mesh_types.specs.Taut.{Stop, some_corner, stop_at, stops_of}
+use Rattle.mesh_types.specs.Segments.{Stop, stop_at, stops_of}
+use Rattle.mesh_types.specs.Bends.{some_corner}
 use Rattle.mesh_types.proofs.Words.{corner_stop, some_stop}
 
 abbrev pub start_stop : Point → Stop

@@ -3,8 +3,7 @@ use Rattle.std.proofs.Common.{◌≡◌, ◌≢◌, ℕ, ◌+◌, ◌≤◌, ◌
 use Rattle.nav_base.specs.declared.point.Point.{Point}
 use Rattle.mesh_types.specs.declared.links.Portal.{Portal}
 use Rattle.mesh_types.specs.Chains.{IsChain, portal_at}
-use Rattle.mesh_types.specs.Taut.{GoesThrough, IsNoFurther, IsReached, IsTight, LiesOnLine, Stop, stop_at}
-use Rattle.mesh_types.specs.Taut.{LiesOn}
+use Rattle.mesh_types.specs.Segments.{GoesThrough, IsNoFurther, IsReached, IsTight, LiesOnLine, Stop, stop_at, LiesOn}
 use Rattle.funnel_path.proofs.SightLaws.{IsSeen, seen_in_turn, seen_lies, seen_reached, seen_through}
 
 -- a portal's place lies strictly between the numbers of two stops

@@ -7,8 +7,7 @@ use Rattle.mesh_types.specs.declared.links.Portal.{Portal}
 use Rattle.mesh_types.specs.declared.corner.Side.{Side}
 use Rattle.mesh_types.specs.declared.corner.Side.TheVariants.{L, R}
 use Rattle.mesh_types.specs.declared.corner.Corner.{Corner}
-use Rattle.mesh_types.specs.Chains.{portal_at, IsChain, IsFold}
-use Rattle.mesh_types.specs.Taut.{end_of}
+use Rattle.mesh_types.specs.Chains.{portal_at, IsChain, IsFold, end_of}
 use Rattle.funnel_path.specs.Corners.{IsNearerEnd}
 use Rattle.funnel_path.specs.declared.wedge.Wedge.{Wedge}
 

@@ -5,7 +5,7 @@ use Rattle.nav_base.specs.Point.{dot_of, from_to}
 use Rattle.mesh_types.specs.declared.links.Portal.{Portal}
 use Rattle.mesh_types.specs.declared.corner.Side.{Side}
 use Rattle.mesh_types.specs.declared.corner.Corner.{Corner}
-use Rattle.mesh_types.specs.Taut.{end_of, other_end_of}
+use Rattle.mesh_types.specs.Chains.{end_of, other_end_of}
 
 -- the corner at the end of a portal on a side
 abbrev pub corner_at_end : Side → Portal → ℕ → Corner

@@ -12,7 +12,7 @@ use Rattle.mesh_types.specs.declared.extent.Extent.{Extent}
 use Rattle.mesh_types.specs.declared.polygon.Polygon.{Polygon}
 use Rattle.mesh_types.specs.Extents.{extent_of}
 use Rattle.mesh_types.specs.Located.{Holds, HoldsAt}
-use Rattle.mesh_types.specs.Soundness.{IsPolygon}
+use Rattle.mesh_types.specs.FitTiles.{IsPolygon}
 use Rattle.mesh_types.specs.WholeMesh.{poly_at}
 use Rattle.mesh_types.proofs.HeldPoints.{held_from_x, held_to_x, held_from_z, held_to_z}
 use Rattle.mesh_locate.specs.Nearest.{IsInBox}

@@ -14,7 +14,8 @@ use Rattle.mesh_types.specs.declared.tile.TileMesh.{TileMesh}
 use Rattle.mesh_types.specs.declared.mesh.Mesh.{Mesh}
 use Rattle.mesh_types.specs.Located.{HoldsAt, IsLocated}
 use Rattle.mesh_types.specs.Right.{IsNowhere}
-use Rattle.mesh_types.specs.Soundness.{IsPolygon, IsSound}
+use Rattle.mesh_types.specs.FitTiles.{IsPolygon}
+use Rattle.mesh_types.specs.Soundness.{IsSound}
 use Rattle.mesh_types.specs.WholeMesh.{poly_at}
 use Rattle.mesh_types.proofs.MeshPolygons.{placed}
 use Rattle.mesh_locate.specs.declared.near.Near.{Near}

@@ -3,7 +3,7 @@
 ghost use Rattle.std.specs.Prelude.{◌≡◌, ◌↔◌, ◌<◌, ◌+◌, All, IsTrue, Some, length, slice_get};
 ghost use Rattle.nav_base.specs.Point.{HasCoordinates, IsCellCorner};
 ghost use Rattle.mesh_types.specs.Located.{Holds, height_gap};
-ghost use Rattle.mesh_types.specs.Soundness.{IsPolygon};
+ghost use Rattle.mesh_types.specs.FitTiles.{IsPolygon};
 ghost use Rattle.mesh_types.specs.WholeMesh.{poly_at};
 ghost use Rattle.mesh_locate.specs.Nearest.{IsFrom, IsInBox, IsNearestBefore, is_nearer};
 

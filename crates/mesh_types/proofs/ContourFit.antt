@@ -13,8 +13,11 @@ use Rattle.mesh_types.specs.declared.door.Part.{Part}
 use Rattle.mesh_types.specs.declared.polygon.Polygon.{Polygon}
 use Rattle.mesh_types.specs.declared.tile.TileMesh.{TileMesh}
 use Rattle.mesh_types.specs.Regions.{AreRegionsOf, regions_of}
-use Rattle.mesh_types.specs.Soundness.{IsFit, IsInSquare, IsPolygon}
-use Rattle.mesh_types.specs.ContourMeshes.{Facet, contour_mesh_of, doors_of, facet_polygon, facets_of, parts_mesh, parts_of}
+use Rattle.mesh_types.specs.FitTiles.{IsFit, IsInSquare, IsPolygon}
+use Rattle.mesh_types.specs.Facets.{Facet, facet_polygon, facets_of}
+use Rattle.mesh_types.specs.ContourMeshes.{contour_mesh_of, parts_mesh}
+use Rattle.mesh_types.specs.Doors.{doors_of}
+use Rattle.mesh_types.specs.Parts.{parts_of}
 use Rattle.mesh_types.proofs.DoorLaws.{IsDoorOf, doors_are, links_lead}
 use Rattle.mesh_types.proofs.DoorRims.{rim_fits}
 use Rattle.mesh_types.proofs.FacetLaws.{IsFacetOf, facet_inside, facet_sound, facets_are, parts_are}

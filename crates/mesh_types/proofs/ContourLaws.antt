@@ -20,11 +20,10 @@ use Rattle.nav_ground.proofs.Found.{first_found, found_in}
 use Rattle.mesh_types.specs.declared.region.Regions.{Regions}
 use Rattle.mesh_types.specs.declared.region.UnitEdge.{UnitEdge}
 use Rattle.mesh_types.specs.Choices.{first_best, or_earlier}
-use Rattle.mesh_types.specs.Contours.{rim_of, IsContour}
+use Rattle.mesh_types.specs.Contours.{rim_of, IsContour, walk_from, once_round, contour_of}
 use Rattle.mesh_types.specs.Ears.{is_same_point}
 use Rattle.mesh_types.specs.LinkOrder.{is_point_before}
 use Rattle.mesh_types.specs.Rings.{beginnings, IsRing}
-use Rattle.mesh_types.specs.ContourMeshes.{walk_from, once_round, contour_of}
 use Rattle.mesh_types.proofs.Words.{begins_at, begins_before}
 use Rattle.mesh_types.proofs.ChoiceLaws.{first_best-all}
 use Rattle.mesh_types.proofs.LinkOrderLaws.{point_total, points_tie}

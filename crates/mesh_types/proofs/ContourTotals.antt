@@ -11,7 +11,10 @@ use Rattle.nav_ground.specs.Tiling.{tile_window}
 use Rattle.mesh_types.specs.declared.door.Part.{Part}
 use Rattle.mesh_types.specs.declared.region.Regions.{Regions}
 use Rattle.mesh_types.specs.declared.tile.TileMesh.{TileMesh}
-use Rattle.mesh_types.specs.ContourMeshes.{contour_mesh_of, doors_of, facet_polygon, facets_of, parts_mesh, parts_of}
+use Rattle.mesh_types.specs.ContourMeshes.{contour_mesh_of, parts_mesh}
+use Rattle.mesh_types.specs.Doors.{doors_of}
+use Rattle.mesh_types.specs.Facets.{facet_polygon, facets_of}
+use Rattle.mesh_types.specs.Parts.{parts_of}
 use Rattle.mesh_types.specs.Regions.{AreRegionsOf, regions_of}
 use Rattle.mesh_types.proofs.RimShares.{few_positions, named_once}
 use Rattle.mesh_types.proofs.DoorTotals.{few_door_links, few_doors, few_facets}

@@ -31,10 +31,12 @@ use Rattle.mesh_types.specs.declared.links.Link.{Link}
 use Rattle.mesh_types.specs.declared.polygon.Polygon.{Polygon}
 use Rattle.mesh_types.specs.declared.tile.TileMesh.{TileMesh}
 use Rattle.mesh_types.specs.BorderLinks.{scaled}
-use Rattle.mesh_types.specs.Soundness.{IsInnerLink, LeadsThrough, LiesAlong, along}
+use Rattle.mesh_types.specs.FitTiles.{IsInnerLink}
+use Rattle.mesh_types.specs.Portals.{LeadsThrough, LiesAlong, along}
 use Rattle.mesh_types.specs.Ears.{is_same_point}
 use Rattle.mesh_types.specs.Merging.{edge_end}
-use Rattle.mesh_types.specs.ContourMeshes.{Facet, are_facing, door_link, door_links, door_over, doors_of, facet_doors, facet_polygon, link_through, names_region, share_corners, share_places}
+use Rattle.mesh_types.specs.Facets.{Facet, facet_polygon}
+use Rattle.mesh_types.specs.Doors.{are_facing, door_link, door_links, door_over, doors_of, facet_doors, link_through, names_region, share_corners, share_places}
 use Rattle.mesh_types.proofs.Words.{no_facet}
 use Rattle.mesh_types.specs.Words.{no_part}
 use Rattle.mesh_types.proofs.ContourLaws.{found_all, same_point}

@@ -26,8 +26,9 @@ use Rattle.mesh_types.specs.declared.polygon.Polygon.{Polygon}
 use Rattle.mesh_types.specs.declared.label_runs.Run.{Run}
 use Rattle.mesh_types.specs.declared.tile.TileMesh.{TileMesh}
 use Rattle.mesh_types.specs.Runs.{label_if, runs_of}
-use Rattle.mesh_types.specs.Soundness.{IsRimOf, LiesOnSide, RunsOver}
-use Rattle.mesh_types.specs.ContourMeshes.{Facet, crossing_pair, door_entries, door_entry, door_rim, end_position, facet_polygon, first_position, is_listed, is_on_line, lies_on, names_side, positions_of, side_entries, side_of}
+use Rattle.mesh_types.specs.FitTiles.{IsRimOf, LiesOnSide, RunsOver}
+use Rattle.mesh_types.specs.Facets.{Facet, facet_polygon}
+use Rattle.mesh_types.specs.DoorRim.{crossing_pair, door_entries, door_entry, door_rim, end_position, first_position, is_listed, is_on_line, lies_on, names_side, positions_of, side_entries, side_of}
 use Rattle.mesh_types.proofs.Words.{no_facet}
 use Rattle.mesh_types.proofs.DoorLaws.{IsDoorOf, facet_at, facet_corners, polygon_there}
 use Rattle.mesh_types.proofs.FacetLaws.{IsFacetOf, corners_all}

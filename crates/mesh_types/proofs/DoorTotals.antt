@@ -16,7 +16,9 @@ use Rattle.mesh_types.specs.declared.door.Part.{Part}
 use Rattle.mesh_types.specs.declared.outline.Piece.{Piece}
 use Rattle.mesh_types.specs.declared.region.Regions.{Regions}
 use Rattle.mesh_types.specs.Contours.{places_in}
-use Rattle.mesh_types.specs.ContourMeshes.{Facet, door_over, door_links, doors_of, facet_doors, facets_in, facets_of, link_through, parts_of, region_numbers, region_part}
+use Rattle.mesh_types.specs.Facets.{Facet, facets_in, facets_of}
+use Rattle.mesh_types.specs.Doors.{door_over, door_links, doors_of, facet_doors, link_through}
+use Rattle.mesh_types.specs.Parts.{parts_of, region_numbers, region_part}
 use Rattle.mesh_types.proofs.Words.{no_facet}
 use Rattle.mesh_types.specs.Words.{no_part}
 use Rattle.mesh_types.specs.Regions.{AreRegionsOf}

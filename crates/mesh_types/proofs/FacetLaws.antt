@@ -23,16 +23,17 @@ use Rattle.mesh_types.specs.declared.outline.Triangle.{Triangle}
 use Rattle.mesh_types.specs.declared.outline.Piece.{Piece}
 use Rattle.mesh_types.specs.declared.outline.Simplified.TheVariants.{Flat, Outline}
 use Rattle.mesh_types.specs.declared.door.Part.{Part}
-use Rattle.mesh_types.specs.Soundness.{IsPolygon, IsInSquare}
-use Rattle.mesh_types.specs.StripMeshes.{some_cell}
+use Rattle.mesh_types.specs.FitTiles.{IsPolygon, IsInSquare}
+use Rattle.mesh_types.specs.StripPolygons.{some_cell}
 use Rattle.mesh_types.specs.Regions.{IsStrip, IsStack, IsIn, place_in, AreRegionsOf}
-use Rattle.mesh_types.specs.Contours.{cell_in, region_at, strips_in}
+use Rattle.mesh_types.specs.Contours.{cell_in, region_at, strips_in, contour_of}
 use Rattle.mesh_types.specs.Rings.{beginnings}
 use Rattle.mesh_types.specs.Simplified.{begins_among, kept_corners, kept_edges, simplified_of}
 use Rattle.mesh_types.specs.Words.{codes_of, no_part}
 use Rattle.mesh_types.specs.Ears.{ears_of}
 use Rattle.mesh_types.specs.Merging.{IsPieceOf, merged}
-use Rattle.mesh_types.specs.ContourMeshes.{Facet, cells_of, contour_of, cut_part, facet_polygon, facets_in, facets_of, part_of, parts_of, region_numbers, region_part}
+use Rattle.mesh_types.specs.Facets.{Facet, cells_of, facet_polygon, facets_in, facets_of}
+use Rattle.mesh_types.specs.Parts.{cut_part, part_of, parts_of, region_numbers, region_part}
 use Rattle.mesh_types.proofs.Words.{is_of}
 use Rattle.mesh_types.proofs.Counted.{some_counted}
 use Rattle.mesh_types.proofs.FloorLaws.{low_first, high_small}

@@ -3,7 +3,7 @@ use Rattle.std.proofs.Common.{ℕ, ◌<◌, ◌≤◌, length, List, [], ◌∷�
 use Rattle.std.specs.Prelude.{All, fold}
 use Rattle.std.proofs.lemmas.List.Elements.{All-head, All-tail}
 use Rattle.nav_ground.specs.declared.cell.Cell.{Cell}
-use Rattle.mesh_types.specs.StripMeshes.{some_cell, first_of, low_of, high_of}
+use Rattle.mesh_types.specs.StripPolygons.{some_cell, first_of, low_of, high_of}
 
 low_most : (low : ℕ) (own : List Cell) → fold (λ low (cell : Cell). min low cell.floor) low own ≤ low
 low_most low [] = omega arith

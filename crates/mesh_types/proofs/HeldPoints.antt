@@ -15,7 +15,8 @@ use Rattle.nav_base.proofs.Signs.{product-not_negative, product-positive, factor
 use Rattle.nav_ground.specs.declared.cell.Window.{Window}
 use Rattle.mesh_types.specs.declared.polygon.Polygon.{Polygon}
 use Rattle.mesh_types.specs.BorderLinks.{scaled}
-use Rattle.mesh_types.specs.Soundness.{IsPolygon, edge_begin, IsInSquare}
+use Rattle.mesh_types.specs.FitTiles.{IsPolygon, IsInSquare}
+use Rattle.mesh_types.specs.Portals.{edge_begin}
 use Rattle.mesh_types.specs.Located.{Holds}
 
 -- ---- sixteenths

@@ -10,7 +10,7 @@ use Rattle.mesh_types.specs.declared.tile.LevelPair.{LevelPair}
 use Rattle.mesh_types.specs.declared.tile.RimEdge.{RimEdge}
 use Rattle.mesh_types.specs.BorderLinks.{along_side, pair_at}
 use Rattle.mesh_types.specs.Passages.{has_levels, is_listing}
-use Rattle.mesh_types.specs.StripMeshes.{level_pair, position_of}
+use Rattle.mesh_types.specs.Crossings.{level_pair, position_of}
 use Rattle.mesh_types.proofs.LinkTotals.{is_named}
 use Rattle.mesh_types.proofs.Totals.{sum_by-filter}
 

@@ -11,7 +11,9 @@ use Rattle.mesh_types.specs.declared.mesh.Mesh.{Mesh}
 use Rattle.mesh_types.specs.Chains.{IsBehind, IsAhead}
 use Rattle.mesh_types.specs.Corridors.{IsLinkOf}
 use Rattle.mesh_types.specs.Located.{Holds, HoldsAt}
-use Rattle.mesh_types.specs.Soundness.{LeadsThrough, IsInnerLink, IsCrossLink, IsSound}
+use Rattle.mesh_types.specs.Portals.{LeadsThrough}
+use Rattle.mesh_types.specs.FitTiles.{IsInnerLink}
+use Rattle.mesh_types.specs.Soundness.{IsCrossLink, IsSound}
 use Rattle.mesh_types.specs.WholeMesh.{poly_at}
 use Rattle.mesh_types.proofs.MeshPolygons.{tile_at, placed}
 use Rattle.mesh_types.proofs.PortalEnds.{out_held, in_held, ends_apart, held_behind, held_ahead}

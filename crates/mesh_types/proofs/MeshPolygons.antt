@@ -7,7 +7,8 @@ use Rattle.mesh_types.specs.declared.links.PolyRef.{PolyRef}
 use Rattle.mesh_types.specs.declared.polygon.Polygon.{Polygon}
 use Rattle.mesh_types.specs.declared.tile.TileMesh.{TileMesh}
 use Rattle.mesh_types.specs.declared.mesh.Mesh.{Mesh}
-use Rattle.mesh_types.specs.Soundness.{IsPolygon, IsInSquare, IsFit, IsSound}
+use Rattle.mesh_types.specs.FitTiles.{IsPolygon, IsInSquare, IsFit}
+use Rattle.mesh_types.specs.Soundness.{IsSound}
 use Rattle.mesh_types.specs.WholeMesh.{poly_at}
 
 -- an element that is read keeps what all elements keep

@@ -25,9 +25,9 @@ use Rattle.mesh_types.specs.declared.outline.Triangle.{Triangle}
 use Rattle.mesh_types.specs.declared.region.Regions.{Regions}
 use Rattle.mesh_types.specs.declared.region.UnitEdge.{UnitEdge}
 use Rattle.mesh_types.specs.Choices.{first_best, or_earlier}
-use Rattle.mesh_types.specs.ContourMeshes.{walk_from, once_round, contour_of, cut_part, part_of, region_part}
+use Rattle.mesh_types.specs.Parts.{cut_part, part_of, region_part}
 use Rattle.mesh_types.proofs.Words.{begins_at, begins_before}
-use Rattle.mesh_types.specs.Contours.{cell_in, edge_of, is_rim, places_in, rim_edges_of, rim_of}
+use Rattle.mesh_types.specs.Contours.{cell_in, edge_of, is_rim, places_in, rim_edges_of, rim_of, walk_from, once_round, contour_of}
 use Rattle.mesh_types.specs.Ears.{ears_of}
 use Rattle.mesh_types.specs.Merging.{Merge, best_merge, is_admissible, is_convex, joined, merge_all, merged, union_of}
 use Rattle.mesh_types.specs.Words.{piece_of, codes_of}

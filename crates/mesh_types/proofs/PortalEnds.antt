@@ -12,7 +12,7 @@ use Rattle.nav_base.proofs.ConvexLaws.{IsStrictlyConvex-sides, place_after-in}
 use Rattle.nav_base.proofs.Signs.{product-not_negative, factor-not_negative}
 use Rattle.mesh_types.specs.declared.polygon.Polygon.{Polygon}
 use Rattle.mesh_types.specs.declared.links.Portal.{Portal}
-use Rattle.mesh_types.specs.Soundness.{edge_begin, edge_end, along, LiesAlong, IsPortalOut, IsPortalIn}
+use Rattle.mesh_types.specs.Portals.{edge_begin, edge_end, along, LiesAlong, IsPortalOut, IsPortalIn}
 use Rattle.mesh_types.specs.Located.{Holds}
 use Rattle.mesh_types.specs.Chains.{IsBehind, IsAhead}
 use Rattle.mesh_types.proofs.HeldPoints.{orient_of-scaled}

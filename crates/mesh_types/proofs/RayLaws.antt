@@ -16,7 +16,7 @@ use Rattle.mesh_types.specs.declared.polygon.Polygon.{Polygon}
 use Rattle.mesh_types.specs.LinkOrder.{link_cmp}
 use Rattle.mesh_types.specs.Located.{Holds}
 use Rattle.mesh_types.specs.Rays.{IsHeldAt, side_of, exit_den, IsExit, IsLeastExit, IsFirstExit, IsNext, EndsIn, GoesOn, IsRayWalk}
-use Rattle.mesh_types.specs.Soundness.{edge_begin, edge_end}
+use Rattle.mesh_types.specs.Portals.{edge_begin, edge_end}
 use Rattle.mesh_types.specs.WholeMesh.{poly_at}
 use Rattle.mesh_types.proofs.LinkOrderLaws.{links_tie}
 

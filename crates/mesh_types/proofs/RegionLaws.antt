@@ -15,7 +15,7 @@ use Rattle.nav_ground.proofs.Found.{first_found}
 use Rattle.mesh_types.specs.declared.strip.Strip.{Strip}
 use Rattle.mesh_types.specs.declared.region.Region.{Region}
 use Rattle.mesh_types.specs.declared.region.Regions.{Regions}
-use Rattle.mesh_types.specs.StripMeshes.{some_cell}
+use Rattle.mesh_types.specs.StripPolygons.{some_cell}
 use Rattle.mesh_types.specs.Regions.{is_holding, times_held, IsStrip, IsStack, IsIn, IsWoven, place_in, AreRegionsOf}
 use Rattle.mesh_types.specs.Contours.{is_at, cell_in, region_at, strips_in}
 use Rattle.mesh_types.proofs.Totals.{sum_by-no_more}

@@ -12,7 +12,7 @@ use Rattle.mesh_types.specs.declared.region.Region.{Region}
 use Rattle.mesh_types.specs.declared.region.Regions.{Regions}
 use Rattle.mesh_types.specs.declared.strip.Strip.{Strip}
 use Rattle.mesh_types.specs.Contours.{columns, places_in}
-use Rattle.mesh_types.specs.ContourMeshes.{region_numbers}
+use Rattle.mesh_types.specs.Parts.{region_numbers}
 use Rattle.mesh_types.specs.Regions.{AreRegionsOf, IsStrip, IsWoven, is_holding, place_in}
 use Rattle.mesh_types.proofs.RegionLaws.{holds_own}
 use Rattle.mesh_types.proofs.Totals.{numbers_within, sum_by-exchanged, sum_by-no_more, sum_by-numbers, sum_by-one, sum_by-same, sum_by-shared}

@@ -15,11 +15,10 @@ use Rattle.nav_ground.specs.Tiling.{IsInWindow}
 use Rattle.mesh_types.specs.declared.strip.Strip.{Strip}
 use Rattle.mesh_types.specs.declared.region.Regions.{Regions}
 use Rattle.mesh_types.specs.declared.region.UnitEdge.{UnitEdge}
-use Rattle.mesh_types.specs.Soundness.{IsInSquare}
-use Rattle.mesh_types.specs.StripMeshes.{corner}
+use Rattle.mesh_types.specs.FitTiles.{IsInSquare}
+use Rattle.mesh_types.specs.StripPolygons.{corner}
 use Rattle.mesh_types.specs.Regions.{IsStrip, place_in, AreRegionsOf}
-use Rattle.mesh_types.specs.Contours.{cell_in, columns, edge_of, is_rim, places_in, rim_edges_of, rim_of, strips_in}
-use Rattle.mesh_types.specs.ContourMeshes.{contour_of}
+use Rattle.mesh_types.specs.Contours.{cell_in, columns, edge_of, is_rim, places_in, rim_edges_of, rim_of, strips_in, contour_of}
 use Rattle.mesh_types.proofs.ContourLaws.{round_all}
 use Rattle.mesh_types.proofs.Gathered.{all_of_each, all_four}
 use Rattle.mesh_types.proofs.RegionLaws.{cell_there, stack, woven}

@@ -20,10 +20,13 @@ use Rattle.mesh_types.specs.declared.tile.LevelPair.{LevelPair}
 use Rattle.mesh_types.specs.declared.tile.RimEdge.{RimEdge}
 use Rattle.mesh_types.specs.BorderLinks.{along_side}
 use Rattle.mesh_types.specs.Contours.{region_at}
-use Rattle.mesh_types.specs.ContourMeshes.{Facet, belongs_to, cells_of, crossing_cell, crossing_pair, door_entries, door_entry, door_over, door_rim, doors_of, facet_doors, first_position, end_position, is_listed, is_same_door, positions_of, runs_over, side_entries, side_of}
+use Rattle.mesh_types.specs.Facets.{Facet, cells_of}
+use Rattle.mesh_types.specs.DoorRim.{belongs_to, crossing_cell, crossing_pair, door_entries, door_entry, door_rim, first_position, end_position, is_listed, is_same_door, positions_of, runs_over, side_entries, side_of}
+use Rattle.mesh_types.specs.Doors.{door_over, doors_of, facet_doors}
 use Rattle.mesh_types.proofs.Words.{crosses_at, is_of, no_facet}
 use Rattle.mesh_types.specs.Runs.{runs_of, label_if}
-use Rattle.mesh_types.specs.StripMeshes.{is_at_side, is_crossing, level_pair, position_of, some_cell}
+use Rattle.mesh_types.specs.Crossings.{is_at_side, is_crossing, level_pair, position_of}
+use Rattle.mesh_types.specs.StripPolygons.{some_cell}
 use Rattle.mesh_types.proofs.ChoiceLaws.{filter-passes}
 use Rattle.mesh_types.proofs.LinkTotals.{is_named, named_pair}
 use Rattle.mesh_types.proofs.RunLaws.{IsRunOf, in_run, part_length, run_passes, runs_are_runs}

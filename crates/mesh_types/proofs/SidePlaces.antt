@@ -9,7 +9,7 @@ use Rattle.nav_ground.specs.declared.cell.CellRef.{CellRef}
 use Rattle.nav_ground.specs.declared.cell.Window.{Window}
 use Rattle.nav_ground.specs.Cells.{IsCellBefore, IsCut}
 use Rattle.nav_ground.specs.Tiling.{IsInWindow}
-use Rattle.mesh_types.specs.StripMeshes.{is_at_side, position_of}
+use Rattle.mesh_types.specs.Crossings.{is_at_side, position_of}
 use Rattle.mesh_types.proofs.Totals.{once}
 
 pub at_most : (a b : ℤ) → int_le a b ≡ true → a ≤ℤ b

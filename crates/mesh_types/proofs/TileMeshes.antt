@@ -10,7 +10,8 @@ use Rattle.nav_ground.specs.declared.setting.Setting.{Setting}
 use Rattle.nav_ground.specs.Tiling.{tile_window}
 use Rattle.mesh_types.specs.declared.door.Part.{Part}
 use Rattle.mesh_types.specs.declared.tile.TileMesh.{TileMesh}
-use Rattle.mesh_types.specs.ContourMeshes.{contour_mesh_of, mesh_of_free, mesh_of_kind, parts_mesh, parts_of}
+use Rattle.mesh_types.specs.ContourMeshes.{contour_mesh_of, mesh_of_free, mesh_of_kind, parts_mesh}
+use Rattle.mesh_types.specs.Parts.{parts_of}
 use Rattle.mesh_types.specs.Regions.{regions_of}
 use Rattle.mesh_types.specs.StripMeshes.{strip_mesh_of}
 

@@ -12,12 +12,13 @@ use Rattle.mesh_types.specs.declared.links.Portal.{Portal}
 use Rattle.mesh_types.specs.declared.corner.Corner.{Corner}
 use Rattle.mesh_types.specs.declared.corner.Side.{Side}
 use Rattle.mesh_types.specs.LinkOrder.{is_point_before}
-use Rattle.mesh_types.specs.StripMeshes.{is_crossing, position_of}
+use Rattle.mesh_types.specs.Crossings.{is_crossing, position_of}
 use Rattle.mesh_types.specs.Contours.{region_at}
 use Rattle.mesh_types.specs.Ears.{is_same_point}
 use Rattle.mesh_types.specs.Merging.{Merge, shared_length}
-use Rattle.mesh_types.specs.ContourMeshes.{Facet}
-use Rattle.mesh_types.specs.Taut.{Stop, IsHeldOn, IsFoldedOn}
+use Rattle.mesh_types.specs.Facets.{Facet}
+use Rattle.mesh_types.specs.Segments.{Stop}
+use Rattle.mesh_types.specs.Bends.{IsHeldOn, IsFoldedOn}
 
 -- a strip has a cell in a column
 abbrev pub has_column : ℕ → List Cell → Bool

@@ -3,6 +3,8 @@ use Rattle.std.specs.Prelude.{◌≡◌, ◌≢◌, ℕ, ◌+◌, ◌-◌, ◌<�
 use Rattle.nav_base.specs.declared.point.Point.{Point}
 use Rattle.nav_base.specs.Point.{orient_of, dot_of, from_to}
 use Rattle.mesh_types.specs.declared.links.Portal.{Portal}
+use Rattle.mesh_types.specs.declared.corner.Side.{Side}
+use Rattle.mesh_types.specs.declared.corner.Side.TheVariants.{L, R}
 
 -- the portal at a place
 abbrev pub portal_at : List Portal → ℕ → Portal
@@ -38,3 +40,12 @@ pub record IsFold (a b : Portal) : Type 0 where
   pub opposite : dot_of (from_to a.right a.left) (from_to b.right b.left) <ℤ pos 0
   pub left_inside : dot_of (from_to a.left b.left) (from_to a.right a.left) <ℤ pos 0
   pub right_inside : dot_of (from_to a.right b.right) (from_to a.left a.right) <ℤ pos 0
+
+-- the end of a portal on a side, and the other end
+abbrev pub end_of : Side → Portal → Point
+end_of L portal = portal.left
+end_of R portal = portal.right
+
+abbrev pub other_end_of : Side → Portal → Point
+other_end_of L portal = portal.right
+other_end_of R portal = portal.left

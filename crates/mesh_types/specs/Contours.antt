@@ -1,5 +1,5 @@
 -- Contours: the rim of a region, and the closed list of its edges.
-use Rattle.std.specs.Prelude.{◌≡◌, ℕ, ◌+◌, ◌-◌, ◌%◌, ◌<◌, Bool, false, not, ◌==◌, ◌&&◌, if◌then◌else◌, List, [], map, filter, length, get_or, Option, option_and_then, unwrap_or}
+use Rattle.std.specs.Prelude.{◌≡◌, ℕ, ◌+◌, ◌-◌, ◌%◌, ◌<◌, Bool, false, not, ◌==◌, ◌&&◌, if◌then◌else◌, List, [], map, filter, length, get_or, Option, option_and_then, unwrap_or, zero, suc, ◌∷◌}
 use Rattle.std.specs.List.{find, flat_map, list_any, position, range_with_len}
 use Rattle.std.specs.List.Sorted.{IsPermutation}
 use Rattle.std.specs.Option.{option_map_or}
@@ -16,9 +16,12 @@ use Rattle.mesh_types.specs.declared.region.Code.{Code}
 use Rattle.mesh_types.specs.declared.region.Code.TheVariants.{Wall, Side}
 use Rattle.mesh_types.specs.declared.region.Code.TheVariants
 use Rattle.mesh_types.specs.LinkOrder.{is_point_before}
-use Rattle.mesh_types.specs.StripMeshes.{corner, some_cell, is_crossing}
+use Rattle.mesh_types.specs.StripPolygons.{corner, some_cell}
+use Rattle.mesh_types.specs.Crossings.{is_crossing}
 use Rattle.mesh_types.specs.Regions.{is_holding, place_in}
 use Rattle.mesh_types.specs.Rings.{IsClosed}
+use Rattle.mesh_types.specs.Choices.{first_best}
+use Rattle.mesh_types.specs.Ears.{is_same_point}
 
 -- the cell at a place
 abbrev pub is_at : CellRef → Cell → Bool
@@ -88,3 +91,16 @@ pub record IsContour (window : Window) (cells : List Cell) (regions : Regions) (
   pub rim : IsPermutation (rim_of window cells regions id) edges
   pub closed : IsClosed edges
   pub least : (k : ℕ) (d : UnitEdge) → k < length edges → is_point_before (get_or edges k d).from (get_or edges 0 d).from ≡ false
+
+-- an edge of a rim, and one after the other the edges that begin where the one before ends, at most so many more
+unfoldable pub walk_from : List UnitEdge → ℕ → UnitEdge → List UnitEdge
+walk_from rim zero edge = edge ∷ []
+walk_from rim (suc most) edge = edge ∷ option_map_or (walk_from rim most) (find (λ (next : UnitEdge). is_same_point next.from edge.to) rim) []
+
+-- once round a rim, from the least corner
+unfoldable pub once_round : List UnitEdge → List UnitEdge
+once_round rim = option_map_or (walk_from rim (length rim - 1)) (first_best (λ (a b : UnitEdge). is_point_before a.from b.from) rim) []
+
+-- the contour of a region
+abbrev pub contour_of : Window → List Cell → Regions → ℕ → List UnitEdge
+contour_of window cells regions id = once_round (rim_of window cells regions id)

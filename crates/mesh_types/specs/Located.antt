@@ -5,7 +5,7 @@ use Rattle.nav_base.specs.Point.{orient_of}
 use Rattle.mesh_types.specs.declared.links.PolyRef.{PolyRef}
 use Rattle.mesh_types.specs.declared.polygon.Polygon.{Polygon}
 use Rattle.mesh_types.specs.declared.mesh.Mesh.{Mesh}
-use Rattle.mesh_types.specs.Soundness.{edge_begin, edge_end}
+use Rattle.mesh_types.specs.Portals.{edge_begin, edge_end}
 use Rattle.mesh_types.specs.WholeMesh.{poly_at}
 
 -- a polygon holds a point of the plane, in sixteenths: the point lies to the left of each edge or on its line

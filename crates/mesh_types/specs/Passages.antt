@@ -13,8 +13,10 @@ use Rattle.mesh_types.specs.declared.tile.TileMesh.{TileMesh}
 use Rattle.mesh_types.specs.declared.mesh.Mesh.{Mesh}
 use Rattle.mesh_types.specs.BorderLinks.{pair_at}
 use Rattle.mesh_types.specs.Corridors.{IsLinkOf}
-use Rattle.mesh_types.specs.Soundness.{LiesAlong}
-use Rattle.mesh_types.specs.StripMeshes.{strip_runs, edge_portal, outside_of, is_crossing, level_pair, position_of}
+use Rattle.mesh_types.specs.Portals.{LiesAlong}
+use Rattle.mesh_types.specs.StripPolygons.{strip_runs}
+use Rattle.mesh_types.specs.StripLinks.{edge_portal, outside_of}
+use Rattle.mesh_types.specs.Crossings.{is_crossing, level_pair, position_of}
 
 -- the reverse of a link: through the same portal, back over an edge of the polygon that it enters
 abbrev pub reverse_of : ℕ → Link → Link

@@ -13,7 +13,7 @@ use Rattle.mesh_types.specs.declared.polygon.Polygon.{Polygon}
 use Rattle.mesh_types.specs.Corridors.{IsLinkOf}
 use Rattle.mesh_types.specs.LinkOrder.{link_cmp}
 use Rattle.mesh_types.specs.Located.{Holds}
-use Rattle.mesh_types.specs.Soundness.{edge_begin, edge_end}
+use Rattle.mesh_types.specs.Portals.{edge_begin, edge_end}
 use Rattle.mesh_types.specs.WholeMesh.{poly_at}
 
 -- the polygon that a reference names holds a point of the plane

@@ -9,7 +9,8 @@ use Rattle.mesh_types.specs.declared.strip.Strip.{Strip}
 use Rattle.mesh_types.specs.declared.region.Region.{Region}
 use Rattle.mesh_types.specs.declared.region.Regions.{Regions}
 use Rattle.mesh_types.specs.Strips.{strip_of}
-use Rattle.mesh_types.specs.StripMeshes.{strip_runs, first_of, holds_named}
+use Rattle.mesh_types.specs.StripPolygons.{strip_runs, first_of}
+use Rattle.mesh_types.specs.StripLinks.{holds_named}
 
 -- the numbers of strips, and the cells of the strip with a number
 abbrev pub numbers : List (List Cell) → List ℕ

@@ -6,7 +6,8 @@ use Rattle.nav_ground.specs.declared.cell.Cell.{Cell}
 use Rattle.mesh_types.specs.declared.polygon.Polygon.{Polygon}
 use Rattle.mesh_types.specs.declared.tile.TileMesh.{TileMesh}
 use Rattle.mesh_types.specs.Located.{Holds}
-use Rattle.mesh_types.specs.StripMeshes.{strip_runs, strip_mesh_of}
+use Rattle.mesh_types.specs.StripPolygons.{strip_runs}
+use Rattle.mesh_types.specs.StripMeshes.{strip_mesh_of}
 
 -- a tile is built as strips
 abbrev pub IsOfStrips : Setting → TileMesh → Type 0

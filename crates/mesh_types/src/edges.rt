@@ -5,7 +5,7 @@ ghost use Rattle.nav_base.specs.Point.{HasCoordinates, IsCellCorner};
 ghost use Rattle.mesh_types.specs.BorderLinks.{scaled};
 ghost use Rattle.mesh_types.specs.Located.{Holds};
 ghost use Rattle.mesh_types.specs.Rays.{side_of};
-ghost use Rattle.mesh_types.specs.Soundness.{edge_begin, edge_end};
+ghost use Rattle.mesh_types.specs.Portals.{edge_begin, edge_end};
 
 use crate::polygon::Polygon;
 use nav_base::{Point, next_place, orient};

@@ -15,7 +15,7 @@ use Rattle.cell_table.specs.Table.{index_named, neighbour_table, neighbour}
 use Rattle.cell_table.proofs.Tables.{one_index, table_at}
 use Rattle.cell_table.proofs.Places.{same_test}
 use Rattle.mesh_types.specs.Strips.{is_followed_by}
-use Rattle.mesh_types.specs.StripMeshes.{some_cell}
+use Rattle.mesh_types.specs.StripPolygons.{some_cell}
 use Rattle.mono_regions.specs.Indices.{cell_at, along}
 use Rattle.mono_regions.proofs.Found.{position_same, position_only, position_none}
 

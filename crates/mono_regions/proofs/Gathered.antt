@@ -5,7 +5,7 @@ use Rattle.std.proofs.lemmas.List.{map-append}
 use Rattle.nav_ground.specs.declared.cell.Cell.{Cell}
 use Rattle.mesh_types.specs.declared.region.Region.{Region}
 use Rattle.mesh_types.specs.declared.region.Regions.{Regions}
-use Rattle.mesh_types.specs.StripMeshes.{strip_runs}
+use Rattle.mesh_types.specs.StripPolygons.{strip_runs}
 use Rattle.mesh_types.specs.Regions.{chain_from, begins_region, region_chains, region_of, regions_of}
 use Rattle.mono_regions.proofs.Found.{passes_next, fails_next}
 use Rattle.mono_regions.proofs.RunLaws.{map-map}

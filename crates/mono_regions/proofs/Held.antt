@@ -16,7 +16,7 @@ use Rattle.nav_ground.specs.Cells.{IsCut}
 use Rattle.cell_table.proofs.Places.{same_test}
 use Rattle.cell_table.proofs.Tables.{one_index}
 use Rattle.mesh_types.specs.declared.region.Region.{Region}
-use Rattle.mesh_types.specs.StripMeshes.{some_cell, strip_runs}
+use Rattle.mesh_types.specs.StripPolygons.{some_cell, strip_runs}
 use Rattle.mesh_types.specs.Regions.{numbers, joins, chain_from, begins_region, regions_of, is_holding, times_held, HoldsEachOnce}
 use Rattle.mesh_types.proofs.Totals.{sum_by-map, sum_by-filter, sum_by-range_same}
 use Rattle.mono_regions.specs.Indices.{cell_at, level_at, index_runs, owner_of, strip_at}

@@ -11,7 +11,7 @@ use Rattle.nav_ground.specs.declared.cell.Cell.{Cell}
 use Rattle.nav_ground.specs.Cells.{IsCut}
 use Rattle.nav_ground.proofs.Found.{find_none}
 use Rattle.cell_table.proofs.Places.{same_test}
-use Rattle.mesh_types.specs.StripMeshes.{strip_runs}
+use Rattle.mesh_types.specs.StripPolygons.{strip_runs}
 use Rattle.mesh_types.specs.Regions.{numbers, joins, begins_region}
 use Rattle.mono_regions.specs.declared.seen.Seen.{Seen}
 use Rattle.mono_regions.specs.declared.seen.Seen.TheVariants.{Nothing, One, Several}

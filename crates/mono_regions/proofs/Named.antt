@@ -14,7 +14,8 @@ use Rattle.nav_ground.proofs.FreeLayers.{names_one}
 use Rattle.cell_table.specs.Table.{index_named}
 use Rattle.cell_table.proofs.Places.{same_test}
 use Rattle.cell_table.proofs.Tables.{one_index}
-use Rattle.mesh_types.specs.StripMeshes.{some_cell, strip_runs, holds_named}
+use Rattle.mesh_types.specs.StripPolygons.{some_cell, strip_runs}
+use Rattle.mesh_types.specs.StripLinks.{holds_named}
 use Rattle.mono_regions.specs.Indices.{cell_at, index_runs, has_index, owner_of}
 use Rattle.mono_regions.proofs.Found.{position_none}
 use Rattle.mono_regions.proofs.Owners.{owner_there, position_map}

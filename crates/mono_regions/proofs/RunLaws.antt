@@ -10,7 +10,7 @@ use Rattle.nav_ground.specs.Cells.{IsCells}
 use Rattle.nav_ground.proofs.Selections.{filter-map}
 use Rattle.mesh_types.specs.declared.strip.Strip.{Strip}
 use Rattle.mesh_types.specs.Strips.{strip_of, strip_cells, strip_firsts, strips_of, begins_strip}
-use Rattle.mesh_types.specs.StripMeshes.{some_cell, strip_runs}
+use Rattle.mesh_types.specs.StripPolygons.{some_cell, strip_runs}
 use Rattle.mono_regions.specs.Indices.{cell_at, along, indices_from, run_at, firsts_below, index_runs, AreIndices, level_at, strip_at}
 use Rattle.mono_regions.proofs.Walks.{along_run, cells_of_run}
 use Rattle.mono_regions.proofs.Owners.{firsts_small}

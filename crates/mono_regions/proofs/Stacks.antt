@@ -10,7 +10,7 @@ use Rattle.nav_ground.specs.declared.cell.Cell.{Cell}
 use Rattle.nav_ground.specs.Cells.{IsCut}
 use Rattle.mesh_types.specs.declared.strip.Strip.{Strip}
 use Rattle.mesh_types.specs.declared.region.Region.{Region}
-use Rattle.mesh_types.specs.StripMeshes.{strip_runs}
+use Rattle.mesh_types.specs.StripPolygons.{strip_runs}
 use Rattle.mesh_types.specs.Regions.{chain_from, begins_region, regions_of, IsUpon, IsStrip, IsStack}
 use Rattle.mono_regions.specs.Joining.{joined_from}
 use Rattle.mono_regions.proofs.JoinLaws.{joined_back}

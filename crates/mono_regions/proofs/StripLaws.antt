@@ -11,7 +11,7 @@ use Rattle.nav_ground.specs.declared.cell.Cell.{Cell}
 use Rattle.nav_ground.specs.Cells.{IsCells, IsCut, is_naming}
 use Rattle.nav_ground.proofs.FreeLayers.{names_one}
 use Rattle.cell_table.proofs.Tables.{one_index}
-use Rattle.mesh_types.specs.StripMeshes.{some_cell}
+use Rattle.mesh_types.specs.StripPolygons.{some_cell}
 use Rattle.mono_regions.specs.Indices.{cell_at, along, indices_from, run_at, begins_at, firsts_below, index_runs, owner_of}
 use Rattle.mono_regions.proofs.Found.{position_only}
 use Rattle.mono_regions.proofs.Chains.{along_is, along_after}

@@ -14,7 +14,8 @@ use Rattle.nav_ground.specs.Cells.{IsCells, IsCut}
 use Rattle.nav_ground.proofs.Selections.{list_any-map}
 use Rattle.cell_table.specs.Table.{index_named, indices_named, neighbour_table}
 use Rattle.cell_table.proofs.Places.{same_test}
-use Rattle.mesh_types.specs.StripMeshes.{some_cell, strip_runs, holds_named, first_of}
+use Rattle.mesh_types.specs.StripPolygons.{some_cell, strip_runs, first_of}
+use Rattle.mesh_types.specs.StripLinks.{holds_named}
 use Rattle.mesh_types.specs.Regions.{numbers, run_of, is_touching, touches_only, are_connected, joins}
 use Rattle.mesh_types.proofs.Words.{has_column}
 use Rattle.mono_regions.specs.declared.seen.Seen.TheVariants.{Nothing}

@@ -10,7 +10,7 @@ use Rattle.nav_ground.proofs.Directions.{both_equal}
 use Rattle.nav_ground.proofs.Selections.{list_any-map}
 use Rattle.mesh_types.specs.declared.strip.Strip.{Strip}
 use Rattle.mesh_types.specs.Strips.{strip_of}
-use Rattle.mesh_types.specs.StripMeshes.{some_cell, strip_runs, first_of}
+use Rattle.mesh_types.specs.StripPolygons.{some_cell, strip_runs, first_of}
 use Rattle.mesh_types.specs.Regions.{run_of, is_touching, joins, IsUpon, IsStrip}
 use Rattle.mono_regions.specs.Indices.{cell_at, level_at, firsts_below, strip_at}
 use Rattle.mono_regions.specs.Seeing.{beyond}

@@ -10,7 +10,7 @@ use Rattle.nav_ground.specs.declared.cell.Cell.{Cell}
 use Rattle.nav_ground.specs.Cells.{IsCells, IsCut}
 use Rattle.cell_table.proofs.Places.{same_test}
 use Rattle.mesh_types.specs.Strips.{is_followed_by, run_from, strip_cells}
-use Rattle.mesh_types.specs.StripMeshes.{some_cell}
+use Rattle.mesh_types.specs.StripPolygons.{some_cell}
 use Rattle.mono_regions.specs.Indices.{cell_at, along, indices_from, run_at, has_index}
 use Rattle.mono_regions.proofs.Chains.{along_after, follows_back}
 

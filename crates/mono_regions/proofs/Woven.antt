@@ -14,7 +14,7 @@ use Rattle.nav_ground.proofs.Selections.{list_any-map}
 use Rattle.cell_table.proofs.Tables.{one_index}
 use Rattle.mesh_types.specs.declared.strip.Strip.{Strip}
 use Rattle.mesh_types.specs.declared.region.Region.{Region}
-use Rattle.mesh_types.specs.StripMeshes.{some_cell, strip_runs}
+use Rattle.mesh_types.specs.StripPolygons.{some_cell, strip_runs}
 use Rattle.mesh_types.specs.Regions.{joins, regions_of, place_in, IsIn, IsWoven}
 use Rattle.mono_regions.specs.Indices.{cell_at, level_at, strip_at}
 use Rattle.mono_regions.specs.Seeing.{beyond}

@@ -2,7 +2,8 @@
 use Rattle.std.specs.Prelude.{ℕ, ◌<◌, ⊤, Bool, false, ◌==◌, if◌then◌else◌, List, Option, Some, None}
 use Rattle.std.specs.List.{fold, position}
 use Rattle.nav_ground.specs.declared.cell.Cell.{Cell}
-use Rattle.mesh_types.specs.StripMeshes.{strip_runs, holds_named}
+use Rattle.mesh_types.specs.StripPolygons.{strip_runs}
+use Rattle.mesh_types.specs.StripLinks.{holds_named}
 use Rattle.mono_regions.specs.declared.seen.Seen.{Seen}
 use Rattle.mono_regions.specs.declared.seen.Seen.TheVariants.{Nothing, One, Several}
 use Rattle.mono_regions.specs.Indices.{cell_at}

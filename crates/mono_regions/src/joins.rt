@@ -2,7 +2,7 @@
 
 ghost use Rattle.std.specs.Prelude.{◌≡◌, ◌<◌, ◌&&◌, IsTrue, IfOk, length, map};
 ghost use Rattle.std.specs.List.{list_all};
-ghost use Rattle.mesh_types.specs.StripMeshes.{strip_runs};
+ghost use Rattle.mesh_types.specs.StripPolygons.{strip_runs};
 ghost use Rattle.mesh_types.specs.Regions.{numbers, joins};
 ghost use Rattle.mono_regions.specs.Indices.{AreIndices};
 ghost use Rattle.mono_regions.specs.Seeing.{is_one, IsSeenAmong};

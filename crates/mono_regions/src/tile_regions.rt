@@ -2,7 +2,7 @@
 
 ghost use Rattle.std.specs.Prelude.{◌≡◌, ◌<◌, IfOk, length, map};
 ghost use Rattle.nav_ground.specs.Cells.{IsCut};
-ghost use Rattle.mesh_types.specs.StripMeshes.{strip_runs};
+ghost use Rattle.mesh_types.specs.StripPolygons.{strip_runs};
 ghost use Rattle.mesh_types.specs.Regions.{numbers, chain_from, region_of, regions_of, AreRegionsOf};
 ghost use Rattle.mono_regions.specs.Joining.{IsTableOf, joined_from, touched_from};
 

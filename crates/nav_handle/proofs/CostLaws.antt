@@ -6,7 +6,8 @@ use Rattle.mesh_types.specs.declared.links.Link.{Link}
 use Rattle.mesh_types.specs.declared.mesh.Mesh.{Mesh}
 use Rattle.mesh_types.specs.declared.tile.RimEdge.{RimEdge}
 use Rattle.mesh_types.specs.declared.tile.TileMesh.{TileMesh}
-use Rattle.mesh_types.specs.Soundness.{IsSound, IsFit, IsRimOf, IsCrossLink}
+use Rattle.mesh_types.specs.Soundness.{IsSound, IsCrossLink}
+use Rattle.mesh_types.specs.FitTiles.{IsFit, IsRimOf}
 use Rattle.nav_handle.specs.Views.{with_costs}
 
 module _ (setting : Setting) (costs : List ℕ) where

@@ -10,7 +10,8 @@ use Rattle.std.proofs.lemmas.List.Kept.{AllPairs-cons}
 use Rattle.nav_ground.specs.declared.setting.Setting.{Setting}
 use Rattle.nav_ground.specs.Tiling.{tile_count}
 use Rattle.mesh_types.specs.declared.tile.TileMesh.{TileMesh}
-use Rattle.mesh_types.specs.Soundness.{AreTiles, IsFit}
+use Rattle.mesh_types.specs.Soundness.{AreTiles}
+use Rattle.mesh_types.specs.FitTiles.{IsFit}
 use Rattle.tile_links.specs.NewTiles.{New, AreNew, AreRising, new_tile, tile_after, tiles_after}
 use Rattle.nav_level.specs.Fresh.{news_from, news_of}
 

@@ -21,7 +21,8 @@ use Rattle.mesh_types.specs.declared.tile.TileMesh.{TileMesh}
 use Rattle.nav_ground.specs.CellColumns.{AreOrdered, is_in_column}
 use Rattle.mesh_types.specs.Floors.{floors_at}
 use Rattle.mesh_types.specs.Words.{column_of, floor_of, free_of}
-use Rattle.mesh_types.specs.Soundness.{IsFit, IsSound}
+use Rattle.mesh_types.specs.FitTiles.{IsFit}
+use Rattle.mesh_types.specs.Soundness.{IsSound}
 
 -- lists that are all empty, and lists of which one may not be empty
 flat_map_none : {X Y : Type 0} (f : X → List Y) (xs : List X) → All (λ x. f x ≡ []) xs → flat_map f xs ≡ []

@@ -31,7 +31,9 @@ use Rattle.mesh_types.specs.Corridors.{IsCheapest, IsLinkOf}
 use Rattle.mesh_types.specs.Folds.{IsUnfolded}
 use Rattle.mesh_types.specs.Passages.{IsTwoWay, reverse_of}
 use Rattle.mesh_types.specs.Right.{IsRight, IsRightPath, portals_of}
-use Rattle.mesh_types.specs.Soundness.{AreTiles, IsFit, IsPortalOut, IsSound}
+use Rattle.mesh_types.specs.Soundness.{AreTiles, IsSound}
+use Rattle.mesh_types.specs.FitTiles.{IsFit}
+use Rattle.mesh_types.specs.Portals.{IsPortalOut}
 use Rattle.mesh_types.specs.WholeMesh.{mesh_of, poly_at}
 use Rattle.mesh_types.proofs.LinkTotals.{HasFewLinks}
 use Rattle.mesh_types.proofs.MeshLinks.{leads}

@@ -13,7 +13,8 @@ use Rattle.mesh_types.specs.Chains.{IsChain}
 use Rattle.mesh_types.specs.Corridors.{WalksTo}
 use Rattle.mesh_types.specs.Right.{portals_of}
 use Rattle.mesh_types.specs.Soundness.{IsSound}
-use Rattle.mesh_types.specs.Taut.{IsTaut, some_corner}
+use Rattle.mesh_types.specs.Taut.{IsTaut}
+use Rattle.mesh_types.specs.Bends.{some_corner}
 use Rattle.mesh_types.proofs.MeshLinks.{IsHeldIn, held_in}
 use Rattle.mesh_types.proofs.WalkChains.{HasEnds, held_in_coordinates, walk_is_chain, walk_ends}
 use Rattle.mesh_types.proofs.WalkChains.{walk_push}

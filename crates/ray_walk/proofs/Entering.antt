@@ -19,7 +19,8 @@ use Rattle.mesh_types.specs.declared.polygon.Polygon.{Polygon}
 use Rattle.mesh_types.specs.Corridors.{IsLinkOf}
 use Rattle.mesh_types.specs.Rays.{exit_den, side_of, IsExit, IsHeldAt, Meets}
 use Rattle.mesh_types.specs.Words.{exit_num}
-use Rattle.mesh_types.specs.Soundness.{edge_begin, edge_end, along, LiesAlong, IsPortalOut, IsSound}
+use Rattle.mesh_types.specs.Portals.{edge_begin, edge_end, along, LiesAlong, IsPortalOut}
+use Rattle.mesh_types.specs.Soundness.{IsSound}
 use Rattle.mesh_types.specs.WholeMesh.{poly_at}
 use Rattle.mesh_types.proofs.MeshLinks.{leads}
 use Rattle.mesh_types.proofs.MeshPolygons.{placed}

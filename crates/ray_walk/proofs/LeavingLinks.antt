@@ -13,7 +13,9 @@ use Rattle.mesh_types.specs.declared.tile.TileMesh.{TileMesh}
 use Rattle.mesh_types.specs.declared.mesh.Mesh.{Mesh}
 use Rattle.mesh_types.specs.LinkIndex.{leaving_of}
 use Rattle.mesh_types.specs.Corridors.{IsLinkOf}
-use Rattle.mesh_types.specs.Soundness.{IsInnerLink, IsCrossLink, IsPortalOut, IsSound}
+use Rattle.mesh_types.specs.FitTiles.{IsInnerLink}
+use Rattle.mesh_types.specs.Soundness.{IsCrossLink, IsSound}
+use Rattle.mesh_types.specs.Portals.{IsPortalOut}
 use Rattle.mesh_types.specs.WholeMesh.{poly_at}
 use Rattle.mesh_types.proofs.MeshLinks.{leads, ends_left}
 use Rattle.mesh_types.proofs.MeshPolygons.{tile_at, placed}

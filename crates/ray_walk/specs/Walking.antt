@@ -17,7 +17,7 @@ use Rattle.mesh_types.specs.LinkIndex.{leaving_of}
 use Rattle.mesh_types.specs.LinkOrder.{link_cmp}
 use Rattle.mesh_types.specs.Rays.{side_of, exit_den, IsExit, IsLeastExit, IsFirstExit, Meets}
 use Rattle.mesh_types.specs.Words.{exit_num}
-use Rattle.mesh_types.specs.Soundness.{edge_begin, edge_end}
+use Rattle.mesh_types.specs.Portals.{edge_begin, edge_end}
 use Rattle.mesh_types.specs.WholeMesh.{poly_at}
 use Rattle.ray_walk.specs.declared.ray.Ray.{Ray}
 use Rattle.ray_walk.specs.declared.ray.Exit.{Exit}

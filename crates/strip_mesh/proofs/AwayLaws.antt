@@ -8,7 +8,8 @@ use Rattle.std.proofs.lemmas.Option.{none-some}
 use Rattle.nav_ground.specs.declared.cell.Cell.{Cell}
 use Rattle.nav_ground.specs.declared.cell.Window.{Window}
 use Rattle.mesh_types.specs.Runs.{runs_of, label_if}
-use Rattle.mesh_types.specs.StripMeshes.{first_of, is_at_side, is_crossing, some_cell}
+use Rattle.mesh_types.specs.StripPolygons.{first_of, some_cell}
+use Rattle.mesh_types.specs.Crossings.{is_at_side, is_crossing}
 use Rattle.mesh_types.proofs.RunLaws.{runs_are_runs}
 use Rattle.strip_mesh.specs.Strips.{last_of}
 use Rattle.strip_mesh.proofs.RowLaws.{IsRow}

@@ -9,7 +9,7 @@ use Rattle.std.proofs.lemmas.List.Kept.{AllPairs-cons}
 use Rattle.std.proofs.lemmas.List.Sums.{sum_by-cons}
 use Rattle.nav_ground.specs.declared.cell.Cell.{Cell}
 use Rattle.nav_ground.specs.Cells.{IsCells, IsCut}
-use Rattle.mesh_types.specs.StripMeshes.{some_cell, strip_runs}
+use Rattle.mesh_types.specs.StripPolygons.{some_cell, strip_runs}
 use Rattle.mesh_types.proofs.Totals.{sum_by-map, sum_by-range_no_more, sum_by-shared, sum_by-numbers, once_in_range}
 use Rattle.mono_regions.specs.Indices.{cell_at, along, indices_from, firsts_below, index_runs, owner_of}
 use Rattle.mono_regions.proofs.Chains.{along_after}

@@ -10,7 +10,7 @@ use Rattle.nav_base.proofs.Signs.{product-not_negative, factor-not_negative}
 use Rattle.nav_ground.specs.declared.cell.Cell.{Cell}
 use Rattle.mesh_types.specs.Located.{Holds}
 use Rattle.mesh_types.specs.StripCover.{IsInColumn, HoldsColumn, HoldsColumnsOf}
-use Rattle.mesh_types.specs.StripMeshes.{some_cell, sixteenths, first_of, strip_polygon}
+use Rattle.mesh_types.specs.StripPolygons.{some_cell, sixteenths, first_of, strip_polygon}
 use Rattle.strip_mesh.proofs.Rectangles.{point, q₀, q₁, q₂, q₃, not_negative_difference, positive_difference, sixteen_lt}
 use Rattle.strip_mesh.proofs.RowLaws.{IsRow}
 

@@ -19,8 +19,10 @@ use Rattle.mesh_types.specs.declared.links.Link.{Link}
 use Rattle.mesh_types.specs.declared.links.Portal.{Portal}
 use Rattle.mesh_types.specs.Passages.{AreTwoWay, HasReverse, LinksConnected}
 use Rattle.mesh_types.specs.Runs.{runs_of}
-use Rattle.mesh_types.specs.Soundness.{LiesAlong}
-use Rattle.mesh_types.specs.StripMeshes.{some_cell, sixteenths, first_of, holds_named, strip_runs, strip_beyond, strip_link, strip_links, strip_links_over, strip_mesh_of, edge_portal, outside_of}
+use Rattle.mesh_types.specs.Portals.{LiesAlong}
+use Rattle.mesh_types.specs.StripPolygons.{some_cell, sixteenths, first_of, strip_runs}
+use Rattle.mesh_types.specs.StripLinks.{holds_named, strip_beyond, strip_link, strip_links, strip_links_over, edge_portal, outside_of}
+use Rattle.mesh_types.specs.StripMeshes.{strip_mesh_of}
 use Rattle.mesh_types.proofs.Gathered.{gathered_all, gathered_held, Contains-map}
 use Rattle.mesh_types.proofs.LinksInOrder.{All-ordered_links, Contains-ordered_links}
 use Rattle.mesh_types.proofs.MaximalRuns.{IsMaximal, AreMirrored, run_found, runs_are_maximal, maximal_listed, mirrored_run}

@@ -10,7 +10,10 @@ use Rattle.cell_table.proofs.Tables.{table_at}
 use Rattle.mesh_types.specs.declared.label_runs.Run.{Run}
 use Rattle.mesh_types.specs.declared.tile.LevelPair.{LevelPair}
 use Rattle.mesh_types.specs.declared.tile.RimEdge.{RimEdge}
-use Rattle.mesh_types.specs.StripMeshes.{some_cell, strip_beyond, first_of, position_of, level_pair, rim_edge}
+use Rattle.mesh_types.specs.StripPolygons.{some_cell, first_of}
+use Rattle.mesh_types.specs.StripLinks.{strip_beyond}
+use Rattle.mesh_types.specs.Crossings.{position_of, level_pair}
+use Rattle.mesh_types.specs.StripRim.{rim_edge}
 use Rattle.mono_regions.specs.Indices.{cell_at, index_runs, AreIndices, owner_of}
 use Rattle.mono_regions.proofs.Owners.{run_count, few_firsts}
 use Rattle.mono_regions.proofs.RunLaws.{map-map, runs_are, runs_indices}

@@ -9,7 +9,8 @@ use Rattle.nav_ground.specs.declared.cell.FreeLayer.{FreeLayer}
 use Rattle.nav_ground.specs.Cells.{IsCut}
 use Rattle.cell_table.proofs.Tables.{one_index}
 use Rattle.mesh_types.specs.StripCover.{IsInOne, HoldsColumnsOf, CoversCells}
-use Rattle.mesh_types.specs.StripMeshes.{some_cell, strip_runs, strip_polygon, strip_mesh_of}
+use Rattle.mesh_types.specs.StripPolygons.{some_cell, strip_runs, strip_polygon}
+use Rattle.mesh_types.specs.StripMeshes.{strip_mesh_of}
 use Rattle.mono_regions.specs.Indices.{cell_at, index_runs, owner_of}
 use Rattle.mono_regions.proofs.Owners.{owner_there}
 use Rattle.mono_regions.proofs.Scans.{any_where}

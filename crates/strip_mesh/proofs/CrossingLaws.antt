@@ -16,7 +16,11 @@ use Rattle.mesh_types.specs.declared.tile.LevelPair.{LevelPair}
 use Rattle.mesh_types.specs.declared.tile.RimEdge.{RimEdge}
 use Rattle.mesh_types.specs.Passages.{ListsCrossings, is_listing}
 use Rattle.mesh_types.specs.Runs.{label_if, runs_of}
-use Rattle.mesh_types.specs.StripMeshes.{some_cell, strip_runs, strip_rim, strip_rim_over, strip_mesh_of, rim_edge, level_pair, is_crossing, position_of, outside_of}
+use Rattle.mesh_types.specs.StripPolygons.{some_cell, strip_runs}
+use Rattle.mesh_types.specs.StripRim.{strip_rim, strip_rim_over, rim_edge}
+use Rattle.mesh_types.specs.StripMeshes.{strip_mesh_of}
+use Rattle.mesh_types.specs.Crossings.{level_pair, is_crossing, position_of}
+use Rattle.mesh_types.specs.StripLinks.{outside_of}
 use Rattle.mesh_types.proofs.Gathered.{gathered_held, Contains-map}
 use Rattle.mesh_types.proofs.Listings.{entry_lists, listed_once}
 use Rattle.mesh_types.proofs.MaximalRuns.{run_found}

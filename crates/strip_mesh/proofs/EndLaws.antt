@@ -9,7 +9,8 @@ use Rattle.nav_ground.specs.Cells.{IsCut}
 use Rattle.mesh_types.specs.declared.label_runs.Run.{Run}
 use Rattle.mesh_types.specs.declared.links.Link.{Link}
 use Rattle.mesh_types.specs.Runs.{runs_of, run_with, has_label}
-use Rattle.mesh_types.specs.StripMeshes.{strip_runs, strip_beyond, strip_link, strip_links_over, outside_of, some_cell}
+use Rattle.mesh_types.specs.StripPolygons.{strip_runs, some_cell}
+use Rattle.mesh_types.specs.StripLinks.{strip_beyond, strip_link, strip_links_over, outside_of}
 use Rattle.mono_regions.specs.Indices.{cell_at}
 use Rattle.strip_mesh.specs.Strips.{MeetsOthersAt}
 use Rattle.strip_mesh.proofs.AwayLaws.{no_runs}

@@ -15,8 +15,12 @@ use Rattle.mesh_types.specs.declared.polygon.Polygon.{Polygon}
 use Rattle.mesh_types.specs.declared.tile.RimEdge.{RimEdge}
 use Rattle.mesh_types.specs.declared.tile.TileMesh.{TileMesh}
 use Rattle.mesh_types.specs.Runs.{runs_of, label_if}
-use Rattle.mesh_types.specs.Soundness.{IsPolygon, IsInSquare, IsInnerLink, IsRimOf, IsFit}
-use Rattle.mesh_types.specs.StripMeshes.{strip_runs, strip_polygon, strip_beyond, strip_link, strip_links, strip_links_over, strip_rim, strip_rim_over, rim_edge, level_pair, is_crossing, outside_of, strip_mesh_of}
+use Rattle.mesh_types.specs.FitTiles.{IsPolygon, IsInSquare, IsInnerLink, IsRimOf, IsFit}
+use Rattle.mesh_types.specs.StripPolygons.{strip_runs, strip_polygon}
+use Rattle.mesh_types.specs.StripLinks.{strip_beyond, strip_link, strip_links, strip_links_over, outside_of}
+use Rattle.mesh_types.specs.StripRim.{strip_rim, strip_rim_over, rim_edge}
+use Rattle.mesh_types.specs.Crossings.{level_pair, is_crossing}
+use Rattle.mesh_types.specs.StripMeshes.{strip_mesh_of}
 use Rattle.mesh_types.proofs.RunLaws.{IsRunOf, runs_are_runs, part_length}
 use Rattle.mesh_types.proofs.LinksInOrder.{All-ordered_links}
 use Rattle.mesh_types.proofs.Gathered.{gathered_all}

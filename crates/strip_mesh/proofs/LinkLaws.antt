@@ -10,8 +10,9 @@ use Rattle.nav_ground.specs.Cells.{IsCut, is_naming, is_toward}
 use Rattle.nav_ground.proofs.Directions.{both_equal}
 use Rattle.mesh_types.specs.declared.label_runs.Run.{Run}
 use Rattle.mesh_types.specs.declared.polygon.Polygon.{Polygon}
-use Rattle.mesh_types.specs.Soundness.{LeadsThrough}
-use Rattle.mesh_types.specs.StripMeshes.{some_cell, first_of, strip_runs, strip_polygon, strip_beyond, strip_link, outside_of}
+use Rattle.mesh_types.specs.Portals.{LeadsThrough}
+use Rattle.mesh_types.specs.StripPolygons.{some_cell, first_of, strip_runs, strip_polygon}
+use Rattle.mesh_types.specs.StripLinks.{strip_beyond, strip_link, outside_of}
 use Rattle.mesh_types.proofs.RunLaws.{IsRunOf}
 use Rattle.strip_mesh.proofs.PortalLaws.{MeetsAt, LiesBeyond, portal_out, portal_in}
 use Rattle.strip_mesh.proofs.RowLaws.{IsRow, row_is, IsBeyond, beyond_found, own_ends_meet, own_named_back}

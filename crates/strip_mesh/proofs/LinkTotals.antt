@@ -14,7 +14,9 @@ use Rattle.nav_ground.proofs.Kept.{few_kept}
 use Rattle.mesh_types.specs.declared.links.Link.{Link}
 use Rattle.mesh_types.specs.Runs.{runs_of}
 use Rattle.mesh_types.specs.Strips.{begins_strip, strip_cells}
-use Rattle.mesh_types.specs.StripMeshes.{strip_runs, strip_polygon, strip_beyond, strip_link, strip_links_over, strip_links, outside_of, strip_mesh_of}
+use Rattle.mesh_types.specs.StripPolygons.{strip_runs, strip_polygon}
+use Rattle.mesh_types.specs.StripLinks.{strip_beyond, strip_link, strip_links_over, strip_links, outside_of}
+use Rattle.mesh_types.specs.StripMeshes.{strip_mesh_of}
 use Rattle.mesh_types.proofs.LinkTotals.{IsSmall, length-ordered_links}
 use Rattle.mesh_types.proofs.RunTotals.{few_runs}
 use Rattle.mesh_types.proofs.Totals.{sum_by-one, sum_by-shared, sum_by-numbers}

@@ -9,7 +9,7 @@ use Rattle.mesh_types.specs.declared.label_runs.Run.{Run}
 use Rattle.mesh_types.specs.declared.links.Link.{Link}
 use Rattle.mesh_types.specs.Runs.{runs_of}
 use Rattle.mesh_types.specs.LinkIndex.{AreOrderedLinks, AreBelow}
-use Rattle.mesh_types.specs.StripMeshes.{strip_beyond, strip_link, strip_links_over, strip_links, outside_of}
+use Rattle.mesh_types.specs.StripLinks.{strip_beyond, strip_link, strip_links_over, strip_links, outside_of}
 use Rattle.mesh_types.proofs.Gathered.{gathered_all}
 use Rattle.mesh_types.proofs.RunLaws.{runs_are_runs}
 use Rattle.mesh_types.proofs.LinksInOrder.{All-ordered_links, ordered_links-polygons}

@@ -9,8 +9,8 @@ use Rattle.nav_ground.specs.declared.cell.Cell.{Cell}
 use Rattle.nav_ground.specs.declared.cell.Window.{Window}
 use Rattle.nav_ground.specs.Cells.{IsCell}
 use Rattle.nav_ground.specs.Tiling.{IsInWindow}
-use Rattle.mesh_types.specs.Soundness.{IsPolygon, IsInSquare}
-use Rattle.mesh_types.specs.StripMeshes.{some_cell, first_of, corner, strip_polygon}
+use Rattle.mesh_types.specs.FitTiles.{IsPolygon, IsInSquare}
+use Rattle.mesh_types.specs.StripPolygons.{some_cell, first_of, corner, strip_polygon}
 use Rattle.mesh_types.proofs.FloorLaws.{low_first, high_small}
 use Rattle.strip_mesh.proofs.Rectangles.{rectangle_convex}
 use Rattle.strip_mesh.proofs.RowLaws.{IsRow}

@@ -1,8 +1,9 @@
 -- The portals of links between strips lie on the edges of both rectangles.
 use Rattle.std.proofs.Common.{◌≡◌, ℕ, ◌+◌, ◌-◌, ◌<◌, ◌≤◌, List, length, subst, arith, zero, suc}
 use Rattle.nav_ground.specs.declared.cell.Cell.{Cell}
-use Rattle.mesh_types.specs.Soundness.{IsPortalOut, IsPortalIn, LiesAlong}
-use Rattle.mesh_types.specs.StripMeshes.{sixteenths, first_of, strip_polygon, edge_portal}
+use Rattle.mesh_types.specs.Portals.{IsPortalOut, IsPortalIn, LiesAlong}
+use Rattle.mesh_types.specs.StripPolygons.{sixteenths, first_of, strip_polygon}
+use Rattle.mesh_types.specs.StripLinks.{edge_portal}
 use Rattle.strip_mesh.proofs.Rectangles.{toward_right, toward_top, toward_left, toward_bottom}
 
 -- where a part of a strip's cells is that meets another over an edge

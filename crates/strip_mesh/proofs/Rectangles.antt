@@ -7,8 +7,8 @@ use Rattle.nav_base.specs.Convex.{IsStrictlyConvex, LiesLeft}
 use Rattle.nav_base.proofs.Polynomials.{Term, at, number, sum, difference, product, equal}
 use Rattle.nav_base.proofs.PointTerms.{Place, orient_term, dot_term, from_to_term}
 use Rattle.nav_base.proofs.Signs.{product-not_negative, product-positive}
-use Rattle.mesh_types.specs.Soundness.{LiesAlong, along}
-use Rattle.mesh_types.specs.StripMeshes.{sixteenths}
+use Rattle.mesh_types.specs.Portals.{LiesAlong, along}
+use Rattle.mesh_types.specs.StripPolygons.{sixteenths}
 
 abbrev pub point : ℤ → ℤ → Point
 point x z = record { x = x; z = z }

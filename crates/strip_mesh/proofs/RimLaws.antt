@@ -10,8 +10,10 @@ use Rattle.nav_ground.specs.declared.cell.Window.{Window}
 use Rattle.nav_ground.specs.Tiling.{IsInWindow}
 use Rattle.mesh_types.specs.declared.label_runs.Run.{Run}
 use Rattle.mesh_types.specs.Runs.{label_if}
-use Rattle.mesh_types.specs.Soundness.{LiesOnSide, RunsOver}
-use Rattle.mesh_types.specs.StripMeshes.{some_cell, first_of, strip_polygon, is_at_side, is_crossing, position_of, outside_of}
+use Rattle.mesh_types.specs.FitTiles.{LiesOnSide, RunsOver}
+use Rattle.mesh_types.specs.StripPolygons.{some_cell, first_of, strip_polygon}
+use Rattle.mesh_types.specs.Crossings.{is_at_side, is_crossing, position_of}
+use Rattle.mesh_types.specs.StripLinks.{outside_of}
 use Rattle.mesh_types.proofs.RunLaws.{IsRunOf, labelled_true}
 use Rattle.mesh_types.proofs.SidePlaces.{at_most, squeezed}
 use Rattle.strip_mesh.proofs.RowLaws.{IsRow}

@@ -16,7 +16,10 @@ use Rattle.mesh_types.specs.declared.tile.LevelPair.{LevelPair}
 use Rattle.mesh_types.specs.declared.tile.RimEdge.{RimEdge}
 use Rattle.mesh_types.specs.Runs.{runs_of, label_if}
 use Rattle.mesh_types.specs.BorderLinks.{along_side}
-use Rattle.mesh_types.specs.StripMeshes.{some_cell, strip_runs, strip_rim, strip_rim_over, rim_edge, level_pair, is_crossing, is_at_side, position_of, outside_of}
+use Rattle.mesh_types.specs.StripPolygons.{some_cell, strip_runs}
+use Rattle.mesh_types.specs.StripRim.{strip_rim, strip_rim_over, rim_edge}
+use Rattle.mesh_types.specs.Crossings.{level_pair, is_crossing, is_at_side, position_of}
+use Rattle.mesh_types.specs.StripLinks.{outside_of}
 use Rattle.mesh_types.proofs.LinkTotals.{is_named, named_pair}
 use Rattle.mesh_types.proofs.RunLaws.{IsRunOf, runs_are_runs, part_length}
 use Rattle.mesh_types.proofs.RunTotals.{runs_within}

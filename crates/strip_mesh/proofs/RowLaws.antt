@@ -10,7 +10,8 @@ use Rattle.std.proofs.lemmas.List.Quantifiers.{position-Some}
 use Rattle.std.proofs.lemmas.Option.{option_and_then_some}
 use Rattle.nav_ground.specs.declared.cell.Cell.{Cell}
 use Rattle.nav_ground.specs.Cells.{IsCell, IsCells, IsCut, is_naming, opposite}
-use Rattle.mesh_types.specs.StripMeshes.{some_cell, first_of, strip_runs, strip_beyond, holds_named}
+use Rattle.mesh_types.specs.StripPolygons.{some_cell, first_of, strip_runs}
+use Rattle.mesh_types.specs.StripLinks.{strip_beyond, holds_named}
 use Rattle.mono_regions.specs.Indices.{cell_at, index_runs, AreIndices}
 use Rattle.mono_regions.proofs.RunLaws.{runs_are, runs_indices}
 use Rattle.mono_regions.proofs.StripLaws.{run_columns, ends_meet}

@@ -6,7 +6,7 @@ use Rattle.std.proofs.lemmas.List.{map_more, take_all, flat_map_more, append_ass
 use Rattle.std.proofs.lemmas.List.Folds.{fold-map}
 use Rattle.nav_ground.specs.declared.cell.Cell.{Cell}
 use Rattle.nav_ground.proofs.Selections.{range-push}
-use Rattle.mesh_types.specs.StripMeshes.{low_of, high_of}
+use Rattle.mesh_types.specs.StripPolygons.{low_of, high_of}
 use Rattle.mono_regions.specs.Indices.{cell_at}
 use Rattle.mono_regions.proofs.RunLaws.{map-map}
 use Rattle.strip_mesh.proofs.Counts.{first_is}

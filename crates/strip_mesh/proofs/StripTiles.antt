@@ -5,7 +5,7 @@ use Rattle.nav_ground.specs.declared.cell.FreeLayer.{FreeLayer}
 use Rattle.nav_ground.specs.Cells.{IsInTile}
 use Rattle.mesh_types.specs.declared.tile.TileMesh.{TileMesh}
 use Rattle.mesh_types.specs.Passages.{AreTwoWay, LinksConnected, ListsCrossings}
-use Rattle.mesh_types.specs.Soundness.{IsFit}
+use Rattle.mesh_types.specs.FitTiles.{IsFit}
 use Rattle.mesh_types.specs.StripCover.{CoversCells, IsOfStrips}
 use Rattle.mesh_types.specs.StripMeshes.{strip_mesh_of}
 use Rattle.strip_mesh.proofs.ConnectionLaws.{strips_linked, strips_back}

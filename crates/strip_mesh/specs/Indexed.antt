@@ -4,7 +4,7 @@ use Rattle.std.specs.List.{range_with_len}
 use Rattle.nav_ground.specs.declared.cell.Cell.{Cell}
 use Rattle.nav_ground.specs.Cells.{IsCut}
 use Rattle.cell_table.specs.Table.{neighbour_table}
-use Rattle.mesh_types.specs.StripMeshes.{strip_runs}
+use Rattle.mesh_types.specs.StripPolygons.{strip_runs}
 use Rattle.mono_regions.specs.Indices.{index_runs, owner_of}
 use Rattle.strip_mesh.specs.declared.tile_strips.TileStrips.{TileStrips}
 

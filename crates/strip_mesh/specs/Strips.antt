@@ -6,7 +6,9 @@ use Rattle.mesh_types.specs.declared.polygon.Polygon.{Polygon}
 use Rattle.mesh_types.specs.declared.tile.LevelPair.{LevelPair}
 use Rattle.mesh_types.specs.declared.label_runs.Run.{Run}
 use Rattle.mesh_types.specs.Runs.{has_label}
-use Rattle.mesh_types.specs.StripMeshes.{strip_polygon, strip_beyond, level_pair, outside_of, some_cell}
+use Rattle.mesh_types.specs.StripPolygons.{strip_polygon, some_cell}
+use Rattle.mesh_types.specs.StripLinks.{strip_beyond, outside_of}
+use Rattle.mesh_types.specs.Crossings.{level_pair}
 use Rattle.mono_regions.specs.Indices.{cell_at}
 
 -- the rectangle of the cells with indices

@@ -4,9 +4,12 @@ ghost use Rattle.std.specs.Prelude.{◌≡◌, IfOk, map};
 ghost use Rattle.nav_ground.specs.Limits.{IsSetting};
 ghost use Rattle.nav_ground.specs.Cells.{IsCut, IsInTile};
 ghost use Rattle.mesh_types.specs.Passages.{AreTwoWay, LinksConnected, ListsCrossings};
-ghost use Rattle.mesh_types.specs.Soundness.{IsFit};
+ghost use Rattle.mesh_types.specs.FitTiles.{IsFit};
 ghost use Rattle.mesh_types.specs.StripCover.{CoversCells};
-ghost use Rattle.mesh_types.specs.StripMeshes.{strip_polygon, strip_links, strip_rim, strip_mesh_of};
+ghost use Rattle.mesh_types.specs.StripPolygons.{strip_polygon};
+ghost use Rattle.mesh_types.specs.StripLinks.{strip_links};
+ghost use Rattle.mesh_types.specs.StripRim.{strip_rim};
+ghost use Rattle.mesh_types.specs.StripMeshes.{strip_mesh_of};
 ghost use Rattle.mono_regions.specs.Joining.{IsTableOf};
 ghost use Rattle.strip_mesh.specs.Indexed.{AreIndexed, runs_in};
 

@@ -3,7 +3,7 @@
 ghost use Rattle.std.specs.Prelude.{◌≡◌, ◌<◌, ◌≤◌, ◌+◌, ◌++◌, [], None, IfOk, OnOk, drop, get_or, length, map};
 ghost use Rattle.std.specs.List.{cons_option, flat_map, prefix_len, range_with_len};
 ghost use Rattle.mesh_types.specs.Runs.{has_label};
-ghost use Rattle.mesh_types.specs.StripMeshes.{strip_link, strip_links, strip_links_over, outside_of};
+ghost use Rattle.mesh_types.specs.StripLinks.{strip_link, strip_links, strip_links_over, outside_of};
 ghost use Rattle.strip_mesh.specs.Indexed.{AreIndexed, runs_in, run_in};
 ghost use Rattle.strip_mesh.specs.Strips.{MeetsOthersAt, behind, part_with, strips_over};
 

@@ -2,7 +2,7 @@
 
 ghost use Rattle.std.specs.Prelude.{◌≡◌, IfOk, map};
 ghost use Rattle.nav_ground.specs.Cells.{IsCells};
-ghost use Rattle.mesh_types.specs.StripMeshes.{strip_polygon, low_of, high_of};
+ghost use Rattle.mesh_types.specs.StripPolygons.{strip_polygon, low_of, high_of};
 ghost use Rattle.mono_regions.specs.Indices.{cell_at, AreIndices};
 ghost use Rattle.strip_mesh.specs.Indexed.{AreIndexed, runs_in};
 ghost use Rattle.strip_mesh.specs.Strips.{polygon_at};

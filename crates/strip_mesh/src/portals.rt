@@ -1,7 +1,8 @@
 //! Corners of rectangles, and portals over their edges.
 
 ghost use Rattle.std.specs.Prelude.{◌≡◌, ◌<◌, ◌≤◌};
-ghost use Rattle.mesh_types.specs.StripMeshes.{corner, sixteenths, edge_portal};
+ghost use Rattle.mesh_types.specs.StripPolygons.{corner, sixteenths};
+ghost use Rattle.mesh_types.specs.StripLinks.{edge_portal};
 
 use mesh_types::Portal;
 use nav_base::Point;

@@ -4,7 +4,10 @@ ghost use Rattle.std.specs.Prelude.{◌≡◌, ◌<◌, ◌≤◌, ◌+◌, ◌+
 ghost use Rattle.std.specs.List.{between, flat_map, range_with_len};
 ghost use Rattle.nav_ground.specs.declared.cell.Cell.{Cell};
 ghost use Rattle.nav_ground.specs.Cells.{IsCell, IsCells};
-ghost use Rattle.mesh_types.specs.StripMeshes.{strip_rim, strip_rim_over, is_crossing, outside_of, some_cell};
+ghost use Rattle.mesh_types.specs.StripRim.{strip_rim, strip_rim_over};
+ghost use Rattle.mesh_types.specs.Crossings.{is_crossing};
+ghost use Rattle.mesh_types.specs.StripLinks.{outside_of};
+ghost use Rattle.mesh_types.specs.StripPolygons.{some_cell};
 ghost use Rattle.mesh_types.specs.Runs.{label_if, runs_of};
 ghost use Rattle.mono_regions.specs.Indices.{cell_at, AreIndices};
 ghost use Rattle.strip_mesh.specs.Indexed.{AreIndexed, runs_in, run_in};
@@ -138,7 +141,7 @@ fn label(window: &Window, dir: u32, cell: &SmallCell) -> Option<u32>
 fn is_at_side(window: &Window, dir: u32, at: CellRef) -> bool
     requires x { at.x < 1024 }
     requires z { at.z < 1024 }
-    ensures { result ≡ Rattle.mesh_types.specs.StripMeshes.is_at_side window.now dir at }
+    ensures { result ≡ Rattle.mesh_types.specs.Crossings.is_at_side window.now dir at }
 {
     match dir {
         0 => at.x as i32 <= window.x0,
@@ -161,7 +164,7 @@ fn rim_edge(
     requires edge { edge < 4 }
     requires order { part.first ≤ part.last }
     requires inside { part.last < length (run_in strips.now strip) }
-    ensures { IfOk result (λ entry. entry ≡ Rattle.mesh_types.specs.StripMeshes.rim_edge strip edge (run_in strips.now strip) part) }
+    ensures { IfOk result (λ entry. entry ≡ Rattle.mesh_types.specs.StripRim.rim_edge strip edge (run_in strips.now strip) part) }
 {
     let cells = strips.free.cells.as_slice();
     let side = 3 - edge;
@@ -199,7 +202,7 @@ fn between(run: &[u32], first: usize, end: usize) -> &[u32]
 
 /// The position of a place along a side of a tile: z on the sides 0 and 2, x on the sides 1 and 3.
 fn position_of(side: u32, at: CellRef) -> u32
-    ensures { result ≡ Rattle.mesh_types.specs.StripMeshes.position_of side at }
+    ensures { result ≡ Rattle.mesh_types.specs.Crossings.position_of side at }
 {
     if side % 2 == 0 { at.z } else { at.x }
 }
@@ -226,7 +229,7 @@ fn pairs(
 /// The levels of a cell and of its neighbour across a side.
 fn level_pair(side: u32, cell: &SmallCell) -> LevelPair
     requires side { side < 4 }
-    ensures { result ≡ Rattle.mesh_types.specs.StripMeshes.level_pair side cell.now }
+    ensures { result ≡ Rattle.mesh_types.specs.Crossings.level_pair side cell.now }
 {
     LevelPair {
         own: cell.at().level,

@@ -19,7 +19,8 @@ pub struct TileStrips {
 
 impl TileStrips {
     ghost use Rattle.std.specs.Prelude.{◌≤◌, length, map};
-    ghost use Rattle.mesh_types.specs.StripMeshes.{strip_beyond, first_of};
+    ghost use Rattle.mesh_types.specs.StripLinks.{strip_beyond};
+    ghost use Rattle.mesh_types.specs.StripPolygons.{first_of};
     ghost use Rattle.mono_regions.specs.Indices.{cell_at, AreIndices};
     ghost use Rattle.mono_regions.specs.Joining.{IsTableOf};
     ghost use Rattle.strip_mesh.specs.Indexed.{AreIndexed, runs_in, run_in};

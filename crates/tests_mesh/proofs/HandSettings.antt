@@ -8,7 +8,7 @@ use Rattle.nav_base.specs.declared.point.Point.{Point}
 use Rattle.nav_base.specs.Point.{IsCellCorner, orient_of}
 use Rattle.nav_base.proofs.ConvexLaws.{IsStrictlyConvex-triangle}
 use Rattle.nav_ground.specs.Limits.{IsSetting, IsArea, is_cost}
-use Rattle.mesh_types.specs.Soundness.{IsPolygon, IsInSquare}
+use Rattle.mesh_types.specs.FitTiles.{IsPolygon, IsInSquare}
 use Rattle.tests_mesh.specs.HandSettings.{hand_setting, plain_setting, costly_setting, point, triangle}
 
 IsSetting-hand : (costs : List ℕ) → length costs ≡ 64 → IsTrue (list_all is_cost costs) → IsSetting (hand_setting costs)

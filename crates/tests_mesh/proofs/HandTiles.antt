@@ -14,7 +14,8 @@ use Rattle.nav_ground.specs.Tiling.{tile_count, tile_window}
 use Rattle.nav_ground.proofs.Literals.{IsCut-shown}
 use Rattle.mesh_types.specs.declared.polygon.Polygon.{Polygon}
 use Rattle.mesh_types.specs.declared.tile.TileMesh.{TileMesh}
-use Rattle.mesh_types.specs.Soundness.{IsPolygon, IsInSquare, IsRimOf, IsFit, AreTiles}
+use Rattle.mesh_types.specs.FitTiles.{IsPolygon, IsInSquare, IsRimOf, IsFit}
+use Rattle.mesh_types.specs.Soundness.{AreTiles}
 use Rattle.tests_mesh.specs.HandSettings.{plain_setting, point}
 use Rattle.tests_mesh.specs.TwoTiles.{hand_polygon, hand_tile, left_tile, right_tile, left_entry, lower_entry, upper_entry}
 use Rattle.tests_mesh.proofs.HandSettings.{four, corner, in_square}

@@ -10,7 +10,9 @@ use Rattle.nav_ground.proofs.Literals.{IsCut-shown}
 use Rattle.mesh_types.specs.declared.links.Link.{Link}
 use Rattle.mesh_types.specs.declared.polygon.Polygon.{Polygon}
 use Rattle.mesh_types.specs.declared.tile.TileMesh.{TileMesh}
-use Rattle.mesh_types.specs.Soundness.{IsPolygon, IsInSquare, IsFit, IsSound, IsInnerLink, IsCrossLink, IsPortalOut, IsPortalIn}
+use Rattle.mesh_types.specs.FitTiles.{IsPolygon, IsInSquare, IsFit, IsInnerLink}
+use Rattle.mesh_types.specs.Soundness.{IsSound, IsCrossLink}
+use Rattle.mesh_types.specs.Portals.{IsPortalOut, IsPortalIn}
 use Rattle.tests_mesh.specs.HandSettings.{costly_setting, point}
 use Rattle.tests_mesh.proofs.HandSettings.{three, corner, in_square, triangle_fits}
 use Rattle.tests_paths.specs.CorridorMesh.{left_lower, left_upper, right_lower, right_upper, down_link, border_link, up_link, left_tile, right_tile, hand_mesh}

@@ -14,7 +14,8 @@ use Rattle.nav_ground.specs.Limits.{IsShape}
 use Rattle.nav_ground.specs.Tiling.{tile_count}
 use Rattle.mesh_types.specs.declared.tile.TileMesh.{TileMesh}
 use Rattle.mesh_types.specs.Builds.{build_of}
-use Rattle.mesh_types.specs.Soundness.{AreTiles, IsFit, polygon_count}
+use Rattle.mesh_types.specs.Soundness.{AreTiles, polygon_count}
+use Rattle.mesh_types.specs.FitTiles.{IsFit}
 use Rattle.mesh_types.specs.WholeMesh.{mesh_of}
 use Rattle.tile_build.specs.Meshes.{tiles_under}
 use Rattle.tile_links.specs.NewTiles.{AreNew, New, tile_after, tiles_after}

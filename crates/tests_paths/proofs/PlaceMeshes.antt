@@ -10,7 +10,8 @@ use Rattle.nav_ground.proofs.Literals.{IsCut-shown}
 use Rattle.mesh_types.specs.declared.links.Link.{Link}
 use Rattle.mesh_types.specs.declared.polygon.Polygon.{Polygon}
 use Rattle.mesh_types.specs.declared.tile.TileMesh.{TileMesh}
-use Rattle.mesh_types.specs.Soundness.{IsPolygon, IsInSquare, IsFit, IsSound, IsCrossLink}
+use Rattle.mesh_types.specs.FitTiles.{IsPolygon, IsInSquare, IsFit}
+use Rattle.mesh_types.specs.Soundness.{IsSound, IsCrossLink}
 use Rattle.tests_mesh.specs.HandSettings.{plain_setting, point}
 use Rattle.tests_mesh.proofs.HandSettings.{three, corner, in_square, triangle_fits}
 use Rattle.tests_paths.specs.PlaceMesh.{hand_polygon, left_tile, right_tile, hand_mesh}

@@ -2,7 +2,8 @@
 
 ghost use Rattle.std.specs.Prelude.{◌≡◌, IfOk, IsTrue};
 ghost use Rattle.nav_ground.specs.Limits.{IsSetting};
-ghost use Rattle.mesh_types.specs.Soundness.{IsFit, IsSound};
+ghost use Rattle.mesh_types.specs.FitTiles.{IsFit};
+ghost use Rattle.mesh_types.specs.Soundness.{IsSound};
 ghost use Rattle.nav_query.specs.Questions.{IsAnswerable};
 
 use crate::chains::has_coordinates;

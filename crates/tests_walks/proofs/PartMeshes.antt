@@ -11,7 +11,8 @@ use Rattle.mesh_types.specs.declared.links.Link.{Link}
 use Rattle.mesh_types.specs.declared.polygon.Polygon.{Polygon}
 use Rattle.mesh_types.specs.declared.tile.TileMesh.{TileMesh}
 use Rattle.mesh_types.specs.Merging.{is_convex}
-use Rattle.mesh_types.specs.Soundness.{IsPolygon, IsInSquare, IsFit, IsSound, IsCrossLink}
+use Rattle.mesh_types.specs.FitTiles.{IsPolygon, IsInSquare, IsFit}
+use Rattle.mesh_types.specs.Soundness.{IsSound, IsCrossLink}
 use Rattle.mesh_types.proofs.MergeLaws.{is_convex-is}
 use Rattle.tests_walks.specs.PartMesh.{one_tile, point, flat, left_cell, right_cell, wedge, sliver, hand_tile, hand_mesh}
 

@@ -2,7 +2,8 @@
 
 ghost use Rattle.std.specs.Prelude.{◌≡◌, IfOk};
 ghost use Rattle.nav_base.specs.Point.{HasCoordinates, IsCoordinate};
-ghost use Rattle.mesh_types.specs.Soundness.{IsFit, IsSound};
+ghost use Rattle.mesh_types.specs.FitTiles.{IsFit};
+ghost use Rattle.mesh_types.specs.Soundness.{IsSound};
 
 use crate::rows::all_hold;
 use agent_walks::{Place, WalkAnswer, march_in, send_in};

@@ -16,7 +16,8 @@ use Rattle.nav_ground.proofs.FreeLayers.{free_layer_cut}
 use Rattle.nav_ground.proofs.LayerLaws.{IsLayerOf-from_ground, length-layers_of_ground, layer_of_ground}
 use Rattle.mesh_types.specs.declared.tile.TileMesh.{TileMesh}
 use Rattle.mesh_types.specs.Builds.{tile_mesh_of}
-use Rattle.mesh_types.specs.Soundness.{AreTiles, IsFit}
+use Rattle.mesh_types.specs.Soundness.{AreTiles}
+use Rattle.mesh_types.specs.FitTiles.{IsFit}
 use Rattle.mesh_types.proofs.TileMeshes.{mesh_of_tile}
 use Rattle.tile_build.specs.Meshes.{tiles_under}
 use Rattle.tile_build.proofs.BuildTotals.{few_polygons_of_tiles}

@@ -21,7 +21,8 @@ use Rattle.mesh_types.specs.declared.links.Portal.{Portal}
 use Rattle.mesh_types.specs.declared.tile.RimEdge.{RimEdge}
 use Rattle.mesh_types.specs.declared.tile.TileMesh.{TileMesh}
 use Rattle.mesh_types.specs.BorderLinks.{scaled}
-use Rattle.mesh_types.specs.Soundness.{IsFit, IsInnerLink, IsInSquare, IsPolygon, IsPortalIn, IsPortalOut, IsRimOf, LiesOnSide, edge_begin, edge_end}
+use Rattle.mesh_types.specs.FitTiles.{IsFit, IsInnerLink, IsInSquare, IsPolygon, IsRimOf, LiesOnSide}
+use Rattle.mesh_types.specs.Portals.{IsPortalIn, IsPortalOut, edge_begin, edge_end}
 use Rattle.mesh_types.proofs.HeldPoints.{orient_of-scaled}
 use Rattle.mesh_types.proofs.MeshLinks.{All-contained}
 use Rattle.mesh_types.proofs.MeshPolygons.{All-read}

@@ -14,7 +14,7 @@ use Rattle.nav_base.proofs.Signs.{factor-not_negative, factor-positive, factor-z
 use Rattle.mesh_types.specs.declared.polygon.Polygon.{Polygon}
 use Rattle.mesh_types.specs.declared.links.Portal.{Portal}
 use Rattle.mesh_types.specs.Chains.{IsFold}
-use Rattle.mesh_types.specs.Soundness.{IsPortalOut, LiesAlong, along, edge_begin, edge_end}
+use Rattle.mesh_types.specs.Portals.{IsPortalOut, LiesAlong, along, edge_begin, edge_end}
 use Rattle.mesh_types.proofs.HeldPoints.{orient_of-scaled}
 
 -- a portal, seen from the other side

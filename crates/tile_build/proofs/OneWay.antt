@@ -30,12 +30,17 @@ use Rattle.mesh_types.specs.declared.links.Portal.{Portal}
 use Rattle.mesh_types.specs.declared.polygon.Polygon.{Polygon}
 use Rattle.mesh_types.specs.declared.tile.TileMesh.{TileMesh}
 use Rattle.mesh_types.specs.Builds.{tile_mesh_of}
-use Rattle.mesh_types.specs.ContourMeshes.{Facet, are_facing, contour_mesh_of, door_link, door_links, door_over, doors_of, facet_doors, facets_of, link_through, mesh_of_free, parts_mesh, parts_of}
+use Rattle.mesh_types.specs.Facets.{Facet, facets_of}
+use Rattle.mesh_types.specs.Doors.{are_facing, door_link, door_links, door_over, doors_of, facet_doors, link_through}
+use Rattle.mesh_types.specs.ContourMeshes.{contour_mesh_of, mesh_of_free, parts_mesh}
+use Rattle.mesh_types.specs.Parts.{parts_of}
 use Rattle.mesh_types.proofs.Words.{no_facet}
 use Rattle.mesh_types.specs.Regions.{regions_of}
 use Rattle.mesh_types.specs.Runs.{runs_of}
-use Rattle.mesh_types.specs.Soundness.{along, edge_begin, edge_end}
-use Rattle.mesh_types.specs.StripMeshes.{edge_portal, first_of, outside_of, sixteenths, some_cell, strip_beyond, strip_link, strip_links, strip_links_over, strip_mesh_of, strip_polygon, strip_runs}
+use Rattle.mesh_types.specs.Portals.{along, edge_begin, edge_end}
+use Rattle.mesh_types.specs.StripLinks.{edge_portal, outside_of, strip_beyond, strip_link, strip_links, strip_links_over}
+use Rattle.mesh_types.specs.StripPolygons.{first_of, sixteenths, some_cell, strip_polygon, strip_runs}
+use Rattle.mesh_types.specs.StripMeshes.{strip_mesh_of}
 use Rattle.mesh_types.proofs.Gathered.{gathered_all}
 use Rattle.mesh_types.proofs.LinksInOrder.{All-ordered_links}
 use Rattle.mesh_types.proofs.MeshLinks.{All-contained}

@@ -31,10 +31,18 @@ use Rattle.mesh_types.specs.declared.tile.RimEdge.{RimEdge}
 use Rattle.mesh_types.specs.declared.tile.TileMesh.{TileMesh}
 use Rattle.mesh_types.specs.BorderLinks.{HasOnePair, Names, pair_at}
 use Rattle.mesh_types.specs.Builds.{tile_mesh_of}
-use Rattle.mesh_types.specs.ContourMeshes.{Facet, contour_mesh_of, crossing_pair, door_entries, door_entry, door_over, door_rim, doors_of, facet_doors, facets_of, is_listed, parts_mesh, parts_of, positions_of, side_entries, side_of}
+use Rattle.mesh_types.specs.Facets.{Facet, facets_of}
+use Rattle.mesh_types.specs.ContourMeshes.{contour_mesh_of, parts_mesh}
+use Rattle.mesh_types.specs.DoorRim.{crossing_pair, door_entries, door_entry, door_rim, is_listed, positions_of, side_entries, side_of}
+use Rattle.mesh_types.specs.Doors.{door_over, doors_of, facet_doors}
+use Rattle.mesh_types.specs.Parts.{parts_of}
 use Rattle.mesh_types.specs.Regions.{regions_of}
 use Rattle.mesh_types.specs.Runs.{label_if, runs_of}
-use Rattle.mesh_types.specs.StripMeshes.{first_of, is_at_side, is_crossing, level_pair, outside_of, position_of, rim_edge, some_cell, strip_mesh_of, strip_rim_over, strip_runs}
+use Rattle.mesh_types.specs.StripPolygons.{first_of, some_cell, strip_runs}
+use Rattle.mesh_types.specs.Crossings.{is_at_side, is_crossing, level_pair, position_of}
+use Rattle.mesh_types.specs.StripLinks.{outside_of}
+use Rattle.mesh_types.specs.StripRim.{rim_edge, strip_rim_over}
+use Rattle.mesh_types.specs.StripMeshes.{strip_mesh_of}
 use Rattle.mesh_types.proofs.DoorLaws.{facet_at}
 use Rattle.mesh_types.proofs.Gathered.{all_of_each, gathered_all}
 use Rattle.mesh_types.proofs.RunLaws.{IsRunOf, in_run, part_length, runs_are_runs}

@@ -9,7 +9,7 @@ ghost use Rattle.nav_ground.specs.Touching.{touching_shapes};
 ghost use Rattle.mesh_types.specs.Builds.{tile_mesh_of};
 ghost use Rattle.mesh_types.specs.ContourMeshes.{contour_mesh_of, mesh_of_free};
 ghost use Rattle.mesh_types.specs.Passages.{AreTwoWay, LinksConnected, ListsCrossings};
-ghost use Rattle.mesh_types.specs.Soundness.{IsFit};
+ghost use Rattle.mesh_types.specs.FitTiles.{IsFit};
 ghost use Rattle.mesh_types.specs.StripCover.{CoversCells, IsOfStrips};
 ghost use Rattle.mesh_types.specs.StripMeshes.{strip_mesh_of};
 ghost use Rattle.contour_mesh.specs.Linked.{IsOfOutlines, LinksFacing};

@@ -8,7 +8,8 @@ use Rattle.nav_base.proofs.Polynomials.{at, difference, equal, product, sum}
 use Rattle.nav_base.proofs.Signs.{factor-positive}
 use Rattle.nav_ground.specs.declared.cell.Window.{Window}
 use Rattle.mesh_types.specs.BorderLinks.{scaled, side_portal}
-use Rattle.mesh_types.specs.Soundness.{LiesOnSide, RunsOver, along}
+use Rattle.mesh_types.specs.FitTiles.{LiesOnSide, RunsOver}
+use Rattle.mesh_types.specs.Portals.{along}
 use Rattle.tile_links.proofs.AxisWalks.{split, turned}
 
 -- how far a point is along a way on a line of x, or of z, wherever the point lies

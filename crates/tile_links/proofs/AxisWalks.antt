@@ -5,7 +5,7 @@ use Rattle.nav_base.specs.Point.{dot_of, cross_of, orient_of}
 use Rattle.nav_base.proofs.Polynomials.{at, number, sum, difference, product, equal}
 use Rattle.nav_base.proofs.Signs.{product-not_negative, product-positive}
 use Rattle.mesh_types.specs.BorderLinks.{scaled}
-use Rattle.mesh_types.specs.Soundness.{LiesAlong, along}
+use Rattle.mesh_types.specs.Portals.{LiesAlong, along}
 
 -- along one axis: from u to v, first r and then l
 pub record Rises (u v r l : ℤ) : Type 0 where

@@ -11,7 +11,8 @@ use Rattle.nav_ground.specs.Cells.{opposite}
 use Rattle.nav_ground.specs.Tiling.{tile_window}
 use Rattle.nav_ground.proofs.Places.{begins_inside}
 use Rattle.mesh_types.specs.BorderLinks.{scaled, side_portal}
-use Rattle.mesh_types.specs.Soundness.{LiesOnSide, RunsOver, LiesAlong}
+use Rattle.mesh_types.specs.FitTiles.{LiesOnSide, RunsOver}
+use Rattle.mesh_types.specs.Portals.{LiesAlong}
 use Rattle.tile_links.specs.Across.{fixed_of}
 use Rattle.tile_links.proofs.TilesAcross.{IsPlacedAcross}
 use Rattle.tile_links.proofs.AxisWalks.{Rises, up_z, down_z, up_x, down_x}

@@ -19,7 +19,7 @@ use Rattle.mesh_types.specs.Runs.{runs_of}
 use Rattle.mesh_types.specs.LinkOrder.{ordered_links}
 use Rattle.mesh_types.specs.BorderLinks.{along_side, border_link, border_links, meetings}
 use Rattle.mesh_types.specs.WholeMesh.{tile_across, links_over, cross_links}
-use Rattle.mesh_types.specs.Soundness.{IsFit, IsRimOf}
+use Rattle.mesh_types.specs.FitTiles.{IsFit, IsRimOf}
 use Rattle.mesh_types.proofs.LinksInOrder.{ordered_links-parts, ordered_links-same}
 use Rattle.tile_links.specs.Loose.{pair_links, entry_links, loose_links, loose_over, HasGained}
 

@@ -24,7 +24,9 @@ use Rattle.mesh_types.specs.declared.tile.RimEdge.{RimEdge}
 use Rattle.mesh_types.specs.declared.tile.TileMesh.{TileMesh}
 use Rattle.mesh_types.specs.Runs.{runs_of}
 use Rattle.mesh_types.specs.BorderLinks.{HasOnePair, along_side, are_meeting, border_link, line_of, meetings, pair_at, side_portal}
-use Rattle.mesh_types.specs.Soundness.{AreTiles, IsRimOf, LiesOnSide, RunsOver, edge_begin, edge_end}
+use Rattle.mesh_types.specs.Soundness.{AreTiles}
+use Rattle.mesh_types.specs.FitTiles.{IsRimOf, LiesOnSide, RunsOver}
+use Rattle.mesh_types.specs.Portals.{edge_begin, edge_end}
 use Rattle.mesh_types.specs.WholeMesh.{cross_links, tile_across}
 use Rattle.mesh_types.proofs.Counted.{once_apart}
 use Rattle.mesh_types.proofs.Gathered.{Contains-filter}

@@ -19,7 +19,8 @@ use Rattle.mesh_types.specs.declared.tile.TileMesh.{TileMesh}
 use Rattle.mesh_types.specs.declared.mesh.Mesh.{Mesh}
 use Rattle.mesh_types.specs.BorderLinks.{border_links}
 use Rattle.mesh_types.specs.LinkOrder.{ordered_links}
-use Rattle.mesh_types.specs.Soundness.{AreTiles, IsFit, polygon_count}
+use Rattle.mesh_types.specs.Soundness.{AreTiles, polygon_count}
+use Rattle.mesh_types.specs.FitTiles.{IsFit}
 use Rattle.mesh_types.specs.WholeMesh.{tile_across, links_over, cross_links, mesh_of}
 use Rattle.tile_links.specs.NewTiles.{New, AreNew, AreRising, IsWhole, new_tile, tile_after, tiles_after, is_new, is_new_across, is_near_new}
 

@@ -15,7 +15,7 @@ use Rattle.nav_ground.specs.declared.setting.Setting.{Setting}
 use Rattle.mesh_types.specs.declared.polygon.Polygon.{Polygon}
 use Rattle.mesh_types.specs.declared.tile.RimEdge.{RimEdge}
 use Rattle.mesh_types.specs.declared.tile.TileMesh.{TileMesh}
-use Rattle.mesh_types.specs.Soundness.{IsFit, IsPolygon, IsRimOf, RunsOver}
+use Rattle.mesh_types.specs.FitTiles.{IsFit, IsPolygon, IsRimOf, RunsOver}
 use Rattle.tile_links.specs.Across.{IsNamed, IsWithinField}
 
 -- positions that an edge between cell corners runs over lie in the largest field

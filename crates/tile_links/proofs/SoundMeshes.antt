@@ -21,7 +21,9 @@ use Rattle.mesh_types.specs.declared.mesh.Mesh.{Mesh}
 use Rattle.mesh_types.specs.Runs.{runs_of}
 use Rattle.mesh_types.specs.BorderLinks.{border_link, line_of, meetings}
 use Rattle.mesh_types.specs.WholeMesh.{cross_links, mesh_of, poly_at}
-use Rattle.mesh_types.specs.Soundness.{IsFit, AreTiles, IsRimOf, LiesOnSide, RunsOver, LeadsThrough, IsCrossLink, IsSound}
+use Rattle.mesh_types.specs.FitTiles.{IsFit, IsRimOf, LiesOnSide, RunsOver}
+use Rattle.mesh_types.specs.Soundness.{AreTiles, IsCrossLink, IsSound}
+use Rattle.mesh_types.specs.Portals.{LeadsThrough}
 use Rattle.mesh_types.proofs.LinksInOrder.{All-ordered_links}
 use Rattle.tile_links.specs.Across.{fixed_of}
 use Rattle.tile_links.specs.Loose.{loose_links, loose_over}

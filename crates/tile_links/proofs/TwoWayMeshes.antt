@@ -21,7 +21,8 @@ use Rattle.mesh_types.specs.declared.tile.TileMesh.{TileMesh}
 use Rattle.mesh_types.specs.Runs.{has_label, label_if, runs_of}
 use Rattle.mesh_types.specs.BorderLinks.{along_side, are_meeting, border_link, line_of, meetings, pair_at, side_portal}
 use Rattle.mesh_types.specs.Passages.{AreTwoWay, HasReverse, HasReverseIn, IsTwoWay, reverse_of}
-use Rattle.mesh_types.specs.Soundness.{AreTiles, IsFit, IsInnerLink, IsRimOf}
+use Rattle.mesh_types.specs.Soundness.{AreTiles}
+use Rattle.mesh_types.specs.FitTiles.{IsFit, IsInnerLink, IsRimOf}
 use Rattle.mesh_types.specs.WholeMesh.{cross_links, mesh_of, tile_across}
 use Rattle.mesh_types.proofs.Gathered.{gathered_held, Contains-filter, Contains-flat_map, Contains-map}
 use Rattle.mesh_types.proofs.LinksInOrder.{All-ordered_links, Contains-ordered_links}

@@ -8,7 +8,7 @@ use Rattle.mesh_types.specs.declared.tile.RimEdge.{RimEdge}
 use Rattle.mesh_types.specs.declared.tile.TileMesh.{TileMesh}
 use Rattle.mesh_types.specs.BorderLinks.{line_of}
 use Rattle.mesh_types.specs.WholeMesh.{tile_across}
-use Rattle.mesh_types.specs.Soundness.{IsFit}
+use Rattle.mesh_types.specs.FitTiles.{IsFit}
 
 -- of two tiles that are fit for one setting, the second lies across a side of the first
 pub record AreAcross (a b : TileMesh) (side : ℕ) : Type 0 where

@@ -6,7 +6,8 @@ use Rattle.nav_ground.specs.declared.setting.Setting.{Setting}
 use Rattle.nav_ground.specs.Tiling.{tile_count}
 use Rattle.mesh_types.specs.declared.tile.TileMesh.{TileMesh}
 use Rattle.mesh_types.specs.declared.mesh.Mesh.{Mesh}
-use Rattle.mesh_types.specs.Soundness.{AreTiles, IsFit}
+use Rattle.mesh_types.specs.Soundness.{AreTiles}
+use Rattle.mesh_types.specs.FitTiles.{IsFit}
 use Rattle.mesh_types.specs.WholeMesh.{tile_across, mesh_of}
 
 -- a mesh is the whole of its tiles: one fit tile mesh for each tile, and the links over their borders

@@ -1,7 +1,8 @@
 use Rattle.std.proofs.Common.{◌∙◌, length, ap, arith, refl}
 use Rattle.std.proofs.lemmas.List.{length-map}
 use Rattle.nav_ground.specs.declared.cell.FreeLayer.{FreeLayer}
-use Rattle.mesh_types.specs.ContourMeshes.{doors_of, facet_polygon, facets_of}
+use Rattle.mesh_types.specs.Doors.{doors_of}
+use Rattle.mesh_types.specs.Facets.{facet_polygon, facets_of}
 use Rattle.contour_mesh.proofs.MeshLaws.{mesh_of_parts}
 use Rattle.contour_mesh.proofs.build.mesh.Goals as goal
 

@@ -4,7 +4,7 @@ use Rattle.mesh_types.specs.declared.door.Part.{Part}
 use Rattle.mesh_types.specs.declared.tile.TileMesh.{TileMesh}
 use Rattle.mesh_types.specs.Passages.{AreTwoWay, ListsCrossings}
 use Rattle.mesh_types.specs.Regions.{AreRegionsOf}
-use Rattle.mesh_types.specs.Soundness.{IsFit}
+use Rattle.mesh_types.specs.FitTiles.{IsFit}
 use Rattle.mesh_types.proofs.ContourFit.{contour_mesh_fits}
 use Rattle.contour_mesh.specs.Linked.{LinksFacing}
 use Rattle.contour_mesh.specs.Outcomes.{IfMade, IsMeshOrCells}

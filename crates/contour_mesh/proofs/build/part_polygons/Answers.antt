@@ -1,7 +1,7 @@
 use Rattle.std.proofs.Common.{◌≡◌, ◌∙◌, List, Option, ap, map, subst}
 use Rattle.std.specs.Prelude.{IfOk}
 use Rattle.mesh_types.specs.declared.polygon.Polygon.{Polygon}
-use Rattle.mesh_types.specs.ContourMeshes.{facets_of}
+use Rattle.mesh_types.specs.Facets.{facets_of}
 use Rattle.contour_mesh.specs.declared.footing.Footing.{Footing}
 use Rattle.contour_mesh.specs.Footings.{facet_over_footing}
 use Rattle.contour_mesh.proofs.FootingLaws.{polygons_are}

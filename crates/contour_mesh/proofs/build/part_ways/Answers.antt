@@ -3,7 +3,8 @@ use Rattle.std.specs.Prelude.{All}
 use Rattle.std.proofs.lemmas.List.Elements.{All-weaker}
 use Rattle.mesh_types.specs.declared.door.Part.{Part}
 use Rattle.mesh_types.specs.declared.door.Door.{Door}
-use Rattle.mesh_types.specs.ContourMeshes.{doors_of, facets_of}
+use Rattle.mesh_types.specs.Doors.{doors_of}
+use Rattle.mesh_types.specs.Facets.{facets_of}
 use Rattle.contour_walk.proofs.Contoured.{few_regions}
 use Rattle.contour_mesh.specs.Parts.{IsCutPart}
 use Rattle.contour_mesh.specs.Orders.{JoinsCorners}

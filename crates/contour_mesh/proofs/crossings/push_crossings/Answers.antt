@@ -1,6 +1,6 @@
 use Rattle.std.proofs.Common.{◌∙◌, ◌++◌, map, filter, ap, arith}
 use Rattle.std.specs.List.{range_with_len}
-use Rattle.mesh_types.specs.StripMeshes.{is_crossing}
+use Rattle.mesh_types.specs.Crossings.{is_crossing}
 use Rattle.contour_mesh.specs.SidePlaces.{cell_at_side}
 use Rattle.contour_mesh.proofs.Steps.{one_more_kept}
 use Rattle.contour_mesh.proofs.crossings.push_crossings.Goals as goal

@@ -1,5 +1,6 @@
 use Rattle.std.proofs.Common.{◌≡◌, ◌++◌, take}
-use Rattle.mesh_types.specs.ContourMeshes.{facet_doors, facets_in}
+use Rattle.mesh_types.specs.Doors.{facet_doors}
+use Rattle.mesh_types.specs.Facets.{facets_in}
 use Rattle.contour_mesh.specs.Parts.{numbered}
 use Rattle.contour_mesh.proofs.doors.push_part_doors.Given as goal
 

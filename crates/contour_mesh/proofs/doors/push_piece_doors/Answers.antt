@@ -1,6 +1,6 @@
 use Rattle.std.proofs.Common.{◌∙◌, ◌++◌, length, map, ap, arith}
 use Rattle.std.specs.List.{range_with_len}
-use Rattle.mesh_types.specs.ContourMeshes.{door_over}
+use Rattle.mesh_types.specs.Doors.{door_over}
 use Rattle.contour_mesh.specs.Parts.{facet_over}
 use Rattle.contour_mesh.proofs.Steps.{one_more_numbered}
 use Rattle.contour_mesh.proofs.doors.push_piece_doors.Goals as goal

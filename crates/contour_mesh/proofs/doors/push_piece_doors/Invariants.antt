@@ -1,6 +1,6 @@
 use Rattle.std.proofs.Common.{◌≡◌, ◌++◌, map}
 use Rattle.std.specs.List.{range_with_len}
-use Rattle.mesh_types.specs.ContourMeshes.{door_over}
+use Rattle.mesh_types.specs.Doors.{door_over}
 use Rattle.contour_mesh.specs.Parts.{facet_over}
 use Rattle.contour_mesh.proofs.doors.push_piece_doors.Given as goal
 

@@ -1,6 +1,6 @@
 use Rattle.std.proofs.Common.{◌≡◌, drop}
 use Rattle.std.specs.List.{find}
-use Rattle.mesh_types.specs.ContourMeshes.{are_facing}
+use Rattle.mesh_types.specs.Doors.{are_facing}
 use Rattle.contour_mesh.proofs.facing.facing.Given as goal
 
 -- none of the doors so far faces it

@@ -2,7 +2,7 @@ use Rattle.std.proofs.Common.{◌≡◌, ℕ, ◌++◌, List, take, drop, length
 use Rattle.std.proofs.Math.Seq.{take-append_seam}
 use Rattle.mesh_types.specs.declared.links.Link.{Link}
 use Rattle.mesh_types.specs.LinkOrder.{ordered_links}
-use Rattle.mesh_types.specs.ContourMeshes.{door_links}
+use Rattle.mesh_types.specs.Doors.{door_links}
 use Rattle.contour_mesh.proofs.links.links_in_order.Goals as goal
 
 -- a vector that was put in order through a slice

@@ -3,7 +3,7 @@ use Rattle.std.specs.Option.{option_map}
 use Rattle.std.specs.List.{cons_option, filter_map}
 use Rattle.std.proofs.lemmas.List.{take_all}
 use Rattle.mesh_types.specs.declared.door.Door.{Door}
-use Rattle.mesh_types.specs.ContourMeshes.{door_link, link_through}
+use Rattle.mesh_types.specs.Doors.{door_link, link_through}
 use Rattle.contour_mesh.proofs.FacingLaws.{facing_is, meets_sorted, no_door}
 use Rattle.contour_mesh.proofs.Steps.{one_more_found}
 use Rattle.contour_mesh.proofs.links.loose_links.Goals as goal

@@ -1,6 +1,6 @@
 use Rattle.std.proofs.Common.{◌≡◌, take}
 use Rattle.std.specs.List.{filter_map}
-use Rattle.mesh_types.specs.ContourMeshes.{link_through}
+use Rattle.mesh_types.specs.Doors.{link_through}
 use Rattle.contour_mesh.proofs.links.loose_links.Given as goal
 
 -- the links through the doors so far

@@ -1,7 +1,7 @@
 use Rattle.std.proofs.Common.{◌∙◌, List, Option, Some, ap, arith, subst, sym}
 use Rattle.std.specs.Prelude.{IfSome}
 use Rattle.mesh_types.specs.declared.door.Part.{Part}
-use Rattle.mesh_types.specs.ContourMeshes.{region_part}
+use Rattle.mesh_types.specs.Parts.{region_part}
 use Rattle.contour_walk.proofs.Contoured.{few_regions}
 use Rattle.contour_mesh.specs.Parts.{IsCutPart}
 use Rattle.contour_mesh.proofs.PartLaws.{parts_all, parts_more, parts_stop}

@@ -1,4 +1,4 @@
-use Rattle.mesh_types.specs.ContourMeshes.{region_part}
+use Rattle.mesh_types.specs.Parts.{region_part}
 use Rattle.contour_mesh.proofs.PartLaws.{ArePartsSoFar}
 use Rattle.contour_mesh.proofs.parts.parts.Given as goal
 

@@ -2,7 +2,7 @@ use Rattle.std.proofs.Common.{ℕ, ◌∙◌, ◌++◌, [], Option, ap, get_or, 
 use Rattle.std.specs.List.{flat_map}
 use Rattle.std.specs.Option.{option_map_or}
 use Rattle.std.proofs.lemmas.List.{take_all}
-use Rattle.mesh_types.specs.ContourMeshes.{positions_of}
+use Rattle.mesh_types.specs.DoorRim.{positions_of}
 use Rattle.contour_mesh.specs.SidePlaces.{door_at, door_places}
 use Rattle.contour_mesh.proofs.FacingLaws.{no_door}
 use Rattle.contour_mesh.proofs.Steps.{one_more_gathered}

@@ -1,5 +1,5 @@
 use Rattle.std.proofs.Common.{arith, refl}
-use Rattle.mesh_types.specs.ContourMeshes.{end_position, first_position}
+use Rattle.mesh_types.specs.DoorRim.{end_position, first_position}
 use Rattle.contour_mesh.specs.SidePlaces.{door_at}
 use Rattle.contour_mesh.proofs.Steps.{made_all, made_more}
 use Rattle.contour_mesh.proofs.placed.push_positions.Goals as goal

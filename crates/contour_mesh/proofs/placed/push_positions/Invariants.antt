@@ -1,4 +1,4 @@
-use Rattle.mesh_types.specs.ContourMeshes.{end_position, first_position}
+use Rattle.mesh_types.specs.DoorRim.{end_position, first_position}
 use Rattle.contour_mesh.specs.SidePlaces.{door_at}
 use Rattle.contour_mesh.proofs.Steps.{AreMadeUpTo}
 use Rattle.contour_mesh.proofs.placed.push_positions.Given as goal

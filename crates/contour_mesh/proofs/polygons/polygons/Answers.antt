@@ -1,7 +1,7 @@
 use Rattle.std.proofs.Common.{◌≡◌, ◌∙◌, List, map, ap}
 use Rattle.std.proofs.lemmas.Result.{IfOk-weaker}
 use Rattle.mesh_types.specs.declared.polygon.Polygon.{Polygon}
-use Rattle.mesh_types.specs.ContourMeshes.{facets_of}
+use Rattle.mesh_types.specs.Facets.{facets_of}
 use Rattle.contour_mesh.specs.Footings.{facet_over_footing}
 use Rattle.contour_mesh.proofs.DoorSteps.{facets_all, polygons_more}
 use Rattle.contour_mesh.proofs.polygons.polygons.Goals as goal

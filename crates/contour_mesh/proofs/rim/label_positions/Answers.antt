@@ -1,7 +1,7 @@
 use Rattle.std.proofs.Common.{◌-◌, [], ap, arith, length}
 use Rattle.std.proofs.lemmas.List.FromFn.{length-map-range_with_len}
 use Rattle.mesh_types.specs.Runs.{label_if}
-use Rattle.mesh_types.specs.ContourMeshes.{end_position, first_position}
+use Rattle.mesh_types.specs.DoorRim.{end_position, first_position}
 use Rattle.contour_mesh.specs.RimTables.{is_listed_in}
 use Rattle.contour_mesh.proofs.Steps.{made_all, made_more}
 use Rattle.contour_mesh.proofs.rim.label_positions.Goals as goal

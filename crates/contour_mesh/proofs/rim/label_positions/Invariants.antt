@@ -1,6 +1,6 @@
 use Rattle.std.proofs.Common.{[]}
 use Rattle.mesh_types.specs.Runs.{label_if}
-use Rattle.mesh_types.specs.ContourMeshes.{end_position, first_position}
+use Rattle.mesh_types.specs.DoorRim.{end_position, first_position}
 use Rattle.contour_mesh.specs.RimTables.{is_listed_in}
 use Rattle.contour_mesh.proofs.Steps.{AreMadeUpTo}
 use Rattle.contour_mesh.proofs.rim.label_positions.Given as goal

@@ -1,6 +1,6 @@
 use Rattle.std.proofs.Common.{◌∙◌, ap}
 use Rattle.nav_ground.specs.declared.cell.Cell.{Cell}
-use Rattle.mesh_types.specs.StripMeshes.{some_cell}
+use Rattle.mesh_types.specs.StripPolygons.{some_cell}
 use Rattle.mesh_types.specs.Contours.{code_beyond}
 use Rattle.contour_walk.proofs.CodeLaws.{cell_by_index, no_cell_wall}
 use Rattle.contour_walk.proofs.codes.code.Goals as goal

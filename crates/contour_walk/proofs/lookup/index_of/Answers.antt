@@ -1,6 +1,6 @@
 use Rattle.std.proofs.Common.{◌∙◌, sym, ap, arith}
 use Rattle.nav_ground.proofs.SmallCellLaws.{place_read}
-use Rattle.mesh_types.specs.StripMeshes.{some_cell}
+use Rattle.mesh_types.specs.StripPolygons.{some_cell}
 use Rattle.contour_walk.specs.Tables.{is_same}
 use Rattle.contour_walk.proofs.Places.{found_there, found_nowhere}
 use Rattle.contour_walk.proofs.lookup.index_of.Goals as goal

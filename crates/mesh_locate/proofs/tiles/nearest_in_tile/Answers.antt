@@ -2,7 +2,7 @@ use Rattle.std.proofs.Common.{◌≡◌, ℕ, length, refl, sym, ap, ◌∙◌, 
 use Rattle.std.specs.Prelude.{All, slice_get, option_and_then}
 use Rattle.std.proofs.lemmas.Option.{slice_get_read}
 use Rattle.mesh_types.specs.declared.tile.TileMesh.{TileMesh}
-use Rattle.mesh_types.specs.Soundness.{IsPolygon}
+use Rattle.mesh_types.specs.FitTiles.{IsPolygon}
 use Rattle.mesh_locate.specs.Nearest.{IsNearestBefore}
 use Rattle.mesh_locate.proofs.Scans.{its_polygons, tile_done}
 use Rattle.mesh_locate.proofs.tiles.nearest_in_tile.Goals as goal

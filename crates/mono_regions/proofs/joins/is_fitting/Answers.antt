@@ -1,6 +1,6 @@
 use Rattle.std.proofs.Common.{◌≡◌, rules}
 use Rattle.nav_ground.proofs.SmallCellLaws.{place_read}
-use Rattle.mesh_types.specs.StripMeshes.{some_cell}
+use Rattle.mesh_types.specs.StripPolygons.{some_cell}
 use Rattle.mono_regions.specs.Indices.{cell_at}
 use Rattle.mono_regions.proofs.joins.is_fitting.Goals as goal
 

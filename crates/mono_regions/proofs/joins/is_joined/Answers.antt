@@ -2,7 +2,7 @@ use Rattle.std.proofs.Common.{◌≡◌, ℕ, true, false, List, length, ap, ◌
 use Rattle.std.specs.Prelude.{◌&&◌}
 use Rattle.std.specs.List.{list_all}
 use Rattle.std.proofs.lemmas.List.FromFn.{length-map-range_with_len}
-use Rattle.mesh_types.specs.StripMeshes.{strip_runs}
+use Rattle.mesh_types.specs.StripPolygons.{strip_runs}
 use Rattle.mono_regions.specs.declared.seen.Seen.TheVariants.{Nothing}
 use Rattle.mono_regions.specs.Seeing.{is_one}
 use Rattle.mono_regions.specs.Joining.{indices_of, touched_from, is_fitting, has_area_of}

@@ -1,5 +1,5 @@
 use Rattle.std.proofs.Common.{length, arith}
-use Rattle.mesh_types.specs.StripMeshes.{strip_runs}
+use Rattle.mesh_types.specs.StripPolygons.{strip_runs}
 use Rattle.mono_regions.specs.Joining.{joined_from}
 use Rattle.mono_regions.proofs.JoinLaws.{strips_few}
 use Rattle.mono_regions.proofs.Tabled.{tabled_count, made_more, made_all}

@@ -1,6 +1,6 @@
 use Rattle.std.proofs.Common.{ℕ, length, ap, ◌∙◌, sym, refl, arith, None}
 use Rattle.std.proofs.lemmas.List.FromFn.{length-map-range_with_len}
-use Rattle.mesh_types.specs.StripMeshes.{strip_runs}
+use Rattle.mesh_types.specs.StripPolygons.{strip_runs}
 use Rattle.mono_regions.specs.Indices.{strip_at}
 use Rattle.mono_regions.specs.Joining.{joined_from}
 use Rattle.mono_regions.proofs.JoinLaws.{number_of}

@@ -2,7 +2,7 @@ use Rattle.std.proofs.Common.{◌≡◌, ◌<◌, ℕ, length, ap, ◌∙◌, sy
 use Rattle.std.specs.Global.{Vec}
 use Rattle.std.proofs.lemmas.List.FromFn.{length-map-range_with_len}
 use Rattle.mesh_types.specs.declared.region.Region.{Region}
-use Rattle.mesh_types.specs.StripMeshes.{strip_runs}
+use Rattle.mesh_types.specs.StripPolygons.{strip_runs}
 use Rattle.mesh_types.specs.Regions.{begins_region}
 use Rattle.mono_regions.specs.declared.seen.Seen.TheVariants.{Nothing}
 use Rattle.mono_regions.specs.Joining.{touched_from, joined_from}

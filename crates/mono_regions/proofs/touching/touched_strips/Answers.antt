@@ -1,5 +1,5 @@
 use Rattle.std.proofs.Common.{length, ap, ◌∙◌, arith}
-use Rattle.mesh_types.specs.StripMeshes.{strip_runs}
+use Rattle.mesh_types.specs.StripPolygons.{strip_runs}
 use Rattle.mono_regions.specs.Seeing.{touched_by}
 use Rattle.mono_regions.specs.Joining.{touched_from}
 use Rattle.mono_regions.proofs.Tabled.{tabled_count, tabled_run, tabled_indices, made_more, made_all}

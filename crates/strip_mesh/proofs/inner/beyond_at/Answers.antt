@@ -1,7 +1,8 @@
 use Rattle.std.proofs.Common.{◌∙◌, sym}
 use Rattle.std.specs.Prelude.{None}
 use Rattle.std.proofs.lemmas.List.{get_or-map}
-use Rattle.mesh_types.specs.StripMeshes.{strip_beyond, outside_of, some_cell}
+use Rattle.mesh_types.specs.StripLinks.{strip_beyond, outside_of}
+use Rattle.mesh_types.specs.StripPolygons.{some_cell}
 use Rattle.strip_mesh.specs.Indexed.{runs_in, run_in}
 use Rattle.strip_mesh.proofs.EndLaws.{found_at}
 use Rattle.strip_mesh.proofs.inner.beyond_at.Goals as goal

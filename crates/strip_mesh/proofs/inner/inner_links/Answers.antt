@@ -4,7 +4,7 @@ use Rattle.std.proofs.Math.Seq.{take-append_seam}
 use Rattle.mesh_types.specs.declared.links.Link.{Link}
 use Rattle.mesh_types.specs.LinkIndex.{AreOrderedLinks, AreBelow}
 use Rattle.mesh_types.specs.LinkOrder.{ordered_links}
-use Rattle.mesh_types.specs.StripMeshes.{strip_links}
+use Rattle.mesh_types.specs.StripLinks.{strip_links}
 use Rattle.strip_mesh.specs.Indexed.{runs_in}
 use Rattle.strip_mesh.proofs.Parts.{links_ordered, links_below}
 use Rattle.strip_mesh.proofs.inner.inner_links.Goals as goal

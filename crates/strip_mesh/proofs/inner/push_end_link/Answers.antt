@@ -1,5 +1,5 @@
 use Rattle.std.proofs.Common.{◌∙◌}
-use Rattle.mesh_types.specs.StripMeshes.{outside_of}
+use Rattle.mesh_types.specs.StripLinks.{outside_of}
 use Rattle.strip_mesh.specs.Indexed.{runs_in, run_in}
 use Rattle.strip_mesh.proofs.EndLaws.{end_link, no_end_link, found_at, one_pushed, none_pushed}
 use Rattle.strip_mesh.proofs.inner.push_end_link.Goals as goal

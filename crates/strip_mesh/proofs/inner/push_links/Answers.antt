@@ -1,4 +1,4 @@
-use Rattle.mesh_types.specs.StripMeshes.{strip_links_over}
+use Rattle.mesh_types.specs.StripLinks.{strip_links_over}
 use Rattle.strip_mesh.specs.Indexed.{runs_in}
 use Rattle.strip_mesh.proofs.Steps.{one_more_gathered}
 use Rattle.strip_mesh.proofs.inner.push_links.Goals as goal

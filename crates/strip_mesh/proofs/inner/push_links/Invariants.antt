@@ -1,6 +1,6 @@
 use Rattle.std.proofs.Common.{◌≡◌, ◌++◌}
 use Rattle.std.specs.List.{flat_map, range_with_len}
-use Rattle.mesh_types.specs.StripMeshes.{strip_links_over}
+use Rattle.mesh_types.specs.StripLinks.{strip_links_over}
 use Rattle.strip_mesh.specs.Indexed.{runs_in}
 use Rattle.strip_mesh.proofs.inner.push_links.Given as goal
 

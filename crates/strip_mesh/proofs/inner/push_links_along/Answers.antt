@@ -1,6 +1,6 @@
 use Rattle.std.proofs.Common.{◌≡◌, ◌++◌, length, map, ap, ◌∙◌, arith}
 use Rattle.std.proofs.lemmas.List.{length-map}
-use Rattle.mesh_types.specs.StripMeshes.{strip_beyond, strip_link, outside_of}
+use Rattle.mesh_types.specs.StripLinks.{strip_beyond, strip_link, outside_of}
 use Rattle.strip_mesh.specs.Indexed.{runs_in, run_in}
 use Rattle.strip_mesh.specs.Strips.{strips_over}
 use Rattle.strip_mesh.proofs.Counts.{run_length}

@@ -1,5 +1,5 @@
 use Rattle.std.proofs.Common.{◌≡◌, ◌≤◌, ◌-◌, ◌++◌, length, map}
-use Rattle.mesh_types.specs.StripMeshes.{strip_link}
+use Rattle.mesh_types.specs.StripLinks.{strip_link}
 use Rattle.strip_mesh.specs.Indexed.{runs_in, run_in}
 use Rattle.strip_mesh.specs.Strips.{strips_over}
 use Rattle.strip_mesh.proofs.Passing.{IsFresh, runs_before}

@@ -1,5 +1,5 @@
 use Rattle.std.proofs.Common.{ℕ, ◌-◌, length, sym, subst, arith}
-use Rattle.mesh_types.specs.StripMeshes.{outside_of}
+use Rattle.mesh_types.specs.StripLinks.{outside_of}
 use Rattle.strip_mesh.specs.Indexed.{runs_in, run_in}
 use Rattle.strip_mesh.specs.Strips.{MeetsOthersAt}
 use Rattle.strip_mesh.proofs.Counts.{run_length}

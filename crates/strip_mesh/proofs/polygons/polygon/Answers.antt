@@ -2,7 +2,7 @@ use Rattle.std.proofs.Common.{◌≡◌, ℕ, ◌+◌, ◌-◌, ◌<◌, ◌∙�
 use Rattle.std.specs.Prelude.{slice_index_or}
 use Rattle.std.proofs.lemmas.List.{length-map, get_or_default}
 use Rattle.nav_ground.specs.declared.cell.Cell.{Cell}
-use Rattle.mesh_types.specs.StripMeshes.{first_of, rectangle, some_cell}
+use Rattle.mesh_types.specs.StripPolygons.{first_of, rectangle, some_cell}
 use Rattle.mono_regions.specs.Indices.{cell_at}
 use Rattle.strip_mesh.proofs.polygons.polygon.Goals as goal
 

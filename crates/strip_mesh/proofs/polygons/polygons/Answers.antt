@@ -4,7 +4,7 @@ use Rattle.std.proofs.lemmas.Result.{IfOk-weaker}
 use Rattle.nav_ground.specs.declared.cell.Cell.{Cell}
 use Rattle.nav_ground.specs.Cells.{IsCells}
 use Rattle.mesh_types.specs.declared.polygon.Polygon.{Polygon}
-use Rattle.mesh_types.specs.StripMeshes.{strip_polygon}
+use Rattle.mesh_types.specs.StripPolygons.{strip_polygon}
 use Rattle.mono_regions.specs.Indices.{AreIndices}
 use Rattle.strip_mesh.specs.Indexed.{runs_in}
 use Rattle.strip_mesh.specs.Strips.{polygon_at}

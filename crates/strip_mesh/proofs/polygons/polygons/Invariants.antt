@@ -1,5 +1,5 @@
 use Rattle.std.proofs.Common.{◌≡◌, map, take}
-use Rattle.mesh_types.specs.StripMeshes.{strip_polygon}
+use Rattle.mesh_types.specs.StripPolygons.{strip_polygon}
 use Rattle.strip_mesh.specs.Indexed.{runs_in}
 use Rattle.strip_mesh.proofs.polygons.polygons.Given as goal
 

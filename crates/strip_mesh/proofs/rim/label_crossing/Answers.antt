@@ -1,7 +1,8 @@
 use Rattle.std.proofs.Common.{◌∙◌}
 use Rattle.nav_ground.specs.declared.cell.Cell.{Cell}
 use Rattle.mesh_types.specs.Runs.{label_if}
-use Rattle.mesh_types.specs.StripMeshes.{is_crossing, outside_of}
+use Rattle.mesh_types.specs.Crossings.{is_crossing}
+use Rattle.mesh_types.specs.StripLinks.{outside_of}
 use Rattle.strip_mesh.specs.Indexed.{run_in}
 use Rattle.strip_mesh.proofs.Steps.{made_of_cells}
 use Rattle.strip_mesh.proofs.rim.label_crossing.Goals as goal

@@ -1,6 +1,7 @@
 use Rattle.std.proofs.Common.{◌≡◌, map, take}
 use Rattle.mesh_types.specs.Runs.{label_if}
-use Rattle.mesh_types.specs.StripMeshes.{is_crossing, outside_of}
+use Rattle.mesh_types.specs.Crossings.{is_crossing}
+use Rattle.mesh_types.specs.StripLinks.{outside_of}
 use Rattle.mono_regions.specs.Indices.{cell_at}
 use Rattle.strip_mesh.proofs.rim.label_crossing.Given as goal
 

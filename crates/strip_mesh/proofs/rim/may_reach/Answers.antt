@@ -1,7 +1,7 @@
 use Rattle.std.proofs.Common.{◌≡◌, ◌∙◌, ℕ, [], map, ap, sym, subst}
 use Rattle.nav_ground.specs.declared.cell.Cell.{Cell}
 use Rattle.mesh_types.specs.Runs.{runs_of, label_if}
-use Rattle.mesh_types.specs.StripMeshes.{is_at_side, is_crossing}
+use Rattle.mesh_types.specs.Crossings.{is_at_side, is_crossing}
 use Rattle.strip_mesh.specs.Indexed.{run_in}
 use Rattle.strip_mesh.specs.Strips.{last_of}
 use Rattle.strip_mesh.proofs.AwayLaws.{no_rim, no_rim_right}

@@ -3,7 +3,9 @@ use Rattle.std.proofs.lemmas.List.{take_all, length-map}
 use Rattle.nav_ground.specs.declared.cell.Cell.{Cell}
 use Rattle.mesh_types.specs.declared.label_runs.Run.{Run}
 use Rattle.mesh_types.specs.Runs.{runs_of, label_if}
-use Rattle.mesh_types.specs.StripMeshes.{is_crossing, rim_edge, outside_of}
+use Rattle.mesh_types.specs.Crossings.{is_crossing}
+use Rattle.mesh_types.specs.StripRim.{rim_edge}
+use Rattle.mesh_types.specs.StripLinks.{outside_of}
 use Rattle.strip_mesh.specs.Indexed.{run_in}
 use Rattle.strip_mesh.proofs.Parts.{own_few, part_inside}
 use Rattle.strip_mesh.proofs.Steps.{one_more_after}

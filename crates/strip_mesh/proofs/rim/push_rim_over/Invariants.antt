@@ -1,5 +1,5 @@
 use Rattle.std.proofs.Common.{◌≡◌, ◌++◌, map, take}
-use Rattle.mesh_types.specs.StripMeshes.{rim_edge}
+use Rattle.mesh_types.specs.StripRim.{rim_edge}
 use Rattle.strip_mesh.specs.Indexed.{run_in}
 use Rattle.strip_mesh.proofs.rim.push_rim_over.Given as goal
 

@@ -1,6 +1,6 @@
 use Rattle.std.proofs.Common.{◌-◌, ◌∙◌, List, map, ap, get_or}
 use Rattle.nav_ground.specs.declared.cell.Cell.{Cell}
-use Rattle.mesh_types.specs.StripMeshes.{position_of}
+use Rattle.mesh_types.specs.Crossings.{position_of}
 use Rattle.strip_mesh.specs.Indexed.{run_in}
 use Rattle.strip_mesh.specs.Strips.{pair_at}
 use Rattle.strip_mesh.proofs.Counts.{entry_is}

@@ -5,7 +5,8 @@ use Rattle.nav_ground.specs.declared.setting.Setting.{Setting}
 use Rattle.nav_ground.specs.Tiling.{tile_count}
 use Rattle.mesh_types.specs.declared.mesh.Mesh.{Mesh}
 use Rattle.mesh_types.specs.declared.tile.TileMesh.{TileMesh}
-use Rattle.mesh_types.specs.Soundness.{AreTiles, IsFit}
+use Rattle.mesh_types.specs.Soundness.{AreTiles}
+use Rattle.mesh_types.specs.FitTiles.{IsFit}
 use Rattle.mesh_types.specs.WholeMesh.{mesh_of}
 use Rattle.tests_paths.specs.declared.questions.TheConstants.{SETTING}
 use Rattle.tests_paths.proofs.questions.mesh.Goals as goal

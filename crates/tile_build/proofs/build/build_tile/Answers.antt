@@ -7,7 +7,7 @@ use Rattle.mesh_types.specs.declared.tile.TileMesh.{TileMesh}
 use Rattle.mesh_types.specs.Builds.{tile_mesh_of}
 use Rattle.mesh_types.specs.ContourMeshes.{mesh_of_free}
 use Rattle.mesh_types.specs.Passages.{AreTwoWay, LinksConnected, ListsCrossings}
-use Rattle.mesh_types.specs.Soundness.{IsFit}
+use Rattle.mesh_types.specs.FitTiles.{IsFit}
 use Rattle.mesh_types.specs.StripCover.{CoversCells, IsOfStrips}
 use Rattle.strip_mesh.proofs.StripTiles.{tile_covers, tile_linked}
 use Rattle.contour_mesh.specs.Linked.{IsOfOutlines, LinksFacing}
