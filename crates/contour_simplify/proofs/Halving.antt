@@ -69,7 +69,8 @@ halved error a inner b place d is best =
       enough error (length inner) (length (drop (place + 1) inner)) (get_or inner place d) (drop (place + 1) inner) b (omega (arith, length-drop (place + 1) inner)) (omega arith),
     ) refl
 
-straight : (error : ℕ) (a : Point) (inner : List Point) (b : Point) → list_any (deviates_over error a b) inner ≡ false → whole error a inner b ≡ []
+-- nothing is kept where none deviates over the error
+pub straight : (error : ℕ) (a : Point) (inner : List Point) (b : Point) → list_any (deviates_over error a b) inner ≡ false → whole error a inner b ≡ []
 unfolding kept_walking
 straight error a inner b none = enough error (length inner) (suc (length inner)) a inner b (omega arith) (omega arith) ∙ rw none refl
 
@@ -177,9 +178,3 @@ parts_corners rest half before after place d each there first second =
     (All-push IsHalf rest after (rest_of rest half each)
     (part_corners after (get_or half.inner.now place d) (drop (place + 1) half.inner.now) half.last second at (All-drop IsCellCorner (place + 1) half.inner.now own.inner) own.last))
     (part_corners before half.first (take place half.inner.now) (get_or half.inner.now place d) first own.first (All-take IsCellCorner place half.inner.now own.inner) at)
-
--- between ends without corners nothing is kept
-pub nothing_kept : (error : ℕ) (first : Point) (inner : List Point) (last : Point) → length inner ≡ 0 → [] ≡ kept_walking (length inner) error first inner last
-unfolding kept_walking
-nothing_kept error first [] last none = refl
-nothing_kept error first (corner ∷ inner) last none = absurd (omega (arith, none))

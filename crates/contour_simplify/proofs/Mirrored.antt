@@ -1,13 +1,16 @@
 -- A run keeps the same corners from both of its sides.
-use Rattle.std.proofs.Common.{◌≡◌, ℕ, Bool, true, false, List, length, refl}
+use Rattle.std.proofs.Common.{◌≡◌, ◌∙◌, ℕ, Bool, true, false, List, [], length, ap, sym, refl}
 use Rattle.std.specs.Prelude.{reverse, if◌then◌else◌}
+use Rattle.std.specs.List.{list_any}
 use Rattle.std.proofs.lemmas.Bool.{both_ways}
 use Rattle.std.proofs.lemmas.List.{length-reverse, reverse-reverse}
+use Rattle.std.proofs.lemmas.List.Sorted.{IsPermutation-reverse, list_any-IsPermutation}
 use Rattle.nav_base.specs.declared.point.Point.{Point}
 use Rattle.mesh_types.specs.Rings.{AreApart}
 use Rattle.mesh_types.specs.LinkOrder.{is_point_before}
-use Rattle.mesh_types.specs.Simplified.{kept_walking, kept_inside}
+use Rattle.mesh_types.specs.Simplified.{deviates_over, kept_walking, kept_inside}
 use Rattle.mesh_types.proofs.LinkOrderLaws.{points_order, points_tie}
+use Rattle.contour_simplify.proofs.Halving.{straight}
 
 pub mirrored : (error : ℕ) (a : Point) (inner : List Point) (b : Point) → AreApart a b
     → kept_inside error b (reverse inner) a ≡ reverse (kept_inside error a inner b)
@@ -39,3 +42,11 @@ pub kept_back : (error : ℕ) (a : Point) (inner : List Point) (b : Point) → i
     → reverse (kept_walking (length (reverse inner)) error b (reverse inner) a) ≡ kept_inside error a inner b
 unfolding kept_inside
 kept_back error a inner b is = rw (is, length-reverse inner) refl
+
+-- and nothing is kept on the way back where no corner deviates over the error
+pub straight_back : (error : ℕ) (a : Point) (inner : List Point) (b : Point) → is_point_before a b ≡ false
+    → list_any (deviates_over error b a) inner ≡ false → [] ≡ kept_inside error a inner b
+straight_back error a inner b is none =
+    ap reverse (sym (straight error b (reverse inner) a
+    (sym (list_any-IsPermutation (deviates_over error b a) inner (reverse inner) (IsPermutation-reverse inner)) ∙ none)))
+    ∙ kept_back error a inner b is

@@ -1,12 +1,12 @@
 //! Runs: what is kept of the corners between two corners that are kept.
 
-ghost use Rattle.std.specs.Prelude.{◌≡◌, ◌+◌, ◌<◌, IfOk, OnOk, All, length, reverse, take, drop, slice_index_or, MatchOption};
-ghost use Rattle.std.specs.List.{IsFirstBest};
+ghost use Rattle.std.specs.Prelude.{◌≡◌, ◌+◌, ◌<◌, false, IfOk, OnOk, IsTrue, All, length, reverse, take, drop, slice_index_or, MatchOption};
+ghost use Rattle.std.specs.List.{IsFirstBest, list_any};
 ghost use Rattle.nav_base.specs.declared.point.Point.{Point};
 ghost use Rattle.nav_base.specs.Point.{IsCellCorner};
 ghost use Rattle.mesh_types.specs.LinkOrder.{point_cmp, is_point_before};
 ghost use Rattle.mesh_types.specs.Rings.{AreApart};
-ghost use Rattle.mesh_types.specs.Simplified.{deviates_more, kept_walking, kept_inside};
+ghost use Rattle.mesh_types.specs.Simplified.{deviates_more, deviates_over, kept_walking, kept_inside};
 ghost use Rattle.contour_simplify.specs.Halves.{IsHalf, IsPart, ArePartsOn, IsStraight, IsSplit};
 
 use nav_base::{Point, dev, exceeds, less};
@@ -42,6 +42,9 @@ pub fn simplify_run(
     if is_before(first, last) {
         return walk(alloc, first, inner, last, error);
     }
+    if is_straight(last, inner, first, error) {
+        return Ok(Vec::new(alloc));
+    }
     let mut backward = Vec::from_slice(alloc, inner)?;
     backward.reverse();
     let mut kept = walk(alloc, last, backward.as_slice(), first, error)?;
@@ -63,7 +66,7 @@ fn walk(
     requires last { IsCellCorner last }
     ensures { IfOk result (λ kept. kept.items ≡ kept_walking (length inner.now) error first inner.now last) }
 {
-    if inner.is_empty() {
+    if is_straight(first, inner, last, error) {
         return Ok(Vec::new(alloc));
     }
     let mut kept = Vec::new(alloc);
@@ -77,6 +80,19 @@ fn walk(
     }
     kept.pop();
     Ok(kept)
+}
+
+/// Whether no inner corner of a run deviates over the error from the segment between its ends, as in most runs. Nothing is kept of it then.
+fn is_straight(first: Point, inner: &[Point], last: Point, error: u32) -> bool
+    requires first { IsCellCorner first }
+    requires inner { All IsCellCorner inner.now }
+    requires last { IsCellCorner last }
+    ensures { IsTrue result → list_any (deviates_over error first last) inner.now ≡ false }
+{
+    match split(Half { first, inner, last }, error) {
+        Some(_) => false,
+        None => true,
+    }
 }
 
 /// Puts the two parts of a half at an inner corner onto a stack, the one before that corner on top.

@@ -62,3 +62,41 @@ pub fn place_in(strip: &Strip, x: u32) -> CellRef
         level: strip.levels.as_slice()[(x - strip.x0) as usize],
     }
 }
+
+/// Where the first cell of the strip in the next row toward a direction may stand, from the index of the first cell of a strip: the two begin in
+/// the columns `from` and `to`.
+pub fn left_end_over(table: &[[u32; 4]], first: usize, dir: usize, from: u32, to: u32) -> usize
+    requires { dir < 4 }
+{
+    let inside = along(table, first, 2, from, to);
+    along(table, next(table, inside, dir), 0, to, from)
+}
+
+/// The same for the last cells of the two, which stand in the columns `from` and `to`.
+pub fn right_end_over(table: &[[u32; 4]], last: usize, dir: usize, from: u32, to: u32) -> usize
+    requires { dir < 4 }
+{
+    let inside = along(table, last, 0, to, from);
+    along(table, next(table, inside, dir), 2, from, to)
+}
+
+/// The index after as many steps in a direction as there are columns from one up to another.
+fn along(table: &[[u32; 4]], from: usize, dir: usize, first: u32, end: u32) -> usize
+    requires { dir < 4 }
+{
+    let mut at = from;
+    for _column in first..end {
+        at = next(table, at, dir);
+    }
+    at
+}
+
+/// The index that a table has at an index and a direction, or the same index.
+pub fn next(table: &[[u32; 4]], at: usize, dir: usize) -> usize
+    requires { dir < 4 }
+{
+    match table.get(at) {
+        Some(row) => row[dir] as usize,
+        None => at,
+    }
+}

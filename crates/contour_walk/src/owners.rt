@@ -7,7 +7,7 @@ ghost use Rattle.mesh_types.specs.declared.region.Region.{Region};
 ghost use Rattle.mesh_types.specs.Regions.{is_holding};
 ghost use Rattle.contour_walk.specs.Tables.{owner_of, IsMarked, IsFit};
 
-use crate::lookup::{index_of, place_in};
+use crate::lookup::{index_of, left_end_over, next, place_in};
 use mesh_types::{Region, Strip};
 use nav_ground::SmallCell;
 use std::alloc::{AllocError, Global};
@@ -62,7 +62,7 @@ fn mark_region(
     let mut from = first_column(strips);
     for k in 0..strips.len() {
         let strip = &strips[k];
-        let guess = over(table, first, from, strip.x0);
+        let guess = left_end_over(table, first, 1, from, strip.x0);
         first = index_of(cells, guess, place_in(strip, strip.x0));
         from = strip.x0;
         mark_strip(owners, cells, table, strip, number, first);
@@ -74,29 +74,6 @@ fn first_column(strips: &[Strip]) -> u32 {
     match strips.first() {
         Some(strip) => strip.x0,
         None => 0,
-    }
-}
-
-/// Where a cell of the next row may stand, in the column `to`, from the index of a cell in the column `from`.
-fn over(table: &[[u32; 4]], first: usize, from: u32, to: u32) -> usize {
-    let mut at = first;
-    for _ in from..to {
-        at = next(table, at, 2);
-    }
-    at = next(table, at, 1);
-    for _ in to..from {
-        at = next(table, at, 0);
-    }
-    at
-}
-
-/// The index that a table has at an index and a direction, or the same index.
-fn next(table: &[[u32; 4]], at: usize, dir: usize) -> usize
-    requires { dir < 4 }
-{
-    match table.get(at) {
-        Some(row) => row[dir] as usize,
-        None => at,
     }
 }
 

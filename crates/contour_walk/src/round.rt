@@ -50,10 +50,11 @@ fn push_round(edges: &mut Vec<UnitEdge>, rim: Rim, strips: &[Strip]) -> Result<(
     let last = &strips[strips.len() - 1];
     let first_end = first.x1 + 1;
     let last_end = last.x1 + 1;
-    push_bottoms(edges, rim, first, first.x0, first_end)?;
-    push_right_side(edges, rim, strips)?;
-    push_tops(edges, rim, last, last.x0, last_end)?;
-    push_left_side(edges, rim, strips)
+    let mut found = 0;
+    push_bottoms(edges, rim, first, first.x0, first_end, &mut found)?;
+    push_right_side(edges, rim, strips, &mut found)?;
+    push_tops(edges, rim, last, last.x0, last_end, &mut found)?;
+    push_left_side(edges, rim, strips, &mut found)
 }
 
 /// The first place at which an edge begins at the least corner.

@@ -6,64 +6,72 @@ ghost use Rattle.contour_walk.specs.Tables.{IsFit, IsRim};
 ghost use Rattle.contour_walk.specs.Walk.{edge_at, bottoms, tops, to_right_end, to_left_end, right_side, left_side, AreUpon};
 
 use crate::codes::edge;
-use crate::lookup::{index_of, place_in};
+use crate::lookup::{index_of, left_end_over, next, place_in, right_end_over};
 use crate::table::Rim;
 use mesh_types::{Strip, UnitEdge};
 use std::alloc::AllocError;
 
-/// Appends the edges along the bottom of a strip from a column up to another, to the right.
+/// Appends the edges along the bottom of a strip from a column up to another, to the right. The first of the cells is looked for at the index
+/// that is handed in, and where the last was found is left there.
 pub fn push_bottoms(
     edges: &mut Vec<UnitEdge>,
     rim: Rim,
     strip: &Strip,
     first: u32,
     end: u32,
+    found: &mut usize,
 ) -> Result<(), AllocError>
     requires rim { IsRim rim }
     requires fit { IsFit strip.now }
     requires columns { (strip.now.x0 ≤ first) × (end ≤ strip.now.x1 + 1) }
     ensures { OnOk result (edges.new.items ≡ edges.old.items ++ bottoms (edge_at rim.entry.table.now.window rim.entry.cells.now rim.entry.regions.now) strip.now first end) }
 {
-    let mut guess = 0;
+    let mut guess = *found;
     for x in first..end {
         let at = place_in(strip, x);
         let index = index_of(rim.cells, guess, at);
         edges.push(edge(rim, index, at, 3))?;
-        guess = index.saturating_add(1);
+        *found = index;
+        guess = next(rim.table.neighbours.as_slice(), index, 2);
     }
     Ok(())
 }
 
-/// Appends the edges along the top of a strip from before a column down to another, to the left.
+/// Appends the edges along the top of a strip from before a column down to another, to the left. The first of the cells is looked for at the
+/// index that is handed in, and where the last was found is left there.
 pub fn push_tops(
     edges: &mut Vec<UnitEdge>,
     rim: Rim,
     strip: &Strip,
     first: u32,
     end: u32,
+    found: &mut usize,
 ) -> Result<(), AllocError>
     requires rim { IsRim rim }
     requires fit { IsFit strip.now }
     requires columns { (strip.now.x0 ≤ first) × (end ≤ strip.now.x1 + 1) }
     ensures { OnOk result (edges.new.items ≡ edges.old.items ++ tops (edge_at rim.entry.table.now.window rim.entry.cells.now rim.entry.regions.now) strip.now first end) }
 {
-    let mut guess = 0;
+    let mut guess = *found;
     for x in (first..end).rev() {
         let at = place_in(strip, x);
         let index = index_of(rim.cells, guess, at);
         edges.push(edge(rim, index, at, 1))?;
-        guess = index.saturating_sub(1);
+        *found = index;
+        guess = next(rim.table.neighbours.as_slice(), index, 0);
     }
     Ok(())
 }
 
-/// Appends the edge at the end of a strip, toward x + 1 in direction 2 and toward x - 1 in direction 0.
+/// Appends the edge at the end of a strip, toward x + 1 in direction 2 and toward x - 1 in direction 0. The cell is looked for at the index that
+/// is handed in, and where it was found is left there.
 fn push_end(
     edges: &mut Vec<UnitEdge>,
     rim: Rim,
     strip: &Strip,
     x: u32,
     dir: u32,
+    found: &mut usize,
 ) -> Result<(), AllocError>
     requires rim { IsRim rim }
     requires fit { IsFit strip.now }
@@ -72,17 +80,20 @@ fn push_end(
     ensures { OnOk result (edges.new.items ≡ edges.old.items ++ edge_at rim.entry.table.now.window rim.entry.cells.now rim.entry.regions.now dir strip.now x ∷ []) }
 {
     let at = place_in(strip, x);
-    let index = index_of(rim.cells, 0, at);
+    let index = index_of(rim.cells, *found, at);
     edges.push(edge(rim, index, at, dir))?;
+    *found = index;
     Ok(())
 }
 
-/// Appends the edges from the right end of a strip to that of the one above: back along its top, or out along the bottom of that one.
+/// Appends the edges from the right end of a strip to that of the one above: back along its top, or out along the bottom of that one. Where
+/// the cell at the one end was found, that at the other is to be looked for afterwards.
 fn push_to_right_end(
     edges: &mut Vec<UnitEdge>,
     rim: Rim,
     lower: &Strip,
     upper: &Strip,
+    found: &mut usize,
 ) -> Result<(), AllocError>
     requires rim { IsRim rim }
     requires lower { IsFit lower.now }
@@ -92,16 +103,22 @@ fn push_to_right_end(
 {
     let lower_end = lower.x1 + 1;
     let upper_end = upper.x1 + 1;
-    push_tops(edges, rim, lower, upper_end, lower_end)?;
-    push_bottoms(edges, rim, upper, lower_end, upper_end)
+    let table = rim.table.neighbours.as_slice();
+    let mut below = *found;
+    let mut above = next(table, next(table, below, 1), 2);
+    *found = right_end_over(table, below, 1, lower.x1, upper.x1);
+    push_tops(edges, rim, lower, upper_end, lower_end, &mut below)?;
+    push_bottoms(edges, rim, upper, lower_end, upper_end, &mut above)
 }
 
-/// Appends the edges from the left end of a strip to that of the one below: out along the top of that one, or back along its bottom.
+/// Appends the edges from the left end of a strip to that of the one below: out along the top of that one, or back along its bottom. Where
+/// the cell at the one end was found, that at the other is to be looked for afterwards.
 fn push_to_left_end(
     edges: &mut Vec<UnitEdge>,
     rim: Rim,
     lower: &Strip,
     upper: &Strip,
+    found: &mut usize,
 ) -> Result<(), AllocError>
     requires rim { IsRim rim }
     requires lower { IsFit lower.now }
@@ -109,16 +126,21 @@ fn push_to_left_end(
     requires upon { IsUpon lower.now upper.now }
     ensures { OnOk result (edges.new.items ≡ edges.old.items ++ to_left_end (edge_at rim.entry.table.now.window rim.entry.cells.now rim.entry.regions.now) lower.now upper.now) }
 {
-    push_tops(edges, rim, lower, lower.x0, upper.x0)?;
-    push_bottoms(edges, rim, upper, upper.x0, lower.x0)
+    let table = rim.table.neighbours.as_slice();
+    let mut above = *found;
+    let mut below = next(table, next(table, above, 3), 0);
+    *found = left_end_over(table, above, 3, upper.x0, lower.x0);
+    push_tops(edges, rim, lower, lower.x0, upper.x0, &mut below)?;
+    push_bottoms(edges, rim, upper, upper.x0, lower.x0, &mut above)
 }
 
 /// Appends the right side of a stack of strips, upward: the right end of each strip, and then back along its top or out along the bottom
-/// of the next.
+/// of the next. The cell at the first end is looked for at the index that is handed in, and where the last was found is left there.
 pub fn push_right_side(
     edges: &mut Vec<UnitEdge>,
     rim: Rim,
     strips: &[Strip],
+    found: &mut usize,
 ) -> Result<(), AllocError>
     requires rim { IsRim rim }
     requires fit { All IsFit strips.now }
@@ -127,20 +149,21 @@ pub fn push_right_side(
 {
     for k in 0..strips.len() {
         let strip = &strips[k];
-        push_end(edges, rim, strip, strip.x1, 2)?;
+        push_end(edges, rim, strip, strip.x1, 2, found)?;
         if k + 1 < strips.len() {
-            push_to_right_end(edges, rim, strip, &strips[k + 1])?;
+            push_to_right_end(edges, rim, strip, &strips[k + 1], found)?;
         }
     }
     Ok(())
 }
 
 /// Appends the left side of a stack of strips, downward: for each strip back along its top or out along the bottom of the one above, and
-/// then its left end.
+/// then its left end. The cell at the first end is looked for at the index that is handed in, and where the last was found is left there.
 pub fn push_left_side(
     edges: &mut Vec<UnitEdge>,
     rim: Rim,
     strips: &[Strip],
+    found: &mut usize,
 ) -> Result<(), AllocError>
     requires rim { IsRim rim }
     requires fit { All IsFit strips.now }
@@ -150,9 +173,9 @@ pub fn push_left_side(
     for k in (0..strips.len()).rev() {
         let strip = &strips[k];
         if k + 1 < strips.len() {
-            push_to_left_end(edges, rim, strip, &strips[k + 1])?;
+            push_to_left_end(edges, rim, strip, &strips[k + 1], found)?;
         }
-        push_end(edges, rim, strip, strip.x0, 0)?;
+        push_end(edges, rim, strip, strip.x0, 0, found)?;
     }
     Ok(())
 }

@@ -39,7 +39,7 @@ cell_away (suc (suc zero)) window own k d small other row inside away = absurd (
 cell_away (suc (suc (suc zero))) window own k d small other row inside away = ap (λ n. int_le (pos n) window.z0) (row.z k d inside) ∙ away
 cell_away (suc (suc (suc (suc dir)))) window own k d small other row inside away = absurd (omega (arith, small))
 
-no_label : (at kept : Bool) → at ≡ false → label_if (at && kept) ≡ None
+pub no_label : (at kept : Bool) → at ≡ false → label_if (at && kept) ≡ None
 no_label true kept is = absurd cc
 no_label false kept is = refl
 

@@ -84,7 +84,7 @@ none_next label (next ∷ rest) is = ap (λ (o : Option ℕ). prefix_len (has_la
 abbrev run : ℕ → ℕ → ℕ → Run
 run first last label = record { first = first; last = last; label = label }
 
-one_run : (labels : List (Option ℕ)) (place label : ℕ) → place < length labels → get_or labels place None ≡ Some label
+pub one_run : (labels : List (Option ℕ)) (place label : ℕ) → place < length labels → get_or labels place None ≡ Some label
     → ((k : ℕ) → (k ≡ place → ⊥) → get_or labels k None ≡ None) → runs_of labels ≡ record { first = place; last = place; label = label } ∷ []
 unfolding runs_of
 one_run labels place label there is others =

@@ -19,3 +19,4 @@ pub mod ConnectionLaws
 pub mod CrossingLaws
 pub mod StripTiles
 pub mod Passing
+pub mod SideEnds

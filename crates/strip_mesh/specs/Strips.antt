@@ -1,14 +1,15 @@
 -- Polygons and level pairs by the indices of cells, and where strips meet.
-use Rattle.std.specs.Prelude.{◌≡◌, ℕ, ◌+◌, ◌-◌, ◌<◌, List, [], length, map, drop, get_or, Option, None, Some}
+use Rattle.std.specs.Prelude.{◌≡◌, ℕ, ◌+◌, ◌-◌, ◌<◌, List, [], length, map, drop, get_or, Option, None, Some, false}
 use Rattle.std.specs.List.{prefix_len}
 use Rattle.nav_ground.specs.declared.cell.Cell.{Cell}
+use Rattle.nav_ground.specs.declared.cell.Window.{Window}
 use Rattle.mesh_types.specs.declared.polygon.Polygon.{Polygon}
 use Rattle.mesh_types.specs.declared.tile.LevelPair.{LevelPair}
 use Rattle.mesh_types.specs.declared.label_runs.Run.{Run}
 use Rattle.mesh_types.specs.Runs.{has_label}
 use Rattle.mesh_types.specs.StripPolygons.{strip_polygon, some_cell}
 use Rattle.mesh_types.specs.StripLinks.{strip_beyond, outside_of}
-use Rattle.mesh_types.specs.Crossings.{level_pair}
+use Rattle.mesh_types.specs.Crossings.{level_pair, is_at_side}
 use Rattle.mono_regions.specs.Indices.{cell_at}
 
 -- the rectangle of the cells with indices
@@ -27,6 +28,11 @@ last_of run = get_or run (length run - 1) some_cell
 abbrev pub MeetsOthersAt : List (List Cell) → ℕ → ℕ → ℕ → Type 0
 MeetsOthersAt runs s dir place =
     (k : ℕ) → k < length (get_or runs s []) → (k ≡ place → ⊥) → strip_beyond runs s dir (get_or (get_or runs s []) k some_cell) ≡ None
+
+-- no cell of a strip but the one at a place lies along a side of the tile
+pub record IsAloneAtSide (window : Window) (own : List Cell) (dir place : ℕ) : Type 0 where
+  pub there : place < length own
+  pub others : (k : ℕ) → k < length own → (k ≡ place → ⊥) → is_at_side window dir (get_or own k some_cell).at ≡ false
 
 -- the strips that lie beyond an edge of the strip s, cell by cell
 abbrev pub strips_over : List (List Cell) → ℕ → ℕ → List (Option ℕ)

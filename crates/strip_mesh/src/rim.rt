@@ -1,6 +1,6 @@
 //! What the rim of a tile offers to the tiles across its sides.
 
-ghost use Rattle.std.specs.Prelude.{◌≡◌, ◌<◌, ◌≤◌, ◌+◌, ◌++◌, false, [], IfOk, OnOk, All, length, map, slice_index, slice_index_or, slice_range};
+ghost use Rattle.std.specs.Prelude.{◌≡◌, ◌<◌, ◌≤◌, ◌+◌, ◌++◌, ◌↔◌, pos, false, [], IfOk, IfSome, IsTrue, OnOk, All, length, map, slice_index, slice_index_or, slice_range};
 ghost use Rattle.std.specs.List.{between, flat_map, range_with_len};
 ghost use Rattle.nav_ground.specs.declared.cell.Cell.{Cell};
 ghost use Rattle.nav_ground.specs.Cells.{IsCell, IsCells};
@@ -11,7 +11,7 @@ ghost use Rattle.mesh_types.specs.StripPolygons.{some_cell};
 ghost use Rattle.mesh_types.specs.Runs.{label_if, runs_of};
 ghost use Rattle.mono_regions.specs.Indices.{cell_at, AreIndices};
 ghost use Rattle.strip_mesh.specs.Indexed.{AreIndexed, runs_in, run_in};
-ghost use Rattle.strip_mesh.specs.Strips.{pair_at};
+ghost use Rattle.strip_mesh.specs.Strips.{pair_at, IsAloneAtSide};
 
 use crate::tile_strips::TileStrips;
 use mesh_types::{LevelPair, RimEdge, Run, runs};
@@ -67,7 +67,7 @@ fn push_rim(
     Ok(())
 }
 
-/// Appends what the rim lists for an edge of a strip.
+/// Appends what the rim lists for an edge of a strip. Beyond its ends a strip meets a side of the tile with one cell alone.
 fn push_rim_over(
     alloc: Global,
     of: StripRim,
@@ -83,6 +83,51 @@ fn push_rim_over(
     if !may_reach(of, 3 - edge) {
         return Ok(());
     }
+    match end_at_side(of, edge) {
+        Some(place) => push_rim_at(alloc, of, edge, place, rim),
+        None => push_rim_along(alloc, of, edge, labels, rim),
+    }
+}
+
+/// Appends what the rim lists for an edge at an end of a strip, of which the cell at a place alone lies along the side of the tile.
+fn push_rim_at(
+    alloc: Global,
+    of: StripRim,
+    edge: u32,
+    place: u32,
+    rim: &mut Vec<RimEdge>,
+) -> Result<(), AllocError>
+    requires rules { AreIndexed of.strips.now }
+    requires there { of.strip < length (runs_in of.strips.now) }
+    requires edge { edge < 4 }
+    requires alone { IsAloneAtSide of.window.now (run_in of.strips.now of.strip) (outside_of edge) place }
+    ensures { OnOk result (rim.new.items ≡ rim.old.items ++ strip_rim_over of.entry.window.now (runs_in of.entry.strips.now) of.entry.strip edge) }
+{
+    let run = of.strips.run(of.strip);
+    if let Some(label) = label_at(of, edge, run[place as usize]) {
+        let part = Run {
+            first: place,
+            last: place,
+            label,
+        };
+        rim.push(rim_edge(alloc, of.strips, of.strip, edge, part)?)?;
+    }
+    Ok(())
+}
+
+/// Appends what the rim lists for an edge of a strip, along all of it.
+fn push_rim_along(
+    alloc: Global,
+    of: StripRim,
+    edge: u32,
+    labels: &mut Vec<Option<u32>>,
+    rim: &mut Vec<RimEdge>,
+) -> Result<(), AllocError>
+    requires rules { AreIndexed of.strips.now }
+    requires there { of.strip < length (runs_in of.strips.now) }
+    requires edge { edge < 4 }
+    ensures { OnOk result (rim.new.items ≡ rim.old.items ++ strip_rim_over of.entry.window.now (runs_in of.entry.strips.now) of.entry.strip edge) }
+{
     label_crossing(of, edge, labels)?;
     let parts = runs(alloc, labels.as_slice())?;
     let parts = parts.as_slice();
@@ -90,6 +135,63 @@ fn push_rim_over(
         rim.push(rim_edge(alloc, of.strips, of.strip, edge, *part)?)?;
     }
     Ok(())
+}
+
+/// The place of the one cell of a strip that lies along the side of the tile beyond an edge at an end of the strip, where the strip is known to
+/// end right at that side.
+fn end_at_side(of: StripRim, edge: u32) -> Option<u32>
+    requires rules { AreIndexed of.strips.now }
+    requires there { of.strip < length (runs_in of.strips.now) }
+    ensures { IfSome result (IsAloneAtSide of.entry.window.now (run_in of.entry.strips.now of.entry.strip) (outside_of edge)) }
+{
+    match edge {
+        1 => last_at_side(of),
+        3 => first_at_side(of),
+        _ => None,
+    }
+}
+
+/// The place of the last cell of a strip, if it lies in the last columns of the tile.
+fn last_at_side(of: StripRim) -> Option<u32>
+    requires rules { AreIndexed of.strips.now }
+    requires there { of.strip < length (runs_in of.strips.now) }
+    ensures { IfSome result (IsAloneAtSide of.entry.window.now (run_in of.entry.strips.now of.entry.strip) 2) }
+{
+    let count = of.strips.run(of.strip).len();
+    if is_last_column(of.window, of.strips.last(of.strip).at()) {
+        Some((count - 1) as u32)
+    } else {
+        None
+    }
+}
+
+/// The place of the first cell of a strip, if it lies in the first columns of the tile.
+fn first_at_side(of: StripRim) -> Option<u32>
+    requires rules { AreIndexed of.strips.now }
+    requires there { of.strip < length (runs_in of.strips.now) }
+    ensures { IfSome result (IsAloneAtSide of.entry.window.now (run_in of.entry.strips.now of.entry.strip) 0) }
+{
+    if is_first_column(of.window, of.strips.first(of.strip).at()) {
+        Some(0)
+    } else {
+        None
+    }
+}
+
+/// Whether a place lies in the first columns of a tile.
+fn is_first_column(window: &Window, at: CellRef) -> bool
+    requires { at.x < 1024 }
+    ensures { IsTrue result ↔ (pos at.x ≡ window.now.x0) }
+{
+    at.x as i32 == window.x0
+}
+
+/// Whether a place lies in the last columns of a tile.
+fn is_last_column(window: &Window, at: CellRef) -> bool
+    requires { at.x < 1024 }
+    ensures { IsTrue result ↔ (pos at.x ≡ window.now.x1) }
+{
+    at.x as i32 == window.x1
 }
 
 /// Whether a strip may have cells along the side of the tile in a direction: toward x + 1 its last cell comes nearest to that, else its
@@ -115,13 +217,23 @@ fn label_crossing(of: StripRim, edge: u32, labels: &mut Vec<Option<u32>>) -> Res
     ensures { OnOk result (labels.new.items
         ≡ map (λ (cell : Cell). label_if (is_crossing of.entry.window.now (outside_of edge) cell)) (run_in of.entry.strips.now of.entry.strip)) }
 {
-    let cells = of.strips.free.cells.as_slice();
     let run = of.strips.run(of.strip);
     labels.clear();
     for at in run {
-        labels.push(label(of.window, 3 - edge, &cells[*at as usize]))?;
+        labels.push(label_at(of, edge, *at))?;
     }
     Ok(())
+}
+
+/// The one label, for the cell with an index, if it has a kept neighbour across the side of the tile that an edge lies on.
+fn label_at(of: StripRim, edge: u32, at: u32) -> Option<u32>
+    requires rules { AreIndexed of.strips.now }
+    requires edge { edge < 4 }
+    requires there { at < length of.strips.now.free.cells }
+    ensures { result ≡ label_if (is_crossing of.entry.window.now (outside_of edge) (cell_at of.entry.strips.now.free.cells at)) }
+{
+    let cells = of.strips.free.cells.as_slice();
+    label(of.window, 3 - edge, &cells[at as usize])
 }
 
 /// The one label, for a cell that has a kept neighbour across the side of the tile in a direction.

@@ -1,9 +1,8 @@
 use Rattle.std.proofs.Common.{List, ◌∷◌, [], ◌++◌, length, ◌∙◌, sym}
-use Rattle.std.proofs.lemmas.Bool.{eqb-true}
 use Rattle.nav_base.specs.declared.point.Point.{Point}
 use Rattle.mesh_types.specs.Simplified.{origin, kept_walking}
 use Rattle.contour_simplify.specs.declared.run.Half.{Half}
-use Rattle.contour_simplify.proofs.Halving.{smaller, less_on_stack, walked_split, walked_straight, parts_corners, rest_of, nothing_kept}
+use Rattle.contour_simplify.proofs.Halving.{smaller, less_on_stack, walked_split, walked_straight, parts_corners, rest_of, straight}
 use Rattle.contour_simplify.proofs.run.walk.Goals as goal
 
 pub loop-half-smaller-in-Continue-branch-2 : goal.loop-half-smaller-in-Continue-branch-2
@@ -38,5 +37,6 @@ loop-half-preserved c =
       each = rest_of rest half (rw c.in-Some.ensures.items at c.loop-half.invariant.each);
     }
 
-pub returns-then-is_empty : goal.returns-then-is_empty
-returns-then-is_empty c = c.new.ensures.items ∙ nothing_kept c.args.error c.args.first c.args.inner.now c.args.last (eqb-true _ _ (sym c.is_empty.ensures ∙ c.if-is_empty.true))
+pub returns-then-is_straight : goal.returns-then-is_straight
+returns-then-is_straight c =
+    c.new.ensures.items ∙ sym (straight c.args.error c.args.first c.args.inner.now c.args.last (c.is_straight.ensures c.if-is_straight.true))

@@ -1,7 +1,7 @@
 use Rattle.std.proofs.Common.{◌≡◌, ◌++◌, map, take}
 use Rattle.mesh_types.specs.StripRim.{rim_edge}
 use Rattle.strip_mesh.specs.Indexed.{run_in}
-use Rattle.strip_mesh.proofs.rim.push_rim_over.Given as goal
+use Rattle.strip_mesh.proofs.rim.push_rim_along.Given as goal
 
 -- the entries along the parts so far
 abbrev pub invariant-loop-part : goal.invariant-loop-part

@@ -9,7 +9,7 @@ use Rattle.mesh_types.specs.StripLinks.{outside_of}
 use Rattle.strip_mesh.specs.Indexed.{run_in}
 use Rattle.strip_mesh.proofs.Parts.{own_few, part_inside}
 use Rattle.strip_mesh.proofs.Steps.{one_more_after}
-use Rattle.strip_mesh.proofs.rim.push_rim_over.Goals as goal
+use Rattle.strip_mesh.proofs.rim.push_rim_along.Goals as goal
 
 pub runs-requires : goal.runs-requires
 runs-requires c =
