@@ -21,3 +21,4 @@ pub mod Literals
 pub mod SmallCellLaws
 mod ColumnParts
 mod MarkLaws
+pub mod CellRunLaws

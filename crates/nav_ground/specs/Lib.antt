@@ -3,6 +3,7 @@ pub mod Tiling
 pub mod Fields
 pub mod Cells
 pub mod CellColumns
+pub mod CellRuns
 pub mod ColumnParts
 pub mod Levels
 pub mod SmallCells

@@ -2,6 +2,7 @@
 
 use crate::small_cell::SmallCell;
 use crate::tiling::TileNo;
+use crate::wide_cells::WideCells;
 use nav_list::{Duplicate, Items};
 use nav_share::Shared;
 use std::alloc::{AllocError, Global};
@@ -53,8 +54,8 @@ pub struct Layer {
     /// only what they cover.
     pub radius: u32,
     /// Where the setting says clear: all cells, also those too near a wall, of the tile widened by the radius on each side, in the same
-    /// order, each with all its connections. Else empty.
-    pub wide: Items<SmallCell>,
+    /// order, each with all its connections. Else empty. They stand in one list that all layers of a ground share.
+    pub wide: WideCells,
 }
 
 /// The cells of one tile that the obstacles leave free, in the order of its layer.

@@ -5,7 +5,8 @@
 //! and which numbers they may hold are definitions of `specs/`.
 //!
 //! Lists keep cells as `SmallCell`, in twenty bytes each; contracts see the `Cell`. A `KeptLayer` keeps the free cells of a tile as what they
-//! differ by from those of its layer, in two bytes each; contracts see the `FreeLayer`.
+//! differ by from those of its layer, in two bytes each; contracts see the `FreeLayer`. `WideCells` keeps the wide cells of a layer as `Run`s of
+//! a list that all layers share; contracts see the list, and `gathered` copies it.
 //!
 //! `tiles` and `tile_bounds` give the number of tiles and the columns of one. `covers`, `bounds` and `sets` say of an obstacle which cells it
 //! covers, how far it reaches and which area it sets. `margin_of` gives how many columns agents keep from obstacles, `touch_window` the
@@ -24,21 +25,25 @@ mod kept_layer;
 mod mark;
 mod marked_cells;
 mod past_field;
+mod runs;
 mod setting;
 mod shape;
 mod small_cell;
 mod small_span;
 mod tiling;
 mod touch;
+mod wide_cells;
 
 pub use cell::{Cell, CellRef, FreeLayer, Layer, Window};
 pub use field::{Field, Span};
 pub use history::{Entry, Ground, HISTORY_LIMIT, Reply, Request};
 pub use kept_layer::KeptLayer;
 pub use past_field::PastField;
+pub use runs::{Run, gathered};
 pub use setting::{AREAS, Agent, MeshKind, Setting};
 pub use shape::{Shape, bounds, covers, sets};
 pub use small_cell::SmallCell;
 pub use small_span::SmallSpan;
 pub use tiling::{TileNo, tile_bounds, tiles};
 pub use touch::{margin_of, touch_window, touches};
+pub use wide_cells::WideCells;

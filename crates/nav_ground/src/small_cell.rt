@@ -1,6 +1,6 @@
 //! Cells as they are stored: each in twenty bytes, seen by contracts as the cell.
 
-ghost use Rattle.std.specs.Prelude.{◌≡◌, ◌<◌, ◌==◌, ◌%◌, IsTrue, None, if◌then◌else◌};
+ghost use Rattle.std.specs.Prelude.{◌≡◌, ◌↔◌, ◌<◌, ◌==◌, ◌%◌, IsTrue, None, if◌then◌else◌};
 ghost use Rattle.nav_ground.specs.Cells.{next_level};
 ghost use Rattle.nav_ground.specs.Levels.{IsSmallLevel, level_of, number_of};
 ghost use Rattle.nav_ground.specs.Marks.{marked_cell};
@@ -123,7 +123,7 @@ impl SmallCell {
 
     /// Whether another cell is the same.
     pub(crate) fn is(&self, other: &SmallCell) -> bool
-        ensures { IsTrue result → self.now ≡ other.now }
+        ensures { IsTrue result ↔ (self.now ≡ other.now) }
     {
         self.x == other.x
             && self.z == other.z
