@@ -31,4 +31,6 @@ mod rows;
 #[cfg(test)]
 mod rules;
 #[cfg(test)]
+mod shadows;
+#[cfg(test)]
 mod tiles_and_shapes;

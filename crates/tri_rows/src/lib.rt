@@ -14,8 +14,6 @@ mod marks;
 mod row;
 mod shadow;
 mod spot;
-#[cfg(test)]
-mod tests;
 mod triangle;
 
 pub use bound::{Bound, FRESH, Hits};
