@@ -6,3 +6,4 @@ pub mod OnlyLaws
 pub mod FieldLaws
 pub mod FrontLaws
 pub mod NextLineLaws
+mod OnePassLaws

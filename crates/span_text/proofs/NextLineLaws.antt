@@ -1,13 +1,11 @@
 -- The laws of the next line behind the header.
-use Rattle.std.proofs.Common.{◌≡◌, ℕ, true, cond, ◌==◌, ◌&&◌, List, [], ◌∷◌, ◌++◌, length, codes, decimal, Option, Some, None, refl, sym, ap, ◌∙◌, append_assoc}
+use Rattle.std.proofs.Common.{◌≡◌, ℕ, true, cond, ◌==◌, ◌&&◌, List, [], ◌∷◌, ◌++◌, length, codes, decimal, Some, refl, sym, ap, ◌∙◌, append_assoc}
 use Rattle.std.proofs.Math.Bool.{and-true}
 use Rattle.nav_ground.specs.declared.field.Span.{Span}
 use Rattle.nav_text.specs.declared.fault.FaultKind.TheVariants.{TooMany}
-use Rattle.std.specs.Prelude.{IfSome}
-use Rattle.std.specs.Option.{option_map}
-use Rattle.nav_text.specs.Forms.{number_after, numbers_of}
+use Rattle.nav_text.specs.Forms.{numbers_of}
 use Rattle.nav_text.specs.Lines.{lines}
-use Rattle.nav_text.proofs.FormLaws.{has_word-numbers, is_line-line_text, number_after_take, numbers_again}
+use Rattle.nav_text.proofs.FormLaws.{has_word-numbers, is_line-line_text, numbers_again}
 use Rattle.nav_text.proofs.LineLaws.{lines_append}
 use Rattle.span_text.specs.declared.body.BodyLine.TheVariants.{Fails}
 use Rattle.span_text.specs.FieldText.{span_text}
@@ -41,21 +39,14 @@ span_first width depth before spans text rest span held spelled = record {
 before_more : (n : ℕ) (more rest text : List ℕ) → text ≡ more ++ rest → 32 ∷ (decimal n ++ text) ≡ (32 ∷ (decimal n ++ more)) ++ rest
 before_more n more rest text is = ap (λ t. 32 ∷ (decimal n ++ t)) is ∙ ap (λ t. 32 ∷ t) (sym (append_assoc (decimal n) more rest))
 
--- five numbers one after the other, and a line feed
-pub five_spelled : (text rest a b c d e : List ℕ) (span : Span) → text ≡ codes "span" ++ 32 ∷ ((decimal span.x ++ []) ++ a)
+-- the word and five numbers one after the other, and a line feed
+pub five_spelled : (text rest w a b c d e : List ℕ) (span : Span) → text ≡ codes "span" ++ w → w ≡ 32 ∷ (decimal span.x ++ a)
     → a ≡ 32 ∷ (decimal span.z ++ b) → b ≡ 32 ∷ (decimal span.bottom ++ c) → c ≡ 32 ∷ (decimal span.top ++ d) → d ≡ 32 ∷ (decimal span.area ++ e)
     → e ≡ 10 ∷ rest → text ≡ span_text span ++ 10 ∷ rest
-five_spelled text rest a b c d e span at_x at_z at_bottom at_top at_area end =
+five_spelled text rest w a b c d e span word at_x at_z at_bottom at_top at_area end =
     let with_area = at_area ∙ before_more span.area [] (10 ∷ rest) e end in
     let with_top = at_top ∙ before_more span.top _ (10 ∷ rest) d with_area in
     let with_bottom = at_bottom ∙ before_more span.bottom _ (10 ∷ rest) c with_top in
     let with_z = at_z ∙ before_more span.z _ (10 ∷ rest) b with_bottom in
-    at_x
-    ∙ ap (λ t. codes "span" ++ 32 ∷ t) (append_assoc (decimal span.x) [] a)
-    ∙ ap (λ t. codes "span" ++ t) (before_more span.x _ (10 ∷ rest) a with_z)
-
--- a number behind a space alone
-pub next_said : {R : Type 0} (read : R → List ℕ) (bytes : List ℕ) (result : Option (ℕ × R)) → option_map (λ x. (x.0, read x.1)) result ≡ number_after [] bytes
-    → IfSome result (λ x. bytes ≡ 32 ∷ (decimal x.0 ++ read x.1))
-next_said read bytes None is = tt
-next_said read bytes (Some x) is = number_after_take [] bytes (x.0, read x.1) (sym is) ∙ ap (λ t. 32 ∷ t) (append_assoc (decimal x.0) [] (read x.1))
+    let with_x = at_x ∙ before_more span.x _ (10 ∷ rest) a with_z in
+    word ∙ ap (λ t. codes "span" ++ t) with_x

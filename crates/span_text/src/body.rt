@@ -1,15 +1,15 @@
 //! The lines behind the header: costs, spans and the end.
-ghost use Rattle.std.specs.Prelude.{◌≡◌, ℕ, ◌≤◌, ◌++◌, ◌∷◌, [], Some, MatchOption, IfSome, codes, decimal, length};
+ghost use Rattle.std.specs.Prelude.{◌≡◌, ℕ, ◌≤◌, [], Some, MatchOption, IfSome, codes, length};
 ghost use Rattle.span_text.specs.Body.{cost_in, span_of, is_span, is_column_before, is_column_of, span_after, span_in, other_line, body_line, header_line, Fits};
-ghost use Rattle.span_text.specs.NextLine.{IsHeld, SaysFirst, span_or_many};
+ghost use Rattle.span_text.specs.NextLine.{SaysFirst, span_or_many};
 ghost use Rattle.nav_text.specs.Forms.{numbers_of};
-ghost use Rattle.span_text.specs.FieldText.{span_text};
 ghost use Rattle.nav_text.specs.Lines.{lines};
 ghost use Rattle.std.specs.Option.{option_copied};
 
 use crate::header::is_in;
+use crate::one_pass::span_line;
 use nav_ground::{SmallSpan, Span};
-use nav_text::{FaultKind, first_line, has_word, number_after, numbers_of};
+use nav_text::{FaultKind, first_line, has_word, numbers_of};
 
 /// The most spans that a field can have.
 pub const MAX_SPANS: usize = 2000000;
@@ -45,37 +45,6 @@ pub fn next_line<'a>(
     }
     let (line, rest) = first_line(text)?;
     Some((body_line(width, depth, before, spans, line), rest))
-}
-
-/// The span whose line a text begins with, and the text after it. None where it begins with no line of this form.
-fn span_line(text: &[u8]) -> Option<(Span, &[u8])>
-    ensures text { IfSome result (λ x. text.now ≡ span_text x.0 ++ 10 ∷ x.1.now) }
-    ensures held { IfSome result (λ x. IsHeld x.0) }
-{
-    let (x, rest) = number_after(b"span", text)?;
-    let (z, rest) = next_number(rest)?;
-    let (bottom, rest) = next_number(rest)?;
-    let (top, rest) = next_number(rest)?;
-    let (area, rest) = next_number(rest)?;
-    let span = Span {
-        x,
-        z,
-        bottom,
-        top,
-        area,
-    };
-    let (feed, after) = rest.split_first()?;
-    if *feed != b'\n' {
-        return None;
-    }
-    Some((span, after))
-}
-
-/// The number behind one space at the front, and the bytes after it.
-fn next_number(bytes: &[u8]) -> Option<(u32, &[u8])>
-    ensures { IfSome result (λ x. bytes.now ≡ 32 ∷ (decimal x.0 ++ x.1.now)) }
-{
-    number_after(b"", bytes)
 }
 
 /// The line of a span, after some spans.

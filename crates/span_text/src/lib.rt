@@ -6,6 +6,7 @@ mod body;
 mod field;
 mod front;
 mod header;
+mod one_pass;
 mod span;
 
 pub use field::{FieldRefusal, FieldText, read_field};
