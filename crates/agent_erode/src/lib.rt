@@ -14,4 +14,4 @@ mod reach;
 mod windows;
 
 pub use erosion::{erode, erode_window, kept, kept_marks};
-pub use windows::{Rows, cells_near, is_near, rows_of};
+pub use windows::{Rows, cells_near, is_near, rows_of, runs_near};

@@ -1,14 +1,15 @@
 //! The cells in a rectangle of columns.
 
-ghost use Rattle.std.specs.Prelude.{◌≡◌, ◌&&◌, ◌+ℤ◌, ◌-ℤ◌, ◌<◌, ◌≤◌, ℕ, true, false, filter, IfOk, int_le, length, pos, slice_range};
+ghost use Rattle.std.specs.Prelude.{◌≡◌, ◌&&◌, ◌+ℤ◌, ◌-ℤ◌, ◌<◌, ◌≤◌, ℕ, true, false, filter, IfOk, int_le, length, pos, All};
 ghost use Rattle.std.specs.List.Sorted.{IsPartitionPoint};
 ghost use Rattle.nav_ground.specs.declared.cell.Cell.{Cell};
 ghost use Rattle.nav_ground.specs.Cells.{IsCells};
+ghost use Rattle.nav_ground.specs.CellRuns.{IsRunOf, cells_of_run, cells_of_runs};
 ghost use Rattle.nav_ground.specs.Tiling.{is_in_window, widened};
 ghost use Rattle.nav_ground.specs.Clearance.{cells_in};
 ghost use Rattle.agent_erode.specs.Runs.{is_in_run, IsBetween};
 
-use nav_ground::{CellRef, SmallCell, Window};
+use nav_ground::{CellRef, Run, SmallCell, Window, gathered};
 use std::alloc::{AllocError, Global};
 
 /// The cells in a rectangle with a margin of so many columns on each side. Of each of its rows only the cells in the rectangle are gone
@@ -22,32 +23,41 @@ pub fn cells_near(
     requires { IsCells cells.now }
     ensures { IfOk result (λ near. near.items ≡ cells_in (widened window margin) cells.now) }
 {
+    let runs = runs_near(alloc, cells, window, margin)?;
+    gathered(alloc, cells, runs.as_slice())
+}
+
+/// Where the cells in a rectangle with a margin of so many columns on each side stand: a run for each of its rows, found by halving.
+pub fn runs_near(
+    alloc: Global,
+    cells: &[SmallCell],
+    window: Window,
+    margin: u32,
+) -> Result<Vec<Run>, AllocError>
+    requires { IsCells cells.now }
+    ensures within { IfOk result (λ runs. All (IsRunOf cells.now) runs.items) }
+    ensures near { IfOk result (λ runs. cells_of_runs cells.now runs.items ≡ cells_in (widened window margin) cells.now) }
+{
     let rows = rows_of(window, margin);
     let (first, end) = ends_of(window.x0, window.x1, margin);
-    let mut near = Vec::new(alloc);
+    let mut runs = Vec::with_capacity(alloc, rows.end.saturating_sub(rows.first) as usize)?;
     for row in rows.first..rows.end {
-        near.extend_from_slice(run_of(cells, row, first, end))?;
+        runs.push(run_of(cells, row, first, end))?;
     }
-    Ok(near)
+    Ok(runs)
 }
 
-/// The cells of a row from a first column on and before an end, which stand one after the other.
-fn run_of(cells: &[SmallCell], row: u32, first: u32, end: u32) -> &[SmallCell]
+/// Where the cells of a row from a first column on and before an end stand.
+fn run_of(cells: &[SmallCell], row: u32, first: u32, end: u32) -> Run
     requires cells { IsCells cells.now }
     requires ends { first ≤ end }
-    ensures { result.now ≡ filter (is_in_run row first end) cells.now }
+    ensures within { IsRunOf cells.now result }
+    ensures cells { cells_of_run cells.now result ≡ filter (is_in_run row first end) cells.now }
 {
-    let from = cells_before(cells, row, first);
-    let to = cells_before(cells, row, end);
-    between(cells, from, to)
-}
-
-/// The cells from one place of a list up to another.
-fn between(cells: &[SmallCell], from: usize, to: usize) -> &[SmallCell]
-    requires { (from ≤ to) × (to ≤ length cells.now) }
-    ensures { result.now ≡ slice_range cells.now from to }
-{
-    &cells[from..to]
+    Run {
+        from: cells_before(cells, row, first) as u32,
+        to: cells_before(cells, row, end) as u32,
+    }
 }
 
 /// Rows of columns of a field, those with z from `first` on and before `end`.

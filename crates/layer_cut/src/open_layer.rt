@@ -2,7 +2,7 @@
 
 ghost use Rattle.std.specs.Prelude.{◌≡◌, ◌++◌, ◌∷◌, [], IfOk, OnOk};
 
-use nav_ground::{Layer, SmallCell, TileNo};
+use nav_ground::{Layer, SmallCell, TileNo, WideCells};
 use nav_list::Items;
 use nav_share::Shared;
 use std::alloc::{AllocError, Global};
@@ -14,7 +14,7 @@ pub(crate) struct OpenLayer {
     tile: TileNo,
     cells: Vec<SmallCell>,
     radius: u32,
-    wide: Items<SmallCell>,
+    wide: WideCells,
 }
 
 impl Model for OpenLayer {
@@ -31,15 +31,15 @@ impl OpenLayer {
         tile: TileNo,
         cells: Vec<SmallCell>,
         radius: u32,
-        wide: Vec<SmallCell>,
+        wide: WideCells,
     ) -> OpenLayer
-        ensures { result ≡ record { tile = tile; cells = cells.items; radius = radius; wide = wide.items } }
+        ensures { result ≡ record { tile = tile; cells = cells.items; radius = radius; wide = wide } }
     {
         OpenLayer {
             tile,
             cells,
             radius,
-            wide: Items::from_vec(wide),
+            wide,
         }
     }
 

@@ -4,18 +4,21 @@ ghost use Rattle.std.specs.Prelude.{◌≡◌, ◌<◌, IfOk, List, [], map};
 ghost use Rattle.std.specs.List.{range_with_len};
 ghost use Rattle.nav_ground.specs.declared.cell.Cell.{Cell};
 ghost use Rattle.nav_ground.specs.Cells.{IsCells, IsCompact};
-ghost use Rattle.nav_ground.specs.Clearance.{is_kept, kept_cells};
+ghost use Rattle.nav_ground.specs.Clearance.{is_kept, kept_cells, cells_in};
+ghost use Rattle.nav_ground.specs.Layers;
 ghost use Rattle.nav_ground.specs.Layers.{layer_among, wide_cells};
 ghost use Rattle.nav_ground.specs.Limits.{IsSetting};
-ghost use Rattle.nav_ground.specs.Tiling.{tile_count, margin_of, is_in_window};
+ghost use Rattle.nav_ground.specs.Tiling.{tile_count, tile_window, margin_of, is_in_window};
 ghost use Rattle.layer_cut.specs.Tiles.{tile_at, IsInField, AreInField, layer_with};
 
 use crate::neighbours::layer_cell;
 use crate::open_layer::{OpenLayer, closed};
-use agent_erode::cells_near;
+use agent_erode::runs_near;
 use nav_ground::{
-    CellRef, Layer, Setting, SmallCell, TileNo, Window, margin_of, tile_bounds, tiles,
+    CellRef, Layer, Setting, SmallCell, TileNo, WideCells, Window, margin_of, tile_bounds, tiles,
 };
+use nav_list::Items;
+use nav_share::Shared;
 use std::alloc::{AllocError, Global};
 
 /// The tile of a column of the field.
@@ -33,7 +36,7 @@ pub fn tile_of(setting: &Setting, x: u32, z: u32) -> TileNo
 pub(crate) fn hand_out(
     alloc: Global,
     setting: &Setting,
-    cells: &[SmallCell],
+    cells: &Shared<Items<SmallCell>>,
     marks: &[bool],
 ) -> Result<Vec<Layer>, AllocError>
     requires setting { IsSetting setting.now }
@@ -43,7 +46,27 @@ pub(crate) fn hand_out(
     ensures { IfOk result (λ layers. layers.items
         ≡ map (layer_among setting.now cells.now (kept_cells cells.now setting.now.agent.radius)) (range_with_len 0 (tile_count setting.now))) }
 {
-    let mut layers = empty_layers(alloc, setting, cells)?;
+    let layers = empty_layers(alloc, setting, cells)?;
+    handed_out(alloc, setting, cells.get().as_slice(), marks, layers)
+}
+
+/// The layers of all tiles, in order, from those without cells, to which the kept cells are handed out.
+fn handed_out(
+    alloc: Global,
+    setting: &Setting,
+    cells: &[SmallCell],
+    marks: &[bool],
+    empty: Vec<OpenLayer>,
+) -> Result<Vec<Layer>, AllocError>
+    requires setting { IsSetting setting.now }
+    requires cells { IsCompact cells.now }
+    requires inside { AreInField setting.now cells.now }
+    requires marks { marks.now ≡ map (is_kept cells.now setting.now.agent.radius) cells.now }
+    requires empty { (kept : List Cell) → empty.items ≡ map (layer_with setting.now cells.now kept []) (range_with_len 0 (tile_count setting.now)) }
+    ensures { IfOk result (λ layers. layers.items
+        ≡ map (layer_among setting.now cells.now (kept_cells cells.now setting.now.agent.radius)) (range_with_len 0 (tile_count setting.now))) }
+{
+    let mut layers = empty;
     let mut firsts = [0; 4];
     for (i, cell) in cells.iter().enumerate() {
         if marks[i] {
@@ -60,7 +83,7 @@ pub(crate) fn hand_out(
 fn empty_layers(
     alloc: Global,
     setting: &Setting,
-    cells: &[SmallCell],
+    cells: &Shared<Items<SmallCell>>,
 ) -> Result<Vec<OpenLayer>, AllocError>
     requires setting { IsSetting setting.now }
     requires cells { IsCells cells.now }
@@ -79,7 +102,7 @@ fn empty_layers(
 pub(crate) fn cut(
     alloc: Global,
     setting: &Setting,
-    cells: &[SmallCell],
+    cells: &Shared<Items<SmallCell>>,
     marks: &[bool],
     tile: TileNo,
 ) -> Result<Layer, AllocError>
@@ -88,6 +111,26 @@ pub(crate) fn cut(
     requires marks { marks.now ≡ map (is_kept cells.now setting.now.agent.radius) cells.now }
     requires there { tile < tile_count setting.now }
     ensures { IfOk result (λ layer. layer ≡ layer_among setting.now cells.now (kept_cells cells.now setting.now.agent.radius) tile) }
+{
+    let kept = kept_in_tile(alloc, setting, cells.get().as_slice(), marks, tile)?;
+    let open = layer_of_cells(alloc, setting, cells, tile, kept)?;
+    open.close(alloc)
+}
+
+/// The kept cells of a tile as its layer has them, from the cells of the whole field and the marks that say which of them are kept.
+fn kept_in_tile(
+    alloc: Global,
+    setting: &Setting,
+    cells: &[SmallCell],
+    marks: &[bool],
+    tile: TileNo,
+) -> Result<Vec<SmallCell>, AllocError>
+    requires setting { IsSetting setting.now }
+    requires cells { IsCompact cells.now }
+    requires marks { marks.now ≡ map (is_kept cells.now setting.now.agent.radius) cells.now }
+    requires there { tile < tile_count setting.now }
+    ensures { IfOk result (λ kept. kept.items
+        ≡ map (Layers.layer_cell (kept_cells cells.now setting.now.agent.radius)) (cells_in (tile_window setting.now tile) (kept_cells cells.now setting.now.agent.radius))) }
 {
     let window = tile_bounds(setting, tile);
     let mut kept = Vec::new(alloc);
@@ -98,15 +141,14 @@ pub(crate) fn cut(
             kept.push(layer_cell(cells, marks, &mut firsts, cell))?;
         }
     }
-    let open = layer_of_cells(alloc, setting, cells, tile, kept)?;
-    open.close(alloc)
+    Ok(kept)
 }
 
 /// The layer of a tile with some kept cells: what agents keep from obstacles, and its wide cells from those of the whole field.
 fn layer_of_cells(
     alloc: Global,
     setting: &Setting,
-    cells: &[SmallCell],
+    cells: &Shared<Items<SmallCell>>,
     tile: TileNo,
     kept: Vec<SmallCell>,
 ) -> Result<OpenLayer, AllocError>
@@ -120,23 +162,24 @@ fn layer_of_cells(
     Ok(OpenLayer::new(tile, kept, radius, wide))
 }
 
-/// The cells of a tile and of the columns that agents keep from obstacles on each side; none where they keep no distance.
+/// The cells of a tile and of the columns that agents keep from obstacles on each side; none where they keep no distance. They are not copied.
 fn wide_cells(
     alloc: Global,
     setting: &Setting,
-    cells: &[SmallCell],
+    cells: &Shared<Items<SmallCell>>,
     tile: TileNo,
-) -> Result<Vec<SmallCell>, AllocError>
+) -> Result<WideCells, AllocError>
     requires setting { IsSetting setting.now }
     requires cells { IsCells cells.now }
     requires there { tile < tile_count setting.now }
-    ensures { IfOk result (λ wide. wide.items ≡ Rattle.nav_ground.specs.Layers.wide_cells setting.now cells.now tile) }
+    ensures { IfOk result (λ wide. wide ≡ Layers.wide_cells setting.now cells.now tile) }
 {
-    if setting.clear {
-        cells_near(alloc, cells, tile_bounds(setting, tile), margin_of(setting))
-    } else {
-        Ok(Vec::new(alloc))
+    if !setting.clear {
+        return Ok(WideCells::none(alloc));
     }
+    let window = tile_bounds(setting, tile);
+    let runs = runs_near(alloc, cells.get().as_slice(), window, margin_of(setting))?;
+    Ok(WideCells::over(cells.share()?, runs))
 }
 
 /// Whether a place lies in a rectangle of columns.

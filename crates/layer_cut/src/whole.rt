@@ -15,6 +15,7 @@ use agent_erode::kept_marks;
 use compact_layer::{CompactField, compact};
 use nav_ground::{Field, Ground, Layer, PastField, Setting, TileNo, tile_bounds};
 use nav_list::Items;
+use nav_share::Shared;
 use span_filters::filtered;
 use std::alloc::{AllocError, Global};
 
@@ -82,17 +83,13 @@ fn layer_from(
     ensures { IfOk result (λ layer. layer ≡ layer_of setting.now field.now tile) }
 {
     let compact = cells(alloc, setting, field)?;
-    let marks = kept_marks(alloc, compact.cells.as_slice(), setting.agent.radius)?;
-    cut(
-        alloc,
-        setting,
-        compact.cells.as_slice(),
-        marks.as_slice(),
-        tile,
-    )
+    let shared = Shared::new(alloc, compact.cells)?;
+    let marks = kept_marks(alloc, shared.get().as_slice(), setting.agent.radius)?;
+    cut(alloc, setting, &shared, marks.as_slice(), tile)
 }
 
-/// The layers of all tiles, in order. The spans are let go before the layers are made, so that at most two of the three lists stand at once.
+/// The layers of all tiles, in order. The spans are let go before the layers are made, so that at most two of the three lists stand at once;
+/// where agents keep their radius from obstacles, the wide cells of all layers share the list of cells.
 fn layers(alloc: Global, setting: &Setting, field: Field) -> Result<Vec<Layer>, AllocError>
     requires setting { IsSetting setting.now }
     requires field { IsField field }
@@ -100,8 +97,9 @@ fn layers(alloc: Global, setting: &Setting, field: Field) -> Result<Vec<Layer>, 
     ensures { IfOk result (λ layers. layers.items ≡ layers_of setting.now field) }
 {
     let compact = last_cells(alloc, setting, field)?;
-    let marks = kept_marks(alloc, compact.cells.as_slice(), setting.agent.radius)?;
-    hand_out(alloc, setting, compact.cells.as_slice(), marks.as_slice())
+    let shared = Shared::new(alloc, compact.cells)?;
+    let marks = kept_marks(alloc, shared.get().as_slice(), setting.agent.radius)?;
+    hand_out(alloc, setting, &shared, marks.as_slice())
 }
 
 /// The cells of a field, whose spans are let go at the end.

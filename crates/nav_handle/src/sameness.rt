@@ -33,7 +33,7 @@ fn is_same_layer(a: &Layer, b: &Layer) -> bool
     a.tile == b.tile
         && a.radius == b.radius
         && are_same_cells(a.cells.get().as_slice(), b.cells.get().as_slice())
-        && are_same_cells(a.wide.as_slice(), b.wide.as_slice())
+        && a.wide.is(&b.wide)
 }
 
 fn are_same_cells(a: &[SmallCell], b: &[SmallCell]) -> bool

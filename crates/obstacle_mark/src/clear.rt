@@ -39,7 +39,8 @@ pub fn areas_clear(
     if is_plain(layer) {
         return Ok(areas);
     }
-    let clear = clear_places(alloc, layer.wide.as_slice(), shapes, layer.radius)?;
+    let wide = layer.wide.all(alloc)?;
+    let clear = clear_places(alloc, wide.as_slice(), shapes, layer.radius)?;
     leave_clear(cells, areas.as_mut_slice(), clear.as_slice());
     Ok(areas)
 }

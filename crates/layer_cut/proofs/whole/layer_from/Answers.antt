@@ -6,5 +6,5 @@ use Rattle.layer_cut.proofs.whole.layer_from.Goals as goal
 pub returns : goal.returns
 returns c =
     IfOk-weaker c.cut.result _ _
-    (λ layer made. layer_is c.args.setting.now c.args.field.now _ c.args.tile layer (c.as_slice-2.ensures ∙ c.in_ok-compact.ensures.cells) made)
+    (λ layer made. layer_is c.args.setting.now c.args.field.now _ c.args.tile layer (c.in_ok-shared.ensures.ok ∙ c.in_ok-compact.ensures.cells) made)
     c.cut.ensures

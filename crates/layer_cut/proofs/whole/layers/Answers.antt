@@ -6,5 +6,5 @@ use Rattle.layer_cut.proofs.whole.layers.Goals as goal
 pub returns : goal.returns
 returns c =
     IfOk-weaker c.hand_out.result _ _
-    (λ layers made. layers_are c.args.setting.now c.args.field _ layers.items (c.as_slice-2.ensures ∙ c.in_ok-compact.ensures.cells) made)
+    (λ layers made. layers_are c.args.setting.now c.args.field _ layers.items (c.in_ok-shared.ensures.ok ∙ c.in_ok-compact.ensures.cells) made)
     c.hand_out.ensures

@@ -24,7 +24,7 @@ leave_clear-requires-clause-clear c =
     let radius = c.args.layer.now.radius in
     let are : c.as_slice-2.result.now ≡ clear_places c.args.layer.now shapes =
     c.as_slice-2.ensures.value ∙ c.in_ok-clear.ensures
-    ∙ ap (λ (cells : List Cell). places_of (kept_cells (filter (is_unblocked shapes) cells) radius)) c.as_slice.ensures in
+    ∙ ap (λ (cells : List Cell). places_of (kept_cells (filter (is_unblocked shapes) cells) radius)) (c.as_slice.ensures.value ∙ c.in_ok-wide.ensures) in
     subst ArePlaces (sym are) (clear_are_places wide shapes radius c.requires.layer.wide)
 
 pub returns : goal.returns
@@ -37,7 +37,7 @@ returns c =
     let new = c.leave_clear.new.areas in
     let are : clear ≡ clear_places layer shapes =
     c.as_slice-2.ensures.value ∙ c.in_ok-clear.ensures
-    ∙ ap (λ (cells : List Cell). places_of (kept_cells (filter (is_unblocked shapes) cells) layer.radius)) c.as_slice.ensures in
+    ∙ ap (λ (cells : List Cell). places_of (kept_cells (filter (is_unblocked shapes) cells) layer.radius)) (c.as_slice.ensures.value ∙ c.in_ok-wide.ensures) in
     let crowded = λ (places : List CellRef) (cell : Cell). not (list_any (is_same_place cell.at) places) || is_blocked shapes cell in
     let same : c.in_ok-areas.areas.len ≡ length new =
     c.in_ok-areas.areas.ok.0 ∙ sym (ap length c.as_mut_slice.ensures.value) ∙ sym c.leave_clear.auto.areas in

@@ -3,7 +3,7 @@ use Rattle.std.specs.List.{range_with_len}
 use Rattle.nav_ground.specs.Clearance.{is_kept, kept_cells}
 use Rattle.nav_ground.specs.Tiling.{tile_count}
 use Rattle.layer_cut.specs.Tiles.{layer_with}
-use Rattle.layer_cut.proofs.tile_layers.hand_out.Given as goal
+use Rattle.layer_cut.proofs.tile_layers.handed_out.Given as goal
 
 -- the layers with the kept cells so far
 abbrev pub invariant-loop-i : goal.invariant-loop-i

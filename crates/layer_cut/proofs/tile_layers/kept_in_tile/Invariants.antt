@@ -1,7 +1,7 @@
 use Rattle.std.proofs.Common.{◌≡◌, take, map, filter}
 use Rattle.nav_ground.specs.Clearance.{is_kept, kept_cells, cells_in}
 use Rattle.nav_ground.specs.Layers.{layer_cell}
-use Rattle.layer_cut.proofs.tile_layers.cut.Given as goal
+use Rattle.layer_cut.proofs.tile_layers.kept_in_tile.Given as goal
 
 -- the kept cells of the tile so far
 abbrev pub invariant-loop-i : goal.invariant-loop-i
