@@ -5,7 +5,8 @@ ghost use Rattle.nav_ground.specs.Limits.{IsShape};
 ghost use Rattle.nav_ground.specs.Cells.{IsCells, IsCut, IsLayer};
 
 use crate::rows::{CellRow, NO, Row, cells_of, check_cells};
-use nav_ground::{FreeLayer, Layer, Shape, SmallCell};
+use agent_erode::runs_near;
+use nav_ground::{FreeLayer, Layer, Shape, SmallCell, WideCells, Window};
 use nav_list::Items;
 use nav_share::Shared;
 use obstacle_mark::mark;
@@ -82,6 +83,13 @@ static INNER: [Row; 9] = [
     (4, 4, 0, 0, NO, NO, 0),
 ];
 
+const EVERYWHERE: Window = Window {
+    x0: 0,
+    x1: 1023,
+    z0: 0,
+    z1: 1023,
+};
+
 fn inner(alloc: Global) -> Result<Vec<SmallCell>, AllocError>
     ensures { IfOk result (λ cells. IsCut cells.items) }
 {
@@ -103,6 +111,16 @@ fn hollow(alloc: Global) -> Result<Vec<SmallCell>, AllocError>
     Ok(cells)
 }
 
+/// Cells as wide cells: runs of a list, one a row.
+fn wide_of(alloc: Global, cells: Vec<SmallCell>) -> Result<WideCells, AllocError>
+    requires { IsCells cells.items }
+    ensures { IfOk result IsCells }
+{
+    let runs = runs_near(alloc, cells.as_slice(), EVERYWHERE, 0)?;
+    let shared = Shared::new(alloc, Items::from_vec(cells))?;
+    Ok(WideCells::over(shared, runs))
+}
+
 /// A layer of the inner cells.
 fn layer(alloc: Global, radius: u32, wide: Vec<SmallCell>) -> Result<Layer, AllocError>
     requires { IsCells wide.items }
@@ -113,7 +131,7 @@ fn layer(alloc: Global, radius: u32, wide: Vec<SmallCell>) -> Result<Layer, Allo
         tile: 5,
         cells: Shared::new(alloc, Items::from_vec(cells))?,
         radius,
-        wide: Items::from_vec(wide),
+        wide: wide_of(alloc, wide)?,
     })
 }
 

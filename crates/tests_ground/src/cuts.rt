@@ -254,10 +254,10 @@ fn wide_wanted(alloc: Global, case: &Case, window: &Window) -> Result<Vec<CellRe
 }
 
 /// The radius and the wide cells of a layer are as wanted.
-fn check_wide(rt: &impl Abort, case: &Case, layer: &Layer, places: &[CellRef]) {
+fn check_wide(rt: &impl Abort, case: &Case, layer: &Layer, wide: &[SmallCell], places: &[CellRef]) {
     same(rt, layer.radius, margin_wanted(case));
-    same(rt, layer.wide.len(), places.len());
-    for (cell, place) in layer.wide.iter().zip(places.iter()) {
+    same(rt, wide.len(), places.len());
+    for (cell, place) in wide.iter().zip(places.iter()) {
         same(rt, cell.at(), *place);
         check_cell(rt, &Case { edge: 1, ..*case }, cell);
     }
@@ -288,7 +288,7 @@ fn is_same_layer(alone: &Layer, there: &Layer) -> bool {
     alone.tile == there.tile
         && alone.radius == there.radius
         && are_same(alone.cells.get().as_slice(), there.cells.get().as_slice())
-        && are_same(alone.wide.as_slice(), there.wide.as_slice())
+        && alone.wide.is(&there.wide)
 }
 
 /// There is a layer for each tile, as wanted.
@@ -307,8 +307,9 @@ fn check_layers(
         let there = &layers[tile as usize];
         assert!(rt; there.tile == tile);
         check_cells(rt, case, setting, tile, there.cells.get().as_slice());
-        let wide = wide_wanted(alloc, case, &tile_bounds(setting, tile))?;
-        check_wide(rt, case, there, wide.as_slice());
+        let wanted = wide_wanted(alloc, case, &tile_bounds(setting, tile))?;
+        let wide = there.wide.all(alloc)?;
+        check_wide(rt, case, there, wide.as_slice(), wanted.as_slice());
     }
     Ok(())
 }

@@ -7,8 +7,7 @@ ghost use Rattle.nav_ground.specs.Cells.{IsLayer};
 use crate::checks::same;
 use crate::kept::check_kept;
 use crate::rows::{CellRow, NO, check_cells, stored};
-use nav_ground::{Layer, Shape};
-use nav_list::Items;
+use nav_ground::{Layer, Shape, WideCells};
 use obstacle_mark::mark;
 use std::alloc::{AllocError, Global};
 use std::process::Abort;
@@ -28,7 +27,7 @@ fn layer(alloc: Global) -> Result<Layer, AllocError>
         tile: 5,
         cells: stored(alloc, &CELLS)?,
         radius: 0,
-        wide: Items::new(alloc),
+        wide: WideCells::none(alloc),
     })
 }
 

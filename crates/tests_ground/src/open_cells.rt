@@ -130,9 +130,10 @@ fn check_kept(
 ) -> Result<(), AllocError>
     requires { IsLayer layer.now }
 {
-    same(rt, layer.wide.len(), 121);
+    let wide = layer.wide.all(alloc)?;
+    same(rt, wide.len(), 121);
     for (number, row) in rows.iter().enumerate() {
-        let found = found(alloc, layer.wide.as_slice(), row)?;
+        let found = found(alloc, wide.as_slice(), row)?;
         same(rt, (number, found), (number, (row.2, true)));
     }
     Ok(())

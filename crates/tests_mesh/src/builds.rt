@@ -6,8 +6,7 @@ ghost use Rattle.nav_ground.specs.Limits.{IsShape};
 use crate::rows::hold;
 use crate::stored::shared;
 use mesh_types::TileMesh;
-use nav_ground::{AREAS, Agent, Cell, CellRef, Layer, MeshKind, Setting, Shape};
-use nav_list::Items;
+use nav_ground::{AREAS, Agent, Cell, CellRef, Layer, MeshKind, Setting, Shape, WideCells};
 use nav_steps::Steps;
 use std::alloc::{AllocError, Global};
 use std::marker::Brand;
@@ -90,7 +89,7 @@ fn built<L: Ledger>(
         tile: 0,
         cells: shared(alloc, &cells)?,
         radius: 0,
-        wide: Items::new(alloc),
+        wide: WideCells::none(alloc),
     };
     build_tile(alloc, &layer, &SETTING, shapes, steps)
 }

@@ -6,5 +6,5 @@ use Rattle.tests_ground.proofs.marks.layer.Goals as goal
 pub returns : goal.returns
 returns c = record {
   cells = subst IsCut (sym c.in_ok-stored.ensures) (IsCut-shown _ refl);
-  wide = subst IsCells (sym c.new.ensures) (IsCells-shown _ refl);
+  wide = subst IsCells (sym c.none.ensures) (IsCells-shown _ refl);
 }
