@@ -23,7 +23,8 @@ use Rattle.mesh_types.specs.Soundness.{IsSound}
 use Rattle.graph_search.specs.declared.arcs.Vertex.{Vertex}
 use Rattle.graph_search.specs.declared.arcs.Step.{Step}
 use Rattle.graph_search.specs.Walks.{arc_of}
-use Rattle.corridor_search.specs.MeshGraphs.{IsThere, IsBox, polygon_of, nowhere, extent_at, middle_of, arcs_from, estimates_of}
+use Rattle.corridor_search.specs.MeshGraphs.{IsThere, polygon_of, arcs_from}
+use Rattle.corridor_search.specs.Estimates.{IsBox, nowhere, extent_at, middle_of, estimates_of}
 use Rattle.corridor_search.proofs.Boxes.{low-corner, high-corner, low-bound, high-bound}
 use Rattle.corridor_search.proofs.Sound.{placed, polygon-rules}
 use Rattle.corridor_search.proofs.Searchable.{step-enters, step-weight}

@@ -15,7 +15,8 @@ use Rattle.mesh_types.specs.Corridors.{IsLinkOf, weight_of}
 use Rattle.mesh_types.specs.Soundness.{IsCrossLink, IsSound}
 use Rattle.graph_search.specs.declared.arcs.Vertex.{Vertex}
 use Rattle.graph_search.specs.Walks.{IsSearchable}
-use Rattle.corridor_search.specs.MeshGraphs.{vertex_of, polygon_of, vertices_of, arcs_from, estimates_of}
+use Rattle.corridor_search.specs.MeshGraphs.{vertex_of, polygon_of, vertices_of, arcs_from}
+use Rattle.corridor_search.specs.Estimates.{estimates_of}
 use Rattle.corridor_search.specs.Islands.{inner_of, outer_of}
 use Rattle.corridor_search.specs.Landmarks.{Heights, flat, heights_at, gap_of, AreLandmarks, estimates_by, IsSearchedBy}
 use Rattle.corridor_search.proofs.Sound.{tile-fit, tile-number, leads}

@@ -28,7 +28,7 @@ use Rattle.mesh_types.specs.Corridors.{centre_of, step_cost, weight_of}
 use Rattle.mesh_types.specs.FitTiles.{IsPolygon, IsInSquare}
 use Rattle.mesh_types.specs.Soundness.{IsSound}
 use Rattle.mesh_types.specs.Portals.{LeadsThrough, edge_begin, edge_end}
-use Rattle.corridor_search.specs.MeshGraphs.{weight_from, estimate_from}
+use Rattle.corridor_search.specs.Estimates.{weight_from, estimate_from}
 use Rattle.corridor_search.proofs.Boxes.{low, high, low-corner, high-corner, low-bound, high-bound, IsOn, begin_on, end_on, on_above_x, on_below_x, on_above_z, on_below_z}
 use Rattle.corridor_search.proofs.Sound.{placed, tile-fit, polygon-rules}
 

@@ -16,7 +16,8 @@ use Rattle.graph_search.specs.declared.arcs.Vertex.{Vertex}
 use Rattle.graph_search.specs.declared.arcs.Arc.{Arc}
 use Rattle.graph_search.specs.declared.arcs.Step.{Step}
 use Rattle.graph_search.specs.Walks.{arc_of, ends_of, IsSearchable}
-use Rattle.corridor_search.specs.MeshGraphs.{IsThere, IsSearched, vertex_of, polygon_of, vertices_of, links_from, arc_over, arcs_from, no_link, link_of, end_of, weight_from, estimate_from, estimates_of}
+use Rattle.corridor_search.specs.MeshGraphs.{IsThere, vertex_of, polygon_of, vertices_of, links_from, arc_over, arcs_from, no_link, link_of, end_of, IsSearched}
+use Rattle.corridor_search.specs.Estimates.{weight_from, estimate_from, estimates_of}
 use Rattle.corridor_search.proofs.Sound.{leads}
 use Rattle.corridor_search.proofs.MeshWalks.{step-there, arc-over-link}
 use Rattle.corridor_search.proofs.Vertices.{vertices-count, there-contains}

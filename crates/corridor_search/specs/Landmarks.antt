@@ -9,7 +9,8 @@ use Rattle.mesh_types.specs.declared.links.Link.{Link}
 use Rattle.mesh_types.specs.declared.mesh.Mesh.{Mesh}
 use Rattle.mesh_types.specs.Corridors.{IsLinkOf, weight_of}
 use Rattle.graph_search.specs.declared.arcs.Vertex.{Vertex}
-use Rattle.corridor_search.specs.MeshGraphs.{polygon_of, estimates_of, IsSearched}
+use Rattle.corridor_search.specs.MeshGraphs.{polygon_of, IsSearched}
+use Rattle.corridor_search.specs.Estimates.{estimates_of}
 
 -- heights by tile, and by place there: for each polygon one over each of eight landmarks
 abbrev pub Heights : Type 0

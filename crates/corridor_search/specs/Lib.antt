@@ -1,3 +1,4 @@
 pub mod MeshGraphs
+pub mod Estimates
 pub mod Islands
 pub mod Landmarks

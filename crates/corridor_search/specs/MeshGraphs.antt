@@ -1,22 +1,19 @@
 -- The mesh as a graph: its polygons are the vertices, by tile and place, and its links are the arcs.
-use Rattle.std.specs.Prelude.{◌≡◌, ℕ, ◌+◌, ◌*◌, ◌<◌, max, pos, ◌+ℤ◌, ◌*ℤ◌, List, [], ◌∷◌, ◌++◌, length, map, slice_get, slice_index, slice_index_or, Some}
+use Rattle.std.specs.Prelude.{◌≡◌, ℕ, ◌+◌, ◌<◌, pos, List, [], ◌∷◌, ◌++◌, length, map, slice_get, slice_index_or, Some}
 use Rattle.std.specs.List.{range_with_len}
 use Rattle.std.specs.Option.{option_map_or}
 use Rattle.nav_base.specs.declared.point.Point.{Point}
-use Rattle.nav_base.specs.Point.{IsCellCorner, IsInField}
-use Rattle.nav_base.specs.Distance.{distance_of}
-use Rattle.nav_ground.specs.Limits.{IsSetting}
+use Rattle.nav_base.specs.Point.{IsInField}
 use Rattle.mesh_types.specs.declared.links.PolyRef.{PolyRef}
 use Rattle.mesh_types.specs.declared.links.Link.{Link}
 use Rattle.mesh_types.specs.declared.polygon.Polygon.{Polygon}
 use Rattle.mesh_types.specs.declared.tile.TileMesh.{TileMesh}
 use Rattle.mesh_types.specs.declared.mesh.Mesh.{Mesh}
-use Rattle.mesh_types.specs.declared.extent.Extent.{Extent}
-use Rattle.mesh_types.specs.Extents.{extent_of}
 use Rattle.mesh_types.specs.LinkIndex.{leaving_of, entered_by}
 use Rattle.mesh_types.specs.WholeMesh.{poly_at}
-use Rattle.mesh_types.specs.Corridors.{centre_of, weight_of, WalksTo}
+use Rattle.mesh_types.specs.Corridors.{weight_of, WalksTo}
 use Rattle.mesh_types.specs.Soundness.{IsSound}
+use Rattle.nav_ground.specs.Limits.{IsSetting}
 use Rattle.graph_search.specs.declared.arcs.Vertex.{Vertex}
 use Rattle.graph_search.specs.declared.arcs.Arc.{Arc}
 use Rattle.graph_search.specs.declared.arcs.Step.{Step}
@@ -81,42 +78,6 @@ no_link =
 abbrev pub link_of : Mesh → Step → Link
 link_of mesh step = slice_index_or (links_from mesh (polygon_of step.from)) step.place no_link
 
--- what a step into a polygon costs from a point: the distance to its middle, rounded up and at least 1, times the cost of its area
-abbrev pub weight_from : Mesh → Point → PolyRef → ℕ
-weight_from mesh centre at =
-    option_map_or (λ (to : Polygon). max 1 (distance_of centre (centre_of to.corners)) * slice_index mesh.setting.costs to.area) (poly_at mesh at) 0
-
--- the estimate of what is left to go from a polygon: the distance from its middle to the goal, rounded up
-abbrev pub estimate_from : Mesh → Point → PolyRef → ℕ
-estimate_from mesh goal at = option_map_or (λ (polygon : Polygon). distance_of (centre_of polygon.corners) goal) (poly_at mesh at) 0
-
--- the extent of a polygon, and the middle of its box in sixteenths of a cell
-abbrev pub nowhere : Extent
-nowhere =
-    let origin : Point = record { x = pos 0; z = pos 0 } in
-    record { low = origin; high = origin; area = 0 }
-
-abbrev pub extent_at : Mesh → PolyRef → Extent
-extent_at mesh at = option_map_or (λ (tile : TileMesh). slice_index_or (map extent_of tile.polys) at.index nowhere) (slice_get mesh.tiles at.tile) nowhere
-
-abbrev pub middle_of : Extent → Point
-middle_of extent = record { x = pos 8 *ℤ (extent.low.x +ℤ extent.high.x); z = pos 8 *ℤ (extent.low.z +ℤ extent.high.z) }
-
--- both corners of the box lie in the largest field
-pub record IsBox (extent : Extent) : Type 0 where
-  pub low : IsCellCorner extent.low
-  pub high : IsCellCorner extent.high
-
--- the estimates of all vertices
-abbrev pub estimates_of : Mesh → Point → Vertex → ℕ
-estimates_of mesh goal v = estimate_from mesh goal (polygon_of v)
-
--- a mesh that is searched for walks to a goal: it is sound, its setting keeps the rules, and the goal lies in the field
-pub record IsSearched (mesh : Mesh) (goal : Point) : Type 0 where
-  pub sound : IsSound mesh
-  pub setting : IsSetting mesh.setting
-  pub in_field : IsInField goal
-
 -- the vertex of the polygon that a link enters
 abbrev pub end_of : Link → Vertex
 end_of link = vertex_of (entered_by link)
@@ -124,3 +85,9 @@ end_of link = vertex_of (entered_by link)
 -- a step takes a link that leaves its polygon
 pub record IsOver (mesh : Mesh) (step : Step) : Type 0 where
   pub there : step.place < length (links_from mesh (polygon_of step.from))
+
+-- a mesh that is searched for walks to a goal: it is sound, its setting keeps the rules, and the goal lies in the field
+pub record IsSearched (mesh : Mesh) (goal : Point) : Type 0 where
+  pub sound : IsSound mesh
+  pub setting : IsSetting mesh.setting
+  pub in_field : IsInField goal

@@ -5,7 +5,7 @@ ghost use Rattle.nav_base.specs.Point.{IsInField};
 ghost use Rattle.nav_base.specs.Distance.{distance_of};
 ghost use Rattle.nav_ground.specs.Limits.{IsSetting, IsArea};
 ghost use Rattle.mesh_types.specs.Extents.{extent_of};
-ghost use Rattle.corridor_search.specs.MeshGraphs.{IsBox, nowhere, middle_of, extent_at};
+ghost use Rattle.corridor_search.specs.Estimates.{IsBox, nowhere, middle_of, extent_at};
 
 use crate::roots::root;
 use mesh_types::{Extent, Mesh, PolyRef, Polygons};

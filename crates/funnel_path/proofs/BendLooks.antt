@@ -10,7 +10,7 @@ use Rattle.mesh_types.specs.declared.corner.Side.TheVariants.{L, R}
 use Rattle.mesh_types.specs.Chains.{IsChain, portal_at}
 use Rattle.funnel_path.specs.declared.wedge.Wedge.{Wedge}
 use Rattle.funnel_path.specs.Corners.{IsNearerEnd, square_between}
-use Rattle.funnel_path.specs.Cone.{portal_or_goal, GoesThroughAll, IsLook}
+use Rattle.funnel_path.specs.Looks.{portal_or_goal, GoesThroughAll, IsLook}
 use Rattle.funnel_path.proofs.PointLaws.{LiesBetweenRays, dot_of-still, length-not_negative, length-zero}
 use Rattle.funnel_path.proofs.ChainLaws.{AreAhead, chain_after}
 use Rattle.funnel_path.proofs.WedgeLaws.{IsInClosed, between_ends, inside_apart, inside_closed, left_apart, left_closed, right_apart, right_closed}

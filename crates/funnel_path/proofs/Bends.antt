@@ -10,7 +10,7 @@ use Rattle.mesh_types.specs.declared.corner.Side.TheVariants.{L, R}
 use Rattle.mesh_types.specs.declared.corner.Corner.{Corner}
 use Rattle.mesh_types.specs.Chains.{IsAhead, IsBehind, IsFold, portal_at, end_of, other_end_of}
 use Rattle.mesh_types.specs.Bends.{IsHolding}
-use Rattle.funnel_path.specs.Cone.{portal_or_goal}
+use Rattle.funnel_path.specs.Looks.{portal_or_goal}
 use Rattle.funnel_path.proofs.SideRules.{zero-at_most, around-not_above, around-above, around-below}
 use Rattle.funnel_path.proofs.HoldingLaws.{holds_left, holds_right}
 

@@ -12,7 +12,8 @@ use Rattle.mesh_types.specs.declared.corner.Side.TheVariants.{L, R}
 use Rattle.mesh_types.specs.declared.corner.Corner.{Corner}
 use Rattle.mesh_types.specs.Chains.{IsAhead, IsChain, IsFold, portal_at, end_of, other_end_of}
 use Rattle.mesh_types.specs.Bends.{IsHolding, IsStraightOn}
-use Rattle.funnel_path.specs.Cone.{IsCornerNext, IsGoalNext, IsInLine, IsInside, IsNear, LookOpposite}
+use Rattle.funnel_path.specs.NextCorners.{IsCornerNext, IsGoalNext, IsNear}
+use Rattle.funnel_path.specs.PassedOver.{IsInLine, IsInside, LookOpposite}
 use Rattle.funnel_path.proofs.SideRules.{zero-at_least, signs}
 use Rattle.funnel_path.proofs.PointLaws.{ahead-between, turned-zero}
 use Rattle.funnel_path.proofs.LineLaws.{LieOnLine, alike-ahead, between-ahead, in_line-ways, inside_parts}

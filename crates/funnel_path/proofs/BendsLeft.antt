@@ -14,7 +14,10 @@ use Rattle.mesh_types.specs.Chains.{IsAhead, IsChain, portal_at, end_of, other_e
 use Rattle.mesh_types.specs.Bends.{IsHolding}
 use Rattle.funnel_path.specs.declared.wedge.Wedge.{Wedge}
 use Rattle.funnel_path.specs.Corners.{IsNearerEnd}
-use Rattle.funnel_path.specs.Cone.{portal_or_goal, ArePassed, GoesThroughAll, IsAheadOf, IsBeside, IsCornerNext, IsCornerThrough, IsFoldedBack, IsGoalNext, IsInLine, IsInside, IsLeftTurn, IsLook, IsNear, IsRightTurn, IsTurnedBack, LookOpposite, all_passed, folded_back, in_wedge, left_turn, near, right_turn, through, turned_back}
+use Rattle.funnel_path.specs.Looks.{portal_or_goal, GoesThroughAll, IsLook}
+use Rattle.funnel_path.specs.PassedOver.{ArePassed, IsBeside, IsInLine, IsInside, LookOpposite}
+use Rattle.funnel_path.specs.NextCorners.{IsAheadOf, IsCornerNext, IsGoalNext, IsNear, IsTurnedBack, all_passed, in_wedge, near, through, turned_back}
+use Rattle.funnel_path.specs.Closings.{IsCornerThrough, IsFoldedBack, IsLeftTurn, IsRightTurn, folded_back, left_turn, right_turn}
 use Rattle.funnel_path.proofs.SideRules.{positive-weak, negative-weak, positive-not_zero, positive-not_below, negative-not_above, zero-both, around-not_above, around-below, around-above, signs}
 use Rattle.funnel_path.proofs.PointLaws.{LiesBetweenRays, order_against_walk, turn-second, turn-third, turned-zero}
 use Rattle.funnel_path.proofs.LineLaws.{LieOnLine, alike-behind, between-ahead, between-behind, between-not_positive, in_line-ways, inside_parts}

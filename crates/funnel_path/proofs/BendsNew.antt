@@ -12,7 +12,10 @@ use Rattle.mesh_types.specs.Chains.{IsBehind, IsChain, portal_at, end_of, other_
 use Rattle.mesh_types.specs.Bends.{IsHolding}
 use Rattle.funnel_path.specs.declared.wedge.Wedge.{Wedge}
 use Rattle.funnel_path.specs.Corners.{IsNearerEnd}
-use Rattle.funnel_path.specs.Cone.{IsBeside, IsEndFrom, IsCornerNext, IsCornerThrough, IsFoldedBack, IsLeftTurn, IsNear, IsRightTurn, folded_back, left_turn, near, right_turn, through, turned_back}
+use Rattle.funnel_path.specs.PassedOver.{IsBeside}
+use Rattle.funnel_path.specs.Looks.{IsEndFrom}
+use Rattle.funnel_path.specs.NextCorners.{IsCornerNext, IsNear, near, through, turned_back}
+use Rattle.funnel_path.specs.Closings.{IsCornerThrough, IsFoldedBack, IsLeftTurn, IsRightTurn, folded_back, left_turn, right_turn}
 use Rattle.funnel_path.proofs.SideRules.{positive-weak, zero-at_least}
 use Rattle.funnel_path.proofs.PointLaws.{behind-between, exchanged-zero}
 use Rattle.funnel_path.proofs.HoldingLaws.{farther_end}

@@ -13,7 +13,10 @@ use Rattle.mesh_types.specs.declared.corner.Corner.{Corner}
 use Rattle.mesh_types.specs.Chains.{IsAhead, IsChain, portal_at, end_of, other_end_of}
 use Rattle.mesh_types.specs.Bends.{IsHolding, IsStraightOn}
 use Rattle.funnel_path.specs.declared.wedge.Wedge.{Wedge}
-use Rattle.funnel_path.specs.Cone.{portal_or_goal, ArePassed, GoesThroughAll, IsAheadOf, IsCornerNext, IsCornerThrough, IsFoldedBack, IsGoalNext, IsInside, IsLeftTurn, IsLook, IsNear, IsRightTurn, IsTurnedBack, all_passed, folded_back, in_wedge, left_turn, near, right_turn, through, turned_back}
+use Rattle.funnel_path.specs.Looks.{portal_or_goal, GoesThroughAll, IsLook}
+use Rattle.funnel_path.specs.PassedOver.{ArePassed, IsInside}
+use Rattle.funnel_path.specs.NextCorners.{IsAheadOf, IsCornerNext, IsGoalNext, IsNear, IsTurnedBack, all_passed, in_wedge, near, through, turned_back}
+use Rattle.funnel_path.specs.Closings.{IsCornerThrough, IsFoldedBack, IsLeftTurn, IsRightTurn, folded_back, left_turn, right_turn}
 use Rattle.funnel_path.proofs.SideRules.{positive-weak, negative-not_above, not_positive-signs, around-not_above, around-below}
 use Rattle.funnel_path.proofs.PointLaws.{LiesBetweenRays, exchanged-negative, order_against_walk, turn-second, turn-third}
 use Rattle.funnel_path.proofs.LineLaws.{LieOnLine, between-ahead, inside-left_apart, inside-right_apart, inside_parts, opposite_apart}

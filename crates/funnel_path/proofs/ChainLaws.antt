@@ -8,7 +8,7 @@ use Rattle.nav_base.specs.declared.point.Point.{Point}
 use Rattle.mesh_types.specs.declared.links.Portal.{Portal}
 use Rattle.mesh_types.specs.Chains.{IsChain, IsBehind, IsAhead, portal_at, points_before, points_after}
 use Rattle.mesh_types.proofs.Words.{some_portal}
-use Rattle.funnel_path.specs.Cone.{portal_or_goal}
+use Rattle.funnel_path.specs.Looks.{portal_or_goal}
 
 -- both ends of a portal lie behind another, or ahead of it
 pub record AreBehind (portal other : Portal) : Type 0 where

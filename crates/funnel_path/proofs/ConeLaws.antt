@@ -11,7 +11,10 @@ use Rattle.mesh_types.specs.declared.corner.Corner.{Corner}
 use Rattle.mesh_types.specs.Chains.{IsBehind, IsChain, portal_at, end_of}
 use Rattle.funnel_path.specs.declared.wedge.Wedge.{Wedge}
 use Rattle.funnel_path.specs.Corners.{IsNearerCorner, IsNearerEnd, corner_at_end}
-use Rattle.funnel_path.specs.Cone.{ArePassed, GoesThroughAll, IsAheadOf, IsCornerThrough, IsFoldedBack, IsInWedge, IsInside, IsLook, IsNear, IsNext, IsThrough, IsTurnedBack, LookOpposite, folded_back, in_wedge, left_turn, through, portal_or_goal, right_turn}
+use Rattle.funnel_path.specs.PassedOver.{ArePassed, IsInside, LookOpposite}
+use Rattle.funnel_path.specs.Looks.{GoesThroughAll, IsLook, portal_or_goal}
+use Rattle.funnel_path.specs.NextCorners.{IsAheadOf, IsNear, IsNext, IsTurnedBack, in_wedge, through}
+use Rattle.funnel_path.specs.Closings.{IsCornerThrough, IsFoldedBack, IsInWedge, IsThrough, folded_back, left_turn, right_turn}
 use Rattle.funnel_path.specs.Wedges.{ClosesFront, ClosesLeft, ClosesRight, IsMet, IsMetBeforeGoal, IsNarrowed, StaysOpen, wedge_of}
 use Rattle.funnel_path.proofs.SideRules.{negative-weak, positive-weak, signs, zero-at_most}
 use Rattle.funnel_path.proofs.PointLaws.{exchanged-negative, faces, order_in_half_plane}

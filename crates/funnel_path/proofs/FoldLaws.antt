@@ -11,7 +11,7 @@ use Rattle.nav_base.proofs.OrientLaws.{orient_of-end}
 use Rattle.nav_base.proofs.Signs.{product-not_negative, factor-zero}
 use Rattle.mesh_types.specs.declared.links.Portal.{Portal}
 use Rattle.mesh_types.specs.Chains.{IsFold}
-use Rattle.funnel_path.specs.Cone.{IsInside, IsInLine, LookOpposite}
+use Rattle.funnel_path.specs.PassedOver.{IsInside, IsInLine, LookOpposite}
 use Rattle.funnel_path.proofs.SideRules.{positive-weak, zero-at_least, positive-not_zero, opposite-negative, not_positive-signs, without, multiple-positive, multiple-negative}
 use Rattle.funnel_path.proofs.PointLaws.{dot_of-still, length-not_negative, length-positive, faces, turned-not_negative, turned-zero}
 use Rattle.funnel_path.proofs.LineLaws.{LieOnLine, HasParts, inside_parts, in_line-multiple, in_line_turned, on_one_line}

@@ -11,7 +11,7 @@ use Rattle.nav_base.proofs.Signs.{product-negative}
 use Rattle.mesh_types.specs.declared.links.Portal.{Portal}
 use Rattle.mesh_types.specs.Portals.{along}
 use Rattle.mesh_types.specs.Segments.{LiesOn}
-use Rattle.funnel_path.specs.Cone.{IsInside}
+use Rattle.funnel_path.specs.PassedOver.{IsInside}
 use Rattle.funnel_path.proofs.SideRules.{without}
 use Rattle.funnel_path.proofs.PointLaws.{exchanged-zero, length-positive}
 

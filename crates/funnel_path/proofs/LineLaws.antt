@@ -9,7 +9,7 @@ use Rattle.nav_base.proofs.PointTerms.{Place, place, coordinates, from_to_term, 
 use Rattle.nav_base.proofs.OrientLaws.{dot_of-exchanged, orient_of-start, orient_of-end, orient_of-between}
 use Rattle.nav_base.proofs.Signs.{product-not_negative, product-not_positive, product-positive, product-negative, factor-zero}
 use Rattle.mesh_types.specs.declared.links.Portal.{Portal}
-use Rattle.funnel_path.specs.Cone.{IsInside, IsInLine, LookAlike, LookOpposite}
+use Rattle.funnel_path.specs.PassedOver.{IsInside, IsInLine, LookAlike, LookOpposite}
 use Rattle.funnel_path.proofs.SideRules.{positive-weak, positive-not_zero, signs, sum-zero, sum-positive, weighted-not_negative, weighted-not_positive, zero-product, without, multiple-not_positive, multiple-positive}
 use Rattle.funnel_path.proofs.PointLaws.{dot_of-still, length-not_negative, length-positive, exchanged-not_negative}
 

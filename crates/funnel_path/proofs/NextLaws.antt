@@ -13,7 +13,10 @@ use Rattle.mesh_types.proofs.Words.{some_portal}
 use Rattle.mesh_types.specs.Taut.{IsNamed}
 use Rattle.funnel_path.specs.declared.wedge.Wedge.{Wedge}
 use Rattle.funnel_path.specs.Coordinates.{HasEndCoordinates}
-use Rattle.funnel_path.specs.Cone.{ArePassed, IsAheadOf, IsCornerNext, IsCornerThrough, IsEndFrom, IsFoldedBack, IsGoalNext, IsLeftTurn, IsLook, IsNear, IsRightTurn, IsTurnedBack, all_passed, folded_back, in_wedge, left_turn, near, right_turn, turned_back, through}
+use Rattle.funnel_path.specs.PassedOver.{ArePassed}
+use Rattle.funnel_path.specs.NextCorners.{IsAheadOf, IsCornerNext, IsGoalNext, IsNear, IsTurnedBack, all_passed, in_wedge, near, turned_back, through}
+use Rattle.funnel_path.specs.Closings.{IsCornerThrough, IsFoldedBack, IsLeftTurn, IsRightTurn, folded_back, left_turn, right_turn}
+use Rattle.funnel_path.specs.Looks.{IsEndFrom, IsLook}
 use Rattle.funnel_path.proofs.ChainLaws.{chain_ahead, chain_behind, chain_goal}
 use Rattle.funnel_path.proofs.PassedLaws.{passed_fewer}
 use Rattle.funnel_path.proofs.LineLaws.{inside-left_apart}

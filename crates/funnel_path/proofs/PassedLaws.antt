@@ -5,7 +5,7 @@ use Rattle.nav_base.specs.declared.point.Point.{Point}
 use Rattle.nav_base.specs.Point.{orient_of}
 use Rattle.mesh_types.specs.declared.links.Portal.{Portal}
 use Rattle.mesh_types.specs.Chains.{IsBehind, IsChain, IsFold, portal_at}
-use Rattle.funnel_path.specs.Cone.{ArePassed, IsInLine, IsInside, LookAlike, LookOpposite}
+use Rattle.funnel_path.specs.PassedOver.{ArePassed, IsInLine, IsInside, LookAlike, LookOpposite}
 use Rattle.funnel_path.proofs.ChainLaws.{chain_behind}
 use Rattle.funnel_path.proofs.LineLaws.{between-behind, between-not_negative, in_line-ways, in_line_turned, inside_parts}
 use Rattle.funnel_path.proofs.FoldLaws.{folds_inside}

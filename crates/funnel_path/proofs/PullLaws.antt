@@ -8,7 +8,7 @@ use Rattle.mesh_types.specs.declared.corner.Corner.{Corner}
 use Rattle.mesh_types.specs.Chains.{IsChain}
 use Rattle.mesh_types.specs.Taut.{IsTaut}
 use Rattle.mesh_types.specs.Segments.{Stop, stop_at}
-use Rattle.funnel_path.specs.Cone.{IsCornerNext, IsGoalNext}
+use Rattle.funnel_path.specs.NextCorners.{IsCornerNext, IsGoalNext}
 use Rattle.funnel_path.proofs.SideRules.{not_negative-signs}
 use Rattle.funnel_path.proofs.PointLaws.{dot_of-still, length-not_negative, length-zero}
 use Rattle.funnel_path.proofs.StopLaws.{stops_so_far}

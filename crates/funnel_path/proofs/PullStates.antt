@@ -8,7 +8,7 @@ use Rattle.mesh_types.specs.declared.corner.Corner.{Corner}
 use Rattle.mesh_types.specs.Chains.{IsChain, IsFold, portal_at, other_end_of}
 use Rattle.mesh_types.specs.Bends.{HasSide, IsFoldedOn, IsHolding, corner_of}
 use Rattle.mesh_types.specs.Segments.{Stop, stop_at}
-use Rattle.funnel_path.specs.Cone.{IsCornerNext, IsGoalNext, IsNear}
+use Rattle.funnel_path.specs.NextCorners.{IsCornerNext, IsGoalNext, IsNear}
 use Rattle.funnel_path.proofs.StopLaws.{length-more, stop_at-corner, stops_so_far}
 use Rattle.funnel_path.proofs.PullBends.{IsHeldFor, by_end, by_fold, by_next, held_for_alike}
 use Rattle.funnel_path.proofs.PullRuns.{IsAllStart, IsClosed, IsRun, alike_back, alike_more, corner_of-added, corner_of-kept, is_held, is_no_bend, run_longer, run_new, start_longer}

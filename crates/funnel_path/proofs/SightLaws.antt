@@ -10,7 +10,7 @@ use Rattle.mesh_types.specs.declared.corner.Side.TheVariants.{L, R}
 use Rattle.mesh_types.specs.Portals.{along}
 use Rattle.mesh_types.specs.Chains.{IsAhead, IsBehind, IsChain, portal_at, end_of}
 use Rattle.mesh_types.specs.Segments.{GoesThrough, IsNoFurther, IsReached, LiesOnLine, LiesOn}
-use Rattle.funnel_path.specs.Cone.{ArePassed}
+use Rattle.funnel_path.specs.PassedOver.{ArePassed}
 use Rattle.funnel_path.proofs.SideRules.{positive-weak}
 use Rattle.funnel_path.proofs.PointLaws.{LiesBetweenRays, ahead-between, exchanged-not_positive, exchanged-zero, faces_back, length-not_negative, rays-meet}
 use Rattle.funnel_path.proofs.LineLaws.{alike-ahead, inside-left, inside-right, inside_parts}

@@ -11,7 +11,7 @@ use Rattle.mesh_types.specs.declared.corner.Corner.{Corner}
 use Rattle.mesh_types.specs.Chains.{portal_at}
 use Rattle.funnel_path.specs.declared.wedge.Wedge.{Wedge}
 use Rattle.funnel_path.specs.Corners.{corner_at_end}
-use Rattle.funnel_path.specs.Cone.{GoesThroughAll, IsEndFrom, IsWedge}
+use Rattle.funnel_path.specs.Looks.{GoesThroughAll, IsEndFrom, IsWedge}
 use Rattle.funnel_path.specs.Wedges.{IsInFront, IsLeftRay, IsNarrowed, IsRightRay, StaysOpen, wedge_of}
 use Rattle.funnel_path.proofs.SideRules.{signs, positive-weak, negative-weak, zero-at_least, zero-at_most}
 use Rattle.funnel_path.proofs.PointLaws.{LiesBetweenRays, exchanged-negative, exchanged-not_negative, exchanged-not_positive, exchanged-positive, faces, faces_back, order_in_half_plane, ray-left, ray-left_strictly, ray-right, ray-right_strictly, turn-second, turn-third}

@@ -1,5 +1,8 @@
 pub mod Coordinates
 pub mod Corners
-pub mod Cone
+pub mod PassedOver
+pub mod Looks
+pub mod Closings
+pub mod NextCorners
 pub mod Passings
 pub mod Wedges

@@ -4,7 +4,8 @@ use Rattle.nav_base.specs.declared.point.Point.{Point}
 use Rattle.mesh_types.specs.declared.links.Portal.{Portal}
 use Rattle.funnel_path.specs.declared.passing.Passing.{Passing}
 use Rattle.funnel_path.specs.declared.passing.Passing.TheVariants.{Done, Behind, Turn}
-use Rattle.funnel_path.specs.Cone.{ArePassed, IsAheadOf, IsNear, IsTurnedBack}
+use Rattle.funnel_path.specs.PassedOver.{ArePassed}
+use Rattle.funnel_path.specs.NextCorners.{IsAheadOf, IsNear, IsTurnedBack}
 
 -- the apex lies inside all portals that are left, or behind the portal at a place, or there is a corner at once
 abbrev pub IsPassing : Point → List Portal → ℕ → Passing → Type 0

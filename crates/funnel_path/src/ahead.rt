@@ -4,7 +4,8 @@ ghost use Rattle.std.specs.Prelude.{◌↔◌, ◌<◌, ◌≤◌, pos, ◌≤�
 ghost use Rattle.nav_base.specs.Point.{HasCoordinates, dot_of, from_to};
 ghost use Rattle.mesh_types.specs.Chains.{IsBehind, portal_at};
 ghost use Rattle.funnel_path.specs.Coordinates.{HasEndCoordinates};
-ghost use Rattle.funnel_path.specs.Cone.{AreChained, LookOpposite};
+ghost use Rattle.funnel_path.specs.Looks.{AreChained};
+ghost use Rattle.funnel_path.specs.PassedOver.{LookOpposite};
 ghost use Rattle.funnel_path.specs.Passings.{IsPassing};
 
 use crate::corners::{left_end, nearer_end};

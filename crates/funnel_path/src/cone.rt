@@ -4,7 +4,9 @@ ghost use Rattle.std.specs.Prelude.{pos, ◌<◌, ◌≤◌, ◌<ℤ◌, All, le
 ghost use Rattle.nav_base.specs.Point.{HasCoordinates, orient_of};
 ghost use Rattle.mesh_types.specs.Chains.{IsBehind, portal_at};
 ghost use Rattle.funnel_path.specs.Coordinates.{HasEndCoordinates};
-ghost use Rattle.funnel_path.specs.Cone.{IsNext, IsThrough, LeadsTo};
+ghost use Rattle.funnel_path.specs.NextCorners.{IsNext};
+ghost use Rattle.funnel_path.specs.Closings.{IsThrough};
+ghost use Rattle.funnel_path.specs.Looks.{LeadsTo};
 
 use crate::ahead::pass_over;
 use crate::passing::Passing;

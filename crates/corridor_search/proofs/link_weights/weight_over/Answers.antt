@@ -7,7 +7,7 @@ use Rattle.nav_base.specs.Root.{ceil_sqrt_of}
 use Rattle.mesh_types.specs.declared.extent.Extent.{Extent}
 use Rattle.mesh_types.specs.Corridors.{centre_of}
 use Rattle.mesh_types.proofs.MeshLinks.{leads}
-use Rattle.corridor_search.specs.MeshGraphs.{middle_of}
+use Rattle.corridor_search.specs.Estimates.{middle_of}
 use Rattle.corridor_search.proofs.Extents.{extent-is, extent-rules}
 use Rattle.corridor_search.proofs.LinkWeights.{weight-is}
 use Rattle.corridor_search.proofs.link_weights.weight_over.Goals as goal

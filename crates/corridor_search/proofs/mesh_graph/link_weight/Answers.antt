@@ -4,7 +4,8 @@ use Rattle.nav_base.specs.declared.point.Point.{Point}
 use Rattle.nav_base.specs.Point.{from_to}
 use Rattle.nav_base.specs.Deviation.{square_of}
 use Rattle.nav_base.specs.Root.{ceil_sqrt_of}
-use Rattle.corridor_search.specs.MeshGraphs.{polygon_of, middle_of, extent_at}
+use Rattle.corridor_search.specs.MeshGraphs.{polygon_of}
+use Rattle.corridor_search.specs.Estimates.{middle_of, extent_at}
 use Rattle.corridor_search.proofs.Vertices.{contains-there}
 use Rattle.corridor_search.proofs.Searchable.{step-enters}
 use Rattle.corridor_search.proofs.Extents.{extent-rules, weight-by-extents}

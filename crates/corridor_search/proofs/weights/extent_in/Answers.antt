@@ -2,7 +2,7 @@ use Rattle.std.proofs.Common.{[], sym, ◌∙◌, arith}
 use Rattle.std.proofs.lemmas.List.{get_or-map}
 use Rattle.mesh_types.specs.declared.polygon.Polygon.{Polygon}
 use Rattle.mesh_types.specs.Extents.{extent_of}
-use Rattle.corridor_search.specs.MeshGraphs.{nowhere}
+use Rattle.corridor_search.specs.Estimates.{nowhere}
 use Rattle.corridor_search.proofs.weights.extent_in.Goals as goal
 
 -- stands for a polygon that is not there

@@ -2,7 +2,7 @@
 use Rattle.std.proofs.Common.{◌≡◌, ◌-◌, length, subst, inl, inr, arith}
 use Rattle.std.proofs.lemmas.Int.{ints}
 use Rattle.mesh_types.proofs.Words.{some_portal}
-use Rattle.funnel_path.specs.Cone.{ArePassed}
+use Rattle.funnel_path.specs.PassedOver.{ArePassed}
 use Rattle.funnel_path.proofs.PassedLaws.{passed_more}
 use Rattle.funnel_path.proofs.ConeLaws.{ahead_of, near_of, not_opposite, turned_back_at}
 use Rattle.funnel_path.proofs.ahead.pass_over.Goals as goal

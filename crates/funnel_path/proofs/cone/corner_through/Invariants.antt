@@ -1,5 +1,5 @@
 -- The wedge goes through the portals so far.
-use Rattle.funnel_path.specs.Cone.{IsLook}
+use Rattle.funnel_path.specs.Looks.{IsLook}
 use Rattle.funnel_path.proofs.cone.corner_through.Given as goal
 
 abbrev pub invariant-loop-place : goal.invariant-loop-place

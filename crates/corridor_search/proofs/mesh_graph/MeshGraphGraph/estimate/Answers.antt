@@ -2,7 +2,8 @@ use Rattle.std.proofs.Common.{◌≡◌, ℕ, max, min, ap, sym, ◌∙◌}
 use Rattle.std.specs.Option.{option_copied}
 use Rattle.nav_base.specs.declared.point.Point.{Point}
 use Rattle.nav_base.specs.Distance.{distance_of}
-use Rattle.corridor_search.specs.MeshGraphs.{polygon_of, extent_at, estimates_of}
+use Rattle.corridor_search.specs.MeshGraphs.{polygon_of}
+use Rattle.corridor_search.specs.Estimates.{extent_at, estimates_of}
 use Rattle.corridor_search.specs.Landmarks.{heights_at, gap_of, estimates_by}
 use Rattle.corridor_search.proofs.Vertices.{contains-there}
 use Rattle.corridor_search.proofs.Extents.{extent-rules, estimate-by}
