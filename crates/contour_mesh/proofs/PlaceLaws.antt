@@ -1,5 +1,5 @@
 -- Lists in the order of places: what stands first at a place.
-use Rattle.std.proofs.Common.{◌≡◌, ℕ, ◌<◌, ◌≤◌, true, false, length, List, get_or, Some, None, ap, ◌∙◌, sym, refl, arith, inl, inr}
+use Rattle.std.proofs.Common.{◌≡◌, ℕ, ◌-◌, ◌<◌, ◌≤◌, true, false, length, List, get_or, Some, None, ap, ◌∙◌, sym, refl, arith, inl, inr}
 use Rattle.std.specs.Prelude.{◌==◌, ◌&&◌}
 use Rattle.std.specs.Option.{option_map}
 use Rattle.std.specs.List.Sorted.{IsPartitionedBy, IsSortedBy, ties}
@@ -15,7 +15,7 @@ use Rattle.std.proofs.lemmas.List.Sorted.{sorted_far}
 use Rattle.nav_ground.proofs.Found.{find_is, find_none}
 use Rattle.contour_mesh.specs.declared.side_place.SidePlace.{SidePlace}
 use Rattle.contour_mesh.specs.declared.side_place.Placed.{Placed}
-use Rattle.contour_mesh.specs.SidePlaces.{side_place_cmp, is_place_before, is_same_place, stands_before, stands_at, first_at}
+use Rattle.contour_mesh.specs.SidePlaces.{side_place_cmp, is_place_before, is_same_place, stands_before, stands_at, first_at, IsCountBefore}
 use Rattle.contour_mesh.proofs.SortLaws.{find-sorted, not_itself, tie-from}
 use Rattle.contour_mesh.specs.Orders.{IsSortOf}
 
@@ -70,6 +70,20 @@ ahead_first place xs sorted i j d le there later =
     true_from_ne_false (is_place_before (get_or xs i d).place place) (λ none.
     both_ways (is_place_before (get_or xs j d).place place)
     (places_order.chain (get_or xs j d).place (get_or xs i d).place place (sorted_far stands_before placed_order xs sorted i j d le there) none) later)
+
+-- the first that stands at a place, by what stands before it
+pub count_is : {T : Type 0} (place : SidePlace) (xs : List (Placed T)) (index : ℕ) (e : Placed T) → IsSortedBy stands_before xs → index < length xs
+    → is_same_place (get_or xs index e).place place ≡ true → (0 < index → is_place_before (get_or xs (index - 1) e).place place ≡ true)
+    → IsCountBefore place xs index
+count_is {T = T} place xs index e sorted there same before = record {
+  ahead = λ k d below.
+      ahead_first place xs sorted k (index - 1) d (omega (arith, below)) (omega (arith, below, there))
+      (ap (λ (p : Placed T). is_place_before p.place place) (get_or_default xs (index - 1) d e (omega (arith, below, there))) ∙ before (omega (arith, below)));
+  late = λ k d above inside.
+      ap (is_place_before (get_or xs k d).place) (sym (same_place (get_or xs index e).place place same))
+      ∙ ap (λ (p : Placed T). is_place_before (get_or xs k d).place p.place) (get_or_default xs index e d there)
+      ∙ sorted_far stands_before placed_order xs sorted index k d above inside;
+}
 
 ahead_differs : (a place : SidePlace) → is_place_before a place ≡ true → is_same_place a place ≡ false
 ahead_differs a place ahead =

@@ -1,5 +1,5 @@
 -- SidePlaces: what stands at the positions of a tile's sides, region by region.
-use Rattle.std.specs.Prelude.{ℕ, Bool, ◌==◌, ◌&&◌, List, [], map, filter, Option}
+use Rattle.std.specs.Prelude.{◌≡◌, ◌<◌, ◌≤◌, true, false, length, get_or, ℕ, Bool, ◌==◌, ◌&&◌, List, [], map, filter, Option}
 use Rattle.std.specs.Option.{option_map, option_map_or}
 use Rattle.std.specs.List.{find, flat_map, range_with_len}
 use Rattle.std.specs.Ordering.{is_lt, nat_cmp, ordering_then}
@@ -29,6 +29,11 @@ is_same_place a b = a.region == b.region && a.side == b.side && a.position == b.
 
 abbrev pub stands_at : {T : Type 0} → SidePlace → Placed T → Bool
 stands_at place placed = is_same_place placed.place place
+
+-- so many of a list come before a place, and no others do
+pub record IsCountBefore {T : Type 0} (place : SidePlace) (placed : List (Placed T)) (count : ℕ) : Type 0 where
+  pub ahead : (k : ℕ) (d : Placed T) → k < count → is_place_before (get_or placed k d).place place ≡ true
+  pub late : (k : ℕ) (d : Placed T) → count ≤ k → k < length placed → is_place_before (get_or placed k d).place place ≡ false
 
 -- what stands first at a place
 abbrev pub first_at : {T : Type 0} → List (Placed T) → SidePlace → Option T

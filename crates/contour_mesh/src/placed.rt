@@ -1,13 +1,13 @@
 //! Lists in the order of their places, and what stands at a place.
 
-ghost use Rattle.std.specs.Prelude.{◌≡◌, ◌<◌, ◌++◌, [], map, IfOk, OnOk, Option};
+ghost use Rattle.std.specs.Prelude.{◌≡◌, ◌<◌, ◌++◌, [], map, IfOk, IsTrue, OnOk, Option};
 ghost use Rattle.std.specs.Option.{option_map_or};
 ghost use Rattle.std.specs.List.Sorted.{IsSortedBy};
 ghost use Rattle.nav_ground.specs.Cells.{IsCells};
 ghost use Rattle.mesh_types.specs.DoorRim.{positions_of};
 ghost use Rattle.contour_walk.specs.Tables.{IsTableOf};
 ghost use Rattle.contour_mesh.specs.Orders.{IsSortOf};
-ghost use Rattle.contour_mesh.specs.SidePlaces.{side_place_cmp, is_place_before, is_same_place, stands_before, first_at, door_at, door_places, placed_doors};
+ghost use Rattle.contour_mesh.specs.SidePlaces.{side_place_cmp, is_place_before, is_same_place, stands_before, first_at, door_at, door_places, placed_doors, IsCountBefore};
 ghost use Rattle.contour_mesh.specs.Sides.{IsFieldWindow};
 ghost use Rattle.contour_mesh.specs.RimTables.{AreSideTables};
 
@@ -99,12 +99,13 @@ fn order_places<T: Copy>(placed: &mut Vec<Placed<T>>) -> Result<(), AllocError>
     placed.sort_by(|a, b| place_order(a.place, b.place))
 }
 
-/// What stands first at a place.
-pub fn first_at<T: Copy>(placed: &[Placed<T>], place: SidePlace) -> Option<T>
+/// What stands first at a place. It is looked for at a guess first; where what stands at the next place is mostly found is left there.
+pub fn first_at<T: Copy>(placed: &[Placed<T>], guess: &mut usize, place: SidePlace) -> Option<T>
     requires { IsSortedBy stands_before placed.now }
     ensures { result ≡ first_at placed.now place }
 {
-    let first = placed.partition_point(|other| is_before(other.place, place));
+    let first = count_before(placed, *guess, place);
+    *guess = first.saturating_add(1);
     if first >= placed.len() {
         return None;
     }
@@ -112,6 +113,34 @@ pub fn first_at<T: Copy>(placed: &[Placed<T>], place: SidePlace) -> Option<T>
         return None;
     }
     Some(placed[first].item)
+}
+
+/// How many come before a place: the guess, where what stands there shows it, else found by halving.
+fn count_before<T: Copy>(placed: &[Placed<T>], guess: usize, place: SidePlace) -> usize
+    requires { IsSortedBy stands_before placed.now }
+    ensures { IsCountBefore place placed.now result }
+{
+    if is_first_there(placed, guess, place) {
+        return guess;
+    }
+    placed.partition_point(|other| is_before(other.place, place))
+}
+
+/// Whether what stands at an index stands at a place, and is the first that does.
+fn is_first_there<T: Copy>(placed: &[Placed<T>], index: usize, place: SidePlace) -> bool
+    requires { IsSortedBy stands_before placed.now }
+    ensures { IsTrue result → IsCountBefore place placed.now index }
+{
+    if index >= placed.len() {
+        return false;
+    }
+    if !is_same_place(placed[index].place, place) {
+        return false;
+    }
+    if index == 0 {
+        return true;
+    }
+    is_before(placed[index - 1].place, place)
 }
 
 /// Which of two places comes first: by region, side and position.

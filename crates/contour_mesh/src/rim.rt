@@ -48,6 +48,13 @@ struct DoorSide<'a> {
     side: u32,
 }
 
+/// Where what stands at a place of a side is looked for first in the two tables: behind what was found for the position before.
+#[derive(Clone, Copy)]
+struct Guesses {
+    doors: usize,
+    cells: usize,
+}
+
 /// Appends what the rim lists for a door on a side. The labels are room to work in.
 fn push_entries(
     alloc: Global,
@@ -89,18 +96,19 @@ fn label_positions(on: DoorSide, labels: &mut Vec<Option<u32>>) -> Result<(), Al
     ensures inside { OnOk result (first_position on.entry.side on.entry.door.now + length labels.new.items < 2 ^ 32) }
 {
     labels.clear();
+    let mut guesses = Guesses { doors: 0, cells: 0 };
     for position in first_position(on.side, on.door)..end_position(on.side, on.door) {
-        labels.push(label(on, position))?;
+        labels.push(label(on, &mut guesses, position))?;
     }
     Ok(())
 }
 
 /// The one label, for a position that belongs to a door and has a cell with a kept neighbour across.
-fn label(on: DoorSide, position: u32) -> Option<u32>
+fn label(on: DoorSide, guesses: &mut Guesses, position: u32) -> Option<u32>
     requires { AreInOrder on.tables.now }
     ensures { result ≡ label_if (is_listed_in on.entry.tables.now on.entry.door.now on.entry.side position) }
 {
-    if is_listed(on, position) {
+    if is_listed(on, guesses, position) {
         Some(0)
     } else {
         None
@@ -108,7 +116,7 @@ fn label(on: DoorSide, position: u32) -> Option<u32>
 }
 
 /// Whether a position belongs to a door and has a cell with a kept neighbour across.
-fn is_listed(on: DoorSide, position: u32) -> bool
+fn is_listed(on: DoorSide, guesses: &mut Guesses, position: u32) -> bool
     requires { AreInOrder on.tables.now }
     ensures { result ≡ is_listed_in on.entry.tables.now on.entry.door.now on.entry.side position }
 {
@@ -117,8 +125,10 @@ fn is_listed(on: DoorSide, position: u32) -> bool
         side: on.side,
         position,
     };
-    is_door(first_at(on.tables.doors.as_slice(), place), on.door)
-        && first_at(on.tables.cells.as_slice(), place).is_some()
+    is_door(
+        first_at(on.tables.doors.as_slice(), &mut guesses.doors, place),
+        on.door,
+    ) && first_at(on.tables.cells.as_slice(), &mut guesses.cells, place).is_some()
 }
 
 /// Whether a door is there and the same as another.
@@ -161,15 +171,16 @@ fn pairs(
     requires inside { first + count ≤ 2 ^ 32 }
     ensures { IfOk result (λ pairs. pairs ≡ map (pair_in on.entry.tables.now on.entry.door.now on.entry.side) (range_with_len first count)) }
 {
+    let mut guess = 0;
     let mut pairs = Vec::with_capacity(alloc, count as usize)?;
     for place in 0..count {
-        pairs.push(pair(on, first + place))?;
+        pairs.push(pair(on, &mut guess, first + place))?;
     }
     Ok(Items::from_vec(pairs))
 }
 
 /// The levels of the first cell that stands at a position in the region of a door.
-fn pair(on: DoorSide, position: u32) -> LevelPair
+fn pair(on: DoorSide, guess: &mut usize, position: u32) -> LevelPair
     requires tables { AreInOrder on.tables.now }
     requires side { on.side < 4 }
     ensures { result ≡ pair_in on.entry.tables.now on.entry.door.now on.entry.side position }
@@ -179,7 +190,7 @@ fn pair(on: DoorSide, position: u32) -> LevelPair
         side: on.side,
         position,
     };
-    match first_at(on.tables.cells.as_slice(), place) {
+    match first_at(on.tables.cells.as_slice(), guess, place) {
         Some(cell) => level_pair(on.side, &cell),
         None => LevelPair { own: 0, other: 0 },
     }
