@@ -73,13 +73,31 @@ impl Book {
     {
         let shown = Arc::try_clone(&level)?;
         let held = Level::begin(alloc, level, tiles)?;
+        let (press, eyes) = Book::first_pair(rt, alloc, shown, &held, readers)?;
+        Ok((Book { level: held, press }, eyes))
+    }
+
+    // The pair that shows a level without entries over its ground.
+    fn first_pair<R: Wait>(
+        rt: &R,
+        alloc: Global,
+        ground: Arc<Ground>,
+        level: &Level,
+        readers: u32,
+    ) -> Result<(Press, Vec<Eye>), AllocError>
+        requires ground { IsGround (arc_value ground) }
+        requires level { level.now ≡ first_state (arc_value ground) }
+        ensures ground { IfOk result (λ made. made.0.ground ≡ arc_value ground) }
+        ensures entries { IfOk result (λ made. made.0.entries ≡ []) }
+        ensures eyes { IfOk result (λ made. made.1.items ≡ replicate readers (eye_of made.0.pair (arc_value ground) [])) }
+    {
         let opening = Version {
-            ground: shown,
+            ground,
             entries: Entries::new(alloc)?,
-            mesh: held.shared_mesh()?,
+            mesh: level.shared_mesh()?,
         };
         let (press, eyes) = pair(rt, alloc, opening, readers)?;
-        Ok((Book { level: held, press }, eyes))
+        Ok((press, eyes))
     }
 
     /// Appends a request of a lane to the history, and gives the number of its entry, from 1, and its answer. What was published stays.
