@@ -311,8 +311,7 @@ void navd_job_close(navd_job *job);
  * NAVD_OK. NAVD_EMPTY. NAVD_NO_MEMORY. */
 uint32_t navd_floors(navd_level *level, uint32_t x, uint32_t z, navd_floor *floors, size_t room, size_t *count);
 
-/* A cheapest corridor and a taut path through it: what it costs, its links in order, and where it turns. The 24th call on one published
- * mesh costs about as much as thirty, and later ones a fifth: the level then knows how far its polygons are from a few of them.
+/* A cheapest corridor and a taut path through it: what it costs, its links in order, and where it turns.
  * NAVD_OK. NAVD_NO_START, NAVD_NO_GOAL, NAVD_NO_PATH: there is none. NAVD_OUT_OF_RANGE: before all others. NAVD_EMPTY. NAVD_NO_MEMORY. */
 uint32_t navd_find_path(navd_level *level, const navd_way *way, navd_link *links, size_t links_room, navd_turn *turns, size_t turns_room,
                         navd_path *path);

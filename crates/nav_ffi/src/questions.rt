@@ -17,17 +17,16 @@ use nav_ground::tiles;
 use nav_handle::NavdLevel;
 use std::alloc::Global;
 
-/// An answer to a question of what a handle holds, or the status that says why there is none. A host that asks for many paths of one published
-/// mesh has it prepared for them.
+/// An answer to a question of what a handle holds, or the status that says why there is none.
 fn answer(alloc: Global, level: &mut NavdLevel, question: &Question) -> Result<Answer, u32>
     requires { IsAnswerable question.now }
     ensures same { level.new.level ≡ level.old.level }
     ensures replied { IsReplied (shown_in level.old.level) question.now result }
 {
-    let Some(mut held) = level.take(alloc) else {
+    let Some(held) = level.take(alloc) else {
         return Err(EMPTY);
     };
-    let told = held.ask_and_prepare(alloc, question);
+    let told = held.ask(alloc, question);
     level.put(held);
     match told {
         Ok((_, answer)) => Ok(answer),
