@@ -99,7 +99,8 @@ fn order_places<T: Copy>(placed: &mut Vec<Placed<T>>) -> Result<(), AllocError>
     placed.sort_by(|a, b| place_order(a.place, b.place))
 }
 
-/// What stands first at a place. It is looked for at a guess first; where what stands at the next place is mostly found is left there.
+/// What stands first at a place. It is looked for at the guess first; the guess is then left behind it, where what stands at the next place
+/// mostly is.
 pub fn first_at<T: Copy>(placed: &[Placed<T>], guess: &mut usize, place: SidePlace) -> Option<T>
     requires { IsSortedBy stands_before placed.now }
     ensures { result ≡ first_at placed.now place }

@@ -48,7 +48,7 @@ struct DoorSide<'a> {
     side: u32,
 }
 
-/// Where what stands at a place of a side is looked for first in the two tables: behind what was found for the position before.
+/// Where what stands at a place of a side is looked for first in the two tables: behind where what stands at the position before is, or would be.
 #[derive(Clone, Copy)]
 struct Guesses {
     doors: usize,

@@ -1,4 +1,5 @@
--- What one sees who looks ahead through a chain from an apex, the point where the path turned last: the wedge through the portals ahead.
+-- What one sees who looks ahead through a chain from an apex, the point where the path turned last: the wedge through the portals
+-- ahead; and when portals are a chain to a goal.
 use Rattle.std.specs.Prelude.{◌≡◌, ℕ, ◌<◌, ◌≤◌, pos, ◌≤ℤ◌, ◌<ℤ◌, List, length, get_or}
 use Rattle.nav_base.specs.declared.point.Point.{Point}
 use Rattle.nav_base.specs.Point.{orient_of}

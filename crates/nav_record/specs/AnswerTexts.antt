@@ -1,4 +1,4 @@
--- The texts of answers to questions: the exact lines of each, and how many there are.
+-- The texts of answers to questions: the exact lines of each, each with its line feed, and how many there are.
 use Rattle.std.specs.Prelude.{ℕ, ◌+◌, List, ◌++◌, length, codes, decimal}
 use Rattle.std.specs.Fmt.{signed_decimal}
 use Rattle.std.specs.List.{flat_map}

@@ -1,4 +1,4 @@
--- The texts of requests: what each was replied, and how the history tells it.
+-- The texts of requests, each with its line feed: what each was replied, and how the history tells it.
 use Rattle.std.specs.Prelude.{ℕ, List, [], ◌∷◌, ◌++◌, codes, decimal}
 use Rattle.nav_ground.specs.declared.history.Entry.{Entry}
 use Rattle.nav_ground.specs.declared.history.Reply.{Reply}

@@ -1,4 +1,4 @@
--- The lines that stand around the answers: the end of a play, the lines between the lanes of a live text, and what is wrong with an input.
+-- The lines that stand around the answers, each with its line feed: the end of a play, the lines between the lanes of a live text, and what is wrong with an input.
 use Rattle.std.specs.Prelude.{ℕ, List, ◌++◌, codes, decimal}
 use Rattle.nav_text.specs.declared.fault.TextFault.{TextFault}
 

@@ -13,6 +13,7 @@ is_block n = is_range (slice_index n 0) (slice_index n 1) 1023 && is_range (slic
 abbrev pub is_cylinder : List ℕ → Bool
 is_cylinder n = nat_le (slice_index n 0) 2048 && nat_le (slice_index n 1) 2048 && nat_le (slice_index n 2) 1023 && is_range (slice_index n 3) (slice_index n 4) 8191
 
+-- each form whose numbers have limits: what it says where it has these numbers
 abbrev pub block_line : List ℕ → LineRead
 block_line n =
     in_limits (is_block n) (Add (Block (slice_index n 0) (slice_index n 1) (slice_index n 2) (slice_index n 3) (slice_index n 4) (slice_index n 5)))

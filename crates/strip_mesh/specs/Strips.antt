@@ -1,4 +1,4 @@
--- Polygons and level pairs by the indices of cells, and where strips meet.
+-- Polygons and level pairs by the indices of cells, where strips meet, and which of a strip's cells lie along a side of its tile.
 use Rattle.std.specs.Prelude.{◌≡◌, ℕ, ◌+◌, ◌-◌, ◌<◌, List, [], length, map, drop, get_or, Option, None, Some, false}
 use Rattle.std.specs.List.{prefix_len}
 use Rattle.nav_ground.specs.declared.cell.Cell.{Cell}
@@ -29,7 +29,7 @@ abbrev pub MeetsOthersAt : List (List Cell) → ℕ → ℕ → ℕ → Type 0
 MeetsOthersAt runs s dir place =
     (k : ℕ) → k < length (get_or runs s []) → (k ≡ place → ⊥) → strip_beyond runs s dir (get_or (get_or runs s []) k some_cell) ≡ None
 
--- no cell of a strip but the one at a place lies along a side of the tile
+-- no cell of a strip lies along a side of the tile, but the one at a place may
 pub record IsAloneAtSide (window : Window) (own : List Cell) (dir place : ℕ) : Type 0 where
   pub there : place < length own
   pub others : (k : ℕ) → k < length own → (k ≡ place → ⊥) → is_at_side window dir (get_or own k some_cell).at ≡ false
