@@ -13,7 +13,8 @@ use Rattle.nav_ground.specs.declared.history.Ground.{Ground}
 use Rattle.nav_script.specs.declared.script.Script.{Script}
 use Rattle.nav_version.specs.Pairs.{EyeView}
 use Rattle.nav_lane.specs.declared.lane.Lane.{Lane}
-use Rattle.nav_lane.specs.LaneRecords.{Spoken, IsLane}
+use Rattle.nav_lane.specs.LaneEntries.{Spoken}
+use Rattle.nav_lane.specs.LaneRecords.{IsLane}
 use Rattle.nav_lane.specs.LaneTexts.{told_text}
 use Rattle.nav_lane.specs.Roots.{RootView}
 use Rattle.nav_lane.proofs.EntryLaws.{entries_extended}

@@ -15,7 +15,7 @@ use Rattle.nav_script.specs.Lanes.{is_request, lines_of}
 use Rattle.nav_lane.specs.Roots.{RootView}
 use Rattle.nav_lane.specs.declared.lane.Lane as lanes
 use Rattle.nav_lane.specs.declared.lane.Stop.TheVariants.{NoMemory, HistoryFull}
-use Rattle.nav_lane.specs.LaneRecords.{Spoken, entries_made}
+use Rattle.nav_lane.specs.LaneEntries.{Spoken, entries_made}
 use Rattle.nav_lane.specs.LaneTexts.{told_text}
 use Rattle.nav_lane.specs.Lanes.{KeepsLane}
 use Rattle.nav_lane.specs.Stops.{HasMetFull}

@@ -12,7 +12,8 @@ use Rattle.nav_script.specs.declared.script.Script.{Script}
 use Rattle.nav_version.specs.Pairs.{EyeView, eye_of}
 use Rattle.nav_book.specs.Views.{BookView}
 use Rattle.nav_lane.specs.declared.lane.Lane.{Lane}
-use Rattle.nav_lane.specs.LiveBooks.{IsLegal, root_of}
+use Rattle.nav_lane.specs.ActRules.{IsLegal}
+use Rattle.nav_lane.specs.LiveBooks.{root_of}
 use Rattle.nav_lane.specs.Roots.{RootView}
 use Rattle.nav_live.specs.declared.hand.Left.{Left}
 use Rattle.nav_live.specs.Crews.{CanMuster, HaveLeft, IsEyeOf}

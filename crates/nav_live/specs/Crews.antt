@@ -9,7 +9,7 @@ use Rattle.nav_lane.specs.Roots.{RootView}
 use Rattle.nav_lane.specs.declared.lane.Lane.{Lane}
 use Rattle.nav_lane.specs.declared.lane.Stop.{Stop}
 use Rattle.nav_lane.specs.declared.lane.Stop.TheVariants.{NoMemory, HistoryFull}
-use Rattle.nav_lane.specs.LaneRecords.{Spoken}
+use Rattle.nav_lane.specs.LaneEntries.{Spoken}
 use Rattle.nav_lane.specs.LaneTexts.{told_text}
 use Rattle.nav_lane.specs.Lanes.{CanStart, KeepsLane}
 use Rattle.nav_lane.specs.LaneSteps.{HasRunAll, IsRunnable}
