@@ -21,7 +21,7 @@ use Rattle.nav_lane.specs.LaneEntries.{entries_made}
 use Rattle.nav_lane.specs.Stops.{HasMetFull}
 use Rattle.nav_lane.proofs.EntryLaws.{entries_extended}
 use Rattle.nav_lane.proofs.RecordLaws.{entries_made-count}
-use Rattle.nav_live.specs.Crews.{HaveMetFull}
+use Rattle.nav_live.specs.Leavings.{HaveMetFull}
 use Rattle.nav_live.specs.Dealing.{requests_of}
 use Rattle.nav_live.specs.Joined.{HaveAsked, IsClosed}
 

@@ -20,7 +20,7 @@ use Rattle.nav_lane.specs.Roots.{RootView}
 use Rattle.nav_lane.proofs.EntryLaws.{entries_extended}
 use Rattle.nav_lane.proofs.RecordLaws.{lane_record}
 use Rattle.nav_live.specs.declared.hand.Left.{Left}
-use Rattle.nav_live.specs.Crews.{HaveLeft}
+use Rattle.nav_live.specs.Leavings.{HaveLeft}
 use Rattle.nav_script.specs.Lanes.{lines_of}
 use Rattle.nav_live.specs.Joined.{HasEnded, HaveEnded, IsClosed, MadeNone}
 use Rattle.nav_live.specs.LiveRecord.{LiveRecord, live_text}

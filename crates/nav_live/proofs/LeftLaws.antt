@@ -26,7 +26,9 @@ use Rattle.nav_live.specs.declared.hand.Task.{Task}
 use Rattle.nav_live.specs.declared.hand.Task.TheVariants.{Lane, Worker}
 use Rattle.nav_live.specs.Dealing.{dealt, requests_of}
 use Rattle.nav_live.specs.Joined.{HasEnded, MadeNone}
-use Rattle.nav_live.specs.Crews.{AreHands, End, EndsAs, HasEndedLane, HaveLeft, HaveMetFull, IsDone, IsLaneOf, IsSameTask, IsWorkerOf, eye_left, pass_left, text_left}
+use Rattle.nav_live.specs.Mustered.{AreHands, IsLaneOf, IsWorkerOf}
+use Rattle.nav_live.specs.Tasks.{End, HasEndedLane, IsDone, IsSameTask}
+use Rattle.nav_live.specs.Leavings.{EndsAs, HaveLeft, HaveMetFull, eye_left, pass_left, text_left}
 use Rattle.nav_live.proofs.MusterLaws.{get_or-dealt, length-dealt}
 
 -- some element has what the element at this place has

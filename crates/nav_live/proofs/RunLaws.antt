@@ -16,7 +16,8 @@ use Rattle.nav_lane.specs.ActRules.{IsLegal}
 use Rattle.nav_lane.specs.LiveBooks.{root_of}
 use Rattle.nav_lane.specs.Roots.{RootView}
 use Rattle.nav_live.specs.declared.hand.Left.{Left}
-use Rattle.nav_live.specs.Crews.{CanMuster, HaveLeft, IsEyeOf}
+use Rattle.nav_live.specs.Mustered.{CanMuster, IsEyeOf}
+use Rattle.nav_live.specs.Leavings.{HaveLeft}
 use Rattle.nav_live.specs.Joined.{IsClosed}
 use Rattle.nav_live.specs.LiveRecord.{LiveRecord, live_text}
 use Rattle.nav_live.proofs.JoinLaws.{left_record}
