@@ -10,7 +10,8 @@ use Rattle.nav_book.specs.Views.{BookView}
 use Rattle.turn_lock.specs.Growth.{Grows}
 use Rattle.nav_lane.specs.declared.book.LiveAct.TheVariants as acts
 use Rattle.nav_lane.specs.declared.book.LiveDone.{LiveDone}
-use Rattle.nav_lane.specs.LiveBooks.{DoesAsk, Steps, asked, having, root_of}
+use Rattle.nav_lane.specs.ActRules.{DoesAsk}
+use Rattle.nav_lane.specs.LiveBooks.{Steps, asked, having, root_of}
 
 -- a request keeps the root
 requested_root : (book : BookView) (lane : ℕ) (request : Request) → root_of (having book (requested book.state lane request)) ≡ root_of book

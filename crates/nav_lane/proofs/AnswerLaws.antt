@@ -13,7 +13,8 @@ use Rattle.nav_script.specs.declared.line.Line.TheVariants.{Ask, Add, Remove, Un
 use Rattle.nav_book.proofs.GroundTiles.{build_of-append}
 use Rattle.nav_lane.specs.declared.said.Said.{Said}
 use Rattle.nav_lane.specs.declared.said.Said.TheVariants.{Replied, Answered, Settled, Walked, NoWalker}
-use Rattle.nav_lane.specs.LaneRecords.{Spoken, IsSaid, last_number, length_told, lengths_told, number_after}
+use Rattle.nav_lane.specs.LaneEntries.{Spoken}
+use Rattle.nav_lane.specs.LaneRecords.{IsSaid, last_number, length_told, lengths_told, number_after}
 use Rattle.nav_lane.specs.Lanes.{AreAnswers, CoverEntries, NeverFall}
 
 -- a beginning of a list is no longer than the list

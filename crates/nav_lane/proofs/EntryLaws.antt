@@ -4,7 +4,7 @@ use Rattle.std.specs.List.{cons_option, enumerate_from}
 use Rattle.std.proofs.lemmas.List.Elements.{All-head, All-tail, filter-append}
 use Rattle.turn_lock.specs.Growth.{Extends}
 use Rattle.nav_ground.specs.declared.history.Entry.{Entry}
-use Rattle.nav_lane.specs.LaneRecords.{Spoken, adds_of, adds_with, entries_from, entries_made, entry_said}
+use Rattle.nav_lane.specs.LaneEntries.{Spoken, adds_of, adds_with, entries_from, entries_made, entry_said}
 use Rattle.nav_lane.specs.Lanes.{AreEntries}
 
 -- the numbers of what follows go on from the length of what is before it

@@ -35,9 +35,11 @@ use Rattle.nav_lane.specs.declared.book.LiveAct.TheVariants as acts
 use Rattle.nav_lane.specs.declared.book.LiveDone.TheVariants as dones
 use Rattle.nav_lane.specs.declared.said.Said.{Said}
 use Rattle.nav_lane.specs.declared.said.Said.TheVariants.{Replied, Answered, Settled, Walked, NoWalker}
-use Rattle.nav_lane.specs.LaneRecords.{Spoken, Standing, adds_of, adds_with, IsMoved, IsSaid, entries_made, entry_said, length_told, number_after, request_of, standing_with}
+use Rattle.nav_lane.specs.LaneEntries.{Spoken, adds_of, adds_with, entries_made, entry_said, request_of}
+use Rattle.nav_lane.specs.LaneWalkers.{Standing, IsMoved, standing_with}
+use Rattle.nav_lane.specs.LaneRecords.{IsSaid, length_told, number_after}
 use Rattle.nav_lane.specs.Lanes.{AreAnswers, AreEntries, BelongsTo, CanStart, KeepsLane, KeepsWalker, NotesLines, SawOthers}
-use Rattle.nav_lane.specs.LiveBooks.{Does, IsLegal, lane_of}
+use Rattle.nav_lane.specs.ActRules.{Does, IsLegal, lane_of}
 use Rattle.nav_lane.specs.LaneSteps.{HasNoted, HasRun, HasRunAll}
 use Rattle.nav_lane.specs.LaneTexts.{said_text, told_text}
 use Rattle.nav_lane.specs.Stops.{FindsFull, IsStopped, IsStoppedAt}

@@ -7,9 +7,9 @@ use Rattle.nav_lane.specs.declared.book.LiveAct.{LiveAct}
 use Rattle.nav_lane.specs.declared.book.LiveDone.{LiveDone}
 use Rattle.nav_lane.specs.Roots.{RootView}
 use Rattle.nav_lane.specs.Acting.{HasActed, HasDone}
-use Rattle.nav_lane.specs.LaneRecords.{entries_made}
+use Rattle.nav_lane.specs.LaneEntries.{entries_made}
 use Rattle.nav_lane.specs.Lanes.{SawOthers}
-use Rattle.nav_lane.specs.LiveBooks.{Does, IsLegal, lane_of}
+use Rattle.nav_lane.specs.ActRules.{Does, IsLegal, lane_of}
 use Rattle.nav_lane.proofs.EntryLaws.{entries_extended}
 
 -- an act that names no lane leaves the list

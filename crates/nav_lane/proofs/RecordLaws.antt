@@ -15,7 +15,8 @@ use Rattle.nav_lane.specs.Roots.{RootView}
 use Rattle.nav_lane.specs.declared.lane.Lane as lanes
 use Rattle.nav_lane.specs.declared.said.Said.{Said}
 use Rattle.nav_lane.specs.declared.said.Said.TheVariants.{Replied, Answered, Settled, Walked, NoWalker}
-use Rattle.nav_lane.specs.LaneRecords.{Spoken, IsLane, IsSaid, adds_with, entries_from, entries_made, entry_said}
+use Rattle.nav_lane.specs.LaneEntries.{Spoken, adds_with, entries_from, entries_made, entry_said}
+use Rattle.nav_lane.specs.LaneRecords.{IsLane, IsSaid}
 use Rattle.nav_lane.specs.Lanes.{AreAnswers, KeepsLane}
 use Rattle.nav_lane.specs.LaneSteps.{HasRunAll}
 use Rattle.nav_lane.proofs.AnswerLaws.{answers_later}

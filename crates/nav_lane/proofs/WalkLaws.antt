@@ -19,7 +19,9 @@ use Rattle.nav_script.specs.declared.line.Line.TheVariants.{Send, March}
 use Rattle.nav_book.proofs.GroundTiles.{build_of-append}
 use Rattle.nav_lane.specs.declared.said.Said.{Said}
 use Rattle.nav_lane.specs.declared.said.Said.TheVariants.{Replied, Answered, Settled, Walked, NoWalker}
-use Rattle.nav_lane.specs.LaneRecords.{Spoken, Standing, AreMoved, IsMarchOf, IsMarchTold, IsMoved, IsSaid, IsSentTo, last_standing, standing_after, standing_of, standing_with}
+use Rattle.nav_lane.specs.LaneEntries.{Spoken}
+use Rattle.nav_lane.specs.LaneWalkers.{Standing, AreMoved, IsMarchOf, IsMarchTold, IsMoved, IsSentTo, last_standing, standing_after, standing_of, standing_with}
+use Rattle.nav_lane.specs.LaneRecords.{IsSaid}
 use Rattle.nav_lane.specs.Lanes.{AreAnswers, IsThatWalker, IsWalkerOf, KeepsWalker}
 
 -- the length at which a walker was last placed is one of the history

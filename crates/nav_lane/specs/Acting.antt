@@ -19,7 +19,8 @@ use Rattle.nav_lane.specs.declared.book.LiveAct.TheVariants as acts
 use Rattle.nav_lane.specs.declared.book.LiveDone.{LiveDone}
 use Rattle.nav_lane.specs.declared.book.LiveDone.TheVariants as dones
 use Rattle.nav_lane.specs.Lanes.{SawOthers}
-use Rattle.nav_lane.specs.LiveBooks.{Does, IsLegal, claimed, lane_of}
+use Rattle.nav_lane.specs.ActRules.{Does, IsLegal, lane_of}
+use Rattle.nav_lane.specs.LiveBooks.{claimed}
 
 -- a pass has made an act that asks nothing, and this is what it was answered
 pub record HasDone (lock : LockId RootView) (act : LiveAct) (done : LiveDone) (before after : PassView RootView Entry) : Type 0 where

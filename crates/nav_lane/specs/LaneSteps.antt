@@ -9,7 +9,8 @@ use Rattle.nav_script.specs.declared.line.Line.TheVariants.{Ask, Add, Remove, Un
 use Rattle.nav_lane.specs.Roots.{RootView}
 use Rattle.nav_lane.specs.declared.lane.Lane as lanes
 use Rattle.nav_lane.specs.declared.said.Said.{Said}
-use Rattle.nav_lane.specs.LaneRecords.{Spoken, adds_with, number_after}
+use Rattle.nav_lane.specs.LaneEntries.{Spoken, adds_with}
+use Rattle.nav_lane.specs.LaneRecords.{number_after}
 use Rattle.nav_lane.specs.LaneTexts.{said_text}
 use Rattle.nav_lane.specs.Lanes.{KeepsLane}
 

@@ -8,7 +8,7 @@ use Rattle.nav_record.specs.StepTexts.{step_text}
 use Rattle.nav_record.specs.WalkTexts.{walk_text, no_walker_text}
 use Rattle.nav_lane.specs.declared.said.Said.{Said}
 use Rattle.nav_lane.specs.declared.said.Said.TheVariants.{Replied, Answered, Settled, Walked, NoWalker}
-use Rattle.nav_lane.specs.LaneRecords.{Spoken}
+use Rattle.nav_lane.specs.LaneEntries.{Spoken}
 
 -- the lines of what a line of a lane was answered
 abbrev pub said_text : Said → List ℕ

@@ -14,7 +14,9 @@ use Rattle.nav_lane.specs.Roots.{RootView}
 use Rattle.nav_script.specs.declared.line.Line.{Line}
 use Rattle.nav_lane.specs.declared.said.Said.TheVariants.{Settled}
 use Rattle.nav_lane.specs.declared.lane.Lane.{Lane}
-use Rattle.nav_lane.specs.LaneRecords.{Spoken, Standing, AreMoved, IsSaid, adds_of, entries_from, entries_made, last_number, last_standing, lengths_told}
+use Rattle.nav_lane.specs.LaneEntries.{Spoken, adds_of, entries_from, entries_made}
+use Rattle.nav_lane.specs.LaneWalkers.{Standing, AreMoved, last_standing}
+use Rattle.nav_lane.specs.LaneRecords.{IsSaid, last_number, lengths_told}
 use Rattle.nav_lane.specs.LaneTexts.{told_text}
 
 -- a pass has acted without asking: it is of the lock, has its number, and has seen no further entry of its own

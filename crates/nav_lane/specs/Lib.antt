@@ -1,7 +1,10 @@
+pub mod LaneEntries
+pub mod LaneWalkers
 pub mod LaneRecords
 pub mod LaneTexts
 pub mod Roots
 pub mod Benches
+pub mod ActRules
 pub mod LiveBooks
 pub mod Lanes
 pub mod Acting

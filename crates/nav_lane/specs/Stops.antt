@@ -8,7 +8,7 @@ use Rattle.nav_script.specs.Lanes.{is_request}
 use Rattle.nav_lane.specs.Roots.{RootView}
 use Rattle.nav_lane.specs.declared.lane.Stop.{Stop}
 use Rattle.nav_lane.specs.declared.lane.Stop.TheVariants.{NoMemory, HistoryFull}
-use Rattle.nav_lane.specs.LaneRecords.{entries_made}
+use Rattle.nav_lane.specs.LaneEntries.{entries_made}
 use Rattle.nav_lane.specs.Lanes.{SawOthers}
 
 -- a line found the history full: it makes a request, which left no entry, and the pass has seen as many entries as a history can have

@@ -5,7 +5,7 @@ ghost use Rattle.turn_lock.specs.Locks.{IsOf};
 ghost use Rattle.nav_desk.specs.Steps.{IsJob};
 ghost use Rattle.nav_lane.specs.declared.book.LiveAct.TheVariants as acts;
 ghost use Rattle.nav_lane.specs.Acting.{HasActed, HasDone, HasTried, claim_done};
-ghost use Rattle.nav_lane.specs.LiveBooks.{IsMade};
+ghost use Rattle.nav_lane.specs.ActRules.{IsMade};
 ghost use Rattle.nav_lane.specs.Lanes.{IsToldOf, SawOthers};
 
 use crate::bench::Bench;

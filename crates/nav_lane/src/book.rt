@@ -2,7 +2,8 @@
 
 ghost use Rattle.std.specs.Prelude.{◌≡◌, IfOk};
 ghost use Rattle.nav_ground.specs.History.{IsRequest};
-ghost use Rattle.nav_lane.specs.LiveBooks.{DoesClaim, DoesPublish, Steps, root_of};
+ghost use Rattle.nav_lane.specs.ActRules.{DoesClaim, DoesPublish};
+ghost use Rattle.nav_lane.specs.LiveBooks.{Steps, root_of};
 ghost use Rattle.nav_lane.specs.declared.book.LiveAct.TheVariants as acts;
 
 use nav_book::{Book, HistoryFull, Job, Published, Submitted, TileResult};
@@ -118,7 +119,8 @@ impl LiveBook {
 }
 
 impl Booked for LiveBook {
-    ghost use Rattle.nav_lane.specs.LiveBooks.{root_of, lane_of, IsLegal, IsAllowed, Does, Steps};
+    ghost use Rattle.nav_lane.specs.LiveBooks.{root_of, Steps};
+    ghost use Rattle.nav_lane.specs.ActRules.{lane_of, IsLegal, IsAllowed, Does};
 
     type Root = LiveRoot;
 

@@ -6,7 +6,7 @@ ghost use Rattle.nav_ground.specs.History.{IsRequest};
 ghost use Rattle.nav_query.specs.Questions.{IsAnswerable};
 ghost use Rattle.nav_script.specs.declared.line.Line.TheVariants as lines;
 ghost use Rattle.nav_lane.specs.Roots.{RootView};
-ghost use Rattle.nav_lane.specs.LaneRecords.{Spoken, request_of};
+ghost use Rattle.nav_lane.specs.LaneEntries.{Spoken, request_of};
 ghost use Rattle.nav_lane.specs.Lanes.{BelongsTo, IsToldOf, KeepsLane};
 ghost use Rattle.nav_lane.specs.LaneSteps.{HasRun};
 ghost use Rattle.nav_lane.specs.Stops.{IsStoppedAt};

@@ -2,7 +2,8 @@
 
 ghost use Rattle.std.specs.Prelude.{◌≡◌, ◌-◌, if◌then◌else◌, slice_get, unwrap_or, OnOk};
 ghost use Rattle.nav_ground.specs.History.{is_added};
-ghost use Rattle.nav_lane.specs.LaneRecords.{added_by, number_after, request_of};
+ghost use Rattle.nav_lane.specs.LaneEntries.{added_by, request_of};
+ghost use Rattle.nav_lane.specs.LaneRecords.{number_after};
 ghost use Rattle.nav_lane.specs.LaneSteps.{HasNoted};
 
 use crate::lane::Lane;

@@ -5,7 +5,7 @@ ghost use Rattle.turn_lock.specs.Locks.{IsOf};
 ghost use Rattle.nav_script.specs.declared.line.Line.TheVariants as lines;
 ghost use Rattle.nav_lane.specs.Acting.{HasSettled};
 ghost use Rattle.nav_lane.specs.Benches.{IsBench};
-ghost use Rattle.nav_lane.specs.LaneRecords.{Spoken};
+ghost use Rattle.nav_lane.specs.LaneEntries.{Spoken};
 ghost use Rattle.nav_lane.specs.Lanes.{BelongsTo, KeepsLane};
 ghost use Rattle.nav_lane.specs.LaneSteps.{HasRun, HasRunAll, IsRunnable};
 ghost use Rattle.nav_lane.specs.Stops.{IsStopped, IsStoppedAt};

@@ -6,7 +6,7 @@ ghost use Rattle.nav_base.specs.Point.{HasCoordinates};
 ghost use Rattle.agent_walks.specs.Walkers.{IsWalker};
 ghost use Rattle.nav_script.specs.declared.line.Line.TheVariants as lines;
 ghost use Rattle.nav_lane.specs.Roots.{RootView};
-ghost use Rattle.nav_lane.specs.LaneRecords.{Spoken};
+ghost use Rattle.nav_lane.specs.LaneEntries.{Spoken};
 ghost use Rattle.nav_lane.specs.Lanes.{KeepsLane};
 ghost use Rattle.nav_lane.specs.LaneSteps.{HasRun};
 

@@ -4,7 +4,8 @@ use Rattle.std.specs.List.{cons_option}
 use Rattle.std.proofs.lemmas.List.Elements.{All-cons, All-nil, All-weaker}
 use Rattle.nav_lane.specs.declared.lane.Stop.TheVariants.{NoMemory, HistoryFull}
 use Rattle.nav_live.specs.declared.hand.Hand.{Hand}
-use Rattle.nav_live.specs.Crews.{End, EndsAs, worse}
+use Rattle.nav_live.specs.Tasks.{End}
+use Rattle.nav_live.specs.Leavings.{EndsAs, worse}
 
 any_later : {X : Type 0} (P : X → Type 0) (x : X) (xs : List X) → Any P xs → Any P (x ∷ xs)
 any_later P x xs any = let there = any.2 in (suc any.0, any.1, omega (arith, there), any.3, any.4)

@@ -17,11 +17,11 @@ use Rattle.nav_script.specs.declared.script.Way.TheVariants.{Live}
 use Rattle.nav_script.specs.Lanes.{is_request, next_lane, lines_from, lines_of, names_lane}
 use Rattle.nav_script.specs.Limits.{IsScript}
 use Rattle.nav_lane.specs.Roots.{RootView}
-use Rattle.nav_lane.specs.LaneRecords.{entries_made}
+use Rattle.nav_lane.specs.LaneEntries.{entries_made}
 use Rattle.nav_lane.specs.Stops.{HasMetFull}
 use Rattle.nav_lane.proofs.EntryLaws.{entries_extended}
 use Rattle.nav_lane.proofs.RecordLaws.{entries_made-count}
-use Rattle.nav_live.specs.Crews.{HaveMetFull}
+use Rattle.nav_live.specs.Leavings.{HaveMetFull}
 use Rattle.nav_live.specs.Dealing.{requests_of}
 use Rattle.nav_live.specs.Joined.{HaveAsked, IsClosed}
 

@@ -13,13 +13,14 @@ use Rattle.nav_ground.specs.declared.history.Ground.{Ground}
 use Rattle.nav_script.specs.declared.script.Script.{Script}
 use Rattle.nav_version.specs.Pairs.{EyeView}
 use Rattle.nav_lane.specs.declared.lane.Lane.{Lane}
-use Rattle.nav_lane.specs.LaneRecords.{Spoken, IsLane}
+use Rattle.nav_lane.specs.LaneEntries.{Spoken}
+use Rattle.nav_lane.specs.LaneRecords.{IsLane}
 use Rattle.nav_lane.specs.LaneTexts.{told_text}
 use Rattle.nav_lane.specs.Roots.{RootView}
 use Rattle.nav_lane.proofs.EntryLaws.{entries_extended}
 use Rattle.nav_lane.proofs.RecordLaws.{lane_record}
 use Rattle.nav_live.specs.declared.hand.Left.{Left}
-use Rattle.nav_live.specs.Crews.{HaveLeft}
+use Rattle.nav_live.specs.Leavings.{HaveLeft}
 use Rattle.nav_script.specs.Lanes.{lines_of}
 use Rattle.nav_live.specs.Joined.{HasEnded, HaveEnded, IsClosed, MadeNone}
 use Rattle.nav_live.specs.LiveRecord.{LiveRecord, live_text}

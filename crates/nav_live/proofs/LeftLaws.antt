@@ -15,7 +15,7 @@ use Rattle.nav_script.specs.Lanes.{is_request, lines_of}
 use Rattle.nav_lane.specs.Roots.{RootView}
 use Rattle.nav_lane.specs.declared.lane.Lane as lanes
 use Rattle.nav_lane.specs.declared.lane.Stop.TheVariants.{NoMemory, HistoryFull}
-use Rattle.nav_lane.specs.LaneRecords.{Spoken, entries_made}
+use Rattle.nav_lane.specs.LaneEntries.{Spoken, entries_made}
 use Rattle.nav_lane.specs.LaneTexts.{told_text}
 use Rattle.nav_lane.specs.Lanes.{KeepsLane}
 use Rattle.nav_lane.specs.Stops.{HasMetFull}
@@ -26,7 +26,9 @@ use Rattle.nav_live.specs.declared.hand.Task.{Task}
 use Rattle.nav_live.specs.declared.hand.Task.TheVariants.{Lane, Worker}
 use Rattle.nav_live.specs.Dealing.{dealt, requests_of}
 use Rattle.nav_live.specs.Joined.{HasEnded, MadeNone}
-use Rattle.nav_live.specs.Crews.{AreHands, End, EndsAs, HasEndedLane, HaveLeft, HaveMetFull, IsDone, IsLaneOf, IsSameTask, IsWorkerOf, eye_left, pass_left, text_left}
+use Rattle.nav_live.specs.Mustered.{AreHands, IsLaneOf, IsWorkerOf}
+use Rattle.nav_live.specs.Tasks.{End, HasEndedLane, IsDone, IsSameTask}
+use Rattle.nav_live.specs.Leavings.{EndsAs, HaveLeft, HaveMetFull, eye_left, pass_left, text_left}
 use Rattle.nav_live.proofs.MusterLaws.{get_or-dealt, length-dealt}
 
 -- some element has what the element at this place has

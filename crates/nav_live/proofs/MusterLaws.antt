@@ -17,7 +17,9 @@ use Rattle.nav_live.specs.declared.hand.Task.{Task}
 use Rattle.nav_live.specs.declared.hand.Task.TheVariants.{Lane, Worker}
 use Rattle.nav_live.specs.Dealing.{dealt}
 use Rattle.nav_script.specs.Lanes.{lines_of}
-use Rattle.nav_live.specs.Crews.{AreHands, AreMustered, AreNew, CanMuster, IsEyeOf, IsLaneOf, IsNew, IsNewLane, IsNumbered, IsReady, IsReadyLane, IsWorkerOf, pass_left}
+use Rattle.nav_live.specs.Mustered.{AreHands, AreMustered, AreNew, CanMuster, IsEyeOf, IsLaneOf, IsNew, IsNewLane, IsNumbered, IsWorkerOf}
+use Rattle.nav_live.specs.Tasks.{IsReady, IsReadyLane}
+use Rattle.nav_live.specs.Leavings.{pass_left}
 
 -- a script deals a list to each of its lanes
 pub length-dealt : (script : Script) → length (dealt script) ≡ script.lanes

@@ -12,10 +12,12 @@ use Rattle.nav_script.specs.declared.script.Script.{Script}
 use Rattle.nav_version.specs.Pairs.{EyeView, eye_of}
 use Rattle.nav_book.specs.Views.{BookView}
 use Rattle.nav_lane.specs.declared.lane.Lane.{Lane}
-use Rattle.nav_lane.specs.LiveBooks.{IsLegal, root_of}
+use Rattle.nav_lane.specs.ActRules.{IsLegal}
+use Rattle.nav_lane.specs.LiveBooks.{root_of}
 use Rattle.nav_lane.specs.Roots.{RootView}
 use Rattle.nav_live.specs.declared.hand.Left.{Left}
-use Rattle.nav_live.specs.Crews.{CanMuster, HaveLeft, IsEyeOf}
+use Rattle.nav_live.specs.Mustered.{CanMuster, IsEyeOf}
+use Rattle.nav_live.specs.Leavings.{HaveLeft}
 use Rattle.nav_live.specs.Joined.{IsClosed}
 use Rattle.nav_live.specs.LiveRecord.{LiveRecord, live_text}
 use Rattle.nav_live.proofs.JoinLaws.{left_record}

@@ -2,4 +2,6 @@ pub mod Dealing
 pub mod LiveRecord
 pub mod Runs
 pub mod Joined
-pub mod Crews
+pub mod Tasks
+pub mod Mustered
+pub mod Leavings

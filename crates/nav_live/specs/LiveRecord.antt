@@ -10,7 +10,8 @@ use Rattle.nav_record.specs.FrameTexts.{history_text, lane_text, final_text}
 use Rattle.nav_record.specs.EntryTexts.{entry_text}
 use Rattle.nav_script.specs.declared.script.Script.{Script}
 use Rattle.nav_script.specs.Lanes.{lines_of}
-use Rattle.nav_lane.specs.LaneRecords.{Spoken, IsLane}
+use Rattle.nav_lane.specs.LaneEntries.{Spoken}
+use Rattle.nav_lane.specs.LaneRecords.{IsLane}
 use Rattle.nav_lane.specs.LaneTexts.{told_text}
 
 -- the lines of a history: one for each entry, with its number, from 1

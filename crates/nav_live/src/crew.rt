@@ -3,7 +3,7 @@
 ghost use Rattle.std.specs.Prelude.{◌≡◌, ◌<◌, ℕ, length, slice_index_or, All};
 ghost use Rattle.nav_lane.specs.Benches.{IsBench};
 ghost use Rattle.nav_live.specs.declared.hand.Hand.{Hand};
-ghost use Rattle.nav_live.specs.Crews.{IsDone, IsReady, IsSameTask};
+ghost use Rattle.nav_live.specs.Tasks.{IsDone, IsReady, IsSameTask};
 
 use crate::hand::{Hand, Task};
 use nav_io::Gate;

@@ -12,7 +12,8 @@ ghost use Rattle.nav_lane.specs.Roots.{RootView};
 ghost use Rattle.nav_lane.specs.declared.lane.Stop.TheVariants as stops;
 ghost use Rattle.nav_lane.specs.LaneSteps.{IsRunnable};
 ghost use Rattle.nav_live.specs.declared.hand.Hand.{Hand};
-ghost use Rattle.nav_live.specs.Crews.{AreMustered, CanMuster, EndsAs, HasRoom, HaveLeft, HaveMetFull, IsNew, IsSpare, IsSpareCrew, eye_left, pass_left, text_left, worse};
+ghost use Rattle.nav_live.specs.Mustered.{AreMustered, CanMuster, IsNew};
+ghost use Rattle.nav_live.specs.Leavings.{EndsAs, HasRoom, HaveLeft, HaveMetFull, IsSpare, IsSpareCrew, eye_left, pass_left, text_left, worse};
 ghost use Rattle.nav_live.specs.Dealing.{dealt};
 
 use crate::crew::run_all;

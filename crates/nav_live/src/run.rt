@@ -11,7 +11,7 @@ ghost use Rattle.nav_script.specs.declared.script.Way.TheVariants.{Live};
 ghost use Rattle.nav_book.specs.Openings.{ground_of};
 ghost use Rattle.nav_steps.specs.Counts.{HasRisenAtMost};
 ghost use Rattle.nav_lane.specs.declared.lane.Stop.TheVariants as stops;
-ghost use Rattle.nav_live.specs.Crews.{HaveLeft, HaveMetFull, IsSpareCrew};
+ghost use Rattle.nav_live.specs.Leavings.{HaveLeft, HaveMetFull, IsSpareCrew};
 ghost use Rattle.nav_live.specs.LiveRecord.{LiveRecord};
 ghost use Rattle.nav_live.specs.Runs.{IsOpened, IsRun};
 

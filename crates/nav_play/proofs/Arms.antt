@@ -32,7 +32,8 @@ use Rattle.nav_script.specs.declared.line.Line.TheVariants.{Lane, Ask, Add, Remo
 use Rattle.nav_play.specs.declared.player.Player.{Player}
 use Rattle.nav_play.specs.Claims.{HasClaimed}
 use Rattle.nav_play.specs.Jobs.{back_said, book_after_back, book_after_submit, publication_said, submit_said}
-use Rattle.nav_play.specs.PlayRecord.{PlayState, IsSaid, adds_and, answered_text, number_answered, number_got, number_in, request_text, state_after}
+use Rattle.nav_play.specs.PlayStates.{PlayState, adds_and, number_answered, number_got, number_in, state_after}
+use Rattle.nav_play.specs.PlayRecord.{IsSaid, answered_text, request_text}
 use Rattle.nav_play.specs.Players.{AreHeld, HasPlayed, HasRequested, HasState, IsPlayable, IsSteady, held_job, jobs_of_held, player_state}
 use Rattle.nav_book.specs.Settling.{after_settle, awaited_tiles, settling}
 use Rattle.nav_play.specs.Tallies.{HasCounted, totals_after}

@@ -14,7 +14,8 @@ use Rattle.nav_book.specs.Results.{published_mesh}
 use Rattle.nav_record.specs.declared.totals.Totals.{Totals}
 use Rattle.nav_script.specs.declared.line.Line.{Line}
 use Rattle.nav_script.specs.declared.line.Line.TheVariants.{Ask}
-use Rattle.nav_play.specs.PlayRecord.{PlayState, AreSaid, state_after}
+use Rattle.nav_play.specs.PlayStates.{PlayState, state_after}
+use Rattle.nav_play.specs.PlayRecord.{AreSaid}
 use Rattle.nav_play.specs.PlayTotals.{AreTotalsFrom, IsCounted, IsPathAnswer, cost_of, is_no_goal, is_no_path, is_no_start, is_path}
 
 -- what two answers add to the counts is the same

@@ -5,7 +5,7 @@ use Rattle.nav_ground.specs.Tiling.{tile_count}
 use Rattle.nav_script.specs.declared.line.Line.{Line}
 use Rattle.std.specs.Prelude.{List}
 use Rattle.nav_steps.specs.Counts.{HasRisenAtMost}
-use Rattle.nav_play.specs.PlayRecord.{PlayState}
+use Rattle.nav_play.specs.PlayStates.{PlayState}
 use Rattle.nav_play.specs.Work.{jobs_from}
 
 -- the first part alone, and both

@@ -14,7 +14,8 @@ use Rattle.nav_script.specs.declared.line.Line.{Line}
 use Rattle.nav_script.specs.Lanes.{is_jump}
 use Rattle.nav_script.specs.declared.script.Script.{Script}
 use Rattle.nav_steps.specs.Counts.{HasRisenAtMost}
-use Rattle.nav_play.specs.PlayRecord.{PlayState, AddsSome, IsSaid, IsTextFrom, opening_state, state_after, state_after_all}
+use Rattle.nav_play.specs.PlayStates.{PlayState, opening_state, state_after, state_after_all}
+use Rattle.nav_play.specs.PlayRecord.{AddsSome, IsSaid, IsTextFrom}
 use Rattle.nav_play.specs.PlayTotals.{AreTotalsFrom, IsCounted}
 use Rattle.nav_play.specs.Tallies.{HasCounted, no_answers, totals_at}
 use Rattle.nav_play.specs.Work.{jobs_from, jobs_of}

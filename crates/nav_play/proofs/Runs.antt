@@ -2,7 +2,8 @@
 use Rattle.std.proofs.Common.{◌≡◌, ℕ, ◌+◌, ◌<◌, ◌≤◌, List, [], ◌∷◌, ◌++◌, length, drop, get_or, ap, ◌∙◌, sym, subst, refl, append_assoc, append-nil}
 use Rattle.std.proofs.lemmas.List.{drop_more, drop_all}
 use Rattle.nav_script.specs.declared.line.Line.{Line}
-use Rattle.nav_play.specs.PlayRecord.{PlayState, AddsSome, AreSaid, state_after, state_after_all}
+use Rattle.nav_play.specs.PlayStates.{PlayState, state_after, state_after_all}
+use Rattle.nav_play.specs.PlayRecord.{AddsSome, AreSaid}
 use Rattle.nav_play.specs.Work.{jobs_from, jobs_of}
 
 -- the line that is played next, and those behind it

@@ -12,7 +12,7 @@ use Rattle.nav_query.specs.Questions.{HasLowCost}
 use Rattle.nav_script.specs.declared.line.Line.{Line}
 use Rattle.nav_script.specs.declared.line.Line.TheVariants.{Ask}
 use Rattle.nav_record.specs.declared.totals.Totals.{Totals}
-use Rattle.nav_play.specs.PlayRecord.{PlayState, state_after}
+use Rattle.nav_play.specs.PlayStates.{PlayState, state_after}
 use Rattle.nav_play.specs.PlayTotals.{CountAnswers, IsCounted, cost_of, is_no_goal, is_no_path, is_no_start, is_path}
 use Rattle.nav_play.specs.Tallies.{HasCounted, HasCountedAnswer, HasRoom, no_answers, totals_with}
 use Rattle.nav_play.proofs.Lists.{none_more}

@@ -10,7 +10,7 @@ use Rattle.nav_script.specs.declared.line.Line.{Line}
 use Rattle.nav_script.specs.declared.line.Line.TheVariants.{Add, Remove, Undo, Settle, Claim, Back, Submit, Jump}
 use Rattle.nav_script.specs.Lanes.{is_jump}
 use Rattle.nav_play.specs.Jobs.{book_after_back, book_after_claim, book_after_submit}
-use Rattle.nav_play.specs.PlayRecord.{PlayState, held_by, state_after}
+use Rattle.nav_play.specs.PlayStates.{PlayState, held_by, state_after}
 use Rattle.nav_book.proofs.Settled.{settled_whole}
 use Rattle.nav_play.proofs.Lists.{none_more}
 

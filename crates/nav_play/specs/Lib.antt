@@ -1,5 +1,6 @@
 pub mod Jobs
 pub mod Answering
+pub mod PlayStates
 pub mod PlayRecord
 pub mod PlayTotals
 pub mod Tallies

@@ -15,7 +15,8 @@ use Rattle.nav_record.specs.declared.totals.Totals.{Totals}
 use Rattle.nav_script.specs.declared.line.Line.{Line}
 use Rattle.nav_script.specs.declared.line.Line.TheVariants.{Ask}
 use Rattle.nav_script.specs.declared.script.Script.{Script}
-use Rattle.nav_play.specs.PlayRecord.{PlayState, AreSaid, first_state_of, state_after_all}
+use Rattle.nav_play.specs.PlayStates.{PlayState, first_state_of, state_after_all}
+use Rattle.nav_play.specs.PlayRecord.{AreSaid}
 
 -- one right answer
 pub record IsOneRight (mesh : Mesh) (question : Question) (given : List Answer) : Type 0 where

@@ -12,7 +12,8 @@ use Rattle.nav_book.specs.Results.{IsBuild, job_built}
 use Rattle.nav_query.specs.Questions.{IsAnswerable}
 use Rattle.off_links.specs.Leaps.{AreJumps, HasJumpCoordinates}
 use Rattle.nav_play.specs.declared.player.Player.{Player}
-use Rattle.nav_play.specs.PlayRecord.{PlayState, AddsSome, IsSaid, request_text, state_after}
+use Rattle.nav_play.specs.PlayStates.{PlayState, state_after}
+use Rattle.nav_play.specs.PlayRecord.{AddsSome, IsSaid, request_text}
 use Rattle.nav_play.specs.Tallies.{HasCounted, no_answers}
 use Rattle.nav_play.specs.Work.{jobs_of}
 use Rattle.nav_script.specs.declared.line.Line.{Line}

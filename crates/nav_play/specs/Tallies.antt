@@ -12,7 +12,7 @@ use Rattle.nav_book.specs.Results.{published_mesh}
 use Rattle.nav_record.specs.declared.totals.Totals.{Totals}
 use Rattle.nav_script.specs.declared.line.Line.{Line}
 use Rattle.nav_script.specs.declared.line.Line.TheVariants.{Ask}
-use Rattle.nav_play.specs.PlayRecord.{PlayState}
+use Rattle.nav_play.specs.PlayStates.{PlayState}
 
 -- nothing is counted
 abbrev pub no_answers : Totals

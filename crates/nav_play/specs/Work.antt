@@ -7,7 +7,7 @@ use Rattle.nav_script.specs.declared.line.Line.{Line}
 use Rattle.nav_script.specs.declared.line.Line.TheVariants.{Settle, Claim}
 use Rattle.nav_script.specs.declared.script.Script.{Script}
 use Rattle.nav_play.specs.Jobs.{jobs_of_claim}
-use Rattle.nav_play.specs.PlayRecord.{PlayState, first_state_of, held_by, state_after}
+use Rattle.nav_play.specs.PlayStates.{PlayState, first_state_of, held_by, state_after}
 use Rattle.nav_book.specs.Settling.{awaited_tiles, settling}
 
 -- how many claims of a line give a tile: one at most of a `claim` line, and those of a `settle` line, one for each tile that is awaited then

@@ -1,7 +1,7 @@
 //! The numbers that the add lines of each lane got.
 
 ghost use Rattle.std.specs.Prelude.{◌≡◌, ◌<◌, ◌≤◌, IfOk, OnOk, OnErr, length, replicate, []};
-ghost use Rattle.nav_play.specs.PlayRecord.{adds_and, number_in};
+ghost use Rattle.nav_play.specs.PlayStates.{adds_and, number_in};
 
 use nav_list::Items;
 use std::alloc::{AllocError, Global};

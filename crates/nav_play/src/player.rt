@@ -4,7 +4,8 @@ ghost use Rattle.std.specs.Prelude.{◌≡◌, ℕ, ◌+◌, ◌<◌, ◌++◌, 
 ghost use Rattle.nav_base.specs.Point.{HasCoordinates};
 ghost use Rattle.nav_ground.specs.History.{IsRequest};
 ghost use Rattle.nav_ground.specs.Limits.{IsShape};
-ghost use Rattle.nav_play.specs.PlayRecord.{IsTextFrom, number_added, number_got, state_after_all};
+ghost use Rattle.nav_play.specs.PlayRecord.{IsTextFrom};
+ghost use Rattle.nav_play.specs.PlayStates.{number_added, number_got, state_after_all};
 ghost use Rattle.nav_play.specs.PlayTotals.{AreTotalsFrom};
 ghost use Rattle.nav_play.specs.Players.{HasBegun, HasPlayed, HasRequested, IsPlayable, IsSteady, player_state};
 ghost use Rattle.nav_play.specs.Tallies.{HasRoom, totals_at};

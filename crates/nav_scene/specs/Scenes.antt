@@ -15,7 +15,8 @@ use Rattle.mesh_types.specs.declared.tile.TileMesh.{TileMesh}
 use Rattle.mesh_types.specs.Soundness.{link_count, polygon_count}
 use Rattle.nav_desk.specs.BookState.{BookState}
 use Rattle.nav_book.specs.Results.{published_entries, published_mesh}
-use Rattle.nav_play.specs.PlayRecord.{IsPlayText, first_state_of, state_after_all}
+use Rattle.nav_play.specs.PlayRecord.{IsPlayText}
+use Rattle.nav_play.specs.PlayStates.{first_state_of, state_after_all}
 use Rattle.nav_record.specs.EntryTexts.{entry_text}
 use Rattle.nav_record.specs.AnswerTexts.{point_text}
 use Rattle.nav_script.specs.declared.script.Script.{Script}

@@ -6,7 +6,7 @@ use Rattle.nav_desk.specs.declared.answers.Job.{Job}
 use Rattle.nav_desk.specs.Steps.{IsJob}
 use Rattle.nav_book.specs.Results.{tile_under}
 use Rattle.nav_lane.specs.Acting.{HasActed}
-use Rattle.nav_lane.specs.LiveBooks.{IsMade}
+use Rattle.nav_lane.specs.ActRules.{IsMade}
 use Rattle.nav_lane.specs.Roots.{RootView}
 use Rattle.nav_lane.specs.declared.book.LiveAct.TheVariants as acts
 use Rattle.nav_lane.proofs.builds.build.Goals as goal

@@ -1,7 +1,7 @@
 use Rattle.std.proofs.Common.{◌∙◌, ap}
 use Rattle.nav_ground.specs.declared.history.Ground.{Ground}
 use Rattle.nav_book.specs.Openings.{ground_of}
-use Rattle.nav_play.specs.PlayRecord.{opening_state}
+use Rattle.nav_play.specs.PlayStates.{opening_state}
 use Rattle.nav_play.proofs.Claiming.{no_step}
 use Rattle.nav_play.proofs.Parts.{tiles_risen, tiles_taken}
 use Rattle.nav_play.proofs.run.begin.Goals as goal

@@ -2,7 +2,8 @@ use Rattle.std.proofs.Common.{subst, sym, inl, rules}
 use Rattle.nav_ground.specs.declared.history.Entry.{Entry}
 use Rattle.turn_lock.specs.Growth.{Grows}
 use Rattle.nav_lane.specs.declared.book.LiveAct.{LiveAct}
-use Rattle.nav_lane.specs.LiveBooks.{Does, Steps, lane_of, root_of}
+use Rattle.nav_lane.specs.ActRules.{Does, lane_of}
+use Rattle.nav_lane.specs.LiveBooks.{Steps, root_of}
 use Rattle.nav_lane.proofs.ActLaws.{asked_did, asked_grows, asked_root, claim_keeps, publish_keeps}
 use Rattle.nav_lane.proofs.book.LiveBookBooked.act.Goals as goal
 

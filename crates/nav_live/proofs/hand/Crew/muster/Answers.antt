@@ -1,6 +1,6 @@
 use Rattle.std.proofs.Common.{◌≡◌, ◌+◌, ◌≤◌, length, drop, [], ◌∷◌, ap, sym, ◌∙◌, refl, subst, arith, length-append, Ok}
 use Rattle.std.specs.Vec.Iter.{into_iter_items}
-use Rattle.nav_live.specs.Crews.{IsNew}
+use Rattle.nav_live.specs.Mustered.{IsNew}
 use Rattle.nav_live.proofs.MusterLaws.{IsNext, are_mustered, drop_one_more, length-dealt, new_more, next_of_drop, some_left}
 use Rattle.nav_live.proofs.hand.Crew.muster.Goals as goal
 use Rattle.nav_live.proofs.hand.Crew.muster.Goals.{then-number-script, else-number-script}

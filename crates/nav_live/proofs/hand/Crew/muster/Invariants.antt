@@ -1,7 +1,7 @@
 use Rattle.std.proofs.Common.{◌≡◌, ◌+◌, ◌≤◌, length, drop}
 use Rattle.std.specs.Prelude.{vec_capacity}
 use Rattle.std.specs.Vec.Iter.{into_iter_items, into_iter_len}
-use Rattle.nav_live.specs.Crews.{AreNew}
+use Rattle.nav_live.specs.Mustered.{AreNew}
 use Rattle.nav_live.proofs.hand.Crew.muster.Given as goal
 
 -- so many actors were made of as many passes, and lanes of as many eyes and lists

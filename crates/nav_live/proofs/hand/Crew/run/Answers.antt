@@ -1,7 +1,8 @@
 use Rattle.std.proofs.Common.{◌++◌, take, drop, length, subst}
 use Rattle.nav_script.specs.declared.script.Script.{Script}
 use Rattle.nav_live.specs.Dealing.{dealt}
-use Rattle.nav_live.specs.Crews.{AreMustered, EndsAs}
+use Rattle.nav_live.specs.Mustered.{AreMustered}
+use Rattle.nav_live.specs.Leavings.{EndsAs}
 use Rattle.nav_live.proofs.LeftLaws.{HaveRun, all_left, have_left, have_met_full, have_run}
 use Rattle.nav_live.proofs.hand.Crew.run.Goals as goal
 

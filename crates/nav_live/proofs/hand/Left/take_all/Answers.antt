@@ -1,7 +1,7 @@
 use Rattle.std.proofs.Common.{length, ap, sym, ◌∙◌, subst, arith}
 use Rattle.std.specs.Vec.Iter.{into_iter_items}
 use Rattle.nav_live.specs.declared.hand.Hand.{Hand}
-use Rattle.nav_live.specs.Crews.{HasRoom, eye_left, pass_left, text_left}
+use Rattle.nav_live.specs.Leavings.{HasRoom, eye_left, pass_left, text_left}
 use Rattle.nav_live.proofs.EndLaws.{ends_last, ends_next, filter_map_next, map_next, none_left}
 use Rattle.nav_live.proofs.hand.Left.take_all.Goals as goal
 

@@ -1,7 +1,8 @@
 use Rattle.std.proofs.Common.{◌≡◌, ◌++◌, map, filter_map, length}
 use Rattle.std.specs.Vec.Iter.{into_iter_items, into_iter_len}
 use Rattle.nav_live.specs.declared.hand.Hand.{Hand}
-use Rattle.nav_live.specs.Crews.{End, EndsAs, HasRoom, eye_left, pass_left, text_left, worse}
+use Rattle.nav_live.specs.Tasks.{End}
+use Rattle.nav_live.specs.Leavings.{EndsAs, HasRoom, eye_left, pass_left, text_left, worse}
 use Rattle.nav_live.proofs.hand.Left.take_all.Given as goal
 
 -- what was taken and what the actors left leave is all that actors leave, and so it is with their ends; there is room for what is left

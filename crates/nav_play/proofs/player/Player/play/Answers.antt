@@ -6,7 +6,7 @@ use Rattle.nav_play.proofs.Arms.{state_is, still_steady}
 use Rattle.nav_play.proofs.Playable.{line_playable}
 use Rattle.nav_play.proofs.Playing.{all_steps, are_totals, last_state, line_broken, no_line_played, one_line_played, whole_text}
 use Rattle.nav_play.proofs.Tallying.{room}
-use Rattle.nav_play.specs.PlayRecord.{PlayState}
+use Rattle.nav_play.specs.PlayStates.{PlayState}
 use Rattle.nav_play.proofs.player.Player.play.Goals as goal
 
 pub loop-line-init : goal.loop-line-init
