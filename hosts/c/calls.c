@@ -102,10 +102,11 @@ static void request(void) {
 
 static void build(void) {
     uint32_t told = 0;
-    switch (pick(6)) {
+    switch (pick(7)) {
     case 0: ENDS(navd_aim(&first, &told), "navd_aim", NAVD_OK); break;
     case 1: ENDS(navd_publish(&first, &told), "navd_publish", NAVD_OK, NAVD_SAME, NAVD_NOT_YET); break;
     case 2: ENDS(navd_settle(&first, &told), "navd_settle", NAVD_OK); break;
+    case 3: ENDS(navd_prepare(&first), "navd_prepare", NAVD_OK); break;
     default: ENDS(navd_step(&first, &told), "navd_step", NAVD_OK, NAVD_SAME);
     }
 }
@@ -302,6 +303,7 @@ static void of_empty(void) {
     ENDS(navd_remove(&empty, 1, &told), "an empty handle", NAVD_EMPTY);
     ENDS(navd_aim(&empty, &told), "an empty handle", NAVD_EMPTY);
     ENDS(navd_step(&empty, &told), "an empty handle", NAVD_EMPTY);
+    ENDS(navd_prepare(&empty), "an empty handle", NAVD_EMPTY);
     ENDS(navd_publish(&empty, &told), "an empty handle", NAVD_EMPTY);
     ENDS(navd_settle(&empty, &told), "an empty handle", NAVD_EMPTY);
     ENDS(navd_floors(&empty, 1, 1, floors, 1, &count), "an empty handle", NAVD_EMPTY);

@@ -283,6 +283,7 @@ def _library():
         "navd_submit": [handle, handle],
         "navd_put_back": [handle, handle],
         "navd_put_back_all": [handle],
+        "navd_prepare": [handle],
         "navd_add_block": [handle, POINTER(_Block), c_uint32, number],
         "navd_add_cylinder": [handle, POINTER(_Cylinder), c_uint32, number],
         "navd_remove": [handle, c_uint32, number],
@@ -508,6 +509,12 @@ class Level(_Asked):
     def publish(self):
         """How many entries are published; a NavdError while a tile is awaited."""
         return self._number(self._calls.navd_publish, allowed=(OK, SAME))[1]
+
+    def prepare(self):
+        """Makes landmarks of what is published, by which paths are found sooner until something new is."""
+        status = self._calls.navd_prepare(byref(self._handle))
+        if status:
+            raise NavdError(status)
 
     def renew(self):
         """Begins the history again: the numbers that the obstacles had, of which the n-th has the number n from then on."""

@@ -19,6 +19,11 @@ abbrev pub seen_in : Option Seen → Option Mesh
 seen_in None = None
 seen_in (Some seen) = Some seen.mesh
 
+-- what is published was made ready for many questions, unless memory is refused; where there is no level, there is nothing to make ready
+abbrev pub IsPrepared : Option BookState → ℕ → Type 0
+IsPrepared None ended = ended ≡ status.EMPTY
+IsPrepared (Some state) ended = (ended ≡ status.OK) ⊎ (ended ≡ status.NO_MEMORY)
+
 -- where there is a mesh there is an answer that is right in it, unless memory is refused; else there is none
 abbrev pub IsRepliedBy : {A : Type 0} → (Mesh → A → Type 0) → Option Mesh → Result A ℕ → Type 0
 IsRepliedBy right None (Ok answer) = ⊥

@@ -37,7 +37,7 @@ pub use jobs::{
 };
 pub use looking::{navd_border_links, navd_inner_links, navd_obstacles, navd_polygons};
 pub use opening::{navd_close, navd_open};
-pub use questions::{navd_cast_ray, navd_count, navd_find_path, navd_floors};
+pub use questions::{navd_cast_ray, navd_count, navd_find_path, navd_floors, navd_prepare};
 pub use renewal::navd_renew;
 pub use requests::{navd_add_block, navd_add_cylinder, navd_remove};
 pub use steps::{navd_aim, navd_publish, navd_settle, navd_step};

@@ -2,7 +2,7 @@
 
 ghost use Rattle.std.specs.Prelude.{◌≡◌};
 ghost use Rattle.nav_query.specs.Questions.{IsAnswerable};
-ghost use Rattle.nav_ffi.specs.Answers.{EndsSo, IsAsked, IsReplied, shown_in};
+ghost use Rattle.nav_ffi.specs.Answers.{EndsSo, IsAsked, IsPrepared, IsReplied, shown_in};
 ghost use Rattle.nav_ffi.specs.Counts.{AreCounted};
 ghost use Rattle.nav_ffi.specs.Telling.{PathRoom, told_floors, told_path, told_ray};
 ghost use Rattle.nav_ffi.specs.Wire.{path_asked, ray_asked};
@@ -31,6 +31,24 @@ fn answer(alloc: Global, level: &mut NavdLevel, question: &Question) -> Result<A
     match told {
         Ok((_, answer)) => Ok(answer),
         Err(_) => Err(NO_MEMORY),
+    }
+}
+
+/// Makes landmarks of what is published, where there are none yet: paths are found sooner with them, until the next publish that shows something
+/// new. What is asked is answered rightly either way.
+#[unsafe(no_mangle)]
+pub extern "C" fn navd_prepare(alloc: Global, level: &mut NavdLevel) -> u32
+    ensures prepared { IsPrepared level.old.level result }
+    ensures same { level.new.level ≡ level.old.level }
+{
+    let Some(mut held) = level.take(alloc) else {
+        return EMPTY;
+    };
+    let ended = held.prepare(alloc);
+    level.put(held);
+    match ended {
+        Ok(()) => OK,
+        Err(_) => NO_MEMORY,
     }
 }
 

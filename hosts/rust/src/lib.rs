@@ -196,6 +196,11 @@ impl Level {
         }
     }
 
+    /// Makes landmarks of what is published, by which paths are found sooner until something new is.
+    pub fn prepare(&mut self) -> Result<(), Error> {
+        done((unsafe { sys::navd_prepare(&mut self.handle) }, 0)).map(drop)
+    }
+
     /// Begins the history again, where all of it is published: the numbers that the obstacles had, of which the n-th has the number n from then on.
     pub fn renew(&mut self) -> Result<Vec<u32>, Error> {
         let mut numbers = vec![0; 1024];

@@ -221,6 +221,7 @@ extern "C" {
     pub fn navd_remove(level: *mut Handle, number: u32, entry: *mut u32) -> u32;
     pub fn navd_settle(level: *mut Handle, published: *mut u32) -> u32;
     pub fn navd_aim(level: *mut Handle, target: *mut u32) -> u32;
+    pub fn navd_prepare(level: *mut Handle) -> u32;
     pub fn navd_step(level: *mut Handle, tile: *mut u32) -> u32;
     pub fn navd_publish(level: *mut Handle, number: *mut u32) -> u32;
     pub fn navd_renew(level: *mut Handle, numbers: *mut u32, room: usize, count: *mut usize) -> u32;
