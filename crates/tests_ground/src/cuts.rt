@@ -254,13 +254,7 @@ fn wide_wanted(alloc: Global, case: &Case, window: &Window) -> Result<Vec<CellRe
 }
 
 /// The radius and the wide cells of a layer are as wanted.
-fn check_wide(
-    rt: &impl Abort,
-    case: &Case,
-    layer: &Layer,
-    wide: &[SmallCell],
-    places: &[CellRef],
-) {
+fn check_wide(rt: &impl Abort, case: &Case, layer: &Layer, wide: &[SmallCell], places: &[CellRef]) {
     same(rt, layer.radius, margin_wanted(case));
     same(rt, wide.len(), places.len());
     for (cell, place) in wide.iter().zip(places.iter()) {
