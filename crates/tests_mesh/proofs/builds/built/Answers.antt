@@ -11,7 +11,7 @@ pub build_tile-requires-clause-layer : goal.build_tile-requires-clause-layer
 build_tile-requires-clause-layer g c = record {
   rules = record {
     cells = subst IsCut (sym c.in_ok-shared.ensures) (IsCut-shown _ refl);
-    wide = subst IsCells (sym c.new.ensures) (IsCells-shown _ refl);
+    wide = subst IsCells (sym c.none.ensures) (IsCells-shown _ refl);
   };
   inside = rw c.in_ok-shared.ensures (IsInTile-shown _ _ _ (omega arith) refl);
 }
