@@ -1,4 +1,4 @@
-//! The same reader as the program bench_calls, in Rust with the C library's memchr.
+//! A reader of the same text as the program bench_calls reads, line by line, in Rust with the C library's memchr.
 
 use std::io::Read;
 
