@@ -28,6 +28,7 @@ pub fn cells_near(
 }
 
 /// Where the cells in a rectangle with a margin of so many columns on each side stand: a run for each of its rows, found by halving.
+/// Only memory can be refused.
 pub fn runs_near(
     alloc: Global,
     cells: &[SmallCell],

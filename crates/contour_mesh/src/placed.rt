@@ -106,13 +106,14 @@ pub fn first_at<T: Copy>(placed: &[Placed<T>], guess: &mut usize, place: SidePla
     ensures { result ≡ first_at placed.now place }
 {
     let first = count_before(placed, *guess, place);
-    *guess = first.saturating_add(1);
+    *guess = first;
     if first >= placed.len() {
         return None;
     }
     if !is_same_place(placed[first].place, place) {
         return None;
     }
+    *guess = first.saturating_add(1);
     Some(placed[first].item)
 }
 

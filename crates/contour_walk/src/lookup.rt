@@ -1,4 +1,4 @@
-//! The index of the cell at a place.
+//! Where the cell at a place stands, and the place of a strip's cell in a column.
 
 ghost use Rattle.std.specs.Prelude.{◌≡◌, ◌<◌, ◌≤◌, ℕ, true, false, length, slice_index_or};
 ghost use Rattle.nav_ground.specs.declared.cell.Cell.{Cell};

@@ -2,7 +2,7 @@
 use Rattle.std.specs.Prelude.{◌≡◌, ◌<◌, ◌≤◌, ◌++◌, List, [], ◌∷◌, length, slice_range, slice_index_or, drop, Option, Some, None}
 use Rattle.nav_ground.specs.declared.cell.Cell.{Cell}
 use Rattle.nav_ground.specs.declared.runs.Run.{Run}
-use Rattle.nav_ground.specs.declared.runs.Stop.{Stop}
+use Rattle.nav_ground.specs.declared.runs.Spot.{Spot}
 
 -- a run stands in a list
 pub record IsRunOf (cells : List Cell) (run : Run) : Type 0 where
@@ -28,10 +28,10 @@ list_under None = []
 list_under (Some cells) = cells
 
 -- the cells behind a place among runs: what is left of the run at hand, and the runs that are not begun
-abbrev pub cells_behind : List Cell → List Run → Stop → List Cell
-cells_behind cells runs stop = cells_of_run cells stop.left ++ cells_of_runs cells (drop stop.begun runs)
+abbrev pub cells_behind : List Cell → List Run → Spot → List Cell
+cells_behind cells runs spot = cells_of_run cells spot.left ++ cells_of_runs cells (drop spot.begun runs)
 
--- some cells come next in a list, and the cells behind a place come after them; or, without a place, it is not they that come next
-abbrev pub HasPassed : List Cell → List Run → List Cell → List Cell → Option Stop → Type 0
-HasPassed cells runs list next (Some stop) = list ≡ next ++ cells_behind cells runs stop
+-- whether some cells come next in a list: with a place, they do and the cells behind it come after them; without one, they do not
+abbrev pub HasPassed : List Cell → List Run → List Cell → List Cell → Option Spot → Type 0
+HasPassed cells runs list next (Some spot) = list ≡ next ++ cells_behind cells runs spot
 HasPassed cells runs list next None = (behind : List Cell) → list ≡ next ++ behind → ⊥

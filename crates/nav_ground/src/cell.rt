@@ -54,7 +54,7 @@ pub struct Layer {
     /// only what they cover.
     pub radius: u32,
     /// Where the setting says clear: all cells, also those too near a wall, of the tile widened by the radius on each side, in the same
-    /// order, each with all its connections. Else empty. They stand in one list that all layers of a ground share.
+    /// order, each with all its connections. Else empty. In a ground they stand in one list that all its layers share.
     pub wide: WideCells,
 }
 

@@ -10,8 +10,8 @@ use nav_share::Shared;
 use std::alloc::{AllocError, Global};
 use std::marker::Model;
 
-/// A list of cells, seen by contracts as that list, which takes no memory but for the runs of which it is made: its cells stand in a list that
-/// the wide cells of other layers share.
+/// A list of cells, seen by contracts as that list, which has memory of its own for the runs alone of which it is made: their cells stand in
+/// a shared list, in a ground in one for the wide cells of all its layers.
 #[derive(Drop)]
 pub struct WideCells {
     cells: Option<Shared<Items<SmallCell>>>,
@@ -53,7 +53,7 @@ impl WideCells {
         }
     }
 
-    /// The cells, in order, in a list of their own.
+    /// The cells, in order, in a list of their own. Only memory can be refused.
     pub fn all(&self, alloc: Global) -> Result<Vec<SmallCell>, AllocError>
         ensures { IfOk result (λ cells. cells.items ≡ self.now) }
     {

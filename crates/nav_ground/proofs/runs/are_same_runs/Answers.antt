@@ -6,14 +6,14 @@ use Rattle.nav_ground.proofs.runs.are_same_runs.Goals as goal
 pub returns-in-None : goal.returns-in-None
 returns-in-None c = (
   λ never. absurd (both_ways false refl never),
-  λ same. absurd (no_run_passed c.args.cells.now c.args.runs.now c.args.others.now c.args.other_runs.now c.loop-run.stop c.loop-run.run-index _
+  λ same. absurd (no_run_passed c.args.cells.now c.args.runs.now c.args.others.now c.args.other_runs.now c.loop-run.spot c.loop-run.run-index _
       c.run_cells.result.now c.loop-run-test.true c.run_cells.ensures c.loop-run.invariant.passed c.in-None.ensures.passed same),
 )
 
 pub loop-run-preserved : goal.loop-run-preserved
 loop-run-preserved c = record {
   left = c.in-Some.ensures.left;
-  passed = next_run_passed c.args.cells.now c.args.runs.now c.args.others.now c.args.other_runs.now c.loop-run.stop c.in-Some.behind c.loop-run.run-index _
+  passed = next_run_passed c.args.cells.now c.args.runs.now c.args.others.now c.args.other_runs.now c.loop-run.spot c.in-Some.behind c.loop-run.run-index _
       c.run_cells.result.now c.loop-run-test.true c.run_cells.ensures c.loop-run.invariant.passed c.in-Some.ensures.passed;
 }
 

@@ -5,6 +5,6 @@ use Rattle.nav_ground.proofs.runs.are_same_runs.Given as goal
 -- the cells of so many runs came first in the other list
 abbrev pub invariant-loop-run : goal.invariant-loop-run
 invariant-loop-run l = record {
-  left : IsRunOf l.others l.stop.left;
-  passed : cells_of_runs l.others l.other_runs ≡ cells_of_runs l.cells (take l.run-index l.runs) ++ cells_behind l.others l.other_runs l.stop;
+  left : IsRunOf l.others l.spot.left;
+  passed : cells_of_runs l.others l.other_runs ≡ cells_of_runs l.cells (take l.run-index l.runs) ++ cells_behind l.others l.other_runs l.spot;
 }

@@ -6,7 +6,7 @@ use Rattle.nav_ground.proofs.runs.at_cell.Given as goal
 abbrev pub invariant-loop-left : goal.invariant-loop-left
 invariant-loop-left l = record {
   left : IsRunOf l.cells l.left;
-  same : cells_behind l.cells l.runs (record { left = l.left; begun = l.begun }) ≡ cells_behind l.cells l.runs l.fn.stop;
+  same : cells_behind l.cells l.runs (record { left = l.left; begun = l.begun }) ≡ cells_behind l.cells l.runs l.fn.spot;
 }
 
 abbrev pub decreases-loop-left : goal.decreases-loop-left

@@ -6,5 +6,5 @@ use Rattle.nav_ground.proofs.runs.passed.Given as goal
 abbrev pub invariant-loop-cell : goal.invariant-loop-cell
 invariant-loop-cell l = record {
   left : IsRunOf l.cells l.here.left;
-  passed : cells_behind l.cells l.runs l.fn.stop ≡ take l.cell-index l.next ++ cells_behind l.cells l.runs l.here;
+  passed : cells_behind l.cells l.runs l.fn.spot ≡ take l.cell-index l.next ++ cells_behind l.cells l.runs l.here;
 }
