@@ -1,3 +1,4 @@
 pub mod HandSettings
+pub mod Rows
 pub mod TwoTiles
 pub mod Stored

@@ -1,4 +1,5 @@
 mod CorridorMeshes
+mod PartMeshes
 mod PlaceMeshes
 mod FlatFields
 pub mod OneTilePatches

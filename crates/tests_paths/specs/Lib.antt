@@ -1,4 +1,5 @@
 pub mod CorridorMesh
+pub mod PartMesh
 pub mod PlaceMesh
 pub mod SmallChains
 pub mod OneTile

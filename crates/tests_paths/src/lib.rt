@@ -1,4 +1,5 @@
-//! Tests of what is asked of a mesh: taut paths, the polygon of a place, corridors, whole answers, and books over small grounds.
+//! Tests of what is asked of a mesh: taut paths, the polygon of a place, corridors, straight moves, walkers and whole answers; of books over
+//! small grounds, and that handles may go to other threads.
 //!
 //! The tests use public calls alone, and compare them with tables that were worked out by hand. They stand apart from what they test,
 //! so that no crate is proved a second time with its tests.
@@ -11,6 +12,8 @@ mod chains;
 #[cfg(test)]
 mod corridors;
 #[cfg(test)]
+mod crossings;
+#[cfg(test)]
 mod hops;
 #[cfg(test)]
 mod late_rows;
@@ -18,6 +21,8 @@ mod late_rows;
 mod levels;
 #[cfg(test)]
 mod lists;
+#[cfg(test)]
+mod parts;
 #[cfg(test)]
 mod places;
 #[cfg(test)]
@@ -32,3 +37,5 @@ mod settings;
 mod versions;
 #[cfg(test)]
 mod walkers;
+#[cfg(test)]
+mod walks;

@@ -17,63 +17,30 @@ use strip_mesh::strip_mesh;
 use tests_mesh::stored::stored;
 use tile_links::whole;
 
+/// A cell of the level of its column with the neighbours that it has.
+macro_rules! cell {
+    ($x:expr, $z:expr, $next:expr) => {
+        Cell {
+            at: CellRef {
+                x: $x,
+                z: $z,
+                level: 0,
+            },
+            floor: 10,
+            ceiling: 65535,
+            area: 1,
+            next: $next,
+        }
+    };
+}
+
 /// Two cells in the first row, the second of which is connected to the first of two in the second row, and one apart in the last row.
 static CELLS: [Cell; 5] = [
-    Cell {
-        at: CellRef {
-            x: 0,
-            z: 0,
-            level: 0,
-        },
-        floor: 10,
-        ceiling: 65535,
-        area: 1,
-        next: [None, None, Some(0), None],
-    },
-    Cell {
-        at: CellRef {
-            x: 1,
-            z: 0,
-            level: 0,
-        },
-        floor: 10,
-        ceiling: 65535,
-        area: 1,
-        next: [Some(0), Some(0), None, None],
-    },
-    Cell {
-        at: CellRef {
-            x: 1,
-            z: 1,
-            level: 0,
-        },
-        floor: 10,
-        ceiling: 65535,
-        area: 1,
-        next: [None, None, Some(0), Some(0)],
-    },
-    Cell {
-        at: CellRef {
-            x: 2,
-            z: 1,
-            level: 0,
-        },
-        floor: 10,
-        ceiling: 65535,
-        area: 1,
-        next: [Some(0), None, None, None],
-    },
-    Cell {
-        at: CellRef {
-            x: 0,
-            z: 3,
-            level: 0,
-        },
-        floor: 10,
-        ceiling: 65535,
-        area: 1,
-        next: [None, None, None, None],
-    },
+    cell!(0, 0, [None, None, Some(0), None]),
+    cell!(1, 0, [Some(0), Some(0), None, None]),
+    cell!(1, 1, [None, None, Some(0), Some(0)]),
+    cell!(2, 1, [Some(0), None, None, None]),
+    cell!(0, 3, [None, None, None, None]),
 ];
 
 pub(crate) const SETTING: Setting = Setting {

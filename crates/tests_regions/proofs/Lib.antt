@@ -1,3 +1,0 @@
-mod CellRows
-pub mod Literals
-pub mod TileLiterals
