@@ -5,15 +5,15 @@ ghost use Rattle.nav_ground.specs.declared.cell.Cell.{Cell};
 ghost use Rattle.nav_ground.specs.Cells.{IsCells, IsCompact};
 ghost use Rattle.nav_ground.specs.Clearance.{is_kept, kept_cells, marked, places_of, cells_in};
 
-use crate::clearance::marks;
+use crate::reach::marks;
 use crate::windows::{cells_near, is_near};
 use compact_layer::CompactField;
-use nav_ground::{CellRef, SmallCell, Window};
+use nav_ground::{CellRef, PackedCell, Window};
 use std::alloc::{AllocError, Global};
 
 /// For each cell of a field, in order, whether it is kept for a radius in cells: whether no walk from a boundary cell to it is cheaper
 /// than twice the radius.
-pub fn kept_marks(alloc: Global, cells: &[SmallCell], radius: u32) -> Result<Vec<bool>, AllocError>
+pub fn kept_marks(alloc: Global, cells: &[PackedCell], radius: u32) -> Result<Vec<bool>, AllocError>
     requires { IsCompact cells.now }
     ensures { IfOk result (λ marks. marks.items ≡ map (is_kept cells.now radius) cells.now) }
 {
@@ -33,7 +33,7 @@ pub fn erode(alloc: Global, compact: &CompactField, radius: u32) -> Result<Vec<C
 /// The places of the cells that are marked, in order.
 fn places_marked(
     alloc: Global,
-    cells: &[SmallCell],
+    cells: &[PackedCell],
     marks: &[bool],
 ) -> Result<Vec<CellRef>, AllocError>
     requires { length marks.now ≡ length cells.now }
@@ -70,7 +70,7 @@ pub fn erode_window(
 /// lead out of the list, and need not be named back.
 pub fn kept(
     alloc: Global,
-    wide: &[SmallCell],
+    wide: &[PackedCell],
     uncovered: &[bool],
     window: Window,
     radius: u32,
@@ -88,9 +88,9 @@ pub fn kept(
 /// The cells beside which a truth value is true, in order.
 fn open_cells(
     alloc: Global,
-    cells: &[SmallCell],
+    cells: &[PackedCell],
     uncovered: &[bool],
-) -> Result<Vec<SmallCell>, AllocError>
+) -> Result<Vec<PackedCell>, AllocError>
     requires { length uncovered.now ≡ length cells.now }
     ensures { IfOk result (λ chosen. chosen.items ≡ marked cells.now uncovered.now) }
 {
@@ -106,7 +106,7 @@ fn open_cells(
 /// The places of the cells that are marked and lie in a window, in order.
 fn places_within(
     alloc: Global,
-    cells: &[SmallCell],
+    cells: &[PackedCell],
     marks: &[bool],
     window: Window,
 ) -> Result<Vec<CellRef>, AllocError>

@@ -8,10 +8,9 @@
 //! for x + 1 and 3 for z - 1.
 #![tactic(auto)]
 
-mod clearance;
 mod erosion;
 mod reach;
 mod windows;
 
 pub use erosion::{erode, erode_window, kept, kept_marks};
-pub use windows::{Rows, cells_near, is_near, rows_of, runs_near};
+pub use windows::{RowWindow, cells_near, is_near, rows_of, runs_near};

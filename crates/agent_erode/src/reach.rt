@@ -1,9 +1,15 @@
-//! What walks reach, cost by cost.
+//! What walks reach, cost by cost. Which cells keep a radius from every boundary cell.
 
-ghost use Rattle.std.specs.Prelude.{◌≡◌, ◌<◌, ◌≤◌, IfOk, OnOk, true, length, replicate, fold, slice_index};
+ghost use Rattle.std.specs.Prelude.{◌≡◌, ◌<◌, ◌≤◌, IfOk, OnOk, true, length, replicate, fold, slice_index, ◌+◌, ◌%◌, ◌*◌, map};
 ghost use Rattle.cell_table.specs.Table.{neighbour};
 ghost use Rattle.agent_erode.specs.Reaching.{Progress, nothing_reached, reached, axis_ends, turn_ends, diagonal_ends, after_axis_steps, after_diagonal_steps, after_round, has_gap, boundary};
+ghost use Rattle.nav_ground.specs.Cells.{IsCells};
+ghost use Rattle.nav_ground.specs.Clearance.{is_kept};
+ghost use Rattle.nav_ground.specs.Directions.{number};
+ghost use Rattle.agent_erode.specs.Clearances.{is_beyond};
 
+use cell_table::neighbour_table;
+use nav_ground::{Direction, PackedCell};
 use std::alloc::{AllocError, Global};
 use std::marker::Model;
 
@@ -130,30 +136,41 @@ impl Reached {
     fn axis_steps(&mut self, table: &[[u32; 4]], from: u32) -> Result<(), AllocError>
         ensures { OnOk result (self.new ≡ fold reached self.old (axis_ends table.now from)) }
     {
-        self.reach(neighbour(table, from, 0))?;
-        self.reach(neighbour(table, from, 1))?;
-        self.reach(neighbour(table, from, 2))?;
-        self.reach(neighbour(table, from, 3))
+        self.reach(neighbour(table, from, Direction::Left))?;
+        self.reach(neighbour(table, from, Direction::Above))?;
+        self.reach(neighbour(table, from, Direction::Right))?;
+        self.reach(neighbour(table, from, Direction::Below))
     }
 
     /// Takes the diagonal steps from a cell: each follows two successive connections in perpendicular directions.
     fn diagonal_steps(&mut self, table: &[[u32; 4]], from: u32) -> Result<(), AllocError>
         ensures { OnOk result (self.new ≡ fold reached self.old (diagonal_ends table.now from)) }
     {
-        self.turns(table, from, 0)?;
-        self.turns(table, from, 1)?;
-        self.turns(table, from, 2)?;
-        self.turns(table, from, 3)
+        self.turns(table, from, Direction::Left)?;
+        self.turns(table, from, Direction::Above)?;
+        self.turns(table, from, Direction::Right)?;
+        self.turns(table, from, Direction::Below)
     }
 
     /// Takes the two diagonal steps from a cell that begin in a direction.
-    fn turns(&mut self, table: &[[u32; 4]], from: u32, dir: usize) -> Result<(), AllocError>
-        requires { dir < 4 }
-        ensures { OnOk result (self.new ≡ fold reached self.old (turn_ends table.now from dir)) }
+    fn turns(&mut self, table: &[[u32; 4]], from: u32, dir: Direction) -> Result<(), AllocError>
+        ensures { OnOk result (self.new ≡ fold reached self.old (turn_ends table.now from (number dir))) }
     {
         let by = neighbour(table, from, dir);
-        self.reach(neighbour(table, by, (dir + 1) % 4))?;
-        self.reach(neighbour(table, by, (dir + 3) % 4))
+        self.reach(neighbour(table, by, turned(dir)))?;
+        self.reach(neighbour(table, by, turned(dir).opposite()))
+    }
+}
+
+/// The direction a quarter turn from one, clockwise.
+fn turned(dir: Direction) -> Direction
+    ensures { number result ≡ (number dir + 1) % 4 }
+{
+    match dir {
+        Direction::Left => Direction::Above,
+        Direction::Above => Direction::Right,
+        Direction::Right => Direction::Below,
+        Direction::Below => Direction::Left,
     }
 }
 
@@ -165,12 +182,11 @@ pub fn all_kept(alloc: Global, count: usize) -> Result<Vec<bool>, AllocError>
 }
 
 /// The index in a table at a cell and a direction; past the table one that no cell has.
-fn neighbour(table: &[[u32; 4]], from: u32, dir: usize) -> u32
-    requires { dir < 4 }
-    ensures { result ≡ neighbour table.now from dir }
+fn neighbour(table: &[[u32; 4]], from: u32, dir: Direction) -> u32
+    ensures { result ≡ neighbour table.now from (number dir) }
 {
     match table.get(from as usize) {
-        Some(next) => next[dir],
+        Some(next) => next[dir.index()],
         None => u32::MAX,
     }
 }
@@ -180,8 +196,64 @@ fn has_gap(table: &[[u32; 4]], from: u32) -> bool
     ensures { result ≡ has_gap table.now (length table.now) from }
 {
     let count = table.len();
-    !((neighbour(table, from, 0) as usize) < count
-        && (neighbour(table, from, 1) as usize) < count
-        && (neighbour(table, from, 2) as usize) < count
-        && (neighbour(table, from, 3) as usize) < count)
+    !((neighbour(table, from, Direction::Left) as usize) < count
+        && (neighbour(table, from, Direction::Above) as usize) < count
+        && (neighbour(table, from, Direction::Right) as usize) < count
+        && (neighbour(table, from, Direction::Below) as usize) < count)
+}
+
+/// For each cell whether no walk from a boundary cell to it is cheaper than twice the radius. The cells may be connected to others
+/// that are not in the list, and need not be named back.
+pub fn marks(alloc: Global, cells: &[PackedCell], radius: u32) -> Result<Vec<bool>, AllocError>
+    requires { IsCells cells.now }
+    ensures { IfOk result (λ marks. marks.items ≡ map (is_kept cells.now radius) cells.now) }
+{
+    if radius == 0 {
+        return Ok(all_kept(alloc, cells.len())?);
+    }
+    let mut reached = Reached::new(alloc, cells.len())?;
+    spread(alloc, &mut reached, cells, bound_of(radius))?;
+    Ok(reached.into_kept())
+}
+
+/// Reaches, from none, the cells to which some walk from a boundary cell costs less than a bound.
+///
+/// Costs are gone through in order, from what was reached: the cells whose least cost is the last one stand in the order from `first` on,
+/// those of the cost before it from `second` to before `first`, and those of the cost before that from `third` to before `second`. Each cell is
+/// left once for its axis steps and once for its diagonal steps. Three costs without a new cell end it, since no step costs more than
+/// three.
+fn spread(
+    alloc: Global,
+    reached: &mut Reached,
+    cells: &[PackedCell],
+    bound: u64,
+) -> Result<(), AllocError>
+    requires cells { IsCells cells.now }
+    requires reached { reached.old ≡ nothing_reached (length cells.now) }
+    requires bound { 1 ≤ bound }
+    ensures { OnOk result (reached.new.kept ≡ map (is_beyond cells.now bound) cells.now) }
+{
+    let table = neighbour_table(alloc, cells)?;
+    let table = table.as_slice();
+    reached.reach_boundary(table)?;
+    let mut cost = 1;
+    let mut first = 0;
+    let mut second = 0;
+    let mut third = 0;
+    while cost < bound && third < reached.count() {
+        let end = reached.count();
+        reached.round(table, third, second, first)?;
+        third = second;
+        second = first;
+        first = end;
+        cost += 1;
+    }
+    Ok(())
+}
+
+/// What a walk to a kept cell costs at least: twice the radius.
+fn bound_of(radius: u32) -> u64
+    ensures { result ≡ 2 * radius }
+{
+    2 * u64::from(radius)
 }

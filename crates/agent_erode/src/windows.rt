@@ -9,17 +9,17 @@ ghost use Rattle.nav_ground.specs.Tiling.{is_in_window, widened};
 ghost use Rattle.nav_ground.specs.Clearance.{cells_in};
 ghost use Rattle.agent_erode.specs.Runs.{is_in_run, IsBetween};
 
-use nav_ground::{CellRef, Run, SmallCell, Window, gathered};
+use nav_ground::{CellRef, CellRun, PackedCell, Window, gathered};
 use std::alloc::{AllocError, Global};
 
 /// The cells in a rectangle with a margin of so many columns on each side. Of each of its rows only the cells in the rectangle are gone
 /// through; where they begin and end is found by halving.
 pub fn cells_near(
     alloc: Global,
-    cells: &[SmallCell],
+    cells: &[PackedCell],
     window: Window,
     margin: u32,
-) -> Result<Vec<SmallCell>, AllocError>
+) -> Result<Vec<PackedCell>, AllocError>
     requires { IsCells cells.now }
     ensures { IfOk result (λ near. near.items ≡ cells_in (widened window margin) cells.now) }
 {
@@ -31,10 +31,10 @@ pub fn cells_near(
 /// Only memory can be refused.
 pub fn runs_near(
     alloc: Global,
-    cells: &[SmallCell],
+    cells: &[PackedCell],
     window: Window,
     margin: u32,
-) -> Result<Vec<Run>, AllocError>
+) -> Result<Vec<CellRun>, AllocError>
     requires { IsCells cells.now }
     ensures within { IfOk result (λ runs. All (IsRunOf cells.now) runs.items) }
     ensures near { IfOk result (λ runs. cells_of_runs cells.now runs.items ≡ cells_in (widened window margin) cells.now) }
@@ -49,13 +49,13 @@ pub fn runs_near(
 }
 
 /// Where the cells of a row from a first column on and before an end stand.
-fn run_of(cells: &[SmallCell], row: u32, first: u32, end: u32) -> Run
+fn run_of(cells: &[PackedCell], row: u32, first: u32, end: u32) -> CellRun
     requires cells { IsCells cells.now }
     requires ends { first ≤ end }
     ensures within { IsRunOf cells.now result }
     ensures cells { cells_of_run cells.now result ≡ filter (is_in_run row first end) cells.now }
 {
-    Run {
+    CellRun {
         from: cells_before(cells, row, first) as u32,
         to: cells_before(cells, row, end) as u32,
     }
@@ -63,18 +63,18 @@ fn run_of(cells: &[SmallCell], row: u32, first: u32, end: u32) -> Run
 
 /// Rows of columns of a field, those with z from `first` on and before `end`.
 #[derive(Clone, Copy)]
-pub struct Rows {
+pub struct RowWindow {
     pub first: u32,
     pub end: u32,
 }
 
 /// The rows that a rectangle with a margin of so many columns on each side has of the largest field.
-pub fn rows_of(window: Window, margin: u32) -> Rows
+pub fn rows_of(window: Window, margin: u32) -> RowWindow
     ensures all { (x z : ℕ) → z < 1024 → is_in_window (widened window margin) x z ≡ true → (result.first ≤ z) × (z < result.end) }
     ensures only { (z : ℕ) → result.first ≤ z → z < result.end → IsBetween (window.z0 -ℤ pos margin) z (window.z1 +ℤ pos margin) }
 {
     let (first, end) = ends_of(window.z0, window.z1, margin);
-    Rows { first, end }
+    RowWindow { first, end }
 }
 
 /// The first of the numbers below 1024 that lie from a least one to a greatest one or past them by a margin at most, and the one behind the last.
@@ -90,7 +90,7 @@ fn ends_of(least: i32, most: i32, margin: u32) -> (u32, u32)
 }
 
 /// How many of the cells lie before a column of a row, in that row or in rows before it.
-fn cells_before(cells: &[SmallCell], row: u32, x: u32) -> usize
+fn cells_before(cells: &[PackedCell], row: u32, x: u32) -> usize
     requires { IsCells cells.now }
     ensures most { result ≤ length cells.now }
     ensures parted { IsPartitionPoint (λ (cell : Cell). Rattle.agent_erode.specs.Runs.is_before_column row x cell.at ≡ true)

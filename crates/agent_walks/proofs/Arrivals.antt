@@ -5,8 +5,8 @@ use Rattle.std.proofs.lemmas.List.Elements.{All-take}
 use Rattle.nav_base.specs.declared.point.Point.{Point}
 use Rattle.nav_ground.specs.Limits.{IsSetting}
 use Rattle.mesh_types.specs.declared.answers.PathFound.{PathFound}
-use Rattle.mesh_types.specs.declared.corner.Corner.{Corner}
-use Rattle.mesh_types.specs.declared.corridor.Corridor.{Corridor}
+use Rattle.mesh_types.specs.declared.answers.Corner.{Corner}
+use Rattle.mesh_types.specs.declared.answers.Corridor.{Corridor}
 use Rattle.mesh_types.specs.declared.links.Link.{Link}
 use Rattle.mesh_types.specs.declared.links.PolyRef.{PolyRef}
 use Rattle.mesh_types.specs.declared.mesh.Mesh.{Mesh}
@@ -18,7 +18,7 @@ use Rattle.mesh_types.specs.WholeMesh.{poly_at}
 use Rattle.mesh_types.proofs.WalkChains.{held_in_coordinates}
 use Rattle.surface_move.specs.Moves.{nth_polygon, IsThere}
 use Rattle.nav_query.proofs.FewLinks.{few_links}
-use Rattle.agent_walks.specs.declared.standings.Stop.{Stop}
+use Rattle.agent_walks.specs.declared.walkers.MarchEnd.{MarchEnd}
 use Rattle.agent_walks.specs.Marches.{polygons_of, IsMarch}
 use Rattle.agent_walks.specs.Standings.{EndsAt, IsLine}
 use Rattle.agent_walks.specs.Walkers.{IsOnWay}
@@ -41,7 +41,7 @@ module _ (mesh : Mesh) (from : Point) (from_y : ℕ) (goal : Point) (goal_y : �
         taut = path.taut;
       }))
 
-  module _ (far : ℕ) (stop : Stop) (ends : EndsAt mesh found.first links from goal far corners stop) where
+  module _ (far : ℕ) (stop : MarchEnd) (ends : EndsAt mesh found.first links from goal far corners stop) where
     -- it ends at one of the corridor's polygons
     pub within : stop.place ≤ length links
     within = omega (arith, ends.stops.within, count_polygons found.first links)

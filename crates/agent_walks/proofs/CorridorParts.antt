@@ -5,7 +5,7 @@ use Rattle.std.specs.List.{sum_by}
 use Rattle.std.proofs.lemmas.List.{get_or-map, length-map, take_more}
 use Rattle.std.proofs.lemmas.List.Elements.{All-nil, All-cons}
 use Rattle.std.proofs.lemmas.List.Sums.{sum_by-append, sum_by-take-drop, sum_by-take-le, sum_by_push}
-use Rattle.mesh_types.specs.declared.corridor.Corridor.{Corridor}
+use Rattle.mesh_types.specs.declared.answers.Corridor.{Corridor}
 use Rattle.mesh_types.specs.declared.links.Link.{Link}
 use Rattle.mesh_types.specs.declared.links.PolyRef.{PolyRef}
 use Rattle.mesh_types.specs.declared.mesh.Mesh.{Mesh}
@@ -71,7 +71,7 @@ walk_links mesh first (link ∷ links) last walk = All-cons (IsLinkOf mesh) link
 pub cost_left : (mesh : Mesh) (links : List Link) (k : ℕ) → cost_of mesh (take k links) + cost_of mesh (drop k links) ≡ cost_of mesh links
 cost_left mesh links k = sum_by-take-drop (weight_of mesh) links k
 
--- no walk undercuts the rest of one that none undercuts
+-- no walk costs less than the rest of one than which none costs less
 pub cheapest_left : (mesh : Mesh) (first last : PolyRef) (corridor : Corridor) (k cost : ℕ) → IsCheapest mesh first last corridor → k ≤ length corridor.links
     → cost ≡ cost_of mesh (drop k corridor.links)
     → IsCheapest mesh (nth_polygon (polygons_of first corridor.links) k) last (record { cost = cost; links = drop k corridor.links })

@@ -4,9 +4,9 @@ use Rattle.std.specs.Prelude.{All, AllPairs, nat_le, if◌then◌else◌}
 use Rattle.std.proofs.lemmas.Bool.{cases_Bool, leb-true, leb-false}
 use Rattle.std.proofs.lemmas.List.{get_or-map, get_or-drop, length-map, length-drop}
 use Rattle.nav_base.specs.declared.point.Point.{Point}
-use Rattle.mesh_types.specs.declared.corner.Corner.{Corner}
-use Rattle.mesh_types.specs.declared.corner.Side.{Side}
-use Rattle.mesh_types.specs.declared.corner.Side.TheVariants.{L, R}
+use Rattle.mesh_types.specs.declared.answers.Corner.{Corner}
+use Rattle.mesh_types.specs.declared.answers.Side.{Side}
+use Rattle.mesh_types.specs.declared.answers.Side.TheVariants.{L, R}
 use Rattle.mesh_types.specs.declared.links.Link.{Link}
 use Rattle.mesh_types.specs.declared.links.PolyRef.{PolyRef}
 use Rattle.mesh_types.specs.declared.links.Portal.{Portal}
@@ -21,8 +21,8 @@ use Rattle.mesh_types.specs.Bends.{some_corner}
 use Rattle.mesh_types.proofs.MeshLinks.{leads, ends_entered, IsHeldIn}
 use Rattle.mesh_types.proofs.WalkChains.{some_link, link_at, walk_link, held_in_coordinates}
 use Rattle.surface_move.specs.Moves.{leg_of, nth_polygon}
-use Rattle.agent_walks.specs.declared.standings.Standing.{Standing}
-use Rattle.agent_walks.specs.declared.standings.Stop.{Stop}
+use Rattle.agent_walks.specs.declared.walkers.Standing.{Standing}
+use Rattle.agent_walks.specs.declared.walkers.MarchEnd.{MarchEnd}
 use Rattle.agent_walks.specs.Marches.{EndsFrom, Stand, over_corners, polygons_of}
 use Rattle.agent_walks.specs.Standings.{ArePolygons, EndsAt, HasNextPlace, IsLine, IsStop, StandsAt, stand_of}
 use Rattle.agent_walks.proofs.CorridorParts.{are_there, count_polygons, entered_at, last_at}
@@ -192,7 +192,7 @@ module _ (mesh : Mesh) (first last : PolyRef) (links : List Link) (point goal : 
       end = omega (arith, count_polygons first links)
 
   -- and what it gives
-  pub arrives : (far : ℕ) (standing : Standing) (stop : Stop) (polys' : List PolyRef) → over_corners point 0 far all ≡ stand_of all standing → polys' ≡ polys
+  pub arrives : (far : ℕ) (standing : Standing) (stop : MarchEnd) (polys' : List PolyRef) → over_corners point 0 far all ≡ stand_of all standing → polys' ≡ polys
       → EndsFrom mesh polys' goal (stand_of all standing) (drop standing.passed all) stop.place stop.point → IsStop mesh polys' stop
       → EndsAt mesh first links point goal far all stop
   arrives far standing stop polys' same is ends stops = record {

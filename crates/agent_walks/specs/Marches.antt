@@ -2,8 +2,8 @@
 use Rattle.std.specs.Prelude.{◌≡◌, ℕ, ◌+◌, ◌-◌, max, nat_le, if◌then◌else◌, List, [], ◌∷◌, length, map, drop, slice_range, Option, Some, MatchBool}
 use Rattle.std.specs.Option.{option_map_or}
 use Rattle.nav_base.specs.declared.point.Point.{Point}
-use Rattle.mesh_types.specs.declared.corner.Corner.{Corner}
-use Rattle.mesh_types.specs.declared.corridor.Corridor.{Corridor}
+use Rattle.mesh_types.specs.declared.answers.Corner.{Corner}
+use Rattle.mesh_types.specs.declared.answers.Corridor.{Corridor}
 use Rattle.mesh_types.specs.declared.links.Link.{Link}
 use Rattle.mesh_types.specs.declared.links.PolyRef.{PolyRef}
 use Rattle.mesh_types.specs.declared.mesh.Mesh.{Mesh}
@@ -13,10 +13,10 @@ use Rattle.mesh_types.specs.Located.{IsLocated}
 use Rattle.mesh_types.specs.Right.{portals_of, IsNowhere, HasNoGoal, HasNoPath}
 use Rattle.mesh_types.specs.Taut.{IsTaut}
 use Rattle.mesh_types.specs.WholeMesh.{poly_at}
-use Rattle.surface_move.specs.declared.ends.PartEnd.{PartEnd}
+use Rattle.surface_move.specs.declared.parts.PartEnd.{PartEnd}
 use Rattle.surface_move.specs.Moves.{leg_of, nth_polygon, IsPart}
-use Rattle.mesh_types.specs.declared.walks.WalkAnswer.{WalkAnswer}
-use Rattle.mesh_types.specs.declared.walks.WalkAnswer.TheVariants.{Walking, NoStart, NoGoal, NoPath}
+use Rattle.mesh_types.specs.declared.answers.WalkAnswer.{WalkAnswer}
+use Rattle.mesh_types.specs.declared.answers.WalkAnswer.TheVariants.{Walking, NoStart, NoGoal, NoPath}
 
 -- where a walker stands on its way: its point, the place of its polygon among the corridor's, how far it may still go, and the corners that are
 -- left

@@ -1,9 +1,9 @@
 -- Questions: the two questions about walkers, as ones that carry how they are answered.
 use Rattle.nav_base.specs.Point.{HasCoordinates}
 use Rattle.mesh_types.specs.declared.mesh.Mesh.{Mesh}
-use Rattle.mesh_types.specs.declared.walks.WalkAnswer.{WalkAnswer}
-use Rattle.agent_walks.specs.declared.questions.Marching.{Marching}
-use Rattle.agent_walks.specs.declared.questions.Sending.{Sending}
+use Rattle.mesh_types.specs.declared.answers.WalkAnswer.{WalkAnswer}
+use Rattle.agent_walks.specs.declared.eyes.Marching.{Marching}
+use Rattle.agent_walks.specs.declared.eyes.Sending.{Sending}
 use Rattle.agent_walks.specs.Marches.{IsMarched, IsSent}
 use Rattle.agent_walks.specs.Walkers.{IsUnderWay}
 

@@ -2,7 +2,7 @@
 use Rattle.std.specs.Prelude.{ℕ, ◌<◌, ◌≤◌, List, length, drop, get_or}
 use Rattle.nav_base.specs.declared.point.Point.{Point}
 use Rattle.nav_base.specs.Point.{HasCoordinates}
-use Rattle.mesh_types.specs.declared.corner.Corner.{Corner}
+use Rattle.mesh_types.specs.declared.answers.Corner.{Corner}
 use Rattle.mesh_types.specs.declared.links.Link.{Link}
 use Rattle.mesh_types.specs.declared.links.PolyRef.{PolyRef}
 use Rattle.mesh_types.specs.declared.mesh.Mesh.{Mesh}
@@ -12,8 +12,8 @@ use Rattle.mesh_types.specs.Right.{portals_of}
 use Rattle.mesh_types.specs.Taut.{IsTaut}
 use Rattle.mesh_types.specs.Bends.{some_corner}
 use Rattle.surface_move.specs.Moves.{leg_of, nth_polygon, AreThere}
-use Rattle.agent_walks.specs.declared.standings.Standing.{Standing}
-use Rattle.agent_walks.specs.declared.standings.Stop.{Stop}
+use Rattle.agent_walks.specs.declared.walkers.Standing.{Standing}
+use Rattle.agent_walks.specs.declared.walkers.MarchEnd.{MarchEnd}
 use Rattle.agent_walks.specs.Marches.{EndsFrom, Stand, over_corners, polygons_of}
 
 -- where the code says that a walker stands before corners, as the definition sees it
@@ -50,11 +50,11 @@ pub record StandsAt (mesh : Mesh) (polys : List PolyRef) (corners : List Corner)
   pub next : standing.passed < length corners → IsBeyond polys standing.point standing.budget (get_or corners standing.passed some_corner)
 
 -- a stop is held by the polygon at its place
-pub record IsStop (mesh : Mesh) (polys : List PolyRef) (stop : Stop) : Type 0 where
+pub record IsStop (mesh : Mesh) (polys : List PolyRef) (stop : MarchEnd) : Type 0 where
   pub held : IsHeldAt mesh stop.point (nth_polygon polys stop.place)
   pub within : stop.place < length polys
 
 -- a march along a line ends at a stop
-pub record EndsAt (mesh : Mesh) (first : PolyRef) (links : List Link) (point goal : Point) (far : ℕ) (corners : List Corner) (stop : Stop) : Type 0 where
+pub record EndsAt (mesh : Mesh) (first : PolyRef) (links : List Link) (point goal : Point) (far : ℕ) (corners : List Corner) (stop : MarchEnd) : Type 0 where
   pub ends : EndsFrom mesh (polygons_of first links) goal (over_corners point 0 far corners) (over_corners point 0 far corners).left stop.place stop.point
   pub stops : IsStop mesh (polygons_of first links) stop

@@ -9,12 +9,12 @@ use Rattle.mesh_types.specs.declared.polygon.Polygon.{Polygon}
 use Rattle.mesh_types.specs.Corridors.{IsCheapest}
 use Rattle.mesh_types.specs.Located.{IsLocated, Holds}
 use Rattle.mesh_types.specs.WholeMesh.{poly_at}
-use Rattle.mesh_types.specs.declared.walks.WalkAnswer.{WalkAnswer}
-use Rattle.mesh_types.specs.declared.walks.WalkAnswer.TheVariants.{Walking, NoStart, NoGoal, NoPath}
+use Rattle.mesh_types.specs.declared.answers.WalkAnswer.{WalkAnswer}
+use Rattle.mesh_types.specs.declared.answers.WalkAnswer.TheVariants.{Walking, NoStart, NoGoal, NoPath}
 use Rattle.agent_walks.specs.declared.walkers.Walker.{Walker}
 
--- on the way to a goal: the polygon holds the point, which has coordinates, in the plane and has this least floor, and the links are a walk that
--- none undercuts from that polygon to the polygon that locates the goal, of this cost
+-- on the way to a goal: the polygon holds the point, which has coordinates, in the plane and has this least floor, and the links are a walk that is
+-- cheapest from that polygon to the polygon that locates the goal, of this cost
 pub record IsOnWay (mesh : Mesh) (goal : Point) (goal_y : ℕ) (at : PolyRef) (point : Point) (low cost : ℕ) (links : List Link) : Type 0 where
   pub polygon : Polygon
   pub there : poly_at mesh at ≡ Some polygon

@@ -1,4 +1,4 @@
-//! Walkers over what an eye reads.
+//! Walkers over what an eye reads. What is asked of a mesh about walkers, as questions that carry how they are answered.
 
 ghost use Rattle.std.specs.Prelude.{◌≡◌, ◌⊎◌, IfOk, IfSome, OnErr, OnOk};
 ghost use Rattle.std.specs.Prelude as prelude;
@@ -7,12 +7,12 @@ ghost use Rattle.mesh_types.specs.Builds.{build_of};
 ghost use Rattle.nav_version.specs.Pairs.{HasLooked};
 ghost use Rattle.agent_walks.specs.Marches.{IsMarched, IsSent};
 ghost use Rattle.agent_walks.specs.Walkers.{IsUnderWay, IsWalker, walker_of};
+ghost use Rattle.agent_walks.specs.Questions.{CanMarch, CanSend, IsRightMarched, IsRightSent};
 
-use crate::leaving::walker_at;
-use crate::places::Place;
-use crate::questions::{Marching, Sending};
-use crate::walkers::Walker;
-use mesh_types::WalkAnswer;
+use crate::marching::marched;
+use crate::sending::{sent, walker_at};
+use crate::walkers::{Place, Walker};
+use mesh_types::{Asked, Mesh, WalkAnswer};
 use nav_base::Point;
 use nav_version::Eye;
 use std::alloc::{AllocError, Global};
@@ -99,4 +99,43 @@ pub fn march(
     let (k, answer) = eye.ask_by(alloc, &marching)?;
     let after = walker_at(alloc, k, goal, &answer)?;
     Ok((k, after, answer))
+}
+
+/// What a walker is answered that is sent from a place to a goal.
+#[derive(Clone, Copy)]
+pub struct Sending {
+    pub from: Place,
+    pub goal: Place,
+}
+
+impl Asked for Sending {
+    type Answer = WalkAnswer;
+
+    ghost can_ask = { λ sending. CanSend sending };
+
+    ghost is_right = { λ sending mesh answer. IsRightSent sending mesh answer };
+
+    fn ask(&self, alloc: Global, mesh: &Mesh) -> Result<WalkAnswer, AllocError> {
+        sent(alloc, mesh, self.from, self.goal)
+    }
+}
+
+/// What a walker is answered that marches from a place toward a goal, for a length in sixteenths of a cell.
+#[derive(Clone, Copy)]
+pub struct Marching {
+    pub from: Place,
+    pub goal: Place,
+    pub length: u32,
+}
+
+impl Asked for Marching {
+    type Answer = WalkAnswer;
+
+    ghost can_ask = { λ marching. CanMarch marching };
+
+    ghost is_right = { λ marching mesh answer. IsRightMarched marching mesh answer };
+
+    fn ask(&self, alloc: Global, mesh: &Mesh) -> Result<WalkAnswer, AllocError> {
+        marched(alloc, mesh, self.from, self.goal, self.length)
+    }
 }

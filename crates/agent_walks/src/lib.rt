@@ -16,23 +16,13 @@
 //! counterclockwise.
 #![tactic(auto)]
 
-mod corners;
 mod eyes;
-mod floors;
-mod leaving;
 mod marching;
-mod moving;
-mod passing;
-mod places;
-mod questions;
 mod sending;
-mod standings;
 mod walkers;
 
-pub use eyes::{march, send};
+pub use eyes::{Marching, Sending, march, send};
 pub use marching::{march_in, marched};
 pub use mesh_types::WalkAnswer;
-pub use places::Place;
-pub use questions::{Marching, Sending};
 pub use sending::{send_in, sent};
-pub use walkers::Walker;
+pub use walkers::{Place, Walker};

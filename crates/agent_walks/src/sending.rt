@@ -1,4 +1,4 @@
-//! Walkers that are sent from a place to a goal.
+//! Walkers that are sent from a place to a goal. The walker that an answer leaves.
 
 ghost use Rattle.std.specs.Prelude.{◌≡◌, IfOk, IfSome};
 ghost use Rattle.nav_base.specs.Point.{HasCoordinates};
@@ -6,14 +6,13 @@ ghost use Rattle.nav_ground.specs.Limits.{IsSetting};
 ghost use Rattle.mesh_types.specs.Soundness.{IsSound};
 ghost use Rattle.agent_walks.specs.Marches.{IsSent};
 ghost use Rattle.agent_walks.specs.Walkers.{IsUnderWay, IsWalker, walker_of};
+ghost use Rattle.mesh_types.specs.declared.mesh.Mesh as meshes;
 
-use crate::floors::floor_of;
-use crate::leaving::walker_at;
-use crate::places::Place;
-use crate::walkers::Walker;
+use crate::walkers::{Place, Walker, floor_of};
 use corridor_search::cheapest;
 use mesh_locate::locate;
 use mesh_types::{Mesh, WalkAnswer};
+use nav_lists::Duplicate;
 use std::alloc::{AllocError, Global};
 
 /// Sends a walker from a place to a goal, in the mesh of a history of length k: the answer, and the walker, exactly where the answer is that it
@@ -69,4 +68,39 @@ pub fn sent(alloc: Global, mesh: &Mesh, from: Place, goal: Place) -> Result<Walk
         cost: corridor.cost,
         links: corridor.links,
     })
+}
+
+/// The walker that an answer leaves, with links of its own.
+pub(crate) fn walker_at(
+    alloc: Global,
+    k: u32,
+    goal: Place,
+    answer: &WalkAnswer,
+) -> Result<Option<Walker>, AllocError>
+    requires goal { HasCoordinates goal.point }
+    requires way { (mesh : meshes.Mesh) × IsUnderWay mesh goal.point goal.y answer.now }
+    ensures walker { IfOk result (λ walker. walker ≡ walker_of k goal.point goal.y answer.now) }
+    ensures may_march { IfOk result (λ walker. IfSome walker IsWalker) }
+{
+    match answer {
+        WalkAnswer::Walking {
+            at,
+            point,
+            y,
+            cost,
+            links,
+        } => Ok(Some(Walker {
+            k,
+            at: *at,
+            point: *point,
+            y: *y,
+            goal: goal.point,
+            goal_y: goal.y,
+            cost: *cost,
+            links: links.duplicate(alloc)?,
+        })),
+        WalkAnswer::NoStart => Ok(None),
+        WalkAnswer::NoGoal => Ok(None),
+        WalkAnswer::NoPath => Ok(None),
+    }
 }

@@ -6,7 +6,7 @@ ghost use Rattle.nav_ground.specs.Fields.{IsField};
 ghost use Rattle.nav_ground.specs.Limits.{IsSetting};
 ghost use Rattle.span_text.specs.FieldText.{IsFieldText};
 ghost use Rattle.mesh_types.specs.Soundness.{IsSound};
-ghost use Rattle.off_links.specs.Leaps.{HasJumpCoordinates};
+ghost use Rattle.off_links.specs.OffMeshLinks.{HasJumpCoordinates};
 ghost use Rattle.off_links.specs.Questions.{CanHop};
 
 use crate::ends::{has_coordinates, links_between_ends};
@@ -20,7 +20,7 @@ use mesh_locate::locate;
 use mesh_types::Mesh;
 use nav_base::{Point, read_number};
 use nav_ground::Setting;
-use nav_list::Items;
+use nav_lists::Items;
 use nav_text::first_line;
 use off_links::{HopAnswer, HopQuestion, Jump, hop};
 use span_text::{FieldRefusal, FieldText, read_field};
@@ -97,16 +97,16 @@ fn built<L: Ledger>(
     requires parts { blank.parts ≡ L.parts }
     requires some { 0 < blank.parts }
 {
-    let whole = ground(alloc, read.setting, read.field)?;
+    let ground = ground(alloc, read.setting, read.field)?;
     if wanted.way == 7 {
-        let seen = aims::<L>(alloc, whole, wanted.count, blank)?;
+        let seen = aims::<L>(alloc, ground, wanted.count, blank)?;
         return Ok(Made {
             polygons: 0,
             walks: wanted.count,
             steps: seen,
         });
     }
-    let mesh = level::<L>(alloc, &whole, blank)?;
+    let mesh = level::<L>(alloc, &ground, blank)?;
     asked(alloc, &mesh, wanted)
 }
 

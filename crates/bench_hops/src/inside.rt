@@ -7,11 +7,10 @@ ghost use Rattle.mesh_types.specs.Soundness.{IsSound};
 
 use crate::random::Random;
 use mesh_types::{Answer, Mesh};
-use nav_base::Question;
+use nav_base::{Question, Steps};
+use nav_book::Level;
 use nav_ground::Ground;
-use nav_level::Level;
 use nav_query::answer;
-use nav_steps::Steps;
 use std::alloc::{AllocError, Global};
 use std::sync::Arc;
 use std::sync::ledger::{Blank, Ledger};
@@ -40,18 +39,18 @@ pub fn floors_found(
 /// How long the history is that so many aims at the level of a ground see, all together.
 pub fn aims<L: Ledger>(
     alloc: Global,
-    whole: Ground,
+    ground: Ground,
     count: u32,
     blank: Blank,
 ) -> Result<usize, AllocError>
-    requires ground { IsGround whole }
+    requires ground { IsGround ground }
     requires name { blank.name ≡ L.name }
     requires parts { blank.parts ≡ L.parts }
     requires some { 0 < blank.parts }
 {
     let mut steps = Steps::<L>::new(blank);
-    let tiles = build_tiles(alloc, &whole, &[], &mut steps)?;
-    let mut level = Level::begin(alloc, Arc::new(alloc, whole)?, tiles)?;
+    let tiles = build_tiles(alloc, &ground, &[], &mut steps)?;
+    let mut level = Level::begin(alloc, Arc::new(alloc, ground)?, tiles)?;
     let mut seen = 0_usize;
     for _place in 0..count {
         seen = seen.wrapping_add(level.aim() as usize);

@@ -10,12 +10,10 @@ ghost use Rattle.tile_build.specs.Meshes.{tiles_under};
 use crate::outcome::{Made, Outcome};
 use layer_cut::ground;
 use mesh_types::{Mesh, TileMesh, copy_mesh};
-use nav_base::read_number;
+use nav_base::{Steps, read_number};
 use nav_book::Book;
 use nav_ground::Ground;
-use nav_list::Items;
-use nav_share::Shared;
-use nav_steps::Steps;
+use nav_lists::{Items, Shared};
 use nav_text::first_line;
 use span_text::{FieldRefusal, FieldText, read_field};
 use std::alloc::{AllocError, Global};
@@ -68,7 +66,7 @@ struct Task {
 /// A ground and its tiles.
 #[derive(Drop)]
 struct Level {
-    whole: Ground,
+    ground: Ground,
     tiles: Items<Shared<TileMesh>>,
 }
 
@@ -96,23 +94,23 @@ fn staged<R: Wait, L: Ledger>(
     if task.stage < 2 {
         return Ok(made);
     }
-    let whole = ground(alloc, read.setting, read.field)?;
-    made.tiles = whole.layers.len();
+    let ground = ground(alloc, read.setting, read.field)?;
+    made.tiles = ground.layers.len();
     if task.stage < 3 {
         return Ok(made);
     }
-    built::<R, L>(rt, alloc, whole, made, task)
+    built::<R, L>(rt, alloc, ground, made, task)
 }
 
 /// Goes on from the ground.
 fn built<R: Wait, L: Ledger>(
     rt: &R,
     alloc: Global,
-    whole: Ground,
+    ground: Ground,
     made: Made,
     task: Task,
 ) -> Result<Made, AllocError>
-    requires ground { IsGround whole }
+    requires ground { IsGround ground }
     requires name { task.blank.name ≡ L.name }
     requires parts { task.blank.parts ≡ L.parts }
     requires some { 0 < task.blank.parts }
@@ -124,12 +122,12 @@ fn built<R: Wait, L: Ledger>(
     } = task;
     let mut made = made;
     let mut steps = Steps::<L>::new(blank);
-    let tiles = build_tiles(alloc, &whole, &[], &mut steps)?;
+    let tiles = build_tiles(alloc, &ground, &[], &mut steps)?;
     count_tiles(&mut made, tiles.as_slice());
     if stage < 4 {
         return Ok(made);
     }
-    booked(rt, alloc, Level { whole, tiles }, made, copies)
+    booked(rt, alloc, Level { ground, tiles }, made, copies)
 }
 
 /// Goes on from the tiles.
@@ -140,15 +138,15 @@ fn booked<R: Wait>(
     made: Made,
     copies: u32,
 ) -> Result<Made, AllocError>
-    requires ground { IsGround level.whole }
-    requires tiles { level.tiles ≡ tiles_under level.whole [] }
+    requires ground { IsGround level.ground }
+    requires tiles { level.tiles ≡ tiles_under level.ground [] }
 {
-    let Level { whole, tiles } = level;
+    let Level { ground, tiles } = level;
     let mut made = made;
-    let level = Arc::new(alloc, whole)?;
+    let level = Arc::new(alloc, ground)?;
     let (book, _eyes) = Book::begin(rt, alloc, level, tiles, 0)?;
-    count_cross(&mut made, book.mesh());
-    let copied = make_copies(alloc, book.mesh(), copies);
+    count_cross(&mut made, book.level().mesh());
+    let copied = make_copies(alloc, book.level().mesh(), copies);
     book.end(rt);
     copied?;
     Ok(made)

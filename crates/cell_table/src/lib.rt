@@ -9,10 +9,6 @@
 //! have columns in order and the column beside one is a sum away.
 #![tactic(auto)]
 
-mod columns;
-mod mutual;
 mod table;
 
-pub use columns::{column_of, column_toward};
-pub use mutual::mutual_table;
-pub use table::neighbour_table;
+pub use table::{column_of, column_toward, mutual_table, neighbour_table};

@@ -10,7 +10,7 @@ use Rattle.nav_ground.specs.declared.cell.Cell.{Cell}
 use Rattle.nav_ground.specs.Cells.{is_toward}
 use Rattle.nav_ground.specs.Connection.{is_connected, level_toward, connected_cell}
 use Rattle.compact_layer.specs.Stacks.{IsStanding, IsUnder, AreStacked, is_passed, IsPassed, ArePassed}
-use Rattle.compact_layer.specs.declared.sweep.Passed.{Passed}
+use Rattle.compact_layer.specs.declared.sweep.PassedColumns.{PassedColumns}
 
 -- a cell without its connections
 abbrev pub bare : Cell → Cell
@@ -38,7 +38,7 @@ passed_alike xs ys n column height alike passed = record {
   each = λ k d below. ap (is_passed column height) (sym (at_alike xs ys k d alike (omega (arith, below, passed.most)))) ∙ passed.each k d below;
 }
 
-pub all_passed_alike : (xs ys : List Cell) (height : ℕ) (passed : Passed) (cell : Cell) → AreAlike xs ys → ArePassed xs height passed cell
+pub all_passed_alike : (xs ys : List Cell) (height : ℕ) (passed : PassedColumns) (cell : Cell) → AreAlike xs ys → ArePassed xs height passed cell
     → ArePassed ys height passed cell
 all_passed_alike xs ys height passed cell alike before = record {
   left = passed_alike xs ys _ _ _ alike before.left;

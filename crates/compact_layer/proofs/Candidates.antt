@@ -13,7 +13,7 @@ use Rattle.nav_ground.proofs.Found.{find_is, find_none}
 use Rattle.nav_ground.proofs.Connected.{step_from_test}
 use Rattle.compact_layer.specs.Columns.{column_of, column_toward}
 use Rattle.compact_layer.specs.Stacks.{IsStanding, IsUnder, AreStacked, is_passed, IsPassed, ArePassed}
-use Rattle.compact_layer.specs.declared.sweep.Passed.{Passed}
+use Rattle.compact_layer.specs.declared.sweep.PassedColumns.{PassedColumns}
 use Rattle.compact_layer.proofs.ColumnNumbers.{number_toward, toward_of_number}
 
 -- the cell that stands where there is none
@@ -74,7 +74,7 @@ passed_later cells n column column' height height' later higher passed = record 
       });
 }
 
-pub passed_on : (cells : List Cell) (height : ℕ) (passed : Passed) (a b : Cell) → IsUnder a b → ArePassed cells height passed a → ArePassed cells height passed b
+pub passed_on : (cells : List Cell) (height : ℕ) (passed : PassedColumns) (a b : Cell) → IsUnder a b → ArePassed cells height passed a → ArePassed cells height passed b
 passed_on cells height passed a b under before = record {
   left = passed_later cells passed.left _ _ _ _ (omega (arith, under.column)) (λ same. let h = under.floor (omega (arith, same)) in omega (arith, h)) before.left;
   above = passed_later cells passed.above _ _ _ _ (omega (arith, under.column)) (λ same. let h = under.floor (omega (arith, same)) in omega (arith, h)) before.above;
@@ -86,10 +86,10 @@ passed_on cells height passed a b under before = record {
 none_passed_yet : (cells : List Cell) (column height : ℕ) → IsPassed cells 0 column height
 none_passed_yet cells column height = record { most = omega arith; each = λ k d below. absurd (omega arith) }
 
-pub all_unpassed : (cells : List Cell) (height : ℕ) (passed : Passed) (cell : Cell)
+pub all_unpassed : (cells : List Cell) (height : ℕ) (passed : PassedColumns) (cell : Cell)
     → passed ≡ record { left = 0; above = 0; right = 0; below = 0 } → ArePassed cells height passed cell
 all_unpassed cells height passed cell is =
-    let P : Passed → Type 0 = λ (p : Passed). ArePassed cells height p cell in
+    let P : PassedColumns → Type 0 = λ (p : PassedColumns). ArePassed cells height p cell in
     subst P (sym is) (record {
       left = none_passed_yet cells _ _;
       above = none_passed_yet cells _ _;

@@ -3,7 +3,7 @@ use Rattle.std.specs.Prelude.{◌≡◌, ℕ, ◌+◌, ◌<◌, ◌≤◌, Bool,
 use Rattle.nav_ground.specs.declared.setting.Agent.{Agent}
 use Rattle.nav_ground.specs.declared.cell.Cell.{Cell}
 use Rattle.nav_ground.specs.Connection.{level_toward}
-use Rattle.compact_layer.specs.declared.sweep.Passed.{Passed}
+use Rattle.compact_layer.specs.declared.sweep.PassedColumns.{PassedColumns}
 use Rattle.compact_layer.specs.Columns.{IsPlace, column_of, column_toward}
 
 -- a cell lies in the largest field, its floor is the top of a span, and no more cells lie below it than spans of some height can
@@ -33,7 +33,7 @@ pub record IsPassed (cells : List Cell) (n column height : ℕ) : Type 0 where
   pub each : (k : ℕ) (d : Cell) → k < n → is_passed column height (slice_index_or cells k d) ≡ true
 
 -- in each direction, as many cells as said are passed for a cell: by the neighbouring column and by the height that an agent needs over the cell's floor
-pub record ArePassed (cells : List Cell) (height : ℕ) (passed : Passed) (cell : Cell) : Type 0 where
+pub record ArePassed (cells : List Cell) (height : ℕ) (passed : PassedColumns) (cell : Cell) : Type 0 where
   pub left : IsPassed cells passed.left (column_toward 0 cell.at) (cell.floor + height)
   pub above : IsPassed cells passed.above (column_toward 1 cell.at) (cell.floor + height)
   pub right : IsPassed cells passed.right (column_toward 2 cell.at) (cell.floor + height)

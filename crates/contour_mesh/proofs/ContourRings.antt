@@ -17,15 +17,15 @@ use Rattle.nav_ground.specs.declared.setting.Setting.{Setting}
 use Rattle.nav_ground.specs.Tiling.{IsInWindow, tile_window}
 use Rattle.nav_ground.proofs.Directions.{both_equal, tests_of_equal}
 use Rattle.nav_ground.proofs.FreeLayers.{names_one}
-use Rattle.mesh_types.specs.declared.door.Part.{Part}
-use Rattle.mesh_types.specs.declared.outline.Outline as outlines
-use Rattle.mesh_types.specs.declared.outline.Simplified.TheVariants.{Flat, Outline}
-use Rattle.mesh_types.specs.declared.outline.Triangle.{Triangle}
+use Rattle.mesh_types.specs.declared.region.RegionPart.{RegionPart}
+use Rattle.mesh_types.specs.declared.region.Outline as outlines
+use Rattle.mesh_types.specs.declared.region.Simplified.TheVariants.{Flat, Outline}
+use Rattle.mesh_types.specs.declared.region.Triangle.{Triangle}
 use Rattle.mesh_types.specs.declared.region.Code.TheVariants.{Region}
 use Rattle.mesh_types.specs.declared.region.Regions.{Regions}
 use Rattle.mesh_types.specs.declared.region.UnitEdge.{UnitEdge}
-use Rattle.mesh_types.specs.declared.strip.Strip.{Strip}
-use Rattle.mesh_types.specs.declared.tile.TileMesh.{TileMesh}
+use Rattle.mesh_types.specs.declared.region.Strip.{Strip}
+use Rattle.mesh_types.specs.declared.mesh.TileMesh.{TileMesh}
 use Rattle.mesh_types.specs.Parts.{cut_part, part_of, parts_of, region_numbers, region_part}
 use Rattle.mesh_types.specs.Words.{no_part}
 use Rattle.mesh_types.specs.Contours.{cell_in, region_at, rim_of, strips_in, contour_of}
@@ -39,8 +39,8 @@ use Rattle.mesh_types.proofs.RegionLaws.{cell_there, own_region, stack, woven}
 use Rattle.mono_regions.proofs.RegionsKept.{regions_kept}
 use Rattle.contour_walk.specs.Walk.{bottoms, edge_at as walk_edge, left_side, right_side, round, to_left_end, top_side}
 use Rattle.contour_walk.proofs.ContourRings.{contour_ring}
-use Rattle.contour_mesh.specs.declared.outcome.ContourMesh.{ContourMesh}
-use Rattle.contour_mesh.specs.declared.outcome.ContourMesh.TheVariants.{Made, NotCut}
+use Rattle.contour_mesh.specs.declared.build.ContourMesh.{ContourMesh}
+use Rattle.contour_mesh.specs.declared.build.ContourMesh.TheVariants.{Made, NotCut}
 use Rattle.contour_mesh.specs.Outcomes.{IfMade}
 use Rattle.contour_mesh.specs.SharedEdges.{HasEdge, OutlinesShareEdges, ShareEdges}
 use Rattle.contour_mesh.proofs.NeighbourRims.{HasOtherEdge, code_named, held_by, rims_meet}
@@ -222,12 +222,12 @@ found_at {Y = Y} h first (suc count) k d each less =
         (ap h {x = first + suc k} {y = first + 1 + k} (omega arith) ∙ later.0, omega (arith, later.1))
 
 -- each region has its part
-pub part_found : (window : Window) (error : ℕ) (cells : List Cell) (regions : Regions) (parts : List Part) → parts_of window error cells regions ≡ Some parts
+pub part_found : (window : Window) (error : ℕ) (cells : List Cell) (regions : Regions) (parts : List RegionPart) → parts_of window error cells regions ≡ Some parts
     → (p : ℕ) → p < length regions.regions → (p < length parts) × (region_part window error cells regions p ≡ Some (get_or parts p no_part))
 unfolding parts_of
 part_found window error cells regions parts is p inside = by_case (list_all (λ id. is_some (region_part window error cells regions id)) (region_numbers regions)) refl is
   where
-    h : ℕ → Option Part
+    h : ℕ → Option RegionPart
     h = region_part window error cells regions
 
     n : ℕ
@@ -247,17 +247,17 @@ part_found window error cells regions parts is p inside = by_case (list_all (λ 
         (omega (arith, at.1, ap length same), ap h {x = p} {y = 0 + p} (omega arith) ∙ at.0 ∙ ap (λ ps. Some (get_or ps p no_part)) same)
 
 -- the outline of a part is what its contour keeps
-pub record IsOutlineOf (error : ℕ) (edges : List UnitEdge) (part : Part) : Type 0 where
+pub record IsOutlineOf (error : ℕ) (edges : List UnitEdge) (part : RegionPart) : Type 0 where
   pub is : part.outline ≡ outline_of error edges
   pub enough : 3 ≤ length (kept_edges error edges)
 
-pub part_outline : (error : ℕ) (edges : List UnitEdge) (part : Part) → part_of (simplified_of error edges) ≡ Some part → IsOutlineOf error edges part
+pub part_outline : (error : ℕ) (edges : List UnitEdge) (part : RegionPart) → part_of (simplified_of error edges) ≡ Some part → IsOutlineOf error edges part
 unfolding simplified_of
 part_outline error edges part is = by_case (nat_lt (length (kept_edges error edges)) 3) refl is
   where
     by_cut : (r : Result (List Triangle) (List ℕ)) → cut_part (outline_of error edges) r ≡ Some part → part.outline ≡ outline_of error edges
     by_cut (Ok triangles) same =
-        ap (λ (x : Part). x.outline) (sym (same_Some (record { outline = outline_of error edges; pieces = merged (outline_of error edges).corners triangles }) part same))
+        ap (λ (x : RegionPart). x.outline) (sym (same_Some (record { outline = outline_of error edges; pieces = merged (outline_of error edges).corners triangles }) part same))
     by_cut (Err left) same = absurd (none-some part same)
 
     by_case : (b : Bool) → nat_lt (length (kept_edges error edges)) 3 ≡ b → part_of (if b then Flat else Outline (outline_of error edges)) ≡ Some part
@@ -267,7 +267,7 @@ part_outline error edges part is = by_case (nat_lt (length (kept_edges error edg
         record { is = by_cut (ears_of (outline_of error edges).corners) same; enough = ltb-false (length (kept_edges error edges)) 3 many }
 
 -- where the outline of a region has an edge along another region, that one's has it too
-pub outlines_share : (window : Window) (error : ℕ) (cells : List Cell) (regions : Regions) (parts : List Part) → IsCut cells
+pub outlines_share : (window : Window) (error : ℕ) (cells : List Cell) (regions : Regions) (parts : List RegionPart) → IsCut cells
     → All (λ (cell : Cell). IsInWindow window cell.at.x cell.at.z) cells → AreRegionsOf cells regions → parts_of window error cells regions ≡ Some parts → ShareEdges parts
 outlines_share window error cells regions parts cut inside are made p q from to p-in q-in edge =
     let E : List UnitEdge = contour_of window cells regions p in

@@ -7,9 +7,9 @@ use Rattle.std.proofs.lemmas.List.Elements.{Contains-append_right}
 use Rattle.std.proofs.lemmas.List.FromFn.{get_or-range_with_len, length-range_with_len}
 use Rattle.std.proofs.lemmas.List.Sums.{get_or-le-sum_by, sum_by-cons, sum_by-le-sum_by}
 use Rattle.nav_base.specs.Convex.{place_after}
-use Rattle.mesh_types.specs.declared.door.Door.{Door}
-use Rattle.mesh_types.specs.declared.door.Part.{Part}
-use Rattle.mesh_types.specs.declared.outline.Piece.{Piece}
+use Rattle.mesh_types.specs.declared.region.PortalEdge.{PortalEdge}
+use Rattle.mesh_types.specs.declared.region.RegionPart.{RegionPart}
+use Rattle.mesh_types.specs.declared.region.Piece.{Piece}
 use Rattle.mesh_types.specs.Edges.{edges_between, edges_round, leads}
 use Rattle.mesh_types.specs.Facets.{Facet, facets_in, facets_of}
 use Rattle.mesh_types.specs.Doors.{door_over, doors_of, facet_doors}
@@ -19,7 +19,7 @@ use Rattle.mesh_types.proofs.Totals.{once_in_range, sum_by-flat_map, sum_by-map,
 use Rattle.contour_mesh.proofs.SoundParts.{IsSoundPart}
 
 -- a door of a region leads from one place of its outline to another
-abbrev pub is_over : ℕ → ℕ → ℕ → Door → Bool
+abbrev pub is_over : ℕ → ℕ → ℕ → PortalEdge → Bool
 is_over r from to door = door.region == r && (door.from == from && door.to == to)
 
 -- the edges of a facet, where it is of the region
@@ -28,13 +28,13 @@ edges_over r from to facet = cond (facet.region == r) (edges_round from to facet
 
 in_facet : (r from to polygon : ℕ) (facet : Facet) → count_by (is_over r from to) (facet_doors polygon facet) ≡ edges_over r from to facet
 in_facet r from to polygon facet =
-    sum_by-map (λ (door : Door). cond (is_over r from to door) 1 0) (door_over polygon facet) (range_with_len 0 (length facet.places)) ∙ by_test (facet.region == r)
+    sum_by-map (λ (door : PortalEdge). cond (is_over r from to door) 1 0) (door_over polygon facet) (range_with_len 0 (length facet.places)) ∙ by_test (facet.region == r)
   where
     by_test : (b : Bool) → sum_by (λ edge. cond (b && leads facet.places from to edge) 1 0) (range_with_len 0 (length facet.places)) ≡ cond b (edges_round from to facet.places) 0
     by_test true = refl
     by_test false = sum_by-zero (range_with_len 0 (length facet.places))
 
-in_part : (r from to region : ℕ) (part : Part) → sum_by (edges_over r from to) (facets_in part region) ≡ cond (region == r) (edges_between from to part.pieces) 0
+in_part : (r from to region : ℕ) (part : RegionPart) → sum_by (edges_over r from to) (facets_in part region) ≡ cond (region == r) (edges_between from to part.pieces) 0
 in_part r from to region part =
     sum_by-map (edges_over r from to) (λ (piece : Piece). record { region = region; outline = part.outline; places = piece.corners }) part.pieces ∙ by_test (region == r)
   where
@@ -43,14 +43,14 @@ in_part r from to region part =
     by_test false = sum_by-zero part.pieces
 
 -- the doors of a region from one place to another are the edges of its pieces that lead from the one to the other
-doors_are_edges : (parts : List Part) (r from to : ℕ)
+doors_are_edges : (parts : List RegionPart) (r from to : ℕ)
     → count_by (is_over r from to) (doors_of (facets_of parts))
     ≡ sum_by (λ region. cond (region == r) (edges_between from to (get_or parts region no_part).pieces) 0) (range_with_len 0 (length parts))
 unfolding doors_of facets_of
 doors_are_edges parts r from to =
     let facets : List Facet = facets_of parts in
-    let part : ℕ → Part = λ region. get_or parts region no_part in
-    let one : Door → ℕ = λ (door : Door). cond (is_over r from to door) 1 0 in
+    let part : ℕ → RegionPart = λ region. get_or parts region no_part in
+    let one : PortalEdge → ℕ = λ (door : PortalEdge). cond (is_over r from to door) 1 0 in
     omega (
       arith,
       sum_by-flat_map one (λ polygon. facet_doors polygon (get_or facets polygon no_facet)) (range_with_len 0 (length facets)),
@@ -63,7 +63,7 @@ doors_are_edges parts r from to =
     )
 
 -- so there are no more of them
-pub doors_over : (parts : List Part) (r from to c : ℕ) → edges_between from to (get_or parts r no_part).pieces ≤ c → count_by (is_over r from to) (doors_of (facets_of parts)) ≤ c
+pub doors_over : (parts : List RegionPart) (r from to c : ℕ) → edges_between from to (get_or parts r no_part).pieces ≤ c → count_by (is_over r from to) (doors_of (facets_of parts)) ≤ c
 doors_over parts r from to c few =
     let own : ℕ → ℕ = λ region. cond (region == r) (edges_between from to (get_or parts region no_part).pieces) 0 in
     omega (
@@ -78,8 +78,8 @@ doors_over parts r from to c few =
     by_test region false is = omega arith
 
 -- and no fewer: where an edge of a region's pieces leads from one place to another, so does a door
-pub record HasDoor (doors : List Door) (r from to : ℕ) : Type 0 where
-  pub door : Door
+pub record HasDoor (doors : List PortalEdge) (r from to : ℕ) : Type 0 where
+  pub door : PortalEdge
   pub has : Contains doors door
   pub region : door.region ≡ r
   pub begins : door.from ≡ from
@@ -103,7 +103,7 @@ some_passes p xs some =
     by_test true more = refl
     by_test false more = absurd (omega (arith, more))
 
-pub door_there : (parts : List Part) (r from to : ℕ) → r < length parts → 1 ≤ edges_between from to (get_or parts r no_part).pieces
+pub door_there : (parts : List RegionPart) (r from to : ℕ) → r < length parts → 1 ≤ edges_between from to (get_or parts r no_part).pieces
     → HasDoor (doors_of (facets_of parts)) r from to
 door_there parts r from to there some =
     let own : ℕ → ℕ = λ region. cond (region == r) (edges_between from to (get_or parts region no_part).pieces) 0 in
@@ -113,7 +113,7 @@ door_there parts r from to there some =
     ap own at ∙ ap (λ b. cond b (edges_between from to (get_or parts r no_part).pieces) 0) (eq-eqb r r refl) in
     let found = some_passes (is_over r from to) (doors_of (facets_of parts))
     (omega (arith, some, term, doors_are_edges parts r from to, get_or-le-sum_by own range r 0 (omega (arith, there, length-range_with_len 0 (length parts))))) in
-    let door : Door = found.0 in
+    let door : PortalEdge = found.0 in
     let outer = and_parts (door.region == r) (door.from == from && door.to == to) found.2 in
     let inner = and_parts (door.from == from) (door.to == to) outer.1 in
     record {
@@ -125,7 +125,7 @@ door_there parts r from to there some =
     }
 
 -- over each edge of an outline there is a door
-pub outline_door : (parts : List Part) (r place : ℕ) → All IsSoundPart parts → r < length parts → place < length (get_or parts r no_part).outline.corners
+pub outline_door : (parts : List RegionPart) (r place : ℕ) → All IsSoundPart parts → r < length parts → place < length (get_or parts r no_part).outline.corners
     → HasDoor (doors_of (facets_of parts)) r place (place_after (length (get_or parts r no_part).outline.corners) place)
 outline_door parts r place sound there inside =
     door_there parts r place (place_after (length (get_or parts r no_part).outline.corners) place) there

@@ -14,10 +14,10 @@ use Rattle.nav_ground.specs.declared.cell.Window.{Window}
 use Rattle.nav_ground.proofs.Found.{first_found, found_in}
 use Rattle.mesh_types.specs.declared.region.Code.{Code}
 use Rattle.mesh_types.specs.declared.region.Code.TheVariants.{Region, Side, Wall}
-use Rattle.mesh_types.specs.declared.door.Door.{Door}
-use Rattle.mesh_types.specs.declared.door.Part.{Part}
+use Rattle.mesh_types.specs.declared.region.PortalEdge.{PortalEdge}
+use Rattle.mesh_types.specs.declared.region.RegionPart.{RegionPart}
 use Rattle.mesh_types.specs.declared.links.Link.{Link}
-use Rattle.mesh_types.specs.declared.outline.Outline as outlines
+use Rattle.mesh_types.specs.declared.region.Outline as outlines
 use Rattle.mesh_types.specs.BorderLinks.{scaled}
 use Rattle.mesh_types.specs.Rings.{AreApart}
 use Rattle.mesh_types.specs.Ears.{is_same_point}
@@ -42,13 +42,13 @@ use Rattle.contour_mesh.proofs.DoorCounts.{doors_over, is_over}
 -- ---- the places of doors
 
 -- a door joins two places of the outline of its region, and has the code between them
-pub record IsDoorIn (parts : List Part) (door : Door) : Type 0 where
+pub record IsDoorIn (parts : List RegionPart) (door : PortalEdge) : Type 0 where
   pub region : door.region < length parts
   pub from : door.from < length (get_or parts door.region no_part).outline.corners
   pub to : door.to < length (get_or parts door.region no_part).outline.corners
   pub code : door.code ≡ code_between (get_or parts door.region no_part).outline door.from door.to
 
-doors_in : (window : Window) (parts : List Part) (facets : List Facet) → All (IsFacetOf window parts) facets → All (IsDoorIn parts) (doors_of facets)
+doors_in : (window : Window) (parts : List RegionPart) (facets : List Facet) → All (IsFacetOf window parts) facets → All (IsDoorIn parts) (doors_of facets)
 unfolding doors_of
 doors_in window parts facets each =
     gathered_all (IsDoorIn parts) (λ polygon. facet_doors polygon (facet_at facets polygon)) 0 (length facets)
@@ -99,24 +99,24 @@ coded_next outline from to code is = by_test (to == place_after (length outline.
     by_test false e same = absurd cc
 
 -- what two doors that share places, or corners, have in common
-record SharePlaces (a b : Door) : Type 0 where
+record SharePlaces (a b : PortalEdge) : Type 0 where
   pub region : a.region ≡ b.region
   pub from : a.from ≡ b.to
   pub to : a.to ≡ b.from
 
-share_places-is : (a b : Door) → share_places a b ≡ true → SharePlaces a b
+share_places-is : (a b : PortalEdge) → share_places a b ≡ true → SharePlaces a b
 share_places-is a b is =
     let outer = and_parts (a.region == b.region && a.from == b.to) (a.to == b.from) is in
     let inner = and_parts (a.region == b.region) (a.from == b.to) outer.0 in
     record { region = eqb-true a.region b.region inner.0; from = eqb-true a.from b.to inner.1; to = eqb-true a.to b.from outer.1 }
 
-record ShareCorners (a b : Door) : Type 0 where
+record ShareCorners (a b : PortalEdge) : Type 0 where
   pub code : a.code ≡ Some (Region b.region)
   pub back : b.code ≡ Some (Region a.region)
   pub begin : a.begin ≡ b.end
   pub end : a.end ≡ b.begin
 
-share_corners-is : (a b : Door) → share_corners a b ≡ true → ShareCorners a b
+share_corners-is : (a b : PortalEdge) → share_corners a b ≡ true → ShareCorners a b
 share_corners-is a b is =
     let ends = and_parts (names_region a.code b.region && names_region b.code a.region && is_same_point a.begin b.end) (is_same_point a.end b.begin) is in
     let begins = and_parts (names_region a.code b.region && names_region b.code a.region) (is_same_point a.begin b.end) ends.0 in
@@ -131,7 +131,7 @@ share_corners-is a b is =
 named : (code : Option Code) (id : ℕ) → code ≡ Some (Region id) → names_region code id ≡ true
 named code id is = ap (λ (c : Option Code). names_region c id) is ∙ eq-eqb id id refl
 
-pub facing_back : (a b : Door) → are_facing a b ≡ true → are_facing b a ≡ true
+pub facing_back : (a b : PortalEdge) → are_facing a b ≡ true → are_facing b a ≡ true
 facing_back a b facing =
     elim (or_cases (share_places a b) (share_corners a b) facing) [
       | inl places ↦
@@ -150,22 +150,22 @@ facing_back a b facing =
 
 -- ---- a door faces one other at most
 
-module _ (window : Window) (parts : List Part) (sound : All IsSoundPart parts) (each : All (IsFacetOf window parts) (facets_of parts))
+module _ (window : Window) (parts : List RegionPart) (sound : All IsSoundPart parts) (each : All (IsFacetOf window parts) (facets_of parts))
     (are : All (IsDoorOf parts (facets_of parts)) (doors_of (facets_of parts))) where
-  abbrev doors : List Door
+  abbrev doors : List PortalEdge
   doors = doors_of (facets_of parts)
 
   of_part : (r : ℕ) → r < length parts → IsSoundPart (get_or parts r no_part)
   of_part r there = sound r no_part there
 
-  pub is_in : (door : Door) → Contains doors door → IsDoorIn parts door
+  pub is_in : (door : PortalEdge) → Contains doors door → IsDoorIn parts door
   is_in door has = subst (IsDoorIn parts) has.2 (doors_in window parts (facets_of parts) each has.0 door has.1)
 
-  pub is_of : (door : Door) → Contains doors door → IsDoorOf parts (facets_of parts) door
+  pub is_of : (door : PortalEdge) → Contains doors door → IsDoorOf parts (facets_of parts) door
   is_of door has = subst (IsDoorOf parts (facets_of parts)) has.2 (are has.0 door has.1)
 
   -- doors of one region from one place to another are one door
-  one_door : (b c : Door) → Contains doors b → Contains doors c → b.region ≡ c.region → b.from ≡ c.from → b.to ≡ c.to → b ≡ c
+  one_door : (b c : PortalEdge) → Contains doors b → Contains doors c → b.region ≡ c.region → b.from ≡ c.from → b.to ≡ c.to → b ≡ c
   one_door b c has has' region from to =
       elim (cases_order has.0 has'.0) [
         | inl same ↦ sym has.2 ∙ ap (λ k. get_or doors k b) same ∙ at_c
@@ -173,13 +173,13 @@ module _ (window : Window) (parts : List Part) (sound : All IsSoundPart parts) (
         | inr (inr more) ↦ absurd (once_apart test doors has'.0 has.0 b most more has.1 passes_c passes_b)
       ]
     where
-      test : Door → Bool
+      test : PortalEdge → Bool
       test = is_over b.region b.from b.to
 
       at_c : get_or doors has'.0 b ≡ c
       at_c = get_or_default doors has'.0 b c has'.1 ∙ has'.2
 
-      over : (door : Door) → door.region ≡ b.region → door.from ≡ b.from → door.to ≡ b.to → test door ≡ true
+      over : (door : PortalEdge) → door.region ≡ b.region → door.from ≡ b.from → door.to ≡ b.to → test door ≡ true
       over door r f t =
           and_from (door.region == b.region) (door.from == b.from && door.to == b.to) (eq-eqb door.region b.region r)
           (and_from (door.from == b.from) (door.to == b.to) (eq-eqb door.from b.from f) (eq-eqb door.to b.to t))
@@ -194,14 +194,14 @@ module _ (window : Window) (parts : List Part) (sound : All IsSoundPart parts) (
       most = doors_over parts b.region b.from b.to 1 ((of_part b.region (is_in b has).region).once b.from b.to)
 
   -- no door leads back along an edge of an outline
-  none_back : (a b : Door) (code : Code) → Contains doors a → Contains doors b → a.code ≡ Some code → SharePlaces a b → ⊥
+  none_back : (a b : PortalEdge) (code : Code) → Contains doors a → Contains doors b → a.code ≡ Some code → SharePlaces a b → ⊥
   none_back a b code has has' coded shared =
       let is = is_in a has in
       let outline : outlines.Outline = (get_or parts a.region no_part).outline in
       let next : a.to ≡ place_after (length outline.corners) a.from = coded_next outline a.from a.to code (sym is.code ∙ coded) in
       let none : edges_between a.to a.from (get_or parts a.region no_part).pieces ≡ 0 =
       ap (λ n. edges_between n a.from (get_or parts a.region no_part).pieces) next ∙ (of_part a.region is.region).outline.back a.from is.from in
-      let test : Door → Bool = is_over a.region a.to a.from in
+      let test : PortalEdge → Bool = is_over a.region a.to a.from in
       let passes : test b ≡ true =
       and_from (b.region == a.region) (b.from == a.to && b.to == a.from) (eq-eqb b.region a.region (sym shared.region))
       (and_from (b.from == a.to) (b.to == a.from) (eq-eqb b.from a.to (sym shared.to)) (eq-eqb b.to a.from (sym shared.from))) in
@@ -212,7 +212,7 @@ module _ (window : Window) (parts : List Part) (sound : All IsSoundPart parts) (
       )
 
   -- doors of one region between the same points
-  pub between_points : (b c : Door) → Contains doors b → Contains doors c → b.region ≡ c.region → b.begin ≡ c.begin → b.end ≡ c.end → b ≡ c
+  pub between_points : (b c : PortalEdge) → Contains doors b → Contains doors c → b.region ≡ c.region → b.begin ≡ c.begin → b.end ≡ c.end → b ≡ c
   between_points b c has has' region begin end =
       let corners : ℕ → List Point = λ r. (get_or parts r no_part).outline.corners in
       let is = is_in b has in
@@ -226,7 +226,7 @@ module _ (window : Window) (parts : List Part) (sound : All IsSoundPart parts) (
       (sym of.begin ∙ begin ∙ of'.begin ∙ ap (λ r. corner_at (corners r) c.from) (sym region)))
       (one_place (corners b.region) apart b.to c.to is.to (omega (arith, size, is'.to)) (sym of.end ∙ end ∙ of'.end ∙ ap (λ r. corner_at (corners r) c.to) (sym region)))
 
-  pub faces_one : (a b c : Door) → Contains doors a → Contains doors b → Contains doors c → are_facing a b ≡ true → are_facing a c ≡ true → b ≡ c
+  pub faces_one : (a b c : PortalEdge) → Contains doors a → Contains doors b → Contains doors c → are_facing a b ≡ true → are_facing a c ≡ true → b ≡ c
   faces_one a b c has has_b has_c faces_b faces_c =
       elim (or_cases (share_places a b) (share_corners a b) faces_b) [
         | inl places_b ↦
@@ -250,13 +250,13 @@ module _ (window : Window) (parts : List Part) (sound : All IsSoundPart parts) (
   -- ---- links
 
   -- the door that a door faces is found
-  found_one : (a b : Door) → Contains doors a → Contains doors b → are_facing a b ≡ true → find (are_facing a) doors ≡ Some b
+  found_one : (a b : PortalEdge) → Contains doors a → Contains doors b → are_facing a b ≡ true → find (are_facing a) doors ≡ Some b
   found_one a b has has_b facing =
       let first = first_found (are_facing a) doors has_b.0 b has_b.1 (ap (are_facing a) has_b.2 ∙ facing) in
       let there : first.place < length doors = omega (arith, first.most, has_b.1) in
-      first.is ∙ ap (λ (door : Door). Some door) (faces_one a (get_or doors first.place b) b has (Contains-get_or doors first.place b there) has_b first.passes facing)
+      first.is ∙ ap (λ (door : PortalEdge). Some door) (faces_one a (get_or doors first.place b) b has (Contains-get_or doors first.place b there) has_b first.passes facing)
 
-  pub facing_linked : (tile : ℕ) (a b : Door) → Contains doors a → Contains doors b → are_facing a b ≡ true → Contains (door_links tile doors) (door_link tile a b)
+  pub facing_linked : (tile : ℕ) (a b : PortalEdge) → Contains doors a → Contains doors b → are_facing a b ≡ true → Contains (door_links tile doors) (door_link tile a b)
   facing_linked tile a b has has_b facing =
       Contains-ordered_links (door_link tile a b) (filter_map (link_through tile doors) doors)
       (contains_found (link_through tile doors) doors a (door_link tile a b) has (ap (option_map (door_link tile a)) (found_one a b has has_b facing)))
@@ -267,7 +267,7 @@ module _ (window : Window) (parts : List Part) (sound : All IsSoundPart parts) (
       (All-found (link_through tile doors) (HasReverse (door_links tile doors)) doors
       (λ k d there link is. through (get_or doors k d) (Contains-get_or doors k d there) (find (are_facing (get_or doors k d)) doors) refl link is))
     where
-      turned : (a b : Door) → Contains doors a → Contains doors b → are_facing a b ≡ true → door_link tile b a ≡ reverse_of b.edge (door_link tile a b)
+      turned : (a b : PortalEdge) → Contains doors a → Contains doors b → are_facing a b ≡ true → door_link tile b a ≡ reverse_of b.edge (door_link tile a b)
       turned a b has has_b facing =
           let points = facing_points parts (facets_of parts) a b (is_of a has) (is_of b has_b) facing in
           (λ k. record {
@@ -277,7 +277,7 @@ module _ (window : Window) (parts : List Part) (sound : All IsSoundPart parts) (
             portal = record { left = scaled (sym points.0 k).x (sym points.0 k).z; right = scaled (sym points.1 k).x (sym points.1 k).z };
           })
 
-      through : (a : Door) → Contains doors a → (o : Option Door) → find (are_facing a) doors ≡ o → (link : Link) → option_map (door_link tile a) o ≡ Some link
+      through : (a : PortalEdge) → Contains doors a → (o : Option PortalEdge) → find (are_facing a) doors ≡ o → (link : Link) → option_map (door_link tile a) o ≡ Some link
           → HasReverse (door_links tile doors) link
       through a has None found link same = absurd cc
       through a has (Some b) found link same =

@@ -14,7 +14,7 @@ use Rattle.mesh_types.specs.StripPolygons.{first_of, low_of, high_of}
 use Rattle.mesh_types.specs.Facets.{Facet, cells_of, facet_polygon}
 use Rattle.mesh_types.proofs.Words.{is_of}
 use Rattle.contour_walk.specs.Tables.{owner_of}
-use Rattle.contour_mesh.specs.declared.footing.Footing.{Footing}
+use Rattle.contour_mesh.specs.declared.parts.RegionFloors.{RegionFloors}
 use Rattle.contour_mesh.specs.Footings.{AreFootings, footing_with, footing_of, no_footing, polygon_over, facet_over_footing}
 
 -- the region of a cell, by the number of the first region that holds it
@@ -42,7 +42,7 @@ of_none regions cell o id is past =
 more_of : (cells : List Cell) (regions : Regions) (k id : ℕ) (c : Cell) → k < length cells → c ≡ get_or cells k c → is_of regions id c ≡ true
     → footing_of (cells_of (take (k + 1) cells) regions id) ≡ Some (footing_with (footing_of (cells_of (take k cells) regions id)) c)
 more_of cells regions k id c there is passes =
-    let step = λ (seen : Option Footing) (cell : Cell). Some (footing_with seen cell) in
+    let step = λ (seen : Option RegionFloors) (cell : Cell). Some (footing_with seen cell) in
     let test = is_of regions id in
     ap footing_of (filter_more test cells k c there
     ∙ ap (λ (x : Cell). filter test (take k cells) ++ cond (test x) (x ∷ []) []) (sym is)
@@ -59,7 +59,7 @@ more_not cells regions k id c there is fails =
     ∙ append-nil (filter test (take k cells)))
 
 -- the step of the loop
-pub footings_more : (cells : List Cell) (regions : Regions) (k o : ℕ) (c : Cell) (before after : List (Option Footing)) → k < length cells → c ≡ get_or cells k c
+pub footings_more : (cells : List Cell) (regions : Regions) (k o : ℕ) (c : Cell) (before after : List (Option RegionFloors)) → k < length cells → c ≡ get_or cells k c
     → o ≡ owner_of regions.regions c → AreFootings (take k cells) regions before → length after ≡ length before
     → (o < length before → get_or after o None ≡ Some (footing_with (get_or before o None) c))
     → ((j : ℕ) → (j ≡ o → ⊥) → get_or after j None ≡ get_or before j None) → AreFootings (take (k + 1) cells) regions after
@@ -69,7 +69,7 @@ footings_more cells regions k o c before after there is owner so_far same here o
     | inl inside ↦ elim (cases_eq id o) [
       | inl own ↦
           ap (λ j. get_or after j None) own ∙ here (omega (arith, inside, so_far.many))
-          ∙ ap (λ (f : Option Footing). Some (footing_with f c)) (ap (λ j. get_or before j None) (sym own) ∙ so_far.each id)
+          ∙ ap (λ (f : Option RegionFloors). Some (footing_with f c)) (ap (λ j. get_or before j None) (sym own) ∙ so_far.each id)
           ∙ sym (more_of cells regions k id c there is (of_here regions c o id owner inside ∙ eq-eqb o id (sym own)))
       | inr other ↦
           others id other ∙ so_far.each id
@@ -88,7 +88,7 @@ footings_more cells regions k o c before after there is owner so_far same here o
     ]
 
 -- a footing tells the area, the least and the greatest floor
-seen_all : (f : Footing) (cells : List Cell) → fold (λ (seen : Option Footing) (cell : Cell). Some (footing_with seen cell)) (Some f) cells
+seen_all : (f : RegionFloors) (cells : List Cell) → fold (λ (seen : Option RegionFloors) (cell : Cell). Some (footing_with seen cell)) (Some f) cells
     ≡ Some (record {
       area = f.area;
       low = fold (λ low (cell : Cell). min low cell.floor) f.low cells;
@@ -100,7 +100,7 @@ seen_all f (c ∷ cells) = seen_all (footing_with (Some f) c) cells
 pub footing_is : (own : List Cell) → unwrap_or (footing_of own) no_footing ≡ record { area = (first_of own).area; low = low_of own; high = high_of own }
 footing_is [] = refl
 footing_is (c ∷ cells) =
-    ap (λ (o : Option Footing). unwrap_or o no_footing) (seen_all (footing_with None c) cells)
+    ap (λ (o : Option RegionFloors). unwrap_or o no_footing) (seen_all (footing_with None c) cells)
     ∙ ap (λ n. record {
       area = c.area;
       low = fold (λ low (cell : Cell). min low cell.floor) n cells;
@@ -113,13 +113,13 @@ footing_is (c ∷ cells) =
     }) {x = c.floor} {y = max c.floor c.floor} (omega arith)
 
 -- polygons over footings are those of the facets
-pub polygon_is : (cells : List Cell) (regions : Regions) (footings : List (Option Footing)) → AreFootings cells regions footings → (facet : Facet)
+pub polygon_is : (cells : List Cell) (regions : Regions) (footings : List (Option RegionFloors)) → AreFootings cells regions footings → (facet : Facet)
     → facet_over_footing footings facet ≡ facet_polygon cells regions facet
 polygon_is cells regions footings rules' facet =
-    ap (λ (f : Footing). polygon_over facet.outline.corners f facet.places)
-    (ap (λ (o : Option Footing). unwrap_or o no_footing) (rules'.each facet.region) ∙ footing_is (cells_of cells regions facet.region))
+    ap (λ (f : RegionFloors). polygon_over facet.outline.corners f facet.places)
+    (ap (λ (o : Option RegionFloors). unwrap_or o no_footing) (rules'.each facet.region) ∙ footing_is (cells_of cells regions facet.region))
 
-pub polygons_are : (cells : List Cell) (regions : Regions) (footings : List (Option Footing)) → AreFootings cells regions footings → (facets : List Facet)
+pub polygons_are : (cells : List Cell) (regions : Regions) (footings : List (Option RegionFloors)) → AreFootings cells regions footings → (facets : List Facet)
     → map (facet_over_footing footings) facets ≡ map (facet_polygon cells regions) facets
 polygons_are cells regions footings rules' [] = refl
 polygons_are cells regions footings rules' (facet ∷ facets) =
@@ -128,14 +128,14 @@ polygons_are cells regions footings rules' (facet ∷ facets) =
     cc
 
 -- the same of a vector that was written through a slice, by a table of owners
-pub footings_written : (cells : List Cell) (regions : Regions) (k : ℕ) (d : Cell) (owners owners' : List ℕ) (len : ℕ) (items lent after : List (Option Footing))
+pub footings_written : (cells : List Cell) (regions : Regions) (k : ℕ) (d : Cell) (owners owners' : List ℕ) (len : ℕ) (items lent after : List (Option RegionFloors))
     → k < length cells → owners' ≡ map (owner_of regions.regions) cells → owners ≡ owners' → len ≡ length items → lent ≡ items
     → AreFootings (take k cells) regions items → length after ≡ length lent
     → (get_or owners k 0 < length lent → get_or after (get_or owners k 0) None ≡ Some (footing_with (get_or lent (get_or owners k 0) None) (get_or cells k d)))
     → ((j : ℕ) → (j ≡ get_or owners k 0 → ⊥) → get_or after j None ≡ get_or lent j None)
     → AreFootings (take (k + 1) cells) regions (take len (after ++ drop (length after) items))
 footings_written cells regions k d owners owners' len items lent after there owners_are same_owners many lent_is before same here others =
-    let P : List (Option Footing) → Type 0 = AreFootings (take (k + 1) cells) regions in
+    let P : List (Option RegionFloors) → Type 0 = AreFootings (take (k + 1) cells) regions in
     let c : Cell = get_or cells k d in
     let o : ℕ = get_or owners k 0 in
     let owner : o ≡ owner_of regions.regions c = owner_at cells regions owners owners' k d owners_are same_owners there in

@@ -8,9 +8,9 @@ use Rattle.nav_ground.specs.declared.cell.Window.{Window}
 use Rattle.nav_ground.specs.Cells.{IsCut, IsInTile}
 use Rattle.nav_ground.specs.Tiling.{tile_window}
 use Rattle.mesh_types.specs.declared.region.Regions.{Regions}
-use Rattle.mesh_types.specs.declared.door.Door.{Door}
-use Rattle.mesh_types.specs.declared.door.Part.{Part}
-use Rattle.mesh_types.specs.declared.tile.TileMesh.{TileMesh}
+use Rattle.mesh_types.specs.declared.region.PortalEdge.{PortalEdge}
+use Rattle.mesh_types.specs.declared.region.RegionPart.{RegionPart}
+use Rattle.mesh_types.specs.declared.mesh.TileMesh.{TileMesh}
 use Rattle.mesh_types.specs.Passages.{AreTwoWay}
 use Rattle.mesh_types.specs.Regions.{AreRegionsOf, regions_of}
 use Rattle.mesh_types.specs.FitTiles.{IsFit}
@@ -38,14 +38,14 @@ module _ (setting : Setting) (free : FreeLayer) (cut : IsCut free.cells) (in_til
   abbrev regions : Regions
   regions = regions_of free.cells
 
-  parts_linked : (parts : List Part) → parts_of window setting.error free.cells regions ≡ Some parts → IsLinked setting (parts_mesh setting free regions parts)
+  parts_linked : (parts : List RegionPart) → parts_of window setting.error free.cells regions ≡ Some parts → IsLinked setting (parts_mesh setting free regions parts)
   unfolding parts_mesh
   parts_linked parts of =
       record {
         back = links_two_way window parts sound each doors free.tile;
         linked = λ other a b facing.
             let same : other ≡ parts = one (parts_of window setting.error free.cells regions) other parts facing.made of in
-            let held : Door → List Part → Type 0 = λ door some. Contains (doors_of (facets_of some)) door in
+            let held : PortalEdge → List RegionPart → Type 0 = λ door some. Contains (doors_of (facets_of some)) door in
             facing_linked window parts sound each doors free.tile a b (subst (held a) same facing.has) (subst (held b) same facing.has_other) facing.facing;
       }
     where
@@ -58,7 +58,7 @@ module _ (setting : Setting) (free : FreeLayer) (cut : IsCut free.cells) (in_til
       doors : All (IsDoorOf parts (facets_of parts)) (doors_of (facets_of parts))
       doors = doors_are window parts (facets_of parts) each
 
-      one : (o : Option (List Part)) (xs ys : List Part) → o ≡ Some xs → o ≡ Some ys → xs ≡ ys
+      one : (o : Option (List RegionPart)) (xs ys : List RegionPart) → o ≡ Some xs → o ≡ Some ys → xs ≡ ys
       one o xs ys is is' = cc
 
   -- the mesh of a tile by the outlines of its regions, where it has one
@@ -66,7 +66,7 @@ module _ (setting : Setting) (free : FreeLayer) (cut : IsCut free.cells) (in_til
   unfolding contour_mesh_of
   contour_linked tile is = by_case (parts_of window setting.error free.cells regions) refl is
     where
-      by_case : (o : Option (List Part)) → parts_of window setting.error free.cells regions ≡ o → option_map (parts_mesh setting free regions) o ≡ Some tile → IsLinked setting tile
+      by_case : (o : Option (List RegionPart)) → parts_of window setting.error free.cells regions ≡ o → option_map (parts_mesh setting free regions) o ≡ Some tile → IsLinked setting tile
       by_case None of same = absurd cc
       by_case (Some parts) of same =
           let at : parts_mesh setting free regions parts ≡ tile = cc in

@@ -17,17 +17,17 @@ use Rattle.nav_ground.specs.declared.setting.Setting.{Setting}
 use Rattle.nav_ground.specs.Cells.{IsCut, IsInTile}
 use Rattle.nav_ground.specs.Tiling.{IsInWindow, tile_window}
 use Rattle.nav_ground.proofs.Found.{first_found}
-use Rattle.mesh_types.specs.declared.door.Door.{Door}
-use Rattle.mesh_types.specs.declared.door.Part.{Part}
-use Rattle.mesh_types.specs.declared.label_runs.Run.{Run}
-use Rattle.mesh_types.specs.declared.outline.Outline as outlines
+use Rattle.mesh_types.specs.declared.region.PortalEdge.{PortalEdge}
+use Rattle.mesh_types.specs.declared.region.RegionPart.{RegionPart}
+use Rattle.mesh_types.specs.declared.region.LabelRun.{LabelRun}
+use Rattle.mesh_types.specs.declared.region.Outline as outlines
 use Rattle.mesh_types.specs.declared.region.Code.{Code}
 use Rattle.mesh_types.specs.declared.region.Code.TheVariants.{Region, Side, Wall}
 use Rattle.mesh_types.specs.declared.region.Regions.{Regions}
 use Rattle.mesh_types.specs.declared.region.UnitEdge.{UnitEdge}
-use Rattle.mesh_types.specs.declared.tile.LevelPair.{LevelPair}
-use Rattle.mesh_types.specs.declared.tile.RimEdge.{RimEdge}
-use Rattle.mesh_types.specs.declared.tile.TileMesh.{TileMesh}
+use Rattle.mesh_types.specs.declared.mesh.LevelPair.{LevelPair}
+use Rattle.mesh_types.specs.declared.mesh.RimEdge.{RimEdge}
+use Rattle.mesh_types.specs.declared.mesh.TileMesh.{TileMesh}
 use Rattle.mesh_types.specs.Contours.{edge_beginning, edge_ending, region_at, contour_of}
 use Rattle.mesh_types.specs.DoorRim.{belongs_to, crossing_cell, crossing_pair, door_entries, door_entry, door_rim, end_position, first_position, is_listed, is_on_line, is_same_door, lies_on, names_side, point_position, positions_of, runs_over, side_entries, side_of}
 use Rattle.mesh_types.specs.Facets.{cells_of, facets_of}
@@ -84,7 +84,7 @@ region_tested None id is = absurd cc
 region_tested (Some r) id is = ap (λ (n : ℕ). Some n) (eqb-true r id is)
 
 -- a door that lies on a side lies on no other
-only_side : (window : Window) (door : Door) (side : ℕ) → side < 4 → door.code ≡ Some (Side side) → lies_on window door side ≡ true → side_of window door ≡ Some side
+only_side : (window : Window) (door : PortalEdge) (side : ℕ) → side < 4 → door.code ≡ Some (Side side) → lies_on window door side ≡ true → side_of window door ≡ Some side
 only_side window door side small code lies =
     let at : get_or (range_with_len 0 4) side 0 ≡ side = get_or-range_with_len 0 4 side 0 small ∙ omega arith in
     let first = first_found (lies_on window door) (range_with_len 0 4) side 0 (omega (arith, small, length-range_with_len 0 4)) (ap (lies_on window door) at ∙ lies) in
@@ -94,7 +94,7 @@ only_side window door side small code lies =
     first.is ∙ ap (λ (n : ℕ). Some n) (sym (one_side door.code side other code named.0))
 
 -- a door runs along the edges of a contour, from a corner that is kept to the next, and has the code of a side
-record IsDoorAlong (error side : ℕ) (E : List UnitEdge) (door : Door) (i j : ℕ) : Type 0 where
+record IsDoorAlong (error side : ℕ) (E : List UnitEdge) (door : PortalEdge) (i j : ℕ) : Type 0 where
   next : AreNext (length E) (is_kept error E) i j
   code : door.code ≡ Some (Side side)
   coded : (edge_at E i).code ≡ Side side
@@ -102,9 +102,9 @@ record IsDoorAlong (error side : ℕ) (E : List UnitEdge) (door : Door) (i j : �
   end : door.end ≡ corner_at E j
 
 module _ (window : Window) (error : ℕ) (cells : List Cell) (regions : Regions) (cut : IsCut cells)
-    (inside : All (λ (cell : Cell). IsInWindow window cell.at.x cell.at.z) cells) (are : AreRegionsOf cells regions) (parts : List Part)
+    (inside : All (λ (cell : Cell). IsInWindow window cell.at.x cell.at.z) cells) (are : AreRegionsOf cells regions) (parts : List RegionPart)
     (made : parts_of window error cells regions ≡ Some parts) where
-  abbrev doors : List Door
+  abbrev doors : List PortalEdge
   doors = doors_of (facets_of parts)
 
   sound : All IsSoundPart parts
@@ -138,7 +138,7 @@ module _ (window : Window) (error : ℕ) (cells : List Cell) (regions : Regions)
     outline = part_outline error E (get_or parts r no_part) (part_found window error cells regions parts made r there).1
 
     -- a door of the region with the code of the side runs along its contour
-    door_along : (door : Door) → Contains doors door → door.region ≡ r → door.code ≡ Some (Side side)
+    door_along : (door : PortalEdge) → Contains doors door → door.region ≡ r → door.code ≡ Some (Side side)
         → IsDoorAlong error side E door (place_at door.from) (next_of n q door.from)
     door_along door has region code =
         let own : outlines.Outline = (get_or parts door.region no_part).outline in
@@ -166,7 +166,7 @@ module _ (window : Window) (error : ℕ) (cells : List Cell) (regions : Regions)
               ∙ ap (λ k. (edge_at E k).from) step.listed;
         }
 
-    module _ (door : Door) (i j : ℕ) (along : IsDoorAlong error side E door i j) where
+    module _ (door : PortalEdge) (i j : ℕ) (along : IsDoorAlong error side E door i j) where
       abbrev corner : ℕ → Point
       corner u = corner_at (contour_of window cells regions r) (i + u)
 
@@ -256,7 +256,7 @@ module _ (window : Window) (error : ℕ) (cells : List Cell) (regions : Regions)
 
   -- a door of the cell's region that lies on the side and runs over the cell's position, and the edge of the contour by which it does
   record IsDoorOver (r side : ℕ) (cell : Cell) : Type 0 where
-    door : Door
+    door : PortalEdge
     has : Contains doors door
     region : door.region ≡ r
     i : ℕ
@@ -310,10 +310,10 @@ module _ (window : Window) (error : ℕ) (cells : List Cell) (regions : Regions)
     abbrev position : ℕ
     position = position_of side cell.at
 
-    abbrev door : Door
+    abbrev door : PortalEdge
     door = over.door
 
-    abbrev test : Door → Bool
+    abbrev test : PortalEdge → Bool
     test = runs_over window over.door.region side (position_of side cell.at)
 
     span : (first_position side over.door ≤ position_of side cell.at) × (position_of side cell.at < end_position side over.door)
@@ -331,7 +331,7 @@ module _ (window : Window) (error : ℕ) (cells : List Cell) (regions : Regions)
         (lt-ltb position (end_position side door) span.1)
 
     -- no other door of the region runs over the position
-    only_door : (other : Door) → Contains doors other → test other ≡ true → other ≡ over.door
+    only_door : (other : PortalEdge) → Contains doors other → test other ≡ true → other ≡ over.door
     only_door other has runs =
         let E : List UnitEdge = contour_of window cells regions r in
         let n : ℕ = length E in
@@ -366,9 +366,9 @@ module _ (window : Window) (error : ℕ) (cells : List Cell) (regions : Regions)
     belongs : belongs_to window doors side over.door (position_of side cell.at) ≡ true
     belongs =
         let first = first_found test doors over.has.0 door over.has.1 (ap test over.has.2 ∙ passes) in
-        let other : Door = get_or doors first.place door in
+        let other : PortalEdge = get_or doors first.place door in
         let same : other ≡ door = only_door other (Contains-get_or doors first.place door (omega (arith, first.most, over.has.1))) first.passes in
-        ap (λ (o : Option Door). option_map_or (is_same_door door) o false) first.is
+        ap (λ (o : Option PortalEdge). option_map_or (is_same_door door) o false) first.is
         ∙ ap (is_same_door door) same
         ∙ and_from (door.polygon == door.polygon) (door.edge == door.edge) (eq-eqb door.polygon door.polygon refl) (eq-eqb door.edge door.edge refl)
 
@@ -408,7 +408,7 @@ module _ (window : Window) (error : ℕ) (cells : List Cell) (regions : Regions)
         let label : get_or labels k None ≡ Some 0 =
         get_or-map-range_with_len (λ place. label_if (f place)) begin count k position None k-in here ∙ ap label_if listed in
         let found = run_found labels k 0 (omega (arith, k-in, many)) label in
-        let run : Run = found.run in
+        let run : LabelRun = found.run in
         let entry : RimEdge = door_entry window cells regions door side run in
         let entries : Option ℕ → List RimEdge = λ o. option_map_or (side_entries window cells regions doors door) o [] in
         let on : side_of window door ≡ Some side = only_side window door side small over.along.code on_side in
@@ -453,7 +453,7 @@ contours_list setting free cut in_tile are tile is = by_case (parts_of window se
     regions : Regions
     regions = regions_of free.cells
 
-    by_case : (o : Option (List Part)) → parts_of (tile_window setting free.tile) setting.error free.cells (regions_of free.cells) ≡ o
+    by_case : (o : Option (List RegionPart)) → parts_of (tile_window setting free.tile) setting.error free.cells (regions_of free.cells) ≡ o
         → option_map (parts_mesh setting free (regions_of free.cells)) o ≡ Some tile → ListsCrossings setting tile
     by_case None made same = absurd (none-some tile same)
     by_case (Some parts) made same =

@@ -11,13 +11,13 @@ use Rattle.nav_ground.specs.Limits.{IsSetting}
 use Rattle.nav_ground.specs.Cells.{IsCut, IsInTile}
 use Rattle.nav_ground.specs.Tiling.{corner_x, corner_z, tile_window}
 use Rattle.mesh_types.specs.declared.region.Regions.{Regions}
-use Rattle.mesh_types.specs.declared.door.Part.{Part}
-use Rattle.mesh_types.specs.declared.tile.TileMesh.{TileMesh}
+use Rattle.mesh_types.specs.declared.region.RegionPart.{RegionPart}
+use Rattle.mesh_types.specs.declared.mesh.TileMesh.{TileMesh}
 use Rattle.mesh_types.specs.Regions.{AreRegionsOf, regions_of}
-use Rattle.mesh_types.specs.declared.door.Door.{Door}
+use Rattle.mesh_types.specs.declared.region.PortalEdge.{PortalEdge}
 use Rattle.mesh_types.specs.declared.polygon.Polygon.{Polygon}
 use Rattle.mesh_types.specs.declared.links.Link.{Link}
-use Rattle.mesh_types.specs.declared.tile.RimEdge.{RimEdge}
+use Rattle.mesh_types.specs.declared.mesh.RimEdge.{RimEdge}
 use Rattle.mesh_types.specs.ContourMeshes.{contour_mesh_of, parts_mesh}
 use Rattle.mesh_types.specs.Doors.{door_links, doors_of}
 use Rattle.mesh_types.specs.DoorRim.{door_rim}
@@ -49,17 +49,17 @@ window_fits setting tile window rules' is =
 module _ (setting : Setting) (free : FreeLayer) (cut : IsCut free.cells) (in_tile : IsInTile setting free.tile free.cells)
     (regions : Regions) (are : AreRegionsOf free.cells regions) (window : Window) (window_is : window ≡ tile_window setting free.tile)
     (lent : List Cell) (lent_is : lent ≡ free.cells) where
-  parts_at : (o : Option (List Part)) → o ≡ parts_of window setting.error lent regions
+  parts_at : (o : Option (List RegionPart)) → o ≡ parts_of window setting.error lent regions
       → parts_of (tile_window setting free.tile) setting.error free.cells regions ≡ o
   parts_at o is =
       sym (is ∙ ap (λ (w : Window). parts_of w setting.error lent regions) window_is
       ∙ ap (λ (cells : List Cell). parts_of (tile_window setting free.tile) setting.error cells regions) lent_is)
 
-  pub no_more_parts : (parts : List Part) → Some parts ≡ parts_of window setting.error lent regions → length parts ≤ length regions.regions
+  pub no_more_parts : (parts : List RegionPart) → Some parts ≡ parts_of window setting.error lent regions → length parts ≤ length regions.regions
   no_more_parts parts is =
       (parts_are (tile_window setting free.tile) free.cells cut.rules regions are in_tile.inside setting.error parts (parts_at (Some parts) is)).few
 
-  pub few_polygons : (parts : List Part) → Some parts ≡ parts_of window setting.error lent regions → length (facets_of parts) ≤ 8000000
+  pub few_polygons : (parts : List RegionPart) → Some parts ≡ parts_of window setting.error lent regions → length (facets_of parts) ≤ 8000000
   few_polygons parts is =
       let few = few_facets (tile_window setting free.tile) setting.error free.cells regions parts are (parts_at (Some parts) is) in
       omega (arith, few, cut.rules.few)
@@ -70,7 +70,7 @@ module _ (setting : Setting) (free : FreeLayer) (cut : IsCut free.cells) (in_til
       ap (λ (rs : Regions). option_map (parts_mesh setting free rs) (parts_of (tile_window setting free.tile) setting.error free.cells rs)) (sym own)
       ∙ ap (option_map (parts_mesh setting free regions)) (parts_at None is)
 
-  pub mesh_is : (parts : List Part) (mesh : TileMesh) → regions ≡ regions_of free.cells → Some parts ≡ parts_of window setting.error lent regions
+  pub mesh_is : (parts : List RegionPart) (mesh : TileMesh) → regions ≡ regions_of free.cells → Some parts ≡ parts_of window setting.error lent regions
       → mesh ≡ parts_mesh setting free regions parts → contour_mesh_of setting free ≡ Some mesh
   unfolding contour_mesh_of
   mesh_is parts mesh own is made =
@@ -79,7 +79,7 @@ module _ (setting : Setting) (free : FreeLayer) (cut : IsCut free.cells) (in_til
       ∙ ap (λ (m : TileMesh). Some m) (sym made)
 
 -- a mesh that is made part by part
-pub mesh_of_parts : (setting : Setting) (free : FreeLayer) (regions : Regions) (parts : List Part) (window : Window) (lent : List Cell) (doors : List Door)
+pub mesh_of_parts : (setting : Setting) (free : FreeLayer) (regions : Regions) (parts : List RegionPart) (window : Window) (lent : List Cell) (doors : List PortalEdge)
     (polys : List Polygon) (links : List Link) (rim : List RimEdge) → window ≡ tile_window setting free.tile → lent ≡ free.cells → doors ≡ doors_of (facets_of parts)
     → polys ≡ map (facet_polygon lent regions) (facets_of parts) → links ≡ door_links free.tile doors → rim ≡ door_rim window lent regions doors
     → record { tile = free.tile; free = free; polys = polys; links = links; rim = rim } ≡ parts_mesh setting free regions parts

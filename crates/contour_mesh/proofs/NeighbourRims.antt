@@ -24,7 +24,7 @@ use Rattle.mesh_types.specs.declared.region.Code.TheVariants.{Wall, Region, Side
 use Rattle.mesh_types.specs.declared.region.Region as regions_types
 use Rattle.mesh_types.specs.declared.region.Regions.{Regions}
 use Rattle.mesh_types.specs.declared.region.UnitEdge.{UnitEdge}
-use Rattle.mesh_types.specs.declared.strip.Strip.{Strip}
+use Rattle.mesh_types.specs.declared.region.Strip.{Strip}
 use Rattle.mesh_types.specs.Contours.{cell_in, code_beyond, columns, edge_of, edge_beginning, edge_ending, is_rim, places_in, region_at, region_beyond, rim_edges_of, rim_of, strips_in}
 use Rattle.mesh_types.specs.Regions.{AreRegionsOf, IsIn, IsStrip, is_holding, place_in}
 use Rattle.mesh_types.specs.StripPolygons.{corner}

@@ -4,7 +4,7 @@ use Rattle.std.specs.Prelude.{All}
 use Rattle.std.specs.List.{flat_map, range_with_len}
 use Rattle.std.proofs.lemmas.List.{append-nil, append_assoc, length-append, length-take-le, take-append-drop, take_more}
 use Rattle.std.proofs.lemmas.List.Elements.{All-append, All-nil}
-use Rattle.mesh_types.specs.declared.door.Part.{Part}
+use Rattle.mesh_types.specs.declared.region.RegionPart.{RegionPart}
 use Rattle.mesh_types.specs.Facets.{Facet, facets_of}
 use Rattle.mesh_types.specs.Doors.{doors_of, facet_doors}
 use Rattle.mesh_types.proofs.Words.{no_facet}
@@ -57,7 +57,7 @@ numbered-all P f n (x ∷ xs) each =
     (numbered-all P f (n + 1) xs (λ k m y is below same. each (suc k) m y (omega (arith, is)) (omega (arith, below)) same))
 
 -- facets and doors
-pub facets_are : (parts : List Part) → facets_of parts ≡ numbered facets_at 0 parts
+pub facets_are : (parts : List RegionPart) → facets_of parts ≡ numbered facets_at 0 parts
 unfolding facets_of
 facets_are parts = numbered_is facets_at parts no_part
 

@@ -10,11 +10,11 @@ use Rattle.nav_ground.specs.declared.cell.Cell.{Cell}
 use Rattle.nav_ground.specs.declared.cell.Window.{Window}
 use Rattle.nav_ground.proofs.Selections.{range-push}
 use Rattle.mesh_types.specs.declared.region.Regions.{Regions}
-use Rattle.mesh_types.specs.declared.door.Part.{Part}
+use Rattle.mesh_types.specs.declared.region.RegionPart.{RegionPart}
 use Rattle.mesh_types.specs.declared.region.UnitEdge.{UnitEdge}
-use Rattle.mesh_types.specs.declared.outline.Outline as outlines
-use Rattle.mesh_types.specs.declared.outline.Simplified.{Simplified}
-use Rattle.mesh_types.specs.declared.outline.Simplified.TheVariants.{Flat, Outline}
+use Rattle.mesh_types.specs.declared.region.Outline as outlines
+use Rattle.mesh_types.specs.declared.region.Simplified.{Simplified}
+use Rattle.mesh_types.specs.declared.region.Simplified.TheVariants.{Flat, Outline}
 use Rattle.mesh_types.specs.Contours.{IsContour, contour_of}
 use Rattle.mesh_types.specs.Rings.{IsRing}
 use Rattle.mesh_types.specs.Simplified.{simplified_of}
@@ -24,19 +24,19 @@ use Rattle.mesh_types.proofs.ContourLaws.{contour_is}
 use Rattle.contour_mesh.specs.Parts.{IsCutPart}
 
 -- the parts of the first regions, each of which has one
-pub record ArePartsSoFar (part : ℕ → Option Part) (n : ℕ) (parts : List Part) : Type 0 where
+pub record ArePartsSoFar (part : ℕ → Option RegionPart) (n : ℕ) (parts : List RegionPart) : Type 0 where
   pub are : parts ≡ filter_map part (range_with_len 0 n)
   pub some : (k : ℕ) → k < n → is_some (part k) ≡ true
   pub each : All IsCutPart parts
 
-pub parts_none : (part : ℕ → Option Part) → ArePartsSoFar part 0 []
+pub parts_none : (part : ℕ → Option RegionPart) → ArePartsSoFar part 0 []
 parts_none part = record { are = refl; some = λ k below. absurd (omega (arith, below)); each = All-nil IsCutPart }
 
-pub parts_more : (part : ℕ → Option Part) (n : ℕ) (parts next : List Part) (p : Part) → ArePartsSoFar part n parts → Some p ≡ part n → IsCutPart p
+pub parts_more : (part : ℕ → Option RegionPart) (n : ℕ) (parts next : List RegionPart) (p : RegionPart) → ArePartsSoFar part n parts → Some p ≡ part n → IsCutPart p
     → next ≡ parts ++ p ∷ [] → ArePartsSoFar part (n + 1) next
 parts_more part n parts next p so_far found fit is = record {
-  are = is ∙ ap (λ (ps : List Part). ps ++ p ∷ []) so_far.are
-      ∙ ap (λ (o : Option Part). filter_map part (range_with_len 0 n) ++ cons_option o []) found
+  are = is ∙ ap (λ (ps : List RegionPart). ps ++ p ∷ []) so_far.are
+      ∙ ap (λ (o : Option RegionPart). filter_map part (range_with_len 0 n) ++ cons_option o []) found
       ∙ sym (filter_map-append part (range_with_len 0 n) (n ∷ []))
       ∙ ap (filter_map part) (ap (λ m. range_with_len 0 n ++ m ∷ []) {x = n} {y = 0 + n} (omega arith) ∙ sym (range-push 0 n));
   some = λ k below. elim (cases_lt k n) [
@@ -52,14 +52,14 @@ all_some p first (suc count) each =
     and_from (p first) (list_all p (range_with_len (first + 1) count)) (each first (omega arith) (omega arith))
     (all_some p (first + 1) count (λ k least most. each k (omega (arith, least)) (omega (arith, most))))
 
-pub parts_all : (window : Window) (error : ℕ) (cells : List Cell) (regions : Regions) (n : ℕ) (parts : List Part) → n ≡ length regions.regions
+pub parts_all : (window : Window) (error : ℕ) (cells : List Cell) (regions : Regions) (n : ℕ) (parts : List RegionPart) → n ≡ length regions.regions
     → ArePartsSoFar (region_part window error cells regions) n parts → Some parts ≡ parts_of window error cells regions
 unfolding parts_of
 parts_all window error cells regions n parts all so_far =
-    let part : ℕ → Option Part = region_part window error cells regions in
+    let part : ℕ → Option RegionPart = region_part window error cells regions in
     let numbers : List ℕ = region_numbers regions in
     let same : parts ≡ filter_map part numbers = so_far.are ∙ ap (λ k. filter_map part (range_with_len 0 k)) all in
-    ap (λ (ps : List Part). Some ps) same
+    ap (λ (ps : List RegionPart). Some ps) same
     ∙ sym (cond-true (list_all (λ id. is_some (part id)) numbers) (Some (filter_map part numbers)) None
     (all_some (λ id. is_some (part id)) 0 (length regions.regions) (λ k least most. so_far.some k (omega (arith, most, all)))))
 
@@ -67,7 +67,7 @@ pub parts_stop : (window : Window) (error : ℕ) (cells : List Cell) (regions : 
     → None ≡ region_part window error cells regions n → None ≡ parts_of window error cells regions
 unfolding parts_of
 parts_stop window error cells regions n there none =
-    let part : ℕ → Option Part = region_part window error cells regions in
+    let part : ℕ → Option RegionPart = region_part window error cells regions in
     let numbers : List ℕ = region_numbers regions in
     let at : get_or numbers n 0 ≡ n = get_or-range_with_len 0 (length regions.regions) n 0 there ∙ omega arith in
     sym (cond-false (list_all (λ id. is_some (part id)) numbers) (Some (filter_map part numbers)) None

@@ -10,10 +10,10 @@ use Rattle.nav_ground.specs.declared.cell.Window.{Window}
 use Rattle.mesh_types.specs.declared.region.Code.{Code}
 use Rattle.mesh_types.specs.declared.region.Code.TheVariants.{Wall, Region, Side}
 use Rattle.mesh_types.specs.declared.region.Regions.{Regions}
-use Rattle.mesh_types.specs.declared.door.Door.{Door}
-use Rattle.mesh_types.specs.declared.label_runs.Run.{Run}
-use Rattle.mesh_types.specs.declared.tile.LevelPair.{LevelPair}
-use Rattle.mesh_types.specs.declared.tile.RimEdge.{RimEdge}
+use Rattle.mesh_types.specs.declared.region.PortalEdge.{PortalEdge}
+use Rattle.mesh_types.specs.declared.region.LabelRun.{LabelRun}
+use Rattle.mesh_types.specs.declared.mesh.LevelPair.{LevelPair}
+use Rattle.mesh_types.specs.declared.mesh.RimEdge.{RimEdge}
 use Rattle.mesh_types.specs.Runs.{runs_of, label_if}
 use Rattle.mesh_types.specs.StripPolygons.{some_cell}
 use Rattle.mesh_types.specs.Crossings.{is_crossing, position_of, level_pair}
@@ -22,9 +22,9 @@ use Rattle.mesh_types.specs.DoorRim.{belongs_to, crossing_cell, crossing_pair, d
 use Rattle.mesh_types.specs.Facets.{cells_of}
 use Rattle.mesh_types.proofs.Words.{crosses_at, is_of}
 use Rattle.mono_regions.proofs.JoinLaws.{find_passes}
-use Rattle.contour_mesh.specs.declared.side_place.SidePlace.{SidePlace}
-use Rattle.contour_mesh.specs.declared.side_place.Placed.{Placed}
-use Rattle.contour_mesh.specs.declared.side_tables.SideTables.{SideTables}
+use Rattle.contour_mesh.specs.declared.crossings.SidePosition.{SidePosition}
+use Rattle.contour_mesh.specs.declared.crossings.AtPosition.{AtPosition}
+use Rattle.contour_mesh.specs.declared.rim.SideTables.{SideTables}
 use Rattle.contour_mesh.specs.SidePlaces.{cell_at_side, cell_places, crossings_in, door_at, door_places, first_at, placed_cells, placed_doors, stands_at}
 use Rattle.contour_mesh.specs.RimTables.{AreSideTables, entries_in, entries_on, entry_in, is_listed_in, pair_in, door_place, rim_in}
 use Rattle.contour_mesh.proofs.FacingLaws.{no_door}
@@ -32,16 +32,16 @@ use Rattle.contour_mesh.proofs.PlaceLaws.{first_of_sort}
 use Rattle.contour_mesh.proofs.SearchLaws.{find-at, none-made, in_kept, in_range, none_passes}
 
 -- a place
-abbrev at_side : ℕ → ℕ → ℕ → SidePlace
+abbrev at_side : ℕ → ℕ → ℕ → SidePosition
 at_side region side position = record { region = region; side = side; position = position }
 
 -- what stands first in a list that is put together
-first_at-append : {T : Type 0} (xs ys : List (Placed T)) (place : SidePlace) → first_at (xs ++ ys) place ≡ option_or (first_at xs place) (first_at ys place)
+first_at-append : {T : Type 0} (xs ys : List (AtPosition T)) (place : SidePosition) → first_at (xs ++ ys) place ≡ option_or (first_at xs place) (first_at ys place)
 first_at-append {T = T} xs ys place =
-    ap (option_map (λ (p : Placed T). p.item)) (find-append (stands_at place) xs ys) ∙ split (find (stands_at place) xs)
+    ap (option_map (λ (p : AtPosition T). p.item)) (find-append (stands_at place) xs ys) ∙ split (find (stands_at place) xs)
   where
-    split : (o : Option (Placed T)) → option_map (λ (p : Placed T). p.item) (option_or o (find (stands_at place) ys))
-        ≡ option_or (option_map (λ (p : Placed T). p.item) o) (first_at ys place)
+    split : (o : Option (AtPosition T)) → option_map (λ (p : AtPosition T). p.item) (option_or o (find (stands_at place) ys))
+        ≡ option_or (option_map (λ (p : AtPosition T). p.item) o) (first_at ys place)
     split None = refl
     split (Some p) = refl
 
@@ -55,7 +55,7 @@ cell_tests true false side at is = refl
 cell_tests false true side at is = refl
 cell_tests false false side at is = refl
 
-item_of : {T : Type 0} (b : Bool) (p : Placed T) → option_map (λ (q : Placed T). q.item) (cond b (Some p) None) ≡ cond b (Some p.item) None
+item_of : {T : Type 0} (b : Bool) (p : AtPosition T) → option_map (λ (q : AtPosition T). q.item) (cond b (Some p) None) ≡ cond b (Some p.item) None
 item_of true p = refl
 item_of false p = refl
 
@@ -63,7 +63,7 @@ module _ (window : Window) (regions : Regions) (region side position : ℕ) (sma
   crossing_first : (cell : Cell) (own : ℕ) → first_at (crossings_in window cell own) (at_side region side position)
       ≡ cond (own == region && crosses_at window side position cell) (Some cell) None
   crossing_first cell own =
-      ap (option_map (λ (p : Placed Cell). p.item))
+      ap (option_map (λ (p : AtPosition Cell). p.item))
       (find-at (stands_at (at_side region side position)) (cell_at_side own cell) side (filter (λ s. is_crossing window s cell) (range_with_len 0 4))
       (λ s other. and_left (own == region && s == side) (position_of s cell.at == position) (and_right (own == region) (s == side) (ne_eqb s side other))))
       ∙ item_of (list_any (λ k. k == side) (filter (λ s. is_crossing window s cell) (range_with_len 0 4))
@@ -113,7 +113,7 @@ one_side (Some (Region id)) s t h k = absurd cc
 one_side (Some Wall) s t h k = absurd cc
 one_side None s t h k = absurd cc
 
-names_it : (window : Window) (d : Door) (s : ℕ) → lies_on window d s ≡ true → names_side d.code s ≡ true
+names_it : (window : Window) (d : PortalEdge) (s : ℕ) → lies_on window d s ≡ true → names_side d.code s ≡ true
 names_it window d s lies =
     let parts = and_parts (names_side d.code s && is_on_line window s d.begin) (is_on_line window s d.end) lies in
     (and_parts (names_side d.code s) (is_on_line window s d.begin) parts.0).0
@@ -138,13 +138,13 @@ bounds : (first end position : ℕ) → (nat_le first position && nat_lt positio
 bounds first end position = grind (arith, tests)
 
 module _ (window : Window) (region side position : ℕ) (small : side < 4) where
-  away : (d : Door) → lies_on window d side ≡ false → runs_over window region side position d ≡ false
+  away : (d : PortalEdge) → lies_on window d side ≡ false → runs_over window region side position d ≡ false
   away d not_there =
       and_left (d.region == region && lies_on window d side && nat_le (first_position side d) position) (nat_lt position (end_position side d))
       (and_left (d.region == region && lies_on window d side) (nat_le (first_position side d) position)
       (and_right (d.region == region) (lies_on window d side) not_there))
 
-  door_first : (d : Door) → first_at (door_places window d) (at_side region side position) ≡ cond (runs_over window region side position d) (Some d) None
+  door_first : (d : PortalEdge) → first_at (door_places window d) (at_side region side position) ≡ cond (runs_over window region side position d) (Some d) None
   door_first d = by_case (side_of window d) refl
     where
       own_side : lies_on window d side ≡ true
@@ -152,7 +152,7 @@ module _ (window : Window) (region side position : ℕ) (small : side < 4) where
       own_side lies =
           let first : ℕ = first_position side d in
           let end : ℕ = end_position side d in
-          ap (option_map (λ (p : Placed Door). p.item))
+          ap (option_map (λ (p : AtPosition PortalEdge). p.item))
           (find-at (stands_at (at_side region side position)) (door_at d side) position (positions_of side d)
           (λ n other. and_right (d.region == region && side == side) (n == position) (ne_eqb n position other)))
           ∙ item_of (list_any (λ k. k == position) (positions_of side d) && stands_at (at_side region side position) (door_at d side position)) (door_at d side position)
@@ -171,7 +171,7 @@ module _ (window : Window) (region side position : ℕ) (small : side < 4) where
       elsewhere : (s : ℕ) → (s ≡ side → ⊥) → lies_on window d s ≡ true
           → first_at (map (door_at d s) (positions_of s d)) (at_side region side position) ≡ cond (runs_over window region side position d) (Some d) None
       elsewhere s other lies =
-          ap (option_map (λ (p : Placed Door). p.item))
+          ap (option_map (λ (p : AtPosition PortalEdge). p.item))
           (none-made (stands_at (at_side region side position)) (door_at d s) (positions_of s d)
           (λ n. and_left (d.region == region && s == side) (n == position) (and_right (d.region == region) (s == side) (ne_eqb s side other))))
           ∙ sym (ap (λ b. cond b (Some d) None)
@@ -185,12 +185,12 @@ module _ (window : Window) (region side position : ℕ) (small : side < 4) where
           let passes = (find_passes (lies_on window d) 4 s is).1 in
           elim (cases_eq s side) [ inl same ↦ here s same passes | inr other ↦ elsewhere s other passes ]
 
-  pub doors_first : (doors : List Door) → first_at (placed_doors window doors) (at_side region side position) ≡ find (runs_over window region side position) doors
+  pub doors_first : (doors : List PortalEdge) → first_at (placed_doors window doors) (at_side region side position) ≡ find (runs_over window region side position) doors
   doors_first [] = refl
   doors_first (d ∷ doors) =
       first_at-append (door_places window d) (placed_doors window doors) (at_side region side position)
-      ∙ ap (λ (o : Option Door). option_or o (first_at (placed_doors window doors) (at_side region side position))) (door_first d)
-      ∙ ap (λ (o : Option Door). option_or (cond (runs_over window region side position d) (Some d) None) o) (doors_first doors)
+      ∙ ap (λ (o : Option PortalEdge). option_or o (first_at (placed_doors window doors) (at_side region side position))) (door_first d)
+      ∙ ap (λ (o : Option PortalEdge). option_or (cond (runs_over window region side position d) (Some d) None) o) (doors_first doors)
       ∙ join (runs_over window region side position d)
     where
       join : (b : Bool) → option_or (cond b (Some d) None) (find (runs_over window region side position) doors)
@@ -200,9 +200,9 @@ module _ (window : Window) (region side position : ℕ) (small : side < 4) where
 
 -- ---- the rim
 
-module _ (window : Window) (cells : List Cell) (regions : Regions) (doors : List Door) (tables : SideTables)
+module _ (window : Window) (cells : List Cell) (regions : Regions) (doors : List PortalEdge) (tables : SideTables)
     (made : AreSideTables window cells regions doors tables) where
-  module _ (door : Door) (side : ℕ) (small : side < 4) where
+  module _ (door : PortalEdge) (side : ℕ) (small : side < 4) where
     cell_there : (position : ℕ) → first_at tables.cells (door_place door side position) ≡ crossing_cell window cells regions door.region side position
     cell_there position =
         first_of_sort (door_place door side position) some_cell (placed_cells window regions cells) tables.cells made.cells_are
@@ -215,13 +215,13 @@ module _ (window : Window) (cells : List Cell) (regions : Regions) (doors : List
 
     listed_is : (position : ℕ) → is_listed_in tables door side position ≡ is_listed window cells regions doors door side position
     listed_is position =
-        ap (λ (o : Option Door). option_map_or (is_same_door door) o false && is_some (first_at tables.cells (door_place door side position))) (door_there position)
+        ap (λ (o : Option PortalEdge). option_map_or (is_same_door door) o false && is_some (first_at tables.cells (door_place door side position))) (door_there position)
         ∙ ap (λ (o : Option Cell). belongs_to window doors side door position && is_some o) (cell_there position)
 
     pair_is : (position : ℕ) → pair_in tables door side position ≡ crossing_pair window cells regions door.region side position
     pair_is position = ap (λ (o : Option Cell). level_pair side (unwrap_or o some_cell)) (cell_there position)
 
-    entry_is : (run : Run) → entry_in tables door side run ≡ door_entry window cells regions door side run
+    entry_is : (run : LabelRun) → entry_in tables door side run ≡ door_entry window cells regions door side run
     entry_is run =
         let first : ℕ = first_position side door + run.first in
         ap (λ (pairs : List LevelPair). record { poly = door.polygon; edge = door.edge; side = side; first = first; pairs = pairs })
@@ -230,10 +230,10 @@ module _ (window : Window) (cells : List Cell) (regions : Regions) (doors : List
     entries_are : entries_on tables door side ≡ side_entries window cells regions doors door side
     entries_are =
         ap (λ (f : ℕ → Bool). map (entry_in tables door side) (runs_of (map (λ position. label_if (f position)) (positions_of side door)))) (λ i position. listed_is position i)
-        ∙ ap (λ (f : Run → RimEdge). map f (runs_of (map (λ position. label_if (is_listed window cells regions doors door side position)) (positions_of side door))))
+        ∙ ap (λ (f : LabelRun → RimEdge). map f (runs_of (map (λ position. label_if (is_listed window cells regions doors door side position)) (positions_of side door))))
         (λ i run. entry_is run i)
 
-  door_is : (door : Door) → entries_in window tables door ≡ door_entries window cells regions doors door
+  door_is : (door : PortalEdge) → entries_in window tables door ≡ door_entries window cells regions doors door
   door_is door = by_case (side_of window door) refl
     where
       by_case : (o : Option ℕ) → side_of window door ≡ o
@@ -242,4 +242,4 @@ module _ (window : Window) (cells : List Cell) (regions : Regions) (doors : List
       by_case (Some s) is = entries_are door s (find_passes (lies_on window door) 4 s is).0
 
   pub rim_is : rim_in window tables doors ≡ door_rim window cells regions doors
-  rim_is = ap (λ (f : Door → List RimEdge). flat_map f doors) (λ i door. door_is door i)
+  rim_is = ap (λ (f : PortalEdge → List RimEdge). flat_map f doors) (λ i door. door_is door i)

@@ -11,7 +11,7 @@ use Rattle.std.proofs.lemmas.Slice.Zip.{length-zip, get_or-zip}
 use Rattle.nav_base.specs.Convex.{place_after}
 use Rattle.mesh_types.specs.declared.region.UnitEdge.{UnitEdge}
 use Rattle.mesh_types.specs.Rings.{beginnings}
-use Rattle.mesh_types.specs.Simplified.{changes, does_change, extremes, kept_places, stops}
+use Rattle.mesh_types.specs.Simplified.{changes, does_change, extremes, kept_places, kept_round}
 use Rattle.mesh_types.specs.Words.{runs_between}
 use Rattle.mesh_types.proofs.Gathered.{Contains-filter}
 use Rattle.contour_mesh.proofs.RingWalks.{turn, turn_low, turn_high}
@@ -180,52 +180,52 @@ take_first : (xs : List ℕ) → 0 < length xs → take 1 xs ≡ get_or xs 0 0 �
 take_first [] some = absurd (omega (arith, some))
 take_first (x ∷ xs) some = refl
 
-abbrev pub AreNextStops : List UnitEdge → ℕ → ℕ → Type 0
-AreNextStops E i j = AreNext (length E) (does_change E) i j
+abbrev pub AreNextKept : List UnitEdge → ℕ → ℕ → Type 0
+AreNextKept E i j = AreNext (length E) (does_change E) i j
 
 module _ (E : List UnitEdge) (some : 0 < length (changes E)) where
-  stops_are : stops E ≡ changes E ++ (get_or (changes E) 0 0 + length E) ∷ []
-  unfolding stops kept_places
-  stops_are =
+  kept_round_are : kept_round E ≡ changes E ++ (get_or (changes E) 0 0 + length E) ∷ []
+  unfolding kept_round kept_places
+  kept_round_are =
       let kept : kept_places E ≡ changes E =
       cond-false (length (changes E) == 0) (extremes (beginnings E)) (changes E) (ne_eqb (length (changes E)) 0 (λ e. omega (arith, e, some))) in
       ap (λ (ks : List ℕ). ks ++ map (λ place. place + length E) (take 1 ks)) kept
       ∙ ap (λ (ks : List ℕ). changes E ++ map (λ place. place + length E) ks) (take_first (changes E) some)
 
-  runs_count : length (runs_between (stops E)) ≡ length (changes E)
+  runs_count : length (runs_between (kept_round E)) ≡ length (changes E)
   runs_count =
       omega (
         arith,
-        length-zip (stops E) (drop 1 (stops E)),
-        length-drop 1 (stops E),
-        ap length stops_are,
+        length-zip (kept_round E) (drop 1 (kept_round E)),
+        length-drop 1 (kept_round E),
+        ap length kept_round_are,
         length-append (changes E) ((get_or (changes E) 0 0 + length E) ∷ []),
       )
 
   run_at : (t : ℕ) (d : ℕ × ℕ) → t < length (changes E)
-      → get_or (runs_between (stops E)) t d ≡ (get_or (changes E) t 0, next_of (length E) (does_change E) t)
+      → get_or (runs_between (kept_round E)) t d ≡ (get_or (changes E) t 0, next_of (length E) (does_change E) t)
   run_at t d less =
       let cs : List ℕ = changes E in
       let more : List ℕ = (get_or cs 0 0 + length E) ∷ [] in
-      let many : length (stops E) ≡ length cs + 1 = ap length stops_are ∙ length-append cs more in
-      let first : get_or (stops E) t 0 ≡ get_or cs t 0 = ap (λ (ks : List ℕ). get_or ks t 0) stops_are ∙ get_or_append_left cs more 0 t less in
-      let second : get_or (drop 1 (stops E)) t 0 ≡ next_of (length E) (does_change E) t =
-      get_or-drop 1 (stops E) t 0
-      ∙ ap (λ (k : ℕ). get_or (stops E) k 0) {x = 1 + t} {y = t + 1} (omega arith)
-      ∙ ap (λ (ks : List ℕ). get_or ks (t + 1) 0) stops_are in
-      get_or_default (runs_between (stops E)) t d (0, 0) (omega (arith, less, runs_count))
-      ∙ get_or-zip (stops E) (drop 1 (stops E)) t (0, 0) (omega (arith, less, many)) (omega (arith, less, many, length-drop 1 (stops E)))
+      let many : length (kept_round E) ≡ length cs + 1 = ap length kept_round_are ∙ length-append cs more in
+      let first : get_or (kept_round E) t 0 ≡ get_or cs t 0 = ap (λ (ks : List ℕ). get_or ks t 0) kept_round_are ∙ get_or_append_left cs more 0 t less in
+      let second : get_or (drop 1 (kept_round E)) t 0 ≡ next_of (length E) (does_change E) t =
+      get_or-drop 1 (kept_round E) t 0
+      ∙ ap (λ (k : ℕ). get_or (kept_round E) k 0) {x = 1 + t} {y = t + 1} (omega arith)
+      ∙ ap (λ (ks : List ℕ). get_or ks (t + 1) 0) kept_round_are in
+      get_or_default (runs_between (kept_round E)) t d (0, 0) (omega (arith, less, runs_count))
+      ∙ get_or-zip (kept_round E) (drop 1 (kept_round E)) t (0, 0) (omega (arith, less, many)) (omega (arith, less, many, length-drop 1 (kept_round E)))
       ∙ (λ x. (first x, second x))
 
   -- each run leads from a place where the code changes to the next
-  pub runs_are_next : All (λ (run : ℕ × ℕ). AreNextStops E run.0 run.1) (runs_between (stops E))
+  pub runs_are_next : All (λ (run : ℕ × ℕ). AreNextKept E run.0 run.1) (runs_between (kept_round E))
   runs_are_next t d less =
       let less' : t < length (changes E) = omega (arith, less, runs_count) in
-      let P : ℕ × ℕ → Type 0 = λ run. AreNextStops E run.0 run.1 in
+      let P : ℕ × ℕ → Type 0 = λ run. AreNextKept E run.0 run.1 in
       subst P (sym (run_at t d less')) (next_is (length E) (does_change E) t less').next
 
   -- and each such run is listed
-  pub run_listed : (i j : ℕ) → AreNextStops E i j → Contains (runs_between (stops E)) (i, j)
+  pub run_listed : (i j : ℕ) → AreNextKept E i j → Contains (runs_between (kept_round E)) (i, j)
   run_listed i j is =
       let at = listed_next (length E) (does_change E) i j is in
       (at.place, omega (arith, at.there, runs_count), run_at at.place (i, j) at.there ∙ (λ x. (at.first x, at.next x)))

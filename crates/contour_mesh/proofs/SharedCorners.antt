@@ -11,13 +11,13 @@ use Rattle.mesh_types.specs.declared.region.UnitEdge.{UnitEdge}
 use Rattle.mesh_types.specs.Choices.{first_best_place}
 use Rattle.mesh_types.specs.LinkOrder.{is_point_before}
 use Rattle.mesh_types.specs.Rings.{AreApart, beginnings, place_before}
-use Rattle.mesh_types.specs.Simplified.{changes, deviates_more, deviates_over, does_change, kept_corners, kept_inside, kept_walking, left_of_run, origin, stops}
+use Rattle.mesh_types.specs.Simplified.{changes, deviates_more, deviates_over, does_change, kept_corners, kept_inside, kept_walking, left_of_run, origin, kept_round}
 use Rattle.mesh_types.specs.Words.{runs_between, twice_round}
 use Rattle.mesh_types.proofs.Gathered.{Contains-flat_map}
 use Rattle.contour_simplify.proofs.Bests.{best_there}
 use Rattle.contour_simplify.proofs.Deviations.{deviations_order}
 use Rattle.contour_simplify.proofs.Mirrored.{mirrored}
-use Rattle.contour_mesh.proofs.RingStops.{AreNext, AreNextStops, index_of, next_is, next_of, run_listed, runs_are_next}
+use Rattle.contour_mesh.proofs.RingStops.{AreNext, AreNextKept, index_of, next_is, next_of, run_listed, runs_are_next}
 use Rattle.contour_mesh.proofs.RingWalks.{HasCode, IsBack, RunAlong, before_after, begins_back, corners_back, edge_at, ends_back, not_changed, one_place, some_edge, stays_back, turn, turn_high, turn_inside, turn_low, turn_next, unchanged}
 
 -- ---- what a run keeps are corners of it
@@ -144,7 +144,7 @@ run_coded E i j there round stays (suc u) less =
     ∙ ap (λ k. (edge_at E k).code) before
     ∙ run_coded E i j there round stays u (omega (arith, less))
 
-run_with : (E : List UnitEdge) (i j : ℕ) → AreNextStops E i j → IsRunWith E (edge_at E i).code i (j - i)
+run_with : (E : List UnitEdge) (i j : ℕ) → AreNextKept E i j → IsRunWith E (edge_at E i).code i (j - i)
 run_with E i j is =
     let n : ℕ = length E in
     let c : Code = (edge_at E i).code in
@@ -176,10 +176,10 @@ change_kept E some error k there changes' =
     let n : ℕ = length E in
     let w = index_of n (does_change E) k there changes' in
     let j : ℕ = next_of n (does_change E) w.0 in
-    let next : AreNextStops E k j = subst (λ i. AreNext n (does_change E) i j) w.2 (next_is n (does_change E) w.0 w.1).next in
+    let next : AreNextKept E k j = subst (λ i. AreNext n (does_change E) i j) w.2 (next_is n (does_change E) w.0 w.1).next in
     let x : Point = (edge_at E k).from in
     let corner : corner_at E k ≡ x = ap (λ i. (edge_at E i).from) (turn_low n k there) in
-    Contains-flat_map (left_of_run error (twice_round E)) (runs_between (stops E)) (k, j) x (run_listed E some k j next)
+    Contains-flat_map (left_of_run error (twice_round E)) (runs_between (kept_round E)) (k, j) x (run_listed E some k j next)
     (subst (λ ps. Contains ps x) (sym (left_is error E k j there next.round)) (0, omega arith, corner))
 
 -- what is gathered comes from one of the parts
@@ -206,7 +206,7 @@ record IsOfRun (E : List UnitEdge) (i j : ℕ) (x : Point) : Type 0 where
 record IsKeptBy (error : ℕ) (E : List UnitEdge) (x : Point) : Type 0 where
   begin : ℕ
   end : ℕ
-  next : AreNextStops E begin end
+  next : AreNextKept E begin end
   left : Contains (left_of_run error (twice_round E) (begin, end)) x
   step : ℕ
   within : begin + step < end
@@ -235,9 +235,9 @@ of_run error E i j less there round x held =
 kept_from : (E : List UnitEdge) → 0 < length (changes E) → (error : ℕ) (x : Point) → Contains (kept_corners error E) x → IsKeptBy error E x
 unfolding kept_corners
 kept_from E some error x held =
-    let from = comes_from (left_of_run error (twice_round E)) (runs_between (stops E)) x held in
-    let P : ℕ × ℕ → Type 0 = λ run. AreNextStops E run.0 run.1 in
-    let next = All-contains P (runs_between (stops E)) from.part (runs_are_next E some) from.listed in
+    let from = comes_from (left_of_run error (twice_round E)) (runs_between (kept_round E)) x held in
+    let P : ℕ × ℕ → Type 0 = λ run. AreNextKept E run.0 run.1 in
+    let next = All-contains P (runs_between (kept_round E)) from.part (runs_are_next E some) from.listed in
     let of = of_run error E from.part.0 from.part.1 next.later next.there next.round x from.held in
     record { begin = from.part.0; end = from.part.1; next = next; left = from.held; step = of.step; within = of.within; corner = of.corner }
 
@@ -247,7 +247,7 @@ module _ (E F : List UnitEdge) (c d : Code) (are : RunAlong E F c d) where
   -- a run, as the other ring has it
   record IsOther (i size : ℕ) : Type 0 where
     place : ℕ
-    next : AreNextStops F place (place + size)
+    next : AreNextKept F place (place + size)
     back : IsBack (edge_at E (turn (length E) (i + (size - 1)))) (edge_at F place) d
 
   other_run : (i size : ℕ) → IsRunWith E c i size → IsOther i size
@@ -310,7 +310,7 @@ module _ (E F : List UnitEdge) (c d : Code) (are : RunAlong E F c d) where
       ∙ sym (get_or-reverse (inner_of E i (i + size)) v origin (omega (arith, own, v-in))))
 
   -- what the one run keeps, the other ring keeps
-  transfer : (error i j : ℕ) → 0 < length (changes F) → AreNextStops E i j → (edge_at E i).code ≡ c → (x : Point)
+  transfer : (error i j : ℕ) → 0 < length (changes F) → AreNextKept E i j → (edge_at E i).code ≡ c → (x : Point)
       → Contains (left_of_run error (twice_round E) (i, j)) x → Contains (kept_corners error F) x
   unfolding kept_corners
   transfer error i j some next coded x held =
@@ -346,7 +346,7 @@ module _ (E F : List UnitEdge) (c d : Code) (are : RunAlong E F c d) where
             subst (λ ps. Contains ps x) (sym (left_is error F s (s + size) other.next.there other.next.round))
             (Contains-append_right (corner_at F s ∷ []) (kept_inside error (corner_at F s) (inner_of F s (s + size)) (corner_at F (s + size))) x
             (subst (λ ps. Contains ps x) (sym same) (Contains-reverse own x rest))) in
-            Contains-flat_map (left_of_run error (twice_round F)) (runs_between (stops F)) (s, s + size) x (run_listed F some s (s + size) other.next) inside
+            Contains-flat_map (left_of_run error (twice_round F)) (runs_between (kept_round F)) (s, s + size) x (run_listed F some s (s + size) other.next) inside
       ]
 
   -- so a corner where an edge of the one ring begins that is one of the other's is kept by both

@@ -23,7 +23,7 @@ use Rattle.mesh_types.specs.declared.region.Code.TheVariants.{Wall, Region, Side
 use Rattle.mesh_types.specs.declared.region.Region as regions_types
 use Rattle.mesh_types.specs.declared.region.Regions.{Regions}
 use Rattle.mesh_types.specs.declared.region.UnitEdge.{UnitEdge}
-use Rattle.mesh_types.specs.declared.strip.Strip.{Strip}
+use Rattle.mesh_types.specs.declared.region.Strip.{Strip}
 use Rattle.mesh_types.specs.Contours.{cell_in, code_beyond, edge_beginning, edge_ending, edge_of, is_rim, places_in, region_at, region_beyond, rim_edges_of, rim_of, contour_of}
 use Rattle.mesh_types.specs.DoorRim.{is_on_line, point_position}
 use Rattle.mesh_types.specs.Regions.{AreRegionsOf, is_holding, place_in, times_held}

@@ -12,10 +12,10 @@ use Rattle.nav_ground.specs.Cells.{IsCells}
 use Rattle.nav_ground.proofs.Kept.{AllPairs-map}
 use Rattle.mesh_types.specs.declared.region.Regions.{Regions}
 use Rattle.mesh_types.specs.declared.region.UnitEdge.{UnitEdge}
-use Rattle.mesh_types.specs.declared.outline.Outline as outlines
-use Rattle.mesh_types.specs.declared.outline.Triangle.{Triangle}
-use Rattle.mesh_types.specs.declared.outline.Simplified.TheVariants.{Flat, Outline}
-use Rattle.mesh_types.specs.declared.door.Part.{Part}
+use Rattle.mesh_types.specs.declared.region.Outline as outlines
+use Rattle.mesh_types.specs.declared.region.Triangle.{Triangle}
+use Rattle.mesh_types.specs.declared.region.Simplified.TheVariants.{Flat, Outline}
+use Rattle.mesh_types.specs.declared.region.RegionPart.{RegionPart}
 use Rattle.mesh_types.specs.Regions.{AreRegionsOf}
 use Rattle.mesh_types.specs.Rings.{AreApart, IsRing, beginnings}
 use Rattle.mesh_types.specs.Simplified.{begins_among, kept_corners, kept_edges, simplified_of}
@@ -30,13 +30,13 @@ use Rattle.mesh_types.proofs.UnionEdges.{merged-once, merged-outline}
 use Rattle.contour_walk.proofs.ContourRings.{contour_ring}
 
 -- an outline of different corners, and its pieces
-pub record IsSoundPart (part : Part) : Type 0 where
+pub record IsSoundPart (part : RegionPart) : Type 0 where
   pub apart : AllPairs AreApart part.outline.corners
   pub once : HaveEdgesOnce part.pieces
   pub outline : KeepOutline part.outline.corners part.pieces
 
 cut_sound : (outline : outlines.Outline) → AllPairs AreApart outline.corners → 3 ≤ length outline.corners → (r : Result (List Triangle) (List ℕ)) → ears_of outline.corners ≡ r
-    → (part : Part) → cut_part outline r ≡ Some part → IsSoundPart part
+    → (part : RegionPart) → cut_part outline r ≡ Some part → IsSoundPart part
 cut_sound outline apart enough (Ok triangles) is part same =
     let at : record { outline = outline; pieces = merged outline.corners triangles } ≡ part = cc in
     subst IsSoundPart at (record {
@@ -53,7 +53,7 @@ begin_apart edges ring i j d less there same =
     λ k below. get_or-map (λ (edge : UnitEdge). edge.from) edges k d d.from below in
     ring.apart i j d.from less (omega (arith, there, length-map edges (λ (edge : UnitEdge). edge.from))) (at i (omega (arith, less, there)) ∙ same ∙ sym (at j there))
 
-simplified_sound : (error : ℕ) (edges : List UnitEdge) → IsRing edges → (part : Part) → part_of (simplified_of error edges) ≡ Some part → IsSoundPart part
+simplified_sound : (error : ℕ) (edges : List UnitEdge) → IsRing edges → (part : RegionPart) → part_of (simplified_of error edges) ≡ Some part → IsSoundPart part
 unfolding simplified_of kept_edges
 simplified_sound error edges ring part is = by_case (nat_lt (length kept) 3) refl is
   where
@@ -71,7 +71,7 @@ simplified_sound error edges ring part is = by_case (nat_lt (length kept) 3) ref
         (ears_of (beginnings kept)) refl part same
 
 -- the parts of all regions
-pub parts_sound : (window : Window) (error : ℕ) (cells : List Cell) → IsCells cells → (regions : Regions) → AreRegionsOf cells regions → (parts : List Part)
+pub parts_sound : (window : Window) (error : ℕ) (cells : List Cell) → IsCells cells → (regions : Regions) → AreRegionsOf cells regions → (parts : List RegionPart)
     → parts_of window error cells regions ≡ Some parts → All IsSoundPart parts
 unfolding parts_of
 parts_sound window error cells rules' regions are parts is = by_case (list_all (λ id. is_some (region_part window error cells regions id)) (region_numbers regions)) is
@@ -79,7 +79,7 @@ parts_sound window error cells rules' regions are parts is = by_case (list_all (
     count : length (region_numbers regions) ≡ length regions.regions
     count = length-range_with_len 0 (length regions.regions)
 
-    found : List Part
+    found : List RegionPart
     found = filter_map (region_part window error cells regions) (region_numbers regions)
 
     each : All IsSoundPart found

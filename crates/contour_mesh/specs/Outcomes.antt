@@ -2,11 +2,11 @@
 use Rattle.std.specs.Prelude.{◌≡◌, Some, None}
 use Rattle.nav_ground.specs.declared.setting.Setting.{Setting}
 use Rattle.nav_ground.specs.declared.cell.FreeLayer.{FreeLayer}
-use Rattle.mesh_types.specs.declared.tile.TileMesh.{TileMesh}
+use Rattle.mesh_types.specs.declared.mesh.TileMesh.{TileMesh}
 use Rattle.mesh_types.specs.ContourMeshes.{contour_mesh_of}
 use Rattle.mono_regions.specs.Joining.{IsTableOf}
-use Rattle.contour_mesh.specs.declared.outcome.ContourMesh.{ContourMesh}
-use Rattle.contour_mesh.specs.declared.outcome.ContourMesh.TheVariants.{Made, NotCut}
+use Rattle.contour_mesh.specs.declared.build.ContourMesh.{ContourMesh}
+use Rattle.contour_mesh.specs.declared.build.ContourMesh.TheVariants.{Made, NotCut}
 
 -- the mesh by the outlines where each region has one that can be cut, and otherwise the free cells again, with their strips
 abbrev pub IsMeshOrCells : Setting → FreeLayer → ContourMesh → Type 0

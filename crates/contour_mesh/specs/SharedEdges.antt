@@ -5,8 +5,8 @@ use Rattle.nav_base.specs.Convex.{corner_at, place_after}
 use Rattle.nav_ground.specs.declared.cell.FreeLayer.{FreeLayer}
 use Rattle.nav_ground.specs.declared.setting.Setting.{Setting}
 use Rattle.nav_ground.specs.Tiling.{tile_window}
-use Rattle.mesh_types.specs.declared.door.Part.{Part}
-use Rattle.mesh_types.specs.declared.outline.Outline as outlines
+use Rattle.mesh_types.specs.declared.region.RegionPart.{RegionPart}
+use Rattle.mesh_types.specs.declared.region.Outline as outlines
 use Rattle.mesh_types.specs.declared.region.Code.{Code}
 use Rattle.mesh_types.specs.declared.region.Code.TheVariants.{Region}
 use Rattle.mesh_types.specs.Parts.{parts_of}
@@ -22,7 +22,7 @@ pub record HasEdge (outline : outlines.Outline) (from to : Point) (code : Code) 
   pub coded : slice_get outline.codes place ≡ Some code
 
 -- where the outline of a region has an edge along another region, that region's outline has the edge the other way round, along the first
-abbrev pub ShareEdges : List Part → Type 0
+abbrev pub ShareEdges : List RegionPart → Type 0
 ShareEdges parts =
     (p q : ℕ) (from to : Point) → p < length parts → q < length parts
     → HasEdge (get_or parts p no_part).outline from to (Region q) → HasEdge (get_or parts q no_part).outline to from (Region p)
@@ -30,4 +30,4 @@ ShareEdges parts =
 -- the outlines of the regions of a tile's free cells do so
 abbrev pub OutlinesShareEdges : Setting → FreeLayer → Type 0
 OutlinesShareEdges setting free =
-    (parts : List Part) → parts_of (tile_window setting free.tile) setting.error free.cells (regions_of free.cells) ≡ Some parts → ShareEdges parts
+    (parts : List RegionPart) → parts_of (tile_window setting free.tile) setting.error free.cells (regions_of free.cells) ≡ Some parts → ShareEdges parts

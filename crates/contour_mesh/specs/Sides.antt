@@ -1,7 +1,7 @@
 -- Sides: windows of tiles, and doors along their sides.
 use Rattle.std.specs.Prelude.{ℕ, nat_lt, ◌&&◌, if◌then◌else◌, pos, ◌<ℤ◌, ◌≤ℤ◌, Option, Some, None}
 use Rattle.nav_ground.specs.declared.cell.Window.{Window}
-use Rattle.mesh_types.specs.declared.door.Door.{Door}
+use Rattle.mesh_types.specs.declared.region.PortalEdge.{PortalEdge}
 use Rattle.mesh_types.specs.DoorRim.{is_on_line}
 
 -- the last columns of a tile are columns of the largest field
@@ -12,6 +12,6 @@ pub record IsFieldWindow (window : Window) : Type 0 where
   pub top_most : window.z1 <ℤ pos 1024
 
 -- a side of the tile, if it is one and a door lies on it
-abbrev pub side_along : Window → ℕ → Door → Option ℕ
+abbrev pub side_along : Window → ℕ → PortalEdge → Option ℕ
 side_along window side door =
     if nat_lt side 4 && is_on_line window side door.begin && is_on_line window side door.end then Some side else None

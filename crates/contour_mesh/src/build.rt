@@ -1,4 +1,4 @@
-//! The mesh of a tile by the outlines of its regions.
+//! The mesh of a tile by the outlines of its regions. What comes of meshing a tile by the outlines of its regions.
 
 ghost use Rattle.std.specs.Prelude.{◌≡◌, ◌<◌, ◌≤◌, IfOk, All, length, map};
 ghost use Rattle.nav_ground.specs.Limits.{IsSetting};
@@ -13,29 +13,27 @@ ghost use Rattle.mesh_types.specs.Facets.{facet_polygon, facets_of};
 ghost use Rattle.mesh_types.specs.ContourMeshes.{parts_mesh};
 ghost use Rattle.contour_walk.specs.Tables.{IsRim, IsTableOf};
 ghost use Rattle.mono_regions.specs.Joining as strip_tables;
-ghost use Rattle.contour_mesh.specs.declared.outcome.ContourMesh.{ContourMesh};
+ghost use Rattle.contour_mesh.specs.declared.build.ContourMesh.{ContourMesh};
 ghost use Rattle.contour_mesh.specs.Outcomes.{IsMeshOrCells, IfMade};
 ghost use Rattle.contour_mesh.specs.Linked.{LinksFacing};
 ghost use Rattle.contour_mesh.specs.Parts.{IsCutPart};
 ghost use Rattle.contour_mesh.specs.SharedEdges.{OutlinesShareEdges};
 ghost use Rattle.contour_mesh.specs.Orders.{JoinsCorners, MeetsFacing};
 ghost use Rattle.contour_mesh.specs.Sides.{IsFieldWindow};
-ghost use Rattle.mesh_types.specs.declared.door.Door.{Door};
+ghost use Rattle.mesh_types.specs.declared.region.PortalEdge.{PortalEdge};
 ghost use Rattle.nav_ground.specs.declared.setting.Setting.{Setting};
 
+use crate::crossings::side_tables;
 use crate::doors::doors;
-use crate::footings::footings;
 use crate::links::door_links;
-use crate::outcome::ContourMesh;
-use crate::parts::parts;
-use crate::placed::side_tables;
+use crate::parts::{footings, parts};
 use crate::polygons::polygons;
 use crate::rim::door_rim;
-use contour_walk::{RegionTable, Rim, region_table_over};
-use mesh_types::{Door, Links, Part, Polygons, Regions, RimEdge, TileMesh};
+use contour_walk::{RegionRim, RegionTable, region_table_over};
+use mesh_types::{Links, Polygons, PortalEdge, RegionPart, Regions, RimEdge, TileMesh};
 use mono_regions::{StripIndex, StripTable, regions_over, tabled_strips};
-use nav_ground::{FreeLayer, KeptLayer, Setting, TileNo};
-use nav_list::Items;
+use nav_ground::{FreeLayer, PackedFreeLayer, Setting, TileNo};
+use nav_lists::Items;
 use std::alloc::{AllocError, Global};
 
 /// The mesh of a tile by the outlines of its regions, from its free cells, which it takes over: the pieces of each outline as polygons, the
@@ -68,7 +66,7 @@ pub fn contour_mesh_over(
         index,
     } = strips;
     let table = region_table_over(alloc, &free, setting, &regions, neighbours)?;
-    let tables = TileTables {
+    let tables = RegionTables {
         regions: table,
         strips: index,
     };
@@ -77,7 +75,7 @@ pub fn contour_mesh_over(
 
 /// The tables of a tile: that of its regions, which has the neighbour table too, and where its strips begin.
 #[derive(Drop)]
-struct TileTables {
+struct RegionTables {
     regions: RegionTable,
     strips: StripIndex,
 }
@@ -88,7 +86,7 @@ fn mesh_over_regions(
     free: FreeLayer,
     setting: &Setting,
     regions: &Regions,
-    tables: TileTables,
+    tables: RegionTables,
 ) -> Result<ContourMesh, AllocError>
     requires setting { IsSetting setting.now }
     requires cells { IsCut free.cells }
@@ -105,7 +103,7 @@ fn mesh_over_regions(
     ensures listed { IfOk result (IfMade (ListsCrossings setting.now)) }
 {
     let cells = free.cells.as_slice();
-    let source = Rim {
+    let source = RegionRim {
         cells,
         regions,
         table: &tables.regions,
@@ -120,10 +118,10 @@ fn mesh_over_regions(
 }
 
 /// The free cells again, with their strips.
-fn not_cut(free: FreeLayer, tables: TileTables) -> ContourMesh
+fn not_cut(free: FreeLayer, tables: RegionTables) -> ContourMesh
     ensures { result ≡ ContourMesh.NotCut free (record { table = tables.regions.neighbours; index = tables.strips }) }
 {
-    let TileTables {
+    let RegionTables {
         regions,
         strips: index,
     } = tables;
@@ -140,7 +138,7 @@ fn mesh(
     free: FreeLayer,
     regions: &Regions,
     table: &RegionTable,
-    parts: &[Part],
+    parts: &[RegionPart],
 ) -> Result<TileMesh, AllocError>
     requires cells { IsCells free.cells }
     requires regions { AreRegionsOf free.cells regions.now }
@@ -152,17 +150,17 @@ fn mesh(
     ensures { IfOk result (λ mesh. (setting : Setting) → table.now.window ≡ tile_window setting free.tile → mesh ≡ parts_mesh setting free regions.now parts.now) }
 {
     let cells = free.cells.as_slice();
-    let source = Rim {
+    let source = RegionRim {
         cells,
         regions,
         table,
     };
     let polys = part_polygons(alloc, source, parts)?;
     let count = polys.len() as u32;
-    let WaysOut { links, rim } = part_ways(alloc, source, parts, free.tile, count)?;
+    let DoorLinks { links, rim } = part_ways(alloc, source, parts, free.tile, count)?;
     Ok(TileMesh {
         tile: free.tile,
-        free: KeptLayer::own(free),
+        free: PackedFreeLayer::own(free),
         polys,
         links,
         rim,
@@ -170,7 +168,11 @@ fn mesh(
 }
 
 /// The polygons of parts.
-fn part_polygons(alloc: Global, source: Rim, parts: &[Part]) -> Result<Polygons, AllocError>
+fn part_polygons(
+    alloc: Global,
+    source: RegionRim,
+    parts: &[RegionPart],
+) -> Result<Polygons, AllocError>
     requires rim { IsRim source }
     requires parts { All IsCutPart parts.now }
     requires each { length parts.now ≤ length source.regions.now.regions }
@@ -182,7 +184,7 @@ fn part_polygons(alloc: Global, source: Rim, parts: &[Part]) -> Result<Polygons,
 
 /// The ways out of polygons: to others of the tile, and to its sides.
 #[derive(Drop)]
-struct WaysOut {
+struct DoorLinks {
     links: Links,
     rim: Items<RimEdge>,
 }
@@ -190,11 +192,11 @@ struct WaysOut {
 /// The ways out of the polygons of parts, of which there are so many.
 fn part_ways(
     alloc: Global,
-    source: Rim,
-    parts: &[Part],
+    source: RegionRim,
+    parts: &[RegionPart],
     tile: TileNo,
     polygons: u32,
-) -> Result<WaysOut, AllocError>
+) -> Result<DoorLinks, AllocError>
     requires rim { IsRim source }
     requires regions { AreRegionsOf source.cells.now source.regions.now }
     requires window { IsFieldWindow source.table.now.window }
@@ -209,15 +211,24 @@ fn part_ways(
     let doors = doors.as_slice();
     let links = door_links(alloc, doors, tile, polygons)?;
     let rim = rim(alloc, source, doors)?;
-    Ok(WaysOut { links, rim })
+    Ok(DoorLinks { links, rim })
 }
 
 /// What the rim lists for doors.
-fn rim(alloc: Global, source: Rim, doors: &[Door]) -> Result<Items<RimEdge>, AllocError>
+fn rim(alloc: Global, source: RegionRim, doors: &[PortalEdge]) -> Result<Items<RimEdge>, AllocError>
     requires rim { IsRim source }
     requires window { IsFieldWindow source.table.now.window }
     ensures { IfOk result (λ rim. rim ≡ door_rim source.entry.table.now.window source.entry.cells.now source.entry.regions.now doors.now) }
 {
     let tables = side_tables(alloc, source.cells, source.regions, source.table, doors)?;
     door_rim(alloc, &source.table.window, &tables, doors)
+}
+
+/// The mesh of a tile by the outlines of its regions, or the tile's free cells again.
+#[derive(Drop)]
+pub enum ContourMesh {
+    /// Each region has an outline that can be cut.
+    Made(TileMesh),
+    /// Some region has no outline, or one that cannot be cut: the free cells as they were handed in, and their strips.
+    NotCut { free: FreeLayer, strips: StripTable },
 }

@@ -16,18 +16,9 @@
 mod build;
 mod crossings;
 mod doors;
-mod facing;
-mod footing;
-mod footings;
 mod links;
-mod outcome;
 mod parts;
-mod placed;
 mod polygons;
 mod rim;
-mod side_place;
-mod side_tables;
-mod sides;
 
-pub use build::contour_mesh_over;
-pub use outcome::ContourMesh;
+pub use build::{ContourMesh, contour_mesh_over};

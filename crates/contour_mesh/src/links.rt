@@ -4,13 +4,13 @@ ghost use Rattle.std.specs.Prelude.{◌≡◌, ◌<◌, ◌++◌, [], IfOk, OnOk
 ghost use Rattle.std.specs.Option.{option_map};
 ghost use Rattle.std.specs.List.{cons_option, filter_map};
 ghost use Rattle.nav_base.specs.Point.{IsCellCorner};
-ghost use Rattle.mesh_types.specs.declared.door.Door.{Door};
+ghost use Rattle.mesh_types.specs.declared.region.PortalEdge.{PortalEdge};
 ghost use Rattle.mesh_types.specs.BorderLinks.{scaled};
 ghost use Rattle.mesh_types.specs.Doors.{door_link, door_links, link_through};
 ghost use Rattle.contour_mesh.specs.Orders.{IsSortOf, door_begins_before, MeetsFacing, JoinsCorners};
 
-use crate::facing::{by_begin, facing};
-use mesh_types::{Door, Link, Links, PolyRef, Portal, order_links};
+use crate::doors::{by_begin, facing};
+use mesh_types::{Link, Links, PolyRef, Portal, PortalEdge, order_links};
 use nav_base::Point;
 use nav_ground::TileNo;
 use std::alloc::{AllocError, Global};
@@ -18,13 +18,13 @@ use std::alloc::{AllocError, Global};
 /// The links through the doors of a tile, in order: one through each door that faces another.
 pub fn door_links(
     alloc: Global,
-    doors: &[Door],
+    doors: &[PortalEdge],
     tile: TileNo,
     polygons: u32,
 ) -> Result<Links, AllocError>
     requires meet { All (MeetsFacing doors.now) doors.now }
     requires corners { All JoinsCorners doors.now }
-    requires polygons { All (λ (door : Door). door.polygon < polygons) doors.now }
+    requires polygons { All (λ (door : PortalEdge). door.polygon < polygons) doors.now }
     ensures { IfOk result (λ links. links ≡ door_links tile doors.now) }
 {
     let links = links_in_order(alloc, doors, tile)?;
@@ -32,7 +32,11 @@ pub fn door_links(
 }
 
 /// The links as a vector, in order.
-fn links_in_order(alloc: Global, doors: &[Door], tile: TileNo) -> Result<Vec<Link>, AllocError>
+fn links_in_order(
+    alloc: Global,
+    doors: &[PortalEdge],
+    tile: TileNo,
+) -> Result<Vec<Link>, AllocError>
     requires meet { All (MeetsFacing doors.now) doors.now }
     requires corners { All JoinsCorners doors.now }
     ensures { IfOk result (λ links. links.items ≡ door_links tile doors.now) }
@@ -46,8 +50,8 @@ fn links_in_order(alloc: Global, doors: &[Door], tile: TileNo) -> Result<Vec<Lin
 /// The links door by door.
 fn loose_links(
     alloc: Global,
-    doors: &[Door],
-    by_begin: &[Door],
+    doors: &[PortalEdge],
+    by_begin: &[PortalEdge],
     tile: TileNo,
 ) -> Result<Vec<Link>, AllocError>
     requires meet { All (MeetsFacing doors.now) doors.now }
@@ -66,8 +70,8 @@ fn loose_links(
 fn push_link(
     links: &mut Vec<Link>,
     tile: TileNo,
-    door: &Door,
-    other: Option<Door>,
+    door: &PortalEdge,
+    other: Option<PortalEdge>,
 ) -> Result<(), AllocError>
     requires { JoinsCorners door.now }
     ensures { OnOk result (links.new.items ≡ links.old.items ++ cons_option (option_map (door_link tile door.now) other) []) }
@@ -79,7 +83,7 @@ fn push_link(
 }
 
 /// The link from a door to another. Its portal is the whole edge.
-fn door_link(tile: TileNo, door: &Door, other: &Door) -> Link
+fn door_link(tile: TileNo, door: &PortalEdge, other: &PortalEdge) -> Link
     requires { JoinsCorners door.now }
     ensures { result ≡ door_link tile door.now other.now }
 {

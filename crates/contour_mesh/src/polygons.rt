@@ -1,22 +1,21 @@
 //! The polygons of a tile's parts.
 
 ghost use Rattle.std.specs.Prelude.{◌≡◌, ◌<◌, ◌≤◌, ◌++◌, IfOk, OnOk, Option, All, length, map};
-ghost use Rattle.mesh_types.specs.declared.outline.Piece.{Piece};
+ghost use Rattle.mesh_types.specs.declared.region.Piece.{Piece};
 ghost use Rattle.mesh_types.specs.Facets.{facets_of};
 ghost use Rattle.contour_mesh.specs.Parts.{IsCutPart};
 ghost use Rattle.contour_mesh.specs.Footings.{polygon_over, facet_over_footing};
 
-use crate::footing::Footing;
-use crate::footings::footing_at;
-use mesh_types::{Corners, Part, Polygon, Polygons};
+use crate::parts::{RegionFloors, footing_at};
+use mesh_types::{Corners, Polygon, Polygons, RegionPart};
 use nav_base::Point;
 use std::alloc::{AllocError, Global};
 
 /// The polygons of a tile: a polygon for each piece of each part, over the footing of its region.
 pub fn polygons(
     alloc: Global,
-    parts: &[Part],
-    footings: &[Option<Footing>],
+    parts: &[RegionPart],
+    footings: &[Option<RegionFloors>],
 ) -> Result<Polygons, AllocError>
     requires parts { All IsCutPart parts.now }
     requires footings { length parts.now ≤ length footings.now }
@@ -33,8 +32,8 @@ pub fn polygons(
 
 /// Appends the polygons of a part. The corners are room to work in.
 fn push_polygons(
-    part: &Part,
-    footing: Footing,
+    part: &RegionPart,
+    footing: RegionFloors,
     corners: &mut Vec<Point>,
     polys: &mut Vec<Polygon>,
 ) -> Result<(), AllocError>
@@ -54,7 +53,7 @@ fn push_polygons(
 /// The polygon with these places of an outline as its corners. The corners are room to work in.
 fn polygon_over(
     outline: &[Point],
-    footing: Footing,
+    footing: RegionFloors,
     places: &[u32],
     corners: &mut Vec<Point>,
 ) -> Result<Polygon, AllocError>

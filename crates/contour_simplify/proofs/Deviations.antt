@@ -11,7 +11,7 @@ use Rattle.nav_base.specs.declared.deviation.Deviation.{Deviation}
 use Rattle.nav_base.specs.Deviation.{Exceeds, IsLess, deviation_of}
 use Rattle.nav_base.proofs.FractionLaws.{IsLess-asymmetric, IsLess-negatively_transitive, Exceeds-not_less, IsFraction-deviation_of}
 use Rattle.mesh_types.specs.Simplified.{origin, deviates_more, deviates_over}
-use Rattle.contour_simplify.specs.declared.run.Half.{Half}
+use Rattle.contour_simplify.specs.declared.run.RunHalf.{RunHalf}
 use Rattle.contour_simplify.specs.Halves.{IsStraight, IsSplit}
 use Rattle.contour_simplify.proofs.Bests.{best_is}
 
@@ -77,7 +77,7 @@ module _ (a b : Point) where
       (over_is error (get_or inner k e) over))))
 
 -- the half is split at its first corner of greatest deviation where that exceeds the error, and is straight otherwise
-pub split_is : (error : ℕ) (half : Half) (place : ℕ) (d : Point) → IsFirstBest (deviates_more half.first half.last) half.inner.now (length half.inner.now) place
+pub split_is : (error : ℕ) (half : RunHalf) (place : ℕ) (d : Point) → IsFirstBest (deviates_more half.first half.last) half.inner.now (length half.inner.now) place
     → Exceeds (deviation_of half.first half.last (get_or half.inner.now place d)) error → IsSplit error half place
 split_is error half place d best exceeds = record {
   some = some_over half.first half.last error half.inner.now place d best.0 exceeds;
@@ -85,6 +85,6 @@ split_is error half place d best exceeds = record {
   best = best_is (deviates_more half.first half.last) half.inner.now place d best;
 }
 
-pub straight_is : (error : ℕ) (half : Half) (place : ℕ) (d : Point) → IsFirstBest (deviates_more half.first half.last) half.inner.now (length half.inner.now) place
+pub straight_is : (error : ℕ) (half : RunHalf) (place : ℕ) (d : Point) → IsFirstBest (deviates_more half.first half.last) half.inner.now (length half.inner.now) place
     → ¬ (Exceeds (deviation_of half.first half.last (get_or half.inner.now place d)) error) → IsStraight error half
 straight_is error half place d best never = record { none = none_over half.first half.last error half.inner.now place d best never }

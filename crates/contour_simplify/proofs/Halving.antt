@@ -9,7 +9,7 @@ use Rattle.nav_base.specs.declared.point.Point.{Point}
 use Rattle.nav_base.specs.Point.{IsCellCorner}
 use Rattle.mesh_types.specs.Choices.{first_best_place}
 use Rattle.mesh_types.specs.Simplified.{deviates_more, deviates_over, kept_walking}
-use Rattle.contour_simplify.specs.declared.run.Half.{Half}
+use Rattle.contour_simplify.specs.declared.run.RunHalf.{RunHalf}
 use Rattle.contour_simplify.specs.Halves.{IsHalf, IsPart, IsStraight, IsSplit}
 use Rattle.contour_simplify.proofs.Bests.{best_there}
 use Rattle.contour_simplify.proofs.Deviations.{deviations_order}
@@ -75,16 +75,16 @@ unfolding kept_walking
 straight error a inner b none = enough error (length inner) (suc (length inner)) a inner b (omega arith) (omega arith) ∙ rw none refl
 
 -- what a half leaves, with its last corner
-abbrev pub left_of : ℕ → Half → List Point
+abbrev pub left_of : ℕ → RunHalf → List Point
 left_of error half = kept_walking (length half.inner.now) error half.first half.inner.now half.last ++ half.last ∷ []
 
-left_part : (error : ℕ) (half : Half) (a : Point) (inner : List Point) (b : Point) → IsPart half a inner b → left_of error half ≡ whole error a inner b ++ b ∷ []
+left_part : (error : ℕ) (half : RunHalf) (a : Point) (inner : List Point) (b : Point) → IsPart half a inner b → left_of error half ≡ whole error a inner b ++ b ∷ []
 left_part error half a inner b is = rw (is.begins, is.between, is.ends) refl
 
-pub left_straight : (error : ℕ) (half : Half) → IsStraight error half → left_of error half ≡ half.last ∷ []
+pub left_straight : (error : ℕ) (half : RunHalf) → IsStraight error half → left_of error half ≡ half.last ∷ []
 left_straight error half is = ap (λ kept. kept ++ half.last ∷ []) (straight error half.first half.inner.now half.last is.none)
 
-pub left_split : (error : ℕ) (half before after : Half) (place : ℕ) (d : Point) → IsSplit error half place
+pub left_split : (error : ℕ) (half before after : RunHalf) (place : ℕ) (d : Point) → IsSplit error half place
     → IsPart before half.first (take place half.inner.now) (get_or half.inner.now place d)
     → IsPart after (get_or half.inner.now place d) (drop (place + 1) half.inner.now) half.last
     → left_of error half ≡ left_of error before ++ left_of error after
@@ -100,7 +100,7 @@ left_split error half before after place d is first second =
     regrouped left right at last = append_assoc left (at ∷ right) (last ∷ []) ∙ sym (append_assoc left (at ∷ []) (right ++ last ∷ []))
 
 -- a number that is less for two halves than for the whole
-abbrev pub size_of : Half → ℕ
+abbrev pub size_of : RunHalf → ℕ
 size_of half = 2 * length half.inner.now + 1
 
 -- the top of the stack comes first
@@ -108,7 +108,7 @@ pub top_first : {X Y : Type 0} (f : X → List Y) (rest : List X) (top : X) → 
 top_first f rest top = ap (flat_map f) (reverse-append rest (top ∷ []))
 
 -- both halves together are smaller
-pub smaller : (half before after : Half) (place : ℕ) (a b : Point) → place < length half.inner.now
+pub smaller : (half before after : RunHalf) (place : ℕ) (a b : Point) → place < length half.inner.now
     → IsPart before half.first (take place half.inner.now) a → IsPart after b (drop (place + 1) half.inner.now) half.last
     → size_of before + size_of after < size_of half
 smaller half before after place a b there first second =
@@ -122,7 +122,7 @@ smaller half before after place a b there first second =
     )
 
 -- the corners of a half are corners of the half that is split
-part_corners : (part : Half) (a : Point) (inner : List Point) (b : Point) → IsPart part a inner b → IsCellCorner a → All IsCellCorner inner → IsCellCorner b → IsHalf part
+part_corners : (part : RunHalf) (a : Point) (inner : List Point) (b : Point) → IsPart part a inner b → IsCellCorner a → All IsCellCorner inner → IsCellCorner b → IsHalf part
 part_corners part a inner b is first between last = record {
   first = subst IsCellCorner (sym is.begins) first;
   inner = subst (All IsCellCorner) (sym is.between) between;
@@ -130,13 +130,13 @@ part_corners part a inner b is first between last = record {
 }
 
 -- a half is taken from the stack and split
-pub walked_split : (error : ℕ) (kept : List Point) (rest : List Half) (half before after : Half) (place : ℕ) (d : Point) (all : List Point)
+pub walked_split : (error : ℕ) (kept : List Point) (rest : List RunHalf) (half before after : RunHalf) (place : ℕ) (d : Point) (all : List Point)
     → kept ++ flat_map (left_of error) (reverse (rest ++ half ∷ [])) ≡ all → IsSplit error half place
     → IsPart before half.first (take place half.inner.now) (get_or half.inner.now place d)
     → IsPart after (get_or half.inner.now place d) (drop (place + 1) half.inner.now) half.last
     → kept ++ flat_map (left_of error) (reverse ((rest ++ after ∷ []) ++ before ∷ [])) ≡ all
 walked_split error kept rest half before after place d all told is first second =
-    let left : List Half → List Point = flat_map (left_of error) in
+    let left : List RunHalf → List Point = flat_map (left_of error) in
     ap (λ ps. kept ++ ps) (top_first (left_of error) (rest ++ after ∷ []) before
     ∙ ap (λ ps. left_of error before ++ ps) (top_first (left_of error) rest after)
     ∙ sym (append_assoc (left_of error before) (left_of error after) (left (reverse rest)))
@@ -145,7 +145,7 @@ walked_split error kept rest half before after place d all told is first second 
     ∙ told
 
 -- a half is taken from the stack, and its last corner is kept
-pub walked_straight : (error : ℕ) (kept : List Point) (rest : List Half) (half : Half) (all : List Point)
+pub walked_straight : (error : ℕ) (kept : List Point) (rest : List RunHalf) (half : RunHalf) (all : List Point)
     → kept ++ flat_map (left_of error) (reverse (rest ++ half ∷ [])) ≡ all → IsStraight error half
     → (kept ++ half.last ∷ []) ++ flat_map (left_of error) (reverse rest) ≡ all
 walked_straight error kept rest half all told is =
@@ -154,20 +154,20 @@ walked_straight error kept rest half all told is =
     ∙ told
 
 -- the halves on the stack get smaller
-pub less_on_stack : (rest : List Half) (half before after : Half) → size_of before + size_of after < size_of half
+pub less_on_stack : (rest : List RunHalf) (half before after : RunHalf) → size_of before + size_of after < size_of half
     → sum_by size_of ((rest ++ after ∷ []) ++ before ∷ []) < sum_by size_of (rest ++ half ∷ [])
 less_on_stack rest half before after less =
     omega (arith, less, sum_by-append size_of (rest ++ after ∷ []) (before ∷ []), sum_by-append size_of rest (after ∷ []), sum_by-append size_of rest (half ∷ []))
 
 -- what holds of all halves on the stack holds of those below the top, and of the top
-pub rest_of : (rest : List Half) (half : Half) → All IsHalf (rest ++ half ∷ []) → All IsHalf rest
+pub rest_of : (rest : List RunHalf) (half : RunHalf) → All IsHalf (rest ++ half ∷ []) → All IsHalf rest
 rest_of rest half each = λ k d there. subst IsHalf (get_or_append_left rest (half ∷ []) d k there) (each k d (omega (arith, there, length_push rest half)))
 
-last_of : (rest : List Half) (half : Half) → All IsHalf (rest ++ half ∷ []) → IsHalf half
+last_of : (rest : List RunHalf) (half : RunHalf) → All IsHalf (rest ++ half ∷ []) → IsHalf half
 last_of rest half each = subst IsHalf (get_or_push rest half half (length rest) refl) (each (length rest) half (omega (arith, length_push rest half)))
 
 -- the corners of all halves on the stack are corners of cells
-pub parts_corners : (rest : List Half) (half before after : Half) (place : ℕ) (d : Point) → All IsHalf (rest ++ half ∷ []) → place < length half.inner.now
+pub parts_corners : (rest : List RunHalf) (half before after : RunHalf) (place : ℕ) (d : Point) → All IsHalf (rest ++ half ∷ []) → place < length half.inner.now
     → IsPart before half.first (take place half.inner.now) (get_or half.inner.now place d)
     → IsPart after (get_or half.inner.now place d) (drop (place + 1) half.inner.now) half.last
     → All IsHalf ((rest ++ after ∷ []) ++ before ∷ [])

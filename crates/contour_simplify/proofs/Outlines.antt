@@ -16,9 +16,9 @@ use Rattle.nav_base.specs.Point.{IsCellCorner}
 use Rattle.nav_base.proofs.Sizes.{HasCoordinates-corner}
 use Rattle.mesh_types.specs.declared.region.UnitEdge.{UnitEdge}
 use Rattle.mesh_types.specs.declared.region.Code.{Code}
-use Rattle.mesh_types.specs.declared.outline.Simplified.{Simplified}
-use Rattle.mesh_types.specs.declared.outline.Outline as outlines
-use Rattle.mesh_types.specs.declared.outline.Simplified.TheVariants.{Flat, Outline}
+use Rattle.mesh_types.specs.declared.region.Simplified.{Simplified}
+use Rattle.mesh_types.specs.declared.region.Outline as outlines
+use Rattle.mesh_types.specs.declared.region.Simplified.TheVariants.{Flat, Outline}
 use Rattle.mesh_types.specs.Rings.{IsRing, beginnings}
 use Rattle.mesh_types.specs.LinkOrder.{point_cmp}
 use Rattle.mesh_types.specs.Simplified.{kept_corners, kept_edges, begins_among, simplified_of, IsOutline, IfOutline}
@@ -47,29 +47,29 @@ module _ {B : Type 0} (f : UnitEdge → B) (p : UnitEdge → Bool) (edges : List
       before ∙ sym (append-nil (map f (filter p (take k edges))))
       ∙ ap (λ (ys : List B). map f (filter p (take k edges)) ++ ys) (sym (alone false fails)) ∙ one_more
 
-runs_count : (stops : List ℕ) → length (runs_between stops) ≡ length stops - 1
-runs_count stops = omega (arith, length-zip stops (drop 1 stops), length-drop 1 stops)
+runs_count : (kept_round : List ℕ) → length (runs_between kept_round) ≡ length kept_round - 1
+runs_count kept_round = omega (arith, length-zip kept_round (drop 1 kept_round), length-drop 1 kept_round)
 
 -- one run more
-pub runs_more : {Y : Type 0} (f : ℕ × ℕ → List Y) (stops : List ℕ) (run : ℕ) (done next : List Y) → run + 1 < length stops
-    → done ≡ flat_map f (take run (runs_between stops)) → next ≡ done ++ f (get_or stops run 0, get_or stops (run + 1) 0)
-    → next ≡ flat_map f (take (run + 1) (runs_between stops))
-runs_more f stops run done next there before is =
-    let rest : get_or (drop 1 stops) run 0 ≡ get_or stops (run + 1) 0 = get_or-drop 1 stops run 0 ∙ ap (λ (k : ℕ). get_or stops k 0) {x = 1 + run} {y = run + 1} (omega arith) in
-    let pair : get_or (runs_between stops) run (0, 0) ≡ (get_or stops run 0, get_or stops (run + 1) 0) =
-    get_or-zip stops (drop 1 stops) run (0, 0) (omega (arith, there)) (omega (arith, there, length-drop 1 stops)) ∙ ap (λ (k : ℕ). (get_or stops run 0, k)) rest in
+pub runs_more : {Y : Type 0} (f : ℕ × ℕ → List Y) (kept_round : List ℕ) (run : ℕ) (done next : List Y) → run + 1 < length kept_round
+    → done ≡ flat_map f (take run (runs_between kept_round)) → next ≡ done ++ f (get_or kept_round run 0, get_or kept_round (run + 1) 0)
+    → next ≡ flat_map f (take (run + 1) (runs_between kept_round))
+runs_more f kept_round run done next there before is =
+    let rest : get_or (drop 1 kept_round) run 0 ≡ get_or kept_round (run + 1) 0 = get_or-drop 1 kept_round run 0 ∙ ap (λ (k : ℕ). get_or kept_round k 0) {x = 1 + run} {y = run + 1} (omega arith) in
+    let pair : get_or (runs_between kept_round) run (0, 0) ≡ (get_or kept_round run 0, get_or kept_round (run + 1) 0) =
+    get_or-zip kept_round (drop 1 kept_round) run (0, 0) (omega (arith, there)) (omega (arith, there, length-drop 1 kept_round)) ∙ ap (λ (k : ℕ). (get_or kept_round run 0, k)) rest in
     is
     ∙ rw (
       before,
-      take_more (runs_between stops) run (0, 0) (omega (arith, there, runs_count stops)),
+      take_more (runs_between kept_round) run (0, 0) (omega (arith, there, runs_count kept_round)),
       pair,
-      flat_map-append f (take run (runs_between stops)) ((get_or stops run 0, get_or stops (run + 1) 0) ∷ []),
-      append-nil (f (get_or stops run 0, get_or stops (run + 1) 0)),
+      flat_map-append f (take run (runs_between kept_round)) ((get_or kept_round run 0, get_or kept_round (run + 1) 0) ∷ []),
+      append-nil (f (get_or kept_round run 0, get_or kept_round (run + 1) 0)),
     ) refl
 
 -- all runs
-pub runs_all : (stops : List ℕ) (run : ℕ) → length stops - 1 ≤ run → take run (runs_between stops) ≡ runs_between stops
-runs_all stops run end = take_all run (runs_between stops) (omega (arith, end, runs_count stops))
+pub runs_all : (kept_round : List ℕ) (run : ℕ) → length kept_round - 1 ≤ run → take run (runs_between kept_round) ≡ runs_between kept_round
+runs_all kept_round run end = take_all run (runs_between kept_round) (omega (arith, end, runs_count kept_round))
 
 -- nothing is left of no contour
 pub nothing_left : (error : ℕ) (edges : List UnitEdge) → length edges ≡ 0 → Flat ≡ simplified_of error edges

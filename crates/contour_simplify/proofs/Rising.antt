@@ -16,9 +16,9 @@ use Rattle.mesh_types.specs.declared.region.UnitEdge.{UnitEdge}
 use Rattle.mesh_types.specs.Rings.{IsRing, beginnings}
 use Rattle.mesh_types.specs.LinkOrder.{is_point_before}
 use Rattle.mesh_types.specs.Choices.{first_best_place}
-use Rattle.mesh_types.specs.Simplified.{does_change, changes, extremes, kept_places, stops, origin}
+use Rattle.mesh_types.specs.Simplified.{does_change, changes, extremes, kept_places, kept_round, origin}
 use Rattle.mesh_types.specs.Words.{twice_round}
-use Rattle.contour_simplify.specs.Rounds.{AreStops}
+use Rattle.contour_simplify.specs.Rounds.{AreKeptRound}
 use Rattle.contour_simplify.proofs.Bests.{best_there}
 use Rattle.mesh_types.proofs.LinkOrderLaws.{points_order, points_tie}
 
@@ -116,7 +116,7 @@ pub again : (count : ℕ) (places : List ℕ) (d : ℕ) → 0 < length places �
 again count [] d some = absurd (omega (arith, some))
 again count (place ∷ places) d some = refl
 
-stops_from : (count : ℕ) (places : List ℕ) (first : ℕ) → AreKept count places → first < count → AreStops (count + count) (places ++ (first + count) ∷ [])
+stops_from : (count : ℕ) (places : List ℕ) (first : ℕ) → AreKept count places → first < count → AreKeptRound (count + count) (places ++ (first + count) ∷ [])
 stops_from count places first kept inside = record {
   some = omega (arith, size);
   rising = λ k there. elim (cases_lt (k + 1) (length places)) [
@@ -135,9 +135,9 @@ stops_from count places first kept inside = record {
     own : (k : ℕ) → k < length places → get_or (places ++ (first + count) ∷ []) k 0 ≡ get_or places k 0
     own k there = get_or_append_left places ((first + count) ∷ []) 0 k there
 
-pub stops_are : (edges : List UnitEdge) → IsRing edges → 0 < length edges → AreStops (length (twice_round edges)) (stops edges)
-unfolding stops
-stops_are edges ring some =
+pub kept_round_are : (edges : List UnitEdge) → IsRing edges → 0 < length edges → AreKeptRound (length (twice_round edges)) (kept_round edges)
+unfolding kept_round
+kept_round_are edges ring some =
     let kept : AreKept (length edges) (kept_places edges) = places_kept edges ring some in
     rw (again (length edges) (kept_places edges) 0 kept.some, length-append (beginnings edges) (beginnings edges), length-map edges (λ (edge : UnitEdge). edge.from))
     (stops_from (length edges) (kept_places edges) (get_or (kept_places edges) 0 0) kept (kept.below 0 0 kept.some))

@@ -7,12 +7,11 @@ ghost use Rattle.mesh_types.specs.LinkOrder.{is_point_before};
 ghost use Rattle.mesh_types.specs.Simplified.{simplified_of, IsOutline, IfOutline, kept_edges, begins_among};
 ghost use Rattle.mesh_types.specs.Words.{codes_of, is_among};
 
-use crate::kept::{kept_corners, twice_round};
+use crate::kept::{kept_corners, kept_round, twice_round};
 use crate::run::corner_order;
-use crate::stops::stops;
 use mesh_types::{Code, Outline, Simplified, UnitEdge};
 use nav_base::Point;
-use nav_list::Items;
+use nav_lists::Items;
 use std::alloc::{AllocError, Global};
 
 /// The outline of a contour that keeps to it within an error, in hundredths of a squared cell, or that it is flat.
@@ -30,8 +29,8 @@ pub fn simplify(alloc: Global, edges: &[UnitEdge], error: u32) -> Result<Simplif
         return Ok(Simplified::Flat);
     }
     let round = twice_round(alloc, edges)?;
-    let stops = stops(alloc, edges)?;
-    let mut kept = kept_corners(alloc, round.as_slice(), stops.as_slice(), error)?;
+    let kept_round = kept_round(alloc, edges)?;
+    let mut kept = kept_corners(alloc, round.as_slice(), kept_round.as_slice(), error)?;
     kept.sort_unstable_by(|a, b| corner_order(a, b));
     let outline = outline(alloc, edges, kept.as_slice())?;
     Ok(simplified(outline))

@@ -15,7 +15,7 @@ use std::cmp::Ordering;
 
 /// A part of a run as it is walked: its ends, and the corners between them.
 #[derive(Clone, Copy)]
-struct Half<'a> {
+struct RunHalf<'a> {
     first: Point,
     inner: &'a [Point],
     last: Point,
@@ -71,7 +71,7 @@ fn walk(
     }
     let mut kept = Vec::new(alloc);
     let mut halves = Vec::new(alloc);
-    halves.push(Half { first, inner, last })?;
+    halves.push(RunHalf { first, inner, last })?;
     while let Some(half) = halves.pop() {
         match split(half, error) {
             Some(place) => push_parts(&mut halves, half, place)?,
@@ -89,7 +89,7 @@ fn is_straight(first: Point, inner: &[Point], last: Point, error: u32) -> bool
     requires last { IsCellCorner last }
     ensures { IsTrue result → list_any (deviates_over error first last) inner.now ≡ false }
 {
-    match split(Half { first, inner, last }, error) {
+    match split(RunHalf { first, inner, last }, error) {
         Some(_) => false,
         None => true,
     }
@@ -97,8 +97,8 @@ fn is_straight(first: Point, inner: &[Point], last: Point, error: u32) -> bool
 
 /// Puts the two parts of a half at an inner corner onto a stack, the one before that corner on top.
 fn push_parts<'a>(
-    halves: &mut Vec<Half<'a>>,
-    half: Half<'a>,
+    halves: &mut Vec<RunHalf<'a>>,
+    half: RunHalf<'a>,
     place: usize,
 ) -> Result<(), AllocError>
     requires { place < length half.inner.now }
@@ -110,11 +110,11 @@ fn push_parts<'a>(
 }
 
 /// The half before the inner corner at a place.
-fn before<'a>(half: Half<'a>, place: usize) -> Half<'a>
+fn before<'a>(half: RunHalf<'a>, place: usize) -> RunHalf<'a>
     requires { place < length half.inner.now }
     ensures { (d : Point) → IsPart result half.entry.first (take place half.entry.inner.now) (slice_index_or half.entry.inner.now place d) }
 {
-    Half {
+    RunHalf {
         first: half.first,
         inner: &half.inner[..place],
         last: half.inner[place],
@@ -122,11 +122,11 @@ fn before<'a>(half: Half<'a>, place: usize) -> Half<'a>
 }
 
 /// The half after the inner corner at a place.
-fn after<'a>(half: Half<'a>, place: usize) -> Half<'a>
+fn after<'a>(half: RunHalf<'a>, place: usize) -> RunHalf<'a>
     requires { place < length half.inner.now }
     ensures { (d : Point) → IsPart result (slice_index_or half.entry.inner.now place d) (drop (place + 1) half.entry.inner.now) half.entry.last }
 {
-    Half {
+    RunHalf {
         first: half.inner[place],
         inner: &half.inner[place + 1..],
         last: half.last,
@@ -134,7 +134,7 @@ fn after<'a>(half: Half<'a>, place: usize) -> Half<'a>
 }
 
 /// The place of the first inner corner of greatest deviation, where one deviates over the error.
-fn split(half: Half<'_>, error: u32) -> Option<usize>
+fn split(half: RunHalf<'_>, error: u32) -> Option<usize>
     requires { IsHalf half }
     ensures { MatchOption result (IsStraight error half.entry) (IsSplit error half.entry) }
 {
@@ -150,7 +150,7 @@ fn split(half: Half<'_>, error: u32) -> Option<usize>
 }
 
 /// The place of the first inner corner of greatest deviation.
-fn farthest(half: Half<'_>) -> usize
+fn farthest(half: RunHalf<'_>) -> usize
     requires half { IsHalf half }
     requires some { 0 < length half.inner.now }
     ensures value { IsFirstBest (deviates_more half.entry.first half.entry.last) half.entry.inner.now (length half.entry.inner.now) result }

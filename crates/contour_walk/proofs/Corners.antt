@@ -5,7 +5,7 @@ use Rattle.std.specs.List.{sum_by}
 use Rattle.std.proofs.lemmas.Bool.{cases_lt, ne_eqb, and_right}
 use Rattle.std.proofs.lemmas.List.Sums.{sum_by-append}
 use Rattle.nav_ground.proofs.Directions.{both_equal}
-use Rattle.mesh_types.specs.declared.strip.Strip.{Strip}
+use Rattle.mesh_types.specs.declared.region.Strip.{Strip}
 use Rattle.contour_walk.specs.Walk.{bottoms, tops, right_side, top_side, left_side, round}
 use Rattle.contour_walk.proofs.Ranges.{over, over_more, over_none}
 use Rattle.contour_walk.proofs.Sums.{AreRows, first_ordered, sides_sum, sides_more, sides_one, sum_tops, sum_bottoms}

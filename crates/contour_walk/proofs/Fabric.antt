@@ -6,7 +6,7 @@ use Rattle.nav_ground.specs.declared.cell.Cell.{Cell}
 use Rattle.nav_ground.specs.Cells.{is_naming, is_toward, IsCells}
 use Rattle.nav_ground.proofs.FreeLayers.{names_one}
 use Rattle.nav_ground.proofs.Found.{first_found}
-use Rattle.mesh_types.specs.declared.strip.Strip.{Strip}
+use Rattle.mesh_types.specs.declared.region.Strip.{Strip}
 use Rattle.mesh_types.specs.declared.region.Regions.{Regions}
 use Rattle.mesh_types.specs.Regions.{IsIn, place_in, AreRegionsOf}
 use Rattle.mesh_types.specs.Contours.{cell_in, region_at, region_beyond, strips_in}

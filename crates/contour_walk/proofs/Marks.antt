@@ -13,7 +13,7 @@ use Rattle.std.proofs.lemmas.Option.{slice_get-get_or, slice_get_past}
 use Rattle.nav_ground.specs.declared.cell.Cell.{Cell}
 use Rattle.nav_ground.specs.declared.cell.CellRef.{CellRef}
 use Rattle.nav_ground.specs.Cells.{IsCells}
-use Rattle.mesh_types.specs.declared.strip.Strip.{Strip}
+use Rattle.mesh_types.specs.declared.region.Strip.{Strip}
 use Rattle.mesh_types.specs.declared.region.Region.{Region}
 use Rattle.mesh_types.specs.StripPolygons.{some_cell}
 use Rattle.mesh_types.specs.Regions.{is_holding, IsStrip, IsIn, place_in}

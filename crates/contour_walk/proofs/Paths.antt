@@ -4,7 +4,7 @@ use Rattle.std.specs.Prelude.{map, reverse, take, drop}
 use Rattle.std.specs.List.{range_with_len}
 use Rattle.std.proofs.lemmas.Bool.{cases_lt}
 use Rattle.std.proofs.lemmas.List.{map-append, reverse-append}
-use Rattle.mesh_types.specs.declared.strip.Strip.{Strip}
+use Rattle.mesh_types.specs.declared.region.Strip.{Strip}
 use Rattle.contour_walk.specs.Walk.{bottoms, tops, to_right_end, to_left_end, right_side, top_side, left_side, round}
 use Rattle.contour_walk.proofs.Sums.{AreRows, first_ordered}
 

@@ -7,7 +7,7 @@ use Rattle.std.proofs.lemmas.List.Sums.{sum_by-cons}
 use Rattle.nav_ground.specs.declared.cell.Cell.{Cell}
 use Rattle.nav_ground.specs.declared.cell.CellRef.{CellRef}
 use Rattle.nav_ground.specs.declared.cell.Window.{Window}
-use Rattle.mesh_types.specs.declared.strip.Strip.{Strip}
+use Rattle.mesh_types.specs.declared.region.Strip.{Strip}
 use Rattle.mesh_types.specs.declared.region.Regions.{Regions}
 use Rattle.mesh_types.specs.declared.region.UnitEdge.{UnitEdge}
 use Rattle.mesh_types.specs.Regions.{IsStrip, IsUpon, IsIn, place_in}

@@ -14,7 +14,7 @@ use Rattle.nav_ground.specs.declared.cell.CellRef.{CellRef}
 use Rattle.nav_ground.specs.Cells.{is_naming, is_toward, next_level}
 use Rattle.nav_ground.proofs.Directions.{both_equal, tests_of_equal}
 use Rattle.nav_ground.proofs.Found.{found_in}
-use Rattle.mesh_types.specs.declared.strip.Strip.{Strip}
+use Rattle.mesh_types.specs.declared.region.Strip.{Strip}
 use Rattle.mesh_types.specs.declared.region.Region.{Region}
 use Rattle.mesh_types.specs.declared.region.Regions.{Regions}
 use Rattle.mesh_types.specs.Regions.{is_holding, IsStrip, IsIn, place_in}

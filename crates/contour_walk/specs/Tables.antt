@@ -4,14 +4,14 @@ use Rattle.std.specs.List.{list_any, position_or_len}
 use Rattle.nav_ground.specs.declared.cell.Cell.{Cell}
 use Rattle.nav_ground.specs.declared.cell.CellRef.{CellRef}
 use Rattle.nav_ground.specs.Cells.{IsCells}
-use Rattle.mesh_types.specs.declared.strip.Strip.{Strip}
+use Rattle.mesh_types.specs.declared.region.Strip.{Strip}
 use Rattle.mesh_types.specs.declared.region.Region.{Region}
 use Rattle.mesh_types.specs.StripPolygons.{some_cell}
 use Rattle.mesh_types.specs.Regions.{is_holding, IsStrip}
 use Rattle.mesh_types.specs.Contours.{is_at}
 use Rattle.cell_table.specs.Table.{neighbour_table}
-use Rattle.contour_walk.specs.declared.table.RegionTable.{RegionTable}
-use Rattle.contour_walk.specs.declared.table.Rim.{Rim}
+use Rattle.contour_walk.specs.declared.codes.RegionTable.{RegionTable}
+use Rattle.contour_walk.specs.declared.codes.RegionRim.{RegionRim}
 
 -- the index of the cell at a place, or how many cells there are
 abbrev pub index_of : List Cell → CellRef → ℕ
@@ -49,6 +49,6 @@ pub record IsTableOf (cells : List Cell) (regions : List Region) (table : Region
   pub owners : table.owners ≡ map (owner_of regions) cells
 
 -- what edges are read from: the cells keep the rules of cells, and the tables are those of them and the regions
-pub record IsRim (rim : Rim) : Type 0 where
+pub record IsRim (rim : RegionRim) : Type 0 where
   pub cells : IsCells rim.cells.now
   pub table : IsTableOf rim.cells.now rim.regions.now.regions rim.table.now

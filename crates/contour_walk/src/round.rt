@@ -12,13 +12,12 @@ ghost use Rattle.mesh_types.specs.Rings.{IsRing};
 ghost use Rattle.contour_walk.specs.Tables.{IsFit, IsRim};
 ghost use Rattle.contour_walk.specs.Walk.{edge_at, round, AreUpon};
 
-use crate::codes::region_table;
+use crate::codes::{RegionRim, region_table};
 use crate::sides::{push_bottoms, push_left_side, push_right_side, push_tops};
-use crate::table::Rim;
 use mesh_types::{Regions, Strip, UnitEdge};
 use nav_base::Point;
 use nav_ground::{FreeLayer, Setting};
-use nav_list::Items;
+use nav_lists::Items;
 use std::alloc::{AllocError, Global};
 
 /// How many edges a walk has room for at first, a strip: its two ends, and six where it reaches beyond the strips below and above it, which
@@ -26,7 +25,7 @@ use std::alloc::{AllocError, Global};
 const EDGES_A_STRIP: usize = 8;
 
 /// The walk round a stack of strips, from the left end of its first strip's bottom.
-fn walk(alloc: Global, rim: Rim, strips: &[Strip]) -> Result<Vec<UnitEdge>, AllocError>
+fn walk(alloc: Global, rim: RegionRim, strips: &[Strip]) -> Result<Vec<UnitEdge>, AllocError>
     requires rim { IsRim rim }
     requires some { 0 < length strips.now }
     requires fit { All IsFit strips.now }
@@ -39,7 +38,7 @@ fn walk(alloc: Global, rim: Rim, strips: &[Strip]) -> Result<Vec<UnitEdge>, Allo
 }
 
 /// Appends that walk.
-fn push_round(edges: &mut Vec<UnitEdge>, rim: Rim, strips: &[Strip]) -> Result<(), AllocError>
+fn push_round(edges: &mut Vec<UnitEdge>, rim: RegionRim, strips: &[Strip]) -> Result<(), AllocError>
     requires rim { IsRim rim }
     requires some { 0 < length strips.now }
     requires fit { All IsFit strips.now }
@@ -81,7 +80,7 @@ fn is_before(a: Point, b: Point) -> bool
 
 /// The contour of the region with a number, by the tables of its tile: the edges at its rim in whole cells, counterclockwise, from the
 /// least corner by x and then z.
-pub fn contour_over(alloc: Global, rim: Rim, id: u32) -> Result<Items<UnitEdge>, AllocError>
+pub fn contour_over(alloc: Global, rim: RegionRim, id: u32) -> Result<Items<UnitEdge>, AllocError>
     requires rim { IsRim rim }
     requires regions { AreRegionsOf rim.cells.now rim.regions.now }
     requires there { id < length rim.regions.now.regions }
@@ -126,7 +125,7 @@ pub fn contour(
     ensures few { IfOk result (λ edges. length edges ≤ 4 * length free.now.cells) }
 {
     let table = region_table(alloc, free, setting, regions)?;
-    let rim = Rim {
+    let rim = RegionRim {
         cells: free.cells.as_slice(),
         regions,
         table: &table,

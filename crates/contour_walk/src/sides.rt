@@ -1,21 +1,22 @@
 //! The sides of a region: along the bottom and the top of a strip, and up and down its ends.
 
 ghost use Rattle.std.specs.Prelude.{◌≡◌, ◌<◌, ◌≤◌, ◌+◌, ◌++◌, ◌∷◌, [], OnOk, All, length};
+ghost use Rattle.nav_ground.specs.Directions.{number};
 ghost use Rattle.mesh_types.specs.Regions.{IsUpon};
 ghost use Rattle.contour_walk.specs.Tables.{IsFit, IsRim};
 ghost use Rattle.contour_walk.specs.Walk.{edge_at, bottoms, tops, to_right_end, to_left_end, right_side, left_side, AreUpon};
 
-use crate::codes::edge;
-use crate::lookup::{index_of, left_end_over, next, place_in, right_end_over};
-use crate::table::Rim;
+use crate::codes::{RegionRim, edge};
+use crate::owners::{index_of, left_end_over, next, place_in, right_end_over};
 use mesh_types::{Strip, UnitEdge};
+use nav_ground::Direction;
 use std::alloc::AllocError;
 
 /// Appends the edges along the bottom of a strip from a column up to another, to the right. The first of the cells is looked for at the index
 /// that is handed in, and where the last was found is left there.
 pub fn push_bottoms(
     edges: &mut Vec<UnitEdge>,
-    rim: Rim,
+    rim: RegionRim,
     strip: &Strip,
     first: u32,
     end: u32,
@@ -30,9 +31,9 @@ pub fn push_bottoms(
     for x in first..end {
         let at = place_in(strip, x);
         let index = index_of(rim.cells, guess, at);
-        edges.push(edge(rim, index, at, 3))?;
+        edges.push(edge(rim, index, at, Direction::Below))?;
         *found = index;
-        guess = next(rim.table.neighbours.as_slice(), index, 2);
+        guess = next(rim.table.neighbours.as_slice(), index, Direction::Right);
     }
     Ok(())
 }
@@ -41,7 +42,7 @@ pub fn push_bottoms(
 /// index that is handed in, and where the last was found is left there.
 pub fn push_tops(
     edges: &mut Vec<UnitEdge>,
-    rim: Rim,
+    rim: RegionRim,
     strip: &Strip,
     first: u32,
     end: u32,
@@ -56,28 +57,27 @@ pub fn push_tops(
     for x in (first..end).rev() {
         let at = place_in(strip, x);
         let index = index_of(rim.cells, guess, at);
-        edges.push(edge(rim, index, at, 1))?;
+        edges.push(edge(rim, index, at, Direction::Above))?;
         *found = index;
-        guess = next(rim.table.neighbours.as_slice(), index, 0);
+        guess = next(rim.table.neighbours.as_slice(), index, Direction::Left);
     }
     Ok(())
 }
 
-/// Appends the edge at the end of a strip, toward x + 1 in direction 2 and toward x - 1 in direction 0. The cell is looked for at the index that
-/// is handed in, and where it was found is left there.
+/// Appends the edge at the end of a strip, its right or its left one. The cell is looked for at the index that is handed in, and where it was
+/// found is left there.
 fn push_end(
     edges: &mut Vec<UnitEdge>,
-    rim: Rim,
+    rim: RegionRim,
     strip: &Strip,
     x: u32,
-    dir: u32,
+    dir: Direction,
     found: &mut usize,
 ) -> Result<(), AllocError>
     requires rim { IsRim rim }
     requires fit { IsFit strip.now }
     requires column { (strip.now.x0 ≤ x) × (x ≤ strip.now.x1) }
-    requires dir { dir < 4 }
-    ensures { OnOk result (edges.new.items ≡ edges.old.items ++ edge_at rim.entry.table.now.window rim.entry.cells.now rim.entry.regions.now dir strip.now x ∷ []) }
+    ensures { OnOk result (edges.new.items ≡ edges.old.items ++ edge_at rim.entry.table.now.window rim.entry.cells.now rim.entry.regions.now (number dir) strip.now x ∷ []) }
 {
     let at = place_in(strip, x);
     let index = index_of(rim.cells, *found, at);
@@ -90,7 +90,7 @@ fn push_end(
 /// the cell at the one end was found, that at the other is to be looked for afterwards.
 fn push_to_right_end(
     edges: &mut Vec<UnitEdge>,
-    rim: Rim,
+    rim: RegionRim,
     lower: &Strip,
     upper: &Strip,
     found: &mut usize,
@@ -105,8 +105,12 @@ fn push_to_right_end(
     let upper_end = upper.x1 + 1;
     let table = rim.table.neighbours.as_slice();
     let mut below = *found;
-    let mut above = next(table, next(table, below, 1), 2);
-    *found = right_end_over(table, below, 1, lower.x1, upper.x1);
+    let mut above = next(
+        table,
+        next(table, below, Direction::Above),
+        Direction::Right,
+    );
+    *found = right_end_over(table, below, Direction::Above, lower.x1, upper.x1);
     push_tops(edges, rim, lower, upper_end, lower_end, &mut below)?;
     push_bottoms(edges, rim, upper, lower_end, upper_end, &mut above)
 }
@@ -115,7 +119,7 @@ fn push_to_right_end(
 /// the cell at the one end was found, that at the other is to be looked for afterwards.
 fn push_to_left_end(
     edges: &mut Vec<UnitEdge>,
-    rim: Rim,
+    rim: RegionRim,
     lower: &Strip,
     upper: &Strip,
     found: &mut usize,
@@ -128,8 +132,8 @@ fn push_to_left_end(
 {
     let table = rim.table.neighbours.as_slice();
     let mut above = *found;
-    let mut below = next(table, next(table, above, 3), 0);
-    *found = left_end_over(table, above, 3, upper.x0, lower.x0);
+    let mut below = next(table, next(table, above, Direction::Below), Direction::Left);
+    *found = left_end_over(table, above, Direction::Below, upper.x0, lower.x0);
     push_tops(edges, rim, lower, lower.x0, upper.x0, &mut below)?;
     push_bottoms(edges, rim, upper, upper.x0, lower.x0, &mut above)
 }
@@ -138,7 +142,7 @@ fn push_to_left_end(
 /// of the next. The cell at the first end is looked for at the index that is handed in, and where the last was found is left there.
 pub fn push_right_side(
     edges: &mut Vec<UnitEdge>,
-    rim: Rim,
+    rim: RegionRim,
     strips: &[Strip],
     found: &mut usize,
 ) -> Result<(), AllocError>
@@ -149,7 +153,7 @@ pub fn push_right_side(
 {
     for k in 0..strips.len() {
         let strip = &strips[k];
-        push_end(edges, rim, strip, strip.x1, 2, found)?;
+        push_end(edges, rim, strip, strip.x1, Direction::Right, found)?;
         if k + 1 < strips.len() {
             push_to_right_end(edges, rim, strip, &strips[k + 1], found)?;
         }
@@ -161,7 +165,7 @@ pub fn push_right_side(
 /// then its left end. The cell at the first end is looked for at the index that is handed in, and where the last was found is left there.
 pub fn push_left_side(
     edges: &mut Vec<UnitEdge>,
-    rim: Rim,
+    rim: RegionRim,
     strips: &[Strip],
     found: &mut usize,
 ) -> Result<(), AllocError>
@@ -175,7 +179,7 @@ pub fn push_left_side(
         if k + 1 < strips.len() {
             push_to_left_end(edges, rim, strip, &strips[k + 1], found)?;
         }
-        push_end(edges, rim, strip, strip.x0, 0, found)?;
+        push_end(edges, rim, strip, strip.x0, Direction::Left, found)?;
     }
     Ok(())
 }

@@ -13,15 +13,15 @@ use Rattle.nav_ground.specs.Limits.{IsArea}
 use Rattle.mesh_types.specs.declared.links.PolyRef.{PolyRef}
 use Rattle.mesh_types.specs.declared.extent.Extent.{Extent}
 use Rattle.mesh_types.specs.declared.polygon.Polygon.{Polygon}
-use Rattle.mesh_types.specs.declared.tile.TileMesh.{TileMesh}
+use Rattle.mesh_types.specs.declared.mesh.TileMesh.{TileMesh}
 use Rattle.mesh_types.specs.declared.mesh.Mesh.{Mesh}
 use Rattle.mesh_types.specs.Extents.{extent_of}
 use Rattle.mesh_types.specs.WholeMesh.{poly_at}
 use Rattle.mesh_types.specs.Corridors.{centre_of}
 use Rattle.mesh_types.specs.FitTiles.{IsPolygon}
 use Rattle.mesh_types.specs.Soundness.{IsSound}
-use Rattle.graph_search.specs.declared.arcs.Vertex.{Vertex}
-use Rattle.graph_search.specs.declared.arcs.Step.{Step}
+use Rattle.graph_search.specs.declared.graph.Vertex.{Vertex}
+use Rattle.graph_search.specs.declared.graph.Step.{Step}
 use Rattle.graph_search.specs.Walks.{arc_of}
 use Rattle.corridor_search.specs.MeshGraphs.{IsThere, polygon_of, arcs_from}
 use Rattle.corridor_search.specs.Estimates.{IsBox, nowhere, extent_at, middle_of, estimates_of}

@@ -4,12 +4,12 @@ use Rattle.std.specs.Prelude.{All, Contains}
 use Rattle.mesh_types.specs.declared.links.PolyRef.{PolyRef}
 use Rattle.mesh_types.specs.declared.links.Link.{Link}
 use Rattle.mesh_types.specs.declared.mesh.Mesh.{Mesh}
-use Rattle.mesh_types.specs.declared.corridor.Corridor.{Corridor}
+use Rattle.mesh_types.specs.declared.answers.Corridor.{Corridor}
 use Rattle.mesh_types.specs.Corridors.{WalksTo, cost_of, IsCheapest}
 use Rattle.mesh_types.specs.Soundness.{IsSound}
-use Rattle.graph_search.specs.declared.arcs.Vertex.{Vertex}
-use Rattle.graph_search.specs.declared.arcs.Step.{Step}
-use Rattle.graph_search.specs.declared.arcs.Walk.{Walk}
+use Rattle.graph_search.specs.declared.graph.Vertex.{Vertex}
+use Rattle.graph_search.specs.declared.graph.Step.{Step}
+use Rattle.graph_search.specs.declared.graph.Walk.{Walk}
 use Rattle.graph_search.specs.Walks as graph
 use Rattle.graph_search.specs.Walks.{arc_of, Walks}
 use Rattle.graph_search.proofs.Moves.{MovesTo, move-there, arc-of-move, steps-made, cheapest-moves, none-move}

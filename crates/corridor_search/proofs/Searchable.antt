@@ -12,9 +12,9 @@ use Rattle.mesh_types.specs.LinkIndex.{entered_by}
 use Rattle.mesh_types.specs.Corridors.{centre_of, weight_of}
 use Rattle.mesh_types.specs.WholeMesh.{poly_at}
 use Rattle.mesh_types.specs.Soundness.{IsSound}
-use Rattle.graph_search.specs.declared.arcs.Vertex.{Vertex}
-use Rattle.graph_search.specs.declared.arcs.Arc.{Arc}
-use Rattle.graph_search.specs.declared.arcs.Step.{Step}
+use Rattle.graph_search.specs.declared.graph.Vertex.{Vertex}
+use Rattle.graph_search.specs.declared.graph.Arc.{Arc}
+use Rattle.graph_search.specs.declared.graph.Step.{Step}
 use Rattle.graph_search.specs.Walks.{arc_of, ends_of, IsSearchable}
 use Rattle.corridor_search.specs.MeshGraphs.{IsThere, vertex_of, polygon_of, vertices_of, links_from, arc_over, arcs_from, no_link, link_of, end_of, IsSearched}
 use Rattle.corridor_search.specs.Estimates.{weight_from, estimate_from, estimates_of}

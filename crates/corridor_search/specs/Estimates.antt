@@ -6,13 +6,13 @@ use Rattle.nav_base.specs.Point.{IsCellCorner}
 use Rattle.nav_base.specs.Distance.{distance_of}
 use Rattle.mesh_types.specs.declared.links.PolyRef.{PolyRef}
 use Rattle.mesh_types.specs.declared.polygon.Polygon.{Polygon}
-use Rattle.mesh_types.specs.declared.tile.TileMesh.{TileMesh}
+use Rattle.mesh_types.specs.declared.mesh.TileMesh.{TileMesh}
 use Rattle.mesh_types.specs.declared.mesh.Mesh.{Mesh}
 use Rattle.mesh_types.specs.declared.extent.Extent.{Extent}
 use Rattle.mesh_types.specs.Extents.{extent_of}
 use Rattle.mesh_types.specs.WholeMesh.{poly_at}
 use Rattle.mesh_types.specs.Corridors.{centre_of}
-use Rattle.graph_search.specs.declared.arcs.Vertex.{Vertex}
+use Rattle.graph_search.specs.declared.graph.Vertex.{Vertex}
 use Rattle.corridor_search.specs.MeshGraphs.{polygon_of}
 
 -- what a step into a polygon costs from a point: the distance to its middle, rounded up and at least 1, times the cost of its area

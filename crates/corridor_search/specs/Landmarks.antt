@@ -8,7 +8,7 @@ use Rattle.mesh_types.specs.declared.links.PolyRef.{PolyRef}
 use Rattle.mesh_types.specs.declared.links.Link.{Link}
 use Rattle.mesh_types.specs.declared.mesh.Mesh.{Mesh}
 use Rattle.mesh_types.specs.Corridors.{IsLinkOf, weight_of}
-use Rattle.graph_search.specs.declared.arcs.Vertex.{Vertex}
+use Rattle.graph_search.specs.declared.graph.Vertex.{Vertex}
 use Rattle.corridor_search.specs.MeshGraphs.{polygon_of, IsSearched}
 use Rattle.corridor_search.specs.Estimates.{estimates_of}
 

@@ -5,7 +5,7 @@ ghost use Rattle.std.specs.Option.{option_copied, option_map_or};
 ghost use Rattle.nav_ground.specs.Limits.{IsSetting};
 ghost use Rattle.mesh_types.specs.Soundness.{IsSound};
 ghost use Rattle.mesh_types.specs.Corridors.{IsCheapest};
-ghost use Rattle.graph_search.specs.declared.arcs.Step.{Step};
+ghost use Rattle.graph_search.specs.declared.graph.Step.{Step};
 ghost use Rattle.corridor_search.specs.MeshGraphs.{IsThere, IsApart, IsOver, link_of};
 ghost use Rattle.corridor_search.specs.Landmarks.{Heights, flat, heights_at, AreLandmarks};
 
@@ -15,10 +15,10 @@ use crate::mesh_graph::{MeshGraph, link_at, vertex_at};
 use crate::weights::{extent_at, middle};
 use graph_search::{Step, cheapest_walk};
 use mesh_types::{Corridor, Link, Mesh, PolyRef};
-use nav_list::Items;
+use nav_lists::Items;
 use std::alloc::{AllocError, Global};
 
-/// A corridor from one polygon to another, a walk over links that no other such walk undercuts; none exactly where no walk joins the two.
+/// A corridor from one polygon to another, a walk over links than which no other such walk costs less; none exactly where no walk joins the two.
 /// From a polygon to itself it has no links and costs 0. Costs are in sixteenths of a cell times the costs of areas, and less than 2^45. Only
 /// memory can be refused.
 pub fn cheapest(

@@ -1,13 +1,14 @@
-//! How heights over landmarks are found. Nothing is promised of them: whether they keep the rule is tested behind it.
+//! How heights over landmarks are found. Nothing is promised of them: whether they keep the rule is tested behind it. A queue of numbers by
+//! height, of which nothing is promised.
 
 ghost use Rattle.std.specs.Prelude.{◌<◌};
 
 use crate::landmarks::{LANDMARKS, UNREACHED};
-use crate::ring::Ring;
-use crate::ways::{Ways, number_at};
+use crate::ways::{FlatArcs, number_at};
 use mesh_types::Mesh;
-use nav_list::Items;
+use nav_lists::Items;
 use std::alloc::{AllocError, Global};
+use std::mem;
 
 /// How many polygons are tried for one from which half of all are reached.
 const TRIES: usize = 4;
@@ -19,8 +20,8 @@ const ROUNDS: u32 = u32::MAX;
 /// largest island, and each further one is the polygon that is farthest from all before it.
 pub(crate) fn fill(alloc: Global, mesh: &Mesh) -> Result<Vec<Items<[u32; LANDMARKS]>>, AllocError> {
     let mut tiles = level(alloc, mesh)?;
-    let ways = Ways::of(alloc, mesh)?;
-    let mut search = Search::new(alloc, &ways)?;
+    let ways = FlatArcs::of(alloc, mesh)?;
+    let mut search = DistanceFill::new(alloc, &ways)?;
     search.begin(alloc, &ways)?;
     for column in 0..LANDMARKS {
         let Some(next) = farthest(search.nearest.as_slice()) else {
@@ -61,26 +62,26 @@ fn level(alloc: Global, mesh: &Mesh) -> Result<Vec<Vec<[u32; LANDMARKS]>>, Alloc
 
 /// The room in which heights are found.
 #[derive(Drop)]
-struct Search {
-    ring: Ring,
+struct DistanceFill {
+    ring: BucketQueue,
     /// By number: the height over the last landmark; `UNREACHED` where no walk leads there, and less elsewhere.
     heights: Vec<u32>,
     /// By number: the least height over the landmarks so far.
     nearest: Vec<u32>,
 }
 
-impl Search {
-    fn new(alloc: Global, ways: &Ways) -> Result<Self, AllocError> {
+impl DistanceFill {
+    fn new(alloc: Global, ways: &FlatArcs) -> Result<Self, AllocError> {
         let count = ways.polygons();
-        Ok(Search {
-            ring: Ring::new(alloc, ways.heaviest())?,
+        Ok(DistanceFill {
+            ring: BucketQueue::new(alloc, ways.heaviest())?,
             heights: vec![in alloc; UNREACHED; count]?,
             nearest: vec![in alloc; UNREACHED; count]?,
         })
     }
 
     /// Finds a polygon from which half of all are reached, and takes the heights over it for the nearest.
-    fn begin(&mut self, alloc: Global, ways: &Ways) -> Result<(), AllocError> {
+    fn begin(&mut self, alloc: Global, ways: &FlatArcs) -> Result<(), AllocError> {
         let mut start = 0;
         for _try in 0..TRIES {
             self.measure(alloc, ways, start)?;
@@ -94,7 +95,7 @@ impl Search {
     }
 
     /// Finds the heights of all polygons over one.
-    fn measure(&mut self, alloc: Global, ways: &Ways, landmark: u32) -> Result<(), AllocError> {
+    fn measure(&mut self, alloc: Global, ways: &FlatArcs, landmark: u32) -> Result<(), AllocError> {
         self.heights.clear();
         self.heights.resize(ways.polygons(), UNREACHED)?;
         let place = landmark as usize;
@@ -115,7 +116,7 @@ impl Search {
     }
 
     /// Follows the ways from a polygon whose height stands in the lowest list; what waits there with a height that has fallen was followed.
-    fn follow(&mut self, ways: &Ways, number: u32) -> Result<(), AllocError> {
+    fn follow(&mut self, ways: &FlatArcs, number: u32) -> Result<(), AllocError> {
         let height = number_at(self.heights.as_slice(), number as usize);
         if !self.ring.is_lowest(height) {
             return Ok(());
@@ -190,4 +191,103 @@ fn write(tiles: &mut [Vec<[u32; LANDMARKS]>], column: usize, heights: &[u32])
         }
         first = first.wrapping_add(rows.len());
     }
+}
+
+/// How many lists there are, a power of two.
+const LISTS: usize = 1024;
+
+/// Numbers that wait, in a ring of lists, each for a range of heights; one is taken at a time, the lowest first. Heights that are added are
+/// not above the lowest by more than the ring is round.
+#[derive(Drop)]
+pub(crate) struct BucketQueue {
+    lists: Vec<Vec<u32>>,
+    /// How many binary places a height has below the number of its list.
+    places: u32,
+    /// The number of the list that is lowest, counted on round the ring.
+    lowest: u32,
+    /// How many numbers wait.
+    waiting: usize,
+    /// Memory of the list that was taken last, for the next.
+    spare: Vec<u32>,
+}
+
+impl BucketQueue {
+    /// A ring for heights that are above the lowest by no more than given.
+    pub(crate) fn new(alloc: Global, most: u32) -> Result<Self, AllocError> {
+        let mut lists = Vec::with_capacity(alloc, LISTS)?;
+        for _list in 0..LISTS {
+            lists.push(Vec::new(alloc))?;
+        }
+        Ok(BucketQueue {
+            lists,
+            places: places(most),
+            lowest: 0,
+            waiting: 0,
+            spare: Vec::new(alloc),
+        })
+    }
+
+    /// The list of a height, counted on round the ring.
+    fn list_of(&self, height: u32) -> u32 {
+        height >> self.places.min(31)
+    }
+
+    /// Whether a height stands in the list that was taken last.
+    pub(crate) fn is_lowest(&self, height: u32) -> bool {
+        self.list_of(height) == self.lowest
+    }
+
+    /// Begins anew, with one number of height 0.
+    pub(crate) fn begin(&mut self, number: u32) -> Result<(), AllocError> {
+        for list in self.lists.as_mut_slice() {
+            list.clear();
+        }
+        self.lowest = 0;
+        self.waiting = 0;
+        self.push(0, number)
+    }
+
+    /// Adds a number.
+    pub(crate) fn push(&mut self, height: u32, number: u32) -> Result<(), AllocError> {
+        let place = self.list_of(height) as usize % LISTS;
+        if place < self.lists.len() {
+            self.lists[place].push(number)?;
+            self.waiting = self.waiting.wrapping_add(1);
+        }
+        Ok(())
+    }
+
+    /// Takes the lowest list; none where no number waits.
+    pub(crate) fn take(&mut self, alloc: Global) -> Option<Vec<u32>> {
+        if self.waiting == 0 {
+            return None;
+        }
+        for _step in 0..LISTS {
+            let place = self.lowest as usize % LISTS;
+            if place < self.lists.len() && !self.lists[place].is_empty() {
+                let spare = mem::replace(&mut self.spare, Vec::new(alloc));
+                let list = mem::replace(&mut self.lists[place], spare);
+                self.waiting = self.waiting.wrapping_sub(list.len());
+                return Some(list);
+            }
+            self.lowest = self.lowest.wrapping_add(1);
+        }
+        None
+    }
+
+    /// Gives the memory of a list back.
+    pub(crate) fn give_back(&mut self, list: Vec<u32>) {
+        self.spare = list;
+        self.spare.clear();
+    }
+}
+
+/// The least number of binary places to cut off, so that heights which differ by no more than given stand less than a round apart.
+fn places(most: u32) -> u32 {
+    for places in 0..32 {
+        if (most >> places) < LISTS as u32 - 1 {
+            return places;
+        }
+    }
+    31
 }

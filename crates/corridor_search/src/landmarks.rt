@@ -9,9 +9,9 @@ ghost use Rattle.corridor_search.specs.Landmarks.{flat, heights_at, gap_of, are_
 
 use crate::filling::fill;
 use crate::islands::{inner_of, outer_of};
-use crate::link_weights::weight_over;
+use crate::weights::weight_over;
 use mesh_types::{Link, Mesh, PolyRef};
-use nav_list::Items;
+use nav_lists::Items;
 use std::alloc::{AllocError, Global};
 use std::marker::Model;
 

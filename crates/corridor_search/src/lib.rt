@@ -11,15 +11,11 @@ mod corridors;
 mod filling;
 mod islands;
 mod landmarks;
-mod link_weights;
 mod mesh_graph;
-mod ring;
-mod roots;
 mod ways;
 mod weights;
 
 pub use corridors::{cheapest, cheapest_by};
 pub use landmarks::{Landmarks, landmarks_of};
-pub use link_weights::weight_over;
 pub use mesh_graph::{link_at, link_weight, past_links, polygon_at, push_link_ends, vertex_at};
-pub use weights::extent_at;
+pub use weights::{extent_at, weight_over};

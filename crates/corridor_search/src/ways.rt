@@ -2,33 +2,33 @@
 
 ghost use Rattle.std.specs.Prelude.{◌<◌, length};
 
-use crate::roots::root;
+use crate::weights::root;
 use mesh_types::{Extent, Mesh, PolyRef};
 use nav_ground::Setting;
 use std::alloc::{AllocError, Global};
 
 /// A way from one polygon to another, by the other's number.
 #[derive(Clone, Copy)]
-pub(crate) struct Way {
+pub(crate) struct FlatArc {
     pub(crate) to: u32,
     pub(crate) weight: u32,
 }
 
 /// The ways from each polygon. Polygons are numbered tile by tile.
 #[derive(Drop)]
-pub(crate) struct Ways {
+pub(crate) struct FlatArcs {
     /// By number, and after the last: where the ways from there begin.
     starts: Vec<u32>,
-    ways: Vec<Way>,
+    ways: Vec<FlatArc>,
     /// The greatest weight of a way.
     heaviest: u32,
 }
 
-impl Ways {
+impl FlatArcs {
     /// The ways of a mesh.
     pub(crate) fn of(alloc: Global, mesh: &Mesh) -> Result<Self, AllocError> {
-        let level = Level::of(alloc, mesh)?;
-        let mut ways = Ways {
+        let level = FlatMesh::of(alloc, mesh)?;
+        let mut ways = FlatArcs {
             starts: Vec::with_capacity(alloc, level.spots.len().saturating_add(1))?,
             ways: Vec::new(alloc),
             heaviest: 0,
@@ -41,7 +41,7 @@ impl Ways {
     }
 
     /// Adds the ways from the polygons of a tile.
-    fn add_tile(&mut self, mesh: &Mesh, level: &Level, tile: usize) -> Result<(), AllocError>
+    fn add_tile(&mut self, mesh: &Mesh, level: &FlatMesh, tile: usize) -> Result<(), AllocError>
         requires { tile < length mesh.now.tiles }
     {
         let inside = mesh.tiles.at(tile).get();
@@ -60,14 +60,19 @@ impl Ways {
     }
 
     /// Adds ways from a polygon to others.
-    fn add(&mut self, level: &Level, left: Spot, polygons: &[PolyRef]) -> Result<(), AllocError> {
+    fn add(
+        &mut self,
+        level: &FlatMesh,
+        left: FlatVertex,
+        polygons: &[PolyRef],
+    ) -> Result<(), AllocError> {
         for polygon in polygons {
             let to = number_at(level.firsts.as_slice(), polygon.tile as usize).wrapping_add(
                 polygon.index,
             );
             let weight = lesser_weight(left, level.spot(to));
             self.heaviest = self.heaviest.max(weight);
-            self.ways.push(Way { to, weight })?;
+            self.ways.push(FlatArc { to, weight })?;
         }
         Ok(())
     }
@@ -78,7 +83,7 @@ impl Ways {
     }
 
     /// The ways from a polygon.
-    pub(crate) fn from(&self, number: u32) -> &[Way] {
+    pub(crate) fn from(&self, number: u32) -> &[FlatArc] {
         let place = number as usize;
         if self.starts.len() <= place + 1 {
             return &[];
@@ -100,7 +105,7 @@ impl Ways {
 
 /// The middle of a polygon's box, in half cells, and what its area costs.
 #[derive(Clone, Copy)]
-struct Spot {
+struct FlatVertex {
     x: i32,
     z: i32,
     cost: u32,
@@ -108,16 +113,16 @@ struct Spot {
 
 /// Where the polygons of a mesh stand, by number.
 #[derive(Drop)]
-struct Level {
+struct FlatMesh {
     /// By tile: the number of its first polygon.
     firsts: Vec<u32>,
-    spots: Vec<Spot>,
+    spots: Vec<FlatVertex>,
 }
 
-impl Level {
+impl FlatMesh {
     /// The polygons of a mesh.
     fn of(alloc: Global, mesh: &Mesh) -> Result<Self, AllocError> {
-        let mut level = Level {
+        let mut level = FlatMesh {
             firsts: Vec::with_capacity(alloc, mesh.tiles.len())?,
             spots: Vec::new(alloc),
         };
@@ -134,10 +139,10 @@ impl Level {
     }
 
     /// Where a polygon stands; at (0, 0) where there is none.
-    fn spot(&self, number: u32) -> Spot {
+    fn spot(&self, number: u32) -> FlatVertex {
         match self.spots.get(number as usize) {
             Some(spot) => *spot,
-            None => Spot {
+            None => FlatVertex {
                 x: 0,
                 z: 0,
                 cost: 1,
@@ -147,9 +152,9 @@ impl Level {
 }
 
 /// Where a polygon with an extent stands.
-fn spot_of(setting: &Setting, extent: Extent) -> Spot {
+fn spot_of(setting: &Setting, extent: Extent) -> FlatVertex {
     let costs: &[u32] = &setting.costs;
-    Spot {
+    FlatVertex {
         x: extent.low.x.wrapping_add(extent.high.x),
         z: extent.low.z.wrapping_add(extent.high.z),
         cost: number_at(costs, extent.area as usize).max(1),
@@ -170,7 +175,7 @@ pub(crate) fn number_at(numbers: &[u32], place: usize) -> u32 {
 }
 
 /// What a link between two polygons weighs at the lesser of the costs of their areas.
-fn lesser_weight(left: Spot, entered: Spot) -> u32 {
+fn lesser_weight(left: FlatVertex, entered: FlatVertex) -> u32 {
     let across = left.x.abs_diff(entered.x).wrapping_mul(8);
     let along = left.z.abs_diff(entered.z).wrapping_mul(8);
     let square = across

@@ -1,15 +1,17 @@
-//! Middles of polygons, and what links cost.
+//! Middles of polygons, and what links cost. What one link weighs. Roots of squares of distances, rounded up, without a division.
 
-ghost use Rattle.std.specs.Prelude.{◌≡◌, ◌*◌, map, max, slice_index, slice_index_or, pos, ◌≤ℤ◌, ◌+ℤ◌, ◌*ℤ◌};
+ghost use Rattle.std.specs.Prelude.{◌≡◌, ◌*◌, map, max, slice_index, slice_index_or, pos, ◌≤ℤ◌, ◌+ℤ◌, ◌*ℤ◌, ◌≤◌, ◌<◌, IsTrue};
 ghost use Rattle.nav_base.specs.Point.{IsInField};
 ghost use Rattle.nav_base.specs.Distance.{distance_of};
 ghost use Rattle.nav_ground.specs.Limits.{IsSetting, IsArea};
 ghost use Rattle.mesh_types.specs.Extents.{extent_of};
 ghost use Rattle.corridor_search.specs.Estimates.{IsBox, nowhere, middle_of, extent_at};
+ghost use Rattle.mesh_types.specs.Corridors.{IsLinkOf, weight_of};
+ghost use Rattle.mesh_types.specs.Soundness.{IsSound};
+ghost use Rattle.nav_base.specs.Root.{IsLeastRoot, ceil_sqrt_of};
 
-use crate::roots::root;
-use mesh_types::{Extent, Mesh, PolyRef, Polygons};
-use nav_base::{Point, square_distance};
+use mesh_types::{Extent, Link, Mesh, PolyRef, Polygons};
+use nav_base::{Point, ceil_sqrt, square_distance};
 use nav_ground::Setting;
 
 /// Stands for the extent of no polygon.
@@ -96,3 +98,87 @@ pub(crate) fn weight(setting: &Setting, from: Point, to: Extent) -> u64
     let length = distance(from, middle(to)).max(1);
     u64::from(length) * u64::from(setting.costs[to.area as usize])
 }
+
+/// What a link of a mesh costs a walk that takes it: the distance of the middles of its two polygons, in sixteenths of a cell and rounded up,
+/// at least 1, times the cost of the area that it enters.
+pub fn weight_over(mesh: &Mesh, link: &Link) -> u64
+    requires sound { IsSound mesh.now }
+    requires setting { IsSetting mesh.now.setting }
+    requires link { IsLinkOf mesh.now link.now }
+    ensures { result ≡ weight_of mesh.now link.now }
+{
+    let from = middle(extent_at(mesh, link.from));
+    let entered = extent_at(mesh, link.to);
+    weight(&mesh.setting, from, entered)
+}
+
+/// The least number whose square is at least `n`: nearly always the guess, which is tested.
+pub(crate) fn root(n: u64) -> u32
+    requires { n < 4294967296 }
+    ensures { result ≡ ceil_sqrt_of n }
+{
+    if n == 0 {
+        return 0;
+    }
+    let guess = guessed_root(n as u32);
+    if is_least_root(n, guess) {
+        guess
+    } else {
+        ceil_sqrt(n)
+    }
+}
+
+// A guess at the least number whose square is at least `n`, of which nothing is promised. `n` is moved up by pairs of digits, so that one of
+// its two highest digits is 1; between the roots that the table has for its eight highest digits and the next number, the root of `n` lies
+// nearly on a line, and it is moved down by half as many digits. Where the square of that is too small, the root is one more.
+fn guessed_root(n: u32) -> u32
+    requires { 0 < n }
+{
+    let pairs = n.leading_zeros() / 2;
+    let moved = n << (2 * pairs);
+    let place = (moved >> 24) as usize;
+    let low = ROOTS[place];
+    let high = ROOTS[place + 1];
+    let rest = (moved >> 8) & 65535;
+    let part = high.wrapping_sub(low).wrapping_mul(rest) >> 16;
+    let root = low.wrapping_add(part) >> (pairs + 4);
+    if u64::from(root) * u64::from(root) < u64::from(n) {
+        root.wrapping_add(1)
+    } else {
+        root
+    }
+}
+
+// Whether a number is the least whose square is at least `n`.
+fn is_least_root(n: u64, root: u32) -> bool
+    ensures { IsTrue result → IsLeastRoot n root }
+{
+    let root = u64::from(root);
+    n <= root * root && (root == 0 || (root - 1) * (root - 1) < n)
+}
+
+// The roots of the numbers up to 256, times 65536, rounded.
+static ROOTS: [u32; 257] = [
+    0, 65536, 92682, 113512, 131072, 146543, 160530, 173392, 185364, 196608, 207243, 217358,
+    227023, 236293, 245213, 253820, 262144, 270212, 278046, 285665, 293086, 300324, 307391, 314300,
+    321060, 327680, 334169, 340535, 346784, 352922, 358955, 364889, 370728, 376476, 382137, 387716,
+    393216, 398640, 403991, 409272, 414486, 419635, 424722, 429748, 434717, 439629, 444487, 449292,
+    454047, 458752, 463410, 468021, 472587, 477109, 481589, 486028, 490427, 494786, 499107, 503392,
+    507640, 511853, 516031, 520176, 524288, 528368, 532417, 536435, 540424, 544383, 548314, 552216,
+    556091, 559940, 563762, 567558, 571330, 575076, 578798, 582497, 586172, 589824, 593454, 597061,
+    600647, 604212, 607756, 611279, 614782, 618265, 621729, 625174, 628599, 632006, 635395, 638766,
+    642119, 645455, 648773, 652075, 655360, 658629, 661881, 665118, 668339, 671544, 674734, 677910,
+    681070, 684216, 687347, 690465, 693568, 696657, 699733, 702795, 705844, 708880, 711903, 714913,
+    717911, 720896, 723869, 726829, 729778, 732715, 735640, 738553, 741455, 744346, 747225, 750094,
+    752951, 755798, 758634, 761460, 764275, 767079, 769874, 772658, 775432, 778197, 780952, 783697,
+    786432, 789158, 791875, 794582, 797280, 799969, 802649, 805320, 807982, 810636, 813280, 815917,
+    818544, 821164, 823775, 826378, 828972, 831559, 834137, 836708, 839270, 841825, 844372, 846912,
+    849444, 851968, 854485, 856994, 859497, 861991, 864479, 866960, 869433, 871900, 874359, 876812,
+    879258, 881697, 884129, 886555, 888974, 891386, 893792, 896191, 898584, 900971, 903351, 905726,
+    908093, 910455, 912811, 915160, 917504, 919842, 922173, 924499, 926819, 929133, 931442, 933744,
+    936041, 938333, 940619, 942899, 945174, 947443, 949707, 951965, 954219, 956466, 958709, 960946,
+    963179, 965406, 967627, 969844, 972056, 974263, 976464, 978661, 980853, 983040, 985222, 987399,
+    989572, 991740, 993903, 996061, 998215, 1000364, 1002508, 1004648, 1006783, 1008914, 1011040,
+    1013162, 1015279, 1017392, 1019501, 1021605, 1023705, 1025801, 1027892, 1029979, 1032062,
+    1034141, 1036215, 1038286, 1040352, 1042414, 1044472, 1046526, 1048576,
+];

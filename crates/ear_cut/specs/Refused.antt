@@ -2,8 +2,8 @@
 use Rattle.std.specs.Prelude.{◌≡◌, List, Err, ⊤}
 use Rattle.nav_base.specs.declared.point.Point.{Point}
 use Rattle.mesh_types.specs.Ears.{ears_of}
-use Rattle.ear_cut.specs.declared.refusal.EarRefusal.{EarRefusal}
-use Rattle.ear_cut.specs.declared.refusal.EarRefusal.TheVariants as refusals
+use Rattle.ear_cut.specs.declared.cut.EarRefusal.{EarRefusal}
+use Rattle.ear_cut.specs.declared.cut.EarRefusal.TheVariants as refusals
 
 -- where there is no ear, those places of the outline are left
 abbrev pub IsLeft : List Point → EarRefusal → Type 0

@@ -1,4 +1,4 @@
-//! The cut of an outline.
+//! The cut of an outline. Why an outline was not cut.
 
 ghost use Rattle.std.specs.Prelude.{◌≡◌, ◌<◌, ◌≤◌, ◌+◌, length, map, All, pos, ◌<ℤ◌, IfOk, IfErr};
 ghost use Rattle.std.specs.List.{range_with_len};
@@ -8,12 +8,10 @@ ghost use Rattle.mesh_types.specs.Words.{piece_of};
 ghost use Rattle.mesh_types.specs.Edges.{HaveEdgesOnce, KeepOutline};
 ghost use Rattle.ear_cut.specs.Refused.{IsLeft};
 
-use crate::ear::{best_ear, triangle_at};
-use crate::refusal::EarRefusal;
-use crate::triangle::runs_counterclockwise;
+use crate::ear::{best_ear, runs_counterclockwise, triangle_at};
 use mesh_types::{Outline, Triangle};
-use nav_list::Items;
-use std::alloc::{AllocError, Global};
+use nav_lists::Items;
+use std::alloc::{AllocError, AllocFailed, Global};
 
 /// The triangles that cutting ears off an outline gives, in the order in which they are cut.
 pub fn ears(alloc: Global, outline: &Outline) -> Result<Items<Triangle>, EarRefusal>
@@ -64,4 +62,34 @@ fn places(alloc: Global, count: u32) -> Result<Vec<u32>, AllocError>
         places.push(place)?;
     }
     Ok(places)
+}
+
+/// Why there are no triangles.
+#[derive(PartialEq, Eq, Debug, Drop)]
+pub enum EarRefusal {
+    /// The places that are left have no ear, or are three that do not run counterclockwise.
+    NoEar { left: Items<u32> },
+    OutOfMemory,
+}
+
+impl From<AllocError> for EarRefusal {
+    ghost use Rattle.std.specs.Prelude.{◌≡◌};
+    ghost use Rattle.ear_cut.specs.declared.cut.EarRefusal.{EarRefusal};
+
+    ghost from_gives = { λ _ refusal. refusal ≡ EarRefusal.OutOfMemory };
+
+    fn from(_error: AllocError) -> Self {
+        EarRefusal::OutOfMemory
+    }
+}
+
+impl From<AllocFailed<Triangle>> for EarRefusal {
+    ghost use Rattle.std.specs.Prelude.{◌≡◌};
+    ghost use Rattle.ear_cut.specs.declared.cut.EarRefusal.{EarRefusal};
+
+    ghost from_gives = { λ _ refusal. refusal ≡ EarRefusal.OutOfMemory };
+
+    fn from(_error: AllocFailed<Triangle>) -> Self {
+        EarRefusal::OutOfMemory
+    }
 }

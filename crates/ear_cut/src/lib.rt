@@ -9,8 +9,5 @@
 
 mod cut;
 mod ear;
-mod refusal;
-mod triangle;
 
-pub use cut::ears;
-pub use refusal::EarRefusal;
+pub use cut::{EarRefusal, ears};

@@ -5,10 +5,10 @@ use Rattle.std.proofs.lemmas.Int.{ints}
 use Rattle.nav_base.specs.declared.point.Point.{Point}
 use Rattle.nav_base.specs.Point.{orient_of, from_to}
 use Rattle.mesh_types.specs.declared.links.Portal.{Portal}
-use Rattle.mesh_types.specs.declared.corner.Side.{Side}
-use Rattle.mesh_types.specs.declared.corner.Side.TheVariants.{L, R}
+use Rattle.mesh_types.specs.declared.answers.Side.{Side}
+use Rattle.mesh_types.specs.declared.answers.Side.TheVariants.{L, R}
 use Rattle.mesh_types.specs.Chains.{IsChain, portal_at}
-use Rattle.funnel_path.specs.declared.wedge.Wedge.{Wedge}
+use Rattle.funnel_path.specs.declared.funnel.Funnel.{Funnel}
 use Rattle.funnel_path.specs.Corners.{IsNearerEnd, square_between}
 use Rattle.funnel_path.specs.Looks.{portal_or_goal, GoesThroughAll, IsLook}
 use Rattle.funnel_path.proofs.PointLaws.{LiesBetweenRays, dot_of-still, length-not_negative, length-zero}
@@ -17,7 +17,7 @@ use Rattle.funnel_path.proofs.WedgeLaws.{IsInClosed, between_ends, inside_apart,
 
 -- a point of the wedge through the portals before `end`, other than the bend
 pub record IsInLook (c : Point) (portals : List Portal) (ahead end : ℕ) (q : Point) : Type 0 where
-  pub wedge : Wedge
+  pub wedge : Funnel
   pub look : IsLook c portals ahead end wedge
   pub closed : IsInClosed c wedge q
   pub apart : q ≢ c
@@ -27,21 +27,21 @@ pub look_between : (c : Point) (portals : List Portal) (ahead end : ℕ) (q : Po
 look_between c portals ahead end q m looked from before =
     between_ends c looked.wedge (portal_at portals m) q looked.look.seen.wide (looked.look.seen.through m from before) looked.closed
 
-pub at_left_ray : (c : Point) (portals : List Portal) (ahead end : ℕ) (wedge : Wedge) → IsLook c portals ahead end wedge → IsInLook c portals ahead end wedge.left.at
+pub at_left_ray : (c : Point) (portals : List Portal) (ahead end : ℕ) (wedge : Funnel) → IsLook c portals ahead end wedge → IsInLook c portals ahead end wedge.left.at
 at_left_ray c portals ahead end wedge look =
     record { wedge = wedge; look = look; closed = left_closed c wedge look.seen.wide; apart = λ e. left_apart c wedge look.seen.wide (sym e) }
 
-pub at_right_ray : (c : Point) (portals : List Portal) (ahead end : ℕ) (wedge : Wedge) → IsLook c portals ahead end wedge → IsInLook c portals ahead end wedge.right.at
+pub at_right_ray : (c : Point) (portals : List Portal) (ahead end : ℕ) (wedge : Funnel) → IsLook c portals ahead end wedge → IsInLook c portals ahead end wedge.right.at
 at_right_ray c portals ahead end wedge look =
     record { wedge = wedge; look = look; closed = right_closed c wedge look.seen.wide; apart = λ e. right_apart c wedge look.seen.wide (sym e) }
 
-pub inside_look : (c : Point) (portals : List Portal) (ahead end : ℕ) (wedge : Wedge) (q : Point) → IsLook c portals ahead end wedge
+pub inside_look : (c : Point) (portals : List Portal) (ahead end : ℕ) (wedge : Funnel) (q : Point) → IsLook c portals ahead end wedge
     → orient_of c wedge.left.at q <ℤ pos 0 → pos 0 <ℤ orient_of c wedge.right.at q → IsInLook c portals ahead end q
 inside_look c portals ahead end wedge q look right_of_left left_of_right =
     record { wedge = wedge; look = look; closed = inside_closed c wedge q right_of_left left_of_right; apart = λ e. inside_apart c wedge q left_of_right (sym e) }
 
 -- the wedge goes through the last portal before `end`
-pub look_last : (c : Point) (portals : List Portal) (ahead end : ℕ) (wedge : Wedge) → IsLook c portals ahead end wedge → GoesThroughAll c wedge (portal_at portals (end - 1))
+pub look_last : (c : Point) (portals : List Portal) (ahead end : ℕ) (wedge : Funnel) → IsLook c portals ahead end wedge → GoesThroughAll c wedge (portal_at portals (end - 1))
 look_last c portals ahead end wedge look = look.seen.through (end - 1) (omega (arith, look.some)) (omega (arith, look.some))
 
 -- what comes at a place lies ahead of the portal before it

@@ -7,9 +7,9 @@ use Rattle.nav_base.specs.declared.point.Point.{Point}
 use Rattle.nav_base.specs.Point.{orient_of}
 use Rattle.nav_base.proofs.OrientLaws.{orient_of-end, orient_of-start}
 use Rattle.mesh_types.specs.declared.links.Portal.{Portal}
-use Rattle.mesh_types.specs.declared.corner.Side.{Side}
-use Rattle.mesh_types.specs.declared.corner.Side.TheVariants.{L, R}
-use Rattle.mesh_types.specs.declared.corner.Corner.{Corner}
+use Rattle.mesh_types.specs.declared.answers.Side.{Side}
+use Rattle.mesh_types.specs.declared.answers.Side.TheVariants.{L, R}
+use Rattle.mesh_types.specs.declared.answers.Corner.{Corner}
 use Rattle.mesh_types.specs.Chains.{IsAhead, IsChain, IsFold, portal_at, end_of, other_end_of}
 use Rattle.mesh_types.specs.Bends.{IsHolding, IsStraightOn}
 use Rattle.funnel_path.specs.NextCorners.{IsCornerNext, IsGoalNext, IsNear}

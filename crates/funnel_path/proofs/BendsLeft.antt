@@ -7,12 +7,12 @@ use Rattle.nav_base.specs.declared.point.Point.{Point}
 use Rattle.nav_base.specs.Point.{orient_of, dot_of, from_to}
 use Rattle.nav_base.proofs.OrientLaws.{orient_of-end, orient_of-start}
 use Rattle.mesh_types.specs.declared.links.Portal.{Portal}
-use Rattle.mesh_types.specs.declared.corner.Side.{Side}
-use Rattle.mesh_types.specs.declared.corner.Side.TheVariants.{L, R}
-use Rattle.mesh_types.specs.declared.corner.Corner.{Corner}
+use Rattle.mesh_types.specs.declared.answers.Side.{Side}
+use Rattle.mesh_types.specs.declared.answers.Side.TheVariants.{L, R}
+use Rattle.mesh_types.specs.declared.answers.Corner.{Corner}
 use Rattle.mesh_types.specs.Chains.{IsAhead, IsChain, portal_at, end_of, other_end_of}
 use Rattle.mesh_types.specs.Bends.{IsHolding}
-use Rattle.funnel_path.specs.declared.wedge.Wedge.{Wedge}
+use Rattle.funnel_path.specs.declared.funnel.Funnel.{Funnel}
 use Rattle.funnel_path.specs.Corners.{IsNearerEnd}
 use Rattle.funnel_path.specs.Looks.{portal_or_goal, GoesThroughAll, IsLook}
 use Rattle.funnel_path.specs.PassedOver.{ArePassed, IsBeside, IsInLine, IsInside, LookOpposite}
@@ -183,7 +183,7 @@ left_turn_holds : (start : Point) (portals : List Portal) (goal b c : Point) (na
 left_turn_holds start portals goal b c named place ahead corner chain is begins from turn =
     subst (λ (k : Corner). IsHolding L b c k.at) (sym turn.is_left) (by (cases_lt wedge.left.portal place))
   where
-    wedge : Wedge
+    wedge : Funnel
     wedge = turn.wedge
 
     looked : IsInLook c portals ahead turn.place wedge.left.at
@@ -217,7 +217,7 @@ folded_back_holds start portals goal b c named place ahead corner chain is begin
         absurd (negative-not_above (orient_of portal.right portal.left c) back.front (is.crosses corner.portal (omega (arith, begins.from, back.look.some)) (omega arith)).reached)
 
 -- what lies to the left of the way on, ahead of the portal before, is to the left of a right end that the way on leaves to the right
-ray_before : (start : Point) (portals : List Portal) (goal b c : Point) (named place ahead end : ℕ) (wedge : Wedge) (x : Point) → TurnsLeft portals goal b c named place
+ray_before : (start : Point) (portals : List Portal) (goal b c : Point) (named place ahead end : ℕ) (wedge : Funnel) (x : Point) → TurnsLeft portals goal b c named place
     → named < ahead → IsLook c portals ahead end wedge → end ≤ place → IsAhead (portal_at portals (end - 1)) x → pos 0 ≤ℤ orient_of b c x → pos 0 <ℤ orient_of c wedge.right.at x
 ray_before start portals goal b c named place ahead end wedge x is after look before x_ahead left =
     order_against_walk portal.right portal.left b c wedge.right.at x (crosses_left_ahead b c portal (is.crosses (end - 1) (omega (arith, look.some)) (omega (arith, look.some))))
@@ -240,7 +240,7 @@ right_turn_holds : (start : Point) (portals : List Portal) (goal b c : Point) (n
 right_turn_holds start portals goal b c named place ahead corner chain is begins from turn =
     subst (λ (k : Corner). IsHolding L b c k.at) (sym turn.is_right) (by (cases_lt place turn.place) (cases_eq turn.place place))
   where
-    wedge : Wedge
+    wedge : Funnel
     wedge = turn.wedge
 
     end : ℕ

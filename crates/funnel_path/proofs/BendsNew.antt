@@ -5,12 +5,12 @@ use Rattle.nav_base.specs.declared.point.Point.{Point}
 use Rattle.nav_base.specs.Point.{orient_of, from_to}
 use Rattle.nav_base.proofs.OrientLaws.{orient_of-end, orient_of-start, orient_of-rotated, dot_of-exchanged}
 use Rattle.mesh_types.specs.declared.links.Portal.{Portal}
-use Rattle.mesh_types.specs.declared.corner.Side.{Side}
-use Rattle.mesh_types.specs.declared.corner.Side.TheVariants.{L, R}
-use Rattle.mesh_types.specs.declared.corner.Corner.{Corner}
+use Rattle.mesh_types.specs.declared.answers.Side.{Side}
+use Rattle.mesh_types.specs.declared.answers.Side.TheVariants.{L, R}
+use Rattle.mesh_types.specs.declared.answers.Corner.{Corner}
 use Rattle.mesh_types.specs.Chains.{IsBehind, IsChain, portal_at, end_of, other_end_of}
 use Rattle.mesh_types.specs.Bends.{IsHolding}
-use Rattle.funnel_path.specs.declared.wedge.Wedge.{Wedge}
+use Rattle.funnel_path.specs.declared.funnel.Funnel.{Funnel}
 use Rattle.funnel_path.specs.Corners.{IsNearerEnd}
 use Rattle.funnel_path.specs.PassedOver.{IsBeside}
 use Rattle.funnel_path.specs.Looks.{IsEndFrom}
@@ -66,7 +66,7 @@ left_turns start portals goal b ahead corner chain turn = record {
   closes = turn.closed;
 }
   where
-    wedge : Wedge
+    wedge : Funnel
     wedge = turn.wedge
 
     at : IsEndFrom portals ahead turn.place L wedge.left
@@ -93,7 +93,7 @@ right_turns start portals goal b ahead corner chain turn = record {
   closes_right = turn.closed_right;
 }
   where
-    wedge : Wedge
+    wedge : Funnel
     wedge = turn.wedge
 
     at : IsEndFrom portals ahead turn.place R wedge.right

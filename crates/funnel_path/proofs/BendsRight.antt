@@ -7,12 +7,12 @@ use Rattle.nav_base.specs.declared.point.Point.{Point}
 use Rattle.nav_base.specs.Point.{orient_of}
 use Rattle.nav_base.proofs.OrientLaws.{orient_of-end}
 use Rattle.mesh_types.specs.declared.links.Portal.{Portal}
-use Rattle.mesh_types.specs.declared.corner.Side.{Side}
-use Rattle.mesh_types.specs.declared.corner.Side.TheVariants.{L, R}
-use Rattle.mesh_types.specs.declared.corner.Corner.{Corner}
+use Rattle.mesh_types.specs.declared.answers.Side.{Side}
+use Rattle.mesh_types.specs.declared.answers.Side.TheVariants.{L, R}
+use Rattle.mesh_types.specs.declared.answers.Corner.{Corner}
 use Rattle.mesh_types.specs.Chains.{IsAhead, IsChain, portal_at, end_of, other_end_of}
 use Rattle.mesh_types.specs.Bends.{IsHolding, IsStraightOn}
-use Rattle.funnel_path.specs.declared.wedge.Wedge.{Wedge}
+use Rattle.funnel_path.specs.declared.funnel.Funnel.{Funnel}
 use Rattle.funnel_path.specs.Looks.{portal_or_goal, GoesThroughAll, IsLook}
 use Rattle.funnel_path.specs.PassedOver.{ArePassed, IsInside}
 use Rattle.funnel_path.specs.NextCorners.{IsAheadOf, IsCornerNext, IsGoalNext, IsNear, IsTurnedBack, all_passed, in_wedge, near, through, turned_back}
@@ -126,7 +126,7 @@ right_turn_holds : (start : Point) (portals : List Portal) (goal b c : Point) (n
 right_turn_holds start portals goal b c named place ahead corner chain is begins from turn =
     subst (λ (k : Corner). IsHolding R b c k.at) (sym turn.is_right) (by (cases_lt wedge.right.portal place))
   where
-    wedge : Wedge
+    wedge : Funnel
     wedge = turn.wedge
 
     looked : IsInLook c portals ahead turn.place wedge.right.at
@@ -159,7 +159,7 @@ folded_back_holds start portals goal b c named place ahead corner chain is begin
         absurd (negative-not_above (orient_of portal.right portal.left c) back.front (is.crosses corner.portal (omega (arith, begins.from, back.look.some)) (omega arith)).reached)
 
 -- what lies to the right of the way on, ahead of the portal before, is to the right of a left end that the way on leaves to the left
-ray_before : (portals : List Portal) (goal b c : Point) (named place ahead end : ℕ) (wedge : Wedge) (x : Point) → TurnsRight portals goal b c named place
+ray_before : (portals : List Portal) (goal b c : Point) (named place ahead end : ℕ) (wedge : Funnel) (x : Point) → TurnsRight portals goal b c named place
     → named < ahead → IsLook c portals ahead end wedge → end ≤ place → IsAhead (portal_at portals (end - 1)) x → orient_of b c x ≤ℤ pos 0 → orient_of c wedge.left.at x <ℤ pos 0
 ray_before portals goal b c named place ahead end wedge x is after look before x_ahead right =
     exchanged-negative c wedge.left.at x
@@ -183,7 +183,7 @@ left_turn_holds : (start : Point) (portals : List Portal) (goal b c : Point) (na
 left_turn_holds start portals goal b c named place ahead corner chain is begins from turn =
     subst (λ (k : Corner). IsHolding R b c k.at) (sym turn.is_left) (by (cases_lt place turn.place) (cases_eq turn.place place))
   where
-    wedge : Wedge
+    wedge : Funnel
     wedge = turn.wedge
 
     end : ℕ

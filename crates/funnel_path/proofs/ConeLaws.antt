@@ -6,10 +6,10 @@ use Rattle.std.proofs.lemmas.Int.{ints}
 use Rattle.nav_base.specs.declared.point.Point.{Point}
 use Rattle.nav_base.specs.Point.{dot_of, from_to, orient_of}
 use Rattle.mesh_types.specs.declared.links.Portal.{Portal}
-use Rattle.mesh_types.specs.declared.corner.Side.TheVariants.{L}
-use Rattle.mesh_types.specs.declared.corner.Corner.{Corner}
+use Rattle.mesh_types.specs.declared.answers.Side.TheVariants.{L}
+use Rattle.mesh_types.specs.declared.answers.Corner.{Corner}
 use Rattle.mesh_types.specs.Chains.{IsBehind, IsChain, portal_at, end_of}
-use Rattle.funnel_path.specs.declared.wedge.Wedge.{Wedge}
+use Rattle.funnel_path.specs.declared.funnel.Funnel.{Funnel}
 use Rattle.funnel_path.specs.Corners.{IsNearerCorner, IsNearerEnd, corner_at_end}
 use Rattle.funnel_path.specs.PassedOver.{ArePassed, IsInside, LookOpposite}
 use Rattle.funnel_path.specs.Looks.{GoesThroughAll, IsLook, portal_or_goal}
@@ -96,18 +96,18 @@ not_opposite portals place m found is none next opposite =
 -- ---- the wedge
 
 -- it begins as the wedge through one portal
-pub look_first : (portals : List Portal) (apex : Point) (ahead : ℕ) (wedge : Wedge) → ahead < length portals → pos 0 <ℤ orient_of (portal_at portals ahead).right (portal_at portals ahead).left apex
+pub look_first : (portals : List Portal) (apex : Point) (ahead : ℕ) (wedge : Funnel) → ahead < length portals → pos 0 <ℤ orient_of (portal_at portals ahead).right (portal_at portals ahead).left apex
     → wedge ≡ wedge_of (portal_at portals ahead) ahead → IsLook apex portals ahead (ahead + 1) wedge
 look_first portals apex ahead wedge there behind is =
     subst (IsLook apex portals ahead (ahead + 1)) (sym is) (record { some = omega arith; within = omega arith; seen = wedge_first apex portals ahead behind })
 
 -- the portal before the next one has both its ends ahead
-record IsNeighbour (portals : List Portal) (apex : Point) (wedge : Wedge) (place : ℕ) : Type 0 where
+record IsNeighbour (portals : List Portal) (apex : Point) (wedge : Funnel) (place : ℕ) : Type 0 where
   goes : GoesThroughAll apex wedge (portal_at portals (place - 1))
   ahead : AreAhead (portal_at portals (place - 1)) (portal_at portals place)
   behind : AreBehind (portal_at portals place) (portal_at portals (place - 1))
 
-neighbour : (start : Point) (portals : List Portal) (goal apex : Point) (ahead place : ℕ) (wedge : Wedge) → IsChain start portals goal → place < length portals → IsLook apex portals ahead place wedge
+neighbour : (start : Point) (portals : List Portal) (goal apex : Point) (ahead place : ℕ) (wedge : Funnel) → IsChain start portals goal → place < length portals → IsLook apex portals ahead place wedge
     → IsNeighbour portals apex wedge place
 neighbour start portals goal apex ahead place wedge chain there look =
     record {
@@ -120,7 +120,7 @@ neighbour start portals goal apex ahead place wedge chain there look =
     next = omega (arith, look.some)
 
 -- it goes through one more portal, where it stays open
-pub look_more : (start : Point) (portals : List Portal) (goal apex : Point) (ahead place : ℕ) (wedge narrower : Wedge) → IsChain start portals goal → place < length portals → IsLook apex portals ahead place wedge
+pub look_more : (start : Point) (portals : List Portal) (goal apex : Point) (ahead place : ℕ) (wedge narrower : Funnel) → IsChain start portals goal → place < length portals → IsLook apex portals ahead place wedge
     → StaysOpen apex wedge (portal_at portals place) → IsNarrowed apex wedge (portal_at portals place) place narrower → IsLook apex portals ahead (place + 1) narrower
 look_more start portals goal apex ahead place wedge narrower chain there look stays is =
     let by = neighbour start portals goal apex ahead place wedge chain there look in
@@ -133,12 +133,12 @@ look_more start portals goal apex ahead place wedge narrower chain there look st
 
 -- ---- it closes
 
-closes_left : (start : Point) (portals : List Portal) (goal apex : Point) (ahead place : ℕ) (wedge : Wedge) (corner : Corner) → IsLook apex portals ahead place wedge
+closes_left : (start : Point) (portals : List Portal) (goal apex : Point) (ahead place : ℕ) (wedge : Funnel) (corner : Corner) → IsLook apex portals ahead place wedge
     → ClosesLeft apex wedge (portal_or_goal portals goal place).right corner → IsCornerThrough apex portals goal ahead corner
 closes_left start portals goal apex ahead place wedge corner look closes = left_turn (record { place = place; wedge = wedge; look = look; is_left = closes.is_left; closed = closes.closed })
 
 -- a portal whose right end lies inside the wedge and that the apex does not lie behind folds back
-front_folds : (start : Point) (portals : List Portal) (goal apex : Point) (ahead place : ℕ) (wedge : Wedge) (corner : Corner) → IsChain start portals goal → place < length portals → IsLook apex portals ahead place wedge
+front_folds : (start : Point) (portals : List Portal) (goal apex : Point) (ahead place : ℕ) (wedge : Funnel) (corner : Corner) → IsChain start portals goal → place < length portals → IsLook apex portals ahead place wedge
     → ClosesFront apex wedge (portal_at portals place) place corner → FoldsBack apex (portal_at portals (place - 1)) (portal_at portals place)
 front_folds start portals goal apex ahead place wedge corner chain there look closes =
     let by = neighbour start portals goal apex ahead place wedge chain there look in
@@ -154,7 +154,7 @@ front_folds start portals goal apex ahead place wedge corner chain there look cl
       right_behind = by.behind.right;
     })
 
-closes_front : (start : Point) (portals : List Portal) (goal apex : Point) (ahead place : ℕ) (wedge : Wedge) (corner : Corner) → IsChain start portals goal → place < length portals → IsLook apex portals ahead place wedge
+closes_front : (start : Point) (portals : List Portal) (goal apex : Point) (ahead place : ℕ) (wedge : Funnel) (corner : Corner) → IsChain start portals goal → place < length portals → IsLook apex portals ahead place wedge
     → ClosesFront apex wedge (portal_at portals place) place corner → IsCornerThrough apex portals goal ahead corner
 closes_front start portals goal apex ahead place wedge corner chain there look closes =
     let back = front_folds start portals goal apex ahead place wedge corner chain there look closes in
@@ -171,7 +171,7 @@ closes_front start portals goal apex ahead place wedge corner chain there look c
     }))
 
 -- a portal that closes the wedge on the right has its right end there too
-right_outside : (start : Point) (portals : List Portal) (goal apex : Point) (ahead place : ℕ) (wedge : Wedge) (corner : Corner) → IsChain start portals goal → place < length portals → IsLook apex portals ahead place wedge
+right_outside : (start : Point) (portals : List Portal) (goal apex : Point) (ahead place : ℕ) (wedge : Funnel) (corner : Corner) → IsChain start portals goal → place < length portals → IsLook apex portals ahead place wedge
     → ClosesRight apex wedge (portal_at portals place) corner → orient_of apex wedge.right.at (portal_at portals place).right ≤ℤ pos 0
 right_outside start portals goal apex ahead place wedge corner chain there look closes =
     elim (signs (orient_of apex wedge.right.at portal.right)) [
@@ -201,7 +201,7 @@ right_outside start portals goal apex ahead place wedge corner chain there look 
         (beyond (orient_of before.right before.left portal.left) (orient_of before.right before.left apex) by.ahead.left by.goes.behind) (beyond (orient_of before.right before.left portal.right) (orient_of before.right before.left apex) by.ahead.right by.goes.behind)
         closes.closed (positive-weak (orient_of apex wedge.right.at portal.right) more) (beyond (orient_of apex wedge.right.at portal.left) (orient_of apex wedge.right.at portal.right) closes.closed more)
 
-closes_right : (start : Point) (portals : List Portal) (goal apex : Point) (ahead place : ℕ) (wedge : Wedge) (corner : Corner) → IsChain start portals goal → place < length portals → IsLook apex portals ahead place wedge
+closes_right : (start : Point) (portals : List Portal) (goal apex : Point) (ahead place : ℕ) (wedge : Funnel) (corner : Corner) → IsChain start portals goal → place < length portals → IsLook apex portals ahead place wedge
     → ClosesRight apex wedge (portal_at portals place) corner → IsCornerThrough apex portals goal ahead corner
 closes_right start portals goal apex ahead place wedge corner chain there look closes =
     right_turn (record {
@@ -218,7 +218,7 @@ closes_right start portals goal apex ahead place wedge corner chain there look c
     same = sym (portal_or_goal-there portals goal place there)
 
 -- at a portal
-pub met_through : (start : Point) (portals : List Portal) (goal apex : Point) (ahead place : ℕ) (wedge : Wedge) (corner : Corner) → IsChain start portals goal → place < length portals → IsLook apex portals ahead place wedge
+pub met_through : (start : Point) (portals : List Portal) (goal apex : Point) (ahead place : ℕ) (wedge : Funnel) (corner : Corner) → IsChain start portals goal → place < length portals → IsLook apex portals ahead place wedge
     → IsMet apex wedge (portal_at portals place) place (Some corner) → IsCornerThrough apex portals goal ahead corner
 met_through start portals goal apex ahead place wedge corner chain there look (inl left) =
     closes_left start portals goal apex ahead place wedge corner look
@@ -227,7 +227,7 @@ met_through start portals goal apex ahead place wedge corner chain there look (i
 met_through start portals goal apex ahead place wedge corner chain there look (inr (inr right)) = closes_right start portals goal apex ahead place wedge corner chain there look right
 
 -- before the goal
-met_before_goal : (portals : List Portal) (goal apex : Point) (ahead : ℕ) (wedge : Wedge) (corner : Corner) → IsLook apex portals ahead (length portals) wedge
+met_before_goal : (portals : List Portal) (goal apex : Point) (ahead : ℕ) (wedge : Funnel) (corner : Corner) → IsLook apex portals ahead (length portals) wedge
     → IsMetBeforeGoal apex wedge goal (Some corner) → IsCornerThrough apex portals goal ahead corner
 met_before_goal portals goal apex ahead wedge corner look (inl left) =
     left_turn (record {
@@ -252,11 +252,11 @@ met_before_goal portals goal apex ahead wedge corner look (inr right) =
     same = sym (portal_or_goal-end portals goal (length portals) (omega arith))
 
 -- the goal lies in it
-goal_inside : (portals : List Portal) (goal apex : Point) (ahead : ℕ) (wedge : Wedge) → IsLook apex portals ahead (length portals) wedge → IsMetBeforeGoal apex wedge goal None → IsInWedge apex portals goal ahead
+goal_inside : (portals : List Portal) (goal apex : Point) (ahead : ℕ) (wedge : Funnel) → IsLook apex portals ahead (length portals) wedge → IsMetBeforeGoal apex wedge goal None → IsInWedge apex portals goal ahead
 goal_inside portals goal apex ahead wedge look inside = record { wedge = wedge; look = look; right_of_left = inside.right_of_left; left_of_right = inside.left_of_right }
 
 -- where the wedge goes through all portals from `ahead` on, it closes before the goal or the goal lies in it
-pub through_all : (portals : List Portal) (goal apex : Point) (ahead place : ℕ) (wedge : Wedge) (found : Option Corner) → length portals ≤ place → IsLook apex portals ahead place wedge → IsMetBeforeGoal apex wedge goal found
+pub through_all : (portals : List Portal) (goal apex : Point) (ahead place : ℕ) (wedge : Funnel) (found : Option Corner) → length portals ≤ place → IsLook apex portals ahead place wedge → IsMetBeforeGoal apex wedge goal found
     → IsThrough apex portals goal ahead found
 through_all portals goal apex ahead place wedge found all look met = by found met
   where

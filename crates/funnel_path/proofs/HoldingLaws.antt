@@ -9,7 +9,7 @@ use Rattle.nav_base.proofs.Polynomials.{sum, difference, product, opposite, equa
 use Rattle.nav_base.proofs.PointTerms.{Place, place, coordinates, from_to_term, dot_term, orient_term}
 use Rattle.nav_base.proofs.OrientLaws.{orient_of-rotated, orient_of-turned, orient_of-fan, orient_of-ahead, orient_of-order_beyond, dot_of-exchanged, dot_of-fan, dot_of-product}
 use Rattle.nav_base.proofs.Signs.{product-not_negative, product-not_positive, product-positive, product-negative, factor-positive, factor-zero}
-use Rattle.mesh_types.specs.declared.corner.Side.TheVariants.{L, R}
+use Rattle.mesh_types.specs.declared.answers.Side.TheVariants.{L, R}
 use Rattle.mesh_types.specs.Bends.{IsStraightOn, IsHolding}
 use Rattle.funnel_path.proofs.SideRules.{positive-not_zero, opposite-negative, opposite-positive, opposite-zero, signs, not_negative-signs, not_positive-signs, difference-positive, difference-not_negative, zero-product, without, multiple-not_negative, factor-negative, product-negatives}
 use Rattle.funnel_path.proofs.PointLaws.{LiesBetweenRays, rays-meet, turned-zero, length-not_negative, length-zero, length-positive}

@@ -5,13 +5,13 @@ use Rattle.std.specs.Prelude.{All}
 use Rattle.nav_base.specs.Point.{HasCoordinates, orient_of}
 use Rattle.nav_base.proofs.PointTerms.{place}
 use Rattle.mesh_types.specs.declared.links.Portal.{Portal}
-use Rattle.mesh_types.specs.declared.corner.Side.{Side}
-use Rattle.mesh_types.specs.declared.corner.Side.TheVariants.{L, R}
-use Rattle.mesh_types.specs.declared.corner.Corner.{Corner}
+use Rattle.mesh_types.specs.declared.answers.Side.{Side}
+use Rattle.mesh_types.specs.declared.answers.Side.TheVariants.{L, R}
+use Rattle.mesh_types.specs.declared.answers.Corner.{Corner}
 use Rattle.mesh_types.specs.Chains.{IsAhead, IsBehind, IsChain, portal_at, end_of}
 use Rattle.mesh_types.proofs.Words.{some_portal}
 use Rattle.mesh_types.specs.Taut.{IsNamed}
-use Rattle.funnel_path.specs.declared.wedge.Wedge.{Wedge}
+use Rattle.funnel_path.specs.declared.funnel.Funnel.{Funnel}
 use Rattle.funnel_path.specs.Coordinates.{HasEndCoordinates}
 use Rattle.funnel_path.specs.PassedOver.{ArePassed}
 use Rattle.funnel_path.specs.NextCorners.{IsAheadOf, IsCornerNext, IsGoalNext, IsNear, IsTurnedBack, all_passed, in_wedge, near, turned_back, through}
@@ -85,7 +85,7 @@ turned_back_step start portals goal apex first corner chain turned =
 -- ---- what is seen through a wedge
 
 -- a point in the closed wedge, other than the apex, that lies ahead of the last portal before `end`
-seen_in_wedge : (apex q : Point) (portals : List Portal) (first ahead place end : ℕ) (wedge : Wedge) → ArePassed apex portals first ahead → IsLook apex portals ahead place wedge → end ≤ place
+seen_in_wedge : (apex q : Point) (portals : List Portal) (first ahead place end : ℕ) (wedge : Funnel) → ArePassed apex portals first ahead → IsLook apex portals ahead place wedge → end ≤ place
     → IsInClosed apex wedge q → apex ≢ q → ((m : ℕ) → m + 1 ≡ end → IsAhead (portal_at portals m) q) → IsSeen apex q portals first ahead end
 seen_in_wedge apex q portals first ahead place end wedge passed look before closed apart last =
     record {
@@ -97,7 +97,7 @@ seen_in_wedge apex q portals first ahead place end wedge passed look before clos
     }
 
 -- a corner of the wedge
-step_end : (start : Point) (portals : List Portal) (goal apex : Point) (first ahead place : ℕ) (side : Side) (wedge : Wedge) (corner : Corner) → IsChain start portals goal → IsAheadOf apex portals first ahead
+step_end : (start : Point) (portals : List Portal) (goal apex : Point) (first ahead place : ℕ) (side : Side) (wedge : Funnel) (corner : Corner) → IsChain start portals goal → IsAheadOf apex portals first ahead
     → IsLook apex portals ahead place wedge → IsEndFrom portals ahead place side corner → IsInClosed apex wedge corner.at → apex ≢ corner.at → IsStep apex portals first corner
 step_end start portals goal apex first ahead place side wedge corner chain of look is closed apart =
     record {

@@ -4,10 +4,10 @@ use Rattle.std.proofs.lemmas.Int.{ints}
 use Rattle.nav_base.specs.declared.point.Point.{Point}
 use Rattle.nav_base.specs.Point.{dot_of, from_to}
 use Rattle.mesh_types.specs.declared.links.Portal.{Portal}
-use Rattle.mesh_types.specs.declared.corner.Corner.{Corner}
+use Rattle.mesh_types.specs.declared.answers.Corner.{Corner}
 use Rattle.mesh_types.specs.Chains.{IsChain}
 use Rattle.mesh_types.specs.Taut.{IsTaut}
-use Rattle.mesh_types.specs.Segments.{Stop, stop_at}
+use Rattle.mesh_types.specs.Segments.{TautCorner, taut_corner_at}
 use Rattle.funnel_path.specs.NextCorners.{IsCornerNext, IsGoalNext}
 use Rattle.funnel_path.proofs.SideRules.{not_negative-signs}
 use Rattle.funnel_path.proofs.PointLaws.{dot_of-still, length-not_negative, length-zero}
@@ -24,7 +24,7 @@ pub record IsPulled (start : Point) (portals : List Portal) (goal : Point) (corn
 
 pub pulled_start : (start : Point) (portals : List Portal) (goal : Point) → IsPulled start portals goal [] start 0
 pulled_start start portals goal =
-    record { threaded = threaded_start start portals; held = held_none start portals; state = at_start (record { equal = λ k h. subst (λ (n : ℕ). (stop_at (stops_so_far start []) n).at ≡ start) (first k h) refl }) }
+    record { threaded = threaded_start start portals; held = held_none start portals; state = at_start (record { equal = λ k h. subst (λ (n : ℕ). (taut_corner_at (stops_so_far start []) n).at ≡ start) (first k h) refl }) }
   where
     first : (k : ℕ) → k ≤ 0 → 0 ≡ k
     first k h = omega arith
@@ -44,8 +44,8 @@ pub pulled_more : (start : Point) (portals : List Portal) (goal : Point) (corner
     → IsPulled start portals goal corners apex first → IsCornerNext apex portals goal first corner → IsPulled start portals goal (corners ++ corner ∷ []) corner.at (corner.portal + 1)
 pulled_more start portals goal corners apex first corner chain pulled next = by (same_or_apart corner.at apex)
   where
-    last : (stop_at (stops_so_far start corners) (length corners)).at ≡ apex
-    last = ap (λ (stop : Stop). stop.at) pulled.threaded.last
+    last : (taut_corner_at (stops_so_far start corners) (length corners)).at ≡ apex
+    last = ap (λ (stop : TautCorner). stop.at) pulled.threaded.last
 
     threaded : IsThreaded start portals (corners ++ corner ∷ []) corner.at (corner.portal + 1)
     threaded = threaded_more start portals goal corners apex first corner chain pulled.threaded (next_step start portals goal apex first corner chain next)
@@ -69,5 +69,5 @@ pub pulled_taut : (start : Point) (portals : List Portal) (goal : Point) (corner
 pulled_taut start portals goal corners apex first chain pulled next =
     let seen = next_goal start portals goal apex first chain next in
     threaded_taut start portals goal corners apex first seen.0 chain pulled.threaded seen.1
-    (held_goal start portals goal corners apex (ap (λ (stop : Stop). stop.at) pulled.threaded.last) pulled.held
+    (held_goal start portals goal corners apex (ap (λ (stop : TautCorner). stop.at) pulled.threaded.last) pulled.held
     (λ apart. state_arrives start portals goal corners apex first chain pulled.threaded.last pulled.state next apart))

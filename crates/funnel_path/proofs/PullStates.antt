@@ -2,14 +2,14 @@
 use Rattle.std.proofs.Common.{◌≡◌, ◌≢◌, ℕ, ◌+◌, ◌-◌, ◌≤◌, ◌<◌, ◌⊎◌, inl, inr, List, [], ◌∷◌, ◌++◌, length, refl, sym, ap, subst, ◌∙◌, arith}
 use Rattle.nav_base.specs.declared.point.Point.{Point}
 use Rattle.mesh_types.specs.declared.links.Portal.{Portal}
-use Rattle.mesh_types.specs.declared.corner.Side.{Side}
-use Rattle.mesh_types.specs.declared.corner.Side.TheVariants.{L, R}
-use Rattle.mesh_types.specs.declared.corner.Corner.{Corner}
+use Rattle.mesh_types.specs.declared.answers.Side.{Side}
+use Rattle.mesh_types.specs.declared.answers.Side.TheVariants.{L, R}
+use Rattle.mesh_types.specs.declared.answers.Corner.{Corner}
 use Rattle.mesh_types.specs.Chains.{IsChain, IsFold, portal_at, other_end_of}
 use Rattle.mesh_types.specs.Bends.{HasSide, IsFoldedOn, IsHolding, corner_of}
-use Rattle.mesh_types.specs.Segments.{Stop, stop_at}
+use Rattle.mesh_types.specs.Segments.{TautCorner, taut_corner_at}
 use Rattle.funnel_path.specs.NextCorners.{IsCornerNext, IsGoalNext, IsNear}
-use Rattle.funnel_path.proofs.StopLaws.{length-more, stop_at-corner, stops_so_far}
+use Rattle.funnel_path.proofs.StopLaws.{length-more, taut_corner_at-corner, stops_so_far}
 use Rattle.funnel_path.proofs.PullBends.{IsHeldFor, by_end, by_fold, by_next, held_for_alike}
 use Rattle.funnel_path.proofs.PullRuns.{IsAllStart, IsClosed, IsRun, alike_back, alike_more, corner_of-added, corner_of-kept, is_held, is_no_bend, run_longer, run_new, start_longer}
 use Rattle.funnel_path.proofs.Bends.{FoldsAt, GoesOn, GoesOnEither, Turns, TurnsEither, opposite_side, either_folded, either_held, either_still, stays_folded, stays_held, stays_turning, becomes_either}
@@ -31,16 +31,16 @@ pub data RunState (start : Point) (portals : List Portal) (goal : Point) (corner
 -- ---- corners of the run
 
 -- the last corner names the portal before `first`
-last_named : (start : Point) (corners : List Corner) (apex : Point) (first : ℕ) → stop_at (stops_so_far start corners) (length corners) ≡ record { at = apex; number = first } → 1 ≤ length corners
+last_named : (start : Point) (corners : List Corner) (apex : Point) (first : ℕ) → taut_corner_at (stops_so_far start corners) (length corners) ≡ record { at = apex; number = first } → 1 ≤ length corners
     → (corner_of corners (length corners)).portal + 1 ≡ first
 last_named start corners apex first last some =
-    sym (ap (λ (stop : Stop). stop.number) (ap (λ (n : ℕ). stop_at (stops_so_far start corners) n) (back (length corners) some) ∙ stop_at-corner start corners (length corners - 1) (omega arith))) ∙ ap (λ (stop : Stop). stop.number) last
+    sym (ap (λ (stop : TautCorner). stop.number) (ap (λ (n : ℕ). taut_corner_at (stops_so_far start corners) n) (back (length corners) some) ∙ taut_corner_at-corner start corners (length corners - 1) (omega arith))) ∙ ap (λ (stop : TautCorner). stop.number) last
   where
     back : (n : ℕ) → 1 ≤ n → n ≡ n - 1 + 1
     back n some = omega arith
 
 -- so where the next portal folds back on it, the run is held
-folds_run : (start : Point) (portals : List Portal) (corners : List Corner) (apex : Point) (first named from : ℕ) → stop_at (stops_so_far start corners) (length corners) ≡ record { at = apex; number = first } → 1 ≤ from → from ≤ length corners
+folds_run : (start : Point) (portals : List Portal) (corners : List Corner) (apex : Point) (first named from : ℕ) → taut_corner_at (stops_so_far start corners) (length corners) ≡ record { at = apex; number = first } → 1 ≤ from → from ≤ length corners
     → named + 1 ≡ first → FoldsAt portals named → IsFoldedOn portals corners from (length corners)
 folds_run start portals corners apex first named from last some within next fold =
     record {
@@ -105,13 +105,13 @@ new_folds portals corners corner fold =
 -- ---- the last run closes
 
 -- where the path goes on to a, each side to which it turns is held
-leaves_on : (start : Point) (portals : List Portal) (corners : List Corner) (apex a b : Point) (first named from k : ℕ) (side : Side) → stop_at (stops_so_far start corners) (length corners) ≡ record { at = apex; number = first }
+leaves_on : (start : Point) (portals : List Portal) (corners : List Corner) (apex a b : Point) (first named from k : ℕ) (side : Side) → taut_corner_at (stops_so_far start corners) (length corners) ≡ record { at = apex; number = first }
     → IsRun start corners apex b from → HasSide corners from (length corners) side k → named + 1 ≡ first → IsHolding side b apex a ⊎ FoldsAt portals named → IsClosed start portals corners apex a
 leaves_on start portals corners apex a b first named from k side last run has next (inl holds) = is_held b from run (by_next side k has holds)
 leaves_on start portals corners apex a b first named from k side last run has next (inr fold) =
     is_held b from run (by_fold (folds_run start portals corners apex first named from last run.some run.within next fold))
 
-either_on : (start : Point) (portals : List Portal) (corners : List Corner) (apex a b : Point) (first named from k k' : ℕ) → stop_at (stops_so_far start corners) (length corners) ≡ record { at = apex; number = first }
+either_on : (start : Point) (portals : List Portal) (corners : List Corner) (apex a b : Point) (first named from k k' : ℕ) → taut_corner_at (stops_so_far start corners) (length corners) ≡ record { at = apex; number = first }
     → IsRun start corners apex b from → HasSide corners from (length corners) L k → HasSide corners from (length corners) R k' → named + 1 ≡ first
     → (IsHolding L b apex a ⊎ IsHolding R b apex a) ⊎ FoldsAt portals named → IsClosed start portals corners apex a
 either_on start portals corners apex a b first named from k k' last run has has' next (inl (inl holds)) = is_held b from run (by_next L k has holds)
@@ -131,7 +131,7 @@ arrives L start portals goal b c named place chain turn next apart = left_arrive
 arrives R start portals goal b c named place chain turn next apart = right_arrives start portals goal b c named place chain turn next apart
 
 pub state_leaves : (start : Point) (portals : List Portal) (goal : Point) (corners : List Corner) (apex : Point) (first : ℕ) (corner : Corner) → IsChain start portals goal
-    → stop_at (stops_so_far start corners) (length corners) ≡ record { at = apex; number = first } → RunState start portals goal corners apex first
+    → taut_corner_at (stops_so_far start corners) (length corners) ≡ record { at = apex; number = first } → RunState start portals goal corners apex first
     → IsCornerNext apex portals goal first corner → corner.at ≢ apex → IsClosed start portals corners apex corner.at
 state_leaves start portals goal corners apex first corner chain last (at_start all) next apart = is_no_bend all
 state_leaves start portals goal corners apex first corner chain last (settled b from run holding) next apart = is_held b from run (holding corner.at)
@@ -143,7 +143,7 @@ state_leaves start portals goal corners apex first corner chain last (turning_ei
     (either_leaves start portals goal b apex named corner chain turn (subst (λ (n : ℕ). IsCornerNext apex portals goal n corner) (sym after) next) apart)
 
 pub state_arrives : (start : Point) (portals : List Portal) (goal : Point) (corners : List Corner) (apex : Point) (first : ℕ) → IsChain start portals goal
-    → stop_at (stops_so_far start corners) (length corners) ≡ record { at = apex; number = first } → RunState start portals goal corners apex first
+    → taut_corner_at (stops_so_far start corners) (length corners) ≡ record { at = apex; number = first } → RunState start portals goal corners apex first
     → IsGoalNext apex portals goal first → goal ≢ apex → IsClosed start portals corners apex goal
 state_arrives start portals goal corners apex first chain last (at_start all) next apart = is_no_bend all
 state_arrives start portals goal corners apex first chain last (settled b from run holding) next apart = is_held b from run (holding goal)
@@ -165,7 +165,7 @@ held_still : (start : Point) (portals : List Portal) (corners : List Corner) (co
 held_still start portals corners corner apex b from same some holding a =
     moved (λ (p : Point). IsHeldFor portals (corners ++ corner ∷ []) b p a from (length (corners ++ corner ∷ []))) apex corner.at same (still_held start portals corners corner b apex a from some (holding a))
 
-held_by_fold : (start : Point) (portals : List Portal) (corners : List Corner) (corner : Corner) (apex b : Point) (first named from : ℕ) → stop_at (stops_so_far start corners) (length corners) ≡ record { at = apex; number = first }
+held_by_fold : (start : Point) (portals : List Portal) (corners : List Corner) (corner : Corner) (apex b : Point) (first named from : ℕ) → taut_corner_at (stops_so_far start corners) (length corners) ≡ record { at = apex; number = first }
     → corner.at ≡ apex → IsRun start corners apex b from → named + 1 ≡ first → FoldsAt portals named → (a : Point) → IsHeldFor portals (corners ++ corner ∷ []) b corner.at a from (length (corners ++ corner ∷ []))
 held_by_fold start portals corners corner apex b first named from last same run after fold =
     held_still start portals corners corner apex b from same run.some (λ a. by_fold (folds_run start portals corners apex first named from last run.some run.within after fold))
@@ -181,7 +181,7 @@ goes_on L start portals goal b c named place corner chain turn near same = left_
 goes_on R start portals goal b c named place corner chain turn near same = right_goes_on start portals goal b c named place corner chain turn near same
 
 turning_grows : (start : Point) (portals : List Portal) (goal : Point) (corners : List Corner) (apex b : Point) (first named from k : ℕ) (side : Side) (corner : Corner)
-    → stop_at (stops_so_far start corners) (length corners) ≡ record { at = apex; number = first } → IsRun start corners apex b from → HasSide corners from (length corners) side k → named + 1 ≡ first
+    → taut_corner_at (stops_so_far start corners) (length corners) ≡ record { at = apex; number = first } → IsRun start corners apex b from → HasSide corners from (length corners) side k → named + 1 ≡ first
     → corner.at ≡ apex → GoesOn side portals goal b apex named corner → RunState start portals goal (corners ++ corner ∷ []) corner.at (corner.portal + 1)
 turning_grows start portals goal corners apex b first named from k side corner last run has after same (stays_folded at) =
     settled b from (run_longer start corners corner apex b from same run) (held_by_fold start portals corners corner apex b first named from last same run after at)
@@ -205,7 +205,7 @@ turning_grows start portals goal corners apex b first named from k side corner l
         turning_either b from corner.portal (length corners + 1) k new_run (new_has corners corner from L (omega (arith, run.within)) sided) (more_has corners corner from k R run.some has) refl at_corner
 
 either_grows : (start : Point) (portals : List Portal) (goal : Point) (corners : List Corner) (apex b : Point) (first named from k k' : ℕ) (corner : Corner)
-    → stop_at (stops_so_far start corners) (length corners) ≡ record { at = apex; number = first } → IsRun start corners apex b from → HasSide corners from (length corners) L k → HasSide corners from (length corners) R k' → named + 1 ≡ first
+    → taut_corner_at (stops_so_far start corners) (length corners) ≡ record { at = apex; number = first } → IsRun start corners apex b from → HasSide corners from (length corners) L k → HasSide corners from (length corners) R k' → named + 1 ≡ first
     → corner.at ≡ apex → GoesOnEither portals b apex named corner → RunState start portals goal (corners ++ corner ∷ []) corner.at (corner.portal + 1)
 either_grows start portals goal corners apex b first named from k k' corner last run has has' after same (either_folded at) =
     settled b from (run_longer start corners corner apex b from same run) (held_by_fold start portals corners corner apex b first named from last same run after at)
@@ -216,7 +216,7 @@ either_grows start portals goal corners apex b first named from k k' corner last
     (moved (λ (p : Point). TurnsEither portals b p corner.portal) apex corner.at same still)
 
 pub state_grows : (start : Point) (portals : List Portal) (goal : Point) (corners : List Corner) (apex : Point) (first : ℕ) (corner : Corner) → IsChain start portals goal
-    → stop_at (stops_so_far start corners) (length corners) ≡ record { at = apex; number = first } → RunState start portals goal corners apex first
+    → taut_corner_at (stops_so_far start corners) (length corners) ≡ record { at = apex; number = first } → RunState start portals goal corners apex first
     → IsCornerNext apex portals goal first corner → corner.at ≡ apex → RunState start portals goal (corners ++ corner ∷ []) corner.at (corner.portal + 1)
 state_grows start portals goal corners apex first corner chain last (at_start all) next same = at_start (start_longer start corners corner apex same all)
 state_grows start portals goal corners apex first corner chain last (settled b from run holding) next same =
@@ -240,7 +240,7 @@ begins_state start portals goal corners apex corner run (begins_turning place tu
     turning apex (length corners + 1) corner.portal place (length corners + 1) corner.side run (new_has corners corner (length corners + 1) corner.side (omega arith) refl) refl turn
 
 pub state_begins : (start : Point) (portals : List Portal) (goal : Point) (corners : List Corner) (apex : Point) (first : ℕ) (corner : Corner) → IsChain start portals goal
-    → (stop_at (stops_so_far start corners) (length corners)).at ≡ apex → IsCornerNext apex portals goal first corner → corner.at ≢ apex
+    → (taut_corner_at (stops_so_far start corners) (length corners)).at ≡ apex → IsCornerNext apex portals goal first corner → corner.at ≢ apex
     → RunState start portals goal (corners ++ corner ∷ []) corner.at (corner.portal + 1)
 state_begins start portals goal corners apex first corner chain last next apart =
     begins_state start portals goal corners apex corner (run_new start corners corner apex last apart) (begins start portals goal apex first corner chain next apart)

@@ -3,16 +3,16 @@ use Rattle.std.proofs.Common.{◌≡◌, ◌≢◌, ℕ, ◌+◌, ◌≤◌, ◌
 use Rattle.nav_base.specs.declared.point.Point.{Point}
 use Rattle.mesh_types.specs.declared.links.Portal.{Portal}
 use Rattle.mesh_types.specs.Chains.{IsChain, portal_at}
-use Rattle.mesh_types.specs.Segments.{GoesThrough, IsNoFurther, IsReached, IsTight, LiesOnLine, Stop, stop_at, LiesOn}
+use Rattle.mesh_types.specs.Segments.{GoesThrough, IsNoFurther, IsReached, IsTight, LiesOnLine, TautCorner, taut_corner_at, LiesOn}
 use Rattle.funnel_path.proofs.SightLaws.{IsSeen, seen_in_turn, seen_lies, seen_reached, seen_through}
 
 -- a portal's place lies strictly between the numbers of two stops
-pub record StandsBetween (from to : Stop) (m : ℕ) : Type 0 where
+pub record StandsBetween (from to : TautCorner) (m : ℕ) : Type 0 where
   pub after : from.number < m + 1
   pub before : m + 1 < to.number
 
 -- the segment from one stop to the next is tight
-pub record IsTightFrom (portals : List Portal) (from to : Stop) : Type 0 where
+pub record IsTightFrom (portals : List Portal) (from to : TautCorner) : Type 0 where
   pub through : (m : ℕ) → StandsBetween from to m → GoesThrough from.at to.at (portal_at portals m)
   pub lies : (m : ℕ) → StandsBetween from to m → from.at ≡ to.at → LiesOn from.at (portal_at portals m)
   pub reached : (m : ℕ) → StandsBetween from to m → from.at ≢ to.at → LiesOnLine from.at to.at (portal_at portals m) → IsReached from.at to.at (portal_at portals m)
@@ -20,11 +20,11 @@ pub record IsTightFrom (portals : List Portal) (from to : Stop) : Type 0 where
       → LiesOnLine from.at to.at (portal_at portals m) → LiesOnLine from.at to.at (portal_at portals m') → IsNoFurther from.at to.at (portal_at portals m) (portal_at portals m')
 
 -- then the segment from that place in a list of stops is
-pub tight_at : (portals : List Portal) (stops : List Stop) (k : ℕ) (from to : Stop) → stop_at stops k ≡ from → stop_at stops (k + 1) ≡ to → IsTightFrom portals from to → IsTight portals stops k
-tight_at portals stops k from to is_from is_to tight =
-    here (subst (λ (stop : Stop). IsTightFrom portals stop (stop_at stops (k + 1))) (sym is_from) (subst (IsTightFrom portals from) (sym is_to) tight))
+pub tight_at : (portals : List Portal) (taut : List TautCorner) (k : ℕ) (from to : TautCorner) → taut_corner_at taut k ≡ from → taut_corner_at taut (k + 1) ≡ to → IsTightFrom portals from to → IsTight portals taut k
+tight_at portals taut k from to is_from is_to tight =
+    here (subst (λ (stop : TautCorner). IsTightFrom portals stop (taut_corner_at taut (k + 1))) (sym is_from) (subst (IsTightFrom portals from) (sym is_to) tight))
   where
-    here : IsTightFrom portals (stop_at stops k) (stop_at stops (k + 1)) → IsTight portals stops k
+    here : IsTightFrom portals (taut_corner_at taut k) (taut_corner_at taut (k + 1)) → IsTight portals taut k
     here is = record {
       through = λ m spanned. is.through m (record { after = spanned.after; before = spanned.before });
       lies = λ m spanned. is.lies m (record { after = spanned.after; before = spanned.before });

@@ -6,10 +6,10 @@ use Rattle.nav_base.specs.declared.point.Point.{Point}
 use Rattle.nav_base.specs.Point.{orient_of}
 use Rattle.nav_base.proofs.OrientLaws.{orient_of-end, orient_of-parts}
 use Rattle.mesh_types.specs.declared.links.Portal.{Portal}
-use Rattle.mesh_types.specs.declared.corner.Side.TheVariants.{L, R}
-use Rattle.mesh_types.specs.declared.corner.Corner.{Corner}
+use Rattle.mesh_types.specs.declared.answers.Side.TheVariants.{L, R}
+use Rattle.mesh_types.specs.declared.answers.Corner.{Corner}
 use Rattle.mesh_types.specs.Chains.{portal_at}
-use Rattle.funnel_path.specs.declared.wedge.Wedge.{Wedge}
+use Rattle.funnel_path.specs.declared.funnel.Funnel.{Funnel}
 use Rattle.funnel_path.specs.Corners.{corner_at_end}
 use Rattle.funnel_path.specs.Looks.{GoesThroughAll, IsEndFrom, IsWedge}
 use Rattle.funnel_path.specs.Wedges.{IsInFront, IsLeftRay, IsNarrowed, IsRightRay, StaysOpen, wedge_of}
@@ -19,37 +19,37 @@ use Rattle.funnel_path.proofs.PointLaws.{LiesBetweenRays, exchanged-negative, ex
 -- ---- the rays in the wedge
 
 -- a point lies in the closed wedge
-pub record IsInClosed (apex : Point) (wedge : Wedge) (q : Point) : Type 0 where
+pub record IsInClosed (apex : Point) (wedge : Funnel) (q : Point) : Type 0 where
   pub from_right : pos 0 ≤ℤ orient_of apex wedge.right.at q
   pub from_left : pos 0 ≤ℤ orient_of apex q wedge.left.at
 
 -- the corners on its rays lie in it, and each point strictly inside; they differ from the apex
-pub left_closed : (apex : Point) (wedge : Wedge) → pos 0 <ℤ orient_of apex wedge.right.at wedge.left.at → IsInClosed apex wedge wedge.left.at
+pub left_closed : (apex : Point) (wedge : Funnel) → pos 0 <ℤ orient_of apex wedge.right.at wedge.left.at → IsInClosed apex wedge wedge.left.at
 left_closed apex wedge wide =
     record { from_right = positive-weak (orient_of apex wedge.right.at wedge.left.at) wide; from_left = zero-at_least (orient_of apex wedge.left.at wedge.left.at) (orient_of-end apex wedge.left.at) }
 
-pub left_apart : (apex : Point) (wedge : Wedge) → pos 0 <ℤ orient_of apex wedge.right.at wedge.left.at → apex ≢ wedge.left.at
+pub left_apart : (apex : Point) (wedge : Funnel) → pos 0 <ℤ orient_of apex wedge.right.at wedge.left.at → apex ≢ wedge.left.at
 left_apart apex wedge wide = turn-third apex wedge.right.at wedge.left.at wide
 
-pub right_closed : (apex : Point) (wedge : Wedge) → pos 0 <ℤ orient_of apex wedge.right.at wedge.left.at → IsInClosed apex wedge wedge.right.at
+pub right_closed : (apex : Point) (wedge : Funnel) → pos 0 <ℤ orient_of apex wedge.right.at wedge.left.at → IsInClosed apex wedge wedge.right.at
 right_closed apex wedge wide =
     record { from_right = zero-at_least (orient_of apex wedge.right.at wedge.right.at) (orient_of-end apex wedge.right.at); from_left = positive-weak (orient_of apex wedge.right.at wedge.left.at) wide }
 
-pub right_apart : (apex : Point) (wedge : Wedge) → pos 0 <ℤ orient_of apex wedge.right.at wedge.left.at → apex ≢ wedge.right.at
+pub right_apart : (apex : Point) (wedge : Funnel) → pos 0 <ℤ orient_of apex wedge.right.at wedge.left.at → apex ≢ wedge.right.at
 right_apart apex wedge wide = turn-second apex wedge.right.at wedge.left.at wide
 
-pub inside_closed : (apex : Point) (wedge : Wedge) (q : Point) → orient_of apex wedge.left.at q <ℤ pos 0 → pos 0 <ℤ orient_of apex wedge.right.at q → IsInClosed apex wedge q
+pub inside_closed : (apex : Point) (wedge : Funnel) (q : Point) → orient_of apex wedge.left.at q <ℤ pos 0 → pos 0 <ℤ orient_of apex wedge.right.at q → IsInClosed apex wedge q
 inside_closed apex wedge q of_left of_right =
     record { from_right = positive-weak (orient_of apex wedge.right.at q) of_right; from_left = positive-weak (orient_of apex q wedge.left.at) (exchanged-positive apex q wedge.left.at of_left) }
 
-pub inside_apart : (apex : Point) (wedge : Wedge) (q : Point) → pos 0 <ℤ orient_of apex wedge.right.at q → apex ≢ q
+pub inside_apart : (apex : Point) (wedge : Funnel) (q : Point) → pos 0 <ℤ orient_of apex wedge.right.at q → apex ≢ q
 inside_apart apex wedge q of_right = turn-third apex wedge.right.at q of_right
 
-between : (apex : Point) (wedge : Wedge) (q : Point) → pos 0 <ℤ orient_of apex wedge.right.at wedge.left.at → IsInClosed apex wedge q → LiesBetweenRays apex wedge.right.at wedge.left.at q
+between : (apex : Point) (wedge : Funnel) (q : Point) → pos 0 <ℤ orient_of apex wedge.right.at wedge.left.at → IsInClosed apex wedge q → LiesBetweenRays apex wedge.right.at wedge.left.at q
 between apex wedge q wide closed = record { wide = wide; from_right = closed.from_right; from_left = closed.from_left }
 
 -- then it lies between the rays to the ends of each portal that the wedge goes through
-pub between_ends : (apex : Point) (wedge : Wedge) (portal : Portal) (q : Point) → pos 0 <ℤ orient_of apex wedge.right.at wedge.left.at → GoesThroughAll apex wedge portal → IsInClosed apex wedge q
+pub between_ends : (apex : Point) (wedge : Funnel) (portal : Portal) (q : Point) → pos 0 <ℤ orient_of apex wedge.right.at wedge.left.at → GoesThroughAll apex wedge portal → IsInClosed apex wedge q
     → LiesBetweenRays apex portal.right portal.left q
 between_ends apex wedge portal q wide through closed =
     let rays = between apex wedge q wide closed in
@@ -60,7 +60,7 @@ between_ends apex wedge portal q wide through closed =
     }
 
 -- and a point strictly inside the wedge lies strictly between them
-pub inside_rays : (apex : Point) (wedge : Wedge) (portal : Portal) (q : Point) → pos 0 <ℤ orient_of apex wedge.right.at wedge.left.at → GoesThroughAll apex wedge portal
+pub inside_rays : (apex : Point) (wedge : Funnel) (portal : Portal) (q : Point) → pos 0 <ℤ orient_of apex wedge.right.at wedge.left.at → GoesThroughAll apex wedge portal
     → orient_of apex wedge.left.at q <ℤ pos 0 → pos 0 <ℤ orient_of apex wedge.right.at q → (pos 0 <ℤ orient_of apex portal.right q) × (pos 0 <ℤ orient_of apex q portal.left)
 inside_rays apex wedge portal q wide through of_left of_right =
     let inside = exchanged-positive apex q wedge.left.at of_left in
@@ -71,7 +71,7 @@ inside_rays apex wedge portal q wide through of_left of_right =
     )
 
 -- the right ray's corner is seen beyond the apex by each portal that the wedge goes through
-pub right_beyond : (apex : Point) (wedge : Wedge) (portal : Portal) → GoesThroughAll apex wedge portal → orient_of portal.right portal.left wedge.right.at <ℤ orient_of portal.right portal.left apex
+pub right_beyond : (apex : Point) (wedge : Funnel) (portal : Portal) → GoesThroughAll apex wedge portal → orient_of portal.right portal.left wedge.right.at <ℤ orient_of portal.right portal.left apex
 right_beyond apex wedge portal through =
     less (orient_of portal.right portal.left apex) (orient_of portal.right portal.left wedge.right.at) (orient_of apex portal.right wedge.right.at) (orient_of apex wedge.right.at portal.left)
     (orient_of-parts apex portal.right portal.left wedge.right.at) (exchanged-not_negative apex portal.right wedge.right.at through.right_of_right) through.left_of_right
@@ -80,7 +80,7 @@ right_beyond apex wedge portal through =
     less e m n o is p q = omega (arith, ints)
 
 -- and so is the left ray's
-pub left_beyond : (apex : Point) (wedge : Wedge) (portal : Portal) → GoesThroughAll apex wedge portal → orient_of portal.right portal.left wedge.left.at <ℤ orient_of portal.right portal.left apex
+pub left_beyond : (apex : Point) (wedge : Funnel) (portal : Portal) → GoesThroughAll apex wedge portal → orient_of portal.right portal.left wedge.left.at <ℤ orient_of portal.right portal.left apex
 left_beyond apex wedge portal through =
     less (orient_of portal.right portal.left apex) (orient_of portal.right portal.left wedge.left.at) (orient_of apex portal.right wedge.left.at) (orient_of apex wedge.left.at portal.left)
     (orient_of-parts apex portal.right portal.left wedge.left.at) (exchanged-positive apex portal.right wedge.left.at through.right_of_left) through.left_of_left
@@ -91,7 +91,7 @@ left_beyond apex wedge portal through =
 -- ---- one ray after the other
 
 -- the left ray moves to a point that is not to its left and to the left of the right ray
-moved_left : (apex : Point) (wedge : Wedge) (corner : Corner) (portal : Portal) → pos 0 <ℤ orient_of apex wedge.right.at wedge.left.at → GoesThroughAll apex wedge portal
+moved_left : (apex : Point) (wedge : Funnel) (corner : Corner) (portal : Portal) → pos 0 <ℤ orient_of apex wedge.right.at wedge.left.at → GoesThroughAll apex wedge portal
     → orient_of apex wedge.left.at corner.at ≤ℤ pos 0 → pos 0 <ℤ orient_of apex wedge.right.at corner.at → GoesThroughAll apex (record { left = corner; right = wedge.right }) portal
 moved_left apex wedge corner portal wide through at_left at_right =
     let rays : LiesBetweenRays apex wedge.right.at wedge.left.at corner.at =
@@ -105,7 +105,7 @@ moved_left apex wedge corner portal wide through at_left at_right =
     }
 
 -- the right ray moves to a point that is not to its right and to the right of the left ray
-moved_right : (apex : Point) (wedge : Wedge) (corner : Corner) (portal : Portal) → pos 0 <ℤ orient_of apex wedge.right.at wedge.left.at → GoesThroughAll apex wedge portal
+moved_right : (apex : Point) (wedge : Funnel) (corner : Corner) (portal : Portal) → pos 0 <ℤ orient_of apex wedge.right.at wedge.left.at → GoesThroughAll apex wedge portal
     → pos 0 ≤ℤ orient_of apex wedge.right.at corner.at → pos 0 <ℤ orient_of apex corner.at wedge.left.at → GoesThroughAll apex (record { left = wedge.left; right = corner }) portal
 moved_right apex wedge corner portal wide through at_right at_left =
     let rays : LiesBetweenRays apex wedge.right.at wedge.left.at corner.at =
@@ -120,13 +120,13 @@ moved_right apex wedge corner portal wide through at_right at_left =
 
 -- what is known once the left ray has moved to one more portal and the right ray has not: the wedge is open, and the portal's right end is
 -- to the right of the left ray
-record IsHalfNarrowed (apex : Point) (wedge : Wedge) (portal : Portal) (left : Corner) : Type 0 where
+record IsHalfNarrowed (apex : Point) (wedge : Funnel) (portal : Portal) (left : Corner) : Type 0 where
   wide : pos 0 <ℤ orient_of apex wedge.right.at left.at
   before : pos 0 <ℤ orient_of apex portal.right left.at
   left_of_left : pos 0 ≤ℤ orient_of apex left.at portal.left
   keeps : (other : Portal) → GoesThroughAll apex wedge other → GoesThroughAll apex (record { left = left; right = wedge.right }) other
 
-half_narrowed : (apex : Point) (wedge : Wedge) (portal : Portal) (place : ℕ) (left : Corner) → pos 0 <ℤ orient_of apex wedge.right.at wedge.left.at → StaysOpen apex wedge portal
+half_narrowed : (apex : Point) (wedge : Funnel) (portal : Portal) (place : ℕ) (left : Corner) → pos 0 <ℤ orient_of apex wedge.right.at wedge.left.at → StaysOpen apex wedge portal
     → pos 0 <ℤ orient_of portal.right portal.left apex → IsLeftRay apex wedge portal place left → IsHalfNarrowed apex wedge portal left
 half_narrowed apex wedge portal place left wide stays behind (inr (further, same)) =
     subst (IsHalfNarrowed apex wedge portal) (sym same) (record {
@@ -144,12 +144,12 @@ half_narrowed apex wedge portal place left wide stays behind (inl (nearer, same)
     })
 
 -- what is known once both rays have moved
-pub record IsFullyNarrowed (apex : Point) (portal : Portal) (wedge narrower : Wedge) : Type 0 where
+pub record IsFullyNarrowed (apex : Point) (portal : Portal) (wedge narrower : Funnel) : Type 0 where
   pub wide : pos 0 <ℤ orient_of apex narrower.right.at narrower.left.at
   pub goes : GoesThroughAll apex narrower portal
   pub keeps : (other : Portal) → GoesThroughAll apex wedge other → GoesThroughAll apex narrower other
 
-fully : (apex : Point) (wedge : Wedge) (portal : Portal) (place : ℕ) (left right : Corner) → StaysOpen apex wedge portal → pos 0 <ℤ orient_of portal.right portal.left apex
+fully : (apex : Point) (wedge : Funnel) (portal : Portal) (place : ℕ) (left right : Corner) → StaysOpen apex wedge portal → pos 0 <ℤ orient_of portal.right portal.left apex
     → IsHalfNarrowed apex wedge portal left → IsRightRay apex wedge portal place right → IsFullyNarrowed apex portal wedge (record { left = left; right = right })
 fully apex wedge portal place left right stays behind half (inr (further, same)) =
     subst (λ (corner : Corner). IsFullyNarrowed apex portal wedge (record { left = left; right = corner })) (sym same) (record {
@@ -177,7 +177,7 @@ fully apex wedge portal place left right stays behind half (inl (nearer, same)) 
     })
 
 -- a wedge that stays open at a portal that the apex lies behind
-pub narrowed_through : (apex : Point) (wedge narrower : Wedge) (portal : Portal) (place : ℕ) → pos 0 <ℤ orient_of apex wedge.right.at wedge.left.at → StaysOpen apex wedge portal
+pub narrowed_through : (apex : Point) (wedge narrower : Funnel) (portal : Portal) (place : ℕ) → pos 0 <ℤ orient_of apex wedge.right.at wedge.left.at → StaysOpen apex wedge portal
     → pos 0 <ℤ orient_of portal.right portal.left apex → IsNarrowed apex wedge portal place narrower → IsFullyNarrowed apex portal wedge narrower
 narrowed_through apex wedge narrower portal place wide stays behind is =
     fully apex wedge portal place narrower.left narrower.right stays behind (half_narrowed apex wedge portal place narrower.left wide stays behind is.left) is.right
@@ -185,7 +185,7 @@ narrowed_through apex wedge narrower portal place wide stays behind is =
 -- ---- the portal at which the wedge stays open
 
 -- the apex lies behind a portal that has its right end to the left of the right ray and is not seen from its front
-pub not_in_front : (apex : Point) (wedge : Wedge) (portal : Portal) → (IsInFront apex wedge portal → ⊥) → pos 0 <ℤ orient_of apex wedge.right.at portal.right → pos 0 <ℤ orient_of portal.right portal.left apex
+pub not_in_front : (apex : Point) (wedge : Funnel) (portal : Portal) → (IsInFront apex wedge portal → ⊥) → pos 0 <ℤ orient_of apex wedge.right.at portal.right → pos 0 <ℤ orient_of portal.right portal.left apex
 not_in_front apex wedge portal not inside =
     elim (signs (orient_of portal.right portal.left apex)) [
       | inl less ↦ absurd (not (record { left_of_right = inside; front = negative-weak (orient_of portal.right portal.left apex) less }))
@@ -194,7 +194,7 @@ not_in_front apex wedge portal not inside =
     ]
 
 -- the apex lies behind it, where the portal before it has both its ends ahead
-pub stays_behind : (apex : Point) (wedge : Wedge) (before portal : Portal) → GoesThroughAll apex wedge before → orient_of before.right before.left portal.left ≤ℤ pos 0
+pub stays_behind : (apex : Point) (wedge : Funnel) (before portal : Portal) → GoesThroughAll apex wedge before → orient_of before.right before.left portal.left ≤ℤ pos 0
     → orient_of before.right before.left portal.right ≤ℤ pos 0 → StaysOpen apex wedge portal → pos 0 <ℤ orient_of portal.right portal.left apex
 stays_behind apex wedge before portal through at_left at_right stays =
     elim (signs (orient_of apex wedge.right.at portal.right)) [
@@ -244,14 +244,14 @@ wedge_first apex portals ahead behind =
     }
 
 -- an end of a portal up to a place is one up to the next place
-later_left : (apex : Point) (portals : List Portal) (ahead place : ℕ) (wedge : Wedge) (corner : Corner) → ahead ≤ place → IsEndFrom portals ahead place L wedge.left
+later_left : (apex : Point) (portals : List Portal) (ahead place : ℕ) (wedge : Funnel) (corner : Corner) → ahead ≤ place → IsEndFrom portals ahead place L wedge.left
     → IsLeftRay apex wedge (portal_at portals place) place corner → IsEndFrom portals ahead (place + 1) L corner
 later_left apex portals ahead place wedge corner from is (inl (nearer, same)) =
     subst (IsEndFrom portals ahead (place + 1) L) (sym same) (record { sided = refl; from = from; before = omega arith; at_end = refl })
 later_left apex portals ahead place wedge corner from is (inr (further, same)) =
     subst (IsEndFrom portals ahead (place + 1) L) (sym same) (record { sided = is.sided; from = is.from; before = omega (arith, is.before); at_end = is.at_end })
 
-later_right : (apex : Point) (portals : List Portal) (ahead place : ℕ) (wedge : Wedge) (corner : Corner) → ahead ≤ place → IsEndFrom portals ahead place R wedge.right
+later_right : (apex : Point) (portals : List Portal) (ahead place : ℕ) (wedge : Funnel) (corner : Corner) → ahead ≤ place → IsEndFrom portals ahead place R wedge.right
     → IsRightRay apex wedge (portal_at portals place) place corner → IsEndFrom portals ahead (place + 1) R corner
 later_right apex portals ahead place wedge corner from is (inl (nearer, same)) =
     subst (IsEndFrom portals ahead (place + 1) R) (sym same) (record { sided = refl; from = from; before = omega arith; at_end = refl })
@@ -259,7 +259,7 @@ later_right apex portals ahead place wedge corner from is (inr (further, same)) 
     subst (IsEndFrom portals ahead (place + 1) R) (sym same) (record { sided = is.sided; from = is.from; before = omega (arith, is.before); at_end = is.at_end })
 
 -- the wedge through one portal more
-pub wedge_more : (apex : Point) (portals : List Portal) (ahead place : ℕ) (wedge narrower : Wedge) → ahead ≤ place → IsWedge apex portals ahead place wedge → StaysOpen apex wedge (portal_at portals place)
+pub wedge_more : (apex : Point) (portals : List Portal) (ahead place : ℕ) (wedge narrower : Funnel) → ahead ≤ place → IsWedge apex portals ahead place wedge → StaysOpen apex wedge (portal_at portals place)
     → pos 0 <ℤ orient_of (portal_at portals place).right (portal_at portals place).left apex → IsNarrowed apex wedge (portal_at portals place) place narrower
     → IsWedge apex portals ahead (place + 1) narrower
 wedge_more apex portals ahead place wedge narrower from seen stays behind is =

@@ -3,8 +3,8 @@ use Rattle.std.specs.Prelude.{◌≡◌, ℕ, ◌+◌, ◌<◌, ◌≤◌, pos, 
 use Rattle.nav_base.specs.declared.point.Point.{Point}
 use Rattle.nav_base.specs.Point.{orient_of}
 use Rattle.mesh_types.specs.declared.links.Portal.{Portal}
-use Rattle.mesh_types.specs.declared.corner.Side.TheVariants.{L}
-use Rattle.mesh_types.specs.declared.corner.Corner.{Corner}
+use Rattle.mesh_types.specs.declared.answers.Side.TheVariants.{L}
+use Rattle.mesh_types.specs.declared.answers.Corner.{Corner}
 use Rattle.mesh_types.specs.Chains.{portal_at, IsFold, end_of}
 use Rattle.funnel_path.specs.Corners.{IsNearerEnd}
 use Rattle.funnel_path.specs.PassedOver.{IsInside, IsBeside, ArePassed}

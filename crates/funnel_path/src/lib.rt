@@ -8,18 +8,15 @@
 //! Points are in sixteenths of a cell. With x drawn to the right and z upward, a positive turn is a turn to the left.
 #![tactic(auto)]
 
-mod ahead;
-mod cone;
 mod corners;
-mod passing;
-mod wedge;
+mod funnel;
 
 ghost use Rattle.std.specs.Prelude.{◌<◌, IfOk, length};
 ghost use Rattle.mesh_types.specs.Chains.{IsChain};
 ghost use Rattle.mesh_types.specs.Taut.{IsTaut};
 ghost use Rattle.funnel_path.specs.Coordinates.{HasChainCoordinates};
 
-use cone::next_corner;
+use funnel::next_corner;
 use mesh_types::{Corner, Portal};
 use nav_base::Point;
 use std::alloc::{AllocError, Global};

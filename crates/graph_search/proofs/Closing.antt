@@ -2,12 +2,12 @@
 use Rattle.std.proofs.Common.{◌≡◌, ◌≢◌, ℕ, ◌+◌, ◌<◌, ◌≤◌, ◌⊎◌, List, ◌∷◌, length, sym, subst, ap, ◌∙◌, inl, inr, arith}
 use Rattle.std.specs.Prelude.{Contains, All, ◌==◌, if◌then◌else◌}
 use Rattle.std.specs.List.Sorted.{IsPermutation}
-use Rattle.graph_search.specs.declared.entry.Entry.{Entry}
+use Rattle.graph_search.specs.declared.radix_heap.HeapEntry.{HeapEntry}
 use Rattle.std.proofs.lemmas.List.Elements.{All-head, All-tail, All-weaker, All-contains}
 use Rattle.std.proofs.lemmas.List.Sorted.{All-permutation, Contains-permutation}
-use Rattle.graph_search.specs.declared.arcs.Vertex.{Vertex}
-use Rattle.graph_search.specs.declared.arcs.Arc.{Arc}
-use Rattle.graph_search.specs.declared.arcs.Step.{Step}
+use Rattle.graph_search.specs.declared.graph.Vertex.{Vertex}
+use Rattle.graph_search.specs.declared.graph.Arc.{Arc}
+use Rattle.graph_search.specs.declared.graph.Step.{Step}
 use Rattle.graph_search.specs.declared.visits.Visit.{Visit}
 use Rattle.graph_search.specs.Walks.{arc_of}
 use Rattle.graph_search.specs.Visited.{IsSeen, IsClosed, IsWritten}
@@ -16,21 +16,21 @@ use Rattle.graph_search.specs.Searching.{IsStepTo, IsTree, IsEntry, IsKnown, IsC
 use Rattle.graph_search.proofs.Members.{contains_cases, sum_falls, counted, not_counted}
 use Rattle.graph_search.proofs.Writing.{written_or_kept}
 
-module _ (vertices : List Vertex) (estimate : Vertex → ℕ) (at : Vertex → Visit) (waiting rest : List Entry) (limit closed key : ℕ) (vertex : Vertex)
+module _ (vertices : List Vertex) (estimate : Vertex → ℕ) (at : Vertex → Visit) (waiting rest : List HeapEntry) (limit closed key : ℕ) (vertex : Vertex)
     (known : IsKnown vertices estimate at waiting limit closed) (taken : IsPermutation waiting (entry key vertex ∷ rest)) where
   -- another vertex that waited still waits
   still_waits : (k : ℕ) (v : Vertex) → v ≢ vertex → Contains waiting (entry k v) → Contains rest (entry k v)
   still_waits k v differ held =
       elim (contains_cases (entry key vertex) (entry k v) rest (Contains-permutation waiting (entry key vertex ∷ rest) (entry k v) taken held)) [
-        | inl is ↦ absurd (differ (sym (ap (λ (e : Entry). e.vertex) is)))
+        | inl is ↦ absurd (differ (sym (ap (λ (e : HeapEntry). e.vertex) is)))
         | inr later ↦ later
       ]
 
   -- what holds of all entries holds of the one taken and of the rest
-  of_first : (P : Entry → Type 0) → All P waiting → P (entry key vertex)
+  of_first : (P : HeapEntry → Type 0) → All P waiting → P (entry key vertex)
   of_first P all = All-head P (entry key vertex) rest (All-permutation P waiting (entry key vertex ∷ rest) taken all)
 
-  of_rest : (P : Entry → Type 0) → All P waiting → All P rest
+  of_rest : (P : HeapEntry → Type 0) → All P waiting → All P rest
   of_rest P all = All-tail P (entry key vertex) rest (All-permutation P waiting (entry key vertex ∷ rest) taken all)
 
   -- an entry of a closed vertex is dropped
@@ -49,7 +49,7 @@ module _ (vertices : List Vertex) (estimate : Vertex → ℕ) (at : Vertex → V
           let same : (at v).rank ≡ (at vertex).rank = ap (λ (u : Vertex). (at u).rank) is in
           omega (arith, done, unclosed, same)
 
-  module _ (least : All (λ (e : Entry). key ≤ e.key) waiting) (unclosed : (at vertex).rank ≡ 0) where
+  module _ (least : All (λ (e : HeapEntry). key ≤ e.key) waiting) (unclosed : (at vertex).rank ≡ 0) where
     -- the vertex of the least entry was seen, and the key is its cost and estimate
     pub first_seen : IsSeen (at vertex)
     first_seen = (of_first (λ e. IsEntry estimate at e.key e.vertex) known.entries).reached
@@ -57,7 +57,7 @@ module _ (vertices : List Vertex) (estimate : Vertex → ℕ) (at : Vertex → V
     pub first_key : key ≡ (at vertex).cost + estimate vertex
     first_key =
         let no_less = (of_first (λ e. IsEntry estimate at e.key e.vertex) known.entries).no_less in
-        let own = All-contains (λ (e : Entry). key ≤ e.key) waiting (entry ((at vertex).cost + estimate vertex) vertex) least (known.waits vertex first_seen unclosed) in
+        let own = All-contains (λ (e : HeapEntry). key ≤ e.key) waiting (entry ((at vertex).cost + estimate vertex) vertex) least (known.waits vertex first_seen unclosed) in
         omega (arith, no_less, own)
 
     module _ (at' : Vertex → Visit) (written : IsWritten at vertex (closed_as (closed + 1) (at vertex)) at') where
@@ -115,7 +115,7 @@ module _ (vertices : List Vertex) (estimate : Vertex → ℕ) (at : Vertex → V
         entries = All-weaker (λ e. IsEntry estimate at e.key e.vertex) (λ e. IsEntry estimate at' e.key e.vertex)
             (λ e held. record { reached = omega (arith, held.reached, same_cost e.vertex); no_less = omega (arith, held.no_less, same_cost e.vertex) })
             rest (of_rest (λ e. IsEntry estimate at e.key e.vertex) known.entries);
-        order = λ v is_closed. All-weaker (λ (e : Entry). key ≤ e.key) (λ e. (at' v).cost + estimate v ≤ e.key)
+        order = λ v is_closed. All-weaker (λ (e : HeapEntry). key ≤ e.key) (λ e. (at' v).cost + estimate v ≤ e.key)
             (λ e held. omega (arith, held, no_more v is_closed)) rest (of_rest (λ e. key ≤ e.key) least);
         within = λ v seen. omega (arith, same_cost v, known.within v (omega (arith, seen, same_cost v)));
         ranks = ranks';

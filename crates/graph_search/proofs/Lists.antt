@@ -9,11 +9,11 @@ use Rattle.std.proofs.lemmas.List.{append-nil, append_assoc}
 use Rattle.std.proofs.lemmas.List.Concat.{flat_map-append}
 use Rattle.std.proofs.lemmas.List.Elements.{All-nil, All-append}
 use Rattle.std.proofs.lemmas.List.Sorted.{IsPermutation-refl, IsPermutation-sym, IsPermutation-trans, IsPermutation-to_front, IsPermutation-middle, IsPermutation-append_left, IsPermutation-append_right, IsPermutation-append_comm}
-use Rattle.graph_search.specs.declared.entry.Entry.{Entry}
+use Rattle.graph_search.specs.declared.radix_heap.HeapEntry.{HeapEntry}
 use Rattle.graph_search.specs.Entries.{list_at, entries_in, AreAlike, IsAdded, IsEmptied}
 
 abbrev Slot : Type 0
-Slot = Vec Entry Global
+Slot = Vec HeapEntry Global
 
 -- what holds holds after a refusal
 pub on_err : {T E : Type 0} (P : Type 0) (r : Result T E) → P → OnErr r P
@@ -21,13 +21,13 @@ on_err P (Ok x) held = tt
 on_err P (Err e) held = held
 
 -- what holds of the entries of each list holds of all, and where each list is empty there are none
-pub all_in : (P : Entry → Type 0) (lists : List Slot) → ((slot : ℕ) → All P (list_at lists slot)) → All P (entries_in lists)
+pub all_in : (P : HeapEntry → Type 0) (lists : List Slot) → ((slot : ℕ) → All P (list_at lists slot)) → All P (entries_in lists)
 all_in P [] each = All-nil P
 all_in P (list ∷ lists) each = All-append P list.items (entries_in lists) (each 0) (all_in P lists (λ slot. each (suc slot)))
 
 pub none_in : (lists : List Slot) → ((slot : ℕ) → list_at lists slot ≡ []) → entries_in lists ≡ []
 none_in [] each = refl
-none_in (list ∷ lists) each = ap (λ (entries : List Entry). entries ++ entries_in lists) (each 0) ∙ none_in lists (λ slot. each (suc slot))
+none_in (list ∷ lists) each = ap (λ (entries : List HeapEntry). entries ++ entries_in lists) (each 0) ∙ none_in lists (λ slot. each (suc slot))
 
 -- a list beyond the last has no entries, so one with entries is within them, and has those that are read there
 pub beyond : (lists : List Slot) (slot : ℕ) → length lists ≤ slot → list_at lists slot ≡ []
@@ -85,7 +85,7 @@ pub alike-push : (lists : List Slot) (list : Slot) → list.items ≡ [] → Are
 alike-push lists list empty = record {
   same = same' lists;
   all =
-      flat_map-append (λ (l : Slot). l.items) lists (list ∷ []) ∙ ap (λ (entries : List Entry). entries_in lists ++ (entries ++ [])) empty ∙ append-nil (entries_in lists);
+      flat_map-append (λ (l : Slot). l.items) lists (list ∷ []) ∙ ap (λ (entries : List HeapEntry). entries_in lists ++ (entries ++ [])) empty ∙ append-nil (entries_in lists);
 }
   where
     same' : (xs : List Slot) (slot : ℕ) → list_at (xs ++ list ∷ []) slot ≡ list_at xs slot
@@ -108,14 +108,14 @@ alike-write lists slot list list' there is same = record { same = λ k. same' li
 
     all' : (xs : List Slot) (slot : ℕ) → slot < length xs → list ≡ get_or xs slot list → entries_in (slice_set xs slot list') ≡ entries_in xs
     all' [] slot there is = absurd (omega (arith, there))
-    all' (x ∷ xs) zero there is = ap (λ (entries : List Entry). entries ++ entries_in xs) (same ∙ ap (λ (l : Slot). l.items) is)
-    all' (x ∷ xs) (suc slot) there is = ap (λ (entries : List Entry). x.items ++ entries) (all' xs slot (omega (arith, there)) is)
+    all' (x ∷ xs) zero there is = ap (λ (entries : List HeapEntry). entries ++ entries_in xs) (same ∙ ap (λ (l : Slot). l.items) is)
+    all' (x ∷ xs) (suc slot) there is = ap (λ (entries : List HeapEntry). x.items ++ entries) (all' xs slot (omega (arith, there)) is)
 
 -- an entry comes to the end of a list
-pub added-write : (lists : List Slot) (slot : ℕ) (list list' : Slot) (e : Entry) → slot < length lists → list ≡ get_or lists slot list
+pub added-write : (lists : List Slot) (slot : ℕ) (list list' : Slot) (e : HeapEntry) → slot < length lists → list ≡ get_or lists slot list
     → list'.items ≡ list.items ++ e ∷ [] → IsAdded lists slot e (slice_set lists slot list')
 added-write lists slot list list' e there is more = record {
-  here = written-here lists slot list' there ∙ more ∙ ap (λ (entries : List Entry). entries ++ e ∷ []) (sym (read lists slot list there is));
+  here = written-here lists slot list' there ∙ more ∙ ap (λ (entries : List HeapEntry). entries ++ e ∷ []) (sym (read lists slot list there is));
   others = written-others lists slot list';
   all = all' lists slot there is;
 }
@@ -124,7 +124,7 @@ added-write lists slot list list' e there is more = record {
     all' [] slot there is = absurd (omega (arith, there))
     all' (x ∷ xs) zero there is =
         let items : list'.items ≡ x.items ++ e ∷ [] = more ∙ ap (λ (l : Slot). l.items ++ e ∷ []) is in
-        subst (λ (entries : List Entry). IsPermutation (e ∷ (x.items ++ entries_in xs)) (entries ++ entries_in xs)) (sym items)
+        subst (λ (entries : List HeapEntry). IsPermutation (e ∷ (x.items ++ entries_in xs)) (entries ++ entries_in xs)) (sym items)
         (IsPermutation-append_left (entries_in xs) (e ∷ x.items) (x.items ++ e ∷ [])
         (IsPermutation-sym (x.items ++ e ∷ []) (e ∷ x.items) (IsPermutation-to_front x.items e)))
     all' (x ∷ xs) (suc slot) there is =
@@ -132,11 +132,11 @@ added-write lists slot list list' e there is more = record {
         (IsPermutation-sym (x.items ++ e ∷ entries_in xs) (e ∷ (x.items ++ entries_in xs)) (IsPermutation-middle x.items e (entries_in xs)))
         (IsPermutation-append_right x.items (e ∷ entries_in xs) (entries_in (slice_set xs slot list')) (all' xs slot (omega (arith, there)) is))
 
-pub added-then : (xs ys zs : List Slot) (slot : ℕ) (e : Entry) → AreAlike xs ys → IsAdded ys slot e zs → IsAdded xs slot e zs
+pub added-then : (xs ys zs : List Slot) (slot : ℕ) (e : HeapEntry) → AreAlike xs ys → IsAdded ys slot e zs → IsAdded xs slot e zs
 added-then xs ys zs slot e first next = record {
-  here = next.here ∙ ap (λ (entries : List Entry). entries ++ e ∷ []) (first.same slot);
+  here = next.here ∙ ap (λ (entries : List HeapEntry). entries ++ e ∷ []) (first.same slot);
   others = λ k differ. next.others k differ ∙ first.same k;
-  all = subst (λ (entries : List Entry). IsPermutation (e ∷ entries) (entries_in zs)) first.all next.all;
+  all = subst (λ (entries : List HeapEntry). IsPermutation (e ∷ entries) (entries_in zs)) first.all next.all;
 }
 
 -- a list was given up for an empty one
@@ -153,22 +153,22 @@ emptied-write lists slot list empty there is none = record {
     all' [] slot there is = absurd (omega (arith, there))
     all' (x ∷ xs) zero there is =
         let same : x.items ++ entries_in xs ≡ list.items ++ (empty.items ++ entries_in xs) =
-        ap (λ (l : Slot). l.items ++ entries_in xs) (sym is) ∙ ap (λ (entries : List Entry). list.items ++ (entries ++ entries_in xs)) (sym none) in
+        ap (λ (l : Slot). l.items ++ entries_in xs) (sym is) ∙ ap (λ (entries : List HeapEntry). list.items ++ (entries ++ entries_in xs)) (sym none) in
         subst (IsPermutation (x.items ++ entries_in xs)) same (IsPermutation-refl (x.items ++ entries_in xs))
     all' (x ∷ xs) (suc slot) there is =
         let rest = entries_in (slice_set xs slot empty) in
         IsPermutation-trans (x.items ++ entries_in xs) (x.items ++ (list.items ++ rest)) (list.items ++ (x.items ++ rest))
         (IsPermutation-append_right x.items (entries_in xs) (list.items ++ rest) (all' xs slot (omega (arith, there)) is))
         (subst (IsPermutation (x.items ++ (list.items ++ rest))) (append_assoc list.items x.items rest)
-        (subst (λ (entries : List Entry). IsPermutation entries (list.items ++ x.items ++ rest)) (append_assoc x.items list.items rest)
+        (subst (λ (entries : List HeapEntry). IsPermutation entries (list.items ++ x.items ++ rest)) (append_assoc x.items list.items rest)
         (IsPermutation-append_left rest (x.items ++ list.items) (list.items ++ x.items) (IsPermutation-append_comm x.items list.items))))
 
 -- the last entry of a list was taken
-pub taken-write : (lists : List Slot) (slot : ℕ) (list list' : Slot) (e : Entry) → slot < length lists → list ≡ get_or lists slot list
+pub taken-write : (lists : List Slot) (slot : ℕ) (list list' : Slot) (e : HeapEntry) → slot < length lists → list ≡ get_or lists slot list
     → list.items ≡ list'.items ++ e ∷ [] → IsAdded (slice_set lists slot list') slot e lists
 taken-write lists slot list list' e there is less = record {
   here =
-      read lists slot list there is ∙ less ∙ ap (λ (entries : List Entry). entries ++ e ∷ []) (sym (written-here lists slot list' there));
+      read lists slot list there is ∙ less ∙ ap (λ (entries : List HeapEntry). entries ++ e ∷ []) (sym (written-here lists slot list' there));
   others = λ k differ. sym (written-others lists slot list' k differ);
   all = all' lists slot there is;
 }
@@ -177,7 +177,7 @@ taken-write lists slot list list' e there is less = record {
     all' [] slot there is = absurd (omega (arith, there))
     all' (x ∷ xs) zero there is =
         let items : x.items ≡ list'.items ++ e ∷ [] = sym (ap (λ (l : Slot). l.items) is) ∙ less in
-        subst (λ (entries : List Entry). IsPermutation (e ∷ (list'.items ++ entries_in xs)) (entries ++ entries_in xs)) (sym items)
+        subst (λ (entries : List HeapEntry). IsPermutation (e ∷ (list'.items ++ entries_in xs)) (entries ++ entries_in xs)) (sym items)
         (IsPermutation-append_left (entries_in xs) (e ∷ list'.items) (list'.items ++ e ∷ [])
         (IsPermutation-sym (list'.items ++ e ∷ []) (e ∷ list'.items) (IsPermutation-to_front list'.items e)))
     all' (x ∷ xs) (suc slot) there is =

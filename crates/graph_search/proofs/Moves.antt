@@ -6,10 +6,10 @@ use Rattle.std.specs.List.{sum_by}
 use Rattle.std.proofs.lemmas.List.{get_or-map, length-map, get_or_default}
 use Rattle.std.proofs.lemmas.List.Elements.{Contains-get_or}
 use Rattle.std.proofs.lemmas.List.Sums.{sum_by-cons}
-use Rattle.graph_search.specs.declared.arcs.Vertex.{Vertex}
-use Rattle.graph_search.specs.declared.arcs.Arc.{Arc}
-use Rattle.graph_search.specs.declared.arcs.Step.{Step}
-use Rattle.graph_search.specs.declared.arcs.Walk.{Walk}
+use Rattle.graph_search.specs.declared.graph.Vertex.{Vertex}
+use Rattle.graph_search.specs.declared.graph.Arc.{Arc}
+use Rattle.graph_search.specs.declared.graph.Step.{Step}
+use Rattle.graph_search.specs.declared.graph.Walk.{Walk}
 use Rattle.graph_search.specs.Walks.{no_arc, arc_of, Walks, cost_of, IsCheapest, IsApart}
 use Rattle.graph_search.proofs.Stopping.{cost_of-cons}
 

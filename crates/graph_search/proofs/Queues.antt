@@ -9,16 +9,16 @@ use Rattle.std.proofs.lemmas.Bool.{cases_eq, cases_lt, cases_order}
 use Rattle.std.proofs.lemmas.List.Elements.{All-nil, All-get_or, All-push, All-pop, All-weaker, All-tail}
 use Rattle.std.proofs.lemmas.List.Sorted.{IsPermutation-swap_remove, IsPermutation-sym, IsPermutation-trans, IsPermutation-append_left, IsPermutation-cons, IsPermutation-to_front, All-permutation}
 use Rattle.std.proofs.lemmas.List.{take_more}
-use Rattle.graph_search.specs.declared.entry.Entry.{Entry}
+use Rattle.graph_search.specs.declared.radix_heap.HeapEntry.{HeapEntry}
 use Rattle.graph_search.specs.Entries.{slot_of, list_at, entries_in, StandsIn, AreSlotted, AreAlike, IsAdded, IsEmptied, IsFilled}
 use Rattle.graph_search.proofs.Slots.{slots-order, slots-kept, slot-one_key, slot-itself}
 use Rattle.graph_search.proofs.Lists.{all_in, none_in}
 
 abbrev Slot : Type 0
-Slot = Vec Entry Global
+Slot = Vec HeapEntry Global
 
 -- a list without entries has none that break a rule
-of_none : (P : Entry → Type 0) (entries : List Entry) → entries ≡ [] → All P entries
+of_none : (P : HeapEntry → Type 0) (entries : List HeapEntry) → entries ≡ [] → All P entries
 of_none P entries none = subst (All P) (sym none) (All-nil P)
 
 -- no lists have no entries
@@ -37,7 +37,7 @@ slotted-alike last first lists lists' slotted alike = record {
 }
 
 -- an entry comes into its slot
-pub slotted-added : (last first slot : ℕ) (lists lists' : List Slot) (e : Entry) → AreSlotted last first lists → last ≤ e.key → slot ≡ slot_of 11 last e.key
+pub slotted-added : (last first slot : ℕ) (lists lists' : List Slot) (e : HeapEntry) → AreSlotted last first lists → last ≤ e.key → slot ≡ slot_of 11 last e.key
     → first ≤ slot → IsAdded lists slot e lists' → AreSlotted last first lists'
 slotted-added last first slot lists lists' e slotted no_less own from added = record { stand = stand'; none = none' }
   where
@@ -59,9 +59,9 @@ module _ (last first slot : ℕ) (lists lists' : List Slot) (slotted : AreSlotte
   pub none-before : (k : ℕ) → k < slot → list_at lists k ≡ []
   none-before k below = elim (cases_lt k first) [ inl early ↦ slotted.none k early | inr late ↦ filled.none k late below ]
 
-  module _ (e : Entry) (own : StandsIn last slot e) where
+  module _ (e : HeapEntry) (own : StandsIn last slot e) where
     -- what stands in a later slot has a greater key, and stands there once that key was taken
-    later : (k : ℕ) (other : Entry) → slot < k → StandsIn last k other → StandsIn e.key k other
+    later : (k : ℕ) (other : HeapEntry) → slot < k → StandsIn last k other → StandsIn e.key k other
     later k other after held =
         let below : slot_of 11 last e.key < slot_of 11 last other.key = omega (arith, own.own, held.own, after) in
         let less = slots-order 11 last e.key other.key own.no_less held.no_less below in
@@ -85,27 +85,27 @@ module _ (last first slot : ℕ) (lists lists' : List Slot) (slotted : AreSlotte
             ]
 
     -- and none has a lesser key, where none of its list has
-    pub least-taken : All (λ (other : Entry). e.key ≤ other.key) (list_at lists slot) → All (λ (other : Entry). e.key ≤ other.key) (entries_in lists)
+    pub least-taken : All (λ (other : HeapEntry). e.key ≤ other.key) (list_at lists slot) → All (λ (other : HeapEntry). e.key ≤ other.key) (entries_in lists)
     least-taken here = all_in (λ other. e.key ≤ other.key) lists each
       where
-        each : (k : ℕ) → All (λ (other : Entry). e.key ≤ other.key) (list_at lists k)
+        each : (k : ℕ) → All (λ (other : HeapEntry). e.key ≤ other.key) (list_at lists k)
         each k =
             elim (cases_order k slot) [
-              | inl is ↦ subst (λ (n : ℕ). All (λ (other : Entry). e.key ≤ other.key) (list_at lists n)) (sym is) here
+              | inl is ↦ subst (λ (n : ℕ). All (λ (other : HeapEntry). e.key ≤ other.key) (list_at lists n)) (sym is) here
               | inr (inl before) ↦ of_none (λ other. e.key ≤ other.key) (list_at lists k) (none-before k before)
               | inr (inr after) ↦
                   All-weaker (StandsIn last k) (λ other. e.key ≤ other.key) (λ other held. (later k other after held).no_less) (list_at lists k) (slotted.stand k)
             ]
 
   -- an entry of the lowest digit was taken
-  module _ (e : Entry) (low : slot < 64) (taken : IsAdded lists' slot e lists) where
+  module _ (e : HeapEntry) (low : slot < 64) (taken : IsAdded lists' slot e lists) where
     parts : All (StandsIn last slot) (list_at lists' slot) × StandsIn last slot e
     parts = All-pop (StandsIn last slot) (list_at lists slot) (list_at lists' slot) (Some e) taken.here (slotted.stand slot)
 
-    one_key : (other : Entry) → StandsIn last slot other → e.key ≡ other.key
+    one_key : (other : HeapEntry) → StandsIn last slot other → e.key ≡ other.key
     one_key other held = slot-one_key 10 last e.key other.key (omega (arith, parts.1.own, low)) (parts.1.own ∙ sym held.own)
 
-    stays : (other : Entry) → StandsIn last slot other → StandsIn e.key slot other
+    stays : (other : HeapEntry) → StandsIn last slot other → StandsIn e.key slot other
     stays other held = record {
       no_less = omega (arith, one_key other held);
       own =
@@ -117,7 +117,7 @@ module _ (last first slot : ℕ) (lists lists' : List Slot) (slotted : AreSlotte
         slotted-taken e parts.1 (λ k differ. sym (taken.others k differ))
         (All-weaker (StandsIn last slot) (StandsIn e.key slot) stays (list_at lists' slot) parts.0)
 
-    pub least-low : All (λ (other : Entry). e.key ≤ other.key) (entries_in lists)
+    pub least-low : All (λ (other : HeapEntry). e.key ≤ other.key) (entries_in lists)
     least-low =
         least-taken e parts.1
         (All-weaker (StandsIn last slot) (λ other. e.key ≤ other.key) (λ other held. omega (arith, one_key other held)) (list_at lists slot) (slotted.stand slot))
@@ -126,31 +126,31 @@ module _ (last first slot : ℕ) (lists lists' : List Slot) (slotted : AreSlotte
     taken-low = IsPermutation-sym (e ∷ entries_in lists') (entries_in lists) taken.all
 
   -- a list was taken out, and from it the entry with the least key
-  module _ (list rest : List Entry) (e : Entry) (place : ℕ) (emptied : IsEmptied lists slot list lists') (there : place < length list)
+  module _ (list rest : List HeapEntry) (e : HeapEntry) (place : ℕ) (emptied : IsEmptied lists slot list lists') (there : place < length list)
       (is : e ≡ get_or list place e) (removed : rest ≡ holes.swap_remove list place e)
-      (least : All (λ (other : Entry). (get_or list place e).key ≤ other.key) list) where
+      (least : All (λ (other : HeapEntry). (get_or list place e).key ≤ other.key) list) where
     own_slot : StandsIn last slot e
     own_slot =
         subst (StandsIn last slot) (sym is)
         (All-get_or (StandsIn last slot) list place e there (subst (All (StandsIn last slot)) emptied.was (slotted.stand slot)))
 
-    least' : All (λ (other : Entry). e.key ≤ other.key) list
-    least' = subst (λ (x : Entry). All (λ (other : Entry). x.key ≤ other.key) list) (sym is) least
+    least' : All (λ (other : HeapEntry). e.key ≤ other.key) list
+    least' = subst (λ (x : HeapEntry). All (λ (other : HeapEntry). x.key ≤ other.key) list) (sym is) least
 
     moved : IsPermutation list (e ∷ rest)
-    moved = subst (λ (xs : List Entry). IsPermutation list (e ∷ xs)) (sym removed) (IsPermutation-swap_remove list place e there is)
+    moved = subst (λ (xs : List HeapEntry). IsPermutation list (e ∷ xs)) (sym removed) (IsPermutation-swap_remove list place e there is)
 
     pub slotted-dealt : AreSlotted e.key slot lists'
     slotted-dealt = slotted-taken e own_slot emptied.others (of_none (StandsIn e.key slot) (list_at lists' slot) emptied.here)
 
-    pub least-dealt : All (λ (other : Entry). e.key ≤ other.key) (entries_in lists)
-    least-dealt = least-taken e own_slot (subst (All (λ (other : Entry). e.key ≤ other.key)) (sym emptied.was) least')
+    pub least-dealt : All (λ (other : HeapEntry). e.key ≤ other.key) (entries_in lists)
+    least-dealt = least-taken e own_slot (subst (All (λ (other : HeapEntry). e.key ≤ other.key)) (sym emptied.was) least')
 
-    pub rest-no_less : All (λ (other : Entry). e.key ≤ other.key) rest
+    pub rest-no_less : All (λ (other : HeapEntry). e.key ≤ other.key) rest
     rest-no_less =
         All-tail (λ other. e.key ≤ other.key) e rest (All-permutation (λ other. e.key ≤ other.key) list (e ∷ rest) moved least')
 
-    pub taken-dealt : (now : List Entry) → IsPermutation (rest ++ entries_in lists') now → IsPermutation (entries_in lists) (e ∷ now)
+    pub taken-dealt : (now : List HeapEntry) → IsPermutation (rest ++ entries_in lists') now → IsPermutation (entries_in lists) (e ∷ now)
     taken-dealt now more =
         IsPermutation-trans (entries_in lists) (list ++ entries_in lists') (e ∷ now) emptied.all
         (IsPermutation-trans (list ++ entries_in lists') (e ∷ (rest ++ entries_in lists')) (e ∷ now)
@@ -163,11 +163,11 @@ none-left last first lists slotted none =
     none_in lists (λ k. elim (cases_lt k first) [ inl early ↦ slotted.none k early | inr late ↦ none k late ])
 
 -- one entry more came
-pub came : (entries old now now' : List Entry) (count : ℕ) (e : Entry) → count < length entries → IsPermutation (take count entries ++ old) now
+pub came : (entries old now now' : List HeapEntry) (count : ℕ) (e : HeapEntry) → count < length entries → IsPermutation (take count entries ++ old) now
     → IsPermutation (get_or entries count e ∷ now) now' → IsPermutation (take (count + 1) entries ++ old) now'
 came entries old now now' count e below so_far next =
     let x = get_or entries count e in
-    subst (λ (first : List Entry). IsPermutation (first ++ old) now') (sym (take_more entries count e below))
+    subst (λ (first : List HeapEntry). IsPermutation (first ++ old) now') (sym (take_more entries count e below))
     (IsPermutation-trans (take count entries ++ x ∷ [] ++ old) (x ∷ (take count entries ++ old)) now'
     (IsPermutation-append_left old (take count entries ++ x ∷ []) (x ∷ take count entries) (IsPermutation-to_front (take count entries) x))
     (IsPermutation-trans (x ∷ (take count entries ++ old)) (x ∷ now) now' (IsPermutation-cons x (take count entries ++ old) now so_far) next))

@@ -2,14 +2,14 @@
 use Rattle.std.proofs.Common.{◌≡◌, ◌≢◌, ℕ, ◌+◌, ◌*◌, ◌<◌, ◌≤◌, ◌⊎◌, List, ◌∷◌, length, refl, sym, subst, ap, ◌∙◌, inl, inr, arith}
 use Rattle.std.specs.Prelude.{Contains, All, ◌==◌, if◌then◌else◌}
 use Rattle.std.specs.List.Sorted.{IsPermutation}
-use Rattle.graph_search.specs.declared.entry.Entry.{Entry}
+use Rattle.graph_search.specs.declared.radix_heap.HeapEntry.{HeapEntry}
 use Rattle.std.proofs.lemmas.Bool.{cases_eq}
 use Rattle.std.proofs.lemmas.Nat.{mul-le}
 use Rattle.std.proofs.lemmas.List.Elements.{All-cons, All-weaker}
 use Rattle.std.proofs.lemmas.List.Sorted.{All-permutation, Contains-permutation, length_permutation}
-use Rattle.graph_search.specs.declared.arcs.Vertex.{Vertex}
-use Rattle.graph_search.specs.declared.arcs.Arc.{Arc}
-use Rattle.graph_search.specs.declared.arcs.Step.{Step}
+use Rattle.graph_search.specs.declared.graph.Vertex.{Vertex}
+use Rattle.graph_search.specs.declared.graph.Arc.{Arc}
+use Rattle.graph_search.specs.declared.graph.Step.{Step}
 use Rattle.graph_search.specs.declared.visits.Visit.{Visit}
 use Rattle.graph_search.specs.Walks.{no_arc, arc_of, IsSearchable}
 use Rattle.graph_search.specs.Visited.{IsSeen, IsClosed, IsWritten}
@@ -77,7 +77,7 @@ module _ (vertices : List Vertex) (arcs : Vertex → List Arc) (estimate : Verte
           (record { seen = omega (arith, no_less, weight-no_more, closing.room, fits); no_less = no_less });
     }
 
-    module _ (waiting waiting' : List Entry) (closed : ℕ) (known : IsKnown vertices estimate at waiting limit closed)
+    module _ (waiting waiting' : List HeapEntry) (closed : ℕ) (known : IsKnown vertices estimate at waiting limit closed)
         (better : (at vertex).cost + arc.weight < (at arc.to).cost) (at' : Vertex → Visit)
         (written : IsWritten at arc.to (record { cost = (at vertex).cost + arc.weight; rank = 0; last = step }) at')
         (waits : IsPermutation (entry ((at vertex).cost + arc.weight + estimate arc.to) arc.to ∷ waiting) waiting') where
@@ -147,7 +147,7 @@ module _ (vertices : List Vertex) (arcs : Vertex → List Arc) (estimate : Verte
         there = there';
         waits = waits';
         entries = All-permutation (λ e. IsEntry estimate at' e.key e.vertex) (entry (through + estimate arc.to) arc.to ∷ waiting) waiting' waits
-            (All-cons (λ (e : Entry). IsEntry estimate at' e.key e.vertex) (entry (through + estimate arc.to) arc.to) waiting
+            (All-cons (λ (e : HeapEntry). IsEntry estimate at' e.key e.vertex) (entry (through + estimate arc.to) arc.to) waiting
             (record { reached = omega (arith, own-cost, within-limit, fits); no_less = omega (arith, own-cost) })
             (All-weaker (λ e. IsEntry estimate at e.key e.vertex) (λ e. IsEntry estimate at' e.key e.vertex)
             (λ e held. record {
@@ -180,14 +180,14 @@ module _ (vertices : List Vertex) (arcs : Vertex → List Arc) (estimate : Verte
                     (known.waits v (subst (λ (u : Visit). IsSeen u) kept.1 seen) (sym (same_rank v) ∙ is_open)))
               ])
 
-          order' : (v : Vertex) → IsClosed (at' v) → All (λ (e : Entry). (at' v).cost + estimate v ≤ e.key) waiting'
+          order' : (v : Vertex) → IsClosed (at' v) → All (λ (e : HeapEntry). (at' v).cost + estimate v ≤ e.key) waiting'
           order' v is_closed' =
               let is_closed : IsClosed (at v) = omega (arith, is_closed', same_rank v) in
               let same = kept-cost v is_closed in
-              All-permutation (λ (e : Entry). (at' v).cost + estimate v ≤ e.key) (entry (through + estimate arc.to) arc.to ∷ waiting) waiting' waits
-              (All-cons (λ (e : Entry). (at' v).cost + estimate v ≤ e.key) (entry (through + estimate arc.to) arc.to) waiting
+              All-permutation (λ (e : HeapEntry). (at' v).cost + estimate v ≤ e.key) (entry (through + estimate arc.to) arc.to ∷ waiting) waiting' waits
+              (All-cons (λ (e : HeapEntry). (at' v).cost + estimate v ≤ e.key) (entry (through + estimate arc.to) arc.to) waiting
               (omega (arith, same, closing.greatest v is_closed, estimate-no_more))
-              (All-weaker (λ (e : Entry). (at v).cost + estimate v ≤ e.key) (λ (e : Entry). (at' v).cost + estimate v ≤ e.key)
+              (All-weaker (λ (e : HeapEntry). (at v).cost + estimate v ≤ e.key) (λ (e : HeapEntry). (at' v).cost + estimate v ≤ e.key)
               (λ e held. omega (arith, same, held)) waiting (known.order v is_closed)))
 
           within' : (v : Vertex) → IsSeen (at' v) → (at' v).cost ≤ limit
@@ -283,7 +283,7 @@ module _ (vertices : List Vertex) (arcs : Vertex → List Arc) (estimate : Verte
 
 -- one arc after others
 pub following-then : (vertices : List Vertex) (arcs : Vertex → List Arc) (estimate : Vertex → ℕ) (heaviest : ℕ) (vertex : Vertex) (closed : ℕ)
-    (before : Vertex → Visit) (waited : List Entry) (at : Vertex → Visit) (waiting : List Entry) (at' : Vertex → Visit) (waiting' : List Entry) (place : ℕ)
+    (before : Vertex → Visit) (waited : List HeapEntry) (at : Vertex → Visit) (waiting : List HeapEntry) (at' : Vertex → Visit) (waiting' : List HeapEntry) (place : ℕ)
     → IsFollowing vertices arcs estimate heaviest vertex closed before waited at waiting place place
     → IsFollowing vertices arcs estimate heaviest vertex closed at waiting at' waiting' (place + 1) 1
     → IsFollowing vertices arcs estimate heaviest vertex closed before waited at' waiting' (place + 1) (place + 1)
@@ -299,7 +299,7 @@ following-then vertices arcs estimate heaviest vertex closed before waited at wa
 
 -- none so far
 pub following-none : (vertices : List Vertex) (arcs : Vertex → List Arc) (estimate : Vertex → ℕ) (heaviest : ℕ) (vertex : Vertex) (closed : ℕ)
-    (at : Vertex → Visit) (waiting : List Entry) → IsKnown vertices estimate at waiting (closed * heaviest) closed
+    (at : Vertex → Visit) (waiting : List HeapEntry) → IsKnown vertices estimate at waiting (closed * heaviest) closed
     → IsClosing estimate heaviest at (closed * heaviest) vertex → AreBeingRelaxed arcs at vertex 0
     → IsFollowing vertices arcs estimate heaviest vertex closed at waiting at waiting 0 0
 following-none vertices arcs estimate heaviest vertex closed at waiting known closing relaxing = record {
@@ -331,7 +331,7 @@ module _ (vertices : List Vertex) (arcs : Vertex → List Arc) (estimate : Verte
   limit-fits : closed * heaviest < 18446744073709551615
   limit-fits = omega (arith, mul-le closed heaviest (length vertices) heaviest few (omega arith), searchable.small vertex member)
 
-  module _ (at : Vertex → Visit) (waiting : List Entry) (known : IsKnown vertices estimate at waiting (closed * heaviest) closed)
+  module _ (at : Vertex → Visit) (waiting : List HeapEntry) (known : IsKnown vertices estimate at waiting (closed * heaviest) closed)
       (closing : IsClosing estimate heaviest at (closed * heaviest) vertex) (relaxing : AreBeingRelaxed arcs at vertex place) where
     through-fits : (at vertex).cost + (arc_of arcs own_step).weight ≤ closed * heaviest
     through-fits = omega (arith, weight-no_more vertices arcs estimate heaviest searchable vertex member place below, closing.room)
@@ -359,7 +359,7 @@ module _ (vertices : List Vertex) (arcs : Vertex → List Arc) (estimate : Verte
     following-closed is_closed = following-no_less (omega (arith, closing.greatest to is_closed, estimate-falls))
 
     -- or it leads to less
-    module _ (at' : Vertex → Visit) (waiting' : List Entry) where
+    module _ (at' : Vertex → Visit) (waiting' : List HeapEntry) where
       abbrev Better : Vertex → Type 0
       Better v =
           (at vertex).cost + (arc_of arcs own_step).weight < (at v).cost

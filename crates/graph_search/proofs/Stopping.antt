@@ -1,13 +1,13 @@
 -- Where a search stops: no walk is cheaper, or there is none.
 use Rattle.std.proofs.Common.{◌≡◌, ℕ, ◌+◌, ◌≤◌, List, [], ◌∷◌, sym, subst, ap, inl, inr, arith}
 use Rattle.std.specs.Prelude.{Contains, All}
-use Rattle.graph_search.specs.declared.entry.Entry.{Entry}
+use Rattle.graph_search.specs.declared.radix_heap.HeapEntry.{HeapEntry}
 use Rattle.std.proofs.lemmas.Bool.{cases_eq}
 use Rattle.std.proofs.lemmas.List.Elements.{All-contains}
 use Rattle.std.proofs.lemmas.List.Sums.{sum_by-cons}
-use Rattle.graph_search.specs.declared.arcs.Vertex.{Vertex}
-use Rattle.graph_search.specs.declared.arcs.Arc.{Arc}
-use Rattle.graph_search.specs.declared.arcs.Step.{Step}
+use Rattle.graph_search.specs.declared.graph.Vertex.{Vertex}
+use Rattle.graph_search.specs.declared.graph.Arc.{Arc}
+use Rattle.graph_search.specs.declared.graph.Step.{Step}
 use Rattle.graph_search.specs.declared.visits.Visit.{Visit}
 use Rattle.graph_search.specs.Walks.{no_arc, arc_of, Walks, cost_of, IsApart, IsSearchable}
 use Rattle.graph_search.specs.Visited.{IsSeen, IsClosed}
@@ -32,9 +32,9 @@ module _ (vertices : List Vertex) (arcs : Vertex → List Arc) (estimate : Verte
       let rest = estimate_falls steps (arc_of arcs step).to to (searchable.enters step.from member' step.place no_arc walk.1) walk.2 in
       omega (arith, same, first, rest, cost_of-cons arcs step steps)
 
-  module _ (at : Vertex → Visit) (waiting : List Entry) (limit closed : ℕ) (known : IsKnown vertices estimate at waiting limit closed) (relaxed : AllRelaxed arcs at) (to : Vertex) where
+  module _ (at : Vertex → Visit) (waiting : List HeapEntry) (limit closed : ℕ) (known : IsKnown vertices estimate at waiting limit closed) (relaxed : AllRelaxed arcs at) (to : Vertex) where
     -- where the cost and estimate of a vertex are the least key, no walk to it is cheaper
-    pub none_cheaper : (key : ℕ) → key ≡ (at to).cost + estimate to → All (λ (e : Entry). key ≤ e.key) waiting
+    pub none_cheaper : (key : ℕ) → key ≡ (at to).cost + estimate to → All (λ (e : HeapEntry). key ≤ e.key) waiting
         → (steps : List Step) (v : Vertex) (n : ℕ) → IsSeen (at v) → (at v).cost ≤ n → Walks arcs v steps to → (at to).cost ≤ n + cost_of arcs steps
     none_cheaper key is least [] v n seen no_more walk =
         let same : (at v).cost ≡ (at to).cost = ap (λ (u : Vertex). (at u).cost) walk in
@@ -42,7 +42,7 @@ module _ (vertices : List Vertex) (arcs : Vertex → List Arc) (estimate : Verte
     none_cheaper key is least (step ∷ steps) v n seen no_more walk =
         elim (cases_eq (at v).rank 0) [
           | inl unclosed ↦
-              let own = All-contains (λ (e : Entry). key ≤ e.key) waiting (entry ((at v).cost + estimate v) v) least (known.waits v seen unclosed) in
+              let own = All-contains (λ (e : HeapEntry). key ≤ e.key) waiting (entry ((at v).cost + estimate v) v) least (known.waits v seen unclosed) in
               let falls = estimate_falls (step ∷ steps) v to (known.there v seen) walk in
               omega (arith, own, falls, is, no_more)
           | inr some ↦

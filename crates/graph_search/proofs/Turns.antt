@@ -2,17 +2,17 @@
 use Rattle.std.proofs.Common.{◌≡◌, ◌≢◌, ℕ, ◌+◌, ◌*◌, ◌<◌, ◌≤◌, List, [], ◌∷◌, length, get_or, refl, sym, subst, ap, ◌∙◌, inl, inr, arith}
 use Rattle.std.specs.Prelude.{Contains, All, ◌==◌, if◌then◌else◌, Option, Some, None, IfNone}
 use Rattle.std.specs.List.Sorted.{IsPermutation}
-use Rattle.graph_search.specs.declared.entry.Entry.{Entry}
+use Rattle.graph_search.specs.declared.radix_heap.HeapEntry.{HeapEntry}
 use Rattle.std.proofs.lemmas.Nat.{mul-le}
 use Rattle.std.proofs.lemmas.Bool.{cases_eq}
 use Rattle.std.proofs.lemmas.List.Elements.{All-nil, All-cons}
 use Rattle.std.proofs.lemmas.List.Sums.{sum_by-le}
 use Rattle.std.proofs.lemmas.List.Sorted.{All-permutation, Contains-permutation, length_permutation}
 use Rattle.std.proofs.Math.Nat.{suc-mul}
-use Rattle.graph_search.specs.declared.arcs.Vertex.{Vertex}
-use Rattle.graph_search.specs.declared.arcs.Arc.{Arc}
-use Rattle.graph_search.specs.declared.arcs.Step.{Step}
-use Rattle.graph_search.specs.declared.arcs.Walk.{Walk}
+use Rattle.graph_search.specs.declared.graph.Vertex.{Vertex}
+use Rattle.graph_search.specs.declared.graph.Arc.{Arc}
+use Rattle.graph_search.specs.declared.graph.Step.{Step}
+use Rattle.graph_search.specs.declared.graph.Walk.{Walk}
 use Rattle.graph_search.specs.declared.visits.Visit.{Visit}
 use Rattle.graph_search.specs.Walks.{Walks, cost_of, IsCheapest, IsApart, IsSearchable}
 use Rattle.graph_search.specs.Visited.{IsSeen, IsClosed, IsWritten}
@@ -30,7 +30,7 @@ none_left (Some x) P no_some held = absurd (no_some x refl)
 
 -- what holds between two turns: the tree, what is known, the goal is not closed, and no more vertices are closed than there are
 pub record IsBetween (vertices : List Vertex) (arcs : Vertex → List Arc) (estimate : Vertex → ℕ) (heaviest : ℕ) (start to : Vertex)
-    (at : Vertex → Visit) (waiting : List Entry) (closed : ℕ) : Type 0 where
+    (at : Vertex → Visit) (waiting : List HeapEntry) (closed : ℕ) : Type 0 where
   pub tree : IsTree arcs start at
   pub known : IsKnown vertices estimate at waiting (closed * heaviest) closed
   pub relaxed : AllRelaxed arcs at
@@ -38,7 +38,7 @@ pub record IsBetween (vertices : List Vertex) (arcs : Vertex → List Arc) (esti
   pub few : closed + sum_open (λ v. 1) at vertices ≤ length vertices
 
 -- how much is left to do at most: entries, and arcs of vertices not closed
-abbrev pub work : List Vertex → (Vertex → List Arc) → (Vertex → Visit) → List Entry → ℕ
+abbrev pub work : List Vertex → (Vertex → List Arc) → (Vertex → Visit) → List HeapEntry → ℕ
 work vertices arcs at waiting = length waiting + sum_open (λ v. length (arcs v)) at vertices
 
 -- no number is counted as more than 1
@@ -55,7 +55,7 @@ one n =
 
 -- at the beginning
 pub between-begun : (vertices : List Vertex) (arcs : Vertex → List Arc) (estimate : Vertex → ℕ) (heaviest : ℕ) (start to : Vertex) (at : Vertex → Visit)
-    (waiting : List Entry) (key closed : ℕ) → Contains vertices start → IsBegun start at → key ≡ estimate start → IsPermutation (entry key start ∷ []) waiting → closed ≡ 0
+    (waiting : List HeapEntry) (key closed : ℕ) → Contains vertices start → IsBegun start at → key ≡ estimate start → IsPermutation (entry key start ∷ []) waiting → closed ≡ 0
     → IsBetween vertices arcs estimate heaviest start to at waiting closed
 between-begun vertices arcs estimate heaviest start to at waiting key closed member begun is waits none = record {
   tree = record {
@@ -67,8 +67,8 @@ between-begun vertices arcs estimate heaviest start to at waiting key closed mem
     there = λ v seen. subst (Contains vertices) (sym (begun.only v seen)) member;
     waits = λ v seen is_open. Contains-permutation (entry key start ∷ []) waiting (entry ((at v).cost + estimate v) v) waits (own v (begun.only v seen));
     entries = All-permutation (λ e. IsEntry estimate at e.key e.vertex) (entry key start ∷ []) waiting waits
-        (All-cons (λ (e : Entry). IsEntry estimate at e.key e.vertex) (entry key start) []
-        (record { reached = omega (arith, begun.begins); no_less = omega (arith, begun.begins, is) }) (All-nil (λ (e : Entry). IsEntry estimate at e.key e.vertex)));
+        (All-cons (λ (e : HeapEntry). IsEntry estimate at e.key e.vertex) (entry key start) []
+        (record { reached = omega (arith, begun.begins); no_less = omega (arith, begun.begins, is) }) (All-nil (λ (e : HeapEntry). IsEntry estimate at e.key e.vertex)));
     order = λ v is_closed. absurd (omega (arith, is_closed, begun.unclosed v));
     within = λ v seen.
         let same : (at v).cost ≡ (at start).cost = ap (λ (u : Vertex). (at u).cost) (begun.only v seen) in
@@ -90,7 +90,7 @@ between-begun vertices arcs estimate heaviest start to at waiting key closed mem
         subst (Contains (entry key start ∷ [])) same' (contains_first (entry key start) [])
 
 module _ (vertices : List Vertex) (arcs : Vertex → List Arc) (estimate : Vertex → ℕ) (heaviest : ℕ) (searchable : IsSearchable vertices arcs estimate heaviest)
-    (start to : Vertex) (at : Vertex → Visit) (waiting : List Entry) (closed : ℕ) (between : IsBetween vertices arcs estimate heaviest start to at waiting closed) where
+    (start to : Vertex) (at : Vertex → Visit) (waiting : List HeapEntry) (closed : ℕ) (between : IsBetween vertices arcs estimate heaviest start to at waiting closed) where
   -- the start was seen
   start-seen : IsSeen (at start)
   start-seen = omega (arith, between.tree.begins)
@@ -99,9 +99,9 @@ module _ (vertices : List Vertex) (arcs : Vertex → List Arc) (estimate : Verte
   pub apart : waiting ≡ [] → IsApart arcs start to
   apart none =
       none_apart vertices arcs estimate heaviest searchable at (closed * heaviest) closed
-      (subst (λ (entries : List Entry). IsKnown vertices estimate at entries (closed * heaviest) closed) none between.known) between.relaxed to between.goal start start-seen
+      (subst (λ (entries : List HeapEntry). IsKnown vertices estimate at entries (closed * heaviest) closed) none between.known) between.relaxed to between.goal start start-seen
 
-  module _ (key : ℕ) (vertex : Vertex) (rest : List Entry) (taken : IsPermutation waiting (entry key vertex ∷ rest)) where
+  module _ (key : ℕ) (vertex : Vertex) (rest : List HeapEntry) (taken : IsPermutation waiting (entry key vertex ∷ rest)) where
     one_fewer : length waiting ≡ length rest + 1
     one_fewer =
         let same = length_permutation waiting (entry key vertex ∷ rest) taken in
@@ -120,7 +120,7 @@ module _ (vertices : List Vertex) (arcs : Vertex → List Arc) (estimate : Verte
     pub work-dropped : work vertices arcs at rest < work vertices arcs at waiting
     work-dropped = omega (arith, one_fewer)
 
-    module _ (least : All (λ (e : Entry). key ≤ e.key) waiting) (unclosed : (at vertex).rank ≡ 0) where
+    module _ (least : All (λ (e : HeapEntry). key ≤ e.key) waiting) (unclosed : (at vertex).rank ≡ 0) where
       vertex-seen : IsSeen (at vertex)
       vertex-seen = first_seen vertices estimate at waiting rest (closed * heaviest) closed key vertex between.known taken least unclosed
 
@@ -192,7 +192,7 @@ module _ (vertices : List Vertex) (arcs : Vertex → List Arc) (estimate : Verte
         fewer_open : (count : Vertex → ℕ) → sum_open count at' vertices + count vertex ≤ sum_open count at vertices
         fewer_open count = sum_open-closed vertices estimate at waiting rest (closed * heaviest) closed key vertex between.known taken least unclosed at' written count
 
-        module _ (at'' : Vertex → Visit) (waiting' : List Entry) (ranks : KeepsRanks at' at'') where
+        module _ (at'' : Vertex → Visit) (waiting' : List HeapEntry) (ranks : KeepsRanks at' at'') where
           -- the arcs were followed
           pub between-turned : vertex ≢ to → IsTree arcs start at'' → IsKnown vertices estimate at'' waiting' (closed' * heaviest) closed' → AllRelaxed arcs at''
               → IsBetween vertices arcs estimate heaviest start to at'' waiting' closed'

@@ -1,10 +1,10 @@
 -- The walk along the last steps, back from a closed vertex to the start.
 use Rattle.std.proofs.Common.{◌≡◌, ◌≢◌, ◌+◌, ◌<◌, List, [], ◌∷◌, ◌++◌, reverse, refl, sym, subst, ap, ◌∙◌, inl, inr, arith}
 use Rattle.std.proofs.lemmas.List.{reverse-append}
-use Rattle.graph_search.specs.declared.arcs.Vertex.{Vertex}
-use Rattle.graph_search.specs.declared.arcs.Arc.{Arc}
-use Rattle.graph_search.specs.declared.arcs.Step.{Step}
-use Rattle.graph_search.specs.declared.arcs.Walk.{Walk}
+use Rattle.graph_search.specs.declared.graph.Vertex.{Vertex}
+use Rattle.graph_search.specs.declared.graph.Arc.{Arc}
+use Rattle.graph_search.specs.declared.graph.Step.{Step}
+use Rattle.graph_search.specs.declared.graph.Walk.{Walk}
 use Rattle.graph_search.specs.declared.visits.Visit.{Visit}
 use Rattle.graph_search.specs.Walks.{Walks, cost_of}
 use Rattle.graph_search.specs.Visited.{IsClosed}

@@ -2,7 +2,7 @@
 use Rattle.std.proofs.Common.{◌≡◌, ◌≢◌, ◌⊎◌, true, false, ap, sym, ◌∙◌, inl, inr}
 use Rattle.std.specs.Prelude.{◌==◌, ◌&&◌, not}
 use Rattle.std.proofs.lemmas.Bool.{cases_eq, both_ways, not-true, and_from, and_parts, eq-eqb, eqb-true}
-use Rattle.graph_search.specs.declared.arcs.Vertex.{Vertex}
+use Rattle.graph_search.specs.declared.graph.Vertex.{Vertex}
 use Rattle.graph_search.specs.declared.visits.Visit.{Visit}
 use Rattle.graph_search.specs.Visited.{IsWritten}
 

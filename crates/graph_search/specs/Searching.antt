@@ -1,11 +1,11 @@
 -- What a search keeps from step to step: `at` is what it knows of each vertex, and `waiting` are the entries of those still to be closed.
 use Rattle.std.specs.Prelude.{◌≡◌, ◌≢◌, ℕ, ◌+◌, ◌*◌, ◌<◌, ◌≤◌, ◌⊎◌, ◌==◌, if◌then◌else◌, List, length, All, Contains}
 use Rattle.std.specs.List.{sum_by}
-use Rattle.graph_search.specs.declared.entry.Entry.{Entry}
-use Rattle.graph_search.specs.declared.arcs.Vertex.{Vertex}
-use Rattle.graph_search.specs.declared.arcs.Arc.{Arc}
-use Rattle.graph_search.specs.declared.arcs.Step.{Step}
-use Rattle.graph_search.specs.declared.arcs.Walk.{Walk}
+use Rattle.graph_search.specs.declared.radix_heap.HeapEntry.{HeapEntry}
+use Rattle.graph_search.specs.declared.graph.Vertex.{Vertex}
+use Rattle.graph_search.specs.declared.graph.Arc.{Arc}
+use Rattle.graph_search.specs.declared.graph.Step.{Step}
+use Rattle.graph_search.specs.declared.graph.Walk.{Walk}
 use Rattle.graph_search.specs.declared.visits.Visit.{Visit}
 use Rattle.graph_search.specs.Walks.{arc_of, Walks, cost_of}
 use Rattle.graph_search.specs.Visited.{IsSeen, IsClosed}
@@ -35,12 +35,12 @@ pub record IsEntry (estimate : Vertex → ℕ) (at : Vertex → Visit) (key : �
   pub no_less : (at v).cost + estimate v ≤ key
 
 -- every vertex seen and not closed waits with its cost and estimate, no entry has less than a closed vertex, and no cost is above a limit
-pub record IsKnown (vertices : List Vertex) (estimate : Vertex → ℕ) (at : Vertex → Visit) (waiting : List Entry)
+pub record IsKnown (vertices : List Vertex) (estimate : Vertex → ℕ) (at : Vertex → Visit) (waiting : List HeapEntry)
     (limit closed : ℕ) : Type 0 where
   pub there : (v : Vertex) → IsSeen (at v) → Contains vertices v
   pub waits : (v : Vertex) → IsSeen (at v) → (at v).rank ≡ 0 → Contains waiting (entry ((at v).cost + estimate v) v)
-  pub entries : All (λ (e : Entry). IsEntry estimate at e.key e.vertex) waiting
-  pub order : (v : Vertex) → IsClosed (at v) → All (λ (e : Entry). (at v).cost + estimate v ≤ e.key) waiting
+  pub entries : All (λ (e : HeapEntry). IsEntry estimate at e.key e.vertex) waiting
+  pub order : (v : Vertex) → IsClosed (at v) → All (λ (e : HeapEntry). (at v).cost + estimate v ≤ e.key) waiting
   pub within : (v : Vertex) → IsSeen (at v) → (at v).cost ≤ limit
   pub ranks : (v : Vertex) → (at v).rank ≤ closed
 
@@ -74,7 +74,7 @@ pub record KeepsRanks (old new : Vertex → Visit) : Type 0 where
 
 -- the first arcs of a vertex were followed: what holds from then on, and what has changed since something was known before
 pub record IsFollowing (vertices : List Vertex) (arcs : Vertex → List Arc) (estimate : Vertex → ℕ) (heaviest : ℕ) (vertex : Vertex) (closed : ℕ)
-    (before : Vertex → Visit) (waited : List Entry) (at : Vertex → Visit) (waiting : List Entry) (count added : ℕ) : Type 0 where
+    (before : Vertex → Visit) (waited : List HeapEntry) (at : Vertex → Visit) (waiting : List HeapEntry) (count added : ℕ) : Type 0 where
   pub known : IsKnown vertices estimate at waiting (closed * heaviest) closed
   pub closing : IsClosing estimate heaviest at (closed * heaviest) vertex
   pub relaxing : AreBeingRelaxed arcs at vertex count

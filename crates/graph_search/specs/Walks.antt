@@ -2,10 +2,10 @@
 -- leave a vertex, in order.
 use Rattle.std.specs.Prelude.{◌≡◌, ℕ, ◌+◌, ◌-◌, ◌*◌, ◌^◌, ◌<◌, ◌≤◌, List, [], ◌∷◌, length, map, slice_index_or, All, Contains}
 use Rattle.std.specs.List.{sum_by}
-use Rattle.graph_search.specs.declared.arcs.Vertex.{Vertex}
-use Rattle.graph_search.specs.declared.arcs.Arc.{Arc}
-use Rattle.graph_search.specs.declared.arcs.Step.{Step}
-use Rattle.graph_search.specs.declared.arcs.Walk.{Walk}
+use Rattle.graph_search.specs.declared.graph.Vertex.{Vertex}
+use Rattle.graph_search.specs.declared.graph.Arc.{Arc}
+use Rattle.graph_search.specs.declared.graph.Step.{Step}
+use Rattle.graph_search.specs.declared.graph.Walk.{Walk}
 
 -- stands for the arc of a step that takes none
 abbrev pub no_arc : Arc
@@ -28,7 +28,7 @@ Walks arcs from (step ∷ steps) to = (step.from ≡ from) × (step.place < leng
 abbrev pub cost_of : (Vertex → List Arc) → List Step → ℕ
 cost_of arcs steps = sum_by (λ (step : Step). (arc_of arcs step).weight) steps
 
--- a walk from one vertex to another, with its cost, that no other such walk undercuts
+-- a walk from one vertex to another, with its cost, than which no other such walk costs less
 pub record IsCheapest (arcs : Vertex → List Arc) (from to : Vertex) (walk : Walk) : Type 0 where
   pub walks : Walks arcs from walk.steps.items to
   pub adds_up : walk.cost ≡ cost_of arcs walk.steps.items

@@ -5,13 +5,10 @@
 //! knows is kept block by block, and memory for a block is taken only when the search comes to it.
 #![tactic(auto)]
 
-mod arcs;
-mod entry;
 mod graph;
+mod radix_heap;
 mod search;
 mod visits;
-mod waiting;
 
-pub use arcs::{Arc, Step, Vertex, Walk};
-pub use graph::Graph;
+pub use graph::{Arc, Graph, Step, Vertex, Walk};
 pub use search::cheapest_walk;

@@ -2,20 +2,19 @@
 
 ghost use Rattle.std.specs.Prelude.{◌≡◌, ◌≤◌, ◌<◌, ◌+◌, ◌*◌, ◌^◌, ◌∷◌, [], List, length, Contains, IfOk, IfSome, IfNone, OnOk};
 ghost use Rattle.std.specs.List.Sorted.{IsPermutation};
-ghost use Rattle.graph_search.specs.declared.arcs.Vertex.{Vertex};
-ghost use Rattle.graph_search.specs.declared.arcs.Arc.{Arc};
+ghost use Rattle.graph_search.specs.declared.graph.Vertex.{Vertex};
+ghost use Rattle.graph_search.specs.declared.graph.Arc.{Arc};
 ghost use Rattle.graph_search.specs.Walks.{arc_of, IsCheapest, IsApart, IsSearchable};
 ghost use Rattle.graph_search.specs.Visited.{visit_at, IsClosed, IsWritten};
 ghost use Rattle.graph_search.specs.Entries.{entry};
 ghost use Rattle.graph_search.specs.Searching.{IsTree, IsRanked, IsKnown, IsClosing, AllRelaxed, AreBeingRelaxed, IsFollowing, KeepsRanks, IsBegun, IsWalkTo, closed_as};
 
-use crate::arcs::{Step, Vertex, Walk};
-use crate::graph::Graph;
+use crate::graph::{Graph, Step, Vertex, Walk};
+use crate::radix_heap::RadixHeap;
 use crate::visits::{UNSEEN, Visits};
-use crate::waiting::Waiting;
 use std::alloc::{AllocError, Global};
 
-/// A walk from one vertex to another that no other such walk undercuts; none exactly where no walk joins the two. Only memory can be
+/// A walk from one vertex to another than which no other such walk costs less; none exactly where no walk joins the two. Only memory can be
 /// refused. Its steps are fewer than the vertices. Vertices are closed in the order of their least cost and estimate together, up to the
 /// goal's; each arc of a closed vertex is looked at once.
 pub fn cheapest_walk<G: Graph>(
@@ -44,7 +43,7 @@ pub fn cheapest_walk<G: Graph>(
         if vertex == to {
             return Ok(Some(walk_to(alloc, &search.visits, from, to)?));
         }
-        let turn = Turn {
+        let turn = ClosedVertex {
             vertex,
             cost: visit.cost,
         };
@@ -55,7 +54,7 @@ pub fn cheapest_walk<G: Graph>(
 
 /// A vertex that was just closed, and what it costs.
 #[derive(Clone, Copy)]
-struct Turn {
+struct ClosedVertex {
     vertex: Vertex,
     cost: u64,
 }
@@ -71,7 +70,7 @@ struct Stride {
 #[derive(Drop)]
 struct Search {
     visits: Visits,
-    waiting: Waiting,
+    waiting: RadixHeap,
     /// How many vertices were closed.
     closed: usize,
 }
@@ -85,7 +84,7 @@ impl Search {
     {
         let mut visits = Visits::new(alloc);
         visits.reach(alloc, from, 0, UNSEEN.last)?;
-        let mut waiting = Waiting::new(alloc, estimate);
+        let mut waiting = RadixHeap::new(alloc, estimate);
         waiting.push(alloc, estimate, from)?;
         Ok(Search {
             visits,
@@ -113,7 +112,7 @@ impl Search {
         &mut self,
         alloc: Global,
         graph: &G,
-        turn: Turn,
+        turn: ClosedVertex,
         ends: &mut Vec<Vertex>,
     ) -> Result<(), AllocError>
         requires sound { G.is_sound graph.now }

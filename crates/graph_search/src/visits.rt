@@ -1,11 +1,11 @@
 //! What a search knows of the vertices.
 
 ghost use Rattle.std.specs.Prelude.{◌≡◌, ◌<◌, OnOk, vec_len};
-ghost use Rattle.graph_search.specs.declared.arcs.Vertex.{Vertex};
+ghost use Rattle.graph_search.specs.declared.graph.Vertex.{Vertex};
 ghost use Rattle.graph_search.specs.Visited.{unseen, visit_at, visit_on, IsWritten, KnowsAlike, IsWrittenAt};
 ghost use Rattle.graph_search.specs.Searching.{closed_as};
 
-use crate::arcs::{Step, Vertex};
+use crate::graph::{Step, Vertex};
 use std::alloc::{AllocError, Global};
 
 /// What is known of a vertex: the least cost found so far of a walk to it, when it was closed, and the last step of that walk.

@@ -1,14 +1,13 @@
-//! Cuts a field into layers: the cells that an agent can stand on and that keep its radius from every boundary, one list a tile.
+//! Tile cache layers of a field, from filters, compact heightfield and erosion: the cells that an agent can stand on and that keep its
+//! radius from every boundary, one list a tile.
 //!
-//! `ground` gives exactly the ground of its definition, whose layers keep the rules of layers. `layer` gives the layer of one tile, the same
-//! that stands in the ground, from the spans near that tile alone. `tile_of` gives the tile of a column.
+//! `ground` gives exactly the ground of its definition, whose layers keep the rules of layers. `layer` gives the layer of one tile, the
+//! same that stands in the ground, from the spans near that tile alone. `tile_of` gives the tile of a column.
 #![tactic(auto)]
 
-mod nearby;
+mod cut;
 mod neighbours;
-mod open_layer;
 mod tile_layers;
-mod whole;
 
+pub use cut::{ground, layer};
 pub use tile_layers::tile_of;
-pub use whole::{ground, layer};

@@ -1,6 +1,6 @@
-//! Hands the kept cells of a field out to the layers of their tiles.
+//! Hands the kept cells of a field out to the layers of their tiles. Layers while cells are handed out to them.
 
-ghost use Rattle.std.specs.Prelude.{◌≡◌, ◌<◌, IfOk, List, [], map};
+ghost use Rattle.std.specs.Prelude.{◌≡◌, ◌<◌, IfOk, List, [], map, ◌++◌, ◌∷◌, OnOk};
 ghost use Rattle.std.specs.List.{range_with_len};
 ghost use Rattle.nav_ground.specs.declared.cell.Cell.{Cell};
 ghost use Rattle.nav_ground.specs.Cells.{IsCells, IsCompact};
@@ -12,14 +12,13 @@ ghost use Rattle.nav_ground.specs.Tiling.{tile_count, tile_window, margin_of, is
 ghost use Rattle.layer_cut.specs.Tiles.{tile_at, IsInField, AreInField, layer_with};
 
 use crate::neighbours::layer_cell;
-use crate::open_layer::{OpenLayer, closed};
 use agent_erode::runs_near;
 use nav_ground::{
-    CellRef, Layer, Setting, SmallCell, TileNo, WideCells, Window, margin_of, tile_bounds, tiles,
+    CellRef, Layer, PackedCell, PaddedCells, Setting, TileNo, Window, margin_of, tile_bounds, tiles,
 };
-use nav_list::Items;
-use nav_share::Shared;
+use nav_lists::{Items, Shared};
 use std::alloc::{AllocError, Global};
+use std::marker::Model;
 
 /// The tile of a column of the field.
 #[tactic(auto, using(crate::proofs::TilePlaces::tile_there))]
@@ -36,7 +35,7 @@ pub fn tile_of(setting: &Setting, x: u32, z: u32) -> TileNo
 pub(crate) fn hand_out(
     alloc: Global,
     setting: &Setting,
-    cells: &Shared<Items<SmallCell>>,
+    cells: &Shared<Items<PackedCell>>,
     marks: &[bool],
 ) -> Result<Vec<Layer>, AllocError>
     requires setting { IsSetting setting.now }
@@ -54,7 +53,7 @@ pub(crate) fn hand_out(
 fn handed_out(
     alloc: Global,
     setting: &Setting,
-    cells: &[SmallCell],
+    cells: &[PackedCell],
     marks: &[bool],
     empty: Vec<OpenLayer>,
 ) -> Result<Vec<Layer>, AllocError>
@@ -83,7 +82,7 @@ fn handed_out(
 fn empty_layers(
     alloc: Global,
     setting: &Setting,
-    cells: &Shared<Items<SmallCell>>,
+    cells: &Shared<Items<PackedCell>>,
 ) -> Result<Vec<OpenLayer>, AllocError>
     requires setting { IsSetting setting.now }
     requires cells { IsCells cells.now }
@@ -102,7 +101,7 @@ fn empty_layers(
 pub(crate) fn cut(
     alloc: Global,
     setting: &Setting,
-    cells: &Shared<Items<SmallCell>>,
+    cells: &Shared<Items<PackedCell>>,
     marks: &[bool],
     tile: TileNo,
 ) -> Result<Layer, AllocError>
@@ -121,10 +120,10 @@ pub(crate) fn cut(
 fn kept_in_tile(
     alloc: Global,
     setting: &Setting,
-    cells: &[SmallCell],
+    cells: &[PackedCell],
     marks: &[bool],
     tile: TileNo,
-) -> Result<Vec<SmallCell>, AllocError>
+) -> Result<Vec<PackedCell>, AllocError>
     requires setting { IsSetting setting.now }
     requires cells { IsCompact cells.now }
     requires marks { marks.now ≡ map (is_kept cells.now setting.now.agent.radius) cells.now }
@@ -148,9 +147,9 @@ fn kept_in_tile(
 fn layer_of_cells(
     alloc: Global,
     setting: &Setting,
-    cells: &Shared<Items<SmallCell>>,
+    cells: &Shared<Items<PackedCell>>,
     tile: TileNo,
-    kept: Vec<SmallCell>,
+    kept: Vec<PackedCell>,
 ) -> Result<OpenLayer, AllocError>
     requires setting { IsSetting setting.now }
     requires cells { IsCells cells.now }
@@ -166,20 +165,20 @@ fn layer_of_cells(
 fn wide_cells(
     alloc: Global,
     setting: &Setting,
-    cells: &Shared<Items<SmallCell>>,
+    cells: &Shared<Items<PackedCell>>,
     tile: TileNo,
-) -> Result<WideCells, AllocError>
+) -> Result<PaddedCells, AllocError>
     requires setting { IsSetting setting.now }
     requires cells { IsCells cells.now }
     requires there { tile < tile_count setting.now }
     ensures { IfOk result (λ wide. wide ≡ Layers.wide_cells setting.now cells.now tile) }
 {
     if !setting.clear {
-        return Ok(WideCells::none(alloc));
+        return Ok(PaddedCells::none(alloc));
     }
     let window = tile_bounds(setting, tile);
     let runs = runs_near(alloc, cells.get().as_slice(), window, margin_of(setting))?;
-    Ok(WideCells::over(cells.share()?, runs))
+    Ok(PaddedCells::over(cells.share()?, runs))
 }
 
 /// Whether a place lies in a rectangle of columns.
@@ -190,4 +189,72 @@ fn is_inside(window: &Window, at: CellRef) -> bool
     let x = at.x as i32;
     let z = at.z as i32;
     window.x0 <= x && x <= window.x1 && (window.z0 <= z && z <= window.z1)
+}
+
+/// The layer of a tile to which cells are still handed out. It is seen as the layer.
+#[derive(Drop)]
+pub(crate) struct OpenLayer {
+    tile: TileNo,
+    cells: Vec<PackedCell>,
+    radius: u32,
+    wide: PaddedCells,
+}
+
+impl Model for OpenLayer {
+    ghost use Rattle.nav_ground.specs.declared.cell.Layer.{Layer};
+
+    ghost Value = { Layer };
+
+    ghost view = { λ a. record { tile = a.tile; cells = a.cells.items; radius = a.radius; wide = a.wide } };
+}
+
+impl OpenLayer {
+    /// The layer of a tile with some cells, what agents keep from obstacles, and its wide cells.
+    pub(crate) fn new(
+        tile: TileNo,
+        cells: Vec<PackedCell>,
+        radius: u32,
+        wide: PaddedCells,
+    ) -> OpenLayer
+        ensures { result ≡ record { tile = tile; cells = cells.items; radius = radius; wide = wide } }
+    {
+        OpenLayer {
+            tile,
+            cells,
+            radius,
+            wide,
+        }
+    }
+
+    /// Hands one more cell out to it.
+    pub(crate) fn push(&mut self, cell: PackedCell) -> Result<(), AllocError>
+        ensures { OnOk result (self.new ≡ record self.old { cells = self.old.cells ++ cell ∷ [] }) }
+    {
+        self.cells.push(cell)?;
+        Ok(())
+    }
+
+    /// The layer, once all cells are handed out, with no more room than they take.
+    pub(crate) fn close(self, alloc: Global) -> Result<Layer, AllocError>
+        ensures { IfOk result (λ layer. layer ≡ self) }
+    {
+        let cells = Vec::from_slice(alloc, self.cells.as_slice())?;
+        Ok(Layer {
+            tile: self.tile,
+            cells: Shared::new(alloc, Items::from_vec(cells))?,
+            radius: self.radius,
+            wide: self.wide,
+        })
+    }
+}
+
+/// The layers, once all cells are handed out.
+pub(crate) fn closed(alloc: Global, open: Vec<OpenLayer>) -> Result<Vec<Layer>, AllocError>
+    ensures { IfOk result (λ layers. layers.items ≡ open.items) }
+{
+    let mut layers = Vec::with_capacity(alloc, open.len())?;
+    for layer in open {
+        layers.push(layer.close(alloc)?)?;
+    }
+    Ok(layers)
 }

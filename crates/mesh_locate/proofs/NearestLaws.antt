@@ -10,7 +10,7 @@ use Rattle.mesh_types.specs.declared.mesh.Mesh.{Mesh}
 use Rattle.mesh_types.specs.Located.{Holds, HoldsAt, IsLocated, IsNoLater, height_gap}
 use Rattle.mesh_types.specs.Right.{IsNowhere}
 use Rattle.mesh_types.specs.WholeMesh.{poly_at}
-use Rattle.mesh_locate.specs.declared.near.Near.{Near}
+use Rattle.mesh_locate.specs.declared.nearest.NearestPolygon.{NearestPolygon}
 use Rattle.mesh_locate.specs.Nearest.{IsBefore, IsNearest, IsNearestBefore, is_nearer}
 
 -- what comes before the next place comes before this one, or stands there
@@ -46,7 +46,7 @@ outside mesh p y at polygon there never held =
     never (subst (λ (d : Polygon). Holds d p) (one_polygon mesh p y at at polygon refl there held) held.holds)
 
 -- a polygon that does not hold the point changes nothing
-pub passed_over : (mesh : Mesh) (p : Point) (y : ℕ) (at : PolyRef) (best : Option Near) → (HoldsAt mesh p y at → ⊥)
+pub passed_over : (mesh : Mesh) (p : Point) (y : ℕ) (at : PolyRef) (best : Option NearestPolygon) → (HoldsAt mesh p y at → ⊥)
     → IsNearestBefore mesh p y at.tile at.index best → IsNearestBefore mesh p y at.tile (at.index + 1) best
 passed_over mesh p y at None never found =
     λ other before held. before_next at other before (λ earlier. found other earlier held) (λ here. never (subst (HoldsAt mesh p y) here held))
@@ -65,7 +65,7 @@ no_later tile index a b m n at at' (inl earlier) least =
 no_later tile index a b m n at at' (inr there) least =
     elim (cases_lt m n) [ inl less ↦ inl less | inr same ↦ inr (omega (arith, same, least), inr (there.0 ∙ sym at, omega (arith, there.1, at'))) ]
 
-pub left_alone : (mesh : Mesh) (p : Point) (y : ℕ) (at : PolyRef) (polygon : Polygon) (gap : ℕ) (best : Option Near) → poly_at mesh at ≡ Some polygon
+pub left_alone : (mesh : Mesh) (p : Point) (y : ℕ) (at : PolyRef) (polygon : Polygon) (gap : ℕ) (best : Option NearestPolygon) → poly_at mesh at ≡ Some polygon
     → gap ≡ height_gap polygon y → is_nearer gap best ≡ false → IsNearestBefore mesh p y at.tile at.index best
     → IsNearestBefore mesh p y at.tile (at.index + 1) best
 left_alone mesh p y at polygon gap None there is least found = absurd (true≢false least)
@@ -83,7 +83,7 @@ left_alone mesh p y at polygon gap (Some near) there is least found =
     }
 
 -- a nearer one that holds the point takes the place
-pub taken : (mesh : Mesh) (p : Point) (y : ℕ) (at : PolyRef) (polygon : Polygon) (gap : ℕ) (best : Option Near) → poly_at mesh at ≡ Some polygon
+pub taken : (mesh : Mesh) (p : Point) (y : ℕ) (at : PolyRef) (polygon : Polygon) (gap : ℕ) (best : Option NearestPolygon) → poly_at mesh at ≡ Some polygon
     → gap ≡ height_gap polygon y → gap ≤ mesh.setting.agent.climb → Holds polygon p → is_nearer gap best ≡ true
     → IsNearestBefore mesh p y at.tile at.index best → IsNearest mesh p y at.tile (at.index + 1) (record { gap = gap; at = at })
 taken mesh p y at polygon gap best there is near holds nearer found = record {
@@ -101,7 +101,7 @@ taken mesh p y at polygon gap best there is near holds nearer found = record {
     beyond m n a b less (inl more) = omega (arith, less, more)
     beyond m n a b less (inr same) = omega (arith, less, same.0)
 
-    farther : (best : Option Near) → is_nearer gap best ≡ true → IsNearestBefore mesh p y at.tile at.index best
+    farther : (best : Option NearestPolygon) → is_nearer gap best ≡ true → IsNearestBefore mesh p y at.tile at.index best
         → (other : PolyRef) → IsBefore at.tile at.index other → (held : HoldsAt mesh p y other) → IsNoLater gap at (height_gap held.polygon y) other
     farther None less found other earlier held = absurd (found other earlier held)
     farther (Some near) less found other earlier held =
@@ -110,7 +110,7 @@ taken mesh p y at polygon gap best there is near holds nearer found = record {
 -- ---- from tile to tile
 
 -- what was found does not change where no polygon that holds the point stands between two places
-pub moved_on : (mesh : Mesh) (p : Point) (y tile index tile' index' : ℕ) (best : Option Near)
+pub moved_on : (mesh : Mesh) (p : Point) (y tile index tile' index' : ℕ) (best : Option NearestPolygon)
     → ((other : PolyRef) → IsBefore tile index other → IsBefore tile' index' other)
     → ((other : PolyRef) → IsBefore tile' index' other → HoldsAt mesh p y other → IsBefore tile index other)
     → IsNearestBefore mesh p y tile index best → IsNearestBefore mesh p y tile' index' best
@@ -128,7 +128,7 @@ nothing_yet mesh p y other (inl before) held = absurd (omega (arith, before))
 nothing_yet mesh p y other (inr before) held = absurd (omega (arith, before.1))
 
 -- what was found before the place after the last tile is the polygon that locates the point
-pub located : (mesh : Mesh) (p : Point) (y tile : ℕ) (near : Near) → ((other : PolyRef) → HoldsAt mesh p y other → other.tile < tile)
+pub located : (mesh : Mesh) (p : Point) (y tile : ℕ) (near : NearestPolygon) → ((other : PolyRef) → HoldsAt mesh p y other → other.tile < tile)
     → IsNearest mesh p y tile 0 near → IsLocated mesh p y near.at
 located mesh p y tile near all found = record {
   holding = found.holding;

@@ -10,7 +10,7 @@ use Rattle.nav_ground.specs.Limits.{IsSetting}
 use Rattle.nav_ground.specs.Tiling.{tiles_in_row, tile_rows}
 use Rattle.mesh_types.specs.declared.links.PolyRef.{PolyRef}
 use Rattle.mesh_types.specs.declared.polygon.Polygon.{Polygon}
-use Rattle.mesh_types.specs.declared.tile.TileMesh.{TileMesh}
+use Rattle.mesh_types.specs.declared.mesh.TileMesh.{TileMesh}
 use Rattle.mesh_types.specs.declared.mesh.Mesh.{Mesh}
 use Rattle.mesh_types.specs.Located.{HoldsAt, IsLocated}
 use Rattle.mesh_types.specs.Right.{IsNowhere}
@@ -18,8 +18,8 @@ use Rattle.mesh_types.specs.FitTiles.{IsPolygon}
 use Rattle.mesh_types.specs.Soundness.{IsSound}
 use Rattle.mesh_types.specs.WholeMesh.{poly_at}
 use Rattle.mesh_types.proofs.MeshPolygons.{placed}
-use Rattle.mesh_locate.specs.declared.near.Near.{Near}
-use Rattle.mesh_locate.specs.declared.near.Places.{Places}
+use Rattle.mesh_locate.specs.declared.nearest.NearestPolygon.{NearestPolygon}
+use Rattle.mesh_locate.specs.declared.nearest.AxisTiles.{AxisTiles}
 use Rattle.mesh_locate.specs.Nearest.{IsBefore, IsNearestBefore, AreColumns}
 use Rattle.mesh_locate.specs.Places.{IsOneOf, Reaches}
 use Rattle.mesh_locate.proofs.NearestLaws.{moved_on, nothing_yet, located, nowhere}
@@ -45,7 +45,7 @@ few_polygons mesh t tile sound there =
     omega (arith, get_or-le-sum_by (λ (d : TileMesh). length d.polys) mesh.tiles t tile within, same, sound.tiles.few)
 
 -- after a tile's last polygon comes the next tile
-pub tile_done : (mesh : Mesh) (p : Point) (y t : ℕ) (tile : TileMesh) (best : Option Near) → slice_get mesh.tiles t ≡ Some tile
+pub tile_done : (mesh : Mesh) (p : Point) (y t : ℕ) (tile : TileMesh) (best : Option NearestPolygon) → slice_get mesh.tiles t ≡ Some tile
     → IsNearestBefore mesh p y t (length tile.polys) best → IsNearestBefore mesh p y (t + 1) 0 best
 tile_done mesh p y t tile best there found =
     moved_on mesh p y t (length tile.polys) (t + 1) 0 best on back found
@@ -72,7 +72,7 @@ tile_done mesh p y t tile best there found =
 -- ---- tiles on the way
 
 -- between two tiles none holds the point
-passes : (mesh : Mesh) (p : Point) (y t t' : ℕ) (best : Option Near) → t ≤ t'
+passes : (mesh : Mesh) (p : Point) (y t t' : ℕ) (best : Option NearestPolygon) → t ≤ t'
     → ((other : PolyRef) → HoldsAt mesh p y other → t ≤ other.tile → other.tile < t' → ⊥)
     → IsNearestBefore mesh p y t 0 best → IsNearestBefore mesh p y t' 0 best
 passes mesh p y t t' best up none found = moved_on mesh p y t 0 t' 0 best on back found
@@ -98,7 +98,7 @@ one_more : (row columns : ℕ) → (row + 1) * columns ≡ row * columns + colum
 one_more row columns = omega arith
 
 -- a row begins with its first column that reaches the point, and ends with the last
-pub row_begins : (mesh : Mesh) (p : Point) (y row : ℕ) (columns : Places) (best : Option Near) → AreColumns mesh p y columns
+pub row_begins : (mesh : Mesh) (p : Point) (y row : ℕ) (columns : AxisTiles) (best : Option NearestPolygon) → AreColumns mesh p y columns
     → IsNearestBefore mesh p y (row * tiles_in_row mesh.setting) 0 best → IsNearestBefore mesh p y (row * tiles_in_row mesh.setting + columns.first) 0 best
 row_begins mesh p y row columns best are found =
     let width : ℕ = tiles_in_row mesh.setting in
@@ -108,7 +108,7 @@ row_begins mesh p y row columns best are found =
     omega (arith, is, high, (are.all other held).first))
     found
 
-pub row_ends : (mesh : Mesh) (p : Point) (y row : ℕ) (columns : Places) (best : Option Near) → AreColumns mesh p y columns
+pub row_ends : (mesh : Mesh) (p : Point) (y row : ℕ) (columns : AxisTiles) (best : Option NearestPolygon) → AreColumns mesh p y columns
     → IsNearestBefore mesh p y (row * tiles_in_row mesh.setting + columns.end) 0 best → IsNearestBefore mesh p y ((row + 1) * tiles_in_row mesh.setting) 0 best
 row_ends mesh p y row columns best are found =
     let width : ℕ = tiles_in_row mesh.setting in
@@ -121,10 +121,10 @@ row_ends mesh p y row columns best are found =
 -- ---- the rows
 
 -- the rows that reach the point
-abbrev pub AreRows : Mesh → Point → ℕ → Places → Type 0
+abbrev pub AreRows : Mesh → Point → ℕ → AxisTiles → Type 0
 AreRows mesh p y rows = (other : PolyRef) → HoldsAt mesh p y other → IsOneOf rows (other.tile / tiles_in_row mesh.setting)
 
-pub rows_begin : (mesh : Mesh) (p : Point) (y : ℕ) (rows : Places) → AreRows mesh p y rows
+pub rows_begin : (mesh : Mesh) (p : Point) (y : ℕ) (rows : AxisTiles) → AreRows mesh p y rows
     → IsNearestBefore mesh p y (rows.first * tiles_in_row mesh.setting) 0 None
 rows_begin mesh p y rows are =
     passes mesh p y 0 (rows.first * tiles_in_row mesh.setting) None (omega arith)
@@ -134,7 +134,7 @@ rows_begin mesh p y rows are =
     omega (arith, high, up))
     (nothing_yet mesh p y)
 
-rows_over : (mesh : Mesh) (p : Point) (y : ℕ) (rows : Places) → AreRows mesh p y rows → IsSound mesh → IsSetting mesh.setting
+rows_over : (mesh : Mesh) (p : Point) (y : ℕ) (rows : AxisTiles) → AreRows mesh p y rows → IsSound mesh → IsSetting mesh.setting
     → (other : PolyRef) → HoldsAt mesh p y other → other.tile < rows.end * tiles_in_row mesh.setting
 rows_over mesh p y rows are sound setting other held =
     let width : ℕ = tiles_in_row mesh.setting in
@@ -143,7 +143,7 @@ rows_over mesh p y rows are sound setting other held =
     omega (arith, up, column, one_more (other.tile / width) width)
 
 -- after the last row, what was found is the polygon that locates the point, and where nothing was found no polygon holds it
-pub rows_located : (mesh : Mesh) (p : Point) (y row : ℕ) (rows : Places) (best : Option Near) (near : Near) → AreRows mesh p y rows → IsSound mesh
+pub rows_located : (mesh : Mesh) (p : Point) (y row : ℕ) (rows : AxisTiles) (best : Option NearestPolygon) (near : NearestPolygon) → AreRows mesh p y rows → IsSound mesh
     → IsSetting mesh.setting → row ≡ rows.end → IsNearestBefore mesh p y (row * tiles_in_row mesh.setting) 0 best → best ≡ Some near
     → IsLocated mesh p y near.at
 rows_located mesh p y row rows best near are sound setting last found is =
@@ -151,7 +151,7 @@ rows_located mesh p y row rows best near are sound setting last found is =
     (subst (λ (n : ℕ). IsNearestBefore mesh p y (n * tiles_in_row mesh.setting) 0 (Some near)) last
     (subst (IsNearestBefore mesh p y (row * tiles_in_row mesh.setting) 0) is found))
 
-pub rows_nowhere : (mesh : Mesh) (p : Point) (y row : ℕ) (rows : Places) (best : Option Near) → AreRows mesh p y rows → IsSound mesh
+pub rows_nowhere : (mesh : Mesh) (p : Point) (y row : ℕ) (rows : AxisTiles) (best : Option NearestPolygon) → AreRows mesh p y rows → IsSound mesh
     → IsSetting mesh.setting → row ≡ rows.end → IsNearestBefore mesh p y (row * tiles_in_row mesh.setting) 0 best → best ≡ None
     → IsNowhere mesh p y
 rows_nowhere mesh p y row rows best are sound setting last found is =
@@ -161,7 +161,7 @@ rows_nowhere mesh p y row rows best are sound setting last found is =
 
 -- ---- the places that were computed
 
-pub are_columns : (mesh : Mesh) (p : Point) (y count : ℕ) (at : ℤ) (places : Places) → IsSound mesh → IsSetting mesh.setting → count ≡ tiles_in_row mesh.setting
+pub are_columns : (mesh : Mesh) (p : Point) (y count : ℕ) (at : ℤ) (places : AxisTiles) → IsSound mesh → IsSetting mesh.setting → count ≡ tiles_in_row mesh.setting
     → at ≡ p.x → places.first ≤ places.end → places.end ≤ count
     → ((place : ℕ) → place < count → Reaches (16 * mesh.setting.tile) place at → IsOneOf places place) → AreColumns mesh p y places
 are_columns mesh p y count at places sound setting columns is order few all = record {
@@ -173,7 +173,7 @@ are_columns mesh p y count at places sound setting columns is order few all = re
       (subst (Reaches (16 * mesh.setting.tile) (other.tile % tiles_in_row mesh.setting)) (sym is) reached.across);
 }
 
-pub are_rows : (mesh : Mesh) (p : Point) (y count : ℕ) (at : ℤ) (places : Places) → IsSound mesh → IsSetting mesh.setting → count ≡ tile_rows mesh.setting
+pub are_rows : (mesh : Mesh) (p : Point) (y count : ℕ) (at : ℤ) (places : AxisTiles) → IsSound mesh → IsSetting mesh.setting → count ≡ tile_rows mesh.setting
     → at ≡ p.z → ((place : ℕ) → place < count → Reaches (16 * mesh.setting.tile) place at → IsOneOf places place) → AreRows mesh p y places
 are_rows mesh p y count at places sound setting rows is all =
     λ other held.

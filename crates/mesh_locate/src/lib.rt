@@ -1,4 +1,4 @@
-//! The polygon of a mesh in which a place lies.
+//! The polygon of a mesh in which a place lies: Detour's `findNearestPoly` without snapping to a polygon beside the place.
 //!
 //! A polygon holds a point at a height where the point lies to the left of each of its edges or on it, and the height is no further outside
 //! the floors of the polygon than an agent climbs. `locate` gives, of the polygons that hold a place, the nearest in height, and of equally
@@ -7,10 +7,7 @@
 //! Points are in sixteenths of a cell, corners of polygons in whole cells, heights in the unit of the floors.
 #![tactic(auto)]
 
-mod located;
-mod near;
-mod places;
+mod nearest;
 mod polygons;
-mod tiles;
 
-pub use located::locate;
+pub use nearest::locate;

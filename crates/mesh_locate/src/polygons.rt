@@ -7,7 +7,7 @@ ghost use Rattle.mesh_types.specs.FitTiles.{IsPolygon};
 ghost use Rattle.mesh_types.specs.WholeMesh.{poly_at};
 ghost use Rattle.mesh_locate.specs.Nearest.{IsFrom, IsInBox, IsNearestBefore, is_nearer};
 
-use crate::near::{Near, Sought};
+use crate::nearest::{NearestPolygon, Sought};
 use mesh_types::{Extent, Mesh, PolyRef, Polygon, Polygons, holds, in_sixteenths};
 use nav_base::Point;
 
@@ -18,8 +18,8 @@ pub fn nearer_at(
     at: PolyRef,
     polygons: &Polygons,
     sought: Sought,
-    best: Option<Near>,
-) -> Option<Near>
+    best: Option<NearestPolygon>,
+) -> Option<NearestPolygon>
     requires listed { poly_at mesh.now at ≡ slice_get polygons.now at.index }
     requires there { at.index < length polygons.now }
     requires polygons { All IsPolygon polygons.now }
@@ -56,8 +56,8 @@ fn nearer(
     at: PolyRef,
     polygon: &Polygon,
     sought: Sought,
-    best: Option<Near>,
-) -> Option<Near>
+    best: Option<NearestPolygon>,
+) -> Option<NearestPolygon>
     requires there { poly_at mesh.now at ≡ Some polygon.now }
     requires corners { All IsCellCorner polygon.now.corners }
     requires point { HasCoordinates sought.p }
@@ -74,7 +74,7 @@ fn nearer(
     if !holds(polygon, sought.p) {
         return best;
     }
-    Some(Near { gap, at })
+    Some(NearestPolygon { gap, at })
 }
 
 /// How far a height is outside the floors of a polygon.
@@ -87,7 +87,7 @@ fn height_gap(polygon: &Polygon, y: u32) -> u32
 }
 
 /// Whether a gap is less than that of what was found so far.
-fn is_nearer(gap: u32, best: Option<Near>) -> bool
+fn is_nearer(gap: u32, best: Option<NearestPolygon>) -> bool
     ensures { result ≡ is_nearer gap best }
 {
     match best {

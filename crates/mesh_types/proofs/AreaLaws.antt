@@ -12,7 +12,7 @@ use Rattle.nav_base.specs.Point.{cross_of, dot_of, orient_of}
 use Rattle.nav_base.specs.Convex.{corner_at}
 use Rattle.nav_base.proofs.Polynomials.{sum, equal}
 use Rattle.nav_base.proofs.PointTerms.{place, coordinates, cross_term, orient_term}
-use Rattle.mesh_types.specs.declared.outline.Triangle.{Triangle}
+use Rattle.mesh_types.specs.declared.region.Triangle.{Triangle}
 use Rattle.mesh_types.specs.Ears.{put_before, area_of, outline_area, best_ear, cut_ears, ears_of, triangle_at, turn_of, turns_of}
 use Rattle.mesh_types.proofs.EarLaws.{best_ear-is}
 use Rattle.mesh_types.proofs.Rounds.{round-remove}

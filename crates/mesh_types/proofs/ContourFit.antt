@@ -8,10 +8,10 @@ use Rattle.nav_ground.specs.declared.cell.FreeLayer.{FreeLayer}
 use Rattle.nav_ground.specs.Cells.{IsCut, IsInTile}
 use Rattle.nav_ground.specs.Tiling.{tile_window}
 use Rattle.mesh_types.specs.declared.region.Regions.{Regions}
-use Rattle.mesh_types.specs.declared.door.Door.{Door}
-use Rattle.mesh_types.specs.declared.door.Part.{Part}
+use Rattle.mesh_types.specs.declared.region.PortalEdge.{PortalEdge}
+use Rattle.mesh_types.specs.declared.region.RegionPart.{RegionPart}
 use Rattle.mesh_types.specs.declared.polygon.Polygon.{Polygon}
-use Rattle.mesh_types.specs.declared.tile.TileMesh.{TileMesh}
+use Rattle.mesh_types.specs.declared.mesh.TileMesh.{TileMesh}
 use Rattle.mesh_types.specs.Regions.{AreRegionsOf, regions_of}
 use Rattle.mesh_types.specs.FitTiles.{IsFit, IsInSquare, IsPolygon}
 use Rattle.mesh_types.specs.Facets.{Facet, facet_polygon, facets_of}
@@ -23,7 +23,7 @@ use Rattle.mesh_types.proofs.DoorRims.{rim_fits}
 use Rattle.mesh_types.proofs.FacetLaws.{IsFacetOf, facet_inside, facet_sound, facets_are, parts_are}
 
 -- the mesh by the parts of regions
-pub parts_mesh_fits : (setting : Setting) (free : FreeLayer) (regions : Regions) (parts : List Part) → IsCut free.cells → IsInTile setting free.tile free.cells
+pub parts_mesh_fits : (setting : Setting) (free : FreeLayer) (regions : Regions) (parts : List RegionPart) → IsCut free.cells → IsInTile setting free.tile free.cells
     → AreRegionsOf free.cells regions → parts_of (tile_window setting free.tile) setting.error free.cells regions ≡ Some parts
     → IsFit setting (parts_mesh setting free regions parts)
 unfolding parts_mesh
@@ -32,7 +32,7 @@ parts_mesh_fits setting free regions parts cut in_tile are is =
     let of = parts_are window free.cells cut.rules regions are in_tile.inside setting.error parts is in
     let facets : List Facet = facets_of parts in
     let each : All (IsFacetOf window parts) facets = facets_are window parts of.each in
-    let doors : List Door = doors_of facets in
+    let doors : List PortalEdge = doors_of facets in
     let all : All (IsDoorOf parts facets) doors = doors_are window parts facets each in
     record {
       of_tile = refl;
@@ -55,7 +55,7 @@ contour_mesh_fits setting free tile cut in_tile are is = by_case (parts_of (tile
     regions : Regions
     regions = regions_of free.cells
 
-    by_case : (o : Option (List Part)) → parts_of (tile_window setting free.tile) setting.error free.cells regions ≡ o
+    by_case : (o : Option (List RegionPart)) → parts_of (tile_window setting free.tile) setting.error free.cells regions ≡ o
         → option_map (parts_mesh setting free regions) o ≡ Some tile → IsFit setting tile
     by_case None of same = absurd cc
     by_case (Some parts) of same =

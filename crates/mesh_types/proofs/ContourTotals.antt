@@ -8,9 +8,9 @@ use Rattle.nav_ground.specs.declared.cell.FreeLayer.{FreeLayer}
 use Rattle.nav_ground.specs.declared.cell.Window.{Window}
 use Rattle.nav_ground.specs.Cells.{IsCut, IsInTile}
 use Rattle.nav_ground.specs.Tiling.{tile_window}
-use Rattle.mesh_types.specs.declared.door.Part.{Part}
+use Rattle.mesh_types.specs.declared.region.RegionPart.{RegionPart}
 use Rattle.mesh_types.specs.declared.region.Regions.{Regions}
-use Rattle.mesh_types.specs.declared.tile.TileMesh.{TileMesh}
+use Rattle.mesh_types.specs.declared.mesh.TileMesh.{TileMesh}
 use Rattle.mesh_types.specs.ContourMeshes.{contour_mesh_of, parts_mesh}
 use Rattle.mesh_types.specs.Doors.{doors_of}
 use Rattle.mesh_types.specs.Facets.{facet_polygon, facets_of}
@@ -20,7 +20,7 @@ use Rattle.mesh_types.proofs.RimShares.{few_positions, named_once}
 use Rattle.mesh_types.proofs.DoorTotals.{few_door_links, few_doors, few_facets}
 use Rattle.mesh_types.proofs.LinkTotals.{IsSmall}
 
-small_of_parts : (setting : Setting) (free : FreeLayer) (regions : Regions) (parts : List Part) → IsCut free.cells → IsInTile setting free.tile free.cells
+small_of_parts : (setting : Setting) (free : FreeLayer) (regions : Regions) (parts : List RegionPart) → IsCut free.cells → IsInTile setting free.tile free.cells
     → AreRegionsOf free.cells regions → parts_of (tile_window setting free.tile) setting.error free.cells regions ≡ Some parts
     → IsSmall (parts_mesh setting free regions parts)
 unfolding parts_mesh
@@ -48,8 +48,8 @@ pub small_contours : (setting : Setting) (free : FreeLayer) (tile : TileMesh) �
 unfolding contour_mesh_of
 small_contours setting free tile cut in_tile are is = by_parts (parts_of (tile_window setting free.tile) setting.error free.cells (regions_of free.cells)) (λ parts made. small_of_parts setting free (regions_of free.cells) parts cut in_tile are made) is
   where
-    by_parts : (found : Option (List Part))
-        → ((parts : List Part) → found ≡ Some parts → IsSmall (parts_mesh setting free (regions_of free.cells) parts))
+    by_parts : (found : Option (List RegionPart))
+        → ((parts : List RegionPart) → found ≡ Some parts → IsSmall (parts_mesh setting free (regions_of free.cells) parts))
         → option_map (parts_mesh setting free (regions_of free.cells)) found ≡ Some tile → IsSmall tile
     by_parts None small is = absurd (none-some tile is)
     by_parts (Some parts) small is = subst IsSmall (same_Some (parts_mesh setting free (regions_of free.cells) parts) tile is) (small parts refl)

@@ -24,12 +24,12 @@ use Rattle.nav_ground.specs.declared.cell.Cell.{Cell}
 use Rattle.nav_ground.specs.declared.cell.Window.{Window}
 use Rattle.nav_ground.proofs.Found.{found_in}
 use Rattle.mesh_types.specs.declared.region.Regions.{Regions}
-use Rattle.mesh_types.specs.declared.door.Door.{Door}
-use Rattle.mesh_types.specs.declared.door.Part.{Part}
-use Rattle.mesh_types.specs.declared.outline.Outline as outlines
+use Rattle.mesh_types.specs.declared.region.PortalEdge.{PortalEdge}
+use Rattle.mesh_types.specs.declared.region.RegionPart.{RegionPart}
+use Rattle.mesh_types.specs.declared.region.Outline as outlines
 use Rattle.mesh_types.specs.declared.links.Link.{Link}
 use Rattle.mesh_types.specs.declared.polygon.Polygon.{Polygon}
-use Rattle.mesh_types.specs.declared.tile.TileMesh.{TileMesh}
+use Rattle.mesh_types.specs.declared.mesh.TileMesh.{TileMesh}
 use Rattle.mesh_types.specs.BorderLinks.{scaled}
 use Rattle.mesh_types.specs.FitTiles.{IsInnerLink}
 use Rattle.mesh_types.specs.Portals.{LeadsThrough, LiesAlong, along}
@@ -55,7 +55,7 @@ abbrev pub facet_corners : Facet → List Point
 facet_corners facet = map (corner_at facet.outline.corners) facet.places
 
 -- a door is an edge of the polygon that it names, and joins places of the outline of its region
-pub record IsDoorOf (parts : List Part) (facets : List Facet) (door : Door) : Type 0 where
+pub record IsDoorOf (parts : List RegionPart) (facets : List Facet) (door : PortalEdge) : Type 0 where
   pub there : door.polygon < length facets
   pub edge : door.edge < length (facet_corners (facet_at facets door.polygon))
   pub begins : corner_at (facet_corners (facet_at facets door.polygon)) door.edge ≡ door.begin
@@ -63,7 +63,7 @@ pub record IsDoorOf (parts : List Part) (facets : List Facet) (door : Door) : Ty
   pub begin : door.begin ≡ corner_at (get_or parts door.region no_part).outline.corners door.from
   pub end : door.end ≡ corner_at (get_or parts door.region no_part).outline.corners door.to
 
-door_is : (window : Window) (parts : List Part) (facets : List Facet) (polygon edge : ℕ) → All (IsFacetOf window parts) facets → polygon < length facets
+door_is : (window : Window) (parts : List RegionPart) (facets : List Facet) (polygon edge : ℕ) → All (IsFacetOf window parts) facets → polygon < length facets
     → edge < length (facet_at facets polygon).places → IsDoorOf parts facets (door_over polygon (facet_at facets polygon) edge)
 door_is window parts facets polygon edge each there inside =
     let facet : Facet = facet_at facets polygon in
@@ -80,7 +80,7 @@ door_is window parts facets polygon edge each there inside =
       end = ap (λ (outline : outlines.Outline). corner_at outline.corners (edge_end facet.places edge)) is.outline;
     }
 
-pub doors_are : (window : Window) (parts : List Part) (facets : List Facet) → All (IsFacetOf window parts) facets → All (IsDoorOf parts facets) (doors_of facets)
+pub doors_are : (window : Window) (parts : List RegionPart) (facets : List Facet) → All (IsFacetOf window parts) facets → All (IsDoorOf parts facets) (doors_of facets)
 unfolding doors_of
 doors_are window parts facets each =
     gathered_all (IsDoorOf parts facets) (λ polygon. facet_doors polygon (facet_at facets polygon)) 0 (length facets)
@@ -168,7 +168,7 @@ whole_way u v apart = record {
 
 -- ---- facing doors
 
-pub facing_points : (parts : List Part) (facets : List Facet) (a b : Door) → IsDoorOf parts facets a → IsDoorOf parts facets b → are_facing a b ≡ true
+pub facing_points : (parts : List RegionPart) (facets : List Facet) (a b : PortalEdge) → IsDoorOf parts facets a → IsDoorOf parts facets b → are_facing a b ≡ true
     → (a.begin ≡ b.end) × (a.end ≡ b.begin)
 facing_points parts facets a b is is' facing =
     elim (cases_Bool (share_places a b)) [
@@ -192,8 +192,8 @@ facing_points parts facets a b is is' facing =
 
 -- ---- links
 
-module _ (cells : List Cell) (regions : Regions) (window : Window) (parts : List Part) (facets : List Facet)
-    (each : All (IsFacetOf window parts) facets) (doors : List Door) (are : All (IsDoorOf parts facets) doors) where
+module _ (cells : List Cell) (regions : Regions) (window : Window) (parts : List RegionPart) (facets : List Facet)
+    (each : All (IsFacetOf window parts) facets) (doors : List PortalEdge) (are : All (IsDoorOf parts facets) doors) where
   -- the polygon of a door
   pub polygon_there : (k : ℕ) → k < length facets
       → slice_get (map (facet_polygon cells regions) facets) k ≡ Some (facet_polygon cells regions (facet_at facets k))
@@ -203,7 +203,7 @@ module _ (cells : List Cell) (regions : Regions) (window : Window) (parts : List
       ∙ ap (λ (p : Polygon). Some p) (get_or-map (facet_polygon cells regions) facets k no_facet (facet_polygon cells regions no_facet) there)
 
   -- a door's two corners differ
-  door_apart : (door : Door) → IsDoorOf parts facets door → door.begin ≢ door.end
+  door_apart : (door : PortalEdge) → IsDoorOf parts facets door → door.begin ≢ door.end
   door_apart door is same =
       let facet : Facet = facet_at facets door.polygon in
       let corners : List Point = facet_corners facet in
@@ -213,7 +213,7 @@ module _ (cells : List Cell) (regions : Regions) (window : Window) (parts : List
       (λ e. place_after-apart (length corners) door.edge (omega (arith, convex.enough)) (sym e))
       (is.begins ∙ same ∙ sym is.ends)
 
-  leads : (tile : ℕ) (a b : Door) → IsDoorOf parts facets a → IsDoorOf parts facets b → are_facing a b ≡ true
+  leads : (tile : ℕ) (a b : PortalEdge) → IsDoorOf parts facets a → IsDoorOf parts facets b → are_facing a b ≡ true
       → LeadsThrough (slice_get (map (facet_polygon cells regions) facets) a.polygon) (slice_get (map (facet_polygon cells regions) facets) b.polygon)
       (door_link tile a b)
   leads tile a b is is' facing =
@@ -247,7 +247,7 @@ module _ (cells : List Cell) (regions : Regions) (window : Window) (parts : List
       (All-found (link_through tile.tile doors) (IsInnerLink tile) doors
       (λ k d there link is. through (get_or doors k d) (are k d there) (find (are_facing (get_or doors k d)) doors) refl link is))
     where
-      through : (a : Door) → IsDoorOf parts facets a → (o : Option Door) → find (are_facing a) doors ≡ o → (link : Link)
+      through : (a : PortalEdge) → IsDoorOf parts facets a → (o : Option PortalEdge) → find (are_facing a) doors ≡ o → (link : Link)
           → option_map (door_link tile.tile a) o ≡ Some link → IsInnerLink tile link
       through a is None found link same = absurd cc
       through a is (Some b) found link same =

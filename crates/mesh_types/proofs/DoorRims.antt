@@ -20,11 +20,11 @@ use Rattle.nav_ground.specs.declared.cell.Window.{Window}
 use Rattle.nav_ground.specs.Tiling.{tile_window}
 use Rattle.nav_ground.proofs.Found.{found_in}
 use Rattle.mesh_types.specs.declared.region.Regions.{Regions}
-use Rattle.mesh_types.specs.declared.door.Door.{Door}
-use Rattle.mesh_types.specs.declared.door.Part.{Part}
+use Rattle.mesh_types.specs.declared.region.PortalEdge.{PortalEdge}
+use Rattle.mesh_types.specs.declared.region.RegionPart.{RegionPart}
 use Rattle.mesh_types.specs.declared.polygon.Polygon.{Polygon}
-use Rattle.mesh_types.specs.declared.label_runs.Run.{Run}
-use Rattle.mesh_types.specs.declared.tile.TileMesh.{TileMesh}
+use Rattle.mesh_types.specs.declared.region.LabelRun.{LabelRun}
+use Rattle.mesh_types.specs.declared.mesh.TileMesh.{TileMesh}
 use Rattle.mesh_types.specs.Runs.{label_if, runs_of}
 use Rattle.mesh_types.specs.FitTiles.{IsRimOf, LiesOnSide, RunsOver}
 use Rattle.mesh_types.specs.Facets.{Facet, facet_polygon}
@@ -55,7 +55,7 @@ up_to z n h k = omega (arith, ints)
 down_to : (z : ℤ) (n : ℕ) → pos 0 ≤ℤ z → n ≤ unsigned_abs z → pos n ≤ℤ z
 down_to z n h k = omega (arith, ints)
 
-over_side : (side : ℕ) (door : Door) (first end : ℕ) → side < 4 → IsCellCorner door.begin → IsCellCorner door.end → first_position side door ≤ first
+over_side : (side : ℕ) (door : PortalEdge) (first end : ℕ) → side < 4 → IsCellCorner door.begin → IsCellCorner door.end → first_position side door ≤ first
     → end ≤ end_position side door → RunsOver side door.begin door.end first end
 over_side zero door first end small b e low high = (up_to door.end.z first e.bottom low, down_to door.begin.z end b.bottom high)
 over_side (suc zero) door first end small b e low high = (up_to door.end.x first e.left low, down_to door.begin.x end b.left high)
@@ -63,14 +63,14 @@ over_side (suc (suc zero)) door first end small b e low high = (up_to door.begin
 over_side (suc (suc (suc zero))) door first end small b e low high = (up_to door.begin.x first b.left low, down_to door.end.x end e.left high)
 over_side (suc (suc (suc (suc side)))) door first end small b e low high = absurd (omega (arith, small))
 
-module _ (setting : Setting) (cells : List Cell) (regions : Regions) (parts : List Part) (facets : List Facet) (tile : TileMesh)
-    (each : All (IsFacetOf (tile_window setting tile.tile) parts) facets) (doors : List Door) (are : All (IsDoorOf parts facets) doors)
+module _ (setting : Setting) (cells : List Cell) (regions : Regions) (parts : List RegionPart) (facets : List Facet) (tile : TileMesh)
+    (each : All (IsFacetOf (tile_window setting tile.tile) parts) facets) (doors : List PortalEdge) (are : All (IsDoorOf parts facets) doors)
     (polys : tile.polys ≡ map (facet_polygon cells regions) facets) where
   abbrev window : Window
   window = tile_window setting tile.tile
 
   -- the ends of a door are corners of cells
-  corners_are : (door : Door) → IsDoorOf parts facets door → IsCellCorner door.begin × IsCellCorner door.end
+  corners_are : (door : PortalEdge) → IsDoorOf parts facets door → IsCellCorner door.begin × IsCellCorner door.end
   corners_are door is =
       let facet : Facet = facet_at facets door.polygon in
       let of : IsFacetOf window parts facet = each door.polygon no_facet is.there in
@@ -81,7 +81,7 @@ module _ (setting : Setting) (cells : List Cell) (regions : Regions) (parts : Li
             (place_after-in (length (facet_corners facet)) door.edge is.edge)).of_cell,
       )
 
-  entry_fits : (door : Door) → IsDoorOf parts facets door → (side : ℕ) → side < 4 → lies_on window door side ≡ true → (run : Run)
+  entry_fits : (door : PortalEdge) → IsDoorOf parts facets door → (side : ℕ) → side < 4 → lies_on window door side ≡ true → (run : LabelRun)
       → IsRunOf (map (λ position. label_if (is_listed window cells regions doors door side position)) (positions_of side door)) run
       → IsRimOf setting tile (door_entry window cells regions door side run)
   entry_fits door is side small lies run runs =
@@ -108,7 +108,7 @@ module _ (setting : Setting) (cells : List Cell) (regions : Regions) (parts : Li
             (over_side side door first (first + (run.last + 1 - run.first)) small ends.0 ends.1 (omega arith) (omega (arith, runs.order, runs.inside, count, span)))));
       }
 
-  door_fits : (door : Door) → IsDoorOf parts facets door → All (IsRimOf setting tile) (door_entries window cells regions doors door)
+  door_fits : (door : PortalEdge) → IsDoorOf parts facets door → All (IsRimOf setting tile) (door_entries window cells regions doors door)
   door_fits door is = by_case (side_of window door) refl
     where
       by_case : (o : Option ℕ) → side_of window door ≡ o → All (IsRimOf setting tile) (option_map_or (side_entries window cells regions doors door) o [])

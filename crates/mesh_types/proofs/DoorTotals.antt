@@ -11,9 +11,9 @@ use Rattle.std.proofs.lemmas.Nat.{mul-le}
 use Rattle.std.proofs.lemmas.Option.{cond_some}
 use Rattle.nav_ground.specs.declared.cell.Cell.{Cell}
 use Rattle.nav_ground.specs.declared.cell.Window.{Window}
-use Rattle.mesh_types.specs.declared.door.Door.{Door}
-use Rattle.mesh_types.specs.declared.door.Part.{Part}
-use Rattle.mesh_types.specs.declared.outline.Piece.{Piece}
+use Rattle.mesh_types.specs.declared.region.PortalEdge.{PortalEdge}
+use Rattle.mesh_types.specs.declared.region.RegionPart.{RegionPart}
+use Rattle.mesh_types.specs.declared.region.Piece.{Piece}
 use Rattle.mesh_types.specs.declared.region.Regions.{Regions}
 use Rattle.mesh_types.specs.Contours.{places_in}
 use Rattle.mesh_types.specs.Facets.{Facet, facets_in, facets_of}
@@ -28,45 +28,45 @@ use Rattle.mesh_types.proofs.RegionTotals.{few_in_regions}
 use Rattle.mesh_types.proofs.Totals.{length-filter_map, sum_by-filter_map, sum_by-flat_map, sum_by-map, sum_by-numbers, sum_by-same, sum_by-times}
 
 -- how many corners the pieces of a part have
-abbrev pub corner_count : Part → ℕ
+abbrev pub corner_count : RegionPart → ℕ
 corner_count part = sum_by (λ (piece : Piece). length piece.corners) part.pieces
 
 -- all parts together, by their cells
-parts_within : (window : Window) (error : ℕ) (cells : List Cell) (regions : Regions) (parts : List Part) (g : Part → ℕ) (c : ℕ) → AreRegionsOf cells regions
-    → ((id : ℕ) (part : Part) → region_part window error cells regions id ≡ Some part → g part ≤ c * length (places_in regions id))
+parts_within : (window : Window) (error : ℕ) (cells : List Cell) (regions : Regions) (parts : List RegionPart) (g : RegionPart → ℕ) (c : ℕ) → AreRegionsOf cells regions
+    → ((id : ℕ) (part : RegionPart) → region_part window error cells regions id ≡ Some part → g part ≤ c * length (places_in regions id))
     → parts_of window error cells regions ≡ Some parts → sum_by g parts ≤ c * length cells
 unfolding parts_of
 parts_within window error cells regions parts g c are each is =
-    let part : ℕ → Option Part = region_part window error cells regions in
+    let part : ℕ → Option RegionPart = region_part window error cells regions in
     let numbers : List ℕ = region_numbers regions in
     let made : filter_map part numbers ≡ parts = (cond_some (list_all (λ id. is_some (part id)) numbers) (filter_map part numbers) parts is).1 in
-    subst (λ (some : List Part). sum_by g some ≤ c * length cells) made
+    subst (λ (some : List RegionPart). sum_by g some ≤ c * length cells) made
     (le_trans (sum_by-filter_map part g (λ id. c * length (places_in regions id)) numbers each)
     (subst (λ n. n ≤ c * length cells) (sym (sum_by-times c (λ id. length (places_in regions id)) numbers))
     (mul-le c (sum_by (λ id. length (places_in regions id)) numbers) c (length cells) (omega arith) (few_in_regions cells regions are))))
 
 -- there are at most four facets a cell
-pub few_facets : (window : Window) (error : ℕ) (cells : List Cell) (regions : Regions) (parts : List Part) → AreRegionsOf cells regions
+pub few_facets : (window : Window) (error : ℕ) (cells : List Cell) (regions : Regions) (parts : List RegionPart) → AreRegionsOf cells regions
     → parts_of window error cells regions ≡ Some parts → length (facets_of parts) ≤ 4 * length cells
 unfolding facets_of
 few_facets window error cells regions parts are is =
-    let part : ℕ → Part = λ region. get_or parts region no_part in
+    let part : ℕ → RegionPart = λ region. get_or parts region no_part in
     omega (
       arith,
       length-flat_map (λ region. facets_in (part region) region) (range_with_len 0 (length parts)),
       sum_by-same (λ region. length (facets_in (part region) region)) (λ region. length (part region).pieces) (range_with_len 0 (length parts))
           (λ region. length-map (part region).pieces (λ (piece : Piece). record { region = region; outline = (part region).outline; places = piece.corners })),
-      sum_by-numbers (λ (p : Part). length p.pieces) parts no_part,
-      parts_within window error cells regions parts (λ (p : Part). length p.pieces) 4 are
+      sum_by-numbers (λ (p : RegionPart). length p.pieces) parts no_part,
+      parts_within window error cells regions parts (λ (p : RegionPart). length p.pieces) 4 are
           (λ id p of. (few_of_region window error cells regions id p of).count) is,
     )
 
 -- and at most 24 doors
-pub few_doors : (window : Window) (error : ℕ) (cells : List Cell) (regions : Regions) (parts : List Part) → AreRegionsOf cells regions
+pub few_doors : (window : Window) (error : ℕ) (cells : List Cell) (regions : Regions) (parts : List RegionPart) → AreRegionsOf cells regions
     → parts_of window error cells regions ≡ Some parts → length (doors_of (facets_of parts)) ≤ 24 * length cells
 unfolding facets_of doors_of
 few_doors window error cells regions parts are is =
-    let part : ℕ → Part = λ region. get_or parts region no_part in
+    let part : ℕ → RegionPart = λ region. get_or parts region no_part in
     let facets : List Facet = facets_of parts in
     let corners : Facet → ℕ = λ (facet : Facet). length facet.places in
     omega (
@@ -89,11 +89,11 @@ few_doors window error cells regions parts are is =
     door_count polygon facet = length-map (range_with_len 0 (length facet.places)) (door_over polygon facet) ∙ length-range_with_len 0 (length facet.places)
 
 -- each door has at most one link
-pub few_door_links : (tile : ℕ) (doors : List Door) → length (door_links tile doors) ≤ length doors
+pub few_door_links : (tile : ℕ) (doors : List PortalEdge) → length (door_links tile doors) ≤ length doors
 few_door_links tile doors =
     omega (
       arith,
       length-ordered_links (filter_map (link_through tile doors) doors),
       length-filter_map (link_through tile doors) (λ door. true) doors (λ k d there link is. refl),
-      count_by-le-length (λ (door : Door). true) doors,
+      count_by-le-length (λ (door : PortalEdge). true) doors,
     )

@@ -15,8 +15,8 @@ use Rattle.std.proofs.lemmas.List.Sums.{sum_by-cons, get_or-le-sum_by}
 use Rattle.nav_base.specs.declared.point.Point.{Point}
 use Rattle.nav_base.specs.Convex.{place_after}
 use Rattle.nav_base.proofs.ConvexLaws.{place_after-in}
-use Rattle.mesh_types.specs.declared.outline.Triangle.{Triangle}
-use Rattle.mesh_types.specs.declared.outline.Piece.{Piece}
+use Rattle.mesh_types.specs.declared.region.Triangle.{Triangle}
+use Rattle.mesh_types.specs.declared.region.Piece.{Piece}
 use Rattle.mesh_types.specs.Ears.{best_ear, cut_ears, ears_of, put_before, triangle_at, turn_of}
 use Rattle.mesh_types.specs.Merging.{edge_end}
 use Rattle.mesh_types.specs.Words.{piece_of}

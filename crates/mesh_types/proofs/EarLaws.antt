@@ -16,7 +16,7 @@ use Rattle.std.proofs.lemmas.List.FromFn.{length-range_with_len, get_or-range_wi
 use Rattle.nav_ground.proofs.Selections.{range-push}
 use Rattle.nav_base.proofs.ConvexLaws.{place_after-in}
 use Rattle.nav_base.specs.declared.point.Point.{Point}
-use Rattle.mesh_types.specs.declared.outline.Triangle.{Triangle}
+use Rattle.mesh_types.specs.declared.region.Triangle.{Triangle}
 use Rattle.mesh_types.specs.Choices.{or_later, first_best}
 use Rattle.mesh_types.specs.Ears.{ArePlacesOf, IsTriangleOf, turn_of, triangle_at, is_ear, width_at, best_ear, put_before, last_cut, cut_ears, ears_of}
 use Rattle.mesh_types.specs.Words.{is_narrower}

@@ -15,14 +15,14 @@ use Rattle.nav_ground.specs.declared.cell.Cell.{Cell}
 use Rattle.nav_ground.specs.declared.cell.Window.{Window}
 use Rattle.nav_ground.specs.Cells.{IsCell, IsCells}
 use Rattle.nav_ground.specs.Tiling.{IsInWindow}
-use Rattle.mesh_types.specs.declared.strip.Strip.{Strip}
+use Rattle.mesh_types.specs.declared.region.Strip.{Strip}
 use Rattle.mesh_types.specs.declared.region.Regions.{Regions}
 use Rattle.mesh_types.specs.declared.region.UnitEdge.{UnitEdge}
-use Rattle.mesh_types.specs.declared.outline.Outline as outlines
-use Rattle.mesh_types.specs.declared.outline.Triangle.{Triangle}
-use Rattle.mesh_types.specs.declared.outline.Piece.{Piece}
-use Rattle.mesh_types.specs.declared.outline.Simplified.TheVariants.{Flat, Outline}
-use Rattle.mesh_types.specs.declared.door.Part.{Part}
+use Rattle.mesh_types.specs.declared.region.Outline as outlines
+use Rattle.mesh_types.specs.declared.region.Triangle.{Triangle}
+use Rattle.mesh_types.specs.declared.region.Piece.{Piece}
+use Rattle.mesh_types.specs.declared.region.Simplified.TheVariants.{Flat, Outline}
+use Rattle.mesh_types.specs.declared.region.RegionPart.{RegionPart}
 use Rattle.mesh_types.specs.FitTiles.{IsPolygon, IsInSquare}
 use Rattle.mesh_types.specs.StripPolygons.{some_cell}
 use Rattle.mesh_types.specs.Regions.{IsStrip, IsStack, IsIn, place_in, AreRegionsOf}
@@ -47,19 +47,19 @@ use Rattle.mesh_types.proofs.Totals.{length-filter_map}
 -- ---- parts
 
 -- a part in a tile: the corners of its outline are those of cells of the tile, and its pieces are pieces of the outline
-pub record IsPartIn (window : Window) (part : Part) : Type 0 where
+pub record IsPartIn (window : Window) (part : RegionPart) : Type 0 where
   pub corners : All (IsTileCorner window) part.outline.corners
   pub pieces : All (IsPieceOf part.outline.corners) part.pieces
 
 cut_is : (window : Window) (outline : outlines.Outline) → All (IsTileCorner window) outline.corners → 3 ≤ length outline.corners
-    → (r : Result (List Triangle) (List ℕ)) → ears_of outline.corners ≡ r → (part : Part) → cut_part outline r ≡ Some part → IsPartIn window part
+    → (r : Result (List Triangle) (List ℕ)) → ears_of outline.corners ≡ r → (part : RegionPart) → cut_part outline r ≡ Some part → IsPartIn window part
 cut_is window outline corners enough (Ok triangles) is part same =
     let at : record { outline = outline; pieces = merged outline.corners triangles } ≡ part = cc in
     subst (IsPartIn window) at (record { corners = corners; pieces = pieces_are outline.corners triangles enough (record { cut = is }) })
 cut_is window outline corners enough (Err left) is part same = absurd cc
 
 simplified_cut : (window : Window) (error : ℕ) (edges : List UnitEdge) → All (λ (edge : UnitEdge). IsTileCorner window edge.from) edges
-    → (part : Part) → part_of (simplified_of error edges) ≡ Some part → IsPartIn window part
+    → (part : RegionPart) → part_of (simplified_of error edges) ≡ Some part → IsPartIn window part
 unfolding simplified_of kept_edges
 simplified_cut window error edges inside part is = by_case (nat_lt (length kept) 3) refl is
   where
@@ -77,24 +77,24 @@ simplified_cut window error edges inside part is = by_case (nat_lt (length kept)
         (ears_of (beginnings kept)) refl part same
 
 -- the parts of regions: at most one for each
-pub record AreParts (window : Window) (regions : Regions) (parts : List Part) : Type 0 where
+pub record AreParts (window : Window) (regions : Regions) (parts : List RegionPart) : Type 0 where
   pub few : length parts ≤ length regions.regions
   pub each : All (IsPartIn window) parts
 
 module _ (window : Window) (cells : List Cell) (rules' : IsCells cells) (regions : Regions) (are : AreRegionsOf cells regions) where
   module _ (inside : All (λ (cell : Cell). IsInWindow window cell.at.x cell.at.z) cells) (error : ℕ) where
-    part_is : (id : ℕ) → id < length regions.regions → (part : Part) → region_part window error cells regions id ≡ Some part → IsPartIn window part
+    part_is : (id : ℕ) → id < length regions.regions → (part : RegionPart) → region_part window error cells regions id ≡ Some part → IsPartIn window part
     part_is id there part is =
         simplified_cut window error (contour_of window cells regions id) (contour_inside window cells regions id rules' inside are there) part is
 
-    pub parts_are : (parts : List Part) → parts_of window error cells regions ≡ Some parts → AreParts window regions parts
+    pub parts_are : (parts : List RegionPart) → parts_of window error cells regions ≡ Some parts → AreParts window regions parts
     unfolding parts_of
     parts_are parts is = by_case (list_all (λ id. is_some (region_part window error cells regions id)) (region_numbers regions)) is
       where
         count : length (region_numbers regions) ≡ length regions.regions
         count = length-range_with_len 0 (length regions.regions)
 
-        found : List Part
+        found : List RegionPart
         found = filter_map (region_part window error cells regions) (region_numbers regions)
 
         few : length found ≤ length regions.regions
@@ -139,18 +139,18 @@ module _ (window : Window) (cells : List Cell) (rules' : IsCells cells) (regions
 -- ---- facets
 
 -- a facet of parts: a piece of the outline of its region
-pub record IsFacetOf (window : Window) (parts : List Part) (facet : Facet) : Type 0 where
+pub record IsFacetOf (window : Window) (parts : List RegionPart) (facet : Facet) : Type 0 where
   pub region : facet.region < length parts
   pub outline : facet.outline ≡ (get_or parts facet.region no_part).outline
   pub corners : All (IsTileCorner window) facet.outline.corners
   pub piece : IsPieceOf facet.outline.corners (record { corners = facet.places })
 
-pub facets_are : (window : Window) (parts : List Part) → All (IsPartIn window) parts → All (IsFacetOf window parts) (facets_of parts)
+pub facets_are : (window : Window) (parts : List RegionPart) → All (IsPartIn window) parts → All (IsFacetOf window parts) (facets_of parts)
 unfolding facets_of
 facets_are window parts each =
     gathered_all (IsFacetOf window parts) (λ region. facets_in (get_or parts region no_part) region) 0 (length parts)
     (λ region least most.
-    let part : Part = get_or parts region no_part in
+    let part : RegionPart = get_or parts region no_part in
     let is : IsPartIn window part = each region no_part (omega (arith, most)) in
     All-map (IsFacetOf window parts) (λ (piece : Piece). record { region = region; outline = part.outline; places = piece.corners }) part.pieces
     (λ k d there. record { region = omega (arith, most); outline = refl; corners = is.corners; piece = is.pieces k d there }))
@@ -163,7 +163,7 @@ corners_all P facet each places =
     (λ k d there. each (get_or facet.places k d) (record { x = pos 0; z = pos 0 }) (places k d there))
 
 module _ (window : Window) (cells : List Cell) (rules' : IsCells cells) (regions : Regions) (are : AreRegionsOf cells regions)
-    (parts : List Part) (few : length parts ≤ length regions.regions) (facet : Facet) (is : IsFacetOf window parts facet) where
+    (parts : List RegionPart) (few : length parts ≤ length regions.regions) (facet : Facet) (is : IsFacetOf window parts facet) where
   inside_tile : All (IsTileCorner window) (map (corner_at facet.outline.corners) facet.places)
   inside_tile = corners_all (IsTileCorner window) facet is.corners is.piece.places
 

@@ -47,9 +47,9 @@ few_in_layers setting field limits rules' =
     let test = is_kept cells setting.agent.radius in
     omega (arith, parts, counted, shared, sum_by-one kept, length-filter test cells, count_by-le-length test cells, (cells_rules setting field limits rules').rules.few)
 
-pub few_cells_of_ground : (whole : Ground) → IsGround whole → cell_count whole.layers ≤ 2000000
-few_cells_of_ground whole rules' =
-    omega (arith, ap cell_count rules'.layers, few_in_layers whole.setting whole.field rules'.setting rules'.field)
+pub few_cells_of_ground : (ground : Ground) → IsGround ground → cell_count ground.layers ≤ 2000000
+few_cells_of_ground ground rules' =
+    omega (arith, ap cell_count rules'.layers, few_in_layers ground.setting ground.field rules'.setting rules'.field)
 
 -- obstacles leave no more free cells than there are cells
 pub few_free : (layer : Layer) (shapes : List Shape) → length (free_layer_of layer shapes).cells ≤ length layer.cells

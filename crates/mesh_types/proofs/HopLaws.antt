@@ -6,12 +6,12 @@ use Rattle.nav_base.specs.declared.point.Point.{Point}
 use Rattle.mesh_types.specs.declared.answers.Answer.{Answer}
 use Rattle.mesh_types.specs.declared.answers.Answer.TheVariants as paths
 use Rattle.mesh_types.specs.declared.answers.PathFound.{PathFound}
-use Rattle.mesh_types.specs.declared.hops.Jump.{Jump}
-use Rattle.mesh_types.specs.declared.hops.HopStep.{HopStep}
-use Rattle.mesh_types.specs.declared.hops.HopStep.TheVariants as hops
-use Rattle.mesh_types.specs.declared.hops.HopFound.{HopFound}
-use Rattle.mesh_types.specs.declared.hops.HopAnswer.{HopAnswer}
-use Rattle.mesh_types.specs.declared.hops.HopAnswer.TheVariants.{Found, NoStart, NoGoal, NoPath}
+use Rattle.mesh_types.specs.declared.answers.Jump.{Jump}
+use Rattle.mesh_types.specs.declared.answers.HopStep.{HopStep}
+use Rattle.mesh_types.specs.declared.answers.HopStep.TheVariants as hops
+use Rattle.mesh_types.specs.declared.answers.HopFound.{HopFound}
+use Rattle.mesh_types.specs.declared.answers.HopAnswer.{HopAnswer}
+use Rattle.mesh_types.specs.declared.answers.HopAnswer.TheVariants.{Found, NoStart, NoGoal, NoPath}
 use Rattle.mesh_types.specs.declared.links.Link.{Link}
 use Rattle.mesh_types.specs.declared.links.PolyRef.{PolyRef}
 use Rattle.mesh_types.specs.declared.mesh.Mesh.{Mesh}

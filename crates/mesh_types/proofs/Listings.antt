@@ -6,8 +6,8 @@ use Rattle.std.specs.Option.{option_map_or}
 use Rattle.std.proofs.lemmas.Bool.{and_from, eq-eqb, eqb-true, cond-true, le-leb}
 use Rattle.std.proofs.lemmas.List.Sums.{get_or-le-sum_by, sum_by-le-sum_by}
 use Rattle.nav_ground.specs.declared.cell.Cell.{Cell}
-use Rattle.mesh_types.specs.declared.tile.LevelPair.{LevelPair}
-use Rattle.mesh_types.specs.declared.tile.RimEdge.{RimEdge}
+use Rattle.mesh_types.specs.declared.mesh.LevelPair.{LevelPair}
+use Rattle.mesh_types.specs.declared.mesh.RimEdge.{RimEdge}
 use Rattle.mesh_types.specs.BorderLinks.{along_side, pair_at}
 use Rattle.mesh_types.specs.Passages.{has_levels, is_listing}
 use Rattle.mesh_types.specs.Crossings.{level_pair, position_of}

@@ -8,17 +8,17 @@ use Rattle.std.proofs.lemmas.List.Elements.{All-contains, Contains-append_right}
 use Rattle.std.proofs.lemmas.List.Sums.{prefix_len_stops}
 use Rattle.std.proofs.lemmas.Option.{none-some, same_Some}
 use Rattle.std.proofs.lemmas.List.FromFn.{get_or-range_with_len, length-range_with_len}
-use Rattle.mesh_types.specs.declared.label_runs.Run.{Run}
+use Rattle.mesh_types.specs.declared.region.LabelRun.{LabelRun}
 use Rattle.mesh_types.specs.Runs.{has_label, run_with, runs_of}
 use Rattle.mesh_types.proofs.RunLaws.{IsRunOf, All-found, label_is, run_is}
 use Rattle.mesh_types.proofs.RunTotals.{BeginsAlone, found_run}
 
 -- the place after a run does not have the run's label
-abbrev pub EndsAlone : List (Option ℕ) → Run → Type 0
+abbrev pub EndsAlone : List (Option ℕ) → LabelRun → Type 0
 EndsAlone labels run = get_or labels (run.last + 1) None ≡ Some run.label → ⊥
 
 -- a maximal range of places that all have one label
-pub record IsMaximal (labels : List (Option ℕ)) (run : Run) : Type 0 where
+pub record IsMaximal (labels : List (Option ℕ)) (run : LabelRun) : Type 0 where
   pub range : IsRunOf labels run
   pub begins : BeginsAlone labels run
   pub ends : EndsAlone labels run
@@ -38,11 +38,11 @@ ends_alone labels place label after =
     ]
 
 -- the run that begins at a place
-record IsBegun (labels : List (Option ℕ)) (place : ℕ) (run : Run) : Type 0 where
+record IsBegun (labels : List (Option ℕ)) (place : ℕ) (run : LabelRun) : Type 0 where
   maximal : IsMaximal labels run
   first : run.first ≡ place
 
-begun_run : (labels : List (Option ℕ)) (place : ℕ) (run : Run) → place < length labels → (o : Option ℕ) → get_or labels place None ≡ o
+begun_run : (labels : List (Option ℕ)) (place : ℕ) (run : LabelRun) → place < length labels → (o : Option ℕ) → get_or labels place None ≡ o
     → run_with labels place o ≡ Some run → IsBegun labels place run
 begun_run labels place run there None at is = absurd (none-some run is)
 begun_run labels place run there (Some label) at is =
@@ -60,7 +60,7 @@ begun_run labels place run there (Some label) at is =
             begins = begins;
             ends = subst (EndsAlone labels) same (ends_alone labels place label);
           };
-          first = ap (λ (r : Run). r.first) (sym same);
+          first = ap (λ (r : LabelRun). r.first) (sym same);
         }
     by_case false made = absurd (none-some run made)
 
@@ -126,7 +126,7 @@ begin_of labels (suc k) label is = by_case (has_label label (get_or labels k Non
 
 -- the run that a place with a label stands in
 pub record StandsInRun (labels : List (Option ℕ)) (k label : ℕ) : Type 0 where
-  pub run : Run
+  pub run : LabelRun
   pub listed : Contains (runs_of labels) run
   pub first : run.first ≤ k
   pub last : k ≤ run.last
@@ -137,7 +137,7 @@ unfolding runs_of
 run_found labels k label there is =
     let from = begin_of labels k label is in
     let place : ℕ = from.begin in
-    let run : Run = record { first = place; last = place + prefix_len (has_label label) (drop (place + 1) labels); label = label } in
+    let run : LabelRun = record { first = place; last = place + prefix_len (has_label label) (drop (place + 1) labels); label = label } in
     let at = from.labelled place (omega arith) from.before in
     let made : run_with labels place (get_or labels place None) ≡ Some run =
     ap (run_with labels place) at ∙ cond-true (place == 0 || not (has_label label (get_or labels (place - 1) None))) (Some run) None from.alone in
@@ -158,7 +158,7 @@ run_found labels k label there is =
     }
 
 -- of two maximal runs with a place in common the one is the other
-same_run : (labels : List (Option ℕ)) (a b : Run) (k : ℕ) → IsMaximal labels a → IsMaximal labels b → a.first ≤ k → k ≤ a.last → b.first ≤ k → k ≤ b.last
+same_run : (labels : List (Option ℕ)) (a b : LabelRun) (k : ℕ) → IsMaximal labels a → IsMaximal labels b → a.first ≤ k → k ≤ a.last → b.first ≤ k → k ≤ b.last
     → a ≡ b
 same_run labels a b k is-a is-b low-a high-a low-b high-b =
     let label : a.label ≡ b.label = same_Some a.label b.label (sym (is-a.range.labelled k low-a high-a) ∙ is-b.range.labelled k low-b high-b) in
@@ -174,25 +174,25 @@ same_run labels a b k is-a is-b low-a high-a low-b high-b =
     ] in
     ap (λ (n : ℕ). made n a.last a.label) first ∙ ap (λ (n : ℕ). made b.first n a.label) last ∙ ap (made b.first b.last) label
   where
-    made : ℕ → ℕ → ℕ → Run
+    made : ℕ → ℕ → ℕ → LabelRun
     made first last label = record { first = first; last = last; label = label }
 
-    begins_before : (a b : Run) (k : ℕ) → IsMaximal labels a → IsMaximal labels b → a.first < b.first → b.first ≤ k → k ≤ a.last → a.label ≡ b.label → ⊥
+    begins_before : (a b : LabelRun) (k : ℕ) → IsMaximal labels a → IsMaximal labels b → a.first < b.first → b.first ≤ k → k ≤ a.last → a.label ≡ b.label → ⊥
     begins_before a b k is-a is-b less low high label =
         is-b.begins (b.first - 1) (omega (arith, less))
         (is-a.range.labelled (b.first - 1) (omega (arith, less)) (omega (arith, low, high)) ∙ ap (λ (n : ℕ). Some n) label)
 
-    ends_before : (a b : Run) (k : ℕ) → IsMaximal labels a → IsMaximal labels b → a.last < b.last → b.first ≤ k → k ≤ a.last → a.label ≡ b.label → ⊥
+    ends_before : (a b : LabelRun) (k : ℕ) → IsMaximal labels a → IsMaximal labels b → a.last < b.last → b.first ≤ k → k ≤ a.last → a.label ≡ b.label → ⊥
     ends_before a b k is-a is-b less low high label =
         is-a.ends (is-b.range.labelled (a.last + 1) (omega (arith, low, high)) (omega (arith, less)) ∙ ap (λ (n : ℕ). Some n) (sym label))
 
 -- each maximal run is listed
-pub maximal_listed : (labels : List (Option ℕ)) (run : Run) → IsMaximal labels run → Contains (runs_of labels) run
+pub maximal_listed : (labels : List (Option ℕ)) (run : LabelRun) → IsMaximal labels run → Contains (runs_of labels) run
 maximal_listed labels run is =
     let order : run.first ≤ run.last = is.range.order in
     let found = run_found labels run.first run.label (omega (arith, order, is.range.inside)) (is.range.labelled run.first (omega arith) order) in
     let maximal = All-contains (IsMaximal labels) (runs_of labels) found.run (runs_are_maximal labels) found.listed in
-    let P : Run → Type 0 = Contains (runs_of labels) in
+    let P : LabelRun → Type 0 = Contains (runs_of labels) in
     subst P (same_run labels found.run run run.first maximal is found.first found.last (omega arith) order) found.listed
 
 -- the places with a label in one list are those with a label in another, so many places further on
@@ -201,14 +201,14 @@ pub record AreMirrored (labels others : List (Option ℕ)) (label other here the
   pub back : (j : ℕ) → get_or others j None ≡ Some other → (k : ℕ) × (j + here ≡ k + there) × (get_or labels k None ≡ Some label)
 
 -- a maximal run, as the other list has it
-pub record IsMirroredRun (others : List (Option ℕ)) (other here there : ℕ) (run : Run) : Type 0 where
-  pub mirrored : Run
+pub record IsMirroredRun (others : List (Option ℕ)) (other here there : ℕ) (run : LabelRun) : Type 0 where
+  pub mirrored : LabelRun
   pub maximal : IsMaximal others mirrored
   pub label : mirrored.label ≡ other
   pub first : mirrored.first + here ≡ run.first + there
   pub last : mirrored.last + here ≡ run.last + there
 
-pub mirrored_run : (labels others : List (Option ℕ)) (label other here there : ℕ) (run : Run) → AreMirrored labels others label other here there
+pub mirrored_run : (labels others : List (Option ℕ)) (label other here there : ℕ) (run : LabelRun) → AreMirrored labels others label other here there
     → IsMaximal labels run → run.label ≡ label → IsMirroredRun others other here there run
 mirrored_run labels others label other here there run mirror is same =
     let order : run.first ≤ run.last = is.range.order in

@@ -12,8 +12,8 @@ use Rattle.std.proofs.lemmas.List.Elements.{All-map, All-cons, All-nil, All-appe
 use Rattle.nav_base.specs.declared.point.Point.{Point}
 use Rattle.nav_base.specs.Convex.{IsStrictlyConvex, LiesLeft, corner_at, place_after}
 use Rattle.nav_base.proofs.ConvexLaws.{IsStrictlyConvex-triangle}
-use Rattle.mesh_types.specs.declared.outline.Triangle.{Triangle}
-use Rattle.mesh_types.specs.declared.outline.Piece.{Piece}
+use Rattle.mesh_types.specs.declared.region.Triangle.{Triangle}
+use Rattle.mesh_types.specs.declared.region.Piece.{Piece}
 use Rattle.mesh_types.specs.Ears.{ArePlacesOf, IsTriangleOf, turn_of}
 use Rattle.mesh_types.specs.Merging.{IsPieceOf, Merge, best_merge, is_admissible, is_convex, joined, lies_left, merge_all, merged, merges_of, past_edge, places_at, union_of}
 use Rattle.mesh_types.proofs.Words.{is_longer}

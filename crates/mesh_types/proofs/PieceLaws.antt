@@ -6,8 +6,8 @@ use Rattle.std.specs.Option.{option_map, option_map_or}
 use Rattle.std.proofs.lemmas.List.FromFn.{get_or-range_with_len, length-range_with_len}
 use Rattle.nav_base.specs.declared.point.Point.{Point}
 use Rattle.nav_ground.proofs.Found.{found_in}
-use Rattle.mesh_types.specs.declared.outline.Triangle.{Triangle}
-use Rattle.mesh_types.specs.declared.outline.Piece.{Piece}
+use Rattle.mesh_types.specs.declared.region.Triangle.{Triangle}
+use Rattle.mesh_types.specs.declared.region.Piece.{Piece}
 use Rattle.mesh_types.specs.Ears.{AreEarsOf}
 use Rattle.mesh_types.specs.Merging.{IsPieceOf, Merge, best_merge, is_admissible, is_facing, joined, merge_all, merge_over, merged, merges_between, merges_from, merges_of, places_at}
 use Rattle.mesh_types.proofs.Words.{is_longer}

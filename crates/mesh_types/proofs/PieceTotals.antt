@@ -17,11 +17,11 @@ use Rattle.nav_ground.specs.declared.cell.Cell.{Cell}
 use Rattle.nav_ground.specs.declared.cell.CellRef.{CellRef}
 use Rattle.nav_ground.specs.declared.cell.Window.{Window}
 use Rattle.nav_ground.proofs.Kept.{few_kept}
-use Rattle.mesh_types.specs.declared.door.Part.{Part}
-use Rattle.mesh_types.specs.declared.outline.Outline as outlines
-use Rattle.mesh_types.specs.declared.outline.Piece.{Piece}
-use Rattle.mesh_types.specs.declared.outline.Simplified.TheVariants.{Flat, Outline}
-use Rattle.mesh_types.specs.declared.outline.Triangle.{Triangle}
+use Rattle.mesh_types.specs.declared.region.RegionPart.{RegionPart}
+use Rattle.mesh_types.specs.declared.region.Outline as outlines
+use Rattle.mesh_types.specs.declared.region.Piece.{Piece}
+use Rattle.mesh_types.specs.declared.region.Simplified.TheVariants.{Flat, Outline}
+use Rattle.mesh_types.specs.declared.region.Triangle.{Triangle}
 use Rattle.mesh_types.specs.declared.region.Regions.{Regions}
 use Rattle.mesh_types.specs.declared.region.UnitEdge.{UnitEdge}
 use Rattle.mesh_types.specs.Choices.{first_best, or_earlier}
@@ -100,7 +100,7 @@ few_kept_edges error edges =
       count_by-le-length (begins_among (kept_corners error edges)) edges,
     )
 
-few_of_contour : (error : ℕ) (edges : List UnitEdge) (part : Part) → part_of (simplified_of error edges) ≡ Some part
+few_of_contour : (error : ℕ) (edges : List UnitEdge) (part : RegionPart) → part_of (simplified_of error edges) ≡ Some part
     → AreFewPieces (length edges) part.pieces
 unfolding simplified_of
 few_of_contour error edges part is = by_test (nat_lt (length kept) 3) refl is
@@ -118,7 +118,7 @@ few_of_contour error edges part is = by_test (nat_lt (length kept) 3) refl is
         → AreFewPieces (length edges) part.pieces
     by_cut enough (Err left) cut is = absurd (none-some part is)
     by_cut enough (Ok triangles) cut is =
-        let pieces_are : merged (beginnings kept) triangles ≡ part.pieces = ap (λ (p : Part). p.pieces) (same_Some _ part is) in
+        let pieces_are : merged (beginnings kept) triangles ≡ part.pieces = ap (λ (p : RegionPart). p.pieces) (same_Some _ part is) in
         let count = (ears_of-triangles (beginnings kept) triangles enough cut).count in
         subst (AreFewPieces (length edges)) pieces_are
         (few_more (length triangles) (length edges) (merged (beginnings kept) triangles) (omega (arith, count, as_many, few_kept_edges error edges))
@@ -162,7 +162,7 @@ few_of_rim window cells regions id =
     omega (arith, four, length-flat_map (rim_edges_of window cells regions id) places)
 
 -- so a region has no more pieces than four times its cells
-pub few_of_region : (window : Window) (error : ℕ) (cells : List Cell) (regions : Regions) (id : ℕ) (part : Part)
+pub few_of_region : (window : Window) (error : ℕ) (cells : List Cell) (regions : Regions) (id : ℕ) (part : RegionPart)
     → region_part window error cells regions id ≡ Some part → AreFewPieces (4 * length (places_in regions id)) part.pieces
 few_of_region window error cells regions id part is =
     few_more (length (contour_of window cells regions id)) (4 * length (places_in regions id)) part.pieces

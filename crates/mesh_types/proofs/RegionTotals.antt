@@ -10,7 +10,7 @@ use Rattle.nav_ground.specs.declared.cell.Cell.{Cell}
 use Rattle.nav_ground.specs.declared.cell.CellRef.{CellRef}
 use Rattle.mesh_types.specs.declared.region.Region.{Region}
 use Rattle.mesh_types.specs.declared.region.Regions.{Regions}
-use Rattle.mesh_types.specs.declared.strip.Strip.{Strip}
+use Rattle.mesh_types.specs.declared.region.Strip.{Strip}
 use Rattle.mesh_types.specs.Contours.{columns, places_in}
 use Rattle.mesh_types.specs.Parts.{region_numbers}
 use Rattle.mesh_types.specs.Regions.{AreRegionsOf, IsStrip, IsWoven, is_holding, place_in}

@@ -1,8 +1,8 @@
 -- What is right for a question is determined: its kind, its floors, its first polygon and its cost, and all of the answer to a ray.
 use Rattle.std.proofs.Common.{◌≡◌, ℕ, refl, sym, subst, ◌∙◌, inl, inr, arith}
 use Rattle.nav_base.specs.declared.point.Point.{Point}
-use Rattle.nav_base.specs.declared.answers.Question.{Question}
-use Rattle.nav_base.specs.declared.answers.Question.TheVariants as questions
+use Rattle.nav_base.specs.declared.point.Question.{Question}
+use Rattle.nav_base.specs.declared.point.Question.TheVariants as questions
 use Rattle.mesh_types.specs.declared.answers.Answer.{Answer}
 use Rattle.mesh_types.specs.declared.answers.Answer.TheVariants.{Floors, Path, NoStart, NoGoal, NoPath, Reached, Wall}
 use Rattle.mesh_types.specs.declared.answers.PathFound.{PathFound}
@@ -10,7 +10,7 @@ use Rattle.mesh_types.specs.declared.answers.RayAnswer.{RayAnswer}
 use Rattle.mesh_types.specs.declared.answers.RayAnswer.TheVariants as rays
 use Rattle.mesh_types.specs.declared.links.PolyRef.{PolyRef}
 use Rattle.mesh_types.specs.declared.mesh.Mesh.{Mesh}
-use Rattle.mesh_types.specs.declared.corridor.Corridor.{Corridor}
+use Rattle.mesh_types.specs.declared.answers.Corridor.{Corridor}
 use Rattle.mesh_types.specs.Corridors.{IsCheapest, WalksTo}
 use Rattle.mesh_types.specs.Located.{IsLocated, IsNoLater, height_gap}
 use Rattle.mesh_types.specs.Rays.{IsRayWalk}

@@ -13,11 +13,11 @@ use Rattle.nav_ground.specs.declared.cell.Window.{Window}
 use Rattle.nav_ground.specs.Cells.{IsCut}
 use Rattle.nav_ground.specs.Tiling.{IsInWindow}
 use Rattle.nav_ground.proofs.Found.{found_in}
-use Rattle.mesh_types.specs.declared.door.Door.{Door}
-use Rattle.mesh_types.specs.declared.label_runs.Run.{Run}
+use Rattle.mesh_types.specs.declared.region.PortalEdge.{PortalEdge}
+use Rattle.mesh_types.specs.declared.region.LabelRun.{LabelRun}
 use Rattle.mesh_types.specs.declared.region.Regions.{Regions}
-use Rattle.mesh_types.specs.declared.tile.LevelPair.{LevelPair}
-use Rattle.mesh_types.specs.declared.tile.RimEdge.{RimEdge}
+use Rattle.mesh_types.specs.declared.mesh.LevelPair.{LevelPair}
+use Rattle.mesh_types.specs.declared.mesh.RimEdge.{RimEdge}
 use Rattle.mesh_types.specs.BorderLinks.{along_side}
 use Rattle.mesh_types.specs.Contours.{region_at}
 use Rattle.mesh_types.specs.Facets.{Facet, cells_of}
@@ -36,10 +36,10 @@ use Rattle.mesh_types.proofs.Totals.{HasNumber, numbers_within, once_in_range, s
 
 -- ---- a door is told by its polygon and its edge
 
-same_in_facet : (other : Door) (polygon : ℕ) (facet : Facet)
-    → sum_by (λ (door : Door). cond (is_same_door door other) 1 0) (facet_doors polygon facet) ≤ cond (polygon == other.polygon) 1 0
+same_in_facet : (other : PortalEdge) (polygon : ℕ) (facet : Facet)
+    → sum_by (λ (door : PortalEdge). cond (is_same_door door other) 1 0) (facet_doors polygon facet) ≤ cond (polygon == other.polygon) 1 0
 same_in_facet other polygon facet =
-    let made = sum_by-map (λ (door : Door). cond (is_same_door door other) 1 0) (door_over polygon facet) (range_with_len 0 (length facet.places)) in
+    let made = sum_by-map (λ (door : PortalEdge). cond (is_same_door door other) 1 0) (door_over polygon facet) (range_with_len 0 (length facet.places)) in
     omega (arith, made, by_polygon (polygon == other.polygon))
   where
     by_polygon : (b : Bool) → sum_by (λ edge. cond (b && edge == other.edge) 1 0) (range_with_len 0 (length facet.places)) ≤ cond b 1 0
@@ -49,11 +49,11 @@ same_in_facet other polygon facet =
     by_polygon false = omega (arith, sum_by-zero (range_with_len 0 (length facet.places)))
 
 -- no other door is the same
-one_door : (facets : List Facet) (other : Door) → sum_by (λ (door : Door). cond (is_same_door door other) 1 0) (doors_of facets) ≤ 1
+one_door : (facets : List Facet) (other : PortalEdge) → sum_by (λ (door : PortalEdge). cond (is_same_door door other) 1 0) (doors_of facets) ≤ 1
 unfolding doors_of
 one_door facets other =
-    let same : Door → ℕ = λ (door : Door). cond (is_same_door door other) 1 0 in
-    let of : ℕ → List Door = λ polygon. facet_doors polygon (get_or facets polygon no_facet) in
+    let same : PortalEdge → ℕ = λ (door : PortalEdge). cond (is_same_door door other) 1 0 in
+    let of : ℕ → List PortalEdge = λ polygon. facet_doors polygon (get_or facets polygon no_facet) in
     omega (
       arith,
       sum_by-flat_map same of (range_with_len 0 (length facets)),
@@ -66,32 +66,32 @@ one_door facets other =
 -- ---- a cell beside a side belongs to one door
 
 -- a cell is of a door's region, and its position along a side belongs to the door
-abbrev owns : Window → Regions → List Door → ℕ → Door → Cell → Bool
+abbrev owns : Window → Regions → List PortalEdge → ℕ → PortalEdge → Cell → Bool
 owns window regions doors side door cell = is_of regions door.region cell && belongs_to window doors side door (position_of side cell.at)
 
 -- a cell of a door's region at a position, which has a kept neighbour across
-record IsCrossingOf (window : Window) (cells : List Cell) (regions : Regions) (side : ℕ) (door : Door) (position : ℕ) (cell : Cell) : Type 0 where
+record IsCrossingOf (window : Window) (cells : List Cell) (regions : Regions) (side : ℕ) (door : PortalEdge) (position : ℕ) (cell : Cell) : Type 0 where
   pub listed : Contains cells cell
   pub of : is_of regions door.region cell ≡ true
   pub crossing : is_crossing window side cell ≡ true
   pub there : position_of side cell.at ≡ position
 
 module _ (window : Window) (cells : List Cell) (regions : Regions) (facets : List Facet) (side : ℕ) where
-  abbrev doors : List Door
+  abbrev doors : List PortalEdge
   doors = doors_of facets
 
   -- the door that owns a cell is the first of the cell's region that runs over the cell's position
-  owned_once : (cell : Cell) → sum_by (λ (door : Door). cond (owns window regions doors side door cell) 1 0) doors ≤ 1
+  owned_once : (cell : Cell) → sum_by (λ (door : PortalEdge). cond (owns window regions doors side door cell) 1 0) doors ≤ 1
   owned_once cell = by_region (region_at regions cell.at)
     where
       position : ℕ
       position = position_of side cell.at
 
-      among : (found : Option Door) → sum_by (λ (door : Door). cond (option_map_or (is_same_door door) found false) 1 0) doors ≤ 1
+      among : (found : Option PortalEdge) → sum_by (λ (door : PortalEdge). cond (option_map_or (is_same_door door) found false) 1 0) doors ≤ 1
       among None = omega (arith, sum_by-zero doors)
       among (Some other) = one_door facets other
 
-      by_test : (region : ℕ) (door : Door) (b : Bool) → (region == door.region) ≡ b
+      by_test : (region : ℕ) (door : PortalEdge) (b : Bool) → (region == door.region) ≡ b
           → cond (b && option_map_or (is_same_door door) (find (runs_over window door.region side position) doors) false) 1 0
           ≤ cond (option_map_or (is_same_door door) (find (runs_over window region side position) doors) false) 1 0
       by_test region door false is = omega arith
@@ -102,31 +102,31 @@ module _ (window : Window) (cells : List Cell) (regions : Regions) (facets : Lis
           subst P (sym same) (omega arith)
 
       by_region : (found : Option ℕ)
-          → sum_by (λ (door : Door). cond (option_map_or (λ r. r == door.region) found false && belongs_to window doors side door position) 1 0) doors ≤ 1
+          → sum_by (λ (door : PortalEdge). cond (option_map_or (λ r. r == door.region) found false && belongs_to window doors side door position) 1 0) doors ≤ 1
       by_region None = omega (arith, sum_by-zero doors)
       by_region (Some region) =
-          let fewer = sum_by-le-sum_by (λ (door : Door). cond (region == door.region && belongs_to window doors side door position) 1 0)
-          (λ (door : Door). cond (option_map_or (is_same_door door) (find (runs_over window region side position) doors) false) 1 0) doors
+          let fewer = sum_by-le-sum_by (λ (door : PortalEdge). cond (region == door.region && belongs_to window doors side door position) 1 0)
+          (λ (door : PortalEdge). cond (option_map_or (is_same_door door) (find (runs_over window region side position) doors) false) 1 0) doors
           (λ door. by_test region door (region == door.region) refl) in
           omega (arith, fewer, among (find (runs_over window region side position) doors))
 
   -- so all doors together own no more of some cells than there are
   owned_within : (some : Cell → Bool)
-      → sum_by (λ (door : Door). sum_by (λ cell. cond (some cell && owns window regions doors side door cell) 1 0) cells) doors
+      → sum_by (λ (door : PortalEdge). sum_by (λ cell. cond (some cell && owns window regions doors side door cell) 1 0) cells) doors
       ≤ sum_by (λ cell. cond (some cell) 1 0) cells
   owned_within some =
-      sum_by-shared (λ (door : Door) (cell : Cell). cond (some cell && owns window regions doors side door cell) 1 0) (λ cell. cond (some cell) 1 0) doors cells
+      sum_by-shared (λ (door : PortalEdge) (cell : Cell). cond (some cell && owns window regions doors side door cell) 1 0) (λ cell. cond (some cell) 1 0) doors cells
       (λ k d there. by_test (get_or cells k d) (some (get_or cells k d)))
     where
-      by_test : (cell : Cell) (b : Bool) → sum_by (λ (door : Door). cond (b && owns window regions doors side door cell) 1 0) doors ≤ cond b 1 0
+      by_test : (cell : Cell) (b : Bool) → sum_by (λ (door : PortalEdge). cond (b && owns window regions doors side door cell) 1 0) doors ≤ cond b 1 0
       by_test cell true = owned_once cell
       by_test cell false = omega (arith, sum_by-zero doors)
 
   -- the cell of a door at a position
-  abbrev cell_of : Door → ℕ → Cell
+  abbrev cell_of : PortalEdge → ℕ → Cell
   cell_of door position = unwrap_or (crossing_cell window cells regions door.region side position) some_cell
 
-  crossing_is : (door : Door) (position : ℕ) → is_some (crossing_cell window cells regions door.region side position) ≡ true
+  crossing_is : (door : PortalEdge) (position : ℕ) → is_some (crossing_cell window cells regions door.region side position) ≡ true
       → IsCrossingOf window cells regions side door position (cell_of door position)
   crossing_is door position there = by_case (crossing_cell window cells regions door.region side position) refl there
     where
@@ -141,7 +141,7 @@ module _ (window : Window) (cells : List Cell) (regions : Regions) (facets : Lis
           record { listed = kept'.0; of = kept'.1; crossing = crosses.0; there = eqb-true (position_of side cell.at) position crosses.1 }
 
   -- a position that a door lists is that of a cell that it owns
-  listed_owned : (some : Cell → Bool) (door : Door) (position : ℕ)
+  listed_owned : (some : Cell → Bool) (door : PortalEdge) (position : ℕ)
       → (some (cell_of door position) && is_listed window cells regions doors door side position) ≡ true
       → Any (HasNumber (λ cell. some cell && owns window regions doors side door cell) (λ (cell : Cell). position_of side cell.at) position) cells
   listed_owned some door position is =
@@ -163,24 +163,24 @@ module _ (window : Window) (cells : List Cell) (regions : Regions) (facets : Lis
   -- what an entry counts for is at most how many positions of its run are those of some cells
   abbrev CountsFor : (RimEdge → ℕ) → (Cell → Bool) → Type 0
   CountsFor w some =
-      (door : Door) (run : Run)
+      (door : PortalEdge) (run : LabelRun)
       → IsRunOf (map (λ position. label_if (is_listed window cells regions doors door side position)) (positions_of side door)) run
       → w (door_entry window cells regions door side run)
       ≤ sum_by (λ position. cond (some (cell_of door position) && is_listed window cells regions doors door side position) 1 0)
       (between run.first (run.last + 1) (positions_of side door))
 
   -- then the entries of a door count for no more than the cells that it owns,
-  entries_within : (w : RimEdge → ℕ) (some : Cell → Bool) → CountsFor w some → (door : Door)
+  entries_within : (w : RimEdge → ℕ) (some : Cell → Bool) → CountsFor w some → (door : PortalEdge)
       → sum_by w (side_entries window cells regions doors door side) ≤ sum_by (λ cell. cond (some cell && owns window regions doors side door cell) 1 0) cells
   entries_within w some counts door =
       let positions : List ℕ = positions_of side door in
       let listed : ℕ → Bool = λ position. is_listed window cells regions doors door side position in
       let g : ℕ → ℕ = λ position. cond (some (cell_of door position) && listed position) 1 0 in
-      let runs : List Run = runs_of (map (λ position. label_if (listed position)) positions) in
+      let runs : List LabelRun = runs_of (map (λ position. label_if (listed position)) positions) in
       omega (
         arith,
         sum_by-map w (door_entry window cells regions door side) runs,
-        sum_by-no_more (λ run. w (door_entry window cells regions door side run)) (λ (run : Run). sum_by g (between run.first (run.last + 1) positions)) runs
+        sum_by-no_more (λ run. w (door_entry window cells regions door side run)) (λ (run : LabelRun). sum_by g (between run.first (run.last + 1) positions)) runs
             (λ k d there. counts door (get_or runs k d) (runs_are_runs (map (λ position. label_if (listed position)) positions) k d there)),
         runs_within g positions (map (λ position. label_if (listed position)) positions),
         numbers_within (λ cell. some cell && owns window regions doors side door cell) (λ (cell : Cell). position_of side cell.at)
@@ -189,7 +189,7 @@ module _ (window : Window) (cells : List Cell) (regions : Regions) (facets : Lis
       )
 
   -- also of those along the side alone,
-  door_within : (w : RimEdge → ℕ) (some : Cell → Bool) → CountsFor w some → (door : Door)
+  door_within : (w : RimEdge → ℕ) (some : Cell → Bool) → CountsFor w some → (door : PortalEdge)
       → sum_by (λ (entry : RimEdge). cond (entry.side == side) (w entry) 0) (door_entries window cells regions doors door)
       ≤ sum_by (λ cell. cond (some cell && owns window regions doors side door cell) 1 0) cells
   door_within w some counts door = by_side (side_of window door)
@@ -200,7 +200,7 @@ module _ (window : Window) (cells : List Cell) (regions : Regions) (facets : Lis
       v : RimEdge → ℕ
       v entry = cond (entry.side == side) (w entry) 0
 
-      runs_along : ℕ → List Run
+      runs_along : ℕ → List LabelRun
       runs_along own = runs_of (map (λ position. label_if (is_listed window cells regions doors door own position)) (positions_of own door))
 
       along : ℕ → ℕ
@@ -227,18 +227,18 @@ module _ (window : Window) (cells : List Cell) (regions : Regions) (facets : Lis
         sum_by-filter w (λ (entry : RimEdge). entry.side == side) (door_rim window cells regions doors),
         sum_by-flat_map v (door_entries window cells regions doors) doors,
         sum_by-le-sum_by (λ door. sum_by v (door_entries window cells regions doors door))
-            (λ (door : Door). sum_by (λ cell. cond (some cell && owns window regions doors side door cell) 1 0) cells) doors (door_within w some counts),
+            (λ (door : PortalEdge). sum_by (λ cell. cond (some cell && owns window regions doors side door cell) 1 0) cells) doors (door_within w some counts),
         owned_within some,
       )
 
   -- ---- positions and levels
 
-  entry_length : (door : Door) (run : Run) → length (door_entry window cells regions door side run).pairs ≡ run.last + 1 - run.first
+  entry_length : (door : PortalEdge) (run : LabelRun) → length (door_entry window cells regions door side run).pairs ≡ run.last + 1 - run.first
   entry_length door run =
       length-map-range_with_len (crossing_pair window cells regions door.region side) (first_position side door + run.first) (run.last + 1 - run.first)
 
   -- the positions of a run, one by one
-  run_position : (door : Door) (run : Run)
+  run_position : (door : PortalEdge) (run : LabelRun)
       → IsRunOf (map (λ position. label_if (is_listed window cells regions doors door side position)) (positions_of side door)) run → (k d : ℕ)
       → k < run.last + 1 - run.first → get_or (between run.first (run.last + 1) (positions_of side door)) k d ≡ first_position side door + run.first + k
   run_position door run is k d inside =
@@ -249,14 +249,14 @@ module _ (window : Window) (cells : List Cell) (regions : Regions) (facets : Lis
       let there : run.first + k < count = omega (arith, is.inside, labels, many, inside) in
       in_run positions run.first run.last k d inside ∙ get_or-range_with_len (first_position side door) count (run.first + k) d there ∙ omega arith
 
-  run_length : (door : Door) (run : Run)
+  run_length : (door : PortalEdge) (run : LabelRun)
       → IsRunOf (map (λ position. label_if (is_listed window cells regions doors door side position)) (positions_of side door)) run
       → length (between run.first (run.last + 1) (positions_of side door)) ≡ run.last + 1 - run.first
   run_length door run is =
       part_length (positions_of side door) run.first run.last is.order
       (omega (arith, is.inside, length-map (positions_of side door) (λ position. label_if (is_listed window cells regions doors door side position))))
 
-  run_listed : (door : Door) (run : Run)
+  run_listed : (door : PortalEdge) (run : LabelRun)
       → IsRunOf (map (λ position. label_if (is_listed window cells regions doors door side position)) (positions_of side door)) run → (k d : ℕ)
       → k < run.last + 1 - run.first
       → is_listed window cells regions doors door side (get_or (between run.first (run.last + 1) (positions_of side door)) k d) ≡ true
@@ -283,7 +283,7 @@ module _ (window : Window) (cells : List Cell) (regions : Regions) (facets : Lis
           omega (arith, one)
 
   -- a position and level that an entry has is that of a cell of its door
-  named_placed : (position level : ℕ) (door : Door) (run : Run)
+  named_placed : (position level : ℕ) (door : PortalEdge) (run : LabelRun)
       → IsRunOf (map (λ place. label_if (is_listed window cells regions doors door side place)) (positions_of side door)) run
       → cond (is_named (door_entry window cells regions door side run) position level) 1 0
       ≤ sum_by (λ place. cond (is_placed window side position level (cell_of door place) && is_listed window cells regions doors door side place) 1 0)

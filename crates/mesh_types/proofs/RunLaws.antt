@@ -7,11 +7,11 @@ use Rattle.std.proofs.lemmas.List.{get_or-drop, get_or-take, get_or-map, length-
 use Rattle.std.proofs.lemmas.List.Elements.{All-nil, All-cons}
 use Rattle.std.proofs.lemmas.List.FromFn.{get_or-range_with_len, length-range_with_len}
 use Rattle.std.proofs.lemmas.List.Sums.{prefix_len_passes, prefix_len-le-length}
-use Rattle.mesh_types.specs.declared.label_runs.Run.{Run}
+use Rattle.mesh_types.specs.declared.region.LabelRun.{LabelRun}
 use Rattle.mesh_types.specs.Runs.{has_label, run_with, runs_of, label_if}
 
 -- a range of places that all have one label
-pub record IsRunOf (labels : List (Option ℕ)) (run : Run) : Type 0 where
+pub record IsRunOf (labels : List (Option ℕ)) (run : LabelRun) : Type 0 where
   pub order : run.first ≤ run.last
   pub inside : run.last < length labels
   pub labelled : (k : ℕ) → run.first ≤ k → k ≤ run.last → get_or labels k None ≡ Some run.label
@@ -51,7 +51,7 @@ begun labels place label there is =
       ];
     }
 
-pub run_is : (labels : List (Option ℕ)) (place : ℕ) (run : Run) → place < length labels → (o : Option ℕ) → get_or labels place None ≡ o
+pub run_is : (labels : List (Option ℕ)) (place : ℕ) (run : LabelRun) → place < length labels → (o : Option ℕ) → get_or labels place None ≡ o
     → run_with labels place o ≡ Some run → IsRunOf labels run
 run_is labels place run there None at is = absurd cc
 run_is labels place run there (Some label) at is =
@@ -85,7 +85,7 @@ part_length own first last order inside =
     length-take (last + 1 - first) (drop first own) ∙ omega (arith, length-drop first own, order, inside)
 
 -- every element of such a run passes
-pub run_passes : {A : Type 0} (p : A → Bool) (own : List A) (run : Run) → IsRunOf (map (λ a. label_if (p a)) own) run → (k : ℕ) (d : A)
+pub run_passes : {A : Type 0} (p : A → Bool) (own : List A) (run : LabelRun) → IsRunOf (map (λ a. label_if (p a)) own) run → (k : ℕ) (d : A)
     → run.first ≤ k → k ≤ run.last → p (get_or own k d) ≡ true
 run_passes p own run is k d least most =
     labelled_true (p (get_or own k d)) run.label

@@ -8,7 +8,7 @@ use Rattle.std.proofs.Math.Seq.{take-append_seam}
 use Rattle.std.proofs.lemmas.List.Elements.{All-append, All-replicate, All-nil, All-more, All-take, All-map, All-contains}
 use Rattle.nav_base.specs.declared.point.Point.{Point}
 use Rattle.mesh_types.specs.declared.polygon.Polygon.{Polygon}
-use Rattle.mesh_types.specs.declared.corners.Corners.TheInside.{Inside}
+use Rattle.mesh_types.specs.declared.polygon.Corners.TheInside.{Inside}
 use Rattle.mesh_types.specs.Inline.{IsInline, origin, corners_inverse}
 use Rattle.nav_base.specs.Convex.{corner_at}
 use Rattle.mesh_types.specs.Extents.{least_of, greatest_of, extent_of}

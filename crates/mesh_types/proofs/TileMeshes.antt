@@ -8,8 +8,8 @@ use Rattle.nav_ground.specs.declared.setting.MeshKind.{MeshKind}
 use Rattle.nav_ground.specs.declared.setting.MeshKind.TheVariants.{Strips, Contours}
 use Rattle.nav_ground.specs.declared.setting.Setting.{Setting}
 use Rattle.nav_ground.specs.Tiling.{tile_window}
-use Rattle.mesh_types.specs.declared.door.Part.{Part}
-use Rattle.mesh_types.specs.declared.tile.TileMesh.{TileMesh}
+use Rattle.mesh_types.specs.declared.region.RegionPart.{RegionPart}
+use Rattle.mesh_types.specs.declared.mesh.TileMesh.{TileMesh}
 use Rattle.mesh_types.specs.ContourMeshes.{contour_mesh_of, mesh_of_free, mesh_of_kind, parts_mesh}
 use Rattle.mesh_types.specs.Parts.{parts_of}
 use Rattle.mesh_types.specs.Regions.{regions_of}
@@ -34,7 +34,7 @@ contour_of_free : (setting : Setting) (free : FreeLayer) (tile : TileMesh) → c
 unfolding contour_mesh_of parts_mesh
 contour_of_free setting free tile is = by_parts (parts_of (tile_window setting free.tile) setting.error free.cells (regions_of free.cells)) is
   where
-    by_parts : (found : Option (List Part)) → option_map (parts_mesh setting free (regions_of free.cells)) found ≡ Some tile → tile.free ≡ free
+    by_parts : (found : Option (List RegionPart)) → option_map (parts_mesh setting free (regions_of free.cells)) found ≡ Some tile → tile.free ≡ free
     by_parts None is = absurd (none-some tile is)
     by_parts (Some parts) is = ap (λ (t : TileMesh). t.free) (sym (same_Some (parts_mesh setting free (regions_of free.cells) parts) tile is))
 
@@ -51,7 +51,7 @@ contour_of_tile : (setting : Setting) (free : FreeLayer) (tile : TileMesh) → c
 unfolding contour_mesh_of parts_mesh
 contour_of_tile setting free tile is = by_parts (parts_of (tile_window setting free.tile) setting.error free.cells (regions_of free.cells)) is
   where
-    by_parts : (found : Option (List Part)) → option_map (parts_mesh setting free (regions_of free.cells)) found ≡ Some tile → tile.tile ≡ free.tile
+    by_parts : (found : Option (List RegionPart)) → option_map (parts_mesh setting free (regions_of free.cells)) found ≡ Some tile → tile.tile ≡ free.tile
     by_parts None is = absurd (none-some tile is)
     by_parts (Some parts) is = ap (λ (t : TileMesh). t.tile) (sym (same_Some (parts_mesh setting free (regions_of free.cells) parts) tile is))
 

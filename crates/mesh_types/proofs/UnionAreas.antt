@@ -10,8 +10,8 @@ use Rattle.nav_base.specs.declared.point.Point.{Point}
 use Rattle.nav_base.specs.Point.{cross_of}
 use Rattle.nav_base.specs.Convex.{corner_at}
 use Rattle.nav_base.proofs.OrientLaws.{cross_of-exchanged}
-use Rattle.mesh_types.specs.declared.outline.Triangle.{Triangle}
-use Rattle.mesh_types.specs.declared.outline.Piece.{Piece}
+use Rattle.mesh_types.specs.declared.region.Triangle.{Triangle}
+use Rattle.mesh_types.specs.declared.region.Piece.{Piece}
 use Rattle.mesh_types.specs.Ears.{area_of, turns_of}
 use Rattle.mesh_types.specs.Merging.{IsPieceOf, Merge, areas_of, is_facing, joined, places_at, union_of}
 use Rattle.mesh_types.specs.Words.{piece_of}

@@ -7,17 +7,17 @@ use Rattle.nav_ground.specs.declared.cell.Cell.{Cell}
 use Rattle.nav_ground.specs.declared.cell.Window.{Window}
 use Rattle.mesh_types.specs.declared.region.Regions.{Regions}
 use Rattle.mesh_types.specs.declared.region.UnitEdge.{UnitEdge}
-use Rattle.mesh_types.specs.declared.outline.Piece.{Piece}
+use Rattle.mesh_types.specs.declared.region.Piece.{Piece}
 use Rattle.mesh_types.specs.declared.links.Portal.{Portal}
-use Rattle.mesh_types.specs.declared.corner.Corner.{Corner}
-use Rattle.mesh_types.specs.declared.corner.Side.{Side}
+use Rattle.mesh_types.specs.declared.answers.Corner.{Corner}
+use Rattle.mesh_types.specs.declared.answers.Side.{Side}
 use Rattle.mesh_types.specs.LinkOrder.{is_point_before}
 use Rattle.mesh_types.specs.Crossings.{is_crossing, position_of}
 use Rattle.mesh_types.specs.Contours.{region_at}
 use Rattle.mesh_types.specs.Ears.{is_same_point}
 use Rattle.mesh_types.specs.Merging.{Merge, shared_length}
 use Rattle.mesh_types.specs.Facets.{Facet}
-use Rattle.mesh_types.specs.Segments.{Stop}
+use Rattle.mesh_types.specs.Segments.{TautCorner}
 use Rattle.mesh_types.specs.Bends.{IsHeldOn, IsFoldedOn}
 
 -- a strip has a cell in a column
@@ -53,14 +53,14 @@ abbrev pub some_portal : Portal
 some_portal = record { left = record { x = pos 0; z = pos 0 }; right = record { x = pos 0; z = pos 0 } }
 
 -- the stop at a corner
-abbrev pub corner_stop : Corner → Stop
+abbrev pub corner_stop : Corner → TautCorner
 corner_stop corner = record { at = corner.at; number = corner.portal + 1 }
 
 -- a stop that stands for none
-abbrev pub some_stop : Stop
+abbrev pub some_stop : TautCorner
 some_stop = record { at = record { x = pos 0; z = pos 0 }; number = 0 }
 
 -- a bend is held on a side, or at a portal on which the next one folds back
-abbrev pub IsHeld : List Portal → List Stop → List Corner → ℕ → ℕ → Type 0
-IsHeld portals stops corners first last =
-    ((side : Side) × IsHeldOn portals stops corners first last side) ⊎ IsFoldedOn portals corners first last
+abbrev pub IsHeld : List Portal → List TautCorner → List Corner → ℕ → ℕ → Type 0
+IsHeld portals taut corners first last =
+    ((side : Side) × IsHeldOn portals taut corners first last side) ⊎ IsFoldedOn portals corners first last

@@ -3,20 +3,20 @@ use Rattle.std.specs.Prelude.{◌≡◌, ◌≢◌, ℕ, ◌+◌, ◌-◌, ◌<�
 use Rattle.nav_base.specs.declared.point.Point.{Point}
 use Rattle.nav_base.specs.Point.{orient_of, dot_of, from_to}
 use Rattle.mesh_types.specs.declared.links.Portal.{Portal}
-use Rattle.mesh_types.specs.declared.corner.Side.{Side}
-use Rattle.mesh_types.specs.declared.corner.Side.TheVariants.{L, R}
-use Rattle.mesh_types.specs.declared.corner.Corner.{Corner}
+use Rattle.mesh_types.specs.declared.answers.Side.{Side}
+use Rattle.mesh_types.specs.declared.answers.Side.TheVariants.{L, R}
+use Rattle.mesh_types.specs.declared.answers.Corner.{Corner}
 use Rattle.mesh_types.specs.Chains.{portal_at, IsFold, other_end_of}
-use Rattle.mesh_types.specs.Segments.{Stop, stop_at}
+use Rattle.mesh_types.specs.Segments.{TautCorner, taut_corner_at}
 
 -- (e) a bend is a maximal run of stops at one point that has neither the start nor the goal: the corners from one place up to another
-pub record IsBend (stops : List Stop) (first last : ℕ) : Type 0 where
+pub record IsBend (taut : List TautCorner) (first last : ℕ) : Type 0 where
   pub some : first ≤ last
   pub not_start : 1 ≤ first
-  pub not_goal : last + 1 < length stops
-  pub equal : (k : ℕ) → first ≤ k → k ≤ last → (stop_at stops k).at ≡ (stop_at stops first).at
-  pub not_before : (stop_at stops (first - 1)).at ≢ (stop_at stops first).at
-  pub not_after : (stop_at stops (last + 1)).at ≢ (stop_at stops first).at
+  pub not_goal : last + 1 < length taut
+  pub equal : (k : ℕ) → first ≤ k → k ≤ last → (taut_corner_at taut k).at ≡ (taut_corner_at taut first).at
+  pub not_before : (taut_corner_at taut (first - 1)).at ≢ (taut_corner_at taut first).at
+  pub not_after : (taut_corner_at taut (last + 1)).at ≢ (taut_corner_at taut first).at
 
 -- a point e is straight on at c for one who comes from b
 pub record IsStraightOn (b c e : Point) : Type 0 where
@@ -44,12 +44,12 @@ pub record HasSide (corners : List Corner) (first last : ℕ) (side : Side) (k :
 
 -- a bend is held on a side: it has a corner of that side, and the stop after it, or the other end of a portal that one of its corners of that
 -- side names, holds it
-pub record IsHeldOn (portals : List Portal) (stops : List Stop) (corners : List Corner) (first last : ℕ) (side : Side) : Type 0 where
+pub record IsHeldOn (portals : List Portal) (taut : List TautCorner) (corners : List Corner) (first last : ℕ) (side : Side) : Type 0 where
   pub corner : ℕ
   pub has : HasSide corners first last side corner
-  pub held : IsHolding side (stop_at stops (first - 1)).at (stop_at stops first).at (stop_at stops (last + 1)).at
+  pub held : IsHolding side (taut_corner_at taut (first - 1)).at (taut_corner_at taut first).at (taut_corner_at taut (last + 1)).at
       ⊎ ((k : ℕ) × HasSide corners first last side k
-      × IsHolding side (stop_at stops (first - 1)).at (stop_at stops first).at (other_end_of side (portal_at portals (corner_of corners k).portal)))
+      × IsHolding side (taut_corner_at taut (first - 1)).at (taut_corner_at taut first).at (other_end_of side (portal_at portals (corner_of corners k).portal)))
 
 -- a bend is also held where one of its corners names a portal on which the next portal folds back
 pub record IsFoldedOn (portals : List Portal) (corners : List Corner) (first last : ℕ) : Type 0 where

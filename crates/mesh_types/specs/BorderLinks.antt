@@ -8,10 +8,10 @@ use Rattle.nav_ground.specs.Cells.{opposite}
 use Rattle.mesh_types.specs.declared.polygon.Polygon.{Polygon}
 use Rattle.mesh_types.specs.declared.links.Portal.{Portal}
 use Rattle.mesh_types.specs.declared.links.Link.{Link}
-use Rattle.mesh_types.specs.declared.tile.LevelPair.{LevelPair}
-use Rattle.mesh_types.specs.declared.tile.RimEdge.{RimEdge}
-use Rattle.mesh_types.specs.declared.tile.TileMesh.{TileMesh}
-use Rattle.mesh_types.specs.declared.label_runs.Run.{Run}
+use Rattle.mesh_types.specs.declared.mesh.LevelPair.{LevelPair}
+use Rattle.mesh_types.specs.declared.mesh.RimEdge.{RimEdge}
+use Rattle.mesh_types.specs.declared.mesh.TileMesh.{TileMesh}
+use Rattle.mesh_types.specs.declared.region.LabelRun.{LabelRun}
 use Rattle.mesh_types.specs.Runs.{runs_of, label_if}
 use Rattle.mesh_types.specs.LinkOrder.{ordered_links}
 
@@ -58,7 +58,7 @@ side_portal side line first last =
     else record { left = scaled (pos (last + 1)) line; right = scaled (pos first) line }))
 
 -- the link from an entry of a tile to an entry of the tile across, along a run of positions of the first
-abbrev pub border_link : TileMesh → TileMesh → ℕ → RimEdge → RimEdge → Run → Link
+abbrev pub border_link : TileMesh → TileMesh → ℕ → RimEdge → RimEdge → LabelRun → Link
 border_link a b side entry other run = record {
   from = record { tile = a.tile; index = entry.poly };
   edge = entry.edge;

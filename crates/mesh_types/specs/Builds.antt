@@ -7,7 +7,7 @@ use Rattle.nav_ground.specs.declared.history.Entry.{Entry}
 use Rattle.nav_ground.specs.declared.history.Ground.{Ground}
 use Rattle.nav_ground.specs.FreeCells.{free_layer_of}
 use Rattle.nav_ground.specs.History.{shapes_alive}
-use Rattle.mesh_types.specs.declared.tile.TileMesh.{TileMesh}
+use Rattle.mesh_types.specs.declared.mesh.TileMesh.{TileMesh}
 use Rattle.mesh_types.specs.declared.mesh.Mesh.{Mesh}
 use Rattle.mesh_types.specs.ContourMeshes.{mesh_of_free}
 use Rattle.mesh_types.specs.WholeMesh.{mesh_of}
@@ -17,9 +17,9 @@ abbrev pub tile_mesh_of : Setting → Layer → List Shape → TileMesh
 tile_mesh_of setting layer shapes = mesh_of_free setting (free_layer_of layer shapes)
 
 -- the mesh of a ground under obstacles
-abbrev pub mesh_under : Ground → List Shape → Mesh
-mesh_under whole shapes = mesh_of whole.setting (map (λ (layer : Layer). tile_mesh_of whole.setting layer shapes) whole.layers)
+abbrev pub mesh_under : (ground : Ground) → List Shape → Mesh
+mesh_under ground shapes = mesh_of ground.setting (map (λ (layer : Layer). tile_mesh_of ground.setting layer shapes) ground.layers)
 
 -- the mesh with the obstacles that are alive after the first k entries of a history
-unfoldable pub build_of : Ground → List Entry → ℕ → Mesh
-build_of whole history k = mesh_under whole (shapes_alive history k)
+unfoldable pub build_of : (ground : Ground) → List Entry → ℕ → Mesh
+build_of ground history k = mesh_under ground (shapes_alive history k)

@@ -3,8 +3,8 @@ use Rattle.std.specs.Prelude.{◌≡◌, ◌≢◌, ℕ, ◌+◌, ◌-◌, ◌<�
 use Rattle.nav_base.specs.declared.point.Point.{Point}
 use Rattle.nav_base.specs.Point.{orient_of, dot_of, from_to}
 use Rattle.mesh_types.specs.declared.links.Portal.{Portal}
-use Rattle.mesh_types.specs.declared.corner.Side.{Side}
-use Rattle.mesh_types.specs.declared.corner.Side.TheVariants.{L, R}
+use Rattle.mesh_types.specs.declared.answers.Side.{Side}
+use Rattle.mesh_types.specs.declared.answers.Side.TheVariants.{L, R}
 
 -- the portal at a place
 abbrev pub portal_at : List Portal → ℕ → Portal
@@ -46,6 +46,7 @@ abbrev pub end_of : Side → Portal → Point
 end_of L portal = portal.left
 end_of R portal = portal.right
 
+-- the end of a portal that is not on this side
 abbrev pub other_end_of : Side → Portal → Point
 other_end_of L portal = portal.right
 other_end_of R portal = portal.left

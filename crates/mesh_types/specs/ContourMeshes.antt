@@ -7,8 +7,8 @@ use Rattle.nav_ground.specs.declared.setting.Setting.{Setting}
 use Rattle.nav_ground.specs.declared.cell.FreeLayer.{FreeLayer}
 use Rattle.nav_ground.specs.Tiling.{tile_window}
 use Rattle.mesh_types.specs.declared.region.Regions.{Regions}
-use Rattle.mesh_types.specs.declared.door.Part.{Part}
-use Rattle.mesh_types.specs.declared.tile.TileMesh.{TileMesh}
+use Rattle.mesh_types.specs.declared.region.RegionPart.{RegionPart}
+use Rattle.mesh_types.specs.declared.mesh.TileMesh.{TileMesh}
 use Rattle.mesh_types.specs.StripMeshes.{strip_mesh_of}
 use Rattle.mesh_types.specs.Regions.{regions_of}
 use Rattle.mesh_types.specs.Parts.{parts_of}
@@ -17,7 +17,7 @@ use Rattle.mesh_types.specs.Doors.{doors_of, door_links}
 use Rattle.mesh_types.specs.DoorRim.{door_rim}
 
 -- the mesh of a tile by the parts of its regions: a polygon for each piece, the links through the doors, and the rim
-unfoldable pub parts_mesh : Setting → FreeLayer → Regions → List Part → TileMesh
+unfoldable pub parts_mesh : Setting → FreeLayer → Regions → List RegionPart → TileMesh
 parts_mesh setting free regions parts = record {
   tile = free.tile;
   free = free;
@@ -37,5 +37,6 @@ abbrev pub mesh_of_kind : MeshKind → Setting → FreeLayer → TileMesh
 mesh_of_kind Strips setting free = strip_mesh_of setting free
 mesh_of_kind Contours setting free = unwrap_or (contour_mesh_of setting free) (strip_mesh_of setting free)
 
+-- the mesh of a tile, of the kind that the setting names
 unfoldable pub mesh_of_free : Setting → FreeLayer → TileMesh
 mesh_of_free setting free = mesh_of_kind setting.mesh setting free

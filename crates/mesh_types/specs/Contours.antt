@@ -8,7 +8,7 @@ use Rattle.nav_ground.specs.declared.cell.Cell.{Cell}
 use Rattle.nav_ground.specs.declared.cell.CellRef.{CellRef}
 use Rattle.nav_ground.specs.declared.cell.Window.{Window}
 use Rattle.nav_ground.specs.Cells.{is_naming}
-use Rattle.mesh_types.specs.declared.strip.Strip.{Strip}
+use Rattle.mesh_types.specs.declared.region.Strip.{Strip}
 use Rattle.mesh_types.specs.declared.region.Region.{Region}
 use Rattle.mesh_types.specs.declared.region.Regions.{Regions}
 use Rattle.mesh_types.specs.declared.region.UnitEdge.{UnitEdge}
@@ -27,6 +27,7 @@ use Rattle.mesh_types.specs.Ears.{is_same_point}
 abbrev pub is_at : CellRef → Cell → Bool
 is_at at cell = cell.at.x == at.x && cell.at.z == at.z && cell.at.level == at.level
 
+-- the cell at a place of a list
 abbrev pub cell_in : List Cell → CellRef → Cell
 cell_in cells at = unwrap_or (find (is_at at) cells) some_cell
 
@@ -57,9 +58,11 @@ edge_beginning dir at =
     else (if dir == 2 then corner (at.x + 1) at.z
     else corner at.x at.z))
 
+-- the corner at which such an edge ends
 abbrev pub edge_ending : ℕ → CellRef → Point
 edge_ending dir at = edge_beginning ((dir + 3) % 4) at
 
+-- the edge of a cell toward a direction, with its code
 abbrev pub edge_of : Window → List Cell → Regions → ℕ → CellRef → UnitEdge
 edge_of window cells regions dir at = record {
   from = edge_beginning dir at;
@@ -71,9 +74,11 @@ edge_of window cells regions dir at = record {
 abbrev pub columns : Strip → List ℕ
 columns strip = range_with_len strip.x0 (strip.x1 + 1 - strip.x0)
 
+-- the strips of the region with a number
 abbrev pub strips_in : Regions → ℕ → List Strip
 strips_in regions id = (get_or regions.regions id (record { strips = [] })).strips
 
+-- the places of the cells of the region with a number
 abbrev pub places_in : Regions → ℕ → List CellRef
 places_in regions id = flat_map (λ (strip : Strip). map (place_in strip) (columns strip)) (strips_in regions id)
 
@@ -82,6 +87,7 @@ abbrev pub rim_edges_of : Window → List Cell → Regions → ℕ → CellRef �
 rim_edges_of window cells regions id at =
     map (λ dir. edge_of window cells regions dir at) (filter (λ dir. is_rim cells regions id dir (cell_in cells at)) (range_with_len 0 4))
 
+-- all edges at the rim of a region, cell by cell
 abbrev pub rim_of : Window → List Cell → Regions → ℕ → List UnitEdge
 rim_of window cells regions id = flat_map (rim_edges_of window cells regions id) (places_in regions id)
 

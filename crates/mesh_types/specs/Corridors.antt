@@ -11,9 +11,9 @@ use Rattle.nav_base.specs.Root.{ceil_sqrt_of}
 use Rattle.mesh_types.specs.declared.links.PolyRef.{PolyRef}
 use Rattle.mesh_types.specs.declared.links.Link.{Link}
 use Rattle.mesh_types.specs.declared.polygon.Polygon.{Polygon}
-use Rattle.mesh_types.specs.declared.tile.TileMesh.{TileMesh}
+use Rattle.mesh_types.specs.declared.mesh.TileMesh.{TileMesh}
 use Rattle.mesh_types.specs.declared.mesh.Mesh.{Mesh}
-use Rattle.mesh_types.specs.declared.corridor.Corridor.{Corridor}
+use Rattle.mesh_types.specs.declared.answers.Corridor.{Corridor}
 use Rattle.mesh_types.specs.WholeMesh.{poly_at}
 
 -- the middle of a polygon's box, in sixteenths of a cell
@@ -50,7 +50,7 @@ WalksTo mesh from (link ∷ links) to = IsLinkOf mesh link × (link.from ≡ fro
 abbrev pub cost_of : Mesh → List Link → ℕ
 cost_of mesh links = sum_by (weight_of mesh) links
 
--- a corridor: a walk that no other from the one polygon to the other undercuts, with its cost
+-- a corridor: a walk than which no other from the one polygon to the other costs less, with its cost
 pub record IsCheapest (mesh : Mesh) (from to : PolyRef) (corridor : Corridor) : Type 0 where
   pub walks : WalksTo mesh from corridor.links to
   pub cost : corridor.cost ≡ cost_of mesh corridor.links

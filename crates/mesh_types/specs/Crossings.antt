@@ -4,7 +4,7 @@ use Rattle.nav_ground.specs.declared.cell.Cell.{Cell}
 use Rattle.nav_ground.specs.declared.cell.CellRef.{CellRef}
 use Rattle.nav_ground.specs.declared.cell.Window.{Window}
 use Rattle.nav_ground.specs.Cells.{next_level}
-use Rattle.mesh_types.specs.declared.tile.LevelPair.{LevelPair}
+use Rattle.mesh_types.specs.declared.mesh.LevelPair.{LevelPair}
 
 -- the neighbouring column of a cell in a direction lies outside the tile
 abbrev pub is_at_side : Window → ℕ → CellRef → Bool

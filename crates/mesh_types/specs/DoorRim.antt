@@ -9,10 +9,10 @@ use Rattle.nav_ground.specs.declared.cell.Window.{Window}
 use Rattle.mesh_types.specs.declared.region.Regions.{Regions}
 use Rattle.mesh_types.specs.declared.region.Code.{Code}
 use Rattle.mesh_types.specs.declared.region.Code.TheVariants.{Side}
-use Rattle.mesh_types.specs.declared.door.Door.{Door}
-use Rattle.mesh_types.specs.declared.label_runs.Run.{Run}
-use Rattle.mesh_types.specs.declared.tile.LevelPair.{LevelPair}
-use Rattle.mesh_types.specs.declared.tile.RimEdge.{RimEdge}
+use Rattle.mesh_types.specs.declared.region.PortalEdge.{PortalEdge}
+use Rattle.mesh_types.specs.declared.region.LabelRun.{LabelRun}
+use Rattle.mesh_types.specs.declared.mesh.LevelPair.{LevelPair}
+use Rattle.mesh_types.specs.declared.mesh.RimEdge.{RimEdge}
 use Rattle.mesh_types.specs.Runs.{runs_of, label_if}
 use Rattle.mesh_types.specs.StripPolygons.{some_cell}
 use Rattle.mesh_types.specs.Crossings.{is_crossing, position_of, level_pair}
@@ -32,10 +32,11 @@ is_on_line window side p =
     else int_eq p.z window.z0))
 
 -- a door lies on a side of the tile, and its code names that side
-abbrev pub lies_on : Window → Door → ℕ → Bool
+abbrev pub lies_on : Window → PortalEdge → ℕ → Bool
 lies_on window door side = names_side door.code side && is_on_line window side door.begin && is_on_line window side door.end
 
-abbrev pub side_of : Window → Door → Option ℕ
+-- the side of the tile on which a door lies, if it lies on one
+abbrev pub side_of : Window → PortalEdge → Option ℕ
 side_of window door = find (lies_on window door) (range_with_len 0 4)
 
 -- the position of a point along a side: z on the sides 0 and 2, x on the sides 1 and 3
@@ -44,25 +45,28 @@ point_position side p = unsigned_abs (if side % 2 == 0 then p.z else p.x)
 
 -- the positions over which a door on a side runs, from the first up to before the last; with the tile on its left it runs backward on the
 -- sides 0 and 1
-abbrev pub first_position : ℕ → Door → ℕ
+abbrev pub first_position : ℕ → PortalEdge → ℕ
 first_position side door = point_position side (if nat_lt side 2 then door.end else door.begin)
 
-abbrev pub end_position : ℕ → Door → ℕ
+-- the position behind the last one over which a door runs
+abbrev pub end_position : ℕ → PortalEdge → ℕ
 end_position side door = point_position side (if nat_lt side 2 then door.begin else door.end)
 
-abbrev pub positions_of : ℕ → Door → List ℕ
+-- the positions over which a door runs
+abbrev pub positions_of : ℕ → PortalEdge → List ℕ
 positions_of side door = range_with_len (first_position side door) (end_position side door - first_position side door)
 
 -- a door of a region lies on a side and runs over a position there
-abbrev pub runs_over : Window → ℕ → ℕ → ℕ → Door → Bool
+abbrev pub runs_over : Window → ℕ → ℕ → ℕ → PortalEdge → Bool
 runs_over window region side position door =
     door.region == region && lies_on window door side && nat_le (first_position side door) position && nat_lt position (end_position side door)
 
 -- a position belongs to a door, which is the first of its region that runs over it; in a tile's outlines there is one at most
-abbrev pub is_same_door : Door → Door → Bool
+abbrev pub is_same_door : PortalEdge → PortalEdge → Bool
 is_same_door a b = a.polygon == b.polygon && a.edge == b.edge
 
-abbrev pub belongs_to : Window → List Door → ℕ → Door → ℕ → Bool
+-- the first door of the region that runs over a position is this one
+abbrev pub belongs_to : Window → List PortalEdge → ℕ → PortalEdge → ℕ → Bool
 belongs_to window doors side door position = option_map_or (is_same_door door) (find (runs_over window door.region side position) doors) false
 
 module _ (window : Window) (cells : List Cell) (regions : Regions) where
@@ -75,7 +79,8 @@ module _ (window : Window) (cells : List Cell) (regions : Regions) where
   abbrev pub crossing_pair : ℕ → ℕ → ℕ → LevelPair
   crossing_pair region side position = level_pair side (unwrap_or (crossing_cell region side position) some_cell)
 
-  abbrev pub door_entry : Door → ℕ → Run → RimEdge
+  -- what the rim lists for a door along a run of its positions: the edge, and the cells on both sides of the border
+  abbrev pub door_entry : PortalEdge → ℕ → LabelRun → RimEdge
   door_entry door side run = record {
     poly = door.polygon;
     edge = door.edge;
@@ -84,17 +89,18 @@ module _ (window : Window) (cells : List Cell) (regions : Regions) where
     pairs = map (crossing_pair door.region side) (range_with_len (first_position side door + run.first) (run.last + 1 - run.first));
   }
 
-  module _ (doors : List Door) where
+  module _ (doors : List PortalEdge) where
     -- for each position of a door a label where it belongs to the door and has a cell with a kept neighbour across
-    abbrev pub is_listed : Door → ℕ → ℕ → Bool
+    abbrev pub is_listed : PortalEdge → ℕ → ℕ → Bool
     is_listed door side position = belongs_to window doors side door position && is_some (crossing_cell door.region side position)
 
     -- the entries of a door on a side: one for each maximal run of positions that have a label
-    abbrev pub side_entries : Door → ℕ → List RimEdge
+    abbrev pub side_entries : PortalEdge → ℕ → List RimEdge
     side_entries door side =
         map (door_entry door side) (runs_of (map (λ position. label_if (is_listed door side position)) (positions_of side door)))
 
-    abbrev pub door_entries : Door → List RimEdge
+    -- what the rim lists for a door: nothing where it lies on no side of the tile
+    abbrev pub door_entries : PortalEdge → List RimEdge
     door_entries door = option_map_or (side_entries door) (side_of window door) []
 
     -- the rim of a tile: door by door, run by run

@@ -5,8 +5,8 @@ use Rattle.std.specs.List.{find, filter_map, flat_map, range_with_len}
 use Rattle.nav_base.specs.Convex.{corner_at, place_after}
 use Rattle.mesh_types.specs.declared.region.Code.{Code}
 use Rattle.mesh_types.specs.declared.region.Code.TheVariants.{Region}
-use Rattle.mesh_types.specs.declared.outline.Outline as outlines
-use Rattle.mesh_types.specs.declared.door.Door.{Door}
+use Rattle.mesh_types.specs.declared.region.Outline as outlines
+use Rattle.mesh_types.specs.declared.region.PortalEdge.{PortalEdge}
 use Rattle.mesh_types.specs.declared.links.Link.{Link}
 use Rattle.mesh_types.specs.LinkOrder.{ordered_links}
 use Rattle.mesh_types.specs.BorderLinks.{scaled}
@@ -19,7 +19,7 @@ abbrev pub code_between : outlines.Outline → ℕ → ℕ → Option Code
 code_between outline from to = if to == place_after (length outline.corners) from then slice_get outline.codes from else None
 
 -- the door over an edge of the polygon with a number
-abbrev pub door_over : ℕ → Facet → ℕ → Door
+abbrev pub door_over : ℕ → Facet → ℕ → PortalEdge
 door_over polygon facet edge =
     let from = slice_index facet.places edge in
     let to = edge_end facet.places edge in
@@ -34,18 +34,19 @@ door_over polygon facet edge =
       code = code_between facet.outline from to;
     }
 
-abbrev pub facet_doors : ℕ → Facet → List Door
+-- the doors over all edges of a polygon
+abbrev pub facet_doors : ℕ → Facet → List PortalEdge
 facet_doors polygon facet = map (door_over polygon facet) (range_with_len 0 (length facet.places))
 
 -- the doors: polygon by polygon, edge by edge
-unfoldable pub doors_of : List Facet → List Door
+unfoldable pub doors_of : List Facet → List PortalEdge
 doors_of facets =
     flat_map (λ polygon. facet_doors polygon
     (get_or facets polygon (record { region = 0; outline = record { corners = []; codes = [] }; places = [] })))
     (range_with_len 0 (length facets))
 
 -- two doors join the same two places of one outline in opposite directions
-abbrev pub share_places : Door → Door → Bool
+abbrev pub share_places : PortalEdge → PortalEdge → Bool
 share_places a b = a.region == b.region && a.from == b.to && a.to == b.from
 
 -- a code names a region
@@ -54,16 +55,16 @@ names_region (Some (Region id)) region = id == region
 names_region _ region = false
 
 -- two doors join the same two corners in opposite directions, and their codes name each other's regions
-abbrev pub share_corners : Door → Door → Bool
+abbrev pub share_corners : PortalEdge → PortalEdge → Bool
 share_corners a b =
     names_region a.code b.region && names_region b.code a.region && is_same_point a.begin b.end && is_same_point a.end b.begin
 
 -- two doors face each other; a door of a tile's outlines faces one other at most
-abbrev pub are_facing : Door → Door → Bool
+abbrev pub are_facing : PortalEdge → PortalEdge → Bool
 are_facing a b = share_places a b || share_corners a b
 
 -- the link from a door to one that it faces; its portal is the whole edge
-abbrev pub door_link : ℕ → Door → Door → Link
+abbrev pub door_link : ℕ → PortalEdge → PortalEdge → Link
 door_link tile a b = record {
   from = record { tile = tile; index = a.polygon };
   edge = a.edge;
@@ -72,9 +73,9 @@ door_link tile a b = record {
 }
 
 -- the link through a door, to the first door that it faces, if it faces one
-abbrev pub link_through : ℕ → List Door → Door → Option Link
+abbrev pub link_through : ℕ → List PortalEdge → PortalEdge → Option Link
 link_through tile doors door = option_map (door_link tile door) (find (are_facing door) doors)
 
 -- the links through all doors, in order
-abbrev pub door_links : ℕ → List Door → List Link
+abbrev pub door_links : ℕ → List PortalEdge → List Link
 door_links tile doors = ordered_links (filter_map (link_through tile doors) doors)

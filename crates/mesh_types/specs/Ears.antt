@@ -10,7 +10,7 @@ use Rattle.nav_base.specs.declared.point.Point.{Point}
 use Rattle.nav_base.specs.Point.{HasCoordinates, cross_of, from_to, orient_of}
 use Rattle.nav_base.specs.Convex.{corner_at, place_after}
 use Rattle.nav_base.specs.Deviation.{square_of}
-use Rattle.mesh_types.specs.declared.outline.Triangle.{Triangle}
+use Rattle.mesh_types.specs.declared.region.Triangle.{Triangle}
 use Rattle.mesh_types.specs.Choices.{first_best}
 use Rattle.mesh_types.specs.Rings.{place_before}
 use Rattle.mesh_types.specs.Rounds.{sum_round}

@@ -5,9 +5,9 @@ use Rattle.std.specs.List.{flat_map, range_with_len}
 use Rattle.nav_base.specs.Convex.{corner_at}
 use Rattle.nav_ground.specs.declared.cell.Cell.{Cell}
 use Rattle.mesh_types.specs.declared.region.Regions.{Regions}
-use Rattle.mesh_types.specs.declared.outline.Outline as outlines
-use Rattle.mesh_types.specs.declared.outline.Piece.{Piece}
-use Rattle.mesh_types.specs.declared.door.Part.{Part}
+use Rattle.mesh_types.specs.declared.region.Outline as outlines
+use Rattle.mesh_types.specs.declared.region.Piece.{Piece}
+use Rattle.mesh_types.specs.declared.region.RegionPart.{RegionPart}
 use Rattle.mesh_types.specs.declared.polygon.Polygon.{Polygon}
 use Rattle.mesh_types.specs.StripPolygons.{first_of, low_of, high_of}
 use Rattle.mesh_types.specs.Contours.{region_at}
@@ -19,10 +19,11 @@ pub record Facet : Type 0 where
   pub places : List ℕ
 
 -- the facets: the pieces of region 0, then those of region 1, and so on
-abbrev pub facets_in : Part → ℕ → List Facet
+abbrev pub facets_in : RegionPart → ℕ → List Facet
 facets_in part region = map (λ (piece : Piece). record { region = region; outline = part.outline; places = piece.corners }) part.pieces
 
-unfoldable pub facets_of : List Part → List Facet
+-- the facets of all parts
+unfoldable pub facets_of : List RegionPart → List Facet
 facets_of parts =
     flat_map (λ region. facets_in (get_or parts region (record { outline = record { corners = []; codes = [] }; pieces = [] })) region)
     (range_with_len 0 (length parts))

@@ -1,7 +1,7 @@
 -- Floors: where one stands in a column of cells, from the bottom up.
 use Rattle.std.specs.Prelude.{ℕ, List, map, filter}
 use Rattle.std.specs.List.{flat_map}
-use Rattle.nav_base.specs.declared.answers.FloorAt.{FloorAt}
+use Rattle.nav_base.specs.declared.point.FloorAt.{FloorAt}
 use Rattle.nav_ground.specs.declared.cell.Cell.{Cell}
 use Rattle.nav_ground.specs.declared.cell.FreeLayer.{FreeLayer}
 use Rattle.nav_ground.specs.CellColumns.{is_in_column}

@@ -6,12 +6,12 @@ use Rattle.nav_base.specs.declared.point.Point.{Point}
 use Rattle.mesh_types.specs.declared.links.PolyRef.{PolyRef}
 use Rattle.mesh_types.specs.declared.answers.Answer.{Answer}
 use Rattle.mesh_types.specs.declared.answers.Answer.TheVariants as paths
-use Rattle.mesh_types.specs.declared.hops.Jump.{Jump}
-use Rattle.mesh_types.specs.declared.hops.HopStep.{HopStep}
-use Rattle.mesh_types.specs.declared.hops.HopStep.TheVariants as hops
-use Rattle.mesh_types.specs.declared.hops.HopFound.{HopFound}
-use Rattle.mesh_types.specs.declared.hops.HopAnswer.{HopAnswer}
-use Rattle.mesh_types.specs.declared.hops.HopAnswer.TheVariants.{Found, NoStart, NoGoal, NoPath}
+use Rattle.mesh_types.specs.declared.answers.Jump.{Jump}
+use Rattle.mesh_types.specs.declared.answers.HopStep.{HopStep}
+use Rattle.mesh_types.specs.declared.answers.HopStep.TheVariants as hops
+use Rattle.mesh_types.specs.declared.answers.HopFound.{HopFound}
+use Rattle.mesh_types.specs.declared.answers.HopAnswer.{HopAnswer}
+use Rattle.mesh_types.specs.declared.answers.HopAnswer.TheVariants.{Found, NoStart, NoGoal, NoPath}
 use Rattle.mesh_types.specs.declared.mesh.Mesh.{Mesh}
 use Rattle.mesh_types.specs.Corridors.{weight_of, IsLinkOf}
 use Rattle.mesh_types.specs.Located.{IsLocated}
@@ -49,6 +49,7 @@ abbrev pub step_weight : Mesh → List Jump → HopStep → ℕ
 step_weight mesh jumps (hops.Link link) = weight_of mesh link
 step_weight mesh jumps (hops.Jump number to) = option_map_or (λ (jump : Jump). jump.cost) (slice_get jumps number) 0
 
+-- what a hop walk costs: the sum over its steps
 abbrev pub hop_cost : Mesh → List Jump → List HopStep → ℕ
 hop_cost mesh jumps steps = sum_by (step_weight mesh jumps) steps
 
@@ -61,7 +62,7 @@ pub record HasNoHop (mesh : Mesh) (jumps : List Jump) (from : Point) (from_y : �
   pub no_walk : (steps : List HopStep) → HopsTo mesh jumps first steps last → ⊥
 
 -- what was found begins in the polygon that locates the start; its steps are a hop walk from there to the polygon that locates the goal, of the
--- cost that it says, which no such walk undercuts; and its turns are taut, stretch by stretch
+-- cost that it says, than which no such walk costs less; and its turns are taut, stretch by stretch
 pub record IsHop (mesh : Mesh) (jumps : List Jump) (from : Point) (from_y : ℕ) (to : Point) (to_y : ℕ) (found : HopFound) : Type 0 where
   pub start : IsLocated mesh from from_y found.first
   pub last : PolyRef

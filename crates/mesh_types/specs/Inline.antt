@@ -3,7 +3,7 @@ use Rattle.std.specs.Prelude.{◌≡◌, ◌-◌, ◌≤◌, List, length, take,
 use Rattle.std.proofs.Common.{arith, refl}
 use Rattle.std.proofs.lemmas.List.{length-take-le, take-append-drop}
 use Rattle.nav_base.specs.declared.point.Point.{Point}
-use Rattle.mesh_types.specs.declared.corners.Corners.TheInside.{Inside}
+use Rattle.mesh_types.specs.declared.polygon.Corners.TheInside.{Inside}
 
 -- the point that fills the places after the last
 abbrev pub origin : Point

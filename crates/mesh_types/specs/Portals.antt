@@ -12,6 +12,7 @@ use Rattle.mesh_types.specs.BorderLinks.{scaled}
 abbrev pub edge_begin : Polygon → ℕ → Point
 edge_begin polygon edge = scaled (corner_at polygon.corners edge).x (corner_at polygon.corners edge).z
 
+-- the end of an edge, where the next edge begins
 abbrev pub edge_end : Polygon → ℕ → Point
 edge_end polygon edge = edge_begin polygon (place_after (length polygon.corners) edge)
 

@@ -5,7 +5,7 @@ use Rattle.std.specs.Option.{option_map_or}
 use Rattle.nav_ground.specs.declared.cell.Cell.{Cell}
 use Rattle.nav_ground.specs.declared.cell.CellRef.{CellRef}
 use Rattle.nav_ground.specs.Cells.{is_naming, is_toward}
-use Rattle.mesh_types.specs.declared.strip.Strip.{Strip}
+use Rattle.mesh_types.specs.declared.region.Strip.{Strip}
 use Rattle.mesh_types.specs.declared.region.Region.{Region}
 use Rattle.mesh_types.specs.declared.region.Regions.{Regions}
 use Rattle.mesh_types.specs.Strips.{strip_of}
@@ -16,6 +16,7 @@ use Rattle.mesh_types.specs.StripLinks.{holds_named}
 abbrev pub numbers : List (List Cell) → List ℕ
 numbers runs = range_with_len 0 (length runs)
 
+-- the cells of the strip with a number
 abbrev pub run_of : List (List Cell) → ℕ → List Cell
 run_of runs s = get_or runs s []
 

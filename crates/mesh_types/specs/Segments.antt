@@ -3,30 +3,32 @@ use Rattle.std.specs.Prelude.{◌≡◌, ◌≢◌, ℕ, ◌+◌, ◌<◌, pos, 
 use Rattle.nav_base.specs.declared.point.Point.{Point}
 use Rattle.nav_base.specs.Point.{orient_of, dot_of, from_to}
 use Rattle.mesh_types.specs.declared.links.Portal.{Portal}
-use Rattle.mesh_types.specs.declared.corner.Side.{Side}
-use Rattle.mesh_types.specs.declared.corner.Corner.{Corner}
+use Rattle.mesh_types.specs.declared.answers.Side.{Side}
+use Rattle.mesh_types.specs.declared.answers.Corner.{Corner}
 use Rattle.mesh_types.specs.Portals.{along}
 use Rattle.mesh_types.specs.Chains.{portal_at, end_of}
 
 -- the stops of a line: its start, its corners and its goal, each with a number; the portal at place m has the number m + 1, the start has 0,
 -- and the goal has the number after the last portal's
-pub record Stop : Type 0 where
+pub record TautCorner : Type 0 where
   pub at : Point
   pub number : ℕ
 
-abbrev pub stops_of : Point → List Portal → Point → List Corner → List Stop
-stops_of start portals goal corners =
+-- the taut corners of a line through a chain of portals
+abbrev pub taut_corners_of : Point → List Portal → Point → List Corner → List TautCorner
+taut_corners_of start portals goal corners =
     record { at = start; number = 0 } ∷ map (λ (corner : Corner). record { at = corner.at; number = corner.portal + 1 }) corners
     ++ record { at = goal; number = length portals + 1 } ∷ []
 
-abbrev pub stop_at : List Stop → ℕ → Stop
-stop_at stops k = get_or stops k (record { at = record { x = pos 0; z = pos 0 }; number = 0 })
+-- the taut corner at a place of the list
+abbrev pub taut_corner_at : List TautCorner → ℕ → TautCorner
+taut_corner_at taut k = get_or taut k (record { at = record { x = pos 0; z = pos 0 }; number = 0 })
 
 -- the segment from a stop to the next spans the portal at a place: its number lies strictly between theirs
-pub record IsSpanned (stops : List Stop) (k m : ℕ) : Type 0 where
-  pub next : k + 1 < length stops
-  pub after : (stop_at stops k).number < m + 1
-  pub before : m + 1 < (stop_at stops (k + 1)).number
+pub record IsSpanned (taut : List TautCorner) (k m : ℕ) : Type 0 where
+  pub next : k + 1 < length taut
+  pub after : (taut_corner_at taut k).number < m + 1
+  pub before : m + 1 < (taut_corner_at taut (k + 1)).number
 
 -- (b) a segment from p to q goes through a portal: the portal's left end does not lie to the right of the way, its right end not to the
 -- left, p not ahead of the portal and q not behind it
@@ -56,13 +58,13 @@ IsNoFurther p q a b =
     (side side' : Side) × (along p q (end_of side a) ≤ℤ along p q (end_of side' b))
 
 -- (b) to (d) for the segment from a stop to the next
-pub record IsTight (portals : List Portal) (stops : List Stop) (k : ℕ) : Type 0 where
-  pub through : (m : ℕ) → IsSpanned stops k m → GoesThrough (stop_at stops k).at (stop_at stops (k + 1)).at (portal_at portals m)
-  pub lies : (m : ℕ) → IsSpanned stops k m → (stop_at stops k).at ≡ (stop_at stops (k + 1)).at → LiesOn (stop_at stops k).at (portal_at portals m)
-  pub reached : (m : ℕ) → IsSpanned stops k m → (stop_at stops k).at ≢ (stop_at stops (k + 1)).at
-      → LiesOnLine (stop_at stops k).at (stop_at stops (k + 1)).at (portal_at portals m)
-      → IsReached (stop_at stops k).at (stop_at stops (k + 1)).at (portal_at portals m)
-  pub in_turn : (m m' : ℕ) → m < m' → IsSpanned stops k m → IsSpanned stops k m' → (stop_at stops k).at ≢ (stop_at stops (k + 1)).at
-      → LiesOnLine (stop_at stops k).at (stop_at stops (k + 1)).at (portal_at portals m)
-      → LiesOnLine (stop_at stops k).at (stop_at stops (k + 1)).at (portal_at portals m')
-      → IsNoFurther (stop_at stops k).at (stop_at stops (k + 1)).at (portal_at portals m) (portal_at portals m')
+pub record IsTight (portals : List Portal) (taut : List TautCorner) (k : ℕ) : Type 0 where
+  pub through : (m : ℕ) → IsSpanned taut k m → GoesThrough (taut_corner_at taut k).at (taut_corner_at taut (k + 1)).at (portal_at portals m)
+  pub lies : (m : ℕ) → IsSpanned taut k m → (taut_corner_at taut k).at ≡ (taut_corner_at taut (k + 1)).at → LiesOn (taut_corner_at taut k).at (portal_at portals m)
+  pub reached : (m : ℕ) → IsSpanned taut k m → (taut_corner_at taut k).at ≢ (taut_corner_at taut (k + 1)).at
+      → LiesOnLine (taut_corner_at taut k).at (taut_corner_at taut (k + 1)).at (portal_at portals m)
+      → IsReached (taut_corner_at taut k).at (taut_corner_at taut (k + 1)).at (portal_at portals m)
+  pub in_turn : (m m' : ℕ) → m < m' → IsSpanned taut k m → IsSpanned taut k m' → (taut_corner_at taut k).at ≢ (taut_corner_at taut (k + 1)).at
+      → LiesOnLine (taut_corner_at taut k).at (taut_corner_at taut (k + 1)).at (portal_at portals m)
+      → LiesOnLine (taut_corner_at taut k).at (taut_corner_at taut (k + 1)).at (portal_at portals m')
+      → IsNoFurther (taut_corner_at taut k).at (taut_corner_at taut (k + 1)).at (portal_at portals m) (portal_at portals m')

@@ -8,9 +8,9 @@ use Rattle.nav_base.specs.Deviation.{deviation_of}
 use Rattle.mesh_types.specs.declared.region.Code.{Code}
 use Rattle.mesh_types.specs.declared.region.Code.TheVariants.{Wall, Region, Side}
 use Rattle.mesh_types.specs.declared.region.UnitEdge.{UnitEdge}
-use Rattle.mesh_types.specs.declared.outline.Outline as outlines
-use Rattle.mesh_types.specs.declared.outline.Simplified.{Simplified}
-use Rattle.mesh_types.specs.declared.outline.Simplified.TheVariants.{Flat, Outline}
+use Rattle.mesh_types.specs.declared.region.Outline as outlines
+use Rattle.mesh_types.specs.declared.region.Simplified.{Simplified}
+use Rattle.mesh_types.specs.declared.region.Simplified.TheVariants.{Flat, Outline}
 use Rattle.mesh_types.specs.LinkOrder.{point_cmp, is_point_before}
 use Rattle.mesh_types.specs.Rings.{beginnings, place_before}
 use Rattle.mesh_types.specs.Choices.{first_best_place}
@@ -75,19 +75,19 @@ unfoldable pub kept_places : List UnitEdge → List ℕ
 kept_places edges = if length (changes edges) == 0 then extremes (beginnings edges) else changes edges
 
 -- the kept places, and the first of them again, a round later
-unfoldable pub stops : List UnitEdge → List ℕ
-stops edges = kept_places edges ++ map (λ place. place + length edges) (take 1 (kept_places edges))
+unfoldable pub kept_round : List UnitEdge → List ℕ
+kept_round edges = kept_places edges ++ map (λ place. place + length edges) (take 1 (kept_places edges))
 
--- the corners that are kept of the run from one stop to the next, without its last
+-- the corners that are kept of the run from one kept place to the next, without its last
 unfoldable pub left_of_run : ℕ → List Point → ℕ × ℕ → List Point
 left_of_run error corners run =
     let a = get_or corners run.0 origin in
     let b = get_or corners run.1 origin in
     a ∷ kept_inside error a (slice_range corners (run.0 + 1) run.1) b
 
--- all corners that are kept: those that the runs leave, from each stop to the next, in the corners twice round
+-- all corners that are kept: those that the runs leave, from each kept place to the next, in the corners twice round
 unfoldable pub kept_corners : ℕ → List UnitEdge → List Point
-kept_corners error edges = flat_map (left_of_run error (beginnings edges ++ beginnings edges)) (zip (stops edges) (drop 1 (stops edges)))
+kept_corners error edges = flat_map (left_of_run error (beginnings edges ++ beginnings edges)) (zip (kept_round edges) (drop 1 (kept_round edges)))
 
 -- the edge begins at one of these corners
 abbrev pub begins_among : List Point → UnitEdge → Bool

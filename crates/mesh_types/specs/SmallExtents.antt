@@ -2,7 +2,7 @@
 use Rattle.std.specs.Prelude.{◌≡◌, pos, unsigned_abs}
 use Rattle.std.proofs.Common.{refl}
 use Rattle.mesh_types.specs.declared.extent.Extent.{Extent}
-use Rattle.mesh_types.specs.declared.small_extent.SmallExtent.TheInside.{Inside}
+use Rattle.mesh_types.specs.declared.extents.PackedExtent.TheInside.{Inside}
 
 -- the extent that the small numbers stand for
 abbrev pub extent_view : Inside → Extent

@@ -1,9 +1,9 @@
--- SmallPolygons: how a polygon lies in small numbers.
+-- PackedPolygons: how a polygon lies in small numbers.
 use Rattle.std.specs.Prelude.{◌≡◌}
 use Rattle.std.proofs.Common.{ap}
-use Rattle.mesh_types.specs.declared.corners.Corners.TheInside as corners
+use Rattle.mesh_types.specs.declared.polygon.Corners.TheInside as corners
 use Rattle.mesh_types.specs.declared.polygon.Polygon.{Polygon}
-use Rattle.mesh_types.specs.declared.small_polygon.SmallPolygon.TheInside.{Inside}
+use Rattle.mesh_types.specs.declared.polygons.PackedPolygon.TheInside.{Inside}
 use Rattle.mesh_types.specs.Inline.{IsInline, corners_view, corners_inverse, corners_back}
 
 -- the six places and the number of corners

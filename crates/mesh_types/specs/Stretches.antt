@@ -2,10 +2,10 @@
 use Rattle.std.specs.Prelude.{◌≡◌, ℕ, ◌+◌, pos, List, [], ◌∷◌, ◌++◌, length, map, get_or}
 use Rattle.nav_base.specs.declared.point.Point.{Point}
 use Rattle.mesh_types.specs.declared.links.Link.{Link}
-use Rattle.mesh_types.specs.declared.corner.Corner.{Corner}
-use Rattle.mesh_types.specs.declared.hops.Jump.{Jump}
-use Rattle.mesh_types.specs.declared.hops.HopStep.{HopStep}
-use Rattle.mesh_types.specs.declared.hops.HopStep.TheVariants as hops
+use Rattle.mesh_types.specs.declared.answers.Corner.{Corner}
+use Rattle.mesh_types.specs.declared.answers.Jump.{Jump}
+use Rattle.mesh_types.specs.declared.answers.HopStep.{HopStep}
+use Rattle.mesh_types.specs.declared.answers.HopStep.TheVariants as hops
 use Rattle.mesh_types.specs.Right.{portals_of}
 use Rattle.mesh_types.specs.Taut.{IsTaut}
 
@@ -15,6 +15,7 @@ some_jump =
     let nowhere : Point = record { x = pos 0; z = pos 0 } in
     record { from = nowhere; from_y = 0; to = nowhere; to_y = 0; cost = 0 }
 
+-- the jump with a number
 abbrev pub jump_at : List Jump → ℕ → Jump
 jump_at jumps number = get_or jumps number some_jump
 

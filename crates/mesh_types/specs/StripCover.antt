@@ -4,7 +4,7 @@ use Rattle.nav_base.specs.declared.point.Point.{Point}
 use Rattle.nav_ground.specs.declared.setting.Setting.{Setting}
 use Rattle.nav_ground.specs.declared.cell.Cell.{Cell}
 use Rattle.mesh_types.specs.declared.polygon.Polygon.{Polygon}
-use Rattle.mesh_types.specs.declared.tile.TileMesh.{TileMesh}
+use Rattle.mesh_types.specs.declared.mesh.TileMesh.{TileMesh}
 use Rattle.mesh_types.specs.Located.{Holds}
 use Rattle.mesh_types.specs.StripPolygons.{strip_runs}
 use Rattle.mesh_types.specs.StripMeshes.{strip_mesh_of}

@@ -5,7 +5,7 @@ use Rattle.nav_ground.specs.declared.cell.Cell.{Cell}
 use Rattle.nav_ground.specs.Cells.{is_naming}
 use Rattle.mesh_types.specs.declared.links.Portal.{Portal}
 use Rattle.mesh_types.specs.declared.links.Link.{Link}
-use Rattle.mesh_types.specs.declared.label_runs.Run.{Run}
+use Rattle.mesh_types.specs.declared.region.LabelRun.{LabelRun}
 use Rattle.mesh_types.specs.Runs.{runs_of}
 use Rattle.mesh_types.specs.LinkOrder.{ordered_links}
 use Rattle.mesh_types.specs.StripPolygons.{sixteenths, first_of}
@@ -32,7 +32,7 @@ strip_beyond runs s dir cell =
     option_and_then (λ t. if t == s then None else Some t) (position (holds_named dir cell) runs)
 
 -- the link over an edge of the strip s along a run of its cells that are connected to cells of one other strip
-abbrev pub strip_link : ℕ → List Cell → ℕ → ℕ → Run → Link
+abbrev pub strip_link : ℕ → List Cell → ℕ → ℕ → LabelRun → Link
 strip_link tile own s edge run = record {
   from = record { tile = tile; index = s };
   edge = edge;

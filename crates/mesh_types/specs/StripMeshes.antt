@@ -3,7 +3,7 @@ use Rattle.std.specs.Prelude.{map}
 use Rattle.nav_ground.specs.declared.setting.Setting.{Setting}
 use Rattle.nav_ground.specs.declared.cell.FreeLayer.{FreeLayer}
 use Rattle.nav_ground.specs.Tiling.{tile_window}
-use Rattle.mesh_types.specs.declared.tile.TileMesh.{TileMesh}
+use Rattle.mesh_types.specs.declared.mesh.TileMesh.{TileMesh}
 use Rattle.mesh_types.specs.StripPolygons.{strip_runs, strip_polygon}
 use Rattle.mesh_types.specs.StripLinks.{strip_links}
 use Rattle.mesh_types.specs.StripRim.{strip_rim}

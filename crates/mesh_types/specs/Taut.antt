@@ -2,10 +2,10 @@
 use Rattle.std.specs.Prelude.{◌≡◌, ◌≢◌, ℕ, ◌+◌, ◌<◌, ◌≤◌, ◌⊎◌, List, length, AllPairs, get_or}
 use Rattle.nav_base.specs.declared.point.Point.{Point}
 use Rattle.mesh_types.specs.declared.links.Portal.{Portal}
-use Rattle.mesh_types.specs.declared.corner.Side.{Side}
-use Rattle.mesh_types.specs.declared.corner.Corner.{Corner}
+use Rattle.mesh_types.specs.declared.answers.Side.{Side}
+use Rattle.mesh_types.specs.declared.answers.Corner.{Corner}
 use Rattle.mesh_types.specs.Chains.{portal_at, end_of}
-use Rattle.mesh_types.specs.Segments.{stops_of, IsTight}
+use Rattle.mesh_types.specs.Segments.{taut_corners_of, IsTight}
 use Rattle.mesh_types.specs.Bends.{IsBend, some_corner, IsHeldOn, IsFoldedOn}
 
 -- (a) each corner is the end that it names of a portal that is there
@@ -22,6 +22,6 @@ pub record AreInTurn (a b : Corner) : Type 0 where
 pub record IsTaut (start : Point) (portals : List Portal) (goal : Point) (corners : List Corner) : Type 0 where
   pub named : (k : ℕ) → k < length corners → IsNamed portals (get_or corners k some_corner)
   pub in_turn : AllPairs AreInTurn corners
-  pub tight : (k : ℕ) → k + 1 < length (stops_of start portals goal corners) → IsTight portals (stops_of start portals goal corners) k
-  pub held : (first last : ℕ) → IsBend (stops_of start portals goal corners) first last
-      → ((side : Side) × IsHeldOn portals (stops_of start portals goal corners) corners first last side) ⊎ IsFoldedOn portals corners first last
+  pub tight : (k : ℕ) → k + 1 < length (taut_corners_of start portals goal corners) → IsTight portals (taut_corners_of start portals goal corners) k
+  pub held : (first last : ℕ) → IsBend (taut_corners_of start portals goal corners) first last
+      → ((side : Side) × IsHeldOn portals (taut_corners_of start portals goal corners) corners first last side) ⊎ IsFoldedOn portals corners first last

@@ -3,16 +3,16 @@ use Rattle.std.specs.Prelude.{ℕ, ℤ, Bool, nat_lt, List, [], ◌∷◌, ◌++
 use Rattle.std.specs.List.{list_any, zip}
 use Rattle.std.specs.Ordering.{is_eq}
 use Rattle.nav_base.specs.declared.point.Point.{Point}
-use Rattle.nav_base.specs.declared.answers.FloorAt.{FloorAt}
+use Rattle.nav_base.specs.declared.point.FloorAt.{FloorAt}
 use Rattle.nav_ground.specs.declared.cell.Cell.{Cell}
 use Rattle.nav_ground.specs.declared.cell.FreeLayer.{FreeLayer}
 use Rattle.mesh_types.specs.declared.region.Code.{Code}
 use Rattle.mesh_types.specs.declared.region.UnitEdge.{UnitEdge}
-use Rattle.mesh_types.specs.declared.outline.Triangle.{Triangle}
-use Rattle.mesh_types.specs.declared.outline.Piece.{Piece}
-use Rattle.mesh_types.specs.declared.door.Part.{Part}
+use Rattle.mesh_types.specs.declared.region.Triangle.{Triangle}
+use Rattle.mesh_types.specs.declared.region.Piece.{Piece}
+use Rattle.mesh_types.specs.declared.region.RegionPart.{RegionPart}
 use Rattle.mesh_types.specs.declared.polygon.Polygon.{Polygon}
-use Rattle.mesh_types.specs.declared.tile.TileMesh.{TileMesh}
+use Rattle.mesh_types.specs.declared.mesh.TileMesh.{TileMesh}
 use Rattle.mesh_types.specs.LinkOrder.{point_cmp}
 use Rattle.mesh_types.specs.Rings.{beginnings}
 use Rattle.mesh_types.specs.Ears.{width_at}
@@ -40,7 +40,7 @@ abbrev pub piece_of : Triangle → Piece
 piece_of t = record { corners = t.a ∷ t.b ∷ t.c ∷ [] }
 
 -- the part read past the end of a list
-abbrev pub no_part : Part
+abbrev pub no_part : RegionPart
 no_part = record { outline = record { corners = []; codes = [] }; pieces = [] }
 
 -- the ear at the one position is narrower than at the other

@@ -9,51 +9,24 @@
 #![tactic(auto)]
 
 mod answers;
-mod asked;
-mod corner;
-mod corners;
-mod corridor;
-mod door;
-mod edges;
 mod extent;
 mod extents;
-mod hops;
-mod kept;
-mod label_runs;
-mod link_list;
-mod link_order;
 mod links;
 mod mesh;
-mod outline;
 mod polygon;
 mod polygons;
 mod region;
-mod small_extent;
-mod small_point;
-mod small_polygon;
-mod small_polygons;
-mod strip;
-mod tile;
-mod walks;
 
-pub use answers::{Answer, PathFound, RayAnswer};
-pub use asked::Asked;
-pub use corner::{Corner, Side};
-pub use corners::Corners;
-pub use corridor::Corridor;
-pub use door::{Door, Part};
-pub use edges::{edge_ends, holds, in_sixteenths};
+pub use answers::{
+    Answer, Asked, Corner, Corridor, HopAnswer, HopFound, HopStep, Jump, PathFound, RayAnswer,
+    Side, WalkAnswer,
+};
 pub use extent::Extent;
-pub use hops::{HopAnswer, HopFound, HopStep, Jump};
-pub use label_runs::{Run, runs};
-pub use link_list::Links;
-pub use link_order::order_links;
-pub use links::{Link, PolyRef, Portal};
-pub use mesh::{Mesh, copy_mesh, copy_tile, poly};
-pub use outline::{Outline, Piece, Simplified, Triangle};
-pub use polygon::Polygon;
+pub use links::{Link, Links, PolyRef, Portal, order_links};
+pub use mesh::{LevelPair, Mesh, RimEdge, TileMesh, copy_mesh, copy_tile, poly};
+pub use polygon::{Corners, Polygon, edge_ends, holds, in_sixteenths};
 pub use polygons::Polygons;
-pub use region::{Code, Region, Regions, UnitEdge};
-pub use strip::Strip;
-pub use tile::{LevelPair, RimEdge, TileMesh};
-pub use walks::WalkAnswer;
+pub use region::{
+    Code, LabelRun, Outline, Piece, PortalEdge, Region, RegionPart, Regions, Simplified, Strip,
+    Triangle, UnitEdge, runs,
+};

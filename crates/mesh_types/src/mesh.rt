@@ -1,16 +1,13 @@
-//! The mesh of a whole ground.
+//! The mesh of a whole ground. The mesh of one tile.
 
 ghost use Rattle.std.specs.Prelude.{◌≡◌, IfOk};
 ghost use Rattle.mesh_types.specs.WholeMesh.{poly_at};
 
-use crate::link_list::Links;
-use crate::links::PolyRef;
+use crate::links::{Links, PolyRef};
 use crate::polygon::Polygon;
-use crate::tile::TileMesh;
-use nav_chunks::Chunks;
-use nav_ground::Setting;
-use nav_list::Duplicate;
-use nav_share::Shared;
+use crate::polygons::Polygons;
+use nav_ground::{PackedFreeLayer, Setting, TileNo};
+use nav_lists::{Chunks, Duplicate, Items, Shared};
 use std::alloc::{AllocError, Global};
 
 /// The tiles of a ground, in order, and for each of them the links that leave it for the tiles across its sides. Meshes that differ in a few
@@ -55,6 +52,69 @@ impl Duplicate for Mesh {
             setting: self.setting,
             tiles: self.tiles.duplicate(alloc)?,
             cross: self.cross.duplicate(alloc)?,
+        })
+    }
+}
+
+/// At one position of a tile's side: the level of the tile's own cell, and that of the cell across to which it is connected.
+#[derive(Clone, Copy, PartialEq, Eq, Debug)]
+pub struct LevelPair {
+    /// The level of the tile's own cell in its column, counted from the bottom, 0.
+    pub own: u32,
+    /// The level of the cell across in its column.
+    pub other: u32,
+}
+
+/// A part of a polygon's edge that runs along a side of the tile, at successive positions, each with a cell across that is no obstacle's
+/// matter: kept by the ground, whether blocked or not. A position is z on the sides 0 and 2, and x on the sides 1 and 3.
+#[derive(Drop)]
+pub struct RimEdge {
+    /// The polygon's place in the tile, from 0.
+    pub poly: u32,
+    /// The edge's place in the polygon, from 0.
+    pub edge: u32,
+    /// The direction in which the tile ends there: 0 is x - 1, 1 is z + 1, 2 is x + 1, 3 is z - 1.
+    pub side: u32,
+    /// The least position, in cells.
+    pub first: u32,
+    /// The levels at each position, from the first on.
+    pub pairs: Items<LevelPair>,
+}
+
+/// A tile's free cells, its polygons, the links between them, and what its rim offers to the tiles across.
+#[derive(Drop)]
+pub struct TileMesh {
+    /// The tile's number, row by row, from 0.
+    pub tile: TileNo,
+    /// The cells that no obstacle covers.
+    pub free: PackedFreeLayer,
+    pub polys: Polygons,
+    /// The links between polygons of this tile.
+    pub links: Links,
+    /// Where its polygons reach the tile's border.
+    pub rim: Items<RimEdge>,
+}
+
+impl Duplicate for RimEdge {
+    fn duplicate(&self, alloc: Global) -> Result<Self, AllocError> {
+        Ok(RimEdge {
+            poly: self.poly,
+            edge: self.edge,
+            side: self.side,
+            first: self.first,
+            pairs: self.pairs.duplicate(alloc)?,
+        })
+    }
+}
+
+impl Duplicate for TileMesh {
+    fn duplicate(&self, alloc: Global) -> Result<Self, AllocError> {
+        Ok(TileMesh {
+            tile: self.tile,
+            free: self.free.duplicate(alloc)?,
+            polys: self.polys.duplicate(alloc)?,
+            links: self.links.duplicate(alloc)?,
+            rim: self.rim.duplicate(alloc)?,
         })
     }
 }

@@ -13,8 +13,8 @@ use Rattle.nav_ground.proofs.Found.{find_none}
 use Rattle.cell_table.proofs.Places.{same_test}
 use Rattle.mesh_types.specs.StripPolygons.{strip_runs}
 use Rattle.mesh_types.specs.Regions.{numbers, joins, begins_region}
-use Rattle.mono_regions.specs.declared.seen.Seen.{Seen}
-use Rattle.mono_regions.specs.declared.seen.Seen.TheVariants.{Nothing, One, Several}
+use Rattle.mono_regions.specs.declared.touching.SeenStrips.{SeenStrips}
+use Rattle.mono_regions.specs.declared.touching.SeenStrips.TheVariants.{Nothing, One, Several}
 use Rattle.mono_regions.specs.Seeing.{beyond, seen_with, is_one, IsSeenAmong}
 use Rattle.mono_regions.specs.Joining.{indices_of, touched_from, joined_from, is_unjoined, names}
 use Rattle.mono_regions.proofs.Found.{position_only}
@@ -31,7 +31,7 @@ named_some t (Some u) named = ap (λ (n : ℕ). Some n) (eqb-true u t named)
 pub same_number : (a b : ℕ) → Some a ≡ Some b → a ≡ b
 same_number a b e = eqb-true a b (ap (names b) e ∙ eq-eqb b b refl)
 
-pub one_alone : (seen : Seen) (t u : ℕ) → is_one t seen ≡ true → is_one u seen ≡ true → u ≡ t
+pub one_alone : (seen : SeenStrips) (t u : ℕ) → is_one t seen ≡ true → is_one u seen ≡ true → u ≡ t
 one_alone Nothing t u first second = absurd (both_ways false refl first)
 one_alone (One v) t u first second = sym (eqb-true v u second) ∙ eqb-true v t first
 one_alone Several t u first second = absurd (both_ways false refl first)
@@ -158,7 +158,7 @@ strips_few cells cut =
     omega (arith, strip_count cells, run_count cells, few_firsts cells (length cells), cut.rules.few)
 
 -- so a region begins at it
-pub begins_is : (cells : List Cell) → IsCut cells → (joined : List (Option ℕ)) (seen : Seen) (t : ℕ) → joined ≡ map (joined_from (strip_runs cells)) (numbers (strip_runs cells))
+pub begins_is : (cells : List Cell) → IsCut cells → (joined : List (Option ℕ)) (seen : SeenStrips) (t : ℕ) → joined ≡ map (joined_from (strip_runs cells)) (numbers (strip_runs cells))
     → t < length (strip_runs cells) → touched_from cells 3 t ≡ seen → is_unjoined joined t seen ≡ begins_region (strip_runs cells) t
 begins_is cells cut joined Nothing t are there is = ap not (sym (begins_unseen cells cut t there (λ s. ap (is_one s) is)))
 begins_is cells cut joined (One r) t are there is =
@@ -166,7 +166,7 @@ begins_is cells cut joined (One r) t are there is =
     ap not (ap (names t) (sym (number_of (joined_from (strip_runs cells)) joined _ r None are small refl)) ∙ begins_one cells cut r t there is)
 begins_is cells cut joined Several t are there is = ap not (sym (begins_unseen cells cut t there (λ s. ap (is_one s) is)))
 
-pub seen_among : (cells : List Cell) (dir t count : ℕ) (seen : Seen) → touched_from cells dir t ≡ seen → count ≡ length (strip_runs cells) → IsSeenAmong count seen
+pub seen_among : (cells : List Cell) (dir t count : ℕ) (seen : SeenStrips) → touched_from cells dir t ≡ seen → count ≡ length (strip_runs cells) → IsSeenAmong count seen
 seen_among cells dir t count Nothing is many = tt
 seen_among cells dir t count (One u) is many = omega (arith, one_small cells dir t u is, many)
 seen_among cells dir t count Several is many = tt

@@ -8,7 +8,7 @@ use Rattle.std.proofs.lemmas.List.FromFn.{fill_by_all}
 use Rattle.nav_ground.specs.declared.cell.Cell.{Cell}
 use Rattle.nav_ground.specs.Cells.{IsCells}
 use Rattle.nav_ground.proofs.Selections.{filter-map}
-use Rattle.mesh_types.specs.declared.strip.Strip.{Strip}
+use Rattle.mesh_types.specs.declared.region.Strip.{Strip}
 use Rattle.mesh_types.specs.Strips.{strip_of, strip_cells, strip_firsts, strips_of, begins_strip}
 use Rattle.mesh_types.specs.StripPolygons.{some_cell, strip_runs}
 use Rattle.mono_regions.specs.Indices.{cell_at, along, indices_from, run_at, firsts_below, index_runs, AreIndices, level_at, strip_at}

@@ -10,7 +10,7 @@ use Rattle.std.proofs.lemmas.List.Folds.{Any-from_list_any, list_any_at}
 use Rattle.std.proofs.lemmas.List.FromFn.{get_or-range_with_len, length-range_with_len}
 use Rattle.std.proofs.lemmas.List.Sums.{AllPass-from_list_all, list_all-from_AllPass}
 use Rattle.cell_table.proofs.Places.{same_test}
-use Rattle.mono_regions.specs.declared.seen.Seen.TheVariants.{Nothing, One, Several}
+use Rattle.mono_regions.specs.declared.touching.SeenStrips.TheVariants.{Nothing, One, Several}
 use Rattle.mono_regions.specs.Seeing.{seen_with, is_one}
 use Rattle.mono_regions.specs.Joining.{names}
 

@@ -4,7 +4,7 @@ use Rattle.std.specs.List.{range_with_len}
 use Rattle.std.proofs.lemmas.List.FromFn.{map-range_with_len_more}
 use Rattle.nav_ground.specs.declared.cell.Cell.{Cell}
 use Rattle.mesh_types.specs.StripPolygons.{strip_runs}
-use Rattle.mono_regions.specs.declared.strip_table.StripTable.{StripTable}
+use Rattle.mono_regions.specs.declared.touching.StripTable.{StripTable}
 use Rattle.mono_regions.specs.Indices.{AreIndices}
 use Rattle.mono_regions.specs.Joining.{IsTableOf, indices_of}
 use Rattle.mono_regions.proofs.Touches.{strip_count, strip_indices}

@@ -18,7 +18,7 @@ use Rattle.mesh_types.specs.StripPolygons.{some_cell, strip_runs, first_of}
 use Rattle.mesh_types.specs.StripLinks.{holds_named}
 use Rattle.mesh_types.specs.Regions.{numbers, run_of, is_touching, touches_only, are_connected, joins}
 use Rattle.mesh_types.proofs.Words.{has_column}
-use Rattle.mono_regions.specs.declared.seen.Seen.TheVariants.{Nothing}
+use Rattle.mono_regions.specs.declared.touching.SeenStrips.TheVariants.{Nothing}
 use Rattle.mono_regions.specs.Indices.{cell_at, index_runs, has_index, owner_of, AreIndices}
 use Rattle.mono_regions.specs.Seeing.{beyond, seen_with, is_one}
 use Rattle.mono_regions.specs.Joining.{indices_of, touched_from, names, is_over, is_fitting, has_area_of}

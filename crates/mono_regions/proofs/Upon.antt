@@ -8,7 +8,7 @@ use Rattle.nav_ground.specs.declared.cell.CellRef.{CellRef}
 use Rattle.nav_ground.specs.Cells.{IsCellBefore, IsCells, IsCut, is_naming}
 use Rattle.nav_ground.proofs.Directions.{both_equal}
 use Rattle.nav_ground.proofs.Selections.{list_any-map}
-use Rattle.mesh_types.specs.declared.strip.Strip.{Strip}
+use Rattle.mesh_types.specs.declared.region.Strip.{Strip}
 use Rattle.mesh_types.specs.Strips.{strip_of}
 use Rattle.mesh_types.specs.StripPolygons.{some_cell, strip_runs, first_of}
 use Rattle.mesh_types.specs.Regions.{run_of, is_touching, joins, IsUpon, IsStrip}

@@ -12,7 +12,7 @@ use Rattle.nav_ground.specs.Cells.{IsCells, IsCut, is_naming, is_toward, opposit
 use Rattle.nav_ground.proofs.Directions.{both_equal}
 use Rattle.nav_ground.proofs.Selections.{list_any-map}
 use Rattle.cell_table.proofs.Tables.{one_index}
-use Rattle.mesh_types.specs.declared.strip.Strip.{Strip}
+use Rattle.mesh_types.specs.declared.region.Strip.{Strip}
 use Rattle.mesh_types.specs.declared.region.Region.{Region}
 use Rattle.mesh_types.specs.StripPolygons.{some_cell, strip_runs}
 use Rattle.mesh_types.specs.Regions.{joins, regions_of, place_in, IsIn, IsWoven}

@@ -3,7 +3,7 @@ use Rattle.std.specs.Prelude.{◌≡◌, ℕ, zero, suc, ◌+◌, ◌-◌, ◌<�
 use Rattle.std.specs.List.{position_or_len, range_with_len, list_any}
 use Rattle.nav_ground.specs.declared.cell.Cell.{Cell}
 use Rattle.nav_ground.specs.Cells.{is_naming}
-use Rattle.mesh_types.specs.declared.strip.Strip.{Strip}
+use Rattle.mesh_types.specs.declared.region.Strip.{Strip}
 use Rattle.mesh_types.specs.Strips.{begins_strip}
 use Rattle.mesh_types.specs.StripPolygons.{some_cell}
 

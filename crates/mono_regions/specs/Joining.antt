@@ -6,9 +6,9 @@ use Rattle.nav_ground.specs.declared.cell.Cell.{Cell}
 use Rattle.nav_ground.specs.Cells.{IsCut}
 use Rattle.cell_table.specs.Table.{neighbour_table}
 use Rattle.mesh_types.specs.Regions.{numbers, joins}
-use Rattle.mono_regions.specs.declared.strip_table.StripTable.{StripTable}
-use Rattle.mono_regions.specs.declared.seen.Seen.{Seen}
-use Rattle.mono_regions.specs.declared.seen.Seen.TheVariants.{Nothing, One, Several}
+use Rattle.mono_regions.specs.declared.touching.StripTable.{StripTable}
+use Rattle.mono_regions.specs.declared.touching.SeenStrips.{SeenStrips}
+use Rattle.mono_regions.specs.declared.touching.SeenStrips.TheVariants.{Nothing, One, Several}
 use Rattle.mono_regions.specs.Indices.{cell_at, index_runs, owner_of}
 use Rattle.mono_regions.specs.Seeing.{beyond, touched_by}
 
@@ -24,7 +24,7 @@ abbrev pub indices_of : List Cell → ℕ → List ℕ
 indices_of cells s = get_or (index_runs cells) s []
 
 -- what the strip with a number touches in a direction
-abbrev pub touched_from : List Cell → ℕ → ℕ → Seen
+abbrev pub touched_from : List Cell → ℕ → ℕ → SeenStrips
 touched_from cells dir s = touched_by cells dir (indices_of cells s)
 
 -- the strip that the strip with a number joins, if there is one
@@ -49,7 +49,7 @@ abbrev pub has_area_of : List Cell → List ℕ → List ℕ → Bool
 has_area_of cells over run = (cell_at cells (slice_index run 0)).area == (cell_at cells (slice_index over 0)).area
 
 -- no strip joins the strip t, of which it is known what it touches below
-abbrev pub is_unjoined : List (Option ℕ) → ℕ → Seen → Bool
+abbrev pub is_unjoined : List (Option ℕ) → ℕ → SeenStrips → Bool
 is_unjoined joined t Nothing = true
 is_unjoined joined t (One s) = not (names t (get_or joined s None))
 is_unjoined joined t Several = true

@@ -1,15 +1,17 @@
-//! Which cells make which strip, by their indices.
+//! Which cells make which strip, by their indices. Lists of indices that stand one after the other in one array.
 
-ghost use Rattle.std.specs.Prelude.{◌≡◌, ◌<◌, ◌++◌, ◌==◌, ◌&&◌, IfOk, OnOk, map, replicate, length};
+ghost use Rattle.std.specs.Prelude.{◌≡◌, ◌<◌, ◌++◌, ◌==◌, ◌&&◌, IfOk, OnOk, map, replicate, length, ◌≤◌, slice_index_or, slice_range, []};
 ghost use Rattle.std.specs.List.{range_with_len};
 ghost use Rattle.nav_ground.specs.Cells.{IsCut};
+ghost use Rattle.nav_ground.specs.Directions.{number};
 ghost use Rattle.cell_table.specs.Table.{neighbour_table};
 ghost use Rattle.mono_regions.specs.Indices.{along, run_at, index_runs, owner_of, IsMarkedWith};
+ghost use Rattle.mono_regions.specs.Lists.{AreCut, lists_between};
 
-use crate::index_lists::IndexLists;
-use nav_ground::SmallCell;
-use nav_list::Items;
+use nav_ground::{Direction, PackedCell};
+use nav_lists::Items;
 use std::alloc::{AllocError, Global};
+use std::marker::Model;
 
 /// The strips of a list of cells, by the indices of the cells.
 #[derive(Drop)]
@@ -24,7 +26,7 @@ pub struct StripIndex {
 /// the first of one.
 pub fn strip_index(
     alloc: Global,
-    cells: &[SmallCell],
+    cells: &[PackedCell],
     table: &[[u32; 4]],
 ) -> Result<StripIndex, AllocError>
     requires cells { IsCut cells.now }
@@ -62,7 +64,7 @@ fn unowned(alloc: Global, count: usize, none: u32) -> Result<Vec<u32>, AllocErro
 fn push_run(
     order: &mut Vec<u32>,
     owners: &mut Vec<u32>,
-    cells: &[SmallCell],
+    cells: &[PackedCell],
     table: &[[u32; 4]],
     first: usize,
     number: u32,
@@ -78,23 +80,78 @@ fn push_run(
     while at < cells.len() {
         order.push(at as u32)?;
         owners[at] = number;
-        at = along(cells, table, at, 2);
+        at = along(cells, table, at, Direction::Right);
     }
     Ok(())
 }
 
 /// The index of the cell of the same area that a cell names in a direction, or the number of cells where there is none.
-fn along(cells: &[SmallCell], table: &[[u32; 4]], at: usize, dir: usize) -> usize
+fn along(cells: &[PackedCell], table: &[[u32; 4]], at: usize, dir: Direction) -> usize
     requires cells { IsCut cells.now }
     requires table { table.now ≡ neighbour_table cells.now }
     requires there { at < length cells.now }
-    requires dir { dir < 4 }
-    ensures { result ≡ Rattle.mono_regions.specs.Indices.along cells.now dir at }
+    ensures { result ≡ Rattle.mono_regions.specs.Indices.along cells.now (number dir) at }
 {
-    let to = table[at][dir] as usize;
+    let to = table[at][dir.index()] as usize;
     if to < cells.len() && cells[to].area() == cells[at].area() {
         to
     } else {
         cells.len()
     }
+}
+
+/// Lists of indices, seen by contracts as the list of them. All indices stand in one array, list after list; beside it stand the places
+/// where the lists begin, and at last the end.
+#[derive(Drop)]
+pub struct IndexLists {
+    items: Vec<u32>,
+    starts: Vec<usize>,
+}
+
+impl Model for IndexLists {
+    ghost use Rattle.std.specs.Prelude.{List, ℕ};
+    ghost use Rattle.mono_regions.specs.Lists.{AreCut, lists_between};
+
+    ghost Value = { List (List ℕ) };
+
+    ghost view = { λ a. lists_between a.items.items a.starts.items };
+
+    ghost invariant = { λ a. AreCut a.items.items a.starts.items };
+}
+
+impl IndexLists {
+    /// The lists that stand in an array one after the other, by where they begin, with the end at last.
+    pub fn from_parts(items: Vec<u32>, starts: Vec<usize>) -> Self
+        requires { AreCut items.items starts.items }
+        ensures { result ≡ lists_between items.items starts.items }
+    {
+        IndexLists { items, starts }
+    }
+
+    /// How many lists there are.
+    pub fn len(&self) -> usize
+        ensures { result ≡ length self.now }
+    {
+        self.starts.len() - 1
+    }
+
+    /// The list with a number, from 0.
+    pub fn list(&self, number: usize) -> &[u32]
+        requires { number < length self.now }
+        ensures { result.now ≡ slice_index_or self.now number [] }
+    {
+        between(
+            self.items.as_slice(),
+            self.starts[number],
+            self.starts[number + 1],
+        )
+    }
+}
+
+/// The indices from one place up to another.
+fn between(items: &[u32], first: usize, end: usize) -> &[u32]
+    requires { (first ≤ end) × (end ≤ length items.now) }
+    ensures { result.now ≡ slice_range items.now first end }
+{
+    &items[first..end]
 }

@@ -8,18 +8,16 @@ ghost use Rattle.mono_regions.specs.Indices.{AreIndices};
 ghost use Rattle.mono_regions.specs.Seeing.{is_one, IsSeenAmong};
 ghost use Rattle.mono_regions.specs.Joining.{IsTableOf, touched_from, joined_from, is_over, is_fitting, has_area_of, is_unjoined, names};
 
-use crate::seen::Seen;
-use crate::strip_table::StripTable;
-use crate::touching::{beyond, touched};
-use nav_ground::SmallCell;
+use crate::touching::{SeenStrips, StripTable, beyond, touched};
+use nav_ground::{Direction, PackedCell};
 use std::alloc::{AllocError, Global};
 
 /// For each strip the strip of the next row that it joins, if there is one, from what each touches toward z - 1.
 pub fn joined_strips(
     alloc: Global,
-    cells: &[SmallCell],
+    cells: &[PackedCell],
     strips: &StripTable,
-    below: &[Seen],
+    below: &[SeenStrips],
 ) -> Result<Vec<Option<u32>>, AllocError>
     requires strips { IsTableOf cells.now strips.now }
     requires below { below.now ≡ map (touched_from cells.now 3) (numbers (strip_runs cells.now)) }
@@ -33,31 +31,36 @@ pub fn joined_strips(
 }
 
 /// The strip that a strip joins, if there is one.
-fn joined_strip(cells: &[SmallCell], strips: &StripTable, below: &[Seen], lower: u32) -> Option<u32>
+fn joined_strip(
+    cells: &[PackedCell],
+    strips: &StripTable,
+    below: &[SeenStrips],
+    lower: u32,
+) -> Option<u32>
     requires strips { IsTableOf cells.now strips.now }
     requires below { below.now ≡ map (touched_from cells.now 3) (numbers (strip_runs cells.now)) }
     requires there { lower < length (strip_runs cells.now) }
     ensures { result ≡ joined_from (strip_runs cells.now) lower }
 {
     let run = strips.index.runs.list(lower as usize);
-    match touched(cells, strips, run, 1) {
-        Seen::One(upper) => {
+    match touched(cells, strips, run, Direction::Above) {
+        SeenStrips::One(upper) => {
             if is_joined(cells, strips, below, lower, upper) {
                 Some(upper)
             } else {
                 None
             }
         }
-        Seen::Nothing => None,
-        Seen::Several => None,
+        SeenStrips::Nothing => None,
+        SeenStrips::Several => None,
     }
 }
 
 /// Whether a strip joins the only one that it touches toward z + 1.
 fn is_joined(
-    cells: &[SmallCell],
+    cells: &[PackedCell],
     strips: &StripTable,
-    below: &[Seen],
+    below: &[SeenStrips],
     lower: u32,
     upper: u32,
 ) -> bool
@@ -75,7 +78,7 @@ fn is_joined(
 
 /// Whether a strip is connected to the upper one wherever that lies over it, and both have one area.
 fn are_fitting(
-    cells: &[SmallCell],
+    cells: &[PackedCell],
     strips: &StripTable,
     run: &[u32],
     over: &[u32],
@@ -90,7 +93,7 @@ fn are_fitting(
 }
 
 /// Whether the strips of cells with some indices have one area.
-fn have_one_area(cells: &[SmallCell], run: &[u32], over: &[u32]) -> bool
+fn have_one_area(cells: &[PackedCell], run: &[u32], over: &[u32]) -> bool
     requires run { AreIndices cells.now run.now }
     requires over { AreIndices cells.now over.now }
     ensures { result ≡ has_area_of cells.now over.now run.now }
@@ -99,19 +102,19 @@ fn have_one_area(cells: &[SmallCell], run: &[u32], over: &[u32]) -> bool
 }
 
 /// Whether one strip was seen alone.
-fn is_one(seen: Seen, strip: u32) -> bool
+fn is_one(seen: SeenStrips, strip: u32) -> bool
     ensures { result ≡ is_one strip seen }
 {
     match seen {
-        Seen::One(other) => other == strip,
-        Seen::Nothing => false,
-        Seen::Several => false,
+        SeenStrips::One(other) => other == strip,
+        SeenStrips::Nothing => false,
+        SeenStrips::Several => false,
     }
 }
 
 /// Whether each cell of a strip is connected toward z + 1 to the upper strip, where that has a cell in its column.
 fn are_connected(
-    cells: &[SmallCell],
+    cells: &[PackedCell],
     strips: &StripTable,
     run: &[u32],
     over: &[u32],
@@ -127,18 +130,18 @@ fn are_connected(
 }
 
 /// Whether a cell is connected toward z + 1 to the upper strip, or that has no cell in its column.
-fn is_fitting(cells: &[SmallCell], strips: &StripTable, at: u32, over: &[u32], upper: u32) -> bool
+fn is_fitting(cells: &[PackedCell], strips: &StripTable, at: u32, over: &[u32], upper: u32) -> bool
     requires strips { IsTableOf cells.now strips.now }
     requires there { at < length cells.now }
     requires over { AreIndices cells.now over.now }
     ensures { result ≡ is_fitting cells.now upper over.now at }
 {
-    is_named(beyond(cells, strips, at, 1), upper)
+    is_named(beyond(cells, strips, at, Direction::Above), upper)
         || !is_over(cells, cells[at as usize].at().x, over)
 }
 
 /// Whether a column lies in the strip of the cells with some indices.
-fn is_over(cells: &[SmallCell], x: u32, run: &[u32]) -> bool
+fn is_over(cells: &[PackedCell], x: u32, run: &[u32]) -> bool
     requires { AreIndices cells.now run.now }
     ensures { result ≡ is_over cells.now x run.now }
 {
@@ -157,13 +160,13 @@ fn is_named(found: Option<u32>, strip: u32) -> bool
 }
 
 /// Whether no strip joins a strip, from what that touches below, and what each strip joins.
-pub fn is_unjoined(joined: &[Option<u32>], below: Seen, strip: u32) -> bool
+pub fn is_unjoined(joined: &[Option<u32>], below: SeenStrips, strip: u32) -> bool
     requires { IsSeenAmong (length joined.now) below }
     ensures { result ≡ is_unjoined joined.now strip below }
 {
     match below {
-        Seen::One(lower) => !is_named(joined[lower as usize], strip),
-        Seen::Nothing => true,
-        Seen::Several => true,
+        SeenStrips::One(lower) => !is_named(joined[lower as usize], strip),
+        SeenStrips::Nothing => true,
+        SeenStrips::Several => true,
     }
 }

@@ -11,17 +11,10 @@
 #![tactic(auto)]
 
 mod index;
-mod index_lists;
 mod joins;
-mod layer;
-mod seen;
-mod strip_table;
-mod tile_regions;
+mod region_chains;
 mod touching;
 
-pub use index::{StripIndex, strip_index};
-pub use index_lists::IndexLists;
-pub use layer::strips;
-pub use strip_table::StripTable;
-pub use tile_regions::{regions, regions_over};
-pub use touching::tabled_strips;
+pub use index::{IndexLists, StripIndex, strip_index};
+pub use region_chains::{regions, regions_over, strips};
+pub use touching::{StripTable, tabled_strips};

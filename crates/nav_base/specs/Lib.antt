@@ -6,3 +6,4 @@ pub mod Reach
 pub mod Root
 pub mod Vector
 pub mod Number
+pub mod Counts

@@ -1,6 +1,6 @@
 -- Vectors of the code, as the definitions over points see them.
 use Rattle.nav_base.specs.declared.point.Point.{Point}
-use Rattle.nav_base.specs.declared.vector.Vector.{Vector}
+use Rattle.nav_base.specs.declared.orientation.Vector.{Vector}
 use Rattle.nav_base.specs.Reach.{IsWithinReach}
 
 -- both parts are small enough for products

@@ -10,9 +10,9 @@ use Rattle.nav_version.specs.declared.version.Version.{Version}
 use Rattle.nav_version.specs.Versions.{IsVersion}
 
 -- a version with the mesh of a ground after some entries
-pub version_is : (whole : Ground) (entries : List Entry) (version : Version) → IsGround whole → length entries < 4294967295 → arc_value version.ground ≡ whole
-    → version.entries ≡ entries → version.mesh ≡ build_of whole entries (length entries) → IsSound version.mesh → IsVersion version
-version_is whole entries version rules' few level are is sound' = record {
+pub version_is : (ground : Ground) (entries : List Entry) (version : Version) → IsGround ground → length entries < 4294967295 → arc_value version.ground ≡ ground
+    → version.entries ≡ entries → version.mesh ≡ build_of ground entries (length entries) → IsSound version.mesh → IsVersion version
+version_is ground entries version rules' few level are is sound' = record {
   ground = subst IsGround (sym level) rules';
   few = omega (arith, few, ap (λ (list : List Entry). length list) are);
   mesh = is ∙ (λ i. build_of (sym level i) (sym are i) (length (sym are i)));
@@ -20,6 +20,6 @@ version_is whole entries version rules' few level are is sound' = record {
 }
 
 -- without entries
-pub opening_is : (whole : Ground) (version : Version) → IsGround whole → arc_value version.ground ≡ whole → version.entries ≡ []
-    → version.mesh ≡ build_of whole [] 0 → IsSound version.mesh → IsVersion version
-opening_is whole version rules' level none is sound' = version_is whole [] version rules' (omega arith) level none is sound'
+pub opening_is : (ground : Ground) (version : Version) → IsGround ground → arc_value version.ground ≡ ground → version.entries ≡ []
+    → version.mesh ≡ build_of ground [] 0 → IsSound version.mesh → IsVersion version
+opening_is ground version rules' level none is sound' = version_is ground [] version rules' (omega arith) level none is sound'

@@ -10,28 +10,28 @@ use Rattle.mesh_types.specs.declared.mesh.Mesh.{Mesh}
 use Rattle.mesh_types.specs.Builds.{build_of}
 use Rattle.mesh_types.specs.Soundness.{IsSound}
 use Rattle.nav_version.specs.Pairs.{IsNext, PressView}
-use Rattle.nav_desk.specs.BookState.{BookState, IsBook}
-use Rattle.nav_desk.specs.Renewal.{AddsAgain, IsRenewed}
-use Rattle.nav_desk.proofs.Renewals.{only_adds}
-use Rattle.nav_desk.specs.Steps.{after_request, after_publish, next_reply}
-use Rattle.nav_level.specs.Results.{target_mesh}
-use Rattle.nav_level.proofs.GroundTiles.{build_of_beginning}
+use Rattle.build_queue.specs.BookState.{BookState, IsBook}
+use Rattle.build_queue.specs.Renewal.{AddsAgain, IsRenewed}
+use Rattle.build_queue.proofs.Renewals.{only_adds}
+use Rattle.build_queue.specs.Steps.{after_request, after_publish, next_reply}
+use Rattle.nav_book.specs.LevelResults.{target_mesh}
+use Rattle.nav_book.proofs.GroundTiles.{build_of_beginning}
 use Rattle.nav_book.specs.Representation.{IsShown}
 use Rattle.nav_book.specs.Results.{published_entries}
 
 module _ (state : BookState) (press : PressView) (kept : IsShown state press) where
   -- a step that leaves the ground and what is published
-  pub shown_step : (next new : BookState) → new ≡ next → IsBook new → next.whole ≡ state.whole → published_entries next ≡ published_entries state → IsShown new press
-  shown_step next new is rules whole entries = record {
+  pub shown_step : (next new : BookState) → new ≡ next → IsBook new → next.ground ≡ state.ground → published_entries next ≡ published_entries state → IsShown new press
+  shown_step next new is rules ground entries = record {
     rules = rules;
-    level = kept.level ∙ sym (ap (λ (s : BookState). s.whole) is ∙ whole);
+    level = kept.level ∙ sym (ap (λ (s : BookState). s.ground) is ∙ ground);
     entries = kept.entries ∙ sym (ap published_entries is ∙ entries);
   }
 
-  pub shown_same : (new : BookState) → IsBook new → new.whole ≡ state.whole → new.history ≡ state.history → new.published ≡ state.published → IsShown new press
-  shown_same new rules whole history published = record {
+  pub shown_same : (new : BookState) → IsBook new → new.ground ≡ state.ground → new.history ≡ state.history → new.published ≡ state.published → IsShown new press
+  shown_same new rules ground history published = record {
     rules = rules;
-    level = kept.level ∙ sym whole;
+    level = kept.level ∙ sym ground;
     entries = kept.entries ∙ (λ i. take (sym published i) (sym history i));
   }
 
@@ -68,7 +68,7 @@ module _ (state : BookState) (press : PressView) (kept : IsShown state press) wh
       shows = is
           ∙ sym
           (ap (λ (w : Ground). build_of w (press.entries ++ more) (length (press.entries ++ more))) kept.level
-          ∙ build_of_beginning state.whole state.history (press.entries ++ more) state.target kept.rules.aimed target_entries);
+          ∙ build_of_beginning state.ground state.history (press.entries ++ more) state.target kept.rules.aimed target_entries);
       sound = sound';
     }
 
@@ -76,20 +76,20 @@ module _ (state : BookState) (press : PressView) (kept : IsShown state press) wh
     pub shown_next : (after : BookState) (other : PressView) → after ≡ after_publish state → after.published ≡ state.target → IsBook after
         → other ≡ record press { entries = press.entries ++ more } → IsShown after other
     shown_next after other step published rules is =
-        let whole : after.whole ≡ state.whole = ap (λ (s : BookState). s.whole) step in
+        let ground : after.ground ≡ state.ground = ap (λ (s : BookState). s.ground) step in
         let history : after.history ≡ state.history = ap (λ (s : BookState). s.history) step in
         record {
           rules = rules;
-          level = ap (λ (p : PressView). p.ground) is ∙ kept.level ∙ sym whole;
+          level = ap (λ (p : PressView). p.ground) is ∙ kept.level ∙ sym ground;
           entries = ap (λ (p : PressView). p.entries) is ∙ target_entries ∙ (λ i. take (sym published i) (sym history i));
         }
 
 -- a press that shows what the obstacles that are alive leave, once they were added again, shows the state once it is renewed
-pub shown_renewed : (state new : BookState) (press : PressView) → press.ground ≡ state.whole
+pub shown_renewed : (state new : BookState) (press : PressView) → press.ground ≡ state.ground
     → AddsAgain state.history (alive_after state.history (length state.history)) press.entries → IsRenewed state new → IsBook new → IsShown new press
 shown_renewed state new press ground adds renewed rules = record {
   rules = rules;
-  level = ground ∙ sym renewed.whole;
+  level = ground ∙ sym renewed.ground;
   entries = only_adds state.history (alive_after state.history (length state.history)) press.entries new.history adds renewed.history
       ∙ sym (take_all new.published new.history (omega (arith, renewed.published)));
 }

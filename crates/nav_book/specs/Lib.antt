@@ -1,5 +1,10 @@
 pub mod Views
 pub mod Results
 pub mod Representation
-pub use Rattle.nav_level.specs.Openings
-pub use Rattle.nav_level.specs.Settling
+pub mod LevelResults
+pub mod Fresh
+pub mod LevelRepresentation
+pub mod Openings
+pub mod Settling
+pub mod CallContracts
+pub mod Remembered

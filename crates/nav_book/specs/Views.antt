@@ -1,6 +1,6 @@
 -- What contracts see of a book.
 use Rattle.logbook.specs.Pages.{Book}
-use Rattle.nav_desk.specs.BookState.{BookState}
+use Rattle.build_queue.specs.BookState.{BookState}
 
 -- a book: its state, of which each call is a step, and the pair of its press and its eyes, which a renewal alone
 -- changes

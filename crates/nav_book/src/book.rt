@@ -1,33 +1,28 @@
-//! The book: a level, and the press that publishes its mesh.
+//! The book: a level, and the press that publishes its mesh. What the builder of a tile brings.
 
-ghost use Rattle.std.specs.Prelude.{◌≡◌, ◌↔◌, ◌+◌, ◌<◌, ◌≤◌, ◌++◌, [], List, length, replicate, IsErr, IfOk, IfErr, IfSome, OnOk, OnErr};
+ghost use Rattle.std.specs.Prelude.{◌≡◌, ◌+◌, ◌<◌, ◌≤◌, [], length, replicate, IfOk, OnOk, OnErr};
 ghost use Rattle.std.specs.Arc.{arc_value};
-ghost use Rattle.nav_ground.specs.declared.history.Entry.{Entry};
 ghost use Rattle.nav_ground.specs.Grounds.{IsGround};
-ghost use Rattle.nav_ground.specs.History.{IsRequest, IsHistory, alive_after, history_limit, shapes_alive};
+ghost use Rattle.nav_ground.specs.History.{IsRequest, IsHistory, alive_after};
 ghost use Rattle.nav_ground.specs.Tiling.{tile_count};
-ghost use Rattle.mesh_types.specs.Builds.{build_of};
 ghost use Rattle.mesh_types.specs.Right.{IsRight};
-ghost use Rattle.mesh_types.specs.Soundness.{IsSound, link_count, polygon_count};
+ghost use Rattle.mesh_types.specs.Soundness.{link_count, polygon_count};
 ghost use Rattle.tile_build.specs.Meshes.{tiles_under};
 ghost use Rattle.nav_query.specs.Questions.{HasLowCost, HasUnfoldedWay, IsAnswerable};
 ghost use Rattle.nav_version.specs.Pairs.{eye_of};
-ghost use Rattle.nav_desk.specs.BookState.{IsBook, first_state};
-ghost use Rattle.nav_desk.specs.Renewal.{AddsAgain, IsAllShown, IsRenewed};
-ghost use Rattle.nav_desk.specs.Steps.{IsJob, next_reply, request_answer, requested, after_request, after_aim, next_job, after_claim, after_put_back, after_put_back_all, submission, after_submit, publication, after_publish};
-ghost use Rattle.nav_steps.specs.Counts.{HasRisenAtMost};
+ghost use Rattle.build_queue.specs.BookState.{IsBook, first_state};
+ghost use Rattle.build_queue.specs.Renewal.{AddsAgain, IsAllShown};
+ghost use Rattle.build_queue.specs.StepContracts.{IsAimStep, IsClaimStep, IsPutBackAllStep, IsPutBackStep, IsRenewStep, IsRequestStep, IsSubmitStep};
+ghost use Rattle.build_queue.specs.Steps.{IsJob};
+ghost use Rattle.nav_book.specs.CallContracts.{IsPublishStep, IsSettleStep};
 ghost use Rattle.nav_book.specs.Results.{IsBuild, job_built, published_entries, published_mesh};
-ghost use Rattle.nav_book.specs.Settling.{IsUnclaimed, after_settle, awaited_tiles, settling};
 
-use crate::result::TileResult;
+use crate::{HistoryFull, Job, Level, Published, Submitted, build_job};
 use core::mem::replace;
-use mesh_types::{Answer, Asked, Mesh, TileMesh};
-use nav_base::Question;
-use nav_ground::{Entry, Ground, Reply, Request};
-use nav_level::{HistoryFull, Job, Level, Published, Submitted, build_job};
-use nav_list::Items;
-use nav_share::Shared;
-use nav_steps::Steps;
+use mesh_types::{Answer, Asked, TileMesh};
+use nav_base::{Question, Steps};
+use nav_ground::{Entry, Ground, Reply, Request, Shape, TileNo};
+use nav_lists::{Items, Shared};
 use nav_version::{Entries, Eye, Press, Told, Version, pair};
 use std::alloc::{AllocError, Global};
 use std::marker::Model;
@@ -101,19 +96,11 @@ impl Book {
     }
 
     /// Appends a request of a lane to the history, and gives the number of its entry, from 1, and its answer. What was published stays.
-    /// It takes no memory.
+    /// It is refused exactly where the history is full, and then nothing changes. It takes no memory.
     pub fn request(&mut self, lane: u32, request: Request) -> Result<(u32, Reply), HistoryFull>
         requires { IsRequest request }
-        ensures state { self.new.state ≡ requested self.old.state lane request }
-        ensures answer { result ≡ request_answer self.old.state request }
-        ensures appended { OnOk result (self.new.state ≡ after_request self.old.state lane request) }
-        ensures number { IfOk result (λ answer. answer.0 ≡ length self.old.state.history + 1) }
-        ensures reply { IfOk result (λ answer. answer.1 ≡ next_reply self.old.state request) }
+        ensures did { IsRequestStep self.old.state self.new.state lane request result }
         ensures pair { self.new.pair ≡ self.old.pair }
-
-        // It is refused exactly where the history is full, and then nothing changes.
-        ensures full { IsErr result ↔ (length self.old.state.history ≡ history_limit) }
-        ensures len { IfErr result (λ refused. refused.len ≡ length self.old.state.history) }
         ensures refused { OnErr result (self.new ≡ self.old) }
     {
         self.level.request(lane, request)
@@ -122,8 +109,7 @@ impl Book {
     /// Makes the whole history the target, and gives its length. A tile is awaited from then on where the shapes that it was last built
     /// under are not those that touch it at the target.
     pub fn aim(&mut self) -> u32
-        ensures aimed { self.new.state ≡ after_aim self.old.state }
-        ensures length { result ≡ length self.old.state.history }
+        ensures did { IsAimStep self.old.state self.new.state result }
         ensures pair { self.new.pair ≡ self.old.pair }
     {
         self.level.aim()
@@ -132,9 +118,7 @@ impl Book {
     /// Claims the least tile that is awaited and not claimed, and gives it with the shapes to build it under: those that are alive at the
     /// target and touch it. None exactly where there is no such tile. Where memory is refused, nothing has changed.
     pub fn claim(&mut self, alloc: Global) -> Result<Option<Job>, AllocError>
-        ensures job { IfOk result (λ job. job ≡ next_job self.old.state) }
-        ensures fit { IfOk result (λ job. IfSome job (IsJob self.old.state.whole.setting)) }
-        ensures claimed { OnOk result (self.new.state ≡ after_claim self.old.state) }
+        ensures did { IsClaimStep self.old.state self.new.state result }
         ensures pair { self.new.pair ≡ self.old.pair }
         ensures refused { OnErr result (self.new ≡ self.old) }
     {
@@ -143,8 +127,8 @@ impl Book {
 
     /// Gives a job back: its tile is claimed no more.
     pub fn put_back(&mut self, job: Job)
-        requires { job.tile < tile_count self.old.state.whole.setting }
-        ensures back { self.new.state ≡ after_put_back self.old.state job.tile }
+        requires { job.tile < tile_count self.old.state.ground.setting }
+        ensures did { IsPutBackStep self.old.state self.new.state job.tile }
         ensures pair { self.new.pair ≡ self.old.pair }
     {
         self.level.put_back(job)
@@ -152,8 +136,7 @@ impl Book {
 
     /// Gives all jobs back: no tile is claimed any more.
     pub fn put_back_all(&mut self)
-        ensures back { self.new.state ≡ after_put_back_all self.old.state }
-        ensures free { IsUnclaimed self.new.state }
+        ensures did { IsPutBackAllStep self.old.state self.new.state }
         ensures pair { self.new.pair ≡ self.old.pair }
     {
         self.level.put_back_all()
@@ -162,9 +145,8 @@ impl Book {
     /// Takes a build in: its tile is claimed no more. It is stale exactly where the tile is not awaited, or was not built under the
     /// shapes that touch it at the target, and then it is dropped, and nothing else changes. It takes no memory.
     pub fn submit(&mut self, made: TileResult) -> Submitted
-        requires { IsBuild self.old.state.whole made }
-        ensures answer { result ≡ submission self.old.state made.tile made.shapes }
-        ensures stored { self.new.state ≡ after_submit self.old.state made.tile made.shapes }
+        requires { IsBuild self.old.state.ground made }
+        ensures did { IsSubmitStep self.old.state self.new.state made.tile made.shapes result }
         ensures pair { self.new.pair ≡ self.old.pair }
     {
         let TileResult { tile, shapes, mesh } = made;
@@ -175,8 +157,7 @@ impl Book {
     /// tile is awaited, of which the least is named, and it is published already where the target is the published length; then nothing
     /// changes, and no memory is taken. Where memory is refused, neither the book nor what eyes see has changed.
     pub fn publish<R: Wait>(&mut self, rt: &R, alloc: Global) -> Result<Published, AllocError>
-        ensures answer { IfOk result (λ answer. answer ≡ publication self.old.state) }
-        ensures published { OnOk result (self.new.state ≡ after_publish self.old.state) }
+        ensures did { IsPublishStep self.old.state self.new.state result }
         ensures pair { self.new.pair ≡ self.old.pair }
         ensures refused { OnErr result (self.new ≡ self.old) }
     {
@@ -201,34 +182,26 @@ impl Book {
         job: Job,
         steps: &mut Steps<L>,
     ) -> Result<TileResult, AllocError>
-        requires job { IsJob self.now.state.whole.setting job }
+        requires job { IsJob self.now.state.ground.setting job }
         ensures rules { IsBook self.now.state }
         ensures job { IfOk result (λ made. job_built made ≡ job) }
-        ensures made { IfOk result (IsBuild self.now.state.whole) }
+        ensures made { IfOk result (IsBuild self.now.state.ground) }
         ensures step { steps.new ≡ steps.old + 1 }
     {
-        let mesh = build_job(alloc, self.level(), &job, steps)?;
+        let mesh = build_job(alloc, self.level.ground(), &job, steps)?;
         let Job { tile, shapes } = job;
         Ok(TileResult { tile, shapes, mesh })
     }
 
     /// Puts every job back, builds every tile that is awaited for the whole history, with one step each, and publishes the history, whose
-    /// length it gives. No tile is claimed then. Where memory is refused, some of that is done.
+    /// length it gives. No tile is claimed then, also where memory is refused: then some of that is done.
     pub fn settle<R: Wait, L: Ledger>(
         &mut self,
         rt: &R,
         alloc: Global,
         steps: &mut Steps<L>,
     ) -> Result<u32, AllocError>
-        ensures length { IfOk result (λ k. k ≡ length self.old.state.history) }
-        ensures book { OnOk result (self.new.state ≡ after_settle self.old.state) }
-        // So the publish at its end never has to wait for a tile.
-        ensures shown { OnOk result (self.new.state.published ≡ length self.old.state.history) }
-        ensures whole { OnOk result (self.new.state.whole ≡ self.old.state.whole) }
-        ensures history { OnOk result (self.new.state.history ≡ self.old.state.history) }
-        ensures free { OnOk result (IsUnclaimed self.new.state) }
-        ensures steps { OnOk result (steps.new ≡ steps.old + length (awaited_tiles (settling self.old.state))) }
-        ensures most { HasRisenAtMost (length (awaited_tiles (settling self.old.state))) steps.old steps.new }
+        ensures did { IsSettleStep self.old.state self.new.state steps.old steps.new result }
         ensures pair { self.new.pair ≡ self.old.pair }
     {
         let k = self.level.build_target(alloc, steps)?;
@@ -250,10 +223,9 @@ impl Book {
     ) -> Result<(Items<u32>, Vec<Eye>), AllocError>
         requires { IsAllShown self.old.state }
         ensures numbers { IfOk result (λ made. made.0 ≡ alive_after self.old.state.history (length self.old.state.history)) }
-        ensures renewed { OnOk result (IsRenewed self.old.state self.new.state) }
-        ensures alive { OnOk result (shapes_alive self.new.state.history (length self.new.state.history) ≡ shapes_alive self.old.state.history (length self.old.state.history)) }
+        ensures did { OnOk result (IsRenewStep self.old.state self.new.state) }
         ensures mesh { OnOk result (published_mesh self.new.state ≡ published_mesh self.old.state) }
-        ensures eyes { IfOk result (λ made. made.1.items ≡ replicate readers (eye_of self.new.pair self.new.state.whole self.new.state.history)) }
+        ensures eyes { IfOk result (λ made. made.1.items ≡ replicate readers (eye_of self.new.pair self.new.state.ground self.new.state.history)) }
         ensures refused { OnErr result (self.new ≡ self.old) }
     {
         let numbers = self.level.alive(alloc)?;
@@ -272,9 +244,9 @@ impl Book {
         readers: u32,
     ) -> Result<(Press, Vec<Eye>), AllocError>
         requires { IsAllShown self.now.state }
-        ensures ground { IfOk result (λ made. made.0.ground ≡ self.now.state.whole) }
+        ensures ground { IfOk result (λ made. made.0.ground ≡ self.now.state.ground) }
         ensures again { IfOk result (λ made. AddsAgain self.now.state.history (alive_after self.now.state.history (length self.now.state.history)) made.0.entries) }
-        ensures eyes { IfOk result (λ made. made.1.items ≡ replicate readers (eye_of made.0.pair self.now.state.whole made.0.entries)) }
+        ensures eyes { IfOk result (λ made. made.1.items ≡ replicate readers (eye_of made.0.pair self.now.state.ground made.0.entries)) }
     {
         let entries = self.level.renewed(alloc)?;
         let version = Version {
@@ -345,22 +317,12 @@ impl Book {
         self.level.ask_by(alloc, question)
     }
 
-    /// The ground, as it is without obstacles.
-    pub fn level(&self) -> &Ground
-        ensures value { result.now ≡ self.now.state.whole }
+    /// The level, to be read: its ground and its mesh, and what else a level tells. To change it is the book's alone.
+    pub fn level(&self) -> &Level
+        ensures value { result.now ≡ self.now.state }
         ensures rules { IsBook self.now.state }
     {
-        self.level.level()
-    }
-
-    /// The mesh as it was last published. It is also that of every longer history at that length.
-    pub fn mesh(&self) -> &Mesh
-        ensures value { result.now ≡ published_mesh self.now.state }
-        ensures lasting { (more : List Entry) → result.now ≡ build_of self.now.state.whole (self.now.state.history ++ more) self.now.state.published }
-        ensures sound { IsSound (published_mesh self.now.state) }
-        ensures rules { IsBook self.now.state }
-    {
-        self.level.mesh()
+        &self.level
     }
 
     /// How many polygons and how many links the mesh has as it was last published; a link leads one way. The obstacles may be any: there are
@@ -400,7 +362,7 @@ impl Book {
     /// The history, the oldest entry first.
     pub fn entries(&self) -> &[Entry]
         ensures entries { result.now ≡ self.now.state.history }
-        ensures rules { IsHistory self.now.state.whole.setting.limit self.now.state.history }
+        ensures rules { IsHistory self.now.state.ground.setting.limit self.now.state.history }
     {
         self.level.entries()
     }
@@ -410,4 +372,15 @@ impl Book {
         let Book { level: _, press } = self;
         press.end(rt);
     }
+}
+
+/// A tile that was built.
+#[derive(Drop)]
+pub struct TileResult {
+    /// The tile of the job.
+    pub tile: TileNo,
+    /// The shapes that it was built under, in the job's order. It is by this list that a late build is told from one that is wanted.
+    pub shapes: Items<Shape>,
+    /// Its mesh under those shapes.
+    pub mesh: Shared<TileMesh>,
 }

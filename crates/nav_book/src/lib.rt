@@ -1,19 +1,33 @@
-//! The book of a ground: the history of requests, the tiles that wait for a build, and the press that publishes its mesh.
+//! The server's state, as Detour's tile cache with its navigation mesh: the history of requests, the tiles that wait for a build, and the
+//! mesh that is published; `Level` alone, `Book` with readers on threads of their own.
 //!
-//! A book is seen as a `BookState` of `nav_desk` beside the pair of its press and its eyes, and each call is one step of the state's
-//! definition. A request appends one entry; an aim makes the length of the history the target; claims hand out the tiles that are awaited,
-//! with the shapes to build them under; results come in by `submit`; and `publish` puts those that came in since into the published mesh,
-//! once no tile is awaited. `settle` does all that is left to do, so that the whole history is published. The published mesh is always the
-//! build from scratch of the ground with the obstacles that are alive after the published entries. `ask` answers from it, `ask_by` does so for
-//! questions of any kind, and `mesh_counts` counts it. Requests, aims and results take no memory, since all their room was taken at the opening.
+//! Both are seen as a `BookState` of `build_queue`, a book with the pair of its press and its eyes beside it, and each call is one step of
+//! the state's definition. A request appends one entry; an aim makes the length of the history the target; claims hand out the tiles that
+//! are awaited, with the shapes to build them under; builds come in by `submit`; and `publish` puts those that came in since into the
+//! published mesh, once no tile is awaited. `settle` does all that is left to do, so that the whole history is published. The published
+//! mesh is always the build from scratch of the ground with the obstacles that are alive after the published entries. `ask` answers from
+//! it, `ask_by` does so for questions of any kind, and `mesh_counts` counts it. Requests, aims and builds that come in take no memory,
+//! since all their room was taken at the opening.
 //!
-//! `begin` gives an `Eye` of `nav_version` for each reader besides. Eyes read what was published without the book, on threads of their own;
-//! `told` gives the published length for them to learn. A book is not `Drop`: `end` ends it.
+//! `level`: nothing of a level waits. `prepare` makes landmarks of the published mesh, by which path questions are answered sooner, and
+//! `ask_and_prepare` does so once there were many of them; what is answered is right either way. A publishing comes in two halves besides:
+//! `next_mesh` makes what is published next, and takes all the memory; `show` takes it over, and cannot be refused. Who shows the mesh to
+//! others as well does so in between. `shown` keeps what is published; `settle` builds and publishes by single steps.
+//!
+//! `builds`: small builds that `step` and `settle` made last are remembered, 32 of them, for an obstacle that comes, goes and comes again,
+//! as a door does. That is promised by nothing, and seen in nothing but time and memory; such a build takes one step like any other.
+//!
+//! `book`: `begin` gives an `Eye` of `nav_version`, a reader, for each thread that is to ask. Eyes read what was published without the
+//! book; `told` gives the published length for them to learn. A book is not `Drop`: `end` ends it.
 #![tactic(auto)]
 
 mod book;
-mod result;
+mod builds;
+mod level;
+mod settle;
+mod shown;
 
-pub use book::Book;
-pub use nav_level::{HistoryFull, Job, Published, Submitted, build_job};
-pub use result::TileResult;
+pub use book::{Book, TileResult};
+pub use build_queue::{HistoryFull, Job, Published, Submitted};
+pub use level::Level;
+pub use settle::build_job;

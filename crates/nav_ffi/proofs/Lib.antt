@@ -1,5 +1,2 @@
-mod Laying
-mod EndLaws
 mod Opened
-mod JumpLaws
 mod Rastered

@@ -10,8 +10,8 @@ use Rattle.span_text.specs.declared.field.FieldRefusal.{FieldRefusal}
 use Rattle.span_text.specs.declared.field.FieldRefusal.TheVariants.{Fault}
 use Rattle.span_text.specs.FieldText.{IsFieldText}
 use Rattle.span_text.specs.Outcome.{Gives}
-use Rattle.nav_desk.specs.BookState.{BookState, first_state}
-use Rattle.nav_level.specs.Openings.{ground_of}
+use Rattle.build_queue.specs.BookState.{BookState, first_state}
+use Rattle.nav_book.specs.Openings.{ground_of}
 use Rattle.nav_ffi.specs.Opening.{HoldsOpened}
 
 pub opened : (bytes : List ℕ) (used : ℕ) (setting : Setting) (field : Field) (held : Option BookState) (state : BookState)

@@ -5,8 +5,8 @@ use Rattle.nav_ground.specs.declared.setting.Setting.{Setting}
 use Rattle.nav_text.specs.declared.fault.TextFault.{TextFault}
 use Rattle.span_text.specs.declared.field.FieldRefusal.{FieldRefusal}
 use Rattle.span_text.specs.declared.field.FieldRefusal.TheVariants.{Fault}
-use Rattle.tri_rows.specs.declared.triangle.Tri.{Tri}
-use Rattle.tri_rows.specs.Rasters.{IsRaster}
+use Rattle.tri_raster.specs.declared.triangle.Tri.{Tri}
+use Rattle.tri_raster.specs.Rasters.{IsRaster}
 use Rattle.tri_raster.specs.TriFormat.{Gives}
 
 pub no_text_fault : (setting : Setting) (header : ℕ) (tris : List Tri) (refusal : FieldRefusal) (fault : TextFault)

@@ -2,17 +2,17 @@
 use Rattle.std.specs.Prelude.{◌≡◌, ℕ, length, Option, Some, None}
 use Rattle.nav_ground.specs.Tiling.{tile_count}
 use Rattle.mesh_types.specs.Soundness.{link_count, polygon_count}
-use Rattle.nav_desk.specs.BookState.{BookState}
-use Rattle.nav_level.specs.Results.{published_mesh}
-use Rattle.nav_ffi.specs.declared.status.TheConstants as status
-use Rattle.nav_ffi.specs.declared.wire.NavdCounts.{NavdCounts}
+use Rattle.build_queue.specs.BookState.{BookState}
+use Rattle.nav_book.specs.LevelResults.{published_mesh}
+use Rattle.nav_handle.specs.declared.wire.TheConstants as status
+use Rattle.nav_handle.specs.declared.wire.NavdCounts.{NavdCounts}
 
 abbrev pub counts_of : BookState → NavdCounts
 counts_of state = record {
   history = length state.history;
   target = state.target;
   published = state.published;
-  tiles = tile_count state.whole.setting;
+  tiles = tile_count state.ground.setting;
   polygons = polygon_count (published_mesh state).tiles;
   links = link_count (published_mesh state);
 }

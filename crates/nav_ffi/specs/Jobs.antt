@@ -1,12 +1,12 @@
 -- Jobs over the border: tiles that are claimed of a level, built from the job alone, and handed in or put back.
 use Rattle.std.specs.Prelude.{◌≡◌, ◌⊎◌, ℕ, Bool, true, false, Option, Some, None}
 use Rattle.nav_ground.specs.declared.history.Ground.{Ground}
-use Rattle.nav_desk.specs.declared.answers.Submitted.{Submitted}
-use Rattle.nav_desk.specs.declared.answers.Submitted.TheVariants.{Taken, Stale}
-use Rattle.nav_desk.specs.BookState.{BookState}
-use Rattle.nav_desk.specs.Steps.{after_claim, after_put_back, after_put_back_all, after_submit, submission}
+use Rattle.build_queue.specs.declared.live.Submitted.{Submitted}
+use Rattle.build_queue.specs.declared.live.Submitted.TheVariants.{Taken, Stale}
+use Rattle.build_queue.specs.BookState.{BookState}
+use Rattle.build_queue.specs.Steps.{after_claim, after_put_back, after_put_back_all, after_submit, submission}
 use Rattle.nav_handle.specs.Works.{IsOf, Working, built, next_work}
-use Rattle.nav_ffi.specs.declared.status.TheConstants as status
+use Rattle.nav_handle.specs.declared.wire.TheConstants as status
 
 -- how a claim ended, which tile it told, and what the two handles hold then
 pub record Claimed : Type 0 where
@@ -55,10 +55,10 @@ abbrev pub readiness : Bool → ℕ
 readiness true = status.OK
 readiness false = status.NOT_YET
 
-pub record IsReady (work : Working) (whole : Ground) (ended : ℕ) : Type 0 where
-  pub ready : IsOf work whole → ended ≡ readiness work.built
-  pub foreign : (IsOf work whole → ⊥) → ended ≡ status.FOREIGN
-  pub own : (ended ≡ status.FOREIGN → ⊥) → IsOf work whole
+pub record IsReady (work : Working) (ground : Ground) (ended : ℕ) : Type 0 where
+  pub ready : IsOf work ground → ended ≡ readiness work.built
+  pub foreign : (IsOf work ground → ⊥) → ended ≡ status.FOREIGN
+  pub own : (ended ≡ status.FOREIGN → ⊥) → IsOf work ground
 
 -- a job that is built is submitted; one that is not stays, as does one of another ground
 abbrev pub submitted : Bool → BookState → Working → Handed
@@ -70,8 +70,8 @@ submitted true state work = record {
 submitted false state work = record { status = status.NOT_YET; level = Some state; job = Some work }
 
 pub record IsSubmitted (state : BookState) (work : Working) (ended : Handed) : Type 0 where
-  pub own : IsOf work state.whole → ended ≡ submitted work.built state work
-  pub foreign : (IsOf work state.whole → ⊥) → ended ≡ record { status = status.FOREIGN; level = Some state; job = Some work }
+  pub own : IsOf work state.ground → ended ≡ submitted work.built state work
+  pub foreign : (IsOf work state.ground → ⊥) → ended ≡ record { status = status.FOREIGN; level = Some state; job = Some work }
 
 abbrev pub IsHandedIn : Option BookState → Option Working → Handed → Type 0
 IsHandedIn None job ended = ended ≡ record { status = status.EMPTY; level = None; job = job }
@@ -80,8 +80,8 @@ IsHandedIn (Some state) (Some work) ended = IsSubmitted state work ended
 
 -- a job is put back; one of another ground stays
 pub record IsGivenBack (state : BookState) (work : Working) (ended : Handed) : Type 0 where
-  pub own : IsOf work state.whole → ended ≡ record { status = status.OK; level = Some (after_put_back state work.job.tile); job = None }
-  pub foreign : (IsOf work state.whole → ⊥) → ended ≡ record { status = status.FOREIGN; level = Some state; job = Some work }
+  pub own : IsOf work state.ground → ended ≡ record { status = status.OK; level = Some (after_put_back state work.job.tile); job = None }
+  pub foreign : (IsOf work state.ground → ⊥) → ended ≡ record { status = status.FOREIGN; level = Some state; job = Some work }
 
 abbrev pub IsPutBack : Option BookState → Option Working → Handed → Type 0
 IsPutBack None job ended = ended ≡ record { status = status.EMPTY; level = None; job = job }

@@ -1,14 +1,8 @@
-pub mod Wire
 pub mod Requests
 pub mod Steps
-pub mod Telling
-pub mod Answers
 pub mod Opening
 pub mod Counts
 pub mod Renewing
 pub mod Viewing
-pub mod Looking
 pub mod Jobs
-pub mod Hopping
 pub mod Triangles
-pub mod Walking

@@ -6,9 +6,9 @@ use Rattle.nav_ground.specs.Fields.{IsField}
 use Rattle.nav_ground.specs.Limits.{IsSetting}
 use Rattle.nav_text.specs.declared.fault.TextFault.{TextFault}
 use Rattle.span_text.specs.FieldText.{IsFieldText}
-use Rattle.nav_desk.specs.BookState.{BookState, first_state}
-use Rattle.nav_level.specs.Openings.{ground_of}
-use Rattle.nav_ffi.specs.declared.wire.NavdFault.{NavdFault}
+use Rattle.build_queue.specs.BookState.{BookState, first_state}
+use Rattle.nav_book.specs.Openings.{ground_of}
+use Rattle.nav_handle.specs.declared.wire.NavdFault.{NavdFault}
 
 -- bytes begin with the field text of a setting and a field
 pub record BeginsWith (bytes : List ℕ) (setting : Setting) (field : Field) : Type 0 where

@@ -1,11 +1,11 @@
 -- Renewal over the border: when the history of what a handle holds begins again, what is told, and what the handle holds then.
 use Rattle.std.specs.Prelude.{◌≡◌, ◌⊎◌, ℕ, ◌<◌, ◌≤◌, List, length, Option, Some, None}
 use Rattle.nav_ground.specs.History.{alive_after}
-use Rattle.nav_desk.specs.BookState.{BookState}
-use Rattle.nav_desk.specs.Renewal.{IsRenewed}
-use Rattle.nav_level.specs.Results.{published_mesh}
-use Rattle.nav_ffi.specs.declared.status.TheConstants as status
-use Rattle.nav_ffi.specs.Wire.{laid}
+use Rattle.build_queue.specs.BookState.{BookState}
+use Rattle.build_queue.specs.Renewal.{IsRenewed}
+use Rattle.nav_book.specs.LevelResults.{published_mesh}
+use Rattle.nav_handle.specs.declared.wire.TheConstants as status
+use Rattle.nav_handle.specs.Wire.{laid}
 
 -- how a renewal ended, what the handle holds then, and the host's places: for how many numbers there are, and for the numbers
 pub record Renewing : Type 0 where

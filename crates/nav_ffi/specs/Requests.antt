@@ -6,9 +6,9 @@ use Rattle.nav_ground.specs.declared.history.Request.{Request}
 use Rattle.nav_ground.specs.declared.history.Request.TheVariants.{Add}
 use Rattle.nav_ground.specs.declared.shape.Shape.{Shape}
 use Rattle.nav_ground.specs.Limits.{IsShape}
-use Rattle.nav_desk.specs.BookState.{BookState}
-use Rattle.nav_desk.specs.Steps.{is_full, next_reply, requested}
-use Rattle.nav_ffi.specs.declared.status.TheConstants as status
+use Rattle.build_queue.specs.BookState.{BookState}
+use Rattle.build_queue.specs.Steps.{is_full, next_reply, requested}
+use Rattle.nav_handle.specs.declared.wire.TheConstants as status
 
 -- how an entry with a reply ends
 abbrev pub reply_status : Reply → ℕ

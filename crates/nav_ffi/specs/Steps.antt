@@ -1,12 +1,12 @@
 -- Steps over the border: how they end, what they tell, and what the handle holds then.
 use Rattle.std.specs.Prelude.{◌≡◌, ◌⊎◌, ℕ, length, Option, Some, None}
-use Rattle.nav_desk.specs.declared.answers.Published.{Published}
-use Rattle.nav_desk.specs.declared.answers.Published.TheVariants.{New, Same, NotYet}
-use Rattle.nav_desk.specs.BookState.{BookState, least_claimable}
-use Rattle.nav_desk.specs.Steps.{after_aim, after_publish, publication}
-use Rattle.nav_level.specs.Results.{IsNew}
-use Rattle.nav_level.specs.Settling.{IsUnclaimed, after_job, after_settle}
-use Rattle.nav_ffi.specs.declared.status.TheConstants as status
+use Rattle.build_queue.specs.declared.live.Published.{Published}
+use Rattle.build_queue.specs.declared.live.Published.TheVariants.{New, Same, NotYet}
+use Rattle.build_queue.specs.BookState.{BookState, least_claimable}
+use Rattle.build_queue.specs.Steps.{after_aim, after_publish, publication}
+use Rattle.nav_book.specs.LevelResults.{IsNew}
+use Rattle.nav_book.specs.Settling.{IsUnclaimed, after_job, after_settle}
+use Rattle.nav_handle.specs.declared.wire.TheConstants as status
 
 -- how a step ended, which number it told, and what the handle holds then
 pub record Ended : Type 0 where
@@ -58,7 +58,7 @@ pub record IsCutShort (state : BookState) (before : ℕ) (ended : Ended) : Type 
   pub number : ended.number ≡ before
   pub after : BookState
   pub held : ended.held ≡ Some after
-  pub whole : after.whole ≡ state.whole
+  pub ground : after.ground ≡ state.ground
   pub history : after.history ≡ state.history
   pub published : after.published ≡ state.published
   pub free : IsUnclaimed after

@@ -3,11 +3,11 @@ use Rattle.std.specs.Prelude.{◌≡◌, ℕ, List, Option, Some}
 use Rattle.nav_ground.specs.declared.field.Field.{Field}
 use Rattle.nav_ground.specs.declared.setting.Setting.{Setting}
 use Rattle.nav_ground.specs.Fields.{IsField}
-use Rattle.tri_rows.specs.declared.triangle.Tri.{Tri}
-use Rattle.tri_rows.specs.Rasters.{HasManySpans, IsRaster}
+use Rattle.tri_raster.specs.declared.triangle.Tri.{Tri}
+use Rattle.tri_raster.specs.Rasters.{HasManySpans, IsRaster}
 use Rattle.tri_raster.specs.TriText.{IsTriText}
-use Rattle.nav_desk.specs.BookState.{BookState, first_state}
-use Rattle.nav_level.specs.Openings.{ground_of}
+use Rattle.build_queue.specs.BookState.{BookState, first_state}
+use Rattle.nav_book.specs.Openings.{ground_of}
 
 -- the bytes are the text of a setting and of triangles, and a handle holds the first state of the level of what these leave in the columns
 pub record HoldsRastered (bytes : List ℕ) (held : Option BookState) : Type 0 where

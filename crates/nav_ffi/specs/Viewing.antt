@@ -1,8 +1,8 @@
 -- Looking over the border: a view is brought up to what a level has published, and may have costs of areas of its own.
 use Rattle.std.specs.Prelude.{◌≡◌, ◌⊎◌, ℕ, List, Option, Some, None}
-use Rattle.nav_desk.specs.BookState.{BookState}
+use Rattle.build_queue.specs.BookState.{BookState}
 use Rattle.nav_handle.specs.Views.{AreCosts, Seen, seen_at, shown_to}
-use Rattle.nav_ffi.specs.declared.status.TheConstants as status
+use Rattle.nav_handle.specs.declared.wire.TheConstants as status
 
 -- how a look ended, which length it told, and what the view's handle holds then
 pub record Looked : Type 0 where

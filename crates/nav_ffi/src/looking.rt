@@ -1,65 +1,14 @@
 //! What a mesh shows to one who draws it, over the border.
 
 ghost use Rattle.std.specs.Prelude.{◌≡◌};
-ghost use Rattle.nav_ffi.specs.Answers.{shown_in};
-ghost use Rattle.nav_ffi.specs.Looking.{AreObstacles, AreTold, IsListed, faces_of, inner_links_of, border_links_of};
+ghost use Rattle.nav_handle.specs.Answers.{shown_in};
+ghost use Rattle.nav_handle.specs.Looking.{AreObstacles, AreTold, faces_of, inner_links_of, border_links_of};
 
-use crate::faces::{NavdFace, NavdObstacle, lay_faces, lay_obstacles};
-use crate::status::{EMPTY, NO_MEMORY, OK, OUT_OF_RANGE};
-use crate::told::lay_links;
-use crate::wire::NavdLink;
-use mesh_types::Mesh;
-use nav_handle::NavdLevel;
+use nav_handle::{
+    EMPTY, NO_MEMORY, NavdFace, NavdLevel, NavdLink, NavdObstacle, OK, lay_obstacles,
+    tell_border_links, tell_faces, tell_inner_links,
+};
 use std::alloc::Global;
-
-/// Tells the polygons of a tile.
-pub(crate) fn tell_faces(mesh: &Mesh, tile: u32, faces: &mut [NavdFace], count: &mut usize) -> u32
-    ensures { IsListed (faces_of mesh.now tile) (count.old, faces.old) (count.new, faces.new) result }
-{
-    let Some(tile) = mesh.tiles.get(tile as usize) else {
-        return OUT_OF_RANGE;
-    };
-    let polygons = &tile.get().polys;
-    *count = polygons.len();
-    lay_faces(polygons, faces);
-    OK
-}
-
-/// Tells the links between polygons of a tile.
-pub(crate) fn tell_inner_links(
-    mesh: &Mesh,
-    tile: u32,
-    links: &mut [NavdLink],
-    count: &mut usize,
-) -> u32
-    ensures { IsListed (inner_links_of mesh.now tile) (count.old, links.old) (count.new, links.new) result }
-{
-    let Some(tile) = mesh.tiles.get(tile as usize) else {
-        return OUT_OF_RANGE;
-    };
-    let inner = tile.get().links.as_slice();
-    *count = inner.len();
-    lay_links(inner, links);
-    OK
-}
-
-/// Tells the links that lead from a tile to others.
-pub(crate) fn tell_border_links(
-    mesh: &Mesh,
-    tile: u32,
-    links: &mut [NavdLink],
-    count: &mut usize,
-) -> u32
-    ensures { IsListed (border_links_of mesh.now tile) (count.old, links.old) (count.new, links.new) result }
-{
-    let Some(list) = mesh.cross.get(tile as usize) else {
-        return OUT_OF_RANGE;
-    };
-    let cross = list.get().as_slice();
-    *count = cross.len();
-    lay_links(cross, links);
-    OK
-}
 
 /// The polygons of a tile of the published mesh; how many there are is left at `count`.
 #[unsafe(no_mangle)]

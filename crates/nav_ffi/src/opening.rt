@@ -1,29 +1,39 @@
-//! Levels opened and closed.
+//! Levels opened, from a field text or from triangles, renewed and closed, over the border.
 
-ghost use Rattle.std.specs.Prelude.{◌≡◌, ◌<◌, ◌⊎◌, None, Some, IfOk};
+ghost use Rattle.std.specs.Prelude.{◌≡◌, ◌<◌, ◌⊎◌, None, Some, IfOk, ◌≤◌, ℕ, List, length};
 ghost use Rattle.nav_ground.specs.Fields.{IsField};
 ghost use Rattle.nav_ground.specs.Grounds.{IsSized};
 ghost use Rattle.nav_ground.specs.Limits.{IsSetting};
 ghost use Rattle.nav_text.specs.Lines.{lines};
 ghost use Rattle.nav_text.specs.Reading.{IsFirstFault};
 ghost use Rattle.span_text.specs.FieldFormat.{AtNav, field_format};
-ghost use Rattle.nav_desk.specs.BookState.{first_state};
-ghost use Rattle.nav_level.specs.Openings.{ground_of};
+ghost use Rattle.build_queue.specs.BookState.{first_state};
+ghost use Rattle.nav_book.specs.Openings.{ground_of};
 ghost use Rattle.nav_ffi.specs.Opening.{BeginsWith, HoldsOpened, fault_of};
+ghost use Rattle.nav_ffi.specs.Renewing.{IsRenewing};
+ghost use Rattle.nav_ground.specs.declared.field.Field.{Field};
+ghost use Rattle.nav_ground.specs.declared.setting.Setting.{Setting};
+ghost use Rattle.tri_raster.specs.declared.triangle.Tri.{Tri};
+ghost use Rattle.tri_raster.specs.Rasters.{IsRaster};
+ghost use Rattle.tri_raster.specs.TriFormat.{IsTextFault};
+ghost use Rattle.tri_raster.specs.TriText.{IsTriText};
+ghost use Rattle.nav_ffi.specs.Triangles.{HasTooMany, HoldsRastered};
 
-use crate::status::{FAULTY, NO_MEMORY, OK};
-use crate::wire::NavdFault;
 use layer_cut::ground;
+use nav_base::Steps;
+use nav_book::Level;
 use nav_ground::{Field, Setting};
-use nav_handle::NavdLevel;
-use nav_level::Level;
-use nav_steps::Steps;
+use nav_handle::{
+    EMPTY, FAULTY, NO_MEMORY, NO_ROOM, NOT_YET, NavdFault, NavdLevel, OK, TOO_MANY_SPANS,
+    lay_numbers,
+};
 use span_text::{FieldRefusal, read_field};
 use std::alloc::{AllocError, Global};
 use std::marker::Brand;
 use std::sync::Arc;
 use std::sync::ledger::{Blank, Ledger};
 use tile_build::build_tiles;
+use tri_raster::{RasterRefusal, raster, read_triangles};
 
 /// The level of a setting and a field, on the heap.
 pub(crate) fn level_of<L: Ledger>(
@@ -89,4 +99,81 @@ pub extern "C" fn navd_close(alloc: Global, level: &mut NavdLevel)
     ensures { level.new.level ≡ None }
 {
     let _ = level.take(alloc);
+}
+
+/// Begins the history again, where all of it is published, with the obstacles that are alive; the number of each is then its place in the list
+/// that is laid into `numbers`, from 1. How many there are is left at `count`.
+#[unsafe(no_mangle)]
+pub extern "C" fn navd_renew(
+    alloc: Global,
+    level: &mut NavdLevel,
+    numbers: &mut [u32],
+    count: &mut usize,
+) -> u32
+    ensures { IsRenewing level.old.level (count.old, numbers.old)
+        (record { status = result; held = level.new.level; told = (count.new, numbers.new) }) }
+{
+    let Some(mut held) = level.take(alloc) else {
+        return EMPTY;
+    };
+    if held.published() != held.length() {
+        level.put(held);
+        return NOT_YET;
+    }
+    let Ok(alive) = held.alive(alloc) else {
+        level.put(held);
+        return NO_MEMORY;
+    };
+    *count = alive.len();
+    if numbers.len() < alive.len() {
+        level.put(held);
+        return NO_ROOM;
+    }
+    held.begin_again();
+    level.put(held);
+    lay_numbers(alive.as_slice(), numbers);
+    OK
+}
+
+/// Opens the level of a triangle text, which is all of the bytes. A level that the handle held is closed then.
+#[unsafe(no_mangle)]
+pub extern "C" fn navd_open_triangles(
+    alloc: Global,
+    level: &mut NavdLevel,
+    text: &[u8],
+    fault: &mut NavdFault,
+) -> u32
+    ensures ends { (result ≡ OK) ⊎ ((result ≡ FAULTY) ⊎ ((result ≡ TOO_MANY_SPANS) ⊎ (result ≡ NO_MEMORY))) }
+    ensures opened { result ≡ OK → HoldsRastered text.now level.new.level }
+    ensures only { (setting : Setting) (header : ℕ) (tris : List Tri) (field : Field)
+        → IsTriText text.now setting header tris → IsRaster setting tris field → length field.spans ≤ 2000000
+        → ((result ≡ OK) × (level.new.level ≡ Some (first_state (ground_of setting field)))) ⊎ (result ≡ NO_MEMORY) }
+    ensures many { result ≡ TOO_MANY_SPANS → HasTooMany text.now }
+    ensures fault { result ≡ FAULTY → IsTextFault text.now (fault_of fault.new) }
+    ensures told { (result ≡ FAULTY → ⊥) → fault.new ≡ fault.old }
+    ensures kept { (result ≡ OK → ⊥) → level.new.level ≡ level.old.level }
+{
+    let text = match read_triangles(alloc, text) {
+        Ok(text) => text,
+        Err(FieldRefusal::Fault(first)) => {
+            *fault = NavdFault {
+                line: first.line,
+                kind: first.kind,
+            };
+            return FAULTY;
+        }
+        Err(FieldRefusal::OutOfMemory) => return NO_MEMORY,
+    };
+    let field = match raster(alloc, &text.setting, text.tris.as_slice()) {
+        Ok(field) => field,
+        Err(RasterRefusal::TooManySpans) => return TOO_MANY_SPANS,
+        Err(RasterRefusal::OutOfMemory) => return NO_MEMORY,
+    };
+    match level_of::<Brand>(alloc, text.setting, field, Blank::new(1)) {
+        Ok(made) => {
+            level.put(made);
+            OK
+        }
+        Err(_) => NO_MEMORY,
+    }
 }

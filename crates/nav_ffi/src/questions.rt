@@ -1,38 +1,24 @@
-//! Questions over the border.
+//! Questions of what a level has published, over the border, and its counts.
 
 ghost use Rattle.std.specs.Prelude.{◌≡◌};
 ghost use Rattle.nav_query.specs.Questions.{IsAnswerable};
-ghost use Rattle.nav_ffi.specs.Answers.{EndsSo, IsAsked, IsPrepared, IsReplied, shown_in};
+ghost use Rattle.off_links.specs.Questions.{CanHop, IsRightHop};
+ghost use Rattle.agent_walks.specs.Questions.{CanMarch, CanSend, IsRightMarched, IsRightSent};
+ghost use Rattle.nav_handle.specs.Answers.{EndsSo, IsAsked, IsAskedBy, IsPrepared, shown_in};
+ghost use Rattle.nav_handle.specs.Hopping.{HopRoom, hop_asked, hop_ends, told_hop};
+ghost use Rattle.nav_handle.specs.Telling.{PathRoom, told_floors, told_path, told_ray};
+ghost use Rattle.nav_handle.specs.Walking.{WalkRoom, march_asked, send_asked, told_march, told_send, walk_ends};
+ghost use Rattle.nav_handle.specs.Wire.{path_asked, ray_asked};
 ghost use Rattle.nav_ffi.specs.Counts.{AreCounted};
-ghost use Rattle.nav_ffi.specs.Telling.{PathRoom, told_floors, told_path, told_ray};
-ghost use Rattle.nav_ffi.specs.Wire.{path_asked, ray_asked};
 
-use crate::ends::{end_floors, end_path, end_ray};
-use crate::status::{EMPTY, NO_MEMORY, OK, OUT_OF_RANGE};
-use crate::ways::{is_way, path_question, ray_question};
-use crate::wire::{NavdCounts, NavdFloor, NavdLink, NavdPath, NavdRay, NavdTurn, NavdWay};
-use mesh_types::Answer;
 use nav_base::Question;
 use nav_ground::tiles;
-use nav_handle::NavdLevel;
+use nav_handle::{
+    EMPTY, NO_MEMORY, NavdCounts, NavdFloor, NavdHop, NavdJump, NavdLevel, NavdLink, NavdPath,
+    NavdRay, NavdStep, NavdTurn, NavdWalker, NavdWay, OK, OUT_OF_RANGE, cast_ray, find_floors,
+    find_hop, find_path, march, send,
+};
 use std::alloc::Global;
-
-/// An answer to a question of what a handle holds, or the status that says why there is none.
-fn answer(alloc: Global, level: &mut NavdLevel, question: &Question) -> Result<Answer, u32>
-    requires { IsAnswerable question.now }
-    ensures same { level.new.level ≡ level.old.level }
-    ensures replied { IsReplied (shown_in level.old.level) question.now result }
-{
-    let Some(held) = level.take(alloc) else {
-        return Err(EMPTY);
-    };
-    let told = held.ask(alloc, question);
-    level.put(held);
-    match told {
-        Ok((_, answer)) => Ok(answer),
-        Err(_) => Err(NO_MEMORY),
-    }
-}
 
 /// Makes landmarks of what is published, where there are none yet: paths are found sooner with them, until the next publish that shows something
 /// new. What is asked is answered rightly either way.
@@ -68,11 +54,7 @@ pub extern "C" fn navd_find_path(
         → EndsSo {Room = PathRoom} OUT_OF_RANGE (path.old, links.old, turns.old) (path.new, links.new, turns.new) result }
     ensures same { level.new.level ≡ level.old.level }
 {
-    if !is_way(way) {
-        return OUT_OF_RANGE;
-    }
-    let answer = answer(alloc, level, &path_question(way));
-    end_path(answer, path, links, turns)
+    find_path(alloc, level, way, links, turns, path)
 }
 
 /// The straight walk from a place toward a point.
@@ -87,11 +69,7 @@ pub extern "C" fn navd_cast_ray(
     ensures refused { (IsAnswerable (ray_asked way.now) → ⊥) → EndsSo OUT_OF_RANGE ray.old ray.new result }
     ensures same { level.new.level ≡ level.old.level }
 {
-    if !is_way(way) {
-        return OUT_OF_RANGE;
-    }
-    let answer = answer(alloc, level, &ray_question(way));
-    end_ray(answer, ray)
+    cast_ray(alloc, level, way, ray)
 }
 
 /// The floors of the free cells of a column; how many there are is left at `count`.
@@ -107,8 +85,62 @@ pub extern "C" fn navd_floors(
     ensures asked { IsAsked told_floors (shown_in level.old.level) (Question.Floor x z) (count.old, floors.old) (count.new, floors.new) result }
     ensures same { level.new.level ≡ level.old.level }
 {
-    let answer = answer(alloc, level, &Question::Floor { x, z });
-    end_floors(answer, count, floors)
+    find_floors(alloc, level, x, z, floors, count)
+}
+
+/// A cheapest walk over links and jumps, with taut lines between the jumps.
+#[unsafe(no_mangle)]
+pub extern "C" fn navd_find_hop(
+    alloc: Global,
+    level: &mut NavdLevel,
+    hop: &mut NavdHop,
+    jumps: &[NavdJump],
+    steps: &mut [NavdStep],
+    turns: &mut [NavdTurn],
+) -> u32
+    ensures asked { CanHop (hop_asked hop.old.way jumps.now) → IsAskedBy (IsRightHop (hop_asked hop.old.way jumps.now)) hop_ends told_hop
+        (shown_in level.old.level) (hop.old, steps.old, turns.old) (hop.new, steps.new, turns.new) result }
+    ensures refused { (CanHop (hop_asked hop.old.way jumps.now) → ⊥)
+        → EndsSo {Room = HopRoom} OUT_OF_RANGE (hop.old, steps.old, turns.old) (hop.new, steps.new, turns.new) result }
+    ensures same { level.new.level ≡ level.old.level }
+{
+    find_hop(alloc, level, hop, jumps, steps, turns)
+}
+
+/// Places a walker at a place, on its way to another.
+#[unsafe(no_mangle)]
+pub extern "C" fn navd_send(
+    alloc: Global,
+    level: &mut NavdLevel,
+    way: &NavdWay,
+    links: &mut [NavdLink],
+    walker: &mut NavdWalker,
+) -> u32
+    ensures asked { CanSend (send_asked way.now) → IsAskedBy (IsRightSent (send_asked way.now)) walk_ends (told_send way.now)
+        (shown_in level.old.level) (walker.old, links.old) (walker.new, links.new) result }
+    ensures refused { (CanSend (send_asked way.now) → ⊥)
+        → EndsSo {Room = WalkRoom} OUT_OF_RANGE (walker.old, links.old) (walker.new, links.new) result }
+    ensures same { level.new.level ≡ level.old.level }
+{
+    send(alloc, level, way, links, walker)
+}
+
+/// Moves a walker toward its goal, for a length in sixteenths of a cell.
+#[unsafe(no_mangle)]
+pub extern "C" fn navd_march(
+    alloc: Global,
+    level: &mut NavdLevel,
+    walker: &mut NavdWalker,
+    length: u32,
+    links: &mut [NavdLink],
+) -> u32
+    ensures asked { CanMarch (march_asked walker.old length) → IsAskedBy (IsRightMarched (march_asked walker.old length)) walk_ends told_march
+        (shown_in level.old.level) (walker.old, links.old) (walker.new, links.new) result }
+    ensures refused { (CanMarch (march_asked walker.old length) → ⊥)
+        → EndsSo {Room = WalkRoom} OUT_OF_RANGE (walker.old, links.old) (walker.new, links.new) result }
+    ensures same { level.new.level ≡ level.old.level }
+{
+    march(alloc, level, walker, length, links)
 }
 
 /// The counts of a level.
@@ -125,7 +157,7 @@ pub extern "C" fn navd_count(alloc: Global, level: &mut NavdLevel, counts: &mut 
         history: held.length(),
         target: held.target(),
         published: held.published(),
-        tiles: tiles(&held.level().setting),
+        tiles: tiles(&held.ground().setting),
         polygons,
         links,
     };

@@ -4,13 +4,13 @@ ghost use Rattle.std.specs.Prelude.{◌≡◌, IfSome, IsNone};
 ghost use Rattle.nav_ground.specs.History.{IsRequest};
 ghost use Rattle.nav_ground.specs.Limits.{IsShape};
 ghost use Rattle.nav_ffi.specs.Requests.{IsAddAsked, IsRequested};
-ghost use Rattle.nav_ffi.specs.Wire.{block_of, cylinder_of};
+ghost use Rattle.nav_handle.specs.Wire.{block_of, cylinder_of};
 
-use crate::shapes::{block_shape, cylinder_shape};
-use crate::status::{DEAD, EMPTY, HISTORY_FULL, OK, OUT_OF_RANGE, TOO_MANY};
-use crate::wire::{NavdBlock, NavdCylinder};
 use nav_ground::{Reply, Request, Shape};
-use nav_handle::NavdLevel;
+use nav_handle::{
+    DEAD, EMPTY, HISTORY_FULL, NavdBlock, NavdCylinder, NavdLevel, OK, OUT_OF_RANGE, TOO_MANY,
+    block_shape, cylinder_shape,
+};
 use std::alloc::Global;
 
 /// How an entry with a reply ends.

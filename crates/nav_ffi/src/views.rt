@@ -1,21 +1,27 @@
-//! Views over the border: what one thread asks while another changes the level.
+//! Views over the border: what one thread asks and is shown while another changes the level, and costs that a view has of its own.
 
 ghost use Rattle.std.specs.Prelude.{◌≡◌, None, IfOk};
 ghost use Rattle.nav_query.specs.Questions.{IsAnswerable};
-ghost use Rattle.nav_handle.specs.Views.{shown_to};
-ghost use Rattle.nav_ffi.specs.Answers.{EndsSo, IsAsked, IsReplied, seen_in};
-ghost use Rattle.nav_ffi.specs.Telling.{PathRoom, told_floors, told_path, told_ray};
-ghost use Rattle.nav_ffi.specs.Viewing.{IsLooked, own_in};
-ghost use Rattle.nav_ffi.specs.Wire.{path_asked, ray_asked};
+ghost use Rattle.off_links.specs.Questions.{CanHop, IsRightHop};
+ghost use Rattle.agent_walks.specs.Questions.{CanMarch, CanSend, IsRightMarched, IsRightSent};
+ghost use Rattle.nav_handle.specs.Views.{shown_to, AreCosts, seen_at};
+ghost use Rattle.nav_handle.specs.Answers.{EndsSo, IsAsked, IsAskedBy, seen_in};
+ghost use Rattle.nav_handle.specs.Hopping.{HopRoom, hop_asked, hop_ends, told_hop};
+ghost use Rattle.nav_handle.specs.Telling.{PathRoom, told_floors, told_path, told_ray};
+ghost use Rattle.nav_handle.specs.Walking.{WalkRoom, march_asked, send_asked, told_march, told_send, walk_ends};
+ghost use Rattle.nav_handle.specs.Wire.{path_asked, ray_asked};
+ghost use Rattle.nav_handle.specs.Looking.{AreShown, AreTold, faces_of, inner_links_of, border_links_of};
+ghost use Rattle.nav_ffi.specs.Viewing.{IsLooked, own_in, IsCosted};
 
-use crate::ends::{end_floors, end_path, end_ray};
-use crate::status::{EMPTY, NO_MEMORY, OK, OUT_OF_RANGE};
-use crate::ways::{is_way, path_question, ray_question};
-use crate::wire::{NavdFloor, NavdLink, NavdPath, NavdRay, NavdTurn, NavdWay};
-use mesh_types::Answer;
 use nav_base::Question;
-use nav_handle::{NavdLevel, NavdView, View};
-use nav_level::Level;
+use nav_book::Level;
+use nav_ground::AREAS;
+use nav_handle::{
+    EMPTY, MeshView, NO_MEMORY, NavdFace, NavdFloor, NavdHop, NavdJump, NavdLevel, NavdLink,
+    NavdPath, NavdRay, NavdShown, NavdStep, NavdTurn, NavdView, NavdWalker, NavdWay, OK,
+    OUT_OF_RANGE, cast_ray, find_floors, find_hop, find_path, march, send, table_of,
+    tell_border_links, tell_faces, tell_inner_links,
+};
 use std::alloc::{AllocError, Global};
 
 /// A view of what a level has published, on the heap, with the costs that the handle's view has of its own, if it holds one that has some.
@@ -23,12 +29,12 @@ fn next_view(
     alloc: Global,
     view: &mut NavdView,
     level: &Level,
-) -> Result<Box<View, Global>, AllocError>
+) -> Result<Box<MeshView, Global>, AllocError>
     ensures made { IfOk result (λ made. made.value ≡ shown_to (own_in view.old.view) level.now) }
     ensures same { view.new.view ≡ view.old.view }
 {
     let Some(held) = view.take(alloc) else {
-        return Ok(Box::new(alloc, View::of(level)?)?);
+        return Ok(Box::new(alloc, MeshView::of(level)?)?);
     };
     let made = held.again(alloc, level);
     view.put(held);
@@ -72,23 +78,6 @@ pub extern "C" fn navd_view_close(alloc: Global, view: &mut NavdView)
     let _ = view.take(alloc);
 }
 
-/// An answer to a question of what a view shows, or the status that says why there is none.
-fn answer(alloc: Global, view: &mut NavdView, question: &Question) -> Result<Answer, u32>
-    requires { IsAnswerable question.now }
-    ensures same { view.new.view ≡ view.old.view }
-    ensures replied { IsReplied (seen_in view.old.view) question.now result }
-{
-    let Some(held) = view.take(alloc) else {
-        return Err(EMPTY);
-    };
-    let told = held.ask(alloc, question);
-    view.put(held);
-    match told {
-        Ok(answer) => Ok(answer),
-        Err(_) => Err(NO_MEMORY),
-    }
-}
-
 /// A cheapest corridor and a taut path through it, in the mesh that a view shows.
 #[unsafe(no_mangle)]
 pub extern "C" fn navd_view_find_path(
@@ -105,11 +94,7 @@ pub extern "C" fn navd_view_find_path(
         → EndsSo {Room = PathRoom} OUT_OF_RANGE (path.old, links.old, turns.old) (path.new, links.new, turns.new) result }
     ensures same { view.new.view ≡ view.old.view }
 {
-    if !is_way(way) {
-        return OUT_OF_RANGE;
-    }
-    let answer = answer(alloc, view, &path_question(way));
-    end_path(answer, path, links, turns)
+    find_path(alloc, view, way, links, turns, path)
 }
 
 /// The straight walk from a place toward a point, in the mesh that a view shows.
@@ -124,11 +109,7 @@ pub extern "C" fn navd_view_cast_ray(
     ensures refused { (IsAnswerable (ray_asked way.now) → ⊥) → EndsSo OUT_OF_RANGE ray.old ray.new result }
     ensures same { view.new.view ≡ view.old.view }
 {
-    if !is_way(way) {
-        return OUT_OF_RANGE;
-    }
-    let answer = answer(alloc, view, &ray_question(way));
-    end_ray(answer, ray)
+    cast_ray(alloc, view, way, ray)
 }
 
 /// The floors of the free cells of a column, in the mesh that a view shows.
@@ -144,6 +125,173 @@ pub extern "C" fn navd_view_floors(
     ensures asked { IsAsked told_floors (seen_in view.old.view) (Question.Floor x z) (count.old, floors.old) (count.new, floors.new) result }
     ensures same { view.new.view ≡ view.old.view }
 {
-    let answer = answer(alloc, view, &Question::Floor { x, z });
-    end_floors(answer, count, floors)
+    find_floors(alloc, view, x, z, floors, count)
+}
+
+/// A cheapest walk over links and jumps, with taut lines between the jumps, in the mesh that a view shows.
+#[unsafe(no_mangle)]
+pub extern "C" fn navd_view_find_hop(
+    alloc: Global,
+    view: &mut NavdView,
+    hop: &mut NavdHop,
+    jumps: &[NavdJump],
+    steps: &mut [NavdStep],
+    turns: &mut [NavdTurn],
+) -> u32
+    ensures asked { CanHop (hop_asked hop.old.way jumps.now) → IsAskedBy (IsRightHop (hop_asked hop.old.way jumps.now)) hop_ends told_hop
+        (seen_in view.old.view) (hop.old, steps.old, turns.old) (hop.new, steps.new, turns.new) result }
+    ensures refused { (CanHop (hop_asked hop.old.way jumps.now) → ⊥)
+        → EndsSo {Room = HopRoom} OUT_OF_RANGE (hop.old, steps.old, turns.old) (hop.new, steps.new, turns.new) result }
+    ensures same { view.new.view ≡ view.old.view }
+{
+    find_hop(alloc, view, hop, jumps, steps, turns)
+}
+
+/// Places a walker at a place, on its way to another, in the mesh that a view shows.
+#[unsafe(no_mangle)]
+pub extern "C" fn navd_view_send(
+    alloc: Global,
+    view: &mut NavdView,
+    way: &NavdWay,
+    links: &mut [NavdLink],
+    walker: &mut NavdWalker,
+) -> u32
+    ensures asked { CanSend (send_asked way.now) → IsAskedBy (IsRightSent (send_asked way.now)) walk_ends (told_send way.now)
+        (seen_in view.old.view) (walker.old, links.old) (walker.new, links.new) result }
+    ensures refused { (CanSend (send_asked way.now) → ⊥)
+        → EndsSo {Room = WalkRoom} OUT_OF_RANGE (walker.old, links.old) (walker.new, links.new) result }
+    ensures same { view.new.view ≡ view.old.view }
+{
+    send(alloc, view, way, links, walker)
+}
+
+/// Moves a walker toward its goal, for a length in sixteenths of a cell, in the mesh that a view shows.
+#[unsafe(no_mangle)]
+pub extern "C" fn navd_view_march(
+    alloc: Global,
+    view: &mut NavdView,
+    walker: &mut NavdWalker,
+    length: u32,
+    links: &mut [NavdLink],
+) -> u32
+    ensures asked { CanMarch (march_asked walker.old length) → IsAskedBy (IsRightMarched (march_asked walker.old length)) walk_ends told_march
+        (seen_in view.old.view) (walker.old, links.old) (walker.new, links.new) result }
+    ensures refused { (CanMarch (march_asked walker.old length) → ⊥)
+        → EndsSo {Room = WalkRoom} OUT_OF_RANGE (walker.old, links.old) (walker.new, links.new) result }
+    ensures same { view.new.view ≡ view.old.view }
+{
+    march(alloc, view, walker, length, links)
+}
+
+/// How many entries a view shows, and how many tiles it has.
+#[unsafe(no_mangle)]
+pub extern "C" fn navd_view_count(alloc: Global, view: &mut NavdView, shown: &mut NavdShown) -> u32
+    ensures told { AreShown view.old.view shown.old shown.new result }
+    ensures same { view.new.view ≡ view.old.view }
+{
+    let Some(held) = view.take(alloc) else {
+        return EMPTY;
+    };
+    *shown = NavdShown {
+        published: held.length(),
+        tiles: held.tiles(),
+    };
+    view.put(held);
+    OK
+}
+
+/// The polygons of a tile of the mesh that a view shows; how many there are is left at `count`.
+#[unsafe(no_mangle)]
+pub extern "C" fn navd_view_polygons(
+    alloc: Global,
+    view: &mut NavdView,
+    tile: u32,
+    polygons: &mut [NavdFace],
+    count: &mut usize,
+) -> u32
+    ensures told { AreTold faces_of (seen_in view.old.view) tile (count.old, polygons.old) (count.new, polygons.new) result }
+    ensures same { view.new.view ≡ view.old.view }
+{
+    let Some(held) = view.take(alloc) else {
+        return EMPTY;
+    };
+    let status = tell_faces(held.mesh(), tile, polygons, count);
+    view.put(held);
+    status
+}
+
+/// The links between polygons of a tile of the mesh that a view shows; how many there are is left at `count`.
+#[unsafe(no_mangle)]
+pub extern "C" fn navd_view_inner_links(
+    alloc: Global,
+    view: &mut NavdView,
+    tile: u32,
+    links: &mut [NavdLink],
+    count: &mut usize,
+) -> u32
+    ensures told { AreTold inner_links_of (seen_in view.old.view) tile (count.old, links.old) (count.new, links.new) result }
+    ensures same { view.new.view ≡ view.old.view }
+{
+    let Some(held) = view.take(alloc) else {
+        return EMPTY;
+    };
+    let status = tell_inner_links(held.mesh(), tile, links, count);
+    view.put(held);
+    status
+}
+
+/// The links that lead from a tile of the mesh that a view shows to others; how many there are is left at `count`.
+#[unsafe(no_mangle)]
+pub extern "C" fn navd_view_border_links(
+    alloc: Global,
+    view: &mut NavdView,
+    tile: u32,
+    links: &mut [NavdLink],
+    count: &mut usize,
+) -> u32
+    ensures told { AreTold border_links_of (seen_in view.old.view) tile (count.old, links.old) (count.new, links.new) result }
+    ensures same { view.new.view ≡ view.old.view }
+{
+    let Some(held) = view.take(alloc) else {
+        return EMPTY;
+    };
+    let status = tell_border_links(held.mesh(), tile, links, count);
+    view.put(held);
+    status
+}
+
+/// A view with other costs, on the heap.
+fn costing(
+    alloc: Global,
+    view: &MeshView,
+    costs: [u32; AREAS],
+) -> Result<Box<MeshView, Global>, AllocError>
+    requires { AreCosts costs }
+    ensures { IfOk result (λ made. made.value ≡ seen_at costs view.now) }
+{
+    let made = view.costing(alloc, costs)?;
+    Ok(Box::new(alloc, made)?)
+}
+
+/// Gives a view costs of areas of its own, one an area, by its number.
+#[unsafe(no_mangle)]
+pub extern "C" fn navd_view_set_costs(alloc: Global, view: &mut NavdView, costs: &[u32]) -> u32
+    ensures { IsCosted view.old.view costs.now view.new.view result }
+{
+    let Some(table) = table_of(costs) else {
+        return OUT_OF_RANGE;
+    };
+    let Some(held) = view.take(alloc) else {
+        return EMPTY;
+    };
+    match costing(alloc, &held, table) {
+        Ok(made) => {
+            view.put(made);
+            OK
+        }
+        Err(_) => {
+            view.put(held);
+            NO_MEMORY
+        }
+    }
 }

@@ -7,7 +7,7 @@ use Rattle.std.proofs.lemmas.List.FromFn.{length-map-range_with_len, get_or-map-
 use Rattle.nav_ground.specs.declared.field.Span.{Span}
 use Rattle.nav_ground.specs.Limits.{IsSetting}
 use Rattle.nav_ground.specs.Fields.{IsSpan, IsSpanBefore, IsField}
-use Rattle.span_text.specs.declared.header.TextForm.TheVariants.{First}
+use Rattle.span_text.specs.declared.front.TextForm.TheVariants.{First}
 use Rattle.span_text.specs.FieldText.{IsFieldText}
 use Rattle.nav_gen.specs.Draws.{draw}
 use Rattle.nav_gen.specs.MadeField.{IsMadeSize, made_setting, made_span, made_spans, made_field}

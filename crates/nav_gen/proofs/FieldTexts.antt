@@ -6,7 +6,7 @@ use Rattle.std.specs.Fmt.{digits}
 use Rattle.nav_ground.specs.declared.field.Span.{Span}
 use Rattle.nav_text.specs.Lines.{ended, text_of}
 use Rattle.nav_text.specs.Forms.{line_text}
-use Rattle.span_text.specs.declared.header.TextForm.TheVariants.{First}
+use Rattle.span_text.specs.declared.front.TextForm.TheVariants.{First}
 use Rattle.span_text.specs.FieldText.{header_lines, span_text}
 use Rattle.nav_script.specs.Spelling.{line_of}
 use Rattle.nav_gen.specs.Draws.{next_state, state_after, draw}

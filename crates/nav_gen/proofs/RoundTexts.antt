@@ -5,8 +5,8 @@ use Rattle.std.specs.List.{range_with_len, flat_map}
 use Rattle.std.specs.Fmt.{digits}
 use Rattle.nav_text.specs.Lines.{ended, text_of}
 use Rattle.nav_text.specs.Forms.{line_text}
-use Rattle.nav_script.specs.declared.line.Line.{Line}
-use Rattle.nav_script.specs.declared.line.Line.TheVariants.{Ask, Add}
+use Rattle.nav_script.specs.declared.script.Line.{Line}
+use Rattle.nav_script.specs.declared.script.Line.TheVariants.{Ask, Add}
 use Rattle.nav_script.specs.Spelling.{line_of}
 use Rattle.nav_gen.specs.Draws.{next_state, state_after, draw}
 use Rattle.nav_gen.specs.MadeScript.{made_shape, made_question, made_drop, made_builds, made_round, made_rounds}

@@ -7,8 +7,8 @@ use Rattle.std.proofs.lemmas.Bool.{ltb-true}
 use Rattle.std.proofs.lemmas.Int.{ints}
 use Rattle.nav_ground.specs.Limits.{IsRound}
 use Rattle.nav_text.proofs.Inversions.{some_is}
-use Rattle.nav_script.specs.declared.line.Line.{Line}
-use Rattle.nav_script.specs.declared.line.Line.TheVariants.{Ask, Add, Undo, Claim, Submit, Publish}
+use Rattle.nav_script.specs.declared.script.Line.{Line}
+use Rattle.nav_script.specs.declared.script.Line.TheVariants.{Ask, Add, Undo, Claim, Submit, Publish}
 use Rattle.nav_script.specs.declared.script.Way.TheVariants.{Play}
 use Rattle.nav_script.specs.Lanes.{next_lane, lane_after, is_add, is_jump, adds_before}
 use Rattle.nav_script.proofs.LaneLaws.{adds_from, adds_step}

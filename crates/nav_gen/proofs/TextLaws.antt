@@ -5,7 +5,7 @@ use Rattle.std.proofs.lemmas.List.FromFn.{length-map-range_with_len}
 use Rattle.std.proofs.lemmas.Nat.{mul-le}
 use Rattle.nav_text.specs.Lines.{lines, text_of}
 use Rattle.nav_text.proofs.LineLaws.{lines_again}
-use Rattle.span_text.specs.declared.header.TextForm.TheVariants.{First}
+use Rattle.span_text.specs.declared.front.TextForm.TheVariants.{First}
 use Rattle.span_text.specs.FieldText.{header_lines, span_text, field_lines}
 use Rattle.span_text.proofs.OnlyLaws.{lines_begin}
 use Rattle.nav_script.specs.declared.script.Way.TheVariants.{Play}

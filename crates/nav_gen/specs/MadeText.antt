@@ -3,7 +3,7 @@ use Rattle.std.specs.Prelude.{ℕ, List, [], ◌++◌}
 use Rattle.nav_ground.specs.Limits.{IsSetting}
 use Rattle.nav_ground.specs.Fields.{IsField}
 use Rattle.nav_text.specs.Lines.{text_of}
-use Rattle.span_text.specs.declared.header.TextForm.TheVariants.{First}
+use Rattle.span_text.specs.declared.front.TextForm.TheVariants.{First}
 use Rattle.span_text.specs.FieldText.{field_lines, IsFieldText}
 use Rattle.nav_script.specs.declared.script.Way.TheVariants.{Play}
 use Rattle.nav_script.specs.Spelling.{script_text}

@@ -2,7 +2,7 @@
 use Rattle.std.specs.Prelude.{ℕ, List, [], ◌∷◌, ◌++◌, codes}
 use Rattle.nav_text.specs.Lines.{text_of}
 use Rattle.nav_text.specs.Forms.{line_text}
-use Rattle.nav_record.specs.declared.totals.Totals.{Totals}
+use Rattle.nav_record.specs.declared.step.Totals.{Totals}
 
 -- what was made; how many bytes and lines the input has; the history's length and the published one; how many paths were found and how many
 -- questions had no path, no start and no goal; what the paths cost together; and the polygons and directed links of the last mesh

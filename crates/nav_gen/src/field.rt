@@ -1,17 +1,18 @@
-//! The text of a made level.
+//! The text of a made level. Draws: numbers that look random and are the same on every machine.
+
 ghost use Rattle.std.specs.Prelude.{◌≡◌, ◌*◌, ◌++◌, map, OnOk};
 ghost use Rattle.nav_text.specs.Lines.{text_of};
-ghost use Rattle.span_text.specs.declared.header.TextForm.TheVariants.{First};
+ghost use Rattle.span_text.specs.declared.front.TextForm.TheVariants.{First};
 ghost use Rattle.span_text.specs.FieldText.{header_lines, span_text};
-ghost use Rattle.nav_gen.specs.Draws.{state_after};
+ghost use Rattle.nav_gen.specs.Draws.{state_after, next_state, draw};
 ghost use Rattle.nav_gen.specs.MadeField.{IsMadeSize, made_setting, made_spans};
 ghost use Rattle.nav_gen.specs.MadeText.{made_field_text};
 
-use crate::draws::Draws;
-use crate::line::push_line;
+use crate::report::push_line;
 use nav_ground::Span;
 use span_text::write_span;
 use std::alloc::AllocError;
+use std::marker::Model;
 
 /// The lines of the setting behind its size.
 const SETTING: &[u8] = b"tile 32\nagent 10 4 2\nerror 169\nmesh contours\nlimit 64\n";
@@ -64,5 +65,44 @@ fn made_span(size: u32, column: u32, drawn: u32) -> Span
         bottom: 0,
         top,
         area,
+    }
+}
+
+const FACTOR: u64 = 6364136223846793005;
+
+const STEP: u64 = 1442695040888963407;
+
+/// A stream of draws. Contracts see it as its state.
+#[derive(Drop)]
+pub struct Draws {
+    state: u64,
+}
+
+impl Model for Draws {
+    ghost use Rattle.std.specs.Prelude.{ℕ};
+
+    ghost Value = { ℕ };
+
+    ghost view = { λ a. a.state };
+}
+
+impl Draws {
+    /// The stream that begins at a number.
+    pub fn new(number: u32) -> Self
+        ensures { result ≡ number }
+    {
+        Draws {
+            state: u64::from(number),
+        }
+    }
+
+    /// The next draw, below 2147483648.
+    #[tactic(auto, unfolding(crate::specs::Draws::next_state), using(crate::proofs::DrawLaws::one_step))]
+    pub fn next(&mut self) -> u32
+        ensures value { result ≡ draw self.old 0 }
+        ensures state { self.new ≡ next_state self.old }
+    {
+        self.state = self.state.wrapping_mul(FACTOR).wrapping_add(STEP);
+        (self.state / 0x2_0000_0000) as u32
     }
 }

@@ -15,12 +15,8 @@
 //! and X1, Z1, X2 and Z2 modulo 16 * SIZE.
 #![tactic(auto)]
 
-mod draws;
 mod field;
-mod line;
 mod report;
 mod script;
-mod text;
 
-pub use report::summary;
-pub use text::{line_count, make};
+pub use report::{line_count, make, summary};

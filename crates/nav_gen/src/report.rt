@@ -1,10 +1,16 @@
-//! The summary of the play of a made input.
-ghost use Rattle.std.specs.Prelude.{◌≡◌, ◌++◌, ◌∷◌, [], IfOk, OnOk, codes};
-ghost use Rattle.nav_text.specs.Lines.{ended};
+//! The summary of the play of a made input. Lines of words and numbers. Where memory is refused a part of a line may stand at the end. The
+//! whole made input.
+
+ghost use Rattle.std.specs.Prelude.{◌≡◌, ◌++◌, ◌∷◌, [], IfOk, OnOk, codes, ℕ, ◌≤◌, length};
+ghost use Rattle.nav_text.specs.Lines.{ended, lines};
 ghost use Rattle.nav_text.specs.Forms.{line_text};
 ghost use Rattle.nav_gen.specs.Summary.{summary_text};
+ghost use Rattle.nav_gen.specs.MadeField.{IsMadeSize};
+ghost use Rattle.nav_gen.specs.MadeText.{made_text, IsMadeInput};
 
-use crate::line::{push_line, push_word};
+use crate::field::{Draws, push_field};
+use crate::script::push_rounds;
+use itoa::{Buffer, Integer};
 use nav_record::Totals;
 use std::alloc::{AllocError, Global};
 
@@ -69,4 +75,64 @@ fn push_cost(out: &mut Vec<u8>, cost: u64) -> Result<(), AllocError>
     push_word(out, b"cost", cost)?;
     out.push(b'\n')?;
     Ok(())
+}
+
+/// Appends a word, a space and a number.
+pub fn push_word<I: Integer>(out: &mut Vec<u8>, word: &[u8], number: I) -> Result<(), AllocError>
+    ensures { OnOk result (out.new.items ≡ out.old.items ++ (word.now ++ 32 ∷ I.text number)) }
+{
+    let mut buffer = Buffer::new();
+    out.extend_from_slice(word)?;
+    out.push(b' ')?;
+    out.extend_from_slice(buffer.format(number).as_bytes())
+}
+
+/// Appends the line of a word and numbers, each behind one space.
+pub fn push_line(out: &mut Vec<u8>, word: &[u8], numbers: &[u32]) -> Result<(), AllocError>
+    ensures { OnOk result (out.new.items ≡ out.old.items ++ ended (line_text word.now numbers.now)) }
+{
+    out.extend_from_slice(word)?;
+    for number in numbers {
+        push_word(out, b"", *number)?;
+    }
+    out.push(b'\n')?;
+    Ok(())
+}
+
+/// How many bytes the line of a span has at most.
+const SPAN_BYTES: usize = 21;
+/// How many bytes all other lines have together at most.
+const OTHER_BYTES: usize = 16384;
+
+/// The input that a number and a size determine: a level of `size` by `size` columns, and a script to be played in it. `size` is 32 to 512.
+/// The text has at most 67108864 bytes, as every input, and its room is taken at once.
+pub fn make(alloc: Global, number: u32, size: u32) -> Result<Vec<u8>, AllocError>
+    requires { IsMadeSize size }
+    ensures text { IfOk result (λ text. text.items ≡ made_text number size) }
+    // The text is in the grammar of inputs, and is no longer than these may be.
+    ensures input { IsMadeInput number size }
+    ensures short { length (made_text number size) ≤ 67108864 }
+{
+    write_input(alloc, number, size)
+}
+
+fn write_input(alloc: Global, number: u32, size: u32) -> Result<Vec<u8>, AllocError>
+    requires { IsMadeSize size }
+    ensures { IfOk result (λ text. text.items ≡ made_text number size) }
+{
+    let room = size as usize * size as usize * SPAN_BYTES + OTHER_BYTES;
+    let mut text = Vec::with_capacity(alloc, room)?;
+    let mut draws = Draws::new(number);
+    push_field(&mut text, &mut draws, size)?;
+    push_line(&mut text, b"script", &[1, 1])?;
+    push_rounds(&mut text, &mut draws, size)?;
+    Ok(text)
+}
+
+/// How many lines every made input of a size has.
+pub fn line_count(size: u32) -> u32
+    requires { IsMadeSize size }
+    ensures { (number : ℕ) → result ≡ length (lines (made_text number size)) }
+{
+    size * size + 1345
 }

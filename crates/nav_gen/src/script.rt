@@ -1,14 +1,14 @@
 //! The text of a made script.
 ghost use Rattle.std.specs.Prelude.{◌≡◌, ◌++◌, map, OnOk};
 ghost use Rattle.nav_text.specs.Lines.{ended, text_of};
-ghost use Rattle.nav_script.specs.declared.line.Line.TheVariants.{Add, Ask};
+ghost use Rattle.nav_script.specs.declared.script.Line.TheVariants.{Add, Ask};
 ghost use Rattle.nav_script.specs.Spelling.{line_of};
 ghost use Rattle.nav_gen.specs.Draws.{state_after};
 ghost use Rattle.nav_gen.specs.MadeField.{IsMadeSize};
 ghost use Rattle.nav_gen.specs.MadeScript.{made_shape, made_question, made_drop, made_builds, made_round, made_rounds};
 
-use crate::draws::Draws;
-use crate::line::push_line;
+use crate::field::Draws;
+use crate::report::push_line;
 use std::alloc::AllocError;
 
 /// How many rounds there are.

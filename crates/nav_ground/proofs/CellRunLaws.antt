@@ -4,11 +4,11 @@ use Rattle.std.specs.Prelude.{IsTrue, Option, Some, None}
 use Rattle.std.proofs.lemmas.Bool.{cases_lt}
 use Rattle.std.proofs.lemmas.List.{append-nil, append_assoc, append_cancel_left, length-append, nil_from_length, take-append-drop, take_all, take_more, drop_more, drop_all}
 use Rattle.nav_ground.specs.declared.cell.Cell.{Cell}
-use Rattle.nav_ground.specs.declared.runs.Run.{Run}
-use Rattle.nav_ground.specs.declared.runs.Spot.{Spot}
+use Rattle.nav_ground.specs.declared.padded_cells.CellRun.{CellRun}
+use Rattle.nav_ground.specs.declared.padded_cells.RunCursor.{RunCursor}
 use Rattle.nav_ground.specs.CellRuns.{IsRunOf, IsFirst, HasPassed, cells_of_run, cells_of_runs, cells_behind}
 
-pub runs_push : (cells : List Cell) (runs : List Run) (run : Run)
+pub runs_push : (cells : List Cell) (runs : List CellRun) (run : CellRun)
     → cells_of_runs cells (runs ++ run ∷ []) ≡ cells_of_runs cells runs ++ cells_of_run cells run
 runs_push cells [] run = append-nil (cells_of_run cells run)
 runs_push cells (r ∷ runs) run =
@@ -16,41 +16,41 @@ runs_push cells (r ∷ runs) run =
     ∙ sym (append_assoc (cells_of_run cells r) (cells_of_runs cells runs) (cells_of_run cells run))
 
 -- the cells of one more run
-pub runs_more : (cells : List Cell) (runs : List Run) (i : ℕ) (d : Run) → i < length runs
+pub runs_more : (cells : List Cell) (runs : List CellRun) (i : ℕ) (d : CellRun) → i < length runs
     → cells_of_runs cells (take i runs) ++ cells_of_run cells (get_or runs i d) ≡ cells_of_runs cells (take (i + 1) runs)
 runs_more cells runs i d there =
     sym (runs_push cells (take i runs) (get_or runs i d))
     ∙ ap (cells_of_runs cells) (sym (take_more runs i d there))
 
-runs_append : (cells : List Cell) (runs more : List Run) → cells_of_runs cells (runs ++ more) ≡ cells_of_runs cells runs ++ cells_of_runs cells more
+runs_append : (cells : List Cell) (runs more : List CellRun) → cells_of_runs cells (runs ++ more) ≡ cells_of_runs cells runs ++ cells_of_runs cells more
 runs_append cells [] more = refl
 runs_append cells (r ∷ runs) more =
     ap (λ (cs : List Cell). cells_of_run cells r ++ cs) (runs_append cells runs more)
     ∙ sym (append_assoc (cells_of_run cells r) (cells_of_runs cells runs) (cells_of_runs cells more))
 
 -- a run without cells, and one with a first cell
-run_empty : (cells : List Cell) (run : Run) → run.to ≤ run.from → cells_of_run cells run ≡ []
+run_empty : (cells : List Cell) (run : CellRun) → run.to ≤ run.from → cells_of_run cells run ≡ []
 run_empty cells run none =
     let no : run.to - run.from ≡ 0 = omega (arith, none) in
     ap (λ n. take n (drop run.from cells)) no
 
-pub run_front : (cells : List Cell) (run : Run) (d : Cell) → run.from < run.to → run.to ≤ length cells
+pub run_front : (cells : List Cell) (run : CellRun) (d : Cell) → run.from < run.to → run.to ≤ length cells
     → cells_of_run cells run ≡ get_or cells run.from d ∷ cells_of_run cells (record { from = run.from + 1; to = run.to })
 run_front cells run d some within =
     let more : run.to - run.from ≡ suc (run.to - (run.from + 1)) = omega (arith, some) in
     (λ i. take (more i) (drop_more cells run.from d (omega (arith, some, within)) i))
 
 -- where nothing is left of a run, the next run is at hand
-pub at_next : (cells : List Cell) (runs : List Run) (spot : Spot) (next : Run) → spot.left.to ≤ spot.left.from → spot.begun < length runs
+pub at_next : (cells : List Cell) (runs : List CellRun) (spot : RunCursor) (next : CellRun) → spot.left.to ≤ spot.left.from → spot.begun < length runs
     → next ≡ get_or runs spot.begun next
     → cells_behind cells runs (record { left = next; begun = spot.begun + 1 }) ≡ cells_behind cells runs spot
 at_next cells runs spot next none there is =
-    ap (λ (r : Run). cells_of_run cells r ++ cells_of_runs cells (drop (spot.begun + 1) runs)) is
+    ap (λ (r : CellRun). cells_of_run cells r ++ cells_of_runs cells (drop (spot.begun + 1) runs)) is
     ∙ ap (cells_of_runs cells) (sym (drop_more runs spot.begun next there))
     ∙ ap (λ (cs : List Cell). cs ++ cells_of_runs cells (drop spot.begun runs)) (sym (run_empty cells spot.left none))
 
 -- at the end there are no cells
-pub none_behind : (cells : List Cell) (runs : List Run) (spot : Spot) → spot.left.to ≤ spot.left.from → length runs ≤ spot.begun
+pub none_behind : (cells : List Cell) (runs : List CellRun) (spot : RunCursor) → spot.left.to ≤ spot.left.from → length runs ≤ spot.begun
     → cells_behind cells runs spot ≡ []
 none_behind cells runs spot none all =
     (λ i. run_empty cells spot.left none i ++ cells_of_runs cells (drop_all spot.begun runs all i))
@@ -58,13 +58,13 @@ none_behind cells runs spot none all =
 blank : Cell
 blank = record { at = record { x = 0; z = 0; level = 0 }; floor = 0; ceiling = 0; area = 0; next = [] }
 
-pub some_behind : (cells : List Cell) (runs : List Run) (spot : Spot) → IsRunOf cells spot.left → spot.left.from < spot.left.to
+pub some_behind : (cells : List Cell) (runs : List CellRun) (spot : RunCursor) → IsRunOf cells spot.left → spot.left.from < spot.left.to
     → cells_behind cells runs spot ≡ [] → ⊥
 some_behind cells runs spot left some none =
     absurd (omega (arith, ap length (sym (ap (λ (cs : List Cell). cs ++ cells_of_runs cells (drop spot.begun runs)) (run_front cells spot.left blank some left.within)) ∙ none)))
 
 -- the first cell of a run comes next, and no other
-pub first_passed : (cells : List Cell) (runs : List Run) (spot here : Spot) (next : Cell) → IsRunOf cells here.left
+pub first_passed : (cells : List Cell) (runs : List CellRun) (spot here : RunCursor) (next : Cell) → IsRunOf cells here.left
     → cells_behind cells runs here ≡ cells_behind cells runs spot → IsFirst cells here.left next
     → HasPassed cells runs (cells_behind cells runs spot) (next ∷ []) (Some (record { left = record { from = here.left.from + 1; to = here.left.to }; begun = here.begun }))
 first_passed cells runs spot here next left same first =
@@ -74,7 +74,7 @@ first_passed cells runs spot here next left same first =
     ∙ ap (λ (cs : List Cell). cs ++ rest) (run_front cells here.left next first.0 left.within)
     ∙ ap (λ (c : Cell). c ∷ (after ++ rest)) first.1
 
-pub other_passed : (cells : List Cell) (runs : List Run) (spot here : Spot) (next : Cell) → IsRunOf cells here.left
+pub other_passed : (cells : List Cell) (runs : List CellRun) (spot here : RunCursor) (next : Cell) → IsRunOf cells here.left
     → cells_behind cells runs here ≡ cells_behind cells runs spot → (here.left.to ≤ here.left.from → length runs ≤ here.begun)
     → (IsFirst cells here.left next → ⊥) → HasPassed cells runs (cells_behind cells runs spot) (next ∷ []) None
 other_passed cells runs spot here next left same end other behind is =
@@ -89,18 +89,18 @@ other_passed cells runs spot here next left same end other behind is =
     ]
 
 -- what comes next behind what came before
-passed_more : (cells : List Cell) (runs : List Run) (spot : Spot) (whole begin here next : List Cell) → whole ≡ begin ++ here
+passed_more : (cells : List Cell) (runs : List CellRun) (spot : RunCursor) (whole begin here next : List Cell) → whole ≡ begin ++ here
     → HasPassed cells runs here next (Some spot) → whole ≡ (begin ++ next) ++ cells_behind cells runs spot
 passed_more cells runs spot whole begin here next is passed =
     is ∙ ap (λ (cs : List Cell). begin ++ cs) passed ∙ sym (append_assoc begin next (cells_behind cells runs spot))
 
-passed_no_more : (cells : List Cell) (runs : List Run) (whole begin here next rest : List Cell) → whole ≡ begin ++ here
+passed_no_more : (cells : List Cell) (runs : List CellRun) (whole begin here next rest : List Cell) → whole ≡ begin ++ here
     → HasPassed cells runs here next None → whole ≡ (begin ++ next) ++ rest → ⊥
 passed_no_more cells runs whole begin here next rest is none same =
     none rest (append_cancel_left begin here (next ++ rest) (sym is ∙ same ∙ append_assoc begin next rest))
 
 -- one of several cells that does not come next
-pub no_cell_passed : (cells : List Cell) (runs : List Run) (spot : Spot) (whole next : List Cell) (i : ℕ) (item : Cell) (rest : List Cell) → i < length next
+pub no_cell_passed : (cells : List Cell) (runs : List CellRun) (spot : RunCursor) (whole next : List Cell) (i : ℕ) (item : Cell) (rest : List Cell) → i < length next
     → item ≡ get_or next i item → whole ≡ take i next ++ cells_behind cells runs spot
     → HasPassed cells runs (cells_behind cells runs spot) (item ∷ []) None → whole ≡ next ++ rest → ⊥
 no_cell_passed cells runs spot whole next i item rest there is before none same =
@@ -111,7 +111,7 @@ no_cell_passed cells runs spot whole next i item rest there is before none same 
     (same ∙ ap (λ (cs : List Cell). cs ++ rest) parts ∙ append_assoc (take i next ++ item ∷ []) (drop (i + 1) next) rest)
 
 -- the cells of one of several runs, where they come next in another list, and where they do not
-pub next_run_passed : (cells : List Cell) (runs : List Run) (others : List Cell) (other_runs : List Run) (spot behind : Spot) (i : ℕ) (d : Run) (next : List Cell)
+pub next_run_passed : (cells : List Cell) (runs : List CellRun) (others : List Cell) (other_runs : List CellRun) (spot behind : RunCursor) (i : ℕ) (d : CellRun) (next : List Cell)
     → i < length runs → next ≡ cells_of_run cells (get_or runs i d)
     → cells_of_runs others other_runs ≡ cells_of_runs cells (take i runs) ++ cells_behind others other_runs spot
     → HasPassed others other_runs (cells_behind others other_runs spot) next (Some behind)
@@ -121,7 +121,7 @@ next_run_passed cells runs others other_runs spot behind i d next there is befor
     ∙ ap (λ (cs : List Cell). cs ++ cells_behind others other_runs behind)
     (ap (λ (cs : List Cell). cells_of_runs cells (take i runs) ++ cs) is ∙ runs_more cells runs i d there)
 
-pub no_run_passed : (cells : List Cell) (runs : List Run) (others : List Cell) (other_runs : List Run) (spot : Spot) (i : ℕ) (d : Run) (next : List Cell)
+pub no_run_passed : (cells : List Cell) (runs : List CellRun) (others : List Cell) (other_runs : List CellRun) (spot : RunCursor) (i : ℕ) (d : CellRun) (next : List Cell)
     → i < length runs → next ≡ cells_of_run cells (get_or runs i d)
     → cells_of_runs others other_runs ≡ cells_of_runs cells (take i runs) ++ cells_behind others other_runs spot
     → HasPassed others other_runs (cells_behind others other_runs spot) next None
@@ -135,12 +135,12 @@ no_run_passed cells runs others other_runs spot i d next there is before none sa
     passed_no_more others other_runs (cells_of_runs others other_runs) begin (cells_behind others other_runs spot) next rest before none (sym same ∙ all)
 
 -- where the cells of all runs came first in another list, the lists are the same if nothing is left of it
-pub all_passed : (cells : List Cell) (runs : List Run) (whole rest : List Cell) (i : ℕ) (end : Bool) → length runs ≤ i
+pub all_passed : (cells : List Cell) (runs : List CellRun) (whole rest : List Cell) (i : ℕ) (end : Bool) → length runs ≤ i
     → whole ≡ cells_of_runs cells (take i runs) ++ rest → (IsTrue end → rest ≡ []) × (rest ≡ [] → IsTrue end)
     → (IsTrue end → cells_of_runs cells runs ≡ whole) × (cells_of_runs cells runs ≡ whole → IsTrue end)
 all_passed cells runs whole rest i end all before ends =
     let is : whole ≡ cells_of_runs cells runs ++ rest =
-    before ∙ ap (λ (rs : List Run). cells_of_runs cells rs ++ rest) (take_all i runs all) in (
+    before ∙ ap (λ (rs : List CellRun). cells_of_runs cells rs ++ rest) (take_all i runs all) in (
       λ holds. sym (is ∙ ap (λ (cs : List Cell). cells_of_runs cells runs ++ cs) (ends.0 holds) ∙ append-nil (cells_of_runs cells runs)),
       λ same. ends.1 (nil_from_length rest (omega (arith, ap length is, length-append (cells_of_runs cells runs) rest, ap length same))),
     )

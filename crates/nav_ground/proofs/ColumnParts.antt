@@ -7,7 +7,7 @@ use Rattle.std.proofs.lemmas.List.{take-append-drop, append-nil, get_or-take, ge
 use Rattle.std.proofs.lemmas.List.Elements.{filter-append}
 use Rattle.nav_ground.specs.declared.cell.Cell.{Cell}
 use Rattle.nav_ground.specs.declared.cell.CellRef.{CellRef}
-use Rattle.nav_ground.specs.declared.columns.Part.{Part}
+use Rattle.nav_ground.specs.declared.cell.ColumnCells.{ColumnCells}
 use Rattle.nav_ground.specs.Cells.{IsCellBefore}
 use Rattle.nav_ground.proofs.Selections.{filter_all, filter_none}
 use Rattle.nav_ground.specs.ColumnParts.{IsPartOf}
@@ -79,7 +79,7 @@ inside_first x z cells first ordered others i j d le within later =
     (λ early. both_ways (is_before_column x z (get_or cells (first + i) d)) late (before_from x z (get_or cells (first + i) d) early)) in
     rw (get_or-drop first cells i d) (inside_from x z (get_or cells (first + i) d) same.0 same.1)
 
-module _ (x z : ℕ) (cells : List Cell) (part : Part) (is : IsPartOf x z cells part) where
+module _ (x z : ℕ) (cells : List Cell) (part : ColumnCells) (is : IsPartOf x z cells part) where
   -- the cells before the part stand in other columns
   pub part_early : All (λ (cell : Cell). is_in_column x z cell ≡ false) (take part.first cells)
   part_early k d within =
@@ -99,7 +99,7 @@ module _ (x z : ℕ) (cells : List Cell) (part : Part) (is : IsPartOf x z cells 
       (is.inside.1 (part.count + k) d (omega arith) (omega (arith, length-drop part.count (drop part.first cells))))
 
 -- a column's cells are those of its part
-pub part_is : (x z : ℕ) (cells : List Cell) (part : Part) → IsPartOf x z cells part → take part.count (drop part.first cells) ≡ filter (is_in_column x z) cells
+pub part_is : (x z : ℕ) (cells : List Cell) (part : ColumnCells) → IsPartOf x z cells part → take part.count (drop part.first cells) ≡ filter (is_in_column x z) cells
 part_is x z cells part is =
     sym (ap (filter inside) (sym (take-append-drop part.first cells))
     ∙ filter-append inside (take part.first cells) rest

@@ -214,28 +214,28 @@ layers_within setting field =
     (λ tile there. wide_within setting (cells_of setting field) (kept_cells_of setting field) tile)
 
 -- the layers of a ground keep the rules of layers
-pub IsLayerOf-from_ground : (whole : Ground) → IsGround whole → All (IsLayerOf whole.setting) whole.layers
-IsLayerOf-from_ground whole rules' =
-    All-same (IsLayerOf whole.setting) whole.layers (layers_of whole.setting whole.field) rules'.layers
-    (layers_rules whole.setting whole.field rules'.setting rules'.field)
+pub IsLayerOf-from_ground : (ground : Ground) → IsGround ground → All (IsLayerOf ground.setting) ground.layers
+IsLayerOf-from_ground ground rules' =
+    All-same (IsLayerOf ground.setting) ground.layers (layers_of ground.setting ground.field) rules'.layers
+    (layers_rules ground.setting ground.field rules'.setting rules'.field)
 
-pub IsWideWithin-from_ground : (whole : Ground) → IsGround whole → All (IsWideWithin whole.setting) whole.layers
-IsWideWithin-from_ground whole rules' =
-    All-same (IsWideWithin whole.setting) whole.layers (layers_of whole.setting whole.field) rules'.layers
-    (layers_within whole.setting whole.field)
+pub IsWideWithin-from_ground : (ground : Ground) → IsGround ground → All (IsWideWithin ground.setting) ground.layers
+IsWideWithin-from_ground ground rules' =
+    All-same (IsWideWithin ground.setting) ground.layers (layers_of ground.setting ground.field) rules'.layers
+    (layers_within ground.setting ground.field)
 
 -- there is one layer a tile, in order of tiles
-pub length-layers_of_ground : (whole : Ground) → IsGround whole → length whole.layers ≡ tile_count whole.setting
+pub length-layers_of_ground : (ground : Ground) → IsGround ground → length ground.layers ≡ tile_count ground.setting
 unfolding layers_of
-length-layers_of_ground whole rules' =
-    ap length rules'.layers ∙ length-map-range_with_len (layer_of whole.setting whole.field) 0 (tile_count whole.setting)
+length-layers_of_ground ground rules' =
+    ap length rules'.layers ∙ length-map-range_with_len (layer_of ground.setting ground.field) 0 (tile_count ground.setting)
 
-pub layer_of_ground : (whole : Ground) (tile : ℕ) (d : Layer) → IsGround whole → tile < tile_count whole.setting
-    → get_or whole.layers tile d ≡ layer_of whole.setting whole.field tile
+pub layer_of_ground : (ground : Ground) (tile : ℕ) (d : Layer) → IsGround ground → tile < tile_count ground.setting
+    → get_or ground.layers tile d ≡ layer_of ground.setting ground.field tile
 unfolding layers_of
-layer_of_ground whole tile d rules' there =
+layer_of_ground ground tile d rules' there =
     ap (λ (layers : List Layer). get_or layers tile d) rules'.layers
-    ∙ get_or-map-range_with_len (layer_of whole.setting whole.field) 0 (tile_count whole.setting) tile tile d there (omega arith)
+    ∙ get_or-map-range_with_len (layer_of ground.setting ground.field) 0 (tile_count ground.setting) tile tile d there (omega arith)
 
 -- the cells of a layer pass the test of its tile's columns
 pub layer_inside : (setting : Setting) (field : Field) (tile : ℕ)

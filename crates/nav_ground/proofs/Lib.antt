@@ -3,6 +3,7 @@ pub mod Squares
 pub mod Places
 pub mod Kept
 pub mod Directions
+pub mod DirectionLaws
 pub mod Selections
 pub mod FilterLaws
 pub mod Found

@@ -6,8 +6,8 @@ use Rattle.std.proofs.lemmas.Bool.{eq-eqb, ne_eqb}
 use Rattle.std.proofs.lemmas.List.{append-nil, take_more, length-take-le}
 use Rattle.std.proofs.lemmas.List.Elements.{filter-append, All-head, All-tail}
 use Rattle.nav_ground.specs.declared.cell.Cell.{Cell}
-use Rattle.nav_ground.specs.declared.columns.Part.{Part}
-use Rattle.nav_ground.specs.declared.mark.Mark.{Mark}
+use Rattle.nav_ground.specs.declared.cell.ColumnCells.{ColumnCells}
+use Rattle.nav_ground.specs.declared.free_layer.CellMark.{CellMark}
 use Rattle.nav_ground.specs.CellColumns.{is_in_column}
 use Rattle.nav_ground.specs.ColumnParts.{IsPartOf}
 use Rattle.nav_ground.specs.Marks.{cell_left, cells_left, marked_cell}
@@ -18,12 +18,12 @@ cons_more : (option : Option Cell) (xs ys : List Cell) → cons_option option (x
 cons_more None xs ys = refl
 cons_more (Some x) xs ys = refl
 
-no_cells : (marks : List Mark) → cells_left marks [] ≡ []
+no_cells : (marks : List CellMark) → cells_left marks [] ≡ []
 no_cells [] = refl
 no_cells (mark ∷ marks) = refl
 
 -- one more mark and cell
-pub left_push : (marks : List Mark) (cells : List Cell) (mark : Mark) (cell : Cell) → length marks ≡ length cells
+pub left_push : (marks : List CellMark) (cells : List Cell) (mark : CellMark) (cell : Cell) → length marks ≡ length cells
     → cells_left (marks ++ mark ∷ []) (cells ++ cell ∷ []) ≡ cells_left marks cells ++ cons_option (cell_left mark cell) []
 left_push [] [] mark cell same = refl
 left_push [] (c ∷ cells) mark cell same = absurd (omega (arith, same))
@@ -32,17 +32,17 @@ left_push (m ∷ marks) (c ∷ cells) mark cell same =
     ap (cons_option (cell_left m c)) (left_push marks cells mark cell (omega (arith, same)))
     ∙ cons_more (cell_left m c) (cells_left marks cells) (cons_option (cell_left mark cell) [])
 
-left_more : (marks : List Mark) (cells : List Cell) (i : ℕ) (e : Mark) (d : Cell) → length marks ≡ length cells → i < length cells
+left_more : (marks : List CellMark) (cells : List Cell) (i : ℕ) (e : CellMark) (d : Cell) → length marks ≡ length cells → i < length cells
     → cells_left (take (i + 1) marks) (take (i + 1) cells)
     ≡ cells_left (take i marks) (take i cells) ++ cons_option (cell_left (get_or marks i e) (get_or cells i d)) []
 left_more marks cells i e d same there =
-    ap (λ (ms : List Mark). cells_left ms (take (i + 1) cells)) (take_more marks i e (omega (arith, same, there)))
+    ap (λ (ms : List CellMark). cells_left ms (take (i + 1) cells)) (take_more marks i e (omega (arith, same, there)))
     ∙ ap (λ (cs : List Cell). cells_left (take i marks ++ get_or marks i e ∷ []) cs) (take_more cells i d there)
     ∙ left_push (take i marks) (take i cells) (get_or marks i e) (get_or cells i d)
     (length-take-le i marks (omega (arith, same, there)) ∙ sym (length-take-le i cells (omega (arith, there))))
 
 -- a cell that is kept, and one that is not
-pub left_kept : (marks : List Mark) (cells left : List Cell) (i : ℕ) (e : Mark) (item cell : Cell) → length marks ≡ length cells → i < length cells
+pub left_kept : (marks : List CellMark) (cells left : List Cell) (i : ℕ) (e : CellMark) (item cell : Cell) → length marks ≡ length cells → i < length cells
     → (get_or marks i e).area ≢ 0 → item ≡ get_or cells i item → cell ≡ marked_cell (get_or marks i e) item
     → left ≡ cells_left (take i marks) (take i cells) → left ++ cell ∷ [] ≡ cells_left (take (i + 1) marks) (take (i + 1) cells)
 left_kept marks cells left i e item cell same there kept is made before =
@@ -52,7 +52,7 @@ left_kept marks cells left i e item cell same there kept is made before =
     ∙ ap (λ (none : Bool). cells_left (take i marks) (take i cells) ++ cons_option (if none then None else Some (marked_cell mark (get_or cells i item))) []) (sym (ne_eqb mark.area 0 kept))
     ∙ sym (left_more marks cells i e item same there)
 
-pub left_lost : (marks : List Mark) (cells left : List Cell) (i : ℕ) (e : Mark) (item : Cell) → length marks ≡ length cells → i < length cells
+pub left_lost : (marks : List CellMark) (cells left : List Cell) (i : ℕ) (e : CellMark) (item : Cell) → length marks ≡ length cells → i < length cells
     → (get_or marks i e).area ≡ 0
     → left ≡ cells_left (take i marks) (take i cells) → left ≡ cells_left (take (i + 1) marks) (take (i + 1) cells)
 left_lost marks cells left i e item same there lost before =
@@ -62,7 +62,7 @@ left_lost marks cells left i e item same there lost before =
     ∙ sym (left_more marks cells i e item same there)
 
 -- one more mark of those that leave the free cells
-pub marks_more : (marks : List Mark) (cells free : List Cell) (i passed next : ℕ) (mark : Mark) (item : Cell) → length marks ≡ i → i < length cells
+pub marks_more : (marks : List CellMark) (cells free : List Cell) (i passed next : ℕ) (mark : CellMark) (item : Cell) → length marks ≡ i → i < length cells
     → item ≡ get_or cells i item → cells_left marks (take i cells) ≡ take passed free
     → take next free ≡ take passed free ++ cons_option (cell_left mark item) []
     → cells_left (marks ++ mark ∷ []) (take (i + 1) cells) ≡ take next free
@@ -74,7 +74,7 @@ marks_more marks cells free i passed next mark item count there is before after 
     ∙ sym after
 
 -- what is left in two parts
-left_parts : (n : ℕ) (marks : List Mark) (cells : List Cell)
+left_parts : (n : ℕ) (marks : List CellMark) (cells : List Cell)
     → cells_left marks cells ≡ cells_left (take n marks) (take n cells) ++ cells_left (drop n marks) (drop n cells)
 left_parts zero marks cells = refl
 left_parts (suc n) [] cells = refl
@@ -85,7 +85,7 @@ left_parts (suc n) (m ∷ marks) (c ∷ cells) =
 
 -- a cell that is left stands in the column where it stood before
 module _ (x z : ℕ) where
-  left_outside : (marks : List Mark) (cells : List Cell) → All (λ (cell : Cell). is_in_column x z cell ≡ false) cells
+  left_outside : (marks : List CellMark) (cells : List Cell) → All (λ (cell : Cell). is_in_column x z cell ≡ false) cells
       → filter (is_in_column x z) (cells_left marks cells) ≡ []
   left_outside [] cells each = refl
   left_outside (m ∷ marks) [] each = refl
@@ -98,7 +98,7 @@ module _ (x z : ℕ) where
         | false ↦ ap (λ b. cond b (marked_cell m c ∷ filter p (cells_left marks cells)) (filter p (cells_left marks cells))) here ∙ rest
       ]
 
-  left_inside : (marks : List Mark) (cells : List Cell) → All (λ (cell : Cell). is_in_column x z cell ≡ true) cells
+  left_inside : (marks : List CellMark) (cells : List Cell) → All (λ (cell : Cell). is_in_column x z cell ≡ true) cells
       → filter (is_in_column x z) (cells_left marks cells) ≡ cells_left marks cells
   left_inside [] cells each = refl
   left_inside (m ∷ marks) [] each = refl
@@ -115,7 +115,7 @@ module _ (x z : ℕ) where
       ]
 
   -- what is left of a column
-  pub left_column : (marks : List Mark) (cells : List Cell) (part : Part) → IsPartOf x z cells part
+  pub left_column : (marks : List CellMark) (cells : List Cell) (part : ColumnCells) → IsPartOf x z cells part
       → cells_left (take part.count (drop part.first marks)) (take part.count (drop part.first cells)) ≡ filter (is_in_column x z) (cells_left marks cells)
   left_column marks cells part is =
       let p = is_in_column x z in

@@ -24,6 +24,7 @@ abbrev pub is_turn : Cell → Cell → Cell → Bool
 is_turn from by to =
     list_any (λ dir. is_naming dir from by.at && (is_naming ((dir + 1) % 4) by to.at || is_naming ((dir + 3) % 4) by to.at)) (0 ∷ 1 ∷ 2 ∷ 3 ∷ [])
 
+-- a diagonal step leads over some cell of the list
 abbrev pub is_diagonal_step : List Cell → Cell → Cell → Bool
 is_diagonal_step cells from to = list_any (λ (by : Cell). is_turn from by to) cells
 
@@ -42,6 +43,7 @@ is_walk_end cells (suc (suc (suc cost))) to =
 abbrev pub is_kept : List Cell → ℕ → Cell → Bool
 is_kept cells radius cell = not (list_any (λ cost. is_walk_end cells cost cell) (range_with_len 0 (2 * radius)))
 
+-- the cells of a list that are kept for a radius, in order
 abbrev pub kept_cells : List Cell → ℕ → List Cell
 kept_cells cells radius = filter (is_kept cells radius) cells
 

@@ -14,6 +14,7 @@ stands_above span other = other.x == span.x && other.z == span.z && nat_le span.
 abbrev pub span_above : List Span → Span → Option Span
 span_above spans span = find (stands_above span) spans
 
+-- the next span of the column below a span, if there is one
 abbrev pub span_below : List Span → Span → Option Span
 span_below spans span = last_or None (filter (λ (other : Span). stands_above other span) spans)
 

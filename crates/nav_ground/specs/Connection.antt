@@ -24,6 +24,7 @@ unconnected_cell spans walkable span = record {
   next = None ∷ None ∷ None ∷ None ∷ [];
 }
 
+-- the cells on all walkable spans, before they are connected
 abbrev pub unconnected_cells : Field → List ℕ → List Cell
 unconnected_cells field areas =
     map (unconnected_cell field.spans (walkable_spans field.spans areas)) (walkable_spans field.spans areas)
@@ -38,6 +39,7 @@ abbrev pub level_toward : Agent → List Cell → Cell → ℕ → Option ℕ
 level_toward agent cells cell dir =
     option_map (λ (other : Cell). other.at.level) (find (λ (other : Cell). is_toward dir cell.at other.at && is_connected agent cell other) cells)
 
+-- a cell with its level in each of the four directions
 abbrev pub connected_cell : Agent → List Cell → Cell → Cell
 connected_cell agent cells cell = record cell {
   next = level_toward agent cells cell 0 ∷ level_toward agent cells cell 1 ∷ level_toward agent cells cell 2 ∷ level_toward agent cells cell 3 ∷ [];

@@ -13,6 +13,7 @@ low_hanging_area climb spans span =
     if span.area == 0 then option_map_or (λ (below : Span). if nat_le span.top (below.top + climb) then below.area else 0) (span_below spans span) 0
     else span.area
 
+-- the areas of a field's spans after the first filter
 abbrev pub low_hanging_areas : Field → Agent → List ℕ
 low_hanging_areas field agent = map (low_hanging_area agent.climb field.spans) field.spans
 
@@ -32,6 +33,7 @@ gaps_beside spans span =
     gaps_of (column_toward 0 spans span) ++ gaps_of (column_toward 1 spans span)
     ++ gaps_of (column_toward 2 spans span) ++ gaps_of (column_toward 3 spans span)
 
+-- those of them that are open to the span
 abbrev pub open_gaps : ℕ → List Span → Span → List Gap
 open_gaps height spans span = filter (is_open height spans span) (gaps_beside spans span)
 
@@ -63,6 +65,7 @@ is_ledge field agent span =
     || list_any (is_drop agent.climb span.top) (open_gaps agent.height field.spans span)
     || is_steep agent.climb (near_floors agent.climb span.top (open_gaps agent.height field.spans span))
 
+-- the areas after the second filter: 0 for each ledge
 abbrev pub ledge_areas : Field → List ℕ → Agent → List ℕ
 ledge_areas field areas agent = areas_without (is_ledge field agent) field.spans areas
 
@@ -70,6 +73,7 @@ ledge_areas field areas agent = areas_without (is_ledge field agent) field.spans
 abbrev pub is_low_ceiling : List Span → Agent → Span → Bool
 is_low_ceiling spans agent span = nat_lt (ceiling_of spans span) (span.top + agent.height)
 
+-- the areas after the third filter: 0 for each span whose ceiling is too low
 abbrev pub low_ceiling_areas : Field → List ℕ → Agent → List ℕ
 low_ceiling_areas field areas agent = areas_without (is_low_ceiling field.spans agent) field.spans areas
 

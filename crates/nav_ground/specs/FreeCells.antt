@@ -26,6 +26,7 @@ is_unblocked shapes cell = not (is_blocked shapes cell)
 abbrev pub clear_places : Layer → List Shape → List CellRef
 clear_places layer shapes = places_of (kept_cells (filter (is_unblocked shapes) layer.wide) layer.radius)
 
+-- two places are the same
 abbrev pub is_same_place : CellRef → CellRef → Bool
 is_same_place a b = a.x == b.x && (a.z == b.z && a.level == b.level)
 

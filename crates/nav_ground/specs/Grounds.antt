@@ -27,8 +27,8 @@ IsWideWithin setting layer =
     All (λ (cell : Cell). IsInWindow (widened (tile_window setting layer.tile) (margin_of setting)) cell.at.x cell.at.z) layer.wide
 
 -- a ground keeps the rules of its parts, its field has the size that the setting says, and its layers are those of its field
-pub record IsGround (whole : Ground) : Type 0 where
-  pub setting : IsSetting whole.setting
-  pub field : IsField whole.field
-  pub sized : IsSized whole.setting whole.field
-  pub layers : whole.layers ≡ layers_of whole.setting whole.field
+pub record IsGround (ground : Ground) : Type 0 where
+  pub setting : IsSetting ground.setting
+  pub field : IsField ground.field
+  pub sized : IsSized ground.setting ground.field
+  pub layers : ground.layers ≡ layers_of ground.setting ground.field

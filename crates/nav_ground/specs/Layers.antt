@@ -23,6 +23,7 @@ kept_cells_of setting field = kept_cells (cells_of setting field) setting.agent.
 abbrev pub kept_level : List Cell → Cell → ℕ → Option ℕ
 kept_level kept cell dir = if has_neighbour kept cell dir then next_level cell dir else None
 
+-- a kept cell with those of its neighbours that are kept
 abbrev pub layer_cell : List Cell → Cell → Cell
 layer_cell kept cell = record cell {
   next = kept_level kept cell 0 ∷ kept_level kept cell 1 ∷ kept_level kept cell 2 ∷ kept_level kept cell 3 ∷ [];
@@ -43,6 +44,7 @@ layer_among setting cells kept tile = record {
   wide = wide_cells setting cells tile;
 }
 
+-- the layer of a tile of a field
 unfoldable pub layer_of : Setting → Field → ℕ → Layer
 layer_of setting field tile = layer_among setting (cells_of setting field) (kept_cells_of setting field) tile
 

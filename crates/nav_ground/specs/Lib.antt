@@ -2,6 +2,7 @@ pub mod Limits
 pub mod Tiling
 pub mod Fields
 pub mod Cells
+pub mod Directions
 pub mod CellColumns
 pub mod CellRuns
 pub mod ColumnParts

@@ -3,7 +3,7 @@ use Rattle.std.specs.Prelude.{◌≡◌, ℕ, ◌==◌, Bool, true, false, if◌
 use Rattle.std.proofs.Common.{refl, sym, ap, ◌∙◌}
 use Rattle.std.proofs.lemmas.Bool.{eqb-true}
 use Rattle.nav_ground.specs.declared.cell.Cell.{Cell}
-use Rattle.nav_ground.specs.declared.small_cell.SmallCell.TheInside.{Inside}
+use Rattle.nav_ground.specs.declared.packed.PackedCell.TheInside.{Inside}
 use Rattle.nav_ground.specs.Levels.{level_of, number_of}
 
 abbrev pub cell_view : Inside → Cell

@@ -28,9 +28,11 @@ Covers (AreaCylinder area cx cz r y0 y1) x z floor = IsInDisc cx cz r x z × IsI
 abbrev pub is_in : ℕ → ℕ → ℕ → Bool
 is_in low high n = nat_le low n && nat_le n high
 
+-- the middle of a column is at most r cells and a half away from a centre
 abbrev pub is_in_disc : ℕ → ℕ → ℕ → ℕ → ℕ → Bool
 is_in_disc cx cz r x z = nat_le (apart cx x * apart cx x + apart cz z * apart cz z) ((2 * r + 1) * (2 * r + 1))
 
+-- a shape covers the place of a cell at a floor
 abbrev pub is_covering : Shape → ℕ → ℕ → ℕ → Bool
 is_covering (Block x0 x1 y0 y1 z0 z1) x z floor = is_in x0 x1 x && is_in z0 z1 z && is_in y0 y1 floor
 is_covering (Cylinder cx cz r y0 y1) x z floor = is_in_disc cx cz r x z && is_in y0 y1 floor

@@ -20,6 +20,7 @@ tile_count setting = tiles_in_row setting * tile_rows setting
 abbrev pub corner_x : Setting → ℕ → ℕ
 corner_x setting tile = (tile % tiles_in_row setting) * setting.tile
 
+-- the first row of a tile along z
 abbrev pub corner_z : Setting → ℕ → ℕ
 corner_z setting tile = (tile / tiles_in_row setting) * setting.tile
 

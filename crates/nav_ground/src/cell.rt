@@ -1,10 +1,13 @@
-//! Cells: the places where an agent can stand.
+//! Cells: the places where an agent can stand. The cells of one column among ordered cells.
 
-use crate::small_cell::SmallCell;
-use crate::tiling::TileNo;
-use crate::wide_cells::WideCells;
-use nav_list::{Duplicate, Items};
-use nav_share::Shared;
+ghost use Rattle.std.specs.Prelude.{◌≡◌, IfOk, filter};
+ghost use Rattle.nav_ground.specs.CellColumns.{AreOrdered, is_before_column, is_in_column};
+ghost use Rattle.nav_ground.specs.ColumnParts.{IsPartOf};
+
+use crate::packed::PackedCell;
+use crate::padded_cells::PaddedCells;
+use crate::setting::TileNo;
+use nav_lists::{Duplicate, Items, Shared};
 use std::alloc::{AllocError, Global};
 
 /// A cell by its place: its column, and its level, which is how many cells of the whole field lie below it in that column.
@@ -49,20 +52,20 @@ pub struct Window {
 pub struct Layer {
     pub tile: TileNo,
     /// By z, then x, then level. The meshes of its tile share them.
-    pub cells: Shared<Items<SmallCell>>,
+    pub cells: Shared<Items<PackedCell>>,
     /// How far agents keep from obstacles, in cells: the agent's radius where the setting says clear, else 0, and then obstacles block
     /// only what they cover.
     pub radius: u32,
     /// Where the setting says clear: all cells, also those too near a wall, of the tile widened by the radius on each side, in the same
     /// order, each with all its connections. Else empty. In a ground they stand in one list that all its layers share.
-    pub wide: WideCells,
+    pub wide: PaddedCells,
 }
 
 /// The cells of one tile that the obstacles leave free, in the order of its layer.
 #[derive(Drop)]
 pub struct FreeLayer {
     pub tile: TileNo,
-    pub cells: Items<SmallCell>,
+    pub cells: Items<PackedCell>,
 }
 
 impl Duplicate for Layer {
@@ -83,4 +86,51 @@ impl Duplicate for FreeLayer {
             cells: self.cells.duplicate(alloc)?,
         })
     }
+}
+
+/// Where the cells of a column stand in a list: from an index on, and how many.
+#[derive(Clone, Copy)]
+pub(crate) struct ColumnCells {
+    pub(crate) first: usize,
+    pub(crate) count: usize,
+}
+
+/// The cells of a column, from the bottom up, found by halving.
+pub(crate) fn column(
+    alloc: Global,
+    cells: &[PackedCell],
+    x: u32,
+    z: u32,
+) -> Result<Vec<PackedCell>, AllocError>
+    requires { AreOrdered cells.now }
+    ensures { IfOk result (λ column. column.items ≡ filter (is_in_column x z) cells.now) }
+{
+    let part = part_of(cells, x, z);
+    let rest = &cells[part.first..];
+    Vec::from_slice(alloc, &rest[..part.count])
+}
+
+/// Where the cells of a column stand.
+pub(crate) fn part_of(cells: &[PackedCell], x: u32, z: u32) -> ColumnCells
+    requires { AreOrdered cells.now }
+    ensures { IsPartOf x z cells.now result }
+{
+    let first = cells.partition_point(|cell| is_before_column(cell, x, z));
+    let rest = &cells[first..];
+    let count = rest.partition_point(|cell| is_in_column(cell, x, z));
+    ColumnCells { first, count }
+}
+
+fn is_before_column(cell: &PackedCell, x: u32, z: u32) -> bool
+    ensures { result ≡ is_before_column x z cell.now }
+{
+    let at = cell.at();
+    at.z < z || (at.z == z && at.x < x)
+}
+
+fn is_in_column(cell: &PackedCell, x: u32, z: u32) -> bool
+    ensures { result ≡ is_in_column x z cell.now }
+{
+    let at = cell.at();
+    at.x == x && at.z == z
 }

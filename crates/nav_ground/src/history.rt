@@ -1,10 +1,10 @@
 //! Requests to change the obstacles, and the history that they leave.
 
 use crate::cell::Layer;
-use crate::past_field::PastField;
+use crate::field::PastField;
 use crate::setting::Setting;
 use crate::shape::Shape;
-use nav_list::Items;
+use nav_lists::Items;
 
 /// How many entries a history can have.
 pub const HISTORY_LIMIT: u32 = 262144;

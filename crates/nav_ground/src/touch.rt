@@ -6,9 +6,8 @@ ghost use Rattle.nav_ground.specs.Tiling.{tile_count};
 ghost use Rattle.nav_ground.specs.Touching.{Touches, is_touching};
 
 use crate::cell::Window;
-use crate::setting::Setting;
+use crate::setting::{Setting, TileNo, tile_bounds};
 use crate::shape::{Shape, bounds};
-use crate::tiling::{TileNo, tile_bounds};
 
 /// Whether an obstacle's bounds, with as many columns on each side as agents keep from obstacles, have a column in common with a tile. An
 /// obstacle that does not touch a tile changes none of its free cells.

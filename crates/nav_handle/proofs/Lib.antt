@@ -1,3 +1,5 @@
 mod Words
 mod Crossing
 mod CostLaws
+mod Laying
+mod JumpLaws

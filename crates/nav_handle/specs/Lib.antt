@@ -1,3 +1,9 @@
 pub mod Handles
 pub mod Views
 pub mod Works
+pub mod Wire
+pub mod Telling
+pub mod Answers
+pub mod Looking
+pub mod Hopping
+pub mod Walking

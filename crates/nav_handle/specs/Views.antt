@@ -4,9 +4,9 @@ use Rattle.std.specs.List.{list_all}
 use Rattle.nav_ground.specs.Limits.{IsSetting, is_cost}
 use Rattle.mesh_types.specs.declared.mesh.Mesh.{Mesh}
 use Rattle.mesh_types.specs.Soundness.{IsSound}
-use Rattle.nav_desk.specs.BookState.{BookState}
-use Rattle.nav_level.specs.Results.{published_mesh}
-use Rattle.nav_handle.specs.declared.view.View.TheInside.{Inside}
+use Rattle.build_queue.specs.BookState.{BookState}
+use Rattle.nav_book.specs.LevelResults.{published_mesh}
+use Rattle.nav_handle.specs.declared.view.MeshView.TheInside.{Inside}
 
 -- a published length, the mesh that was published with it, and the costs of areas that the reader has of its own, if there are some: then they are
 -- those of the mesh

@@ -4,20 +4,35 @@
 //! nothing. `take` and `put` are all that is done with one. A view is an owner of the published mesh, from which one reader is answered while
 //! another thread changes the level; it may have costs of areas of its own. A job is an owner of the ground, from which its tile is built, and is
 //! handed in to a level whose ground is the same there. The handles may go from thread to thread.
+//!
+//! Beside the handles stands what crosses the border to C in plain numbers (`wire`), and how questions of a handle's mesh end (`asking`, `hops`,
+//! `walkers`): with the status, the counts and the places in the host's arrays of an answer that is right in that mesh.
 #![tactic(auto)]
 
-mod costs;
-mod job_handle;
-mod level_handle;
-mod loose;
-mod sameness;
+mod asking;
+mod ends;
+mod faces;
+mod handles;
+mod hops;
 mod view;
-mod view_handle;
+mod walkers;
+mod wire;
 mod work;
 
-pub use costs::table_of;
-pub use job_handle::NavdJob;
-pub use level_handle::NavdLevel;
-pub use view::View;
-pub use view_handle::NavdView;
-pub use work::Work;
+pub use asking::{HasMesh, cast_ray, find_floors, find_path};
+pub use ends::{block_shape, cylinder_shape, lay_numbers};
+pub use faces::{
+    NavdCorner, NavdFace, NavdObstacle, lay_obstacles, tell_border_links, tell_faces,
+    tell_inner_links,
+};
+pub use handles::{NavdJob, NavdLevel, NavdView};
+pub use hops::{NavdHop, NavdJump, NavdStep, find_hop};
+pub use view::{MeshView, table_of};
+pub use walkers::{NavdWalker, march, send};
+pub use wire::{
+    BUSY, DEAD, EMPTY, FAULTY, FOREIGN, HISTORY_FULL, NO_GOAL, NO_MEMORY, NO_PATH, NO_ROOM,
+    NO_START, NOT_YET, NavdBlock, NavdCounts, NavdCylinder, NavdFault, NavdFloor, NavdLink,
+    NavdPath, NavdPoint, NavdPolygon, NavdRay, NavdShown, NavdTurn, NavdWay, OK, OUT_OF_RANGE,
+    SAME, STALE, TOO_MANY, TOO_MANY_SPANS, WALL,
+};
+pub use work::BuildJob;

@@ -1,31 +1,33 @@
-//! What one reader has of a level, to ask beside whoever changes it.
+//! What one reader has of a level, to ask beside whoever changes it. Costs of areas, put into a mesh in place of others.
 
-ghost use Rattle.std.specs.Prelude.{◌≡◌, IfOk};
+ghost use Rattle.std.specs.Prelude.{◌≡◌, IfOk, ◌↔◌, IfSome, IsNone};
 ghost use Rattle.nav_ground.specs.Tiling.{tile_count};
 ghost use Rattle.mesh_types.specs.Right.{IsRight};
 ghost use Rattle.nav_query.specs.Questions.{HasLowCost, IsAnswerable};
 ghost use Rattle.nav_handle.specs.Views.{AreCosts, seen_at, shown_by, shown_to};
+ghost use Rattle.std.specs.List.{list_all};
+ghost use Rattle.nav_ground.specs.Limits.{is_cost, IsSetting};
+ghost use Rattle.mesh_types.specs.Soundness.{IsSound};
 
-use crate::costs::with_costs;
-use mesh_types::{Answer, Asked, Mesh};
+use mesh_types::{Answer, Asked, Mesh, copy_mesh};
 use nav_base::Question;
+use nav_book::Level;
 use nav_ground::{AREAS, tiles};
-use nav_level::Level;
+use nav_lists::Shared;
 use nav_query::Asking;
-use nav_share::Shared;
 use std::alloc::{AllocError, Global};
 use std::marker::Model;
 
 /// A mesh that a level had published, with the length that it was published with. It is an owner of the mesh, which stays as it is whatever
 /// comes of the level. It may have costs of areas of its own, which then stand in its mesh in place of the level's.
 #[derive(Drop)]
-pub struct View {
+pub struct MeshView {
     length: u32,
     mesh: Shared<Mesh>,
     own: Option<[u32; AREAS]>,
 }
 
-impl Model for View {
+impl Model for MeshView {
     ghost use Rattle.nav_handle.specs.Views.{IsView, Seen, seen_of};
 
     ghost Value = { Seen };
@@ -35,14 +37,14 @@ impl Model for View {
     ghost invariant = { IsView };
 }
 
-impl View {
+impl MeshView {
     /// A view of what a level has published. It takes no memory; it is refused only where the count of the mesh's owners has reached its end.
-    pub fn of(level: &Level) -> Result<View, AllocError>
+    pub fn of(level: &Level) -> Result<MeshView, AllocError>
         ensures { IfOk result (λ view. view ≡ shown_by level.now) }
     {
         let mesh = level.shared_mesh()?;
         let _shown = level.mesh();
-        Ok(View {
+        Ok(MeshView {
             length: level.published(),
             mesh,
             own: None,
@@ -50,10 +52,10 @@ impl View {
     }
 
     /// A view of what a level has published, with the costs that this one has of its own, if it has some.
-    pub fn again(&self, alloc: Global, level: &Level) -> Result<View, AllocError>
+    pub fn again(&self, alloc: Global, level: &Level) -> Result<MeshView, AllocError>
         ensures { IfOk result (λ view. view ≡ shown_to self.now.own level.now) }
     {
-        let view = View::of(level)?;
+        let view = MeshView::of(level)?;
         match self.own {
             Some(costs) => view.costing(alloc, costs),
             None => Ok(view),
@@ -62,12 +64,12 @@ impl View {
 
     /// The same view with other costs of areas: what a sixteenth of a cell of way costs in each, by its number. All that it shares with the
     /// level but the list of tiles stays shared.
-    pub fn costing(&self, alloc: Global, costs: [u32; AREAS]) -> Result<View, AllocError>
+    pub fn costing(&self, alloc: Global, costs: [u32; AREAS]) -> Result<MeshView, AllocError>
         requires { AreCosts costs }
         ensures { IfOk result (λ view. view ≡ seen_at costs self.now) }
     {
         let mesh = with_costs(alloc, self.mesh.get(), costs)?;
-        Ok(View {
+        Ok(MeshView {
             length: self.length,
             mesh: Shared::new(alloc, mesh)?,
             own: Some(costs),
@@ -114,4 +116,43 @@ impl View {
     {
         question.ask(alloc, self.mesh.get())
     }
+}
+
+/// A mesh with other costs, which shares its tiles and lists of links with the one that is lent.
+pub(crate) fn with_costs(
+    alloc: Global,
+    mesh: &Mesh,
+    costs: [u32; AREAS],
+) -> Result<Mesh, AllocError>
+    requires sound { IsSound mesh.now }
+    requires setting { IsSetting mesh.now.setting }
+    requires costs { AreCosts costs }
+    ensures mesh { IfOk result (λ made. made ≡ Rattle.nav_handle.specs.Views.with_costs costs mesh.now) }
+    ensures sound { IfOk result IsSound }
+    ensures setting { IfOk result (λ made. IsSetting made.setting) }
+{
+    let mut made = copy_mesh(alloc, mesh)?;
+    made.setting.costs = costs;
+    Ok(made)
+}
+
+/// A table of costs of a slice of numbers, one an area: none exactly where there are not as many as areas, or one is not from 1 to 1000.
+pub fn table_of(costs: &[u32]) -> Option<[u32; AREAS]>
+    ensures table { IfSome result (λ table. table ≡ costs.now) }
+    ensures rules { IfSome result AreCosts }
+    ensures none { IsNone result ↔ (AreCosts costs.now → ⊥) }
+{
+    if costs.len() != AREAS || !are_costs(costs) {
+        return None;
+    }
+    let mut table = [1; AREAS];
+    table.copy_from_slice(costs);
+    Some(table)
+}
+
+/// Whether all numbers are costs.
+fn are_costs(costs: &[u32]) -> bool
+    ensures { result ≡ list_all is_cost costs.now }
+{
+    costs.iter().all(|cost| 1 <= *cost && *cost <= 1000)
 }

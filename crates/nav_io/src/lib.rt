@@ -11,17 +11,13 @@
 mod calm;
 mod gates;
 mod memory;
-mod refusals;
-mod sinks;
-mod sources;
 mod standard;
+mod streams;
 mod whole;
 
 pub use calm::{CalmSink, CalmSource};
 pub use gates::{Actor, FreeGate, Gate, Stage};
 pub use memory::{MemorySink, MemorySource};
-pub use refusals::{Failed, ReadRefusal, WriteFault};
-pub use sinks::Sink;
-pub use sources::Source;
 pub use standard::{StdSink, StdSource};
+pub use streams::{Failed, ReadRefusal, Sink, Source, WriteFault};
 pub use whole::{read_all, write_all};

@@ -12,8 +12,8 @@ use Rattle.nav_ground.specs.declared.history.Entry.{Entry}
 use Rattle.nav_ground.specs.Tiling.{tile_count}
 use Rattle.nav_version.specs.Pairs.{EyeView}
 use Rattle.nav_version.proofs.Beginnings.{IsPrefix-whole}
-use Rattle.nav_desk.specs.BookState.{BookState, is_awaited}
-use Rattle.nav_steps.specs.Counts.{HasRisenAtMost}
+use Rattle.build_queue.specs.BookState.{BookState, is_awaited}
+use Rattle.nav_base.specs.Counts.{HasRisenAtMost}
 use Rattle.nav_book.specs.Results.{published_entries}
 use Rattle.nav_book.specs.Settling.{awaited_tiles, settling}
 
@@ -22,17 +22,17 @@ pub saw_all : (list seen : List Entry) (n k : ℕ) → IsPrefix list seen → n 
 saw_all list seen n k begins long all same = sym (IsPrefix-whole list seen begins (omega (arith, long, all, same)))
 
 -- no more tiles are awaited than there are
-few_awaited : (book : BookState) → length (awaited_tiles book) ≤ tile_count book.whole.setting
+few_awaited : (book : BookState) → length (awaited_tiles book) ≤ tile_count book.ground.setting
 few_awaited book =
-    let tiles : List ℕ = range_with_len 0 (tile_count book.whole.setting) in
+    let tiles : List ℕ = range_with_len 0 (tile_count book.ground.setting) in
     omega (
       arith,
       length-filter_both (is_awaited book) (λ tile. not (is_awaited book tile)) (λ tile. refl) tiles,
-      length-range_with_len 0 (tile_count book.whole.setting),
+      length-range_with_len 0 (tile_count book.ground.setting),
     )
 
 -- so each tile is built once at most
-pub once_each : (book : BookState) (m n : ℕ) → HasRisenAtMost (length (awaited_tiles (settling book))) m n → HasRisenAtMost (tile_count book.whole.setting) m n
+pub once_each : (book : BookState) (m n : ℕ) → HasRisenAtMost (length (awaited_tiles (settling book))) m n → HasRisenAtMost (tile_count book.ground.setting) m n
 once_each book m n risen = record { least = risen.least; most_risen = omega (arith, risen.most_risen, few_awaited (settling book)) }
 
 -- so many eyes are through: what they had seen begins a list; the others are as they were

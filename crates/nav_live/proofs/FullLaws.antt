@@ -11,18 +11,18 @@ use Rattle.turn_lock.proofs.GrowthLemmas.{Extends-length}
 use Rattle.nav_ground.specs.declared.history.Entry.{Entry}
 use Rattle.nav_ground.specs.History.{history_limit}
 use Rattle.mesh_types.proofs.Totals.{once_in_range, sum_by-exchanged, sum_by-no_more, sum_by-one, sum_by-plus, sum_by-range_no_more, sum_by-same, sum_by-zero}
-use Rattle.nav_script.specs.declared.line.Line.{Line}
+use Rattle.nav_script.specs.declared.script.Line.{Line}
 use Rattle.nav_script.specs.declared.script.Script.{Script}
 use Rattle.nav_script.specs.declared.script.Way.TheVariants.{Live}
 use Rattle.nav_script.specs.Lanes.{is_request, next_lane, lines_from, lines_of, names_lane}
 use Rattle.nav_script.specs.Limits.{IsScript}
-use Rattle.nav_lane.specs.Roots.{RootView}
-use Rattle.nav_lane.specs.LaneEntries.{entries_made}
-use Rattle.nav_lane.specs.Stops.{HasMetFull}
-use Rattle.nav_lane.proofs.EntryLaws.{entries_extended}
-use Rattle.nav_lane.proofs.RecordLaws.{entries_made-count}
+use Rattle.nav_live.specs.Roots.{RootView}
+use Rattle.nav_live.specs.LaneEntries.{entries_made}
+use Rattle.nav_live.specs.Stops.{HasMetFull}
+use Rattle.nav_live.proofs.EntryLaws.{entries_extended}
+use Rattle.nav_live.proofs.RecordLaws.{entries_made-count}
 use Rattle.nav_live.specs.Leavings.{HaveMetFull}
-use Rattle.nav_live.specs.Dealing.{requests_of}
+use Rattle.nav_live.specs.LaneLines.{requests_of}
 use Rattle.nav_live.specs.Joined.{HaveAsked, IsClosed}
 
 -- a number of a range is there

@@ -12,14 +12,14 @@ use Rattle.nav_ground.specs.declared.history.Entry.{Entry}
 use Rattle.nav_ground.specs.declared.history.Ground.{Ground}
 use Rattle.nav_script.specs.declared.script.Script.{Script}
 use Rattle.nav_version.specs.Pairs.{EyeView}
-use Rattle.nav_lane.specs.declared.lane.Lane.{Lane}
-use Rattle.nav_lane.specs.LaneEntries.{Spoken}
-use Rattle.nav_lane.specs.LaneRecords.{IsLane}
-use Rattle.nav_lane.specs.LaneTexts.{told_text}
-use Rattle.nav_lane.specs.Roots.{RootView}
-use Rattle.nav_lane.proofs.EntryLaws.{entries_extended}
-use Rattle.nav_lane.proofs.RecordLaws.{lane_record}
-use Rattle.nav_live.specs.declared.hand.Left.{Left}
+use Rattle.nav_live.specs.declared.lane.Lane.{Lane}
+use Rattle.nav_live.specs.LaneEntries.{Spoken}
+use Rattle.nav_live.specs.LaneRecords.{IsLane}
+use Rattle.nav_live.specs.LaneTexts.{told_text}
+use Rattle.nav_live.specs.Roots.{RootView}
+use Rattle.nav_live.proofs.EntryLaws.{entries_extended}
+use Rattle.nav_live.proofs.RecordLaws.{lane_record}
+use Rattle.nav_live.specs.declared.actors.ActorsLeft.{ActorsLeft}
 use Rattle.nav_live.specs.Leavings.{HaveLeft}
 use Rattle.nav_script.specs.Lanes.{lines_of}
 use Rattle.nav_live.specs.Joined.{HasEnded, HaveEnded, IsClosed, MadeNone}
@@ -66,7 +66,7 @@ all_of_lanes lock lanes passes history closed kinds k d there =
 -- what is known of the lane in a place
 in_place : (lock : LockId RootView) (script : Script) (told : List (List Spoken)) (lanes : List Lane) (idle : List (PassView RootView Entry)) (history : List Entry) (place : ℕ)
     (lane : Lane) → IsJoined lock script told lanes idle history → place < length lanes → slice_get lanes place ≡ Some lane → get_or lanes place lane ≡ lane
-    → IsLane lock.root.level history place (lines_of place script.lines) (get_or told place [])
+    → IsLane lock.root.ground history place (lines_of place script.lines) (get_or told place [])
 in_place lock script told lanes idle history place lane joined there at is =
     let passes : List (PassView RootView Entry) = map (λ (l : Lane). l.pass) lanes in
     let spoken : List Spoken = get_or told place [] in
@@ -80,12 +80,12 @@ in_place lock script told lanes idle history place lane joined there at is =
     let extends : Extends (λ (entry : Entry). entry.lane) lane.pass.number lane.pass.seen history =
     subst (λ (pass : PassView RootView Entry). Extends (λ (entry : Entry). entry.lane) pass.number pass.seen history) own (joined.closed.extends place lane.pass within) in
     let seen : IsPrefix lane.eye.seen history = subst (λ (l : Lane). IsPrefix l.eye.seen history) is (joined.seen place lane there) in
-    subst (λ (n : ℕ). IsLane lock.root.level history n (lines_of place script.lines) spoken) (sym ended.keeps.own.number ∙ ended.number)
+    subst (λ (n : ℕ). IsLane lock.root.ground history n (lines_of place script.lines) spoken) (sym ended.keeps.own.number ∙ ended.number)
     (lane_record lock history (lines_of place script.lines) spoken lane ended.keeps extends seen ended.each)
 
 each_lane : (lock : LockId RootView) (script : Script) (told : List (List Spoken)) (lanes : List Lane) (idle : List (PassView RootView Entry)) (history : List Entry) (place : ℕ)
     → IsJoined lock script told lanes idle history → place < script.lanes
-    → IsLane lock.root.level history place (lines_of place script.lines) (get_or told place [])
+    → IsLane lock.root.ground history place (lines_of place script.lines) (get_or told place [])
 each_lane lock script told lanes idle history place joined below =
     elim (slice_get_cases lanes place).1 [
       | inl at ↦ in_place lock script told lanes idle history place at.0 joined at.1 at.2 at.3
@@ -107,8 +107,8 @@ kinds_of_passes lock script told lanes idle history joined =
 
 -- a run that was joined so, and the text of what its lanes were answered, are a run of the live script
 pub live_record : (lock : LockId RootView) (script : Script) (told : List (List Spoken)) (lanes : List Lane) (idle : List (PassView RootView Entry)) (history : List Entry)
-    (text : List ℕ) → IsJoined lock script told lanes idle history → text ≡ live_text lock.root.level history (map told_text told)
-    → LiveRecord lock.root.level script text
+    (text : List ℕ) → IsJoined lock script told lanes idle history → text ≡ live_text lock.root.ground history (map told_text told)
+    → LiveRecord lock.root.ground script text
 live_record lock script told lanes idle history text joined written = record {
   history = history;
   lanes = told;
@@ -121,10 +121,10 @@ live_record lock script told lanes idle history text joined written = record {
 }
 
 -- the same by what the actors leave
-pub left_record : (lock : LockId RootView) (script : Script) (left : Left) (whole : Ground) (history : List Entry) (text : List ℕ) → HaveLeft lock script left
-    → IsClosed lock left.passes.items history → All (λ (eye : EyeView). IsPrefix eye.seen history) left.eyes.items → whole ≡ lock.root.level
-    → text ≡ live_text whole history left.texts.items → LiveRecord whole script text
-left_record lock script left whole history text have closed seen same written =
+pub left_record : (lock : LockId RootView) (script : Script) (left : ActorsLeft) (ground : Ground) (history : List Entry) (text : List ℕ) → HaveLeft lock script left
+    → IsClosed lock left.passes.items history → All (λ (eye : EyeView). IsPrefix eye.seen history) left.eyes.items → ground ≡ lock.root.ground
+    → text ≡ live_text ground history left.texts.items → LiveRecord ground script text
+left_record lock script left ground history text have closed seen same written =
     let lanes : List Lane = have.lanes in
     subst (λ (level : Ground). LiveRecord level script text) (sym same)
     (live_record lock script have.told lanes have.idle history text
@@ -136,4 +136,4 @@ left_record lock script left whole history text have closed seen same written =
           (subst (λ (eyes : List EyeView). All (λ (eye : EyeView). IsPrefix eye.seen history) eyes) have.eyes seen k d.eye
           (omega (arith, there, length-map lanes (λ (lane : Lane). lane.eye))));
     })
-    (written ∙ ap (λ (level : Ground). live_text level history left.texts.items) same ∙ ap (live_text lock.root.level history) have.texts))
+    (written ∙ ap (λ (level : Ground). live_text level history left.texts.items) same ∙ ap (live_text lock.root.ground history) have.texts))

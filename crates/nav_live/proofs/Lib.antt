@@ -1,9 +1,16 @@
-mod DealingLaws
+mod LaneLineLaws
 mod JoinLaws
 mod FullLaws
 mod Writing
 mod Catching
 mod RunLaws
-mod MusterLaws
+mod ActorLaws
 mod EndLaws
 mod LeftLaws
+mod ActLaws
+pub mod EntryLaws
+pub mod AnswerLaws
+pub mod RecordLaws
+mod PassLaws
+mod WalkLaws
+mod LaneLaws

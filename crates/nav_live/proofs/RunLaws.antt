@@ -11,28 +11,28 @@ use Rattle.nav_ground.specs.declared.history.Ground.{Ground}
 use Rattle.nav_script.specs.declared.script.Script.{Script}
 use Rattle.nav_version.specs.Pairs.{EyeView, eye_of}
 use Rattle.nav_book.specs.Views.{BookView}
-use Rattle.nav_lane.specs.declared.lane.Lane.{Lane}
-use Rattle.nav_lane.specs.ActRules.{IsLegal}
-use Rattle.nav_lane.specs.LiveBooks.{root_of}
-use Rattle.nav_lane.specs.Roots.{RootView}
-use Rattle.nav_live.specs.declared.hand.Left.{Left}
-use Rattle.nav_live.specs.Mustered.{CanMuster, IsEyeOf}
+use Rattle.nav_live.specs.declared.lane.Lane.{Lane}
+use Rattle.nav_live.specs.ActRules.{IsLegal}
+use Rattle.nav_live.specs.Roots.{root_of}
+use Rattle.nav_live.specs.Roots.{RootView}
+use Rattle.nav_live.specs.declared.actors.ActorsLeft.{ActorsLeft}
+use Rattle.nav_live.specs.MadeActors.{CanMakeActors, IsEyeOf}
 use Rattle.nav_live.specs.Leavings.{HaveLeft}
 use Rattle.nav_live.specs.Joined.{IsClosed}
 use Rattle.nav_live.specs.LiveRecord.{LiveRecord, live_text}
 use Rattle.nav_live.proofs.JoinLaws.{left_record}
 
 -- the actors of a script can be made of the passes of a new lock round a book, and of the eyes that came with the book
-pub can_muster : (lock : LockId RootView) (script : Script) (passes : List (PassView RootView Entry)) (eyes : List EyeView) (book : BookView) (level : Ground)
-    → AreFresh lock passes → lock.passes ≡ script.lanes + script.workers → lock.root ≡ root_of book → book.state.whole ≡ level
-    → eyes ≡ replicate script.lanes (eye_of book.pair level []) → CanMuster lock script passes eyes
-can_muster lock script passes eyes book level fresh count root whole are = record {
+pub can_make_actors : (lock : LockId RootView) (script : Script) (passes : List (PassView RootView Entry)) (eyes : List EyeView) (book : BookView) (level : Ground)
+    → AreFresh lock passes → lock.passes ≡ script.lanes + script.workers → lock.root ≡ root_of book → book.state.ground ≡ level
+    → eyes ≡ replicate script.lanes (eye_of book.pair level []) → CanMakeActors lock script passes eyes
+can_make_actors lock script passes eyes book level fresh count root ground are = record {
   fresh = fresh;
   count = count;
   each = subst (All (IsEyeOf lock)) (sym are)
       (All-replicate (IsEyeOf lock) script.lanes (eye_of book.pair level []) (record {
         pair = sym (ap (λ (r : RootView). r.pair) root);
-        level = sym whole ∙ sym (ap (λ (r : RootView). r.level) root);
+        level = sym ground ∙ sym (ap (λ (r : RootView). r.ground) root);
       }));
 }
 
@@ -47,7 +47,7 @@ pub has_left : {A E : Type 0} {P : Type 0} (end : Result A E) {done : A} → end
 has_left {A} {E} {P} end is left = subst (λ (e : Result A E). OnOk e P) is left
 
 -- the eyes that the lanes leave are of the pair of the closed lock's book
-pub pairs_left : (lock : LockId RootView) (script : Script) (left : Left) (book : BookView) (eyes : List EyeView) → HaveLeft lock script left
+pub pairs_left : (lock : LockId RootView) (script : Script) (left : ActorsLeft) (book : BookView) (eyes : List EyeView) → HaveLeft lock script left
     → root_of book ≡ lock.root → eyes ≡ left.eyes.items → All (λ (eye : EyeView). eye.pair ≡ book.pair) eyes
 pairs_left lock script left book eyes have root are =
     subst (All (λ (eye : EyeView). eye.pair ≡ book.pair)) (sym (are ∙ have.eyes))
@@ -56,15 +56,15 @@ pairs_left lock script left book eyes have root are =
     (have.ended.each k (get_or have.lanes k d) (slice_get-get_or have.lanes k d there)).keeps.own.pair ∙ sym (ap (λ (r : RootView). r.pair) root)))
 
 -- a text of what the lanes leave, written once their eyes have seen the whole history, is one of the run
-pub record_of : {T E : Type 0} (items : T → List ℕ) (result : Result T E) (lock : LockId RootView) (script : Script) (left : Left) (book : BookView)
+pub record_of : {T E : Type 0} (items : T → List ℕ) (result : Result T E) (lock : LockId RootView) (script : Script) (left : ActorsLeft) (book : BookView)
     (eyes : List EyeView) (texts : List (List ℕ)) → HaveLeft lock script left → IsClosed lock left.passes.items book.state.history
     → root_of book ≡ lock.root → eyes ≡ left.eyes.items → texts ≡ left.texts.items
-    → IfOk result (λ text. items text ≡ live_text book.state.whole book.state.history texts)
+    → IfOk result (λ text. items text ≡ live_text book.state.ground book.state.history texts)
     → OnOk result (All (λ (eye : EyeView). IsPrefix eye.seen book.state.history) eyes)
-    → IfOk result (λ text. LiveRecord lock.root.level script (items text))
+    → IfOk result (λ text. LiveRecord lock.root.ground script (items text))
 record_of items (Ok text) lock script left book eyes texts have closed root seers said written seen =
-    left_record lock script left lock.root.level book.state.history (items text) have closed
+    left_record lock script left lock.root.ground book.state.history (items text) have closed
     (subst (All (λ (eye : EyeView). IsPrefix eye.seen book.state.history)) seers seen) refl
-    (written ∙ ap (live_text book.state.whole book.state.history) said
-    ∙ ap (λ (whole : Ground). live_text whole book.state.history left.texts.items) (ap (λ (r : RootView). r.level) root))
+    (written ∙ ap (live_text book.state.ground book.state.history) said
+    ∙ ap (λ (ground : Ground). live_text ground book.state.history left.texts.items) (ap (λ (r : RootView). r.ground) root))
 record_of items (Err refused) lock script left book eyes texts have closed root seers said written seen = tt

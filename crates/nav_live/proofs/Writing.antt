@@ -6,7 +6,7 @@ use Rattle.nav_ground.specs.declared.history.Entry.{Entry}
 use Rattle.mesh_types.specs.declared.mesh.Mesh.{Mesh}
 use Rattle.mesh_types.specs.Builds.{build_of}
 use Rattle.mesh_types.specs.Soundness.{link_count, polygon_count}
-use Rattle.nav_desk.specs.BookState.{BookState}
+use Rattle.build_queue.specs.BookState.{BookState}
 use Rattle.nav_book.specs.Results.{published_mesh}
 use Rattle.nav_record.specs.FrameTexts.{final_text, history_text, lane_text}
 use Rattle.nav_live.specs.LiveRecord.{entries_text, live_text, lane_lines}
@@ -55,15 +55,15 @@ pub live_written : (state : BookState) (lanes : List (List ℕ)) (none first sec
     → none ≡ [] → state.published ≡ length state.history → n ≡ length state.history → m ≡ length state.history → entries ≡ state.history
     → polygons ≡ polygon_count (published_mesh state).tiles → links ≡ link_count (published_mesh state)
     → first ≡ none ++ history_text n → second ≡ first ++ entries_text entries → third ≡ second ++ flat_map lane_lines (enumerate_from 0 lanes)
-    → last ≡ third ++ final_text m polygons links → last ≡ live_text state.whole state.history lanes
+    → last ≡ third ++ final_text m polygons links → last ≡ live_text state.ground state.history lanes
 live_written state lanes none first second third last n m polygons links entries empty shown long far all counted linked one two three four =
     let head : List ℕ = history_text (length state.history) in
     let body : List ℕ = entries_text state.history in
     let said : List ℕ = flat_map lane_lines (enumerate_from 0 lanes) in
-    let foot : List ℕ = end_text (length state.history) (build_of state.whole state.history (length state.history)) in
+    let foot : List ℕ = end_text (length state.history) (build_of state.ground state.history (length state.history)) in
     let last_is : last ≡ third ++ foot =
     four ∙ (λ i. third ++ final_text (far i) (counted i) (linked i))
-    ∙ ap (λ k. third ++ end_text (length state.history) (build_of state.whole state.history k)) shown in
+    ∙ ap (λ k. third ++ end_text (length state.history) (build_of state.ground state.history k)) shown in
     let third_is : third ≡ head ++ body ++ said =
     three ∙ (λ i. two i ++ said) ∙ (λ i. one i ++ entries_text (all i) ++ said) ∙ (λ i. empty i ++ history_text (long i) ++ body ++ said) in
     last_is ∙ ap (λ t. t ++ foot) third_is ∙ append_assoc (head ++ body) said foot ∙ append_assoc head body (said ++ foot)

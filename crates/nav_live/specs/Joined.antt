@@ -4,12 +4,12 @@ use Rattle.turn_lock.specs.Growth.{Extends}
 use Rattle.turn_lock.specs.Locks.{LockId, PassView}
 use Rattle.nav_ground.specs.declared.history.Entry.{Entry}
 use Rattle.nav_script.specs.declared.script.Script.{Script}
-use Rattle.nav_lane.specs.declared.lane.Lane.{Lane}
-use Rattle.nav_lane.specs.LaneEntries.{Spoken, entries_made}
-use Rattle.nav_lane.specs.Lanes.{KeepsLane}
-use Rattle.nav_lane.specs.ActRules.{IsLegal}
-use Rattle.nav_lane.specs.Roots.{RootView}
-use Rattle.nav_live.specs.Dealing.{requests_of}
+use Rattle.nav_live.specs.declared.lane.Lane.{Lane}
+use Rattle.nav_live.specs.LaneEntries.{Spoken, entries_made}
+use Rattle.nav_live.specs.Lanes.{KeepsLane}
+use Rattle.nav_live.specs.ActRules.{IsLegal}
+use Rattle.nav_live.specs.Roots.{RootView}
+use Rattle.nav_live.specs.LaneLines.{requests_of}
 use Rattle.nav_script.specs.Lanes.{lines_of}
 
 -- a lane that stands in a place has the number of the place, and has run all lines that a script deals to that number, with these answers

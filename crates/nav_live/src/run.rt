@@ -1,6 +1,7 @@
-//! A live run, from its ground and its script to its text.
+//! A live run, from its ground and its script to its text. What is left to do once the lanes have ended and the lock is closed: the whole
+//! history is built and published, every eye sees it, and the text is written. The live text.
 
-ghost use Rattle.std.specs.Prelude.{◌≡◌, ◌+◌, ◌*◌, Err, IfOk, OnOk};
+ghost use Rattle.std.specs.Prelude.{◌≡◌, ◌+◌, ◌*◌, Err, IfOk, OnOk, ◌<◌, ◌^◌, length, All, ◌++◌};
 ghost use Rattle.turn_lock.specs.Locks.{LockId, AreAll};
 ghost use Rattle.nav_ground.specs.Limits.{IsSetting};
 ghost use Rattle.nav_ground.specs.Fields.{IsField};
@@ -9,24 +10,28 @@ ghost use Rattle.nav_ground.specs.Tiling.{tile_count};
 ghost use Rattle.nav_script.specs.Limits.{IsScript};
 ghost use Rattle.nav_script.specs.declared.script.Way.TheVariants.{Live};
 ghost use Rattle.nav_book.specs.Openings.{ground_of};
-ghost use Rattle.nav_steps.specs.Counts.{HasRisenAtMost};
-ghost use Rattle.nav_lane.specs.declared.lane.Stop.TheVariants as stops;
-ghost use Rattle.nav_live.specs.Leavings.{HaveLeft, HaveMetFull, IsSpareCrew};
-ghost use Rattle.nav_live.specs.LiveRecord.{LiveRecord};
+ghost use Rattle.nav_base.specs.Counts.{HasRisenAtMost};
+ghost use Rattle.nav_live.specs.declared.lane.LaneEnd.TheVariants as stops;
+ghost use Rattle.nav_live.specs.Leavings.{HaveLeft, HaveMetFull, AreSpareActors};
+ghost use Rattle.nav_live.specs.LiveRecord.{LiveRecord, live_text, entries_text, lane_lines};
 ghost use Rattle.nav_live.specs.Runs.{IsOpened, IsRun};
+ghost use mathlib.Core.List.{IsPrefix};
+ghost use Rattle.nav_version.specs.Pairs.{EyeView};
+ghost use Rattle.nav_book.specs.Results.{published_entries};
+ghost use Rattle.nav_book.specs.Settling.{IsUnclaimed};
+ghost use Rattle.std.specs.List.{enumerate_from, flat_map};
 
-use crate::closing::finish;
-use crate::deal::deal;
-use crate::hand::{Crew, Left};
-use crate::muster::Outfit;
+use crate::actors::{Actors, ActorsLeft};
+use crate::start::{LaneInputs, lines_by_lane};
+use crate::{EventCount, LaneEnd, LiveBook, RunContext};
 use layer_cut::ground;
+use nav_base::{Question, Steps};
 use nav_book::Book;
-use nav_ground::{Field, Ground, Setting};
+use nav_ground::{Entry, Field, Ground, Setting};
 use nav_io::Gate;
-use nav_lane::{Bell, Bench, LiveBook, Stop};
-use nav_list::Items;
+use nav_lists::Items;
+use nav_record::{write_entry, write_final, write_history, write_lane};
 use nav_script::{Line, Script};
-use nav_steps::Steps;
 use nav_version::Eye;
 use std::alloc::{AllocError, Global};
 use std::sync::ledger::Ledger;
@@ -63,35 +68,35 @@ pub fn live<R: Threads + Wait + Sync, G: Gate + Sync, L: Ledger>(
     ensures text { IfOk result (λ text. LiveRecord (ground_of setting field) script.now text.bytes.items) }
     ensures most { HasRisenAtMost (2 * tile_count setting) steps.old steps.new }
 {
-    let lists = deal(alloc, script)?;
+    let lists = lines_by_lane(alloc, script)?;
     let level = ground(alloc, setting, field)?;
     let tiles = build_tiles(alloc, &level, &[], steps)?;
     let level = Arc::new(alloc, level)?;
     let shown = Arc::try_clone(&level)?;
     let (book, eyes) = Book::begin(rt, alloc, level, tiles, script.lanes)?;
-    let run = Run {
+    let run = LiveRun {
         rt,
         alloc,
-        level: &shown,
+        ground: &shown,
         script,
         gate,
     };
-    let bytes = run_over(&run, Opened { book, eyes, lists }, steps)?;
+    let bytes = run_over(&run, OpenedRun { book, eyes, lists }, steps)?;
     Ok(LiveText { bytes })
 }
 
 /// What a run is of: the ground of its level, and its script; and what it runs with.
 #[derive(Drop)]
-pub(crate) struct Run<'a, R, G> {
+pub(crate) struct LiveRun<'a, R, G> {
     pub(crate) rt: &'a R,
     pub(crate) alloc: Global,
-    level: &'a Ground,
+    ground: &'a Ground,
     script: &'a Script,
     gate: &'a G,
 }
 
 /// A level that was opened for the lanes of a script: a book that has no history yet, and for each lane an eye and its lines.
-struct Opened {
+struct OpenedRun {
     book: Book,
     eyes: Vec<Eye>,
     lists: Vec<Items<Line>>,
@@ -99,20 +104,20 @@ struct Opened {
 
 /// Runs the actors of a script over an opened level, gives the text of the run, and ends the book.
 fn run_over<R: Threads + Wait + Sync, G: Gate + Sync, L: Ledger>(
-    run: &Run<'_, R, G>,
-    opened: Opened,
+    run: &LiveRun<'_, R, G>,
+    opened: OpenedRun,
     steps: &mut Steps<L>,
 ) -> Result<Vec<u8>, AllocError>
-    requires run { IsRun run.now.level.now run.now.script.now }
-    requires opened { IsOpened run.now.level.now run.now.script.now opened }
-    ensures text { IfOk result (λ text. LiveRecord run.now.level.now run.now.script.now text.items) }
-    ensures most { HasRisenAtMost (tile_count run.now.level.now.setting) steps.old steps.new }
+    requires run { IsRun run.now.ground.now run.now.script.now }
+    requires opened { IsOpened run.now.ground.now run.now.script.now opened }
+    ensures text { IfOk result (λ text. LiveRecord run.now.ground.now run.now.script.now text.items) }
+    ensures most { HasRisenAtMost (tile_count run.now.ground.now.setting) steps.old steps.new }
 {
-    let actors = run.script.lanes + run.script.workers;
-    match Crew::with_room(run.alloc, actors as usize) {
-        Ok(crew) => run_crew(run, opened, crew, steps),
+    let count = run.script.lanes + run.script.workers;
+    match Actors::with_room(run.alloc, count as usize) {
+        Ok(actors) => run_actors(run, opened, actors, steps),
         Err(refused) => {
-            let Opened {
+            let OpenedRun {
                 book,
                 eyes: _,
                 lists: _,
@@ -124,38 +129,38 @@ fn run_over<R: Threads + Wait + Sync, G: Gate + Sync, L: Ledger>(
 }
 
 /// The same with the room for the actors.
-fn run_crew<R: Threads + Wait + Sync, G: Gate + Sync, L: Ledger>(
-    run: &Run<'_, R, G>,
-    opened: Opened,
-    crew: Crew,
+fn run_actors<R: Threads + Wait + Sync, G: Gate + Sync, L: Ledger>(
+    run: &LiveRun<'_, R, G>,
+    opened: OpenedRun,
+    actors: Actors,
     steps: &mut Steps<L>,
 ) -> Result<Vec<u8>, AllocError>
-    requires run { IsRun run.now.level.now run.now.script.now }
-    requires opened { IsOpened run.now.level.now run.now.script.now opened }
-    requires room { IsSpareCrew (run.now.script.now.lanes + run.now.script.now.workers) crew }
-    ensures text { IfOk result (λ text. LiveRecord run.now.level.now run.now.script.now text.items) }
-    ensures most { HasRisenAtMost (tile_count run.now.level.now.setting) steps.old steps.new }
+    requires run { IsRun run.now.ground.now run.now.script.now }
+    requires opened { IsOpened run.now.ground.now run.now.script.now opened }
+    requires room { AreSpareActors (run.now.script.now.lanes + run.now.script.now.workers) actors }
+    ensures text { IfOk result (λ text. LiveRecord run.now.ground.now run.now.script.now text.items) }
+    ensures most { HasRisenAtMost (tile_count run.now.ground.now.setting) steps.old steps.new }
 {
-    let mut crew = crew;
-    let Opened { book, eyes, lists } = opened;
-    let bell = Bell::new(run.script.lanes);
-    let actors = run.script.lanes + run.script.workers;
-    match TurnLock::new(run.alloc, LiveBook { book }, actors) {
+    let mut actors = actors;
+    let OpenedRun { book, eyes, lists } = opened;
+    let events = EventCount::new(run.script.lanes);
+    let count = run.script.lanes + run.script.workers;
+    match TurnLock::new(run.alloc, LiveBook { book }, count) {
         Ok((lock, passes)) => {
-            crew.muster(run.alloc, run.script, passes, Outfit { eyes, lists });
-            let bench = Bench {
+            actors.make_actors(run.alloc, run.script, passes, LaneInputs { eyes, lists });
+            let context = RunContext {
                 rt: run.rt,
                 alloc: run.alloc,
                 lock: &lock,
-                bell: &bell,
-                level: run.level,
+                events: &events,
+                ground: run.ground,
                 gate: run.gate,
             };
-            let (left, end) = crew.run(&bench);
+            let (left, end) = actors.run(&context);
             end_run(run, lock, left, end, steps)
         }
         Err((live, refused)) => {
-            crew.discard();
+            actors.discard();
             let LiveBook { book } = live;
             book.end(run.rt);
             Err(refused)
@@ -166,20 +171,20 @@ fn run_crew<R: Threads + Wait + Sync, G: Gate + Sync, L: Ledger>(
 /// Closes the lock once all actors have ended, gives the text of the run, and ends the book. No lane of a live script has met a full
 /// history, since the lines of all lanes together make no more requests than a history has entries, and a lane that met one had a request left.
 fn end_run<R: Wait, G, L: Ledger>(
-    run: &Run<'_, R, G>,
+    run: &LiveRun<'_, R, G>,
     lock: TurnLock<LiveBook>,
-    left: Left,
-    end: Result<(), Stop>,
+    left: ActorsLeft,
+    end: Result<(), LaneEnd>,
     steps: &mut Steps<L>,
 ) -> Result<Vec<u8>, AllocError>
     requires script { IsScript Live run.now.script.now }
     requires all { AreAll lock left.passes.items }
     requires well { OnOk end (HaveLeft lock run.now.script.now left) }
     requires full { end ≡ Err stops.HistoryFull → HaveMetFull run.now.script.now left.passes.items }
-    ensures text { IfOk result (λ text. LiveRecord lock.root.level run.now.script.now text.items) }
-    ensures most { HasRisenAtMost (tile_count lock.root.level.setting) steps.old steps.new }
+    ensures text { IfOk result (λ text. LiveRecord lock.root.ground run.now.script.now text.items) }
+    ensures most { HasRisenAtMost (tile_count lock.root.ground.setting) steps.old steps.new }
 {
-    let Left {
+    let ActorsLeft {
         passes,
         mut eyes,
         texts,
@@ -188,10 +193,108 @@ fn end_run<R: Wait, G, L: Ledger>(
     let text = match end {
         Ok(()) => finish(run, &mut book, &mut eyes, texts, steps),
         Err(stop) => match stop {
-            Stop::NoMemory => Err(AllocError),
-            Stop::HistoryFull => unreachable!(),
+            LaneEnd::NoMemory => Err(AllocError),
+            LaneEnd::HistoryFull => unreachable!(),
         },
     };
     book.end(run.rt);
     text
+}
+
+/// Builds and publishes the whole history, with one step at most for each tile, shows it to the eyes of the lanes, and gives the live text of
+/// it and of what the lanes have written.
+pub(crate) fn finish<R: Wait, G, L: Ledger>(
+    run: &LiveRun<'_, R, G>,
+    book: &mut Book,
+    eyes: &mut [Eye],
+    lanes: Vec<Items<u8>>,
+    steps: &mut Steps<L>,
+) -> Result<Vec<u8>, AllocError>
+    requires pairs { All (λ (eye : EyeView). eye.pair ≡ book.old.pair) eyes.old }
+    requires few { length lanes.items < 2 ^ 32 }
+    ensures text { IfOk result (λ text. text.items ≡ live_text book.old.state.ground book.old.state.history lanes.items) }
+    // What each eye had seen or learnt of is a beginning of the whole history.
+    ensures seen { OnOk result (All (λ (eye : EyeView). IsPrefix eye.seen book.old.state.history) eyes.old) }
+    // No job that an actor left is still claimed.
+    ensures free { OnOk result (IsUnclaimed book.new.state) }
+    ensures most { HasRisenAtMost (tile_count book.old.state.ground.setting) steps.old steps.new }
+{
+    let _ = book.settle(run.rt, run.alloc, steps)?;
+    catch_up(run.rt, run.alloc, book, eyes)?;
+    write_live(run.alloc, book, lanes)
+}
+
+/// Lets eyes see all that is published.
+fn catch_up<R: Wait>(rt: &R, alloc: Global, book: &Book, eyes: &mut [Eye]) -> Result<(), AllocError>
+    requires { All (λ (eye : EyeView). eye.pair ≡ book.now.pair) eyes.old }
+    ensures { OnOk result (All (λ (eye : EyeView). IsPrefix eye.seen (published_entries book.now.state)) eyes.old) }
+{
+    for eye in eyes.iter_mut() {
+        see_all(rt, alloc, book, eye)?;
+    }
+    Ok(())
+}
+
+/// Lets an eye see all that is published: it learns the published length, and asks until the version that answers has that length.
+fn see_all<R: Wait>(rt: &R, alloc: Global, book: &Book, eye: &mut Eye) -> Result<(), AllocError>
+    requires { eye.old.pair ≡ book.now.pair }
+    ensures all { OnOk result (eye.new.seen ≡ published_entries book.now.state) }
+    ensures before { OnOk result (IsPrefix eye.old.seen (published_entries book.now.state)) }
+{
+    let all = book.published();
+    eye.learn(book.told());
+    for _ in rt.forever() {
+        let (length, _answer) = eye.ask(alloc, &Question::Floor { x: 0, z: 0 })?;
+        if length == all {
+            return Ok(());
+        }
+    }
+    unreachable!()
+}
+
+/// The live text of a book whose whole history is published, and of what its lanes have written, the lanes in the order of their numbers: the
+/// history, then each lane, then the counts of the published mesh.
+pub(crate) fn write_live(
+    alloc: Global,
+    book: &Book,
+    lanes: Vec<Items<u8>>,
+) -> Result<Vec<u8>, AllocError>
+    requires shown { book.now.state.published ≡ length book.now.state.history }
+    requires few { length lanes.items < 2 ^ 32 }
+    ensures { IfOk result (λ text. text.items ≡ live_text book.now.state.ground book.now.state.history lanes.items) }
+{
+    let mut text = Vec::new(alloc);
+    write_history(&mut text, book.length())?;
+    write_entries(&mut text, book.entries())?;
+    write_lanes(&mut text, lanes)?;
+    let (polygons, links) = book.mesh_counts();
+    write_final(&mut text, book.length(), polygons, links)?;
+    Ok(text)
+}
+
+/// Appends a line for each entry of a history, with its number, from 1.
+fn write_entries(text: &mut Vec<u8>, entries: &[Entry]) -> Result<(), AllocError>
+    requires { length entries.now < 4294967295 }
+    ensures { OnOk result (text.new.items ≡ text.old.items ++ entries_text entries.now) }
+{
+    for (i, entry) in entries.iter().enumerate() {
+        write_entry(text, i as u32 + 1, entry)?;
+    }
+    Ok(())
+}
+
+/// Appends the number of each lane, and then what the lane has written, which is given back at once: what all lanes have written is never there
+/// twice.
+fn write_lanes(text: &mut Vec<u8>, lanes: Vec<Items<u8>>) -> Result<(), AllocError>
+    requires { length lanes.items < 2 ^ 32 }
+    ensures { OnOk result (text.new.items ≡ text.old.items ++ flat_map lane_lines (enumerate_from 0 lanes.items)) }
+{
+    let mut rest = lanes.into_iter();
+    let mut lane = 0;
+    while let Some(told) = rest.next() {
+        write_lane(text, lane)?;
+        text.extend_from_slice(told.as_slice())?;
+        lane += 1;
+    }
+    Ok(())
 }

@@ -4,11 +4,11 @@ use Rattle.std.specs.Prelude.{IfOk, IsOkAnd, OnOk, Result, Ok, Err}
 use Rattle.std.proofs.lemmas.List.{length-set}
 use Rattle.std.proofs.lemmas.List.Elements.{All-append, All-nil}
 use Rattle.std.proofs.lemmas.Result.{on_ok_weaker}
-use Rattle.nav_base.specs.declared.answers.Question.{Question}
+use Rattle.nav_base.specs.declared.point.Question.{Question}
 use Rattle.nav_base.specs.declared.point.Point.{Point}
 use Rattle.mesh_types.specs.declared.answers.Answer.{Answer}
-use Rattle.mesh_types.specs.declared.hops.HopAnswer.{HopAnswer}
-use Rattle.mesh_types.specs.declared.hops.Jump as hops
+use Rattle.mesh_types.specs.declared.answers.HopAnswer.{HopAnswer}
+use Rattle.mesh_types.specs.declared.answers.Jump as hops
 use Rattle.mesh_types.specs.Hops.{IsHopRight}
 use Rattle.mesh_types.specs.Right.{IsRight}
 use Rattle.nav_ground.specs.declared.history.Ground.{Ground}
@@ -16,9 +16,9 @@ use Rattle.nav_ground.specs.declared.history.Reply.{Reply}
 use Rattle.nav_ground.specs.declared.history.Request.{Request}
 use Rattle.nav_ground.specs.declared.history.Request.TheVariants as requests
 use Rattle.nav_ground.specs.declared.shape.Shape.{Shape}
-use Rattle.nav_desk.specs.declared.answers.HistoryFull.{HistoryFull}
-use Rattle.nav_desk.specs.BookState.{BookState}
-use Rattle.nav_desk.specs.Steps.{after_aim, after_publish, publication, request_answer, requested}
+use Rattle.build_queue.specs.declared.live.HistoryFull.{HistoryFull}
+use Rattle.build_queue.specs.BookState.{BookState}
+use Rattle.build_queue.specs.Steps.{after_aim, after_publish, publication, request_answer, requested}
 use Rattle.nav_query.specs.Questions.{HasLowCost}
 use Rattle.nav_book.specs.Results.{published_mesh}
 use Rattle.nav_record.specs.declared.step.StepAnswer.{StepAnswer}
@@ -26,9 +26,9 @@ use Rattle.nav_record.specs.declared.step.StepAnswer.TheVariants as answers
 use Rattle.nav_record.specs.HopTexts.{hop_text}
 use Rattle.nav_record.specs.AnswerTexts.{answer_text}
 use Rattle.nav_record.specs.StepTexts.{step_text}
-use Rattle.off_links.specs.Leaps.{AreJumps, HasJumpCoordinates}
-use Rattle.nav_script.specs.declared.line.Line.{Line}
-use Rattle.nav_script.specs.declared.line.Line.TheVariants.{Lane, Ask, Add, Remove, Undo, Settle, Aim, Claim, Back, Submit, Publish, Jump, Hop}
+use Rattle.off_links.specs.OffMeshLinks.{AreJumps, HasJumpCoordinates}
+use Rattle.nav_script.specs.declared.script.Line.{Line}
+use Rattle.nav_script.specs.declared.script.Line.TheVariants.{Lane, Ask, Add, Remove, Undo, Settle, Aim, Claim, Back, Submit, Publish, Jump, Hop}
 use Rattle.nav_play.specs.declared.player.Player.{Player}
 use Rattle.nav_play.specs.Claims.{HasClaimed}
 use Rattle.nav_play.specs.Jobs.{back_said, book_after_back, book_after_submit, publication_said, submit_said}
@@ -63,7 +63,7 @@ played : {A E : Type 0} (r : Result A E) (line : Line) (before after : Player) (
     → IsSaid (player_state before) line said
     → HasState after (state_after (player_state before) line)
     → HasCounted (player_state before) line before.totals after.totals
-    → AreHeld before.book.state.whole after.workers
+    → AreHeld before.book.state.ground after.workers
     → after.lane < length after.adds
     → AreJumps after.hop.jumps
     → n ≡ m + jobs_of (player_state before) line
@@ -113,7 +113,7 @@ ask_played r before after question answer k s steady right low k_is written coun
     (record { answer = answer; right = right; written = ap (λ n. answer_text n answer) k_is })
     (record { book = ap (λ b. b.state) book_is; lane = lane_is; adds = adds_is; held = ap jobs_of_held workers_is; jumps = jumps_is })
     (record { answer = answer; right = right; low = low; counted = counted })
-    (subst (AreHeld before.book.state.whole) (sym workers_is) steady.held)
+    (subst (AreHeld before.book.state.ground) (sym workers_is) steady.held)
     (lane_kept before.lane after.lane before.adds after.adds steady.lane lane_is adds_is)
     (jumps_kept before after steady jumps_is)
     (none_more s)
@@ -142,7 +142,7 @@ jump_played before after jump s steady room fits jumps_is book_is lane_is adds_i
   text = record { said = []; written = ap (λ t. t.items) text_is ∙ sym (append-nil before.text.items); fits = refl };
   state = record { book = ap (λ b. b.state) book_is; lane = lane_is; adds = adds_is; held = ap jobs_of_held workers_is; jumps = jumps_is };
   totals = totals_is;
-  held = subst (AreHeld before.book.state.whole) (sym workers_is) steady.held;
+  held = subst (AreHeld before.book.state.ground) (sym workers_is) steady.held;
   lane = lane_kept before.lane after.lane before.adds after.adds steady.lane lane_is adds_is;
   jumps = subst AreJumps (sym jumps_is) (jumps_more before.hop.jumps jump steady.jumps room fits);
   count = none_more s;
@@ -161,7 +161,7 @@ hop_played r before after from from_y to to_y answer k s steady right k_is writt
     (record { answer = answer; right = right; written = ap (λ n. hop_text n answer) k_is })
     (record { book = ap (λ b. b.state) book_is; lane = lane_is; adds = adds_is; held = ap jobs_of_held workers_is; jumps = jumps_is })
     totals_is
-    (subst (AreHeld before.book.state.whole) (sym workers_is) steady.held)
+    (subst (AreHeld before.book.state.ground) (sym workers_is) steady.held)
     (lane_kept before.lane after.lane before.adds after.adds steady.lane lane_is adds_is)
     (jumps_kept before after steady jumps_is)
     (none_more s)
@@ -205,7 +205,7 @@ add_played r before asked after shape number s steady has number_is pushed book_
         jumps = jumps_is ∙ has.jumps;
       };
       totals = totals_is ∙ has.totals;
-      held = subst (AreHeld before.book.state.whole) (sym (workers_is ∙ has.workers)) steady.held;
+      held = subst (AreHeld before.book.state.ground) (sym (workers_is ∙ has.workers)) steady.held;
       lane = lane_pushed before.lane after.lane before.adds asked.adds after.adds _ steady.lane (lane_is ∙ has.lane) has.adds
           (adds_is ∙ ap (λ lane. adds_and asked.adds lane number) (sym lane_is));
       jumps = jumps_kept before after steady (jumps_is ∙ has.jumps);
@@ -219,7 +219,7 @@ remove_played before after number s steady has = record {
   text = record { said = request_text before.book.state (requests.Remove number); written = has.text; fits = refl };
   state = record { book = has.book; lane = has.lane; adds = has.adds; held = ap jobs_of_held has.workers; jumps = has.jumps };
   totals = has.totals;
-  held = subst (AreHeld before.book.state.whole) (sym has.workers) steady.held;
+  held = subst (AreHeld before.book.state.ground) (sym has.workers) steady.held;
   lane = lane_kept before.lane after.lane before.adds after.adds steady.lane has.lane has.adds;
   jumps = jumps_kept before after steady has.jumps;
   count = none_more s;
@@ -252,7 +252,7 @@ aim_played r before after k s steady written k_is book_is lane_is adds_is worker
     (ap (λ n. step_text (answers.Aim n)) k_is)
     (record { book = book_is; lane = lane_is; adds = adds_is; held = ap jobs_of_held workers_is; jumps = jumps_is })
     totals_is
-    (subst (AreHeld before.book.state.whole) (sym workers_is) steady.held)
+    (subst (AreHeld before.book.state.ground) (sym workers_is) steady.held)
     (lane_kept before.lane after.lane before.adds after.adds steady.lane lane_is adds_is)
     (jumps_kept before after steady jumps_is)
     (none_more s)
@@ -270,7 +270,7 @@ publish_played r (Ok said) before after s steady written said_is book_is lane_is
     (ap step_text said_is)
     (record { book = book_is; lane = lane_is; adds = adds_is; held = ap jobs_of_held workers_is; jumps = jumps_is })
     totals_is
-    (subst (AreHeld before.book.state.whole) (sym workers_is) steady.held)
+    (subst (AreHeld before.book.state.ground) (sym workers_is) steady.held)
     (lane_kept before.lane after.lane before.adds after.adds steady.lane lane_is adds_is)
     (jumps_kept before after steady jumps_is)
     (none_more s)
@@ -300,7 +300,7 @@ pub back_played : {A E : Type 0} (r : Result A E) (before after : Player) (said 
     → said ≡ back_said worker (held_job before.workers worker)
     → after.book.state ≡ book_after_back before.book.state (held_job before.workers worker)
     → jobs_of_held after.workers ≡ set (jobs_of_held before.workers) worker None
-    → AreHeld before.book.state.whole after.workers
+    → AreHeld before.book.state.ground after.workers
     → after.lane ≡ before.lane → after.adds ≡ before.adds → after.totals ≡ before.totals → after.hop.jumps ≡ before.hop.jumps
     → OnOk r (HasPlayed (Back worker) before after s s)
 back_played r before after said worker s steady written said_is book_is jobs builds lane_is adds_is totals_is jumps_is =
@@ -319,7 +319,7 @@ pub submit_played : {A E : Type 0} (r : Result A E) (before after : Player) (sai
     → said ≡ submit_said before.book.state worker (held_job before.workers worker)
     → after.book.state ≡ book_after_submit before.book.state (held_job before.workers worker)
     → jobs_of_held after.workers ≡ set (jobs_of_held before.workers) worker None
-    → AreHeld before.book.state.whole after.workers
+    → AreHeld before.book.state.ground after.workers
     → after.lane ≡ before.lane → after.adds ≡ before.adds → after.totals ≡ before.totals → after.hop.jumps ≡ before.hop.jumps
     → OnOk r (HasPlayed (Submit worker) before after s s)
 submit_played r before after said worker s steady written said_is book_is jobs builds lane_is adds_is totals_is jumps_is =
@@ -338,7 +338,7 @@ pub settle_played : {A E F : Type 0} (r : Result A E) (q : Result StepAnswer F) 
     → IfOk q (λ said. said ≡ answers.Settled (length before.book.state.history))
     → OnOk q (after.book.state ≡ after_settle before.book.state)
     → OnOk q (jobs_of_held after.workers ≡ replicate (length (jobs_of_held before.workers)) None)
-    → OnOk q (AreHeld before.book.state.whole after.workers)
+    → OnOk q (AreHeld before.book.state.ground after.workers)
     → OnOk q (n ≡ m + length (awaited_tiles (settling before.book.state)))
     → after.lane ≡ before.lane → after.adds ≡ before.adds → after.totals ≡ before.totals → after.hop.jumps ≡ before.hop.jumps
     → OnOk r (HasPlayed Settle before after m n)
@@ -362,6 +362,6 @@ pub still_steady : (line : Line) (before after : Player) (m n : ℕ) → HasPlay
 still_steady line before after m n has = record {
   lane = has.lane;
   jumps = has.jumps;
-  held = subst (λ (whole : Ground). AreHeld whole after.workers)
-      (sym (ap (λ (book : BookState). book.whole) has.state.book ∙ whole_stays (player_state before) line)) has.held;
+  held = subst (λ (ground : Ground). AreHeld ground after.workers)
+      (sym (ap (λ (book : BookState). book.ground) has.state.book ∙ whole_stays (player_state before) line)) has.held;
 }

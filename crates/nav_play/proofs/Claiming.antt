@@ -3,13 +3,13 @@ use Rattle.std.proofs.Common.{◌≡◌, ℕ, ◌+◌, List, set, get_or, ap, �
 use Rattle.std.specs.Prelude.{is_some, if◌then◌else◌}
 use Rattle.std.proofs.lemmas.Bool.{both_ways}
 use Rattle.nav_ground.specs.declared.history.Ground.{Ground}
-use Rattle.nav_desk.specs.declared.answers.Job.{Job}
-use Rattle.nav_desk.specs.BookState.{BookState}
-use Rattle.nav_desk.specs.Steps.{after_claim, next_job}
-use Rattle.nav_book.specs.declared.result.TileResult.{TileResult}
+use Rattle.build_queue.specs.declared.live.Job.{Job}
+use Rattle.build_queue.specs.BookState.{BookState}
+use Rattle.build_queue.specs.Steps.{after_claim, next_job}
+use Rattle.nav_book.specs.declared.book.TileResult.{TileResult}
 use Rattle.nav_book.specs.Results.{IsBuild, job_built}
 use Rattle.nav_record.specs.declared.step.StepAnswer.TheVariants as answers
-use Rattle.nav_steps.specs.Counts.{HasRisenAtMost}
+use Rattle.nav_base.specs.Counts.{HasRisenAtMost}
 use Rattle.nav_play.specs.Claims.{HasClaimed}
 use Rattle.nav_play.specs.Jobs.{book_after_claim, claim_said, held_after_claim, job_said, jobs_of_claim}
 use Rattle.nav_play.specs.Players.{AreHeld, held_job}
@@ -20,7 +20,7 @@ abbrev jobs_given : Option Job → ℕ
 jobs_given job = if is_some job then 1 else 0
 
 -- a worker that holds a tile is busy
-pub busy_claims : (book : BookState) (held : List (Option TileResult)) (worker n : ℕ) → is_some (get_or held worker None) ≡ true → AreHeld book.whole held
+pub busy_claims : (book : BookState) (held : List (Option TileResult)) (worker n : ℕ) → is_some (get_or held worker None) ≡ true → AreHeld book.ground held
     → HasClaimed worker book book held held n n (answers.Busy worker)
 busy_claims book held worker n busy each = by_case (get_or held worker None) refl busy
   where
@@ -39,7 +39,7 @@ busy_claims book held worker n busy each = by_case (get_or held worker None) ref
 
 -- one that holds none is given no tile where there is none
 pub none_claimed : (book after : BookState) (held : List (Option TileResult)) (worker n : ℕ) (given : Option Job) → is_some (get_or held worker None) ≡ false
-    → given ≡ next_job book → given ≡ None → after ≡ after_claim book → AreHeld book.whole held
+    → given ≡ next_job book → given ≡ None → after ≡ after_claim book → AreHeld book.ground held
     → HasClaimed worker book after held held n n (answers.NoTile worker)
 none_claimed book after held worker n given free next_is is claimed each =
     let job : held_job held worker ≡ None = idle held worker free in
@@ -56,8 +56,8 @@ none_claimed book after held worker n given free next_is is claimed each =
 -- and else holds what it is given
 pub tile_claimed : (book after : BookState) (held left : List (Option TileResult)) (worker n m : ℕ) (given : Option Job) (job : Job) (made : TileResult)
     → is_some (get_or held worker None) ≡ false
-    → given ≡ next_job book → given ≡ Some job → after ≡ after_claim book → job_built made ≡ job → IsBuild after.whole made
-    → left ≡ set held worker (Some made) → m ≡ n + 1 → AreHeld book.whole held
+    → given ≡ next_job book → given ≡ Some job → after ≡ after_claim book → job_built made ≡ job → IsBuild after.ground made
+    → left ≡ set held worker (Some made) → m ≡ n + 1 → AreHeld book.ground held
     → HasClaimed worker book after held left n m (answers.Claimed worker job.tile)
 tile_claimed book after held left worker n m given job made free next_is is claimed same build hold step each =
     let none : held_job held worker ≡ None = idle held worker free in
@@ -67,7 +67,7 @@ tile_claimed book after held left worker n m given job made free next_is is clai
       said = sym (ap (claim_said book worker) none ∙ ap (job_said worker) next);
       state = claimed ∙ sym (ap (book_after_claim book) none);
       jobs = claim_jobs book held left worker made given job free hold next_is is same;
-      builds = held_set book.whole held left worker (Some made) hold each (subst (λ (whole : Ground). IsBuild whole made) (ap (λ (b : BookState). b.whole) claimed) build);
+      builds = held_set book.ground held left worker (Some made) hold each (subst (λ (ground : Ground). IsBuild ground made) (ap (λ (b : BookState). b.ground) claimed) build);
       count = omega (arith, step, count);
     }
 

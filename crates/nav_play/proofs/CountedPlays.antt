@@ -4,8 +4,8 @@ use Rattle.nav_ground.specs.declared.field.Field.{Field}
 use Rattle.nav_ground.specs.declared.setting.Setting.{Setting}
 use Rattle.nav_ground.specs.declared.setting.MeshKind.TheVariants.{Strips}
 use Rattle.nav_ground.specs.declared.shape.Shape.TheVariants.{Block}
-use Rattle.nav_script.specs.declared.line.Line.{Line}
-use Rattle.nav_script.specs.declared.line.Line.TheVariants.{Add, Settle, Aim, Claim, Submit, Publish}
+use Rattle.nav_script.specs.declared.script.Line.{Line}
+use Rattle.nav_script.specs.declared.script.Line.TheVariants.{Add, Settle, Aim, Claim, Submit, Publish}
 use Rattle.nav_script.specs.declared.script.Script.{Script}
 use Rattle.nav_book.specs.Settling.{all_built}
 use Rattle.nav_play.specs.Work.{builds_of, jobs_from}

@@ -7,12 +7,12 @@ use Rattle.std.proofs.Math.ListN.{get_or-map}
 use Rattle.std.proofs.lemmas.List.{get_or-replicate, length-map, length-replicate, map-set, set-get_or}
 use Rattle.std.proofs.lemmas.List.Elements.{All-set}
 use Rattle.nav_ground.specs.declared.history.Ground.{Ground}
-use Rattle.nav_desk.specs.declared.answers.Job.{Job}
-use Rattle.nav_desk.specs.BookState.{BookState}
-use Rattle.nav_desk.specs.declared.answers.Submitted.{Submitted}
-use Rattle.nav_desk.specs.Steps.{next_job, submission}
+use Rattle.build_queue.specs.declared.live.Job.{Job}
+use Rattle.build_queue.specs.BookState.{BookState}
+use Rattle.build_queue.specs.declared.live.Submitted.{Submitted}
+use Rattle.build_queue.specs.Steps.{next_job, submission}
 use Rattle.nav_play.specs.Jobs.{held_after_claim, submission_said, submit_said}
-use Rattle.nav_book.specs.declared.result.TileResult.{TileResult}
+use Rattle.nav_book.specs.declared.book.TileResult.{TileResult}
 use Rattle.nav_book.specs.Results.{job_built}
 use Rattle.nav_play.specs.Players.{AreHeld, IsHeld, held_job, jobs_of_held}
 
@@ -32,18 +32,18 @@ pub jobs_same : (held : List (Option TileResult)) (worker : ℕ) (job : Option J
 jobs_same held worker job is = sym (ap (set (jobs_of_held held) worker) (sym is) ∙ set-get_or (jobs_of_held held) worker None)
 
 -- what workers hold stays built where one more build stands, or nothing
-pub held_set : (whole : Ground) (held after : List (Option TileResult)) (worker : ℕ) (made : Option TileResult) → after ≡ set held worker made
-    → AreHeld whole held → IsHeld whole made → AreHeld whole after
-held_set whole held after worker made is each one = subst (AreHeld whole) (sym is) (All-set (IsHeld whole) held worker made one each)
+pub held_set : (ground : Ground) (held after : List (Option TileResult)) (worker : ℕ) (made : Option TileResult) → after ≡ set held worker made
+    → AreHeld ground held → IsHeld ground made → AreHeld ground after
+held_set ground held after worker made is each one = subst (AreHeld ground) (sym is) (All-set (IsHeld ground) held worker made one each)
 
-pub held_at : (whole : Ground) (held : List (Option TileResult)) (worker : ℕ) (made : Option TileResult) → AreHeld whole held → worker < length held
-    → made ≡ get_or held worker None → IsHeld whole made
-held_at whole held worker made each there is = subst (IsHeld whole) (sym is) (each worker None there)
+pub held_at : (ground : Ground) (held : List (Option TileResult)) (worker : ℕ) (made : Option TileResult) → AreHeld ground held → worker < length held
+    → made ≡ get_or held worker None → IsHeld ground made
+held_at ground held worker made each there is = subst (IsHeld ground) (sym is) (each worker None there)
 
-pub held_none : (whole : Ground) (held : List (Option TileResult)) (n : ℕ) → held ≡ replicate n None → AreHeld whole held
-held_none whole held n is =
-    subst (AreHeld whole) (sym is) (λ k d there.
-    subst (IsHeld whole) (sym (get_or-replicate n k None d (omega (arith, there, length-replicate n (none_held))))) tt)
+pub held_none : (ground : Ground) (held : List (Option TileResult)) (n : ℕ) → held ≡ replicate n None → AreHeld ground held
+held_none ground held n is =
+    subst (AreHeld ground) (sym is) (λ k d there.
+    subst (IsHeld ground) (sym (get_or-replicate n k None d (omega (arith, there, length-replicate n (none_held))))) tt)
   where
     none_held : Option TileResult
     none_held = None

@@ -10,3 +10,4 @@ mod OneTotals
 mod Playing
 mod Parts
 mod CountedPlays
+mod Writing

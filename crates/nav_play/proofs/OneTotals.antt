@@ -3,17 +3,17 @@ use Rattle.std.proofs.Common.{◌≡◌, ℕ, ◌+◌, List, [], ◌∷◌, ap, 
 use Rattle.std.specs.Prelude.{cond}
 use Rattle.std.specs.List.{sum_by}
 use Rattle.std.proofs.lemmas.List.Sums.{sum_by-append, sum_by-cons}
-use Rattle.nav_base.specs.declared.answers.Question.{Question}
-use Rattle.nav_base.specs.declared.answers.Question.TheVariants as questions
+use Rattle.nav_base.specs.declared.point.Question.{Question}
+use Rattle.nav_base.specs.declared.point.Question.TheVariants as questions
 use Rattle.mesh_types.specs.declared.answers.Answer.{Answer}
 use Rattle.mesh_types.specs.declared.answers.Answer.TheVariants.{Floors, Path, NoStart, NoGoal, NoPath, Reached, Wall}
 use Rattle.mesh_types.specs.declared.mesh.Mesh.{Mesh}
 use Rattle.mesh_types.specs.Right.{AreAlike}
 use Rattle.mesh_types.proofs.RightLaws.{alike}
 use Rattle.nav_book.specs.Results.{published_mesh}
-use Rattle.nav_record.specs.declared.totals.Totals.{Totals}
-use Rattle.nav_script.specs.declared.line.Line.{Line}
-use Rattle.nav_script.specs.declared.line.Line.TheVariants.{Ask}
+use Rattle.nav_record.specs.declared.step.Totals.{Totals}
+use Rattle.nav_script.specs.declared.script.Line.{Line}
+use Rattle.nav_script.specs.declared.script.Line.TheVariants.{Ask}
 use Rattle.nav_play.specs.PlayStates.{PlayState, state_after}
 use Rattle.nav_play.specs.PlayRecord.{AreSaid}
 use Rattle.nav_play.specs.PlayTotals.{AreTotalsFrom, IsCounted, IsPathAnswer, cost_of, is_no_goal, is_no_path, is_no_start, is_path}

@@ -2,9 +2,9 @@
 use Rattle.std.proofs.Common.{◌≡◌, ℕ, ◌+◌, ap, subst, arith}
 use Rattle.nav_ground.specs.declared.history.Ground.{Ground}
 use Rattle.nav_ground.specs.Tiling.{tile_count}
-use Rattle.nav_script.specs.declared.line.Line.{Line}
+use Rattle.nav_script.specs.declared.script.Line.{Line}
 use Rattle.std.specs.Prelude.{List}
-use Rattle.nav_steps.specs.Counts.{HasRisenAtMost}
+use Rattle.nav_base.specs.Counts.{HasRisenAtMost}
 use Rattle.nav_play.specs.PlayStates.{PlayState}
 use Rattle.nav_play.specs.Work.{jobs_from}
 
@@ -25,8 +25,8 @@ all_parts lines state first a m n k same built played =
     omega (arith, built, jobs, played)
 
 -- the tiles of a ground
-pub tiles_risen : (whole made : Ground) (m n : ℕ) → made ≡ whole → HasRisenAtMost (tile_count made.setting) m n → HasRisenAtMost (tile_count whole.setting) m n
-tiles_risen whole made m n same risen = subst (λ (ground : Ground). HasRisenAtMost (tile_count ground.setting) m n) same risen
+pub tiles_risen : (ground made : Ground) (m n : ℕ) → made ≡ ground → HasRisenAtMost (tile_count made.setting) m n → HasRisenAtMost (tile_count ground.setting) m n
+tiles_risen ground made m n same risen = subst (λ (ground : Ground). HasRisenAtMost (tile_count ground.setting) m n) same risen
 
-pub tiles_taken : (whole made : Ground) (m n : ℕ) → made ≡ whole → n ≡ m + tile_count made.setting → n ≡ m + tile_count whole.setting
-tiles_taken whole made m n same taken = subst (λ (ground : Ground). n ≡ m + tile_count ground.setting) same taken
+pub tiles_taken : (ground made : Ground) (m n : ℕ) → made ≡ ground → n ≡ m + tile_count made.setting → n ≡ m + tile_count ground.setting
+tiles_taken ground made m n same taken = subst (λ (ground : Ground). n ≡ m + tile_count ground.setting) same taken

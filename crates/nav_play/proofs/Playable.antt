@@ -4,13 +4,13 @@ use Rattle.std.proofs.lemmas.Int.{ints}
 use Rattle.std.proofs.lemmas.List.{drop_more}
 use Rattle.std.proofs.lemmas.List.Sums.{sum_by-cons}
 use Rattle.std.proofs.lemmas.Option.{slice_get-get_or}
-use Rattle.nav_base.specs.declared.answers.Question.{Question}
-use Rattle.nav_base.specs.declared.answers.Question.TheVariants.{Floor, Path, Ray}
+use Rattle.nav_base.specs.declared.point.Question.{Question}
+use Rattle.nav_base.specs.declared.point.Question.TheVariants.{Floor, Path, Ray}
 use Rattle.nav_base.specs.declared.point.Point.{Point}
 use Rattle.nav_base.specs.Point.{HasCoordinates, IsCoordinate}
 use Rattle.nav_query.specs.Questions.{IsAnswerable}
-use Rattle.nav_script.specs.declared.line.Line.{Line}
-use Rattle.nav_script.specs.declared.line.Line.TheVariants.{Lane, Ask, Add, Claim, Back, Submit, Jump, Hop, Send, March}
+use Rattle.nav_script.specs.declared.script.Line.{Line}
+use Rattle.nav_script.specs.declared.script.Line.TheVariants.{Lane, Ask, Add, Claim, Back, Submit, Jump, Hop, Send, March}
 use Rattle.nav_script.specs.declared.script.Script.{Script}
 use Rattle.nav_script.specs.declared.script.Way.TheVariants.{Play, Live}
 use Rattle.nav_script.specs.Limits.{IsScript, IsLine, IsPlace, IsQuestion}

@@ -1,19 +1,19 @@
 -- A play under way on its ground, with the steps that it took.
 use Rattle.std.proofs.Common.{◌≡◌, ℕ, ◌+◌, ◌<◌, ◌≤◌, Option, None, List, [], ◌++◌, length, replicate, get_or, drop, cond, count_by, ap, ◌∙◌, sym, subst, refl, arith}
 use Rattle.std.proofs.lemmas.List.Sums.{sum_by-cons}
-use Rattle.mesh_types.specs.declared.hops.Jump.{Jump}
+use Rattle.mesh_types.specs.declared.answers.Jump.{Jump}
 use Rattle.nav_ground.specs.declared.history.Ground.{Ground}
-use Rattle.nav_desk.specs.BookState.{BookState}
-use Rattle.nav_desk.specs.BookState as books
+use Rattle.build_queue.specs.BookState.{BookState}
+use Rattle.build_queue.specs.BookState as books
 use Rattle.mesh_types.specs.Soundness.{link_count, polygon_count}
 use Rattle.nav_book.specs.Results.{published_mesh}
-use Rattle.nav_book.specs.declared.result.TileResult.{TileResult}
-use Rattle.nav_record.specs.declared.totals.Totals.{Totals}
+use Rattle.nav_book.specs.declared.book.TileResult.{TileResult}
+use Rattle.nav_record.specs.declared.step.Totals.{Totals}
 use Rattle.nav_record.specs.FrameTexts.{done_text}
-use Rattle.nav_script.specs.declared.line.Line.{Line}
+use Rattle.nav_script.specs.declared.script.Line.{Line}
 use Rattle.nav_script.specs.Lanes.{is_jump}
 use Rattle.nav_script.specs.declared.script.Script.{Script}
-use Rattle.nav_steps.specs.Counts.{HasRisenAtMost}
+use Rattle.nav_base.specs.Counts.{HasRisenAtMost}
 use Rattle.nav_play.specs.PlayStates.{PlayState, opening_state, state_after, state_after_all}
 use Rattle.nav_play.specs.PlayRecord.{AddsSome, IsSaid, IsTextFrom}
 use Rattle.nav_play.specs.PlayTotals.{AreTotalsFrom, IsCounted}
@@ -31,7 +31,7 @@ pub record IsPlaying (first : PlayState) (lines : List Line) (done : ℕ) (state
   pub way : IsUnderWay IsSaid first lines done state text
   pub tallied : IsTallied first lines done state totals
   pub ends : state_after_all state (drop done lines) ≡ state_after_all first lines
-  pub whole : state.book.whole ≡ first.book.whole
+  pub ground : state.book.ground ≡ first.book.ground
   pub lanes : length state.adds ≡ length first.adds
   pub workers : length state.held ≡ length first.held
   pub jumps : length state.jumps + count_by is_jump (drop done lines) ≡ length first.jumps + count_by is_jump lines
@@ -45,7 +45,7 @@ no_line_played first lines state text totals before after same empty none steps 
   way = begun IsSaid first lines state text same empty;
   tallied = tally_begun first lines state totals same none;
   ends = ap (λ (s : PlayState). state_after_all s lines) same;
-  whole = ap (λ (s : PlayState). s.book.whole) same;
+  ground = ap (λ (s : PlayState). s.book.ground) same;
   lanes = ap (λ (s : PlayState). length s.adds) same;
   workers = ap (λ (s : PlayState). length s.held) same;
   jumps = ap (λ (s : PlayState). length s.jumps + count_by is_jump lines) same;
@@ -70,7 +70,7 @@ one_line_played first lines items done state next text more totals counted befor
       way = goes_on IsSaid first lines done state next text more this playing.way left adds next_is;
       tallied = tally_goes_on first lines done state next totals counted this playing.tallied left has next_is;
       ends = same_end lines done state next this left next_is ∙ playing.ends;
-      whole = ap (λ (s : PlayState). s.book.whole) next_is ∙ whole_stays state this ∙ playing.whole;
+      ground = ap (λ (s : PlayState). s.book.ground) next_is ∙ whole_stays state this ∙ playing.ground;
       lanes = ap (λ (s : PlayState). length s.adds) next_is ∙ lanes_stay state this ∙ playing.lanes;
       workers = ap (λ (s : PlayState). length s.held) next_is ∙ workers_stay state this ∙ playing.workers;
       jumps =
@@ -153,10 +153,10 @@ are_totals first lines items done state text totals told before after playing sa
     })
 
 -- the state at the beginning
-pub begun_state : (script : Script) (book : BookState) (whole : Ground) (adds : List (List ℕ)) (workers : List (Option TileResult)) (jumps : List Jump)
-    → book ≡ books.first_state whole → adds ≡ replicate script.lanes [] → workers ≡ replicate script.workers None → jumps ≡ []
-    → ◌≡◌ {A = PlayState} (record { book = book; lane = 0; adds = adds; held = jobs_of_held workers; jumps = jumps }) (opening_state whole script.lanes script.workers)
-begun_state script book whole adds workers jumps begins lanes none bare = λ i. record {
+pub begun_state : (script : Script) (book : BookState) (ground : Ground) (adds : List (List ℕ)) (workers : List (Option TileResult)) (jumps : List Jump)
+    → book ≡ books.first_state ground → adds ≡ replicate script.lanes [] → workers ≡ replicate script.workers None → jumps ≡ []
+    → ◌≡◌ {A = PlayState} (record { book = book; lane = 0; adds = adds; held = jobs_of_held workers; jumps = jumps }) (opening_state ground script.lanes script.workers)
+begun_state script book ground adds workers jumps begins lanes none bare = λ i. record {
   book = begins i;
   lane = 0;
   adds = lanes i;

@@ -1,7 +1,7 @@
 -- A run over the lines of a script under way.
 use Rattle.std.proofs.Common.{◌≡◌, ℕ, ◌+◌, ◌<◌, ◌≤◌, List, [], ◌∷◌, ◌++◌, length, drop, get_or, ap, ◌∙◌, sym, subst, refl, append_assoc, append-nil}
 use Rattle.std.proofs.lemmas.List.{drop_more, drop_all}
-use Rattle.nav_script.specs.declared.line.Line.{Line}
+use Rattle.nav_script.specs.declared.script.Line.{Line}
 use Rattle.nav_play.specs.PlayStates.{PlayState, state_after, state_after_all}
 use Rattle.nav_play.specs.PlayRecord.{AddsSome, AreSaid}
 use Rattle.nav_play.specs.Work.{jobs_from, jobs_of}

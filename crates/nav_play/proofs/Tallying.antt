@@ -4,14 +4,14 @@ use Rattle.std.specs.Prelude.{cond}
 use Rattle.std.specs.List.{fold, sum_by}
 use Rattle.std.proofs.lemmas.List.Elements.{All-append, All-nil, All-weaker}
 use Rattle.std.proofs.lemmas.List.Sums.{count_by-le-length, fold-append, sum_by-cons, sum_by-le}
-use Rattle.nav_base.specs.declared.answers.Question.{Question}
-use Rattle.nav_base.specs.declared.answers.Question.TheVariants as questions
+use Rattle.nav_base.specs.declared.point.Question.{Question}
+use Rattle.nav_base.specs.declared.point.Question.TheVariants as questions
 use Rattle.mesh_types.specs.declared.answers.Answer.{Answer}
 use Rattle.mesh_types.specs.declared.answers.Answer.TheVariants as kinds
 use Rattle.nav_query.specs.Questions.{HasLowCost}
-use Rattle.nav_script.specs.declared.line.Line.{Line}
-use Rattle.nav_script.specs.declared.line.Line.TheVariants.{Ask}
-use Rattle.nav_record.specs.declared.totals.Totals.{Totals}
+use Rattle.nav_script.specs.declared.script.Line.{Line}
+use Rattle.nav_script.specs.declared.script.Line.TheVariants.{Ask}
+use Rattle.nav_record.specs.declared.step.Totals.{Totals}
 use Rattle.nav_play.specs.PlayStates.{PlayState, state_after}
 use Rattle.nav_play.specs.PlayTotals.{CountAnswers, IsCounted, cost_of, is_no_goal, is_no_path, is_no_start, is_path}
 use Rattle.nav_play.specs.Tallies.{HasCounted, HasCountedAnswer, HasRoom, no_answers, totals_with}

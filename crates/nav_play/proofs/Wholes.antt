@@ -3,37 +3,37 @@ use Rattle.std.proofs.Common.{◌≡◌, Bool, true, false, cond, ℕ, ◌+◌, 
 use Rattle.std.specs.Prelude.{if◌then◌else◌, length}
 use Rattle.std.proofs.lemmas.List.{length-replicate, length-set}
 use Rattle.nav_ground.specs.declared.history.Request.{Request}
-use Rattle.nav_desk.specs.declared.answers.Job.{Job}
-use Rattle.nav_desk.specs.BookState.{BookState}
-use Rattle.nav_desk.specs.Steps.{after_request, is_full, requested}
-use Rattle.nav_script.specs.declared.line.Line.{Line}
-use Rattle.nav_script.specs.declared.line.Line.TheVariants.{Add, Remove, Undo, Settle, Claim, Back, Submit, Jump}
+use Rattle.build_queue.specs.declared.live.Job.{Job}
+use Rattle.build_queue.specs.BookState.{BookState}
+use Rattle.build_queue.specs.Steps.{after_request, is_full, requested}
+use Rattle.nav_script.specs.declared.script.Line.{Line}
+use Rattle.nav_script.specs.declared.script.Line.TheVariants.{Add, Remove, Undo, Settle, Claim, Back, Submit, Jump}
 use Rattle.nav_script.specs.Lanes.{is_jump}
 use Rattle.nav_play.specs.Jobs.{book_after_back, book_after_claim, book_after_submit}
 use Rattle.nav_play.specs.PlayStates.{PlayState, held_by, state_after}
 use Rattle.nav_book.proofs.Settled.{settled_whole}
 use Rattle.nav_play.proofs.Lists.{none_more}
 
-requested_whole : (book : BookState) (lane : ℕ) (request : Request) → (requested book lane request).whole ≡ book.whole
+requested_whole : (book : BookState) (lane : ℕ) (request : Request) → (requested book lane request).ground ≡ book.ground
 requested_whole book lane request = by_case (is_full book)
   where
-    by_case : (full : Bool) → (if full then book else after_request book lane request).whole ≡ book.whole
+    by_case : (full : Bool) → (if full then book else after_request book lane request).ground ≡ book.ground
     by_case true = refl
     by_case false = refl
 
-pub claim_whole : (book : BookState) (held : Option Job) → (book_after_claim book held).whole ≡ book.whole
+pub claim_whole : (book : BookState) (held : Option Job) → (book_after_claim book held).ground ≡ book.ground
 claim_whole book None = refl
 claim_whole book (Some job) = refl
 
-pub back_whole : (book : BookState) (held : Option Job) → (book_after_back book held).whole ≡ book.whole
+pub back_whole : (book : BookState) (held : Option Job) → (book_after_back book held).ground ≡ book.ground
 back_whole book None = refl
 back_whole book (Some job) = refl
 
-pub submit_whole : (book : BookState) (held : Option Job) → (book_after_submit book held).whole ≡ book.whole
+pub submit_whole : (book : BookState) (held : Option Job) → (book_after_submit book held).ground ≡ book.ground
 submit_whole book None = refl
 submit_whole book (Some job) = refl
 
-pub whole_stays : (state : PlayState) (line : Line) → (state_after state line).book.whole ≡ state.book.whole
+pub whole_stays : (state : PlayState) (line : Line) → (state_after state line).book.ground ≡ state.book.ground
 whole_stays state (Add shape) = requested_whole state.book state.lane _
 whole_stays state (Remove number) = requested_whole state.book state.lane _
 whole_stays state (Undo back) = requested_whole state.book state.lane _

@@ -1,13 +1,13 @@
 -- What may be written after a question.
 use Rattle.std.specs.Prelude.{◌≡◌, ℕ, List}
-use Rattle.nav_base.specs.declared.answers.Question.{Question}
+use Rattle.nav_base.specs.declared.point.Question.{Question}
 use Rattle.nav_base.specs.declared.point.Point.{Point}
 use Rattle.mesh_types.specs.declared.answers.Answer.{Answer}
-use Rattle.mesh_types.specs.declared.hops.HopAnswer.{HopAnswer}
-use Rattle.mesh_types.specs.declared.hops.Jump.{Jump}
+use Rattle.mesh_types.specs.declared.answers.HopAnswer.{HopAnswer}
+use Rattle.mesh_types.specs.declared.answers.Jump.{Jump}
 use Rattle.mesh_types.specs.Hops.{IsHopRight}
 use Rattle.mesh_types.specs.Right.{IsRight}
-use Rattle.nav_desk.specs.BookState.{BookState}
+use Rattle.build_queue.specs.BookState.{BookState}
 use Rattle.nav_book.specs.Results.{published_mesh}
 use Rattle.nav_record.specs.HopTexts.{hop_text}
 use Rattle.nav_record.specs.AnswerTexts.{answer_text}

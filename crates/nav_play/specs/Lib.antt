@@ -7,3 +7,4 @@ pub mod Tallies
 pub mod Work
 pub mod Players
 pub mod Claims
+pub mod Scenes

@@ -5,15 +5,15 @@ use Rattle.nav_ground.specs.declared.field.Field.{Field}
 use Rattle.nav_ground.specs.declared.history.Reply.{Reply}
 use Rattle.nav_ground.specs.declared.history.Request.{Request}
 use Rattle.nav_ground.specs.declared.history.Request.TheVariants as requests
-use Rattle.nav_desk.specs.declared.answers.HistoryFull.{HistoryFull}
-use Rattle.nav_desk.specs.BookState.{BookState}
-use Rattle.nav_desk.specs.Steps.{publication, request_answer}
+use Rattle.build_queue.specs.declared.live.HistoryFull.{HistoryFull}
+use Rattle.build_queue.specs.BookState.{BookState}
+use Rattle.build_queue.specs.Steps.{publication, request_answer}
 use Rattle.nav_record.specs.declared.step.StepAnswer.TheVariants as answers
 use Rattle.nav_record.specs.EntryTexts.{reply_text}
 use Rattle.nav_record.specs.StepTexts.{step_text}
 use Rattle.nav_record.specs.FrameTexts.{done_text}
-use Rattle.nav_script.specs.declared.line.Line.{Line}
-use Rattle.nav_script.specs.declared.line.Line.TheVariants.{Lane, Ask, Add, Remove, Undo, Settle, Aim, Claim, Back, Submit, Publish, Jump, Hop}
+use Rattle.nav_script.specs.declared.script.Line.{Line}
+use Rattle.nav_script.specs.declared.script.Line.TheVariants.{Lane, Ask, Add, Remove, Undo, Settle, Aim, Claim, Back, Submit, Publish, Jump, Hop}
 use Rattle.nav_script.specs.declared.script.Script.{Script}
 use Rattle.nav_play.specs.Answering.{IsAnswered, IsHopAnswered}
 use Rattle.nav_play.specs.Jobs.{claim_said, back_said, submit_said, publication_said}
@@ -24,6 +24,7 @@ abbrev pub answered_text : Result (ℕ × Reply) HistoryFull → List ℕ
 answered_text (Ok answer) = reply_text answer.0 answer.1
 answered_text (Err refused) = step_text (answers.HistoryFull refused.len)
 
+-- what is written after a request
 abbrev pub request_text : BookState → Request → List ℕ
 request_text book request = answered_text (request_answer book request)
 

@@ -7,16 +7,16 @@ use Rattle.nav_ground.specs.declared.history.Reply.{Reply}
 use Rattle.nav_ground.specs.declared.history.Reply.TheVariants.{Added}
 use Rattle.nav_ground.specs.declared.history.Request.{Request}
 use Rattle.nav_ground.specs.declared.history.Request.TheVariants as requests
-use Rattle.mesh_types.specs.declared.hops.Jump as jumps
-use Rattle.nav_desk.specs.declared.answers.HistoryFull.{HistoryFull}
-use Rattle.nav_desk.specs.declared.answers.Job.{Job}
-use Rattle.nav_desk.specs.BookState.{BookState}
-use Rattle.nav_desk.specs.BookState as books
-use Rattle.nav_desk.specs.Steps.{after_aim, after_publish, request_answer, requested}
+use Rattle.mesh_types.specs.declared.answers.Jump as jumps
+use Rattle.build_queue.specs.declared.live.HistoryFull.{HistoryFull}
+use Rattle.build_queue.specs.declared.live.Job.{Job}
+use Rattle.build_queue.specs.BookState.{BookState}
+use Rattle.build_queue.specs.BookState as books
+use Rattle.build_queue.specs.Steps.{after_aim, after_publish, request_answer, requested}
 use Rattle.nav_book.specs.Openings.{ground_of}
 use Rattle.nav_book.specs.Settling.{after_settle}
-use Rattle.nav_script.specs.declared.line.Line.{Line}
-use Rattle.nav_script.specs.declared.line.Line.TheVariants.{Lane, Add, Remove, Undo, Settle, Aim, Claim, Back, Submit, Publish, Jump}
+use Rattle.nav_script.specs.declared.script.Line.{Line}
+use Rattle.nav_script.specs.declared.script.Line.TheVariants.{Lane, Add, Remove, Undo, Settle, Aim, Claim, Back, Submit, Publish, Jump}
 use Rattle.nav_script.specs.declared.script.Script.{Script}
 use Rattle.nav_play.specs.Jobs.{held_after_claim, book_after_claim, book_after_back, book_after_submit}
 
@@ -30,9 +30,9 @@ pub record PlayState : Type 0 where
   pub jumps : List jumps.Jump
 
 -- a play begins with no history, in lane 0, its workers hold nothing, and no jump is declared
-abbrev pub opening_state : Ground → ℕ → ℕ → PlayState
-opening_state whole lanes workers = record {
-  book = books.first_state whole;
+abbrev pub opening_state : (ground : Ground) → ℕ → ℕ → PlayState
+opening_state ground lanes workers = record {
+  book = books.first_state ground;
   lane = 0;
   adds = replicate lanes [];
   held = replicate workers None;
@@ -49,6 +49,7 @@ abbrev pub number_answered : Result (ℕ × Reply) HistoryFull → ℕ
 number_answered (Ok answer) = number_added answer.1
 number_answered (Err refused) = 0
 
+-- the number that an add line gets for its lane
 abbrev pub number_got : BookState → Request → ℕ
 number_got book request = number_answered (request_answer book request)
 
@@ -56,6 +57,7 @@ number_got book request = number_answered (request_answer book request)
 abbrev pub adds_and : List (List ℕ) → ℕ → ℕ → List (List ℕ)
 adds_and adds lane number = slice_set adds lane (get_or adds lane [] ++ number ∷ [])
 
+-- the number that the j-th add line of a lane got
 abbrev pub number_in : List (List ℕ) → ℕ → ℕ → ℕ
 number_in adds lane j = unwrap_or (slice_get (get_or adds lane []) (j - 1)) 0
 

@@ -1,8 +1,8 @@
 -- The totals of a play: how far it came, and what its `path` lines were answered.
 use Rattle.std.specs.Prelude.{◌≡◌, ℕ, Bool, false, true, List, [], ◌∷◌, length}
 use Rattle.std.specs.List.{count_by, sum_by}
-use Rattle.nav_base.specs.declared.answers.Question.{Question}
-use Rattle.nav_base.specs.declared.answers.Question.TheVariants as questions
+use Rattle.nav_base.specs.declared.point.Question.{Question}
+use Rattle.nav_base.specs.declared.point.Question.TheVariants as questions
 use Rattle.nav_ground.specs.declared.setting.Setting.{Setting}
 use Rattle.nav_ground.specs.declared.field.Field.{Field}
 use Rattle.mesh_types.specs.declared.answers.Answer.{Answer}
@@ -11,9 +11,9 @@ use Rattle.mesh_types.specs.declared.mesh.Mesh.{Mesh}
 use Rattle.mesh_types.specs.Right.{IsRight}
 use Rattle.mesh_types.specs.Soundness.{link_count, polygon_count}
 use Rattle.nav_book.specs.Results.{published_mesh}
-use Rattle.nav_record.specs.declared.totals.Totals.{Totals}
-use Rattle.nav_script.specs.declared.line.Line.{Line}
-use Rattle.nav_script.specs.declared.line.Line.TheVariants.{Ask}
+use Rattle.nav_record.specs.declared.step.Totals.{Totals}
+use Rattle.nav_script.specs.declared.script.Line.{Line}
+use Rattle.nav_script.specs.declared.script.Line.TheVariants.{Ask}
 use Rattle.nav_script.specs.declared.script.Script.{Script}
 use Rattle.nav_play.specs.PlayStates.{PlayState, first_state_of, state_after_all}
 use Rattle.nav_play.specs.PlayRecord.{AreSaid}
@@ -39,14 +39,17 @@ abbrev pub is_path : Answer → Bool
 is_path (Path found) = true
 is_path _ = false
 
+-- an answer is that no path leads there
 abbrev pub is_no_path : Answer → Bool
 is_no_path NoPath = true
 is_no_path _ = false
 
+-- an answer is that no polygon holds the start
 abbrev pub is_no_start : Answer → Bool
 is_no_start NoStart = true
 is_no_start _ = false
 
+-- an answer is that no polygon holds the goal
 abbrev pub is_no_goal : Answer → Bool
 is_no_goal NoGoal = true
 is_no_goal _ = false

@@ -5,19 +5,19 @@ use Rattle.nav_base.specs.Point.{HasCoordinates}
 use Rattle.nav_ground.specs.declared.history.Ground.{Ground}
 use Rattle.nav_ground.specs.declared.history.Request.{Request}
 use Rattle.nav_ground.specs.Limits.{IsShape}
-use Rattle.nav_desk.specs.declared.answers.Job.{Job}
-use Rattle.nav_desk.specs.Steps.{requested}
-use Rattle.nav_book.specs.declared.result.TileResult.{TileResult}
+use Rattle.build_queue.specs.declared.live.Job.{Job}
+use Rattle.build_queue.specs.Steps.{requested}
+use Rattle.nav_book.specs.declared.book.TileResult.{TileResult}
 use Rattle.nav_book.specs.Results.{IsBuild, job_built}
 use Rattle.nav_query.specs.Questions.{IsAnswerable}
-use Rattle.off_links.specs.Leaps.{AreJumps, HasJumpCoordinates}
+use Rattle.off_links.specs.OffMeshLinks.{AreJumps, HasJumpCoordinates}
 use Rattle.nav_play.specs.declared.player.Player.{Player}
 use Rattle.nav_play.specs.PlayStates.{PlayState, state_after}
 use Rattle.nav_play.specs.PlayRecord.{AddsSome, IsSaid, request_text}
 use Rattle.nav_play.specs.Tallies.{HasCounted, no_answers}
 use Rattle.nav_play.specs.Work.{jobs_of}
-use Rattle.nav_script.specs.declared.line.Line.{Line}
-use Rattle.nav_script.specs.declared.line.Line.TheVariants.{Lane, Ask, Add, Claim, Back, Submit, Jump, Hop, Send, March}
+use Rattle.nav_script.specs.declared.script.Line.{Line}
+use Rattle.nav_script.specs.declared.script.Line.TheVariants.{Lane, Ask, Add, Claim, Back, Submit, Jump, Hop, Send, March}
 use Rattle.nav_script.specs.declared.script.Script.{Script}
 
 -- the jobs of the tiles that workers hold
@@ -39,17 +39,17 @@ player_state player = record {
 }
 
 -- what a worker holds is the build of its tile
-abbrev pub IsHeld : Ground → Option TileResult → Type 0
-IsHeld whole (Some made) = IsBuild whole made
-IsHeld whole None = ⊤
+abbrev pub IsHeld : (ground : Ground) → Option TileResult → Type 0
+IsHeld ground (Some made) = IsBuild ground made
+IsHeld ground None = ⊤
 
-abbrev pub AreHeld : Ground → List (Option TileResult) → Type 0
-AreHeld whole held = All (IsHeld whole) held
+abbrev pub AreHeld : (ground : Ground) → List (Option TileResult) → Type 0
+AreHeld ground held = All (IsHeld ground) held
 
 -- a player's current lane is one of its lanes, its workers hold builds of tiles of its ground, and its jumps may be asked with
 pub record IsSteady (player : Player) : Type 0 where
   pub lane : player.lane < length player.adds
-  pub held : AreHeld player.book.state.whole player.workers
+  pub held : AreHeld player.book.state.ground player.workers
   pub jumps : AreJumps player.hop.jumps
 
 -- a player stands before the first line of a script: with the script's lanes and workers, nothing written, nothing counted, and no jump
@@ -90,7 +90,7 @@ pub record HasPlayed (line : Line) (before after : Player) (steps later : ℕ) :
   pub text : AddsSome (IsSaid (player_state before) line) before.text.items after.text.items
   pub state : HasState after (state_after (player_state before) line)
   pub totals : HasCounted (player_state before) line before.totals after.totals
-  pub held : AreHeld before.book.state.whole after.workers
+  pub held : AreHeld before.book.state.ground after.workers
   pub lane : after.lane < length after.adds
   pub jumps : AreJumps after.hop.jumps
   pub count : later ≡ steps + jobs_of (player_state before) line

@@ -1,17 +1,17 @@
 -- The running totals of a play under way, one answer after another, with the rest still 0. What totals mean is said in PlayTotals.
 use Rattle.std.specs.Prelude.{◌≡◌, ◌+◌, ◌<◌, ◌≤◌, ◌^◌, length}
-use Rattle.nav_base.specs.declared.answers.Question.{Question}
-use Rattle.nav_base.specs.declared.answers.Question.TheVariants as questions
+use Rattle.nav_base.specs.declared.point.Question.{Question}
+use Rattle.nav_base.specs.declared.point.Question.TheVariants as questions
 use Rattle.mesh_types.specs.declared.answers.Answer.{Answer}
 use Rattle.mesh_types.specs.declared.answers.Answer.TheVariants.{Floors, Path, NoStart, NoGoal, NoPath, Reached, Wall}
 use Rattle.mesh_types.specs.Right.{IsRight}
 use Rattle.mesh_types.specs.Soundness.{link_count, polygon_count}
 use Rattle.nav_query.specs.Questions.{HasLowCost}
-use Rattle.nav_desk.specs.BookState.{BookState}
+use Rattle.build_queue.specs.BookState.{BookState}
 use Rattle.nav_book.specs.Results.{published_mesh}
-use Rattle.nav_record.specs.declared.totals.Totals.{Totals}
-use Rattle.nav_script.specs.declared.line.Line.{Line}
-use Rattle.nav_script.specs.declared.line.Line.TheVariants.{Ask}
+use Rattle.nav_record.specs.declared.step.Totals.{Totals}
+use Rattle.nav_script.specs.declared.script.Line.{Line}
+use Rattle.nav_script.specs.declared.script.Line.TheVariants.{Ask}
 use Rattle.nav_play.specs.PlayStates.{PlayState}
 
 -- nothing is counted

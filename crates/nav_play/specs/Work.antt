@@ -3,8 +3,8 @@ use Rattle.std.specs.Prelude.{ℕ, ◌+◌, List, [], ◌∷◌, length}
 use Rattle.nav_ground.specs.declared.setting.Setting.{Setting}
 use Rattle.nav_ground.specs.declared.field.Field.{Field}
 use Rattle.nav_ground.specs.Tiling.{tile_count}
-use Rattle.nav_script.specs.declared.line.Line.{Line}
-use Rattle.nav_script.specs.declared.line.Line.TheVariants.{Settle, Claim}
+use Rattle.nav_script.specs.declared.script.Line.{Line}
+use Rattle.nav_script.specs.declared.script.Line.TheVariants.{Settle, Claim}
 use Rattle.nav_script.specs.declared.script.Script.{Script}
 use Rattle.nav_play.specs.Jobs.{jobs_of_claim}
 use Rattle.nav_play.specs.PlayStates.{PlayState, first_state_of, held_by, state_after}

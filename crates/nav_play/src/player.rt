@@ -14,22 +14,18 @@ ghost use Rattle.nav_query.specs.Questions.{IsAnswerable};
 ghost use Rattle.nav_record.specs.StepTexts.{step_text};
 ghost use Rattle.nav_script.specs.Limits.{IsScript};
 ghost use Rattle.nav_script.specs.declared.script.Way.TheVariants.{Play};
-ghost use Rattle.off_links.specs.Leaps.{HasJumpCoordinates};
-ghost use Rattle.nav_steps.specs.Counts.{HasRisenAtMost};
+ghost use Rattle.off_links.specs.OffMeshLinks.{HasJumpCoordinates};
+ghost use Rattle.nav_base.specs.Counts.{HasRisenAtMost};
 
-use crate::lanes::Lanes;
-use crate::run::{PlayText, Played};
-use crate::steps::{claim, publish, put_back, settle, submit};
-use crate::tally::count;
-use crate::workers::Workers;
-use nav_base::{Point, Question};
+use crate::lanes::{LaneAdds, count};
+use crate::run::{HeldBuilds, PlayText, Played, claim, publish, put_back, settle, submit};
+use nav_base::{Point, Question, Steps};
 use nav_book::{Book, HistoryFull};
 use nav_ground::{Reply, Request, Shape};
 use nav_record::{
     StepAnswer, Totals, write_answer, write_done, write_hop, write_reply, write_step,
 };
 use nav_script::{Line, Script};
-use nav_steps::Steps;
 use off_links::{HopQuestion, Jump};
 use std::alloc::{AllocError, Global};
 use std::sync::Wait;
@@ -41,8 +37,8 @@ use std::sync::ledger::Ledger;
 pub(crate) struct Player {
     pub(crate) book: Book,
     pub(crate) lane: u32,
-    pub(crate) adds: Lanes,
-    pub(crate) workers: Workers,
+    pub(crate) adds: LaneAdds,
+    pub(crate) workers: HeldBuilds,
     pub(crate) hop: HopQuestion,
     pub(crate) totals: Totals,
     pub(crate) text: Vec<u8>,
@@ -50,7 +46,7 @@ pub(crate) struct Player {
 
 /// Where a hop walk begins and where it goes to, each a point and a height.
 #[derive(Clone, Copy)]
-struct Ends {
+struct HopEnds {
     from: Point,
     from_y: u32,
     to: Point,
@@ -175,7 +171,7 @@ impl Player {
                 to_y,
             } => self.ask_hop(
                 alloc,
-                Ends {
+                HopEnds {
                     from,
                     from_y,
                     to,
@@ -201,7 +197,7 @@ impl Player {
     }
 
     /// Answers the question for a hop walk over links and the jumps so far from the published mesh.
-    fn ask_hop(&mut self, alloc: Global, ends: Ends) -> Result<(), AllocError>
+    fn ask_hop(&mut self, alloc: Global, ends: HopEnds) -> Result<(), AllocError>
         requires from { HasCoordinates ends.from }
         requires to { HasCoordinates ends.to }
         requires steady { IsSteady self.old }

@@ -6,7 +6,7 @@ use Rattle.std.proofs.lemmas.Int.{ints}
 use Rattle.std.proofs.lemmas.Bool.{and_parts, and_from, both_ways, eqb-true, ne_eqb}
 use Rattle.std.proofs.lemmas.List.{append-nil, length-map, get_or-map}
 use Rattle.std.proofs.lemmas.List.Elements.{All-head, All-tail, All-weaker}
-use Rattle.nav_base.specs.declared.answers.FloorAt.{FloorAt}
+use Rattle.nav_base.specs.declared.point.FloorAt.{FloorAt}
 use Rattle.nav_ground.specs.declared.cell.Cell.{Cell}
 use Rattle.nav_ground.specs.declared.cell.FreeLayer.{FreeLayer}
 use Rattle.nav_ground.specs.declared.cell.Window.{Window}
@@ -17,7 +17,7 @@ use Rattle.nav_ground.proofs.Selections.{filter_none}
 use Rattle.layer_cut.specs.Tiles.{tile_at, IsInField}
 use Rattle.layer_cut.proofs.TilePlaces.{in_window_is, in_field}
 use Rattle.mesh_types.specs.declared.mesh.Mesh.{Mesh}
-use Rattle.mesh_types.specs.declared.tile.TileMesh.{TileMesh}
+use Rattle.mesh_types.specs.declared.mesh.TileMesh.{TileMesh}
 use Rattle.nav_ground.specs.CellColumns.{AreOrdered, is_in_column}
 use Rattle.mesh_types.specs.Floors.{floors_at}
 use Rattle.mesh_types.specs.Words.{column_of, floor_of, free_of}

@@ -5,7 +5,7 @@ use Rattle.std.proofs.lemmas.List.Elements.{All-weaker}
 use Rattle.nav_base.specs.declared.point.Point.{Point}
 use Rattle.nav_base.specs.Point.{HasCoordinates}
 use Rattle.nav_ground.specs.Limits.{IsSetting}
-use Rattle.mesh_types.specs.declared.corridor.Corridor.{Corridor}
+use Rattle.mesh_types.specs.declared.answers.Corridor.{Corridor}
 use Rattle.mesh_types.specs.declared.links.Link.{Link}
 use Rattle.mesh_types.specs.declared.links.PolyRef.{PolyRef}
 use Rattle.mesh_types.specs.declared.links.Portal.{Portal}

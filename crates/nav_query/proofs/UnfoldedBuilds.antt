@@ -4,8 +4,8 @@ use Rattle.std.proofs.Common.{◌≡◌, ℕ, suc, ◌+◌, ◌<◌, List, lengt
 use Rattle.std.specs.Prelude.{All, Contains, Some, slice_get, option_and_then}
 use Rattle.std.proofs.lemmas.List.{get_or-map, length-map}
 use Rattle.std.proofs.lemmas.Option.{same_Some, slice_get_within, get_or_from_slice_get}
-use Rattle.nav_base.specs.declared.answers.Question.{Question}
-use Rattle.nav_base.specs.declared.answers.Question.TheVariants as questions
+use Rattle.nav_base.specs.declared.point.Question.{Question}
+use Rattle.nav_base.specs.declared.point.Question.TheVariants as questions
 use Rattle.nav_base.specs.declared.point.Point.{Point}
 use Rattle.nav_ground.specs.declared.history.Entry.{Entry}
 use Rattle.nav_ground.specs.declared.history.Ground.{Ground}
@@ -16,13 +16,13 @@ use Rattle.nav_ground.specs.History.{IsRequest, shapes_alive}
 use Rattle.nav_ground.specs.Limits.{IsSetting, IsShape}
 use Rattle.mesh_types.specs.declared.answers.Answer.{Answer}
 use Rattle.mesh_types.specs.declared.answers.Answer.TheVariants.{Floors, Path, NoStart, NoGoal, NoPath, Reached, Wall}
-use Rattle.mesh_types.specs.declared.corridor.Corridor.{Corridor}
+use Rattle.mesh_types.specs.declared.answers.Corridor.{Corridor}
 use Rattle.mesh_types.specs.declared.links.Link.{Link}
 use Rattle.mesh_types.specs.declared.links.PolyRef.{PolyRef}
 use Rattle.mesh_types.specs.declared.links.Portal.{Portal}
 use Rattle.mesh_types.specs.declared.mesh.Mesh.{Mesh}
 use Rattle.mesh_types.specs.declared.polygon.Polygon.{Polygon}
-use Rattle.mesh_types.specs.declared.tile.TileMesh.{TileMesh}
+use Rattle.mesh_types.specs.declared.mesh.TileMesh.{TileMesh}
 use Rattle.mesh_types.specs.BorderLinks.{HasOnePair}
 use Rattle.mesh_types.specs.Builds.{build_of, mesh_under}
 use Rattle.mesh_types.specs.Chains.{IsFold, portal_at}
@@ -56,12 +56,12 @@ use Rattle.nav_query.proofs.NeverBack.{never_back}
 -- ---- of a ground under obstacles
 
 -- all links lead there and back
-pub two_way_under : (whole : Ground) (shapes : List Shape) → IsGround whole → All IsShape shapes → IsTwoWay (mesh_under whole shapes)
-two_way_under whole shapes rules' limits =
-    two_way whole.setting (tiles_under whole shapes) rules'.setting (are_tiles whole shapes rules' limits) (tiles_two_way whole shapes rules' limits)
+pub two_way_under : (ground : Ground) (shapes : List Shape) → IsGround ground → All IsShape shapes → IsTwoWay (mesh_under ground shapes)
+two_way_under ground shapes rules' limits =
+    two_way ground.setting (tiles_under ground shapes) rules'.setting (are_tiles ground shapes rules' limits) (tiles_two_way ground shapes rules' limits)
 
-pub sound_under : (whole : Ground) (shapes : List Shape) → IsGround whole → All IsShape shapes → IsSound (mesh_under whole shapes)
-sound_under whole shapes rules' limits = IsSound-mesh_of whole.setting (tiles_under whole shapes) rules'.setting (are_tiles whole shapes rules' limits)
+pub sound_under : (ground : Ground) (shapes : List Shape) → IsGround ground → All IsShape shapes → IsSound (mesh_under ground shapes)
+sound_under ground shapes rules' limits = IsSound-mesh_of ground.setting (tiles_under ground shapes) rules'.setting (are_tiles ground shapes rules' limits)
 
 -- two links of a mesh leave a polygon over one edge, through portals with a common inner point
 record AreOverOneEdge (mesh : Mesh) (link other : Link) : Type 0 where
@@ -117,29 +117,29 @@ one_way setting tiles keeps link other is is' at = elim is.listed [
   ]
 ]
 
-one_way_under : (whole : Ground) (shapes : List Shape) → IsGround whole → All IsShape shapes → AreOneWay whole.setting (tiles_under whole shapes)
-one_way_under whole shapes rules' limits = record {
-  are = are_tiles whole shapes rules' limits;
-  inner = tiles_one_way whole shapes rules' limits;
-  few = few_links_of_tiles whole shapes rules' limits;
-  pairs = tiles_one_pair whole shapes rules' limits;
+one_way_under : (ground : Ground) (shapes : List Shape) → IsGround ground → All IsShape shapes → AreOneWay ground.setting (tiles_under ground shapes)
+one_way_under ground shapes rules' limits = record {
+  are = are_tiles ground shapes rules' limits;
+  inner = tiles_one_way ground shapes rules' limits;
+  few = few_links_of_tiles ground shapes rules' limits;
+  pairs = tiles_one_pair ground shapes rules' limits;
 }
 
 -- ---- folds
 
-setting_kept : (whole : Ground) (shapes : List Shape) → IsGround whole → IsSetting (mesh_under whole shapes).setting
+setting_kept : (ground : Ground) (shapes : List Shape) → IsGround ground → IsSetting (mesh_under ground shapes).setting
 unfolding mesh_of
-setting_kept whole shapes rules' = rules'.setting
+setting_kept ground shapes rules' = rules'.setting
 
 portal_is : (links : List Link) (m : ℕ) → m < length links → portal_at (portals_of links) m ≡ (link_at links m).portal
 portal_is links m there = get_or-map (λ (link : Link). link.portal) links m some_link some_portal there
 
-pub unfolded_under : (whole : Ground) (shapes : List Shape) (from to : PolyRef) (corridor : Corridor) → IsGround whole → All IsShape shapes
-    → IsCheapest (mesh_under whole shapes) from to corridor → IsUnfolded (portals_of corridor.links)
-unfolded_under whole shapes from to corridor rules' limits cheapest m there fold =
-    let mesh : Mesh = mesh_under whole shapes in
+pub unfolded_under : (ground : Ground) (shapes : List Shape) (from to : PolyRef) (corridor : Corridor) → IsGround ground → All IsShape shapes
+    → IsCheapest (mesh_under ground shapes) from to corridor → IsUnfolded (portals_of corridor.links)
+unfolded_under ground shapes from to corridor rules' limits cheapest m there fold =
+    let mesh : Mesh = mesh_under ground shapes in
     let links : List Link = corridor.links in
-    let sound = sound_under whole shapes rules' limits in
+    let sound = sound_under ground shapes rules' limits in
     let after : suc m < length links = omega (arith, there, length-map links (λ (link : Link). link.portal)) in
     let here : m < length links = omega (arith, after) in
     let next : m + 1 ≡ suc m = omega arith in
@@ -148,7 +148,7 @@ unfolded_under whole shapes from to corridor rules' limits cheapest m there fold
     let is = walk_link mesh from links to cheapest.walks m here in
     let is' = walk_link mesh from links to cheapest.walks (suc m) after in
     let joins : two.from ≡ one.to = walk_next mesh from links to cheapest.walks m after in
-    let reverse = two_way_under whole shapes rules' limits one is in
+    let reverse = two_way_under ground shapes rules' limits one is in
     let back : Link = reverse_of reverse.edge one in
     let lead = leads mesh back sound reverse.back in
     let lead' = leads mesh two sound is' in
@@ -160,27 +160,27 @@ unfolded_under whole shapes from to corridor rules' limits cheapest m there fold
     let over = fold_on_edge lead.leaves reverse.edge two.edge one.portal two.portal (placed mesh back.from lead.leaves sound lead.is_left).rules.convex
     lead.out out' portals in
     let enters : one.from ≡ two.to =
-    one_way whole.setting (tiles_under whole shapes) (one_way_under whole shapes rules' limits) back two reverse.back is' (record {
+    one_way ground.setting (tiles_under ground shapes) (one_way_under ground shapes rules' limits) back two reverse.back is' (record {
       polygon = lead.leaves;
       from = sym joins;
       edge = over.0;
       there = lead.is_left;
       over = subst (λ edge. Overlap lead.leaves edge (turned one.portal) two.portal) (sym over.0) over.1;
     }) in
-    never_back mesh from to corridor sound (setting_kept whole shapes rules') cheapest m after (sym enters)
+    never_back mesh from to corridor sound (setting_kept ground shapes rules') cheapest m after (sym enters)
 
 -- ---- of a build
 
-pub two_way_of_build : (whole : Ground) (history : List Entry) (k : ℕ) → IsGround whole → All (λ (entry : Entry). IsRequest entry.request) history
-    → IsTwoWay (build_of whole history k)
+pub two_way_of_build : (ground : Ground) (history : List Entry) (k : ℕ) → IsGround ground → All (λ (entry : Entry). IsRequest entry.request) history
+    → IsTwoWay (build_of ground history k)
 unfolding build_of
-two_way_of_build whole history k rules' requests = two_way_under whole (shapes_alive history k) rules' (alive_limits history k requests)
+two_way_of_build ground history k rules' requests = two_way_under ground (shapes_alive history k) rules' (alive_limits history k requests)
 
-pub unfolded_of_build : (whole : Ground) (history : List Entry) (k : ℕ) (from to : PolyRef) (corridor : Corridor) → IsGround whole
-    → All (λ (entry : Entry). IsRequest entry.request) history → IsCheapest (build_of whole history k) from to corridor → IsUnfolded (portals_of corridor.links)
+pub unfolded_of_build : (ground : Ground) (history : List Entry) (k : ℕ) (from to : PolyRef) (corridor : Corridor) → IsGround ground
+    → All (λ (entry : Entry). IsRequest entry.request) history → IsCheapest (build_of ground history k) from to corridor → IsUnfolded (portals_of corridor.links)
 unfolding build_of
-unfolded_of_build whole history k from to corridor rules' requests cheapest =
-    unfolded_under whole (shapes_alive history k) from to corridor rules' (alive_limits history k requests) cheapest
+unfolded_of_build ground history k from to corridor rules' requests cheapest =
+    unfolded_under ground (shapes_alive history k) from to corridor rules' (alive_limits history k requests) cheapest
 
 -- so the way of each right answer is unfolded
 path_unfolded : (mesh : Mesh) (from : Point) (from_y : ℕ) (to : Point) (to_y : ℕ) (answer : Answer)
@@ -214,8 +214,8 @@ answer_unfolded mesh (questions.Ray from from_y to) (Floors floors) law right = 
 answer_unfolded mesh (questions.Ray from from_y to) (Reached at) law right = tt
 answer_unfolded mesh (questions.Ray from from_y to) (Wall a b num den) law right = tt
 
-pub unfolded_answer : (whole : Ground) (history : List Entry) (k : ℕ) (question : Question) (answer : Answer) → IsGround whole
-    → All (λ (entry : Entry). IsRequest entry.request) history → IsRight (build_of whole history k) question answer → HasUnfoldedWay answer
-unfolded_answer whole history k question answer rules' requests right =
-    answer_unfolded (build_of whole history k) question answer
-    (λ first last corridor cheapest. unfolded_of_build whole history k first last corridor rules' requests cheapest) right
+pub unfolded_answer : (ground : Ground) (history : List Entry) (k : ℕ) (question : Question) (answer : Answer) → IsGround ground
+    → All (λ (entry : Entry). IsRequest entry.request) history → IsRight (build_of ground history k) question answer → HasUnfoldedWay answer
+unfolded_answer ground history k question answer rules' requests right =
+    answer_unfolded (build_of ground history k) question answer
+    (λ first last corridor cheapest. unfolded_of_build ground history k first last corridor rules' requests cheapest) right

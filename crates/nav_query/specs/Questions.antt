@@ -1,14 +1,14 @@
 -- Questions: which are answered, and what their answers cost.
 use Rattle.std.specs.Prelude.{◌<◌, ◌^◌, ⊤}
-use Rattle.nav_base.specs.declared.answers.Question.{Question}
-use Rattle.nav_base.specs.declared.answers.Question.TheVariants as questions
+use Rattle.nav_base.specs.declared.point.Question.{Question}
+use Rattle.nav_base.specs.declared.point.Question.TheVariants as questions
 use Rattle.nav_base.specs.Point.{HasCoordinates}
 use Rattle.mesh_types.specs.declared.answers.Answer.{Answer}
 use Rattle.mesh_types.specs.declared.answers.Answer.TheVariants.{Floors, Path, NoStart, NoGoal, NoPath, Reached, Wall}
 use Rattle.mesh_types.specs.declared.mesh.Mesh.{Mesh}
 use Rattle.mesh_types.specs.Folds.{IsUnfolded}
 use Rattle.mesh_types.specs.Right.{IsRight, portals_of}
-use Rattle.nav_query.specs.declared.questions.Asking.{Asking}
+use Rattle.nav_query.specs.declared.answering.Asking.{Asking}
 
 -- floors are asked of any column, paths and rays between points with coordinates
 abbrev pub IsAnswerable : Question → Type 0

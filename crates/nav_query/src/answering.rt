@@ -1,4 +1,4 @@
-//! The answer to a question.
+//! The answer to a question. Questions of this crate as ones that carry how they are answered.
 
 ghost use Rattle.std.specs.Prelude.{IfOk, IfSome};
 ghost use Rattle.std.specs.Option.{option_copied};
@@ -7,15 +7,14 @@ ghost use Rattle.mesh_types.specs.declared.answers.Answer.{Answer};
 ghost use Rattle.mesh_types.specs.Right.{AreAlike, IsRight};
 ghost use Rattle.mesh_types.specs.Soundness.{IsSound};
 ghost use Rattle.corridor_search.specs.Landmarks.{AreLandmarks};
-ghost use Rattle.nav_query.specs.Questions.{HasLowCost, IsAnswerable};
+ghost use Rattle.nav_query.specs.Questions.{HasLowCost, IsAnswerable, CanAsk, IsRightAsked};
 
-use crate::floors::floors;
 use crate::paths::{PathEnds, path};
-use crate::rays::ray;
+use crate::rays::{floors, ray};
 use corridor_search::Landmarks;
-use mesh_types::Mesh;
+use mesh_types::{Asked, Mesh};
 use nav_base::Question;
-use nav_list::Items;
+use nav_lists::Items;
 use std::alloc::{AllocError, Global};
 
 /// An answer to a question that is right in a mesh. A path that is found costs less than 2^45. Only memory can be refused.
@@ -74,5 +73,23 @@ pub fn answer_by(
             },
         ),
         Question::Ray { from, from_y, to } => ray(alloc, mesh, from, from_y, to),
+    }
+}
+
+/// A question for floors, for a path or for a straight walk.
+#[derive(Clone, Copy)]
+pub struct Asking {
+    pub question: Question,
+}
+
+impl Asked for Asking {
+    type Answer = mesh_types::Answer;
+
+    ghost can_ask = { λ asking. CanAsk asking };
+
+    ghost is_right = { λ asking mesh answer. IsRightAsked asking mesh answer };
+
+    fn ask(&self, alloc: Global, mesh: &Mesh) -> Result<mesh_types::Answer, AllocError> {
+        answer(alloc, mesh, &self.question)
     }
 }

@@ -12,10 +12,7 @@
 #![tactic(auto)]
 
 mod answering;
-mod floors;
 mod paths;
-mod questions;
 mod rays;
 
-pub use answering::{answer, answer_by};
-pub use questions::Asking;
+pub use answering::{Asking, answer, answer_by};

@@ -17,7 +17,7 @@ use funnel_path::pull;
 use mesh_locate::locate;
 use mesh_types::{Answer, Corner, Link, Mesh, PathFound, Portal};
 use nav_base::Point;
-use nav_list::Items;
+use nav_lists::Items;
 use std::alloc::{AllocError, Global};
 
 /// What a path is asked from and to, each a place and a height.

@@ -1,10 +1,10 @@
 -- The text of an answer to the question for a hop walk is whole lines.
 use Rattle.std.proofs.Common.{ℕ, ◌+◌, length, codes, decimal, refl, arith}
-use Rattle.mesh_types.specs.declared.hops.HopAnswer.{HopAnswer}
-use Rattle.mesh_types.specs.declared.hops.HopAnswer.TheVariants.{Found, NoStart, NoGoal, NoPath}
-use Rattle.mesh_types.specs.declared.hops.HopFound.{HopFound}
-use Rattle.mesh_types.specs.declared.hops.HopStep.{HopStep}
-use Rattle.mesh_types.specs.declared.hops.HopStep.TheVariants as hops
+use Rattle.mesh_types.specs.declared.answers.HopAnswer.{HopAnswer}
+use Rattle.mesh_types.specs.declared.answers.HopAnswer.TheVariants.{Found, NoStart, NoGoal, NoPath}
+use Rattle.mesh_types.specs.declared.answers.HopFound.{HopFound}
+use Rattle.mesh_types.specs.declared.answers.HopStep.{HopStep}
+use Rattle.mesh_types.specs.declared.answers.HopStep.TheVariants as hops
 use Rattle.nav_record.specs.HopTexts.{hop_line_count, hop_line_text, hop_step_text, hop_text}
 use Rattle.nav_record.specs.OneLine.{IsOneLine, HasLines}
 use Rattle.nav_record.specs.AnswerTexts.{poly_text, turn_text}

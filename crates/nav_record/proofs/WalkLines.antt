@@ -2,8 +2,8 @@
 use Rattle.std.proofs.Common.{ℕ, length, codes, decimal, refl}
 use Rattle.nav_base.specs.declared.point.Point.{Point}
 use Rattle.mesh_types.specs.declared.links.PolyRef.{PolyRef}
-use Rattle.mesh_types.specs.declared.walks.WalkAnswer.{WalkAnswer}
-use Rattle.mesh_types.specs.declared.walks.WalkAnswer.TheVariants.{Walking, NoStart, NoGoal, NoPath}
+use Rattle.mesh_types.specs.declared.answers.WalkAnswer.{WalkAnswer}
+use Rattle.mesh_types.specs.declared.answers.WalkAnswer.TheVariants.{Walking, NoStart, NoGoal, NoPath}
 use Rattle.nav_record.specs.OneLine.{IsOneLine, HasLines}
 use Rattle.nav_record.specs.AnswerTexts.{poly_text, point_text, link_text}
 use Rattle.nav_record.specs.WalkTexts.{no_walker_text, walk_line_count, walk_text, walker_line_text}

@@ -2,14 +2,14 @@
 use Rattle.std.specs.Prelude.{ℕ, ◌+◌, List, ◌++◌, length, codes, decimal}
 use Rattle.std.specs.Fmt.{signed_decimal}
 use Rattle.std.specs.List.{flat_map}
-use Rattle.nav_base.specs.declared.answers.FloorAt.{FloorAt}
+use Rattle.nav_base.specs.declared.point.FloorAt.{FloorAt}
 use Rattle.nav_base.specs.declared.point.Point.{Point}
 use Rattle.mesh_types.specs.declared.answers.Answer.{Answer}
 use Rattle.mesh_types.specs.declared.answers.Answer.TheVariants.{Floors, Path, NoStart, NoGoal, NoPath, Reached, Wall}
 use Rattle.mesh_types.specs.declared.answers.PathFound.{PathFound}
-use Rattle.mesh_types.specs.declared.corner.Corner.{Corner}
-use Rattle.mesh_types.specs.declared.corner.Side.{Side}
-use Rattle.mesh_types.specs.declared.corner.Side.TheVariants.{L, R}
+use Rattle.mesh_types.specs.declared.answers.Corner.{Corner}
+use Rattle.mesh_types.specs.declared.answers.Side.{Side}
+use Rattle.mesh_types.specs.declared.answers.Side.TheVariants.{L, R}
 use Rattle.mesh_types.specs.declared.links.Link.{Link}
 use Rattle.mesh_types.specs.declared.links.PolyRef.{PolyRef}
 
@@ -25,6 +25,7 @@ floors_text k floors = codes "floors " ++ decimal k ++ codes " " ++ decimal (len
 abbrev pub poly_text : PolyRef → List ℕ
 poly_text at = decimal at.tile ++ codes " " ++ decimal at.index
 
+-- a point as x and z
 abbrev pub point_text : Point → List ℕ
 point_text p = signed_decimal p.x ++ codes " " ++ signed_decimal p.z
 
@@ -37,6 +38,7 @@ abbrev pub side_text : Side → List ℕ
 side_text L = codes "L"
 side_text R = codes "R"
 
+-- the line of a turn
 abbrev pub turn_text : Corner → List ℕ
 turn_text turn = codes "turn " ++ point_text turn.at ++ codes " " ++ side_text turn.side ++ codes " " ++ decimal turn.portal ++ codes "\n"
 
@@ -46,6 +48,7 @@ first_line_text k found =
     codes "path " ++ decimal k ++ codes " " ++ decimal found.cost ++ codes " " ++ poly_text found.first ++ codes " " ++ decimal (length found.links)
     ++ codes " " ++ decimal (length found.turns) ++ codes "\n"
 
+-- all lines of a path
 abbrev pub path_text : ℕ → PathFound → List ℕ
 path_text k found = first_line_text k found ++ (flat_map link_text found.links ++ flat_map turn_text found.turns)
 

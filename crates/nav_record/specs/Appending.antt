@@ -2,11 +2,11 @@
 use Rattle.std.specs.Prelude.{ℕ, List, [], ◌∷◌, ◌++◌, codes, decimal, Option, Some, None}
 use Rattle.std.specs.Fmt.{signed_decimal}
 use Rattle.nav_record.specs.AnswerTexts.{poly_text, point_text, side_text}
-use Rattle.nav_record.specs.declared.append.Field.{Field}
-use Rattle.nav_record.specs.declared.append.Field.TheVariants as fields
+use Rattle.nav_record.specs.declared.append.LineField.{LineField}
+use Rattle.nav_record.specs.declared.append.LineField.TheVariants as fields
 
 -- what is written of a field
-abbrev pub value_text : Field → List ℕ
+abbrev pub value_text : LineField → List ℕ
 value_text (fields.Number n) = decimal n
 value_text (fields.Cost n) = decimal n
 value_text (fields.Count n) = decimal n
@@ -16,11 +16,11 @@ value_text (fields.Place at) = point_text at
 value_text (fields.Side side) = side_text side
 
 -- the same behind a space
-abbrev pub field_text : Field → List ℕ
+abbrev pub field_text : LineField → List ℕ
 field_text field = 32 ∷ value_text field
 
 -- a text, and fields behind it, each behind a space
-abbrev pub fields_text : List ℕ → List Field → List ℕ
+abbrev pub fields_text : List ℕ → List LineField → List ℕ
 fields_text text [] = text
 fields_text text (field ∷ more) = fields_text (text ++ codes " " ++ value_text field) more
 

@@ -11,9 +11,11 @@ done_text k n = codes "done " ++ decimal k ++ codes " " ++ decimal n ++ codes "\
 abbrev pub history_text : ℕ → List ℕ
 history_text n = codes "history " ++ decimal n ++ codes "\n"
 
+-- the line that names a lane
 abbrev pub lane_text : ℕ → List ℕ
 lane_text lane = codes "lane " ++ decimal lane ++ codes "\n"
 
+-- the last line of a live text
 abbrev pub final_text : ℕ → ℕ → ℕ → List ℕ
 final_text n polygons links = codes "final " ++ decimal n ++ codes " " ++ decimal polygons ++ codes " " ++ decimal links ++ codes "\n"
 

@@ -1,11 +1,11 @@
 -- The texts of hop walks: the exact lines of each answer to the question for one, each with its line feed.
 use Rattle.std.specs.Prelude.{ℕ, ◌+◌, List, ◌++◌, length, codes, decimal}
 use Rattle.std.specs.List.{flat_map}
-use Rattle.mesh_types.specs.declared.hops.HopAnswer.{HopAnswer}
-use Rattle.mesh_types.specs.declared.hops.HopAnswer.TheVariants.{Found, NoStart, NoGoal, NoPath}
-use Rattle.mesh_types.specs.declared.hops.HopFound.{HopFound}
-use Rattle.mesh_types.specs.declared.hops.HopStep.{HopStep}
-use Rattle.mesh_types.specs.declared.hops.HopStep.TheVariants as hops
+use Rattle.mesh_types.specs.declared.answers.HopAnswer.{HopAnswer}
+use Rattle.mesh_types.specs.declared.answers.HopAnswer.TheVariants.{Found, NoStart, NoGoal, NoPath}
+use Rattle.mesh_types.specs.declared.answers.HopFound.{HopFound}
+use Rattle.mesh_types.specs.declared.answers.HopStep.{HopStep}
+use Rattle.mesh_types.specs.declared.answers.HopStep.TheVariants as hops
 use Rattle.nav_record.specs.AnswerTexts.{poly_text, link_text, turn_text}
 
 -- a step of a hop walk: a link as in a path, or the number of a jump and the polygon that it enters
@@ -19,6 +19,7 @@ hop_line_text k found =
     codes "hop " ++ decimal k ++ codes " " ++ decimal found.cost ++ codes " " ++ poly_text found.first ++ codes " " ++ decimal (length found.steps)
     ++ codes " " ++ decimal (length found.turns) ++ codes "\n"
 
+-- all lines of a hop walk
 abbrev pub found_text : ℕ → HopFound → List ℕ
 found_text k found = hop_line_text k found ++ (flat_map hop_step_text found.steps ++ flat_map turn_text found.turns)
 

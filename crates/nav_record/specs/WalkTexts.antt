@@ -4,8 +4,8 @@ use Rattle.std.specs.List.{flat_map}
 use Rattle.nav_base.specs.declared.point.Point.{Point}
 use Rattle.mesh_types.specs.declared.links.Link.{Link}
 use Rattle.mesh_types.specs.declared.links.PolyRef.{PolyRef}
-use Rattle.mesh_types.specs.declared.walks.WalkAnswer.{WalkAnswer}
-use Rattle.mesh_types.specs.declared.walks.WalkAnswer.TheVariants.{Walking, NoStart, NoGoal, NoPath}
+use Rattle.mesh_types.specs.declared.answers.WalkAnswer.{WalkAnswer}
+use Rattle.mesh_types.specs.declared.answers.WalkAnswer.TheVariants.{Walking, NoStart, NoGoal, NoPath}
 use Rattle.nav_record.specs.AnswerTexts.{poly_text, point_text, link_text}
 
 -- a walker: the polygon and the point where it stands, and the cost and the number of the links from there to its goal's polygon; then a line for
@@ -15,6 +15,7 @@ walker_line_text k at point cost count =
     codes "walker " ++ decimal k ++ codes " " ++ poly_text at ++ codes " " ++ point_text point ++ codes " " ++ decimal cost ++ codes " " ++ decimal count
     ++ codes "\n"
 
+-- all lines of a walker
 abbrev pub walker_text : ℕ → PolyRef → Point → ℕ → List Link → List ℕ
 walker_text k at point cost links = walker_line_text k at point cost (length links) ++ flat_map link_text links
 

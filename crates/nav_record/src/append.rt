@@ -11,7 +11,7 @@ use std::alloc::AllocError;
 
 /// What a line tells behind its word.
 #[derive(Clone, Copy)]
-pub enum Field {
+pub enum LineField {
     Number(u32),
     Cost(u64),
     Count(usize),
@@ -25,7 +25,7 @@ pub enum Field {
 pub fn append(
     out: &mut Vec<u8>,
     word: &[u8],
-    fields: &[Field],
+    fields: &[LineField],
     end: &[u8],
 ) -> Result<(), AllocError>
     ensures ok { OnOk result (out.new.items ≡ out.old.items ++ (fields_text word.now fields.now ++ end.now)) }
@@ -45,7 +45,7 @@ pub fn append(
 pub fn append_parts(
     out: &mut Vec<u8>,
     word: &[u8],
-    fields: &[Field],
+    fields: &[LineField],
     end: &[u8],
 ) -> Result<(), AllocError>
     ensures { Appends out.old out.new result (fields_text word.now fields.now ++ end.now) }
@@ -55,7 +55,7 @@ pub fn append_parts(
 }
 
 /// Appends a word and fields, each behind a space. Where memory is refused a part may stand at the end.
-pub fn append_fields(out: &mut Vec<u8>, word: &[u8], fields: &[Field]) -> Result<(), AllocError>
+pub fn append_fields(out: &mut Vec<u8>, word: &[u8], fields: &[LineField]) -> Result<(), AllocError>
     ensures { Appends out.old out.new result (fields_text word.now fields.now) }
 {
     out.extend_from_slice(word)?;
@@ -65,18 +65,18 @@ pub fn append_fields(out: &mut Vec<u8>, word: &[u8], fields: &[Field]) -> Result
     Ok(())
 }
 
-fn append_field(out: &mut Vec<u8>, field: Field) -> Result<(), AllocError>
+fn append_field(out: &mut Vec<u8>, field: LineField) -> Result<(), AllocError>
     ensures { Appends out.old out.new result (field_text field) }
 {
     match field {
-        Field::Number(number) => append_number(out, number),
-        Field::Cost(number) => append_number(out, number),
-        Field::Count(number) => append_number(out, number),
-        Field::Signed(number) => append_number(out, number),
-        Field::Polygon(at) => append_pair(out, at.tile, at.index),
-        Field::Place(at) => append_pair(out, at.x, at.z),
-        Field::Side(Side::L) => out.extend_from_slice(b" L"),
-        Field::Side(Side::R) => out.extend_from_slice(b" R"),
+        LineField::Number(number) => append_number(out, number),
+        LineField::Cost(number) => append_number(out, number),
+        LineField::Count(number) => append_number(out, number),
+        LineField::Signed(number) => append_number(out, number),
+        LineField::Polygon(at) => append_pair(out, at.tile, at.index),
+        LineField::Place(at) => append_pair(out, at.x, at.z),
+        LineField::Side(Side::L) => out.extend_from_slice(b" L"),
+        LineField::Side(Side::R) => out.extend_from_slice(b" R"),
     }
 }
 

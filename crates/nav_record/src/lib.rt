@@ -7,25 +7,11 @@
 
 mod answer;
 mod append;
-mod done;
 mod entry;
-mod fault;
-mod floors;
 mod hops;
-mod live;
-mod paths;
-mod reply;
 mod step;
-mod totals;
-mod walks;
 
-pub use answer::write_answer;
-pub use done::write_done;
-pub use entry::write_entry;
-pub use fault::write_fault;
-pub use hops::write_hop;
-pub use live::{write_final, write_history, write_lane};
-pub use reply::write_reply;
-pub use step::{StepAnswer, write_step};
-pub use totals::Totals;
-pub use walks::{write_no_walker, write_walk};
+pub use answer::{write_answer, write_reply};
+pub use entry::{write_done, write_entry, write_fault, write_final, write_history, write_lane};
+pub use hops::{write_hop, write_no_walker, write_walk};
+pub use step::{StepAnswer, Totals, write_step};

@@ -1,11 +1,12 @@
-//! Steps of builders and of the book, and their lines.
+//! Steps of builders and of the book, and their lines. The counts of a whole play.
+
 ghost use Rattle.std.specs.Prelude.{◌≡◌, ◌+◌, ◌≤◌, ◌++◌, length, IsOk, OnOk, OnErr, vec_len, vec_capacity};
 ghost use Rattle.nav_record.specs.Appending.{phrase_text};
 ghost use Rattle.nav_text.specs.Appends.{Appends};
 ghost use Rattle.nav_record.specs.OneLine.{IsOneLine};
 ghost use Rattle.nav_record.specs.StepTexts.{step_text};
 
-use crate::append::{Field, append_parts};
+use crate::append::{LineField, append_parts};
 use std::alloc::AllocError;
 
 /// What a step of a builder or of the book came to. Lengths count entries of the history, workers and tiles count from 0.
@@ -60,34 +61,57 @@ pub fn write_step(out: &mut Vec<u8>, step: &StepAnswer) -> Result<(), AllocError
 fn append_step(out: &mut Vec<u8>, step: &StepAnswer) -> Result<(), AllocError>
     ensures { Appends out.old out.new result (step_text step.now) }
 {
-    let Phrase(word, number, end, second) = words(step);
-    append_parts(out, word, &[Field::Number(number)], end)?;
+    let StepWords(word, number, end, second) = words(step);
+    append_parts(out, word, &[LineField::Number(number)], end)?;
     match second {
-        Some(number) => append_parts(out, b"", &[Field::Number(number)], b"\n"),
+        Some(number) => append_parts(out, b"", &[LineField::Number(number)], b"\n"),
         None => Ok(()),
     }
 }
 
 /// A word and a number, then what ends the line; or words between the two and a second number.
-struct Phrase(&'static [u8], u32, &'static [u8], Option<u32>);
+struct StepWords(&'static [u8], u32, &'static [u8], Option<u32>);
 
 /// The words and the numbers of a step's line.
-fn words(step: &StepAnswer) -> Phrase
+fn words(step: &StepAnswer) -> StepWords
     ensures { phrase_text result.0.now result.1 result.2.now result.3 ≡ step_text step.now }
 {
     match *step {
-        StepAnswer::Aim { k } => Phrase(b"aim", k, b"\n", None),
-        StepAnswer::Claimed { worker, tile } => Phrase(b"claim", worker, b" tile", Some(tile)),
-        StepAnswer::NoTile { worker } => Phrase(b"claim", worker, b" none\n", None),
-        StepAnswer::Busy { worker } => Phrase(b"busy", worker, b"\n", None),
-        StepAnswer::Idle { worker } => Phrase(b"idle", worker, b"\n", None),
-        StepAnswer::Back { worker, tile } => Phrase(b"back", worker, b" tile", Some(tile)),
-        StepAnswer::Taken { worker, tile } => Phrase(b"submit", worker, b" taken", Some(tile)),
-        StepAnswer::Stale { worker, tile } => Phrase(b"submit", worker, b" stale", Some(tile)),
-        StepAnswer::Published { k } => Phrase(b"published", k, b"\n", None),
-        StepAnswer::Same { k } => Phrase(b"same", k, b"\n", None),
-        StepAnswer::NotYet { tile } => Phrase(b"notyet", tile, b"\n", None),
-        StepAnswer::Settled { k } => Phrase(b"settled", k, b"\n", None),
-        StepAnswer::HistoryFull { len } => Phrase(b"history full", len, b"\n", None),
+        StepAnswer::Aim { k } => StepWords(b"aim", k, b"\n", None),
+        StepAnswer::Claimed { worker, tile } => StepWords(b"claim", worker, b" tile", Some(tile)),
+        StepAnswer::NoTile { worker } => StepWords(b"claim", worker, b" none\n", None),
+        StepAnswer::Busy { worker } => StepWords(b"busy", worker, b"\n", None),
+        StepAnswer::Idle { worker } => StepWords(b"idle", worker, b"\n", None),
+        StepAnswer::Back { worker, tile } => StepWords(b"back", worker, b" tile", Some(tile)),
+        StepAnswer::Taken { worker, tile } => StepWords(b"submit", worker, b" taken", Some(tile)),
+        StepAnswer::Stale { worker, tile } => StepWords(b"submit", worker, b" stale", Some(tile)),
+        StepAnswer::Published { k } => StepWords(b"published", k, b"\n", None),
+        StepAnswer::Same { k } => StepWords(b"same", k, b"\n", None),
+        StepAnswer::NotYet { tile } => StepWords(b"notyet", tile, b"\n", None),
+        StepAnswer::Settled { k } => StepWords(b"settled", k, b"\n", None),
+        StepAnswer::HistoryFull { len } => StepWords(b"history full", len, b"\n", None),
     }
+}
+
+/// What a play came to in numbers.
+#[derive(Clone, Copy)]
+pub struct Totals {
+    /// Entries of the history.
+    pub entries: u32,
+    /// The published length, in entries.
+    pub published: u32,
+    /// Paths that were found.
+    pub paths: u32,
+    /// Paths whose start and goal no walk joins.
+    pub nopath: u32,
+    /// Paths without a polygon at the start.
+    pub nostart: u32,
+    /// Paths with a polygon at the start and none at the goal.
+    pub nogoal: u32,
+    /// The sum of the costs of the paths that were found.
+    pub cost: u64,
+    /// Polygons of the last mesh.
+    pub polys: u32,
+    /// Directed links of the last mesh.
+    pub links: u32,
 }

@@ -3,8 +3,8 @@ use Rattle.std.proofs.Common.{◌≡◌, ℕ, ◌+◌, ◌<◌, ◌≤◌, Bool,
 use Rattle.std.proofs.lemmas.Bool.{cases_eq}
 use Rattle.std.proofs.lemmas.List.{length-set, get_or-set_same, get_or-set_other}
 use Rattle.std.proofs.lemmas.List.Sums.{fold_push, sum_by-cons, sum_by_push, count_by-le-length}
-use Rattle.nav_script.specs.declared.line.Line.{Line}
-use Rattle.nav_script.specs.declared.line.Line.TheVariants.{Lane, Add}
+use Rattle.nav_script.specs.declared.script.Line.{Line}
+use Rattle.nav_script.specs.declared.script.Line.TheVariants.{Lane, Add}
 use Rattle.nav_script.specs.Lanes.{next_lane, lane_after, is_add, is_jump, is_request, names_lane, lines_from, NamesLaneBelow, IsCounted}
 
 -- how many adds of a lane are among these lines, the first of which belongs to the lane `current`

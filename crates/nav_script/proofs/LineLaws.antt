@@ -8,8 +8,8 @@ use Rattle.nav_text.specs.declared.fault.FaultKind.TheVariants as kinds
 use Rattle.nav_text.specs.Forms.{numbers_of, number_after, line_text, AreNumbers}
 use Rattle.nav_text.proofs.FormLaws.{numbers_take, number_after_take}
 use Rattle.nav_text.proofs.Inversions.{bind_some, map_some, ok_is}
-use Rattle.nav_script.specs.declared.line.Line.{Line}
-use Rattle.nav_script.specs.declared.line.Line.TheVariants.{Lane, Remove, Undo, Settle, Aim, Claim, Back, Submit, Publish, March}
+use Rattle.nav_script.specs.declared.script.Line.{Line}
+use Rattle.nav_script.specs.declared.script.Line.TheVariants.{Lane, Remove, Undo, Settle, Aim, Claim, Back, Submit, Publish, March}
 use Rattle.nav_script.specs.declared.script.Way.{Way}
 use Rattle.nav_script.specs.declared.script.Way.TheVariants.{Play, Live}
 use Rattle.nav_script.specs.Spelling.{line_of}

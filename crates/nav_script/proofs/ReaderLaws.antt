@@ -6,8 +6,8 @@ use Rattle.nav_text.specs.declared.fault.FaultKind.TheVariants as kinds
 use Rattle.nav_text.specs.Faults.{fault_at}
 use Rattle.nav_text.specs.Lines.{lines, is_ended}
 use Rattle.nav_text.specs.Reading.{Verdict, Goes, Refuses, lead, read_on, read_end, read}
-use Rattle.nav_script.specs.declared.header.Header.{Header}
-use Rattle.nav_script.specs.declared.line.Line.{Line}
+use Rattle.nav_script.specs.declared.script.Header.{Header}
+use Rattle.nav_script.specs.declared.script.Line.{Line}
 use Rattle.nav_script.specs.declared.script.Way.{Way}
 use Rattle.nav_script.specs.declared.script.Script.{Script}
 use Rattle.nav_script.specs.declared.script.ScriptRefusal.{ScriptRefusal}

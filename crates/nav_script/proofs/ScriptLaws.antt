@@ -15,13 +15,13 @@ use Rattle.nav_text.specs.declared.fault.FaultKind.{FaultKind}
 use Rattle.nav_text.specs.declared.fault.FaultKind.TheVariants as kinds
 use Rattle.nav_text.specs.Lines.{lines, text_of, is_ended, is_line}
 use Rattle.nav_text.specs.Forms.{numbers_of, has_word, line_text}
-use Rattle.nav_text.specs.Reading.{Verdict, Goes, Ends, Refuses, read, Leads}
+use Rattle.nav_text.specs.Reading.{Verdict, Goes, HopEnds, Refuses, read, Leads}
 use Rattle.nav_text.proofs.FormLaws.{numbers_take, numbers_again, is_line-line_text}
 use Rattle.nav_text.proofs.LineLaws.{lines_again}
 use Rattle.nav_text.proofs.Inversions.{some_is, ok_is, when}
 use Rattle.nav_text.proofs.ReadingLaws.{EndsAt, first_fault, read_takes, leads_read, leads_keep}
-use Rattle.nav_script.specs.declared.header.Header.{Header}
-use Rattle.nav_script.specs.declared.line.Line.{Line}
+use Rattle.nav_script.specs.declared.script.Header.{Header}
+use Rattle.nav_script.specs.declared.script.Line.{Line}
 use Rattle.nav_script.specs.declared.script.Way.{Way}
 use Rattle.nav_script.specs.declared.script.Way.TheVariants.{Play, Live}
 use Rattle.nav_script.specs.declared.script.Script.{Script}
@@ -228,10 +228,10 @@ kept_more way ended (AtLines lanes workers those) next before line kept e =
     onto_spelled lanes workers those line = ap (λ ls. line_text (codes "script") (lanes ∷ workers ∷ []) ∷ ls) (map_push those line)
 
 -- no line ends a script
-never_ends : (way : Way) (place : Place) (line : List ℕ) (script : Script) → line_verdict way place line ≡ Ends script → ⊥
+never_ends : (way : Way) (place : Place) (line : List ℕ) (script : Script) → line_verdict way place line ≡ HopEnds script → ⊥
 never_ends way AtScript line script e = split (header_read line) e
   where
-    split : (told : Result Header FaultKind) → header_verdict told ≡ Ends script → ⊥
+    split : (told : Result Header FaultKind) → header_verdict told ≡ HopEnds script → ⊥
     split (Ok header) e = cc
     split (Err kind) e = cc
 never_ends way (AtLines lanes workers before) line script e =
@@ -239,7 +239,7 @@ never_ends way (AtLines lanes workers before) line script e =
   where
     split : (full out last : Bool) (told : LineRead)
         → cond full (Refuses kinds.TooManyLines) (cond out (Refuses kinds.TooManyLines)
-        (cond last (Refuses kinds.TooManyJumps) (verdict_of lanes workers before told))) ≡ Ends script → ⊥
+        (cond last (Refuses kinds.TooManyJumps) (verdict_of lanes workers before told))) ≡ HopEnds script → ⊥
     split true out last told e = cc
     split false true last told e = cc
     split false false true told e = cc

@@ -1,7 +1,7 @@
 -- The lanes of a script: which lane a line belongs to, and how many requests, adds and jumps stand before it.
 use Rattle.std.specs.Prelude.{◌≡◌, ℕ, ◌+◌, ◌<◌, Bool, true, false, not, ◌==◌, ◌&&◌, if◌then◌else◌, List, [], ◌∷◌, ◌++◌, length, get_or, fold, count_by, ⊤}
-use Rattle.nav_script.specs.declared.line.Line.{Line}
-use Rattle.nav_script.specs.declared.line.Line.TheVariants.{Lane, Add, Remove, Undo, Jump}
+use Rattle.nav_script.specs.declared.script.Line.{Line}
+use Rattle.nav_script.specs.declared.script.Line.TheVariants.{Lane, Add, Remove, Undo, Jump}
 
 -- the lane of the line after a line
 abbrev pub next_lane : ℕ → Line → ℕ

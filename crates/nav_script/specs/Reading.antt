@@ -8,8 +8,8 @@ use Rattle.nav_text.specs.declared.fault.FaultKind.TheVariants as kinds
 use Rattle.nav_text.specs.Lines.{lines, is_ended}
 use Rattle.nav_text.specs.Forms.{numbers_of, has_word}
 use Rattle.nav_text.specs.Reading.{Verdict, Refuses, Format, IsFirstFault, lead}
-use Rattle.nav_script.specs.declared.header.Header.{Header}
-use Rattle.nav_script.specs.declared.line.Line.{Line}
+use Rattle.nav_script.specs.declared.script.Header.{Header}
+use Rattle.nav_script.specs.declared.script.Line.{Line}
 use Rattle.nav_script.specs.declared.script.Way.{Way}
 use Rattle.nav_script.specs.declared.script.Way.TheVariants.{Play, Live}
 use Rattle.nav_script.specs.declared.script.Script.{Script}

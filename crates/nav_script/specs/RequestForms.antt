@@ -3,13 +3,14 @@ use Rattle.std.specs.Prelude.{ℕ, Bool, nat_lt, nat_le, ◌==◌, ◌&&◌, if�
 use Rattle.nav_ground.specs.declared.shape.Shape.TheVariants.{Block, Cylinder, AreaBlock, AreaCylinder}
 use Rattle.nav_text.specs.declared.fault.FaultKind.TheVariants as kinds
 use Rattle.nav_text.specs.Forms.{number_after}
-use Rattle.nav_script.specs.declared.line.Line.TheVariants.{Add, Remove, Undo}
+use Rattle.nav_script.specs.declared.script.Line.TheVariants.{Add, Remove, Undo}
 use Rattle.nav_script.specs.Forms.{LineRead, in_limits, is_range, form, first_of_them}
 
 -- the limits of the numbers of a block, and of those of a cylinder
 abbrev pub is_block : List ℕ → Bool
 is_block n = is_range (slice_index n 0) (slice_index n 1) 1023 && is_range (slice_index n 2) (slice_index n 3) 8191 && is_range (slice_index n 4) (slice_index n 5) 1023
 
+-- the numbers of a cylinder are within their limits
 abbrev pub is_cylinder : List ℕ → Bool
 is_cylinder n = nat_le (slice_index n 0) 2048 && nat_le (slice_index n 1) 2048 && nat_le (slice_index n 2) 1023 && is_range (slice_index n 3) (slice_index n 4) 8191
 
@@ -18,6 +19,7 @@ abbrev pub block_line : List ℕ → LineRead
 block_line n =
     in_limits (is_block n) (Add (Block (slice_index n 0) (slice_index n 1) (slice_index n 2) (slice_index n 3) (slice_index n 4) (slice_index n 5)))
 
+-- what a line says that adds a cylinder
 abbrev pub cylinder_line : List ℕ → LineRead
 cylinder_line n = in_limits (is_cylinder n) (Add (Cylinder (slice_index n 0) (slice_index n 1) (slice_index n 2) (slice_index n 3) (slice_index n 4)))
 
@@ -28,6 +30,7 @@ area_block_line area n =
     (is_range 1 area 63 && is_block n)
     (Add (AreaBlock area (slice_index n 0) (slice_index n 1) (slice_index n 2) (slice_index n 3) (slice_index n 4) (slice_index n 5)))
 
+-- what a line says that adds a cylinder which sets an area
 abbrev pub area_cylinder_line : ℕ → List ℕ → LineRead
 area_cylinder_line area n =
     in_limits
@@ -52,5 +55,6 @@ request_line adds line =
 abbrev pub area_forms : ℕ → List ℕ → List (Option LineRead)
 area_forms area rest = form (codes " block") 6 (area_block_line area) rest ∷ form (codes " cylinder") 5 (area_cylinder_line area) rest ∷ []
 
+-- what a line says that adds an obstacle which sets an area
 unfoldable pub area_line : List ℕ → Option LineRead
 area_line line = option_and_then (λ x. first_of_them (area_forms x.0 x.1)) (number_after (codes "add area") line)

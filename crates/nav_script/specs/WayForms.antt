@@ -1,7 +1,7 @@
 -- The forms of lines that stand only in a script to be played, or only in one that runs live, and what any line says.
 use Rattle.std.specs.Prelude.{ℕ, ◌&&◌, List, [], ◌∷◌, slice_index, codes, Option, Ok, Err, unwrap_or}
 use Rattle.nav_text.specs.declared.fault.FaultKind.TheVariants as kinds
-use Rattle.nav_script.specs.declared.line.Line.TheVariants.{Lane, Remove, Settle, Aim, Claim, Back, Submit, Publish, Jump, Hop, Send, March}
+use Rattle.nav_script.specs.declared.script.Line.TheVariants.{Lane, Remove, Settle, Aim, Claim, Back, Submit, Publish, Jump, Hop, Send, March}
 use Rattle.nav_script.specs.declared.script.Way.{Way}
 use Rattle.nav_script.specs.declared.script.Way.TheVariants.{Play, Live}
 use Rattle.nav_script.specs.Forms.{LineRead, in_limits, below_count, is_range, form, first_of_them, lane_line}

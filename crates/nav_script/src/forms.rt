@@ -6,9 +6,7 @@ ghost use Rattle.nav_script.specs.QuestionForms;
 ghost use Rattle.nav_script.specs.RequestForms;
 ghost use Rattle.nav_script.specs.WayForms.{read_in_groups};
 
-use crate::header::Header;
-use crate::line::Line;
-use crate::script::Way;
+use crate::script::{Header, Line, Way};
 use mesh_types::Jump;
 use nav_base::{Point, Question};
 use nav_ground::Shape;

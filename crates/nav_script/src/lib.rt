@@ -25,12 +25,8 @@
 #![tactic(auto)]
 
 mod forms;
-mod header;
-mod line;
-mod progress;
 mod reader;
 mod script;
 
-pub use line::Line;
 pub use reader::read_script;
-pub use script::{Script, ScriptRefusal, Way};
+pub use script::{Line, Script, ScriptRefusal, Way};

@@ -3,7 +3,7 @@ use Rattle.std.proofs.Common.{◌≤◌, length-append, ◌≡◌, ℕ, ◌+◌,
 use Rattle.nav_text.specs.declared.fault.TextFault.{TextFault}
 use Rattle.nav_text.specs.declared.fault.FaultKind.TheVariants.{Unfinished}
 use Rattle.nav_text.specs.Faults.{fault_at}
-use Rattle.nav_text.specs.Reading.{Verdict, Goes, Ends, Refuses, Format, read_end, read_on, read, Leads, IsFirstFault}
+use Rattle.nav_text.specs.Reading.{Verdict, Goes, HopEnds, Refuses, Format, read_end, read_on, read, Leads, IsFirstFault}
 use Rattle.nav_text.proofs.Inversions.{ok_is, err_is}
 
 -- the end of the lines where the text may not end
@@ -31,7 +31,7 @@ at_line : {P V : Type 0} (format : Format P V) (place : P) (count : ℕ) (line :
     → (verdict : Verdict P V) → format.verdict place line ≡ verdict → read_on verdict count (λ next. read format next (count + 1) more) ≡ Err fault
     → IsFirstFault format place count (line ∷ more) fault
 at_line format place count line more fault further (Goes next) is e = onto_fault format place next count line more fault is (further next e)
-at_line format place count line more fault further (Ends value) is e = absurd cc
+at_line format place count line more fault further (HopEnds value) is e = absurd cc
 at_line format place count line more fault further (Refuses kind) is e =
     let same = err_is e in record {
       good = [];
@@ -67,7 +67,7 @@ first_fault format place count (line ∷ more) fault e =
 -- at a place the next line ends the text with a value, or the text may end there with it
 abbrev pub EndsAt : {P V : Type 0} → Format P V → P → List (List ℕ) → V → ℕ → Type 0
 EndsAt format place [] value more = (format.value place ≡ Some value) × (more ≡ 0)
-EndsAt format place (line ∷ rest) value more = (format.verdict place line ≡ Ends value) × (more ≡ 1)
+EndsAt format place (line ∷ rest) value more = (format.verdict place line ≡ HopEnds value) × (more ≡ 1)
 
 -- a value is read where right lines lead to a place that ends the text with it
 pub record IsRead {P V : Type 0} (format : Format P V) (place : P) (count : ℕ) (those : List (List ℕ)) (value : V) (total : ℕ) : Type 0 where
@@ -102,7 +102,7 @@ read_line : {P V : Type 0} (format : Format P V) (place : P) (count : ℕ) (line
     → (verdict : Verdict P V) → format.verdict place line ≡ verdict → read_on verdict count (λ next. read format next (count + 1) more) ≡ Ok (value, total)
     → IsRead format place count (line ∷ more) value total
 read_line format place count line more value total further (Goes next) is e = onto_read format place next count line more value total is (further next e)
-read_line format place count line more value total further (Ends found) is e =
+read_line format place count line more value total further (HopEnds found) is e =
     let p = ok_is e in record {
       good = [];
       rest = line ∷ more;
@@ -110,7 +110,7 @@ read_line format place count line more value total further (Ends found) is e =
       more = 1;
       parts = refl;
       leads = refl;
-      ends = (is ∙ ap (λ x. Ends x.0) p, refl);
+      ends = (is ∙ ap (λ x. HopEnds x.0) p, refl);
       counted = sym (ap (λ x. x.1) p) ∙ (let e : count + 1 ≡ count + 0 + 1 = omega arith in e);
     }
 read_line format place count line more value total further (Refuses kind) is e = absurd cc

@@ -2,6 +2,7 @@
 use Rattle.std.specs.Prelude.{◌≡◌, ℕ, take, drop, Bool, true, not, ◌==◌, if◌then◌else◌, List, [], ◌∷◌, ◌++◌, flat_map}
 use Rattle.std.specs.List.{list_all}
 
+-- a byte goes to the front of the first line, if there is a line
 abbrev pub onto_line : ℕ → List (List ℕ) → List (List ℕ)
 onto_line c [] = []
 onto_line c (line ∷ more) = (c ∷ line) ∷ more

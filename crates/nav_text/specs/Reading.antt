@@ -8,7 +8,7 @@ use Rattle.nav_text.specs.Faults.{kind_number, fault_at}
 -- what a line is at a place: it is right and leads to a further place, or it is right and ends the text with a value, or it fails
 pub data Verdict (P V : Type 0) : Type 0 where
   Goes : P → Verdict P V
-  Ends : V → Verdict P V
+  HopEnds : V → Verdict P V
   Refuses : FaultKind → Verdict P V
 
 -- what is read of a line leads to the place that it makes, and what is wrong with it refuses it
@@ -27,7 +27,7 @@ read_end None count = Err (fault_at (count + 1) Unfinished)
 
 abbrev pub read_on : {P V : Type 0} → Verdict P V → ℕ → (P → Result (V × ℕ) TextFault) → Result (V × ℕ) TextFault
 read_on (Goes place) count rest = rest place
-read_on (Ends value) count rest = Ok (value, count + 1)
+read_on (HopEnds value) count rest = Ok (value, count + 1)
 read_on (Refuses kind) count rest = Err (fault_at (count + 1) kind)
 
 -- what is read of the lines that are left at a place, `count` lines being read before: the value and how many lines spell it,

@@ -4,10 +4,8 @@
 //! A number is `0`, or digits of which the first is not `0`, of value at most 4294967295.
 #![tactic(auto)]
 
-mod append;
 mod fault;
 mod line;
 
-pub use append::{append_line, append_number};
 pub use fault::{FaultKind, TextFault};
-pub use line::{first_line, has_word, number_after, numbers_of};
+pub use line::{append_line, append_number, first_line, has_word, number_after, numbers_of};

@@ -1,11 +1,15 @@
-//! Lines, and the words and numbers on them.
+//! Lines, and the words and numbers on them. Words with numbers behind them. Where memory is refused a part may stand at the end.
+
 ghost use Rattle.std.specs.Prelude.{◌≡◌, ℕ, ◌++◌, ◌==◌, ◌∷◌, [], List, Some, length, MatchOption, IfSome};
 ghost use Rattle.std.specs.Option.{option_map};
 ghost use Rattle.nav_text.specs.Lines.{lines, is_ended};
 ghost use Rattle.nav_text.specs.Forms.{field_at, fields_of, numbers_of, number_after, has_word, line_text, AreNumbers};
+ghost use Rattle.nav_text.specs.Appends.{Appends};
 
+use itoa::{Buffer, Integer};
 use memchr::memchr;
 use nav_base::number_at;
+use std::alloc::AllocError;
 
 /// The first line of a text, without its line feed, and the text after it. None where no line feed is left.
 pub fn first_line(text: &[u8]) -> Option<(&[u8], &[u8])>
@@ -76,4 +80,23 @@ pub fn number_after<'a>(word: &[u8], line: &'a [u8]) -> Option<(u32, &'a [u8])>
     ensures { option_map (λ x. (x.0, x.1.now)) result ≡ number_after word.now line.now }
 {
     field_at(line.strip_prefix(word)?)
+}
+
+/// Appends a space and a number.
+pub fn append_number<I: Integer>(out: &mut Vec<u8>, number: I) -> Result<(), AllocError>
+    ensures { Appends out.old out.new result (32 ∷ I.text number) }
+{
+    out.push(b' ')?;
+    out.extend_from_slice(Buffer::new().format(number).as_bytes())
+}
+
+/// Appends a word and numbers, each behind a space. Where memory is refused a part may stand at the end.
+pub fn append_line(out: &mut Vec<u8>, word: &[u8], numbers: &[u32]) -> Result<(), AllocError>
+    ensures { Appends out.old out.new result (line_text word.now numbers.now) }
+{
+    out.extend_from_slice(word)?;
+    for number in numbers {
+        append_number(out, *number)?;
+    }
+    Ok(())
 }

@@ -6,7 +6,7 @@ use Rattle.nav_ground.specs.declared.history.Entry.{Entry}
 use Rattle.nav_ground.specs.declared.history.Ground.{Ground}
 use Rattle.mesh_types.specs.declared.mesh.Mesh.{Mesh}
 use Rattle.mesh_types.specs.Builds.{build_of}
-use Rattle.nav_version.specs.declared.shown.Shown.{Shown}
+use Rattle.nav_version.specs.declared.version.PublishedVersion.{PublishedVersion}
 use Rattle.nav_version.specs.declared.version.Version.{Version}
 use Rattle.nav_version.specs.Lists.{ToldView}
 use Rattle.nav_version.specs.Pairs.{EyeView, HasLooked, eye_of}
@@ -14,7 +14,7 @@ use Rattle.nav_version.specs.VersionRule.{HasFound, IsShown}
 
 module _ {A : Type 0} (right : Mesh → A → Type 0) where
   -- an answer that is right in the mesh of a version is right for its ground and its list
-  pub HasFound-in : (shown : Shown) (version : Version) (seen : ToldView) (found : ToldView × A) → IsShown shown → version ≡ shown.version
+  pub HasFound-in : (shown : PublishedVersion) (version : Version) (seen : ToldView) (found : ToldView × A) → IsShown shown → version ≡ shown.version
       → seen.pair ≡ shown.told.pair → IsPrefix seen.entries shown.told.entries → found.0 ≡ shown.told → right version.mesh found.1
       → HasFound right (arc_value shown.version.ground) seen found
   HasFound-in shown version seen found is same pair goes_on told answered =

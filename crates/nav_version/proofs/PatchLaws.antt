@@ -10,7 +10,7 @@ use Rattle.mesh_types.specs.Builds.{build_of}
 use Rattle.mesh_types.specs.Soundness.{IsSound}
 use Rattle.mesh_types.specs.WholeMesh.{mesh_of}
 use Rattle.tile_links.specs.NewTiles.{IsWhole, New, tiles_after}
-use Rattle.nav_version.specs.declared.patch.Patch.{Patch}
+use Rattle.nav_version.specs.declared.press.Patch.{Patch}
 use Rattle.nav_version.specs.declared.version.Version.{Version}
 use Rattle.nav_version.specs.Pairs.{IsNext, IsPatch}
 use Rattle.nav_version.specs.Versions.{IsVersion}

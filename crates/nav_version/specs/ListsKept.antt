@@ -1,7 +1,7 @@
 -- What contracts see of the fields of a told list and of the history, and what these keep between two calls.
 use Rattle.std.specs.Prelude.{◌≡◌, length}
-use Rattle.nav_version.specs.declared.told.Told.TheInside as told
-use Rattle.nav_version.specs.declared.history.History.TheInside as history
+use Rattle.nav_version.specs.declared.rule.Told.TheInside as told
+use Rattle.nav_version.specs.declared.entries.PublishedHistory.TheInside as history
 use Rattle.nav_version.specs.Lists.{ToldView}
 use Rattle.nav_version.specs.Histories.{word_of}
 

@@ -11,7 +11,7 @@ use Rattle.mesh_types.specs.Soundness.{IsSound, polygon_count}
 use Rattle.mesh_types.specs.WholeMesh.{mesh_of}
 use Rattle.tile_links.specs.NewTiles.{AreNew, tiles_after}
 use Rattle.nav_version.specs.declared.version.Version.{Version}
-use Rattle.nav_version.specs.declared.patch.Patch.{Patch}
+use Rattle.nav_version.specs.declared.press.Patch.{Patch}
 
 -- a press: its pair, its ground, and the entries of the published version
 pub record PressView : Type 0 where

@@ -6,6 +6,6 @@ use Rattle.nav_ground.specs.Grounds.{IsGround}
 use Rattle.nav_ground.specs.History.{IsRequest}
 
 -- a ground keeps the rules of grounds, and each entry asks for what may be asked for: its shape is within the limits
-pub record KeepRules (whole : Ground) (entries : List Entry) : Type 0 where
-  pub level : IsGround whole
+pub record KeepRules (ground : Ground) (entries : List Entry) : Type 0 where
+  pub level : IsGround ground
   pub requests : All (λ (entry : Entry). IsRequest entry.request) entries

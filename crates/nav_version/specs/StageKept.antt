@@ -1,11 +1,11 @@
 -- What contracts see of the field of a stage, and what it keeps between two calls.
 use Rattle.std.specs.Prelude.{◌≡◌, Some}
 use Rattle.left_right.specs.Sides.{view}
-use Rattle.nav_version.specs.declared.shown.Shown.{Shown}
-use Rattle.nav_version.specs.declared.stage.Stage.TheInside as stage
+use Rattle.nav_version.specs.declared.version.PublishedVersion.{PublishedVersion}
+use Rattle.nav_version.specs.declared.version.HeldVersion.TheInside as stage
 use Rattle.nav_version.specs.VersionRule.{IsShown}
 
-abbrev pub stage_view : stage.Inside → Shown
+abbrev pub stage_view : stage.Inside → PublishedVersion
 stage_view inside = inside.writer.desk.shown.value
 
 -- what is shown is right, and known

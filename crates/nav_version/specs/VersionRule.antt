@@ -11,12 +11,12 @@ use Rattle.nav_ground.specs.declared.history.Ground.{Ground}
 use Rattle.nav_ground.specs.declared.setting.MeshKind.TheVariants.{Strips}
 use Rattle.mesh_types.specs.declared.mesh.Mesh.{Mesh}
 use Rattle.mesh_types.specs.Builds.{build_of}
-use Rattle.nav_version.specs.declared.shown.Shown.{Shown}
+use Rattle.nav_version.specs.declared.version.PublishedVersion.{PublishedVersion}
 use Rattle.nav_version.specs.Lists.{ToldView}
 use Rattle.nav_version.specs.Versions.{IsVersion}
 
 -- what a shown version is of: its pair, and that pair's ground
-abbrev pub origin : Shown → Book × Ground
+abbrev pub origin : PublishedVersion → Book × Ground
 origin shown = (shown.told.pair, arc_value shown.version.ground)
 
 -- a ground of no columns
@@ -38,36 +38,36 @@ no_ground = record {
 }
 
 -- the ground of a version that is known. Where none is known it is one of no columns
-abbrev pub ground_known : Option Shown → Ground
+abbrev pub ground_known : Option PublishedVersion → Ground
 ground_known (Some once) = arc_value once.version.ground
 ground_known None = no_ground
 
 -- what is known is a version of this pair
-abbrev pub IsKnownOf : Book → Option Shown → Type 0
+abbrev pub IsKnownOf : Book → Option PublishedVersion → Type 0
 IsKnownOf pair known = option_map origin known ≡ Some (pair, ground_known known)
 
 -- what is shown keeps the rules of versions, and its list is the version's entries
-pub record IsShown (shown : Shown) : Type 0 where
+pub record IsShown (shown : PublishedVersion) : Type 0 where
   pub rules : IsVersion shown.version
   pub list : shown.told.entries ≡ shown.version.entries
 
 -- what is shown after what was shown last
-abbrev pub next_of : Shown → Shown → Shown
+abbrev pub next_of : PublishedVersion → PublishedVersion → PublishedVersion
 next_of last next = next
 
 -- what is shown goes on from a version that was shown once: it is of the same pair and ground, and its list begins with the one of that version
-pub record GoesOn (once shown : Shown) : Type 0 where
+pub record GoesOn (once shown : PublishedVersion) : Type 0 where
   pub same : origin once ≡ origin shown
   pub begins : IsPrefix once.told.entries shown.told.entries
 
 -- what is known is a version that was shown once, if any: what is shown goes on from it
-abbrev pub IsSo : Shown → Option Shown → Type 0
+abbrev pub IsSo : PublishedVersion → Option PublishedVersion → Type 0
 IsSo shown known = IfSome known (λ once. GoesOn once shown)
 
 -- the rule: what is shown is right, and goes on from what the press and each eye know. So what is shown only grows
-pub record Stands (shown : Shown) (known : List (Option Shown)) : Type 0 where
+pub record Stands (shown : PublishedVersion) (known : List (Option PublishedVersion)) : Type 0 where
   pub is : IsShown shown
-  pub each : (seat : ℕ) (one : Option Shown) → get_elem? known seat ≡ some one → IsSo shown one
+  pub each : (seat : ℕ) (one : Option PublishedVersion) → get_elem? known seat ≡ some one → IsSo shown one
 
 -- what the press keeps: the list that is shown is of the history's pair, and begins the history. It is the whole history, but for those entries
 -- with which the history is ahead
@@ -77,23 +77,23 @@ pub record IsKept (told history : ToldView) (ahead : Option (List Entry)) : Type
   pub whole : IfSome ahead (λ more. history.entries ≡ told.entries ++ more)
 
 -- publish: the next version is shown, and the press knows it
-abbrev pub Publishes : Option Shown → Shown → Shown → Option Shown → Type 0
+abbrev pub Publishes : Option PublishedVersion → PublishedVersion → PublishedVersion → Option PublishedVersion → Type 0
 Publishes before last next after = after ≡ Some next
 
 -- enter: the eye takes what is shown, which is right and goes on from what the eye knew; the eye knows that then
-pub record Enters (before : Option Shown) (shown same : Shown) (after : Option Shown) : Type 0 where
+pub record Enters (before : Option PublishedVersion) (shown same : PublishedVersion) (after : Option PublishedVersion) : Type 0 where
   pub is : IsShown shown
   pub so : IsSo shown before
   pub knows : after ≡ Some shown
 
 -- an eye took a version that is shown: it is right, and goes on from what the eye knew
-pub record IsTaken (known : Option Shown) (taken : Shown) : Type 0 where
+pub record IsTaken (known : Option PublishedVersion) (taken : PublishedVersion) : Type 0 where
   pub is : IsShown taken
   pub so : IsSo taken known
 
 -- an eye has taken a version, and knows it
-pub record Takes (before after : Option Shown) : Type 0 where
-  pub shown : Shown
+pub record Takes (before after : Option PublishedVersion) : Type 0 where
+  pub shown : PublishedVersion
   pub taken : IsTaken before shown
   pub knows : after ≡ Some shown
 

@@ -11,10 +11,8 @@ ghost use Rattle.nav_version.specs.Pairs.{HasLooked, after_learning, eye_of};
 ghost use Rattle.nav_version.specs.Rules.{KeepRules};
 ghost use Rattle.nav_version.specs.VersionRule.{HasFound, IsKnownOf, IsShown, IsTaken, Takes, ground_known};
 
-use crate::rule::Entering;
-use crate::shown::Shown;
-use crate::stage::Looker;
-use crate::told::Told;
+use crate::rule::{Entering, Told};
+use crate::version::{PublishedVersion, VersionReader};
 use core::mem::replace_with;
 use mesh_types::{Answer, Asked};
 use nav_base::Question;
@@ -27,7 +25,7 @@ use std::marker::Model;
 /// Contracts see the pair, its ground, and the longest list of entries that the eye saw or learnt of.
 #[derive(Drop)]
 pub struct Eye {
-    reader: Looker,
+    reader: VersionReader,
     told: Told,
 }
 
@@ -47,7 +45,7 @@ impl Model for Eye {
 // were a shorter one than was learnt of, which no press shows.
 fn answered<Q: Asked>(
     alloc: Global,
-    shown: &Shown,
+    shown: &PublishedVersion,
     question: &Q,
     seen: &Told,
 ) -> Result<(Told, Q::Answer), AllocError>
@@ -65,7 +63,10 @@ fn answered<Q: Asked>(
 
 // A further owner of what is shown now. The reader is inside only while it takes that. It is refused where the count of owners has reached
 // its end, and where the press has ended.
-fn look(reader: Looker, _nothing: ()) -> (Looker, Result<Shown, AllocError>)
+fn look(
+    reader: VersionReader,
+    _nothing: (),
+) -> (VersionReader, Result<PublishedVersion, AllocError>)
     ensures shown { IfOk result.1 (λ shown. view result.0.place ≡ Some shown) }
     ensures taken { IfOk result.1 (IsTaken (view reader.place)) }
     ensures knows { Takes (view reader.place) (view result.0.place) ⊎ (view result.0.place ≡ view reader.place) }
@@ -81,7 +82,7 @@ fn look(reader: Looker, _nothing: ()) -> (Looker, Result<Shown, AllocError>)
 
 impl Eye {
     // An eye whose reader knows a version of the pair.
-    pub(crate) fn opened(reader: Looker, told: Told) -> Eye
+    pub(crate) fn opened(reader: VersionReader, told: Told) -> Eye
         requires { IsKnownOf told.pair (view reader.place) }
         ensures { result ≡ eye_of told.pair (ground_known (view reader.place)) told.entries }
     {

@@ -1,4 +1,4 @@
-//! The press, which publishes versions.
+//! The press, which publishes versions. What one publishing adds to a version. The next version, made whole before it is published.
 
 ghost use Rattle.std.specs.Prelude.{◌≡◌, ◌<◌, ◌↔◌, ◌++◌, [], IfOk, IfErr, OnOk, OnErr, IsTrue, MatchBool, length, drop, replicate, slice_index_or};
 ghost use Rattle.std.specs.Arc.{arc_value};
@@ -6,28 +6,24 @@ ghost use Rattle.nav_version.specs.Pairs.{IsNext, IsPatch, Shows, first_eye};
 ghost use Rattle.nav_version.specs.VersionRule.{IsShown};
 ghost use Rattle.nav_version.specs.Versions.{IsVersion};
 
+use crate::entries::PublishedHistory;
 use crate::eye::Eye;
-use crate::history::History;
-use crate::next::{next_version, patched};
-use crate::patch::Patch;
-use crate::shown::Shown;
-use crate::stage::Stage;
-use crate::told::Told;
-use crate::version::Version;
-use mesh_types::Mesh;
-use nav_ground::{Entry, Reply, Request};
-use nav_list::Items;
-use nav_share::Shared;
+use crate::rule::Told;
+use crate::version::{HeldVersion, PublishedVersion, Version};
+use mesh_types::{Mesh, TileMesh};
+use nav_ground::{Entry, Reply, Request, TileNo};
+use nav_lists::{Items, Shared};
 use std::alloc::{AllocError, Global};
 use std::marker::Model;
-use std::sync::Wait;
+use std::sync::{Arc, Wait};
+use tile_links::replaced;
 
 /// The one that publishes the versions of a pair. It is not `Drop`: `end` ends it.
 ///
 /// Contracts see the pair, its ground, and the entries of the version that is published; the published mesh is that of both.
 pub struct Press {
-    stage: Stage,
-    history: History,
+    stage: HeldVersion,
+    history: PublishedHistory,
     /// The entries that the history has beyond those that are shown: none, but after a publishing that was refused once the history had grown.
     /// Nothing where others had added to the history, which nobody can.
     ahead: Option<Items<Entry>>,
@@ -69,7 +65,11 @@ pub fn pair<R: Wait>(
 }
 
 // A version with its list, which is the whole history from then on.
-fn first_of(alloc: Global, version: Version, history: &mut History) -> Result<Shown, AllocError>
+fn first_of(
+    alloc: Global,
+    version: Version,
+    history: &mut PublishedHistory,
+) -> Result<PublishedVersion, AllocError>
     requires version { IsVersion version }
     requires history { history.old.entries ≡ [] }
     ensures version { IfOk result (λ shown. shown.version ≡ version) }
@@ -81,7 +81,7 @@ fn first_of(alloc: Global, version: Version, history: &mut History) -> Result<Sh
         return Err(AllocError);
     }
     let told = history.told();
-    Ok(Shown { version, told })
+    Ok(PublishedVersion { version, told })
 }
 
 // The entries with which the history is ahead once these were added to it: none where they are shown.
@@ -144,9 +144,9 @@ impl Press {
         ensures ground { IfOk result (λ press. press.ground ≡ arc_value version.ground) }
         ensures entries { IfOk result (λ press. press.entries ≡ version.entries) }
     {
-        let mut history = History::new();
+        let mut history = PublishedHistory::new();
         let first = first_of(alloc, version, &mut history)?;
-        let stage = Stage::begin(rt, alloc, first, readers)?;
+        let stage = HeldVersion::begin(rt, alloc, first, readers)?;
         Ok(Press {
             stage,
             history,
@@ -250,7 +250,7 @@ impl Press {
             return false;
         }
         let told = self.history.told();
-        let next = Shown {
+        let next = PublishedVersion {
             version: next,
             told,
         };
@@ -290,4 +290,51 @@ impl Press {
         } = self;
         stage.end(rt);
     }
+}
+
+/// Further entries, and the tile meshes that change with them, each with the number of its tile.
+#[derive(Drop)]
+pub struct Patch {
+    pub entries: Items<Entry>,
+    pub tiles: Vec<(TileNo, Shared<TileMesh>)>,
+}
+
+/// The version that comes after one by further entries, with the mesh that they leave. The ground and the older entries are shared with the
+/// one that is lent.
+pub(crate) fn next_version(
+    alloc: Global,
+    version: &Version,
+    more: &[Entry],
+    mesh: Shared<Mesh>,
+) -> Result<Shared<Version>, AllocError>
+    requires version { IsVersion version.now }
+    requires next { IsNext (arc_value version.now.ground) version.now.entries more.now mesh }
+    ensures rules { IfOk result IsVersion }
+    ensures ground { IfOk result (λ next. arc_value next.ground ≡ arc_value version.now.ground) }
+    ensures entries { IfOk result (λ next. next.entries ≡ version.now.entries ++ more.now) }
+{
+    let ground = Arc::try_clone(&version.ground)?;
+    let entries = version.entries.with(alloc, more)?;
+    Ok(Shared::new(
+        alloc,
+        Version {
+            ground,
+            entries,
+            mesh,
+        },
+    )?)
+}
+
+/// The mesh that a patch leaves: that of a version with the tiles of the patch in place. The two share all others.
+pub(crate) fn patched(
+    alloc: Global,
+    version: &Version,
+    patch: &Patch,
+) -> Result<Shared<Mesh>, AllocError>
+    requires version { IsVersion version.now }
+    requires patch { IsPatch (arc_value version.now.ground) version.now.entries patch.now }
+    ensures { IfOk result (IsNext (arc_value version.now.ground) version.now.entries patch.now.entries) }
+{
+    let mesh = replaced(alloc, version.mesh.get(), patch.tiles.as_slice())?;
+    Ok(Shared::new(alloc, mesh)?)
 }

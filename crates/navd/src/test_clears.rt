@@ -2,7 +2,7 @@
 
 use crate::test_plays::{Frame, Play, check_frames, check_plays};
 use crate::test_runs::{FREE, Over, ROOM, SquareField, check, played};
-use nav_run::Status;
+use top_call::Status;
 
 /// A flat field of 16 by 16 columns, whose cells are kept in the columns 3 to 12 of the rows 3 to 12; agents keep no distance from obstacles.
 const PLAIN: SquareField = SquareField {

@@ -2,7 +2,6 @@
 
 use crate::test_runs::{FOUR_TILES, ROOM, SquareField, WIDE, check, check_ends, lived};
 use nav_io::{Actor, FreeGate, Gate, Stage};
-use nav_run::Status;
 use nav_text::{first_line, numbers_of};
 use std::alloc::Global;
 use std::process::Abort;
@@ -10,6 +9,7 @@ use std::sync::Wait;
 use std::sync::atomic::{AtomicU64, Ordering};
 use std::thread;
 use std::thread::Threads;
+use top_call::Status;
 
 /// The level, the script; the live text, of which one lane leaves no choice.
 type Live = (SquareField, &'static str, &'static str);

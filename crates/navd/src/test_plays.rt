@@ -3,11 +3,11 @@
 use crate::test_runs::{
     FOUR_TILES, FREE, Moves, Over, ROOM, SquareField, WIDE, check, check_ends, played,
 };
-use nav_run::Status;
 use std::alloc::Global;
 use std::process::Abort;
 use std::sync::Wait;
 use std::thread::Threads;
+use top_call::Status;
 
 /// The level, the script; the play text.
 pub(crate) type Play = (SquareField, &'static str, &'static str);

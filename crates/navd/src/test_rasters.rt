@@ -1,16 +1,16 @@
 //! Fields of triangles: what the word `raster` writes. What is wanted was worked out by hand.
 
-use crate::test_runs::{NARROW_WRITES, check, run_once};
-use nav_run::Status;
+use crate::test_runs::{LARGE, NARROW_WRITES, check, run_once};
 use std::alloc::Global;
 use std::process::Abort;
 use std::sync::Wait;
 use std::thread::Threads;
+use top_call::Status;
 
 /// The lines of the size and the tile, and those behind the header; the status, and what stands behind the header, or all that is written.
 type Row = (&'static str, &'static str, Status, &'static str);
 
-static ROWS: [Row; 17] = [
+static ROWS: [Row; 18] = [
     (
         "size 3 2\ntile 6\n",
         "tri 0 10 0 48 10 0 48 10 32 63\ntri 0 10 0 48 10 32 0 10 32 63\nend\n",
@@ -107,6 +107,13 @@ static ROWS: [Row; 17] = [
         Status::BadText,
         "fault 2 2\n",
     ),
+    // Two storeys of 1000 by 1001 columns are 2002000 spans.
+    (
+        "size 1000 1001\ntile 64\n",
+        "tri 0 10 0 16000 10 0 16000 10 16016 63\ntri 0 10 0 16000 10 16016 0 10 16016 63\ntri 0 30 0 16000 30 0 16000 30 16016 63\ntri 0 30 0 16000 30 16016 0 30 16016 63\nend\n",
+        Status::TooManySpans,
+        "fault too many spans\n",
+    ),
 ];
 
 /// These parts of a text, one behind the other.
@@ -158,4 +165,22 @@ fn keeps_the_line_of_clearance(rt: HostRuntime) {
     let ran = run_once(&rt, alloc, &["raster"], input, NARROW_WRITES);
     let held = joined(&rt, alloc, &[SECOND, "span 0 0 10 11 5\nend\n"]);
     check(&rt, &ran, Status::Ok, held.as_slice());
+}
+
+/// The field that `raster` writes, with a script behind it, is an input for `play`.
+#[test]
+fn plays_the_field_of_triangles(rt: HostRuntime) {
+    let alloc = rt.alloc();
+    let floor = "tri 0 10 0 96 10 0 96 10 96 63\ntri 0 10 0 96 10 96 0 10 96 63\nend\n";
+    let input = level(&rt, alloc, "size 6 6\ntile 6\n", floor);
+    let sink = run_once(&rt, alloc, &["raster"], input, LARGE).sink;
+    let mut field = Vec::new(alloc);
+    field.extend_from_slice(sink.bytes()).expect(&rt, "memory");
+    let script = "script 1 1\nfloor 2 2\nadd block 2 2 0 100 2 2\nsettle\nfloor 2 2\n";
+    field
+        .extend_from_slice(script.as_bytes())
+        .expect(&rt, "memory");
+    let ran = run_once(&rt, alloc, &["play"], field, LARGE);
+    let held = "floors 0 1 11 63\nentry 1 added\nsettled 1\nfloors 1 0\ndone 1 1\n";
+    check(&rt, &ran, Status::Ok, held.as_bytes());
 }

@@ -2,16 +2,15 @@
 
 ghost use Rattle.std.specs.Prelude.{◌≡◌, ◌<◌};
 
-use nav_base::push_number;
+use nav_base::{Steps, push_number};
 use nav_io::{FreeGate, Gate, MemorySink, MemorySource};
-use nav_run::{Status, navd};
-use nav_steps::Steps;
 use std::alloc::Global;
 use std::marker::Brand;
 use std::process::Abort;
 use std::sync::Wait;
 use std::sync::ledger::{Blank, Ledger};
 use std::thread::Threads;
+use top_call::{Status, navd};
 
 /// What a run gave: its status, and the sink after it.
 #[derive(Drop)]

@@ -2,13 +2,13 @@
 
 use crate::test_runs::{FOUR_TILES, SquareField, check, lived};
 use nav_io::{Actor, Gate, Stage};
-use nav_run::Status;
 use std::alloc::Global;
 use std::process::Abort;
 use std::sync::Wait;
 use std::sync::atomic::{AtomicU64, Ordering};
 use std::thread;
 use std::thread::Threads;
+use top_call::Status;
 
 /// For so many turns an actor is held at most.
 const TURNS: u32 = 100000000;

@@ -6,11 +6,11 @@ use crate::test_runs::{
     FREE, LARGE, Moves, NARROW_WRITES, ROOM, Ran, SquareField, built_level, check, check_ends,
     played, push_line, run_once,
 };
-use nav_run::Status;
 use std::alloc::Global;
 use std::process::Abort;
 use std::sync::Wait;
 use std::thread::Threads;
+use top_call::Status;
 
 /// A script over the flat room, and its play text.
 const SCRIPT: &str = "floor 2 2\nadd block 2 2 0 100 2 2\nsettle\nfloor 2 2\n";

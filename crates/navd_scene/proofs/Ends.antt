@@ -5,12 +5,12 @@ use Rattle.std.specs.Io.KnownBytes.{Appends, Keeps}
 use Rattle.nav_io.specs.Causes.{GivesAll, HasMore, Rose, TookMany}
 use Rattle.nav_io.proofs.Laws.{GivesAll-known}
 use Rattle.nav_record.specs.FrameTexts.{too_long_text}
-use Rattle.nav_run.specs.declared.status.Status.{Status}
-use Rattle.nav_run.specs.declared.status.Status.TheVariants as statuses
-use Rattle.nav_run.specs.Answers.{TellsFault}
-use Rattle.nav_run.specs.Endings.{HasEnded}
-use Rattle.nav_run.specs.Inputs.{IsFault, IsInputFor, input_limit}
-use Rattle.nav_run.proofs.CourseLaws.{not_more, too_many}
+use Rattle.top_call.specs.declared.words.Status.{Status}
+use Rattle.top_call.specs.declared.words.Status.TheVariants as statuses
+use Rattle.top_call.specs.Answers.{TellsFault}
+use Rattle.top_call.specs.Endings.{HasEnded}
+use Rattle.top_call.specs.Inputs.{IsFault, IsInputFor, input_limit}
+use Rattle.top_call.proofs.CourseLaws.{not_more, too_many}
 use Rattle.nav_script.specs.declared.script.Way.TheVariants.{Play}
 use Rattle.nav_text.specs.declared.fault.TextFault.{TextFault}
 use Rattle.navd_scene.specs.declared.course.Due.{Due}
@@ -34,20 +34,20 @@ drawn_for input known text same drawn =
 
 module _ (before after : Option (List ℕ)) (reads_before reads_after : ℕ) (held_before held_after : Option (List ℕ)) (writes_before writes_after : ℕ) where
   -- so it ran
-  abbrev Run : Status → Type 0
-  Run status = HasRun before after reads_before reads_after held_before held_after writes_before writes_after status
+  abbrev LiveRun : Status → Type 0
+  LiveRun status = HasRun before after reads_before reads_after held_before held_after writes_before writes_after status
 
   -- a run that ends by writing: with the status that is due, or with WriteFault
   wrote : (text : List ℕ) (due status : Status) → HasEnded held_before held_after writes_before writes_after text due status
-      → IsDue before after text → (Appends held_before held_after text → Run due) → Run status
+      → IsDue before after text → (Appends held_before held_after text → LiveRun due) → LiveRun status
   wrote text due status ended is_due well = elim ended [
-    | inl whole ↦ subst Run (sym whole.0) (well whole.1)
-    | inr broken ↦ subst Run (sym broken.0) (broken.1, record { text = text; due = is_due; written = broken.2 })
+    | inl whole ↦ subst LiveRun (sym whole.0) (well whole.1)
+    | inr broken ↦ subst LiveRun (sym broken.0) (broken.1, record { text = text; due = is_due; written = broken.2 })
   ]
 
   -- a run that was to write a scene of what was read
   pub drawn_run : (input bytes written text : List ℕ) (status : Status) → GivesAll before after input → length input ≤ input_limit → bytes ≡ input
-      → written ≡ text → IsSceneOf bytes text → HasEnded held_before held_after writes_before writes_after written statuses.Ok status → Run status
+      → written ≡ text → IsSceneOf bytes text → HasEnded held_before held_after writes_before writes_after written statuses.Ok status → LiveRun status
   drawn_run input bytes written text status gave short same as_text drawn ended =
       let due : IsDrawn before after written = record {
         input = input;
@@ -60,7 +60,7 @@ module _ (before after : Option (List ℕ)) (reads_before reads_after : ℕ) (he
   -- a run that was to write the fault of what was read
   pub refused_run : (input bytes written text : List ℕ) (status : Status) → GivesAll before after input → length input ≤ input_limit → bytes ≡ input
       → written ≡ text → TellsFault Play bytes text → (IsInputFor Play bytes → ⊥)
-      → HasEnded held_before held_after writes_before writes_after written statuses.BadText status → Run status
+      → HasEnded held_before held_after writes_before writes_after written statuses.BadText status → LiveRun status
   refused_run input bytes written text status gave short same as_text told none ended =
       let due : IsRefused before after written = record {
         input = input;
@@ -73,38 +73,38 @@ module _ (before after : Option (List ℕ)) (reads_before reads_after : ℕ) (he
 
   -- a run that read too many bytes
   pub long_run : (status : Status) → TookMany before after (input_limit + 1)
-      → HasEnded held_before held_after writes_before writes_after too_long_text statuses.TooLong status → Run status
+      → HasEnded held_before held_after writes_before writes_after too_long_text statuses.TooLong status → LiveRun status
   long_run status many ended = wrote too_long_text statuses.TooLong status ended (inr (inr (many, refl))) (λ there. (many, there))
 
   -- the clauses of one status each
-  pub run_ok : (status : Status) → Run status → status ≡ statuses.Ok → HasDrawn before after held_before held_after
-  run_ok status run is = subst Run is run
+  pub run_ok : (status : Status) → LiveRun status → status ≡ statuses.Ok → HasDrawn before after held_before held_after
+  run_ok status run is = subst LiveRun is run
 
-  pub run_bad_text : (status : Status) → Run status → status ≡ statuses.BadText → HasTold before after held_before held_after
-  run_bad_text status run is = subst Run is run
+  pub run_bad_text : (status : Status) → LiveRun status → status ≡ statuses.BadText → HasTold before after held_before held_after
+  run_bad_text status run is = subst LiveRun is run
 
-  pub run_usage : (status : Status) → Run status → status ≡ statuses.Usage → ⊥
-  run_usage status run is = subst Run is run
+  pub run_usage : (status : Status) → LiveRun status → status ≡ statuses.Usage → ⊥
+  run_usage status run is = subst LiveRun is run
 
-  pub run_too_many : (status : Status) → Run status → status ≡ statuses.TooManySpans → ⊥
-  run_too_many status run is = subst Run is run
+  pub run_too_many : (status : Status) → LiveRun status → status ≡ statuses.TooManySpans → ⊥
+  run_too_many status run is = subst LiveRun is run
 
-  pub run_read_fault : (status : Status) → Run status → status ≡ statuses.ReadFault → Rose reads_before reads_after × Keeps held_before held_after
-  run_read_fault status run is = subst Run is run
+  pub run_read_fault : (status : Status) → LiveRun status → status ≡ statuses.ReadFault → Rose reads_before reads_after × Keeps held_before held_after
+  run_read_fault status run is = subst LiveRun is run
 
-  pub run_write_fault : (status : Status) → Run status → status ≡ statuses.WriteFault
+  pub run_write_fault : (status : Status) → LiveRun status → status ≡ statuses.WriteFault
       → Rose writes_before writes_after × HasBroken before after held_before held_after
-  run_write_fault status run is = subst Run is run
+  run_write_fault status run is = subst LiveRun is run
 
-  pub run_too_long : (status : Status) → Run status → status ≡ statuses.TooLong
+  pub run_too_long : (status : Status) → LiveRun status → status ≡ statuses.TooLong
       → TookMany before after (input_limit + 1) × Appends held_before held_after too_long_text
-  run_too_long status run is = subst Run is run
+  run_too_long status run is = subst LiveRun is run
 
-  pub run_no_memory : (status : Status) → Run status → status ≡ statuses.OutOfMemory → Keeps held_before held_after
-  run_no_memory status run is = subst Run is run
+  pub run_no_memory : (status : Status) → LiveRun status → status ≡ statuses.OutOfMemory → Keeps held_before held_after
+  run_no_memory status run is = subst LiveRun is run
 
   -- more than may be read
-  pub run_more : (status : Status) → Run status → HasMore before input_limit → (¬ Rose reads_before reads_after) → (¬ Rose writes_before writes_after)
+  pub run_more : (status : Status) → LiveRun status → HasMore before input_limit → (¬ Rose reads_before reads_after) → (¬ Rose writes_before writes_after)
       → (status ≡ statuses.TooLong) ⊎ (status ≡ statuses.OutOfMemory)
   run_more statuses.Ok run more calm quiet = not_more before after run.due.input _ run.due.read run.due.short more
   run_more statuses.BadText run more calm quiet = not_more before after run.due.input _ run.due.read run.due.short more

@@ -5,11 +5,11 @@ use Rattle.nav_ground.specs.declared.setting.Setting.{Setting}
 use Rattle.nav_ground.specs.declared.field.Field.{Field}
 use Rattle.nav_io.specs.Causes.{AppendsPrefix, GivesAll, Rose, TookMany}
 use Rattle.nav_record.specs.FrameTexts.{fault_text, too_long_text}
-use Rattle.nav_run.specs.declared.status.Status.{Status}
-use Rattle.nav_run.specs.declared.status.Status.TheVariants as statuses
-use Rattle.nav_run.specs.Answers.{TellsFault}
-use Rattle.nav_run.specs.Inputs.{IsInput, IsInputFor, input_limit}
-use Rattle.nav_scene.specs.Scenes.{IsSceneText}
+use Rattle.top_call.specs.declared.words.Status.{Status}
+use Rattle.top_call.specs.declared.words.Status.TheVariants as statuses
+use Rattle.top_call.specs.Answers.{TellsFault}
+use Rattle.top_call.specs.Inputs.{IsInput, IsInputFor, input_limit}
+use Rattle.nav_play.specs.Scenes.{IsSceneText}
 use Rattle.nav_script.specs.declared.script.Script.{Script}
 use Rattle.nav_script.specs.declared.script.Way.TheVariants.{Play}
 use Rattle.nav_text.specs.declared.fault.TextFault.{TextFault}

@@ -4,23 +4,22 @@ ghost use Rattle.std.specs.Prelude.{◌≡◌, ◌+◌, ◌<◌, ◌≤◌, ◌�
 ghost use Rattle.std.specs.Io.KnownBytes.{Appends, Keeps};
 ghost use Rattle.nav_io.specs.Causes.{Rose, TookMany, TookAtMost, HasMore};
 ghost use Rattle.nav_record.specs.FrameTexts.{too_long_text};
-ghost use Rattle.nav_run.specs.Inputs.{IsInputFor, IsRunnable, input_limit};
-ghost use Rattle.nav_run.specs.Endings.{HasEnded};
-ghost use Rattle.nav_scene.specs.Scenes.{IsSceneText};
+ghost use Rattle.top_call.specs.Inputs.{IsInputFor, IsRunnable, input_limit};
+ghost use Rattle.top_call.specs.Endings.{HasEnded};
+ghost use Rattle.nav_play.specs.Scenes.{IsSceneText};
 ghost use Rattle.nav_script.specs.declared.script.Way.TheVariants.{Play};
 ghost use Rattle.navd_scene.specs.Drawn.{HasBroken, HasDrawn, HasRun, HasTold, IsLineOf, IsRight, IsSceneUnless};
 
+use nav_base::Steps;
 use nav_io::{ReadRefusal, Sink, Source, read_all, write_all};
-use nav_play::Start;
+use nav_play::{PlayStart, scene};
 use nav_record::write_fault;
-use nav_run::{Input, InputRefusal, Status, read_input};
-use nav_scene::scene;
 use nav_script::Way;
-use nav_steps::Steps;
 use nav_text::TextFault;
 use std::alloc::{AllocError, Global};
 use std::sync::Wait;
 use std::sync::ledger::{Blank, Ledger};
+use top_call::{Input, InputRefusal, Status, read_input};
 
 /// How many bytes an input may have.
 const MOST: usize = 67108864;
@@ -140,7 +139,7 @@ fn drawn<R: Wait, L: Ledger>(
         field,
         script,
     } = input;
-    Ok(scene(rt, alloc, Start { setting, field }, &script, steps)?)
+    Ok(scene(rt, alloc, PlayStart { setting, field }, &script, steps)?)
 }
 
 /// The line of a fault.

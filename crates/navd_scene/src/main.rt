@@ -9,12 +9,12 @@ mod course;
 
 use crate::course::{finish, run};
 use nav_io::{StdSink, StdSource};
-use nav_run::Status;
 use std::alloc::AllocError;
 use std::marker::Brand;
 use std::process::ExitCode;
 use std::sync::ledger::Blank;
 use std::{env, io};
+use top_call::Status;
 
 /// Whether words stand behind the program's name. One that is no text is a word too. Only memory can be refused.
 fn has_words(rt: &HostRuntime) -> Result<bool, AllocError> {

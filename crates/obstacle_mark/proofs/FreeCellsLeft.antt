@@ -14,7 +14,7 @@ use Rattle.nav_ground.specs.FreeCells.{area_under, free_next, free_cell_of}
 use Rattle.nav_ground.proofs.Words.{is_lost}
 use Rattle.nav_ground.proofs.Kept.{AllPairs-map, All-kept}
 use Rattle.cell_table.specs.Columns.{IsPlace, column_of}
-use Rattle.obstacle_mark.specs.declared.places.Passed.{Passed}
+use Rattle.obstacle_mark.specs.declared.places.PassedPlaces.{PassedPlaces}
 use Rattle.obstacle_mark.specs.AreasLeft.{area_left}
 use Rattle.obstacle_mark.specs.Columns.{ArePlaces, IsPassed}
 use Rattle.obstacle_mark.specs.Places.{places_taken, level_kept, next_kept, ArePassed}
@@ -125,7 +125,7 @@ passed_later places n column column' later passed = record {
 }
 
 -- what is passed before one cell's neighbours is passed before those of a cell of a later column
-pub passed_on : (places : List CellRef) (passed : Passed) (a b : CellRef) → column_of a ≤ column_of b → ArePassed places passed a → ArePassed places passed b
+pub passed_on : (places : List CellRef) (passed : PassedPlaces) (a b : CellRef) → column_of a ≤ column_of b → ArePassed places passed a → ArePassed places passed b
 passed_on places passed a b later before = record {
   left = passed_later places passed.left _ _ (omega (arith, later)) before.left;
   above = passed_later places passed.above _ _ (omega (arith, later)) before.above;
@@ -137,10 +137,10 @@ passed_on places passed a b later before = record {
 pub none_passed_yet : (places : List CellRef) (column : ℕ) → IsPassed places 0 column
 none_passed_yet places column = record { most = omega arith; before = λ k d below. absurd (omega arith) }
 
-pub all_unpassed : (places : List CellRef) (passed : Passed) (at : CellRef)
+pub all_unpassed : (places : List CellRef) (passed : PassedPlaces) (at : CellRef)
     → passed ≡ record { left = 0; above = 0; right = 0; below = 0 } → ArePassed places passed at
 all_unpassed places passed at is =
-    let P : Passed → Type 0 = λ (p : Passed). ArePassed places p at in
+    let P : PassedPlaces → Type 0 = λ (p : PassedPlaces). ArePassed places p at in
     subst P (sym is) (record {
       left = none_passed_yet places _;
       above = none_passed_yet places _;
@@ -149,7 +149,7 @@ all_unpassed places passed at is =
     })
 
 -- once the neighbours of one cell are looked up, what is passed is passed before those of each later cell
-pub passed_after : (cells : List Cell) (places : List CellRef) (passed : Passed) (i : ℕ) (e : Cell) → IsCells cells → i < length cells
+pub passed_after : (cells : List Cell) (places : List CellRef) (passed : PassedPlaces) (i : ℕ) (e : Cell) → IsCells cells → i < length cells
     → ArePassed places passed (get_or cells i e).at
     → (j : ℕ) (d : Cell) → i + 1 ≤ j → j < length cells → ArePassed places passed (get_or cells j d).at
 passed_after cells places passed i e rules' here before j d later there =

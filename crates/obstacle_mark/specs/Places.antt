@@ -5,7 +5,7 @@ use Rattle.nav_ground.specs.declared.cell.Cell.{Cell}
 use Rattle.nav_ground.specs.declared.cell.CellRef.{CellRef}
 use Rattle.nav_ground.specs.Cells.{is_naming, next_level}
 use Rattle.cell_table.specs.Columns.{column_toward, is_at}
-use Rattle.obstacle_mark.specs.declared.places.Passed.{Passed}
+use Rattle.obstacle_mark.specs.declared.places.PassedPlaces.{PassedPlaces}
 use Rattle.obstacle_mark.specs.Columns.{IsPassed}
 
 -- the places of the cells that are taken, in order
@@ -25,7 +25,7 @@ abbrev pub next_kept : List CellRef → Cell → List (Option ℕ)
 next_kept blocked cell = level_kept blocked cell 0 ∷ level_kept blocked cell 1 ∷ level_kept blocked cell 2 ∷ level_kept blocked cell 3 ∷ []
 
 -- in each direction, as many blocked places as said lie in columns before the neighbouring one
-pub record ArePassed (blocked : List CellRef) (passed : Passed) (at : CellRef) : Type 0 where
+pub record ArePassed (blocked : List CellRef) (passed : PassedPlaces) (at : CellRef) : Type 0 where
   pub left : IsPassed blocked passed.left (column_toward 0 at)
   pub above : IsPassed blocked passed.above (column_toward 1 at)
   pub right : IsPassed blocked passed.right (column_toward 2 at)

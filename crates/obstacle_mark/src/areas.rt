@@ -9,13 +9,13 @@ ghost use Rattle.nav_ground.specs.FreeCells.{is_blocked};
 ghost use Rattle.obstacle_mark.specs.AreasLeft.{area_left};
 ghost use Rattle.obstacle_mark.specs.Columns.{IsInRow};
 
-use nav_ground::{CellRef, Shape, SmallCell, bounds, covers, sets};
+use nav_ground::{CellRef, PackedCell, Shape, bounds, covers, sets};
 use std::alloc::{AllocError, Global};
 
 /// The area that each cell is left with under the obstacles; none where one of them blocks it.
 pub fn areas_left(
     alloc: Global,
-    cells: &[SmallCell],
+    cells: &[PackedCell],
     shapes: &[Shape],
 ) -> Result<Vec<Option<u32>>, AllocError>
     requires cells { IsCells cells.now }
@@ -30,7 +30,7 @@ pub fn areas_left(
 }
 
 /// The area that each cell has by itself.
-fn own_areas(alloc: Global, cells: &[SmallCell]) -> Result<Vec<Option<u32>>, AllocError>
+fn own_areas(alloc: Global, cells: &[PackedCell]) -> Result<Vec<Option<u32>>, AllocError>
     ensures { IfOk result (λ areas. areas.items ≡ map (area_left (is_blocked []) []) cells.now) }
 {
     let mut areas = Vec::with_capacity(alloc, cells.len())?;
@@ -41,7 +41,7 @@ fn own_areas(alloc: Global, cells: &[SmallCell]) -> Result<Vec<Option<u32>>, All
 }
 
 /// Takes one more obstacle into the areas that cells are left with. Only the cells in the columns that it can reach are looked at.
-fn cover(cells: &[SmallCell], areas: &mut [Option<u32>], shape: &Shape)
+fn cover(cells: &[PackedCell], areas: &mut [Option<u32>], shape: &Shape)
     requires cells { IsCells cells.now }
     requires shape { IsShape shape.now }
     requires beside { length areas.old ≡ length cells.now }
@@ -57,7 +57,13 @@ fn cover(cells: &[SmallCell], areas: &mut [Option<u32>], shape: &Shape)
 }
 
 /// Takes one more obstacle into the areas of the cells in one row of the columns that it can reach; the row is given by its z.
-fn cover_row(cells: &[SmallCell], areas: &mut [Option<u32>], shape: &Shape, reach: Reach, z: u32)
+fn cover_row(
+    cells: &[PackedCell],
+    areas: &mut [Option<u32>],
+    shape: &Shape,
+    reach: ColumnRect,
+    z: u32,
+)
     requires cells { IsCells cells.now }
     requires shape { IsShape shape.now }
     requires beside { length areas.old ≡ length cells.now }
@@ -76,7 +82,7 @@ fn cover_row(cells: &[SmallCell], areas: &mut [Option<u32>], shape: &Shape, reac
 }
 
 /// What a cell is left with once one more obstacle comes.
-fn area_after(shape: &Shape, cell: &SmallCell, before: Option<u32>) -> Option<u32>
+fn area_after(shape: &Shape, cell: &PackedCell, before: Option<u32>) -> Option<u32>
     requires { IsShape shape.now }
     ensures { result ≡ Rattle.obstacle_mark.specs.AreasLeft.area_after shape.now cell.now before }
 {
@@ -91,7 +97,7 @@ fn area_after(shape: &Shape, cell: &SmallCell, before: Option<u32>) -> Option<u3
 
 /// A rectangle of columns: x from `first_x` on, before `end_x`, and z from `first_z` on, before `end_z`.
 #[derive(Clone, Copy)]
-struct Reach {
+struct ColumnRect {
     first_x: u32,
     end_x: u32,
     first_z: u32,
@@ -99,13 +105,13 @@ struct Reach {
 }
 
 /// The columns that an obstacle can reach.
-fn reach_of(shape: &Shape) -> Reach
+fn reach_of(shape: &Shape) -> ColumnRect
     requires { IsShape shape.now }
     ensures x { (x z floor : ℕ) → Covers shape.now x z floor → (result.first_x ≤ x) × (x < result.end_x) }
     ensures z { (x z floor : ℕ) → Covers shape.now x z floor → (result.first_z ≤ z) × (z < result.end_z) }
 {
     let window = bounds(shape);
-    Reach {
+    ColumnRect {
         first_x: or_zero(window.x0),
         end_x: or_zero(window.x1) + 1,
         first_z: or_zero(window.z0),
@@ -123,7 +129,7 @@ fn or_zero(number: i32) -> u32
 }
 
 /// The z of the first row that has cells; 0 where there are none.
-fn first_row(cells: &[SmallCell]) -> u32
+fn first_row(cells: &[PackedCell]) -> u32
     requires { IsCells cells.now }
     ensures { (k : ℕ) (d : Cell) → k < length cells.now → result ≤ (slice_index_or cells.now k d).at.z }
 {
@@ -134,7 +140,7 @@ fn first_row(cells: &[SmallCell]) -> u32
 }
 
 /// The z after that of the last row that has cells; 0 where there are none.
-fn end_row(cells: &[SmallCell]) -> u32
+fn end_row(cells: &[PackedCell]) -> u32
     requires { IsCells cells.now }
     ensures { (k : ℕ) (d : Cell) → k < length cells.now → (slice_index_or cells.now k d).at.z < result }
 {
@@ -145,7 +151,7 @@ fn end_row(cells: &[SmallCell]) -> u32
 }
 
 /// How many of the cells come before a column.
-fn cells_before(cells: &[SmallCell], x: u32, z: u32) -> usize
+fn cells_before(cells: &[PackedCell], x: u32, z: u32) -> usize
     requires { IsCells cells.now }
     ensures most { result ≤ length cells.now }
     ensures before { (k : ℕ) (d : Cell) → k < result

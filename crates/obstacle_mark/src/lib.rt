@@ -5,7 +5,6 @@
 #![tactic(auto)]
 
 mod areas;
-mod clear;
 mod free;
 mod places;
 

@@ -4,19 +4,20 @@ ghost use Rattle.std.specs.Prelude.{◌≡◌, ℕ, ◌<◌, ◌≤◌, All, Boo
 ghost use Rattle.nav_ground.specs.declared.cell.Cell.{Cell};
 ghost use Rattle.nav_ground.specs.declared.cell.CellRef.{CellRef};
 ghost use Rattle.nav_ground.specs.declared.shape.Shape.{Shape};
+ghost use Rattle.nav_ground.specs.Directions.{number};
 ghost use Rattle.obstacle_mark.specs.AreasLeft.{area_left};
 ghost use Rattle.cell_table.specs.Columns.{IsPlace, column_of, column_toward};
 ghost use Rattle.obstacle_mark.specs.Columns.{ArePlaces, IsPassed, LiesAway, LiesBefore, LiesBehind};
 ghost use Rattle.obstacle_mark.specs.Places.{places_taken, level_kept, ArePassed};
 
 use cell_table::{column_of, column_toward};
-use nav_ground::{CellRef, SmallCell};
+use nav_ground::{CellRef, Direction, PackedCell};
 use std::alloc::{AllocError, Global};
 
 /// How many of the taken places lie in columns before the neighbouring ones of a cell, direction by direction. As cells are gone
 /// through in order these numbers only rise, so all of them together pass each taken place once a direction.
 #[derive(Clone, Copy)]
-pub struct Passed {
+pub struct PassedPlaces {
     pub left: usize,
     pub above: usize,
     pub right: usize,
@@ -26,7 +27,7 @@ pub struct Passed {
 /// The places of the cells that are left without an area, in order.
 pub fn blocked_places(
     alloc: Global,
-    cells: &[SmallCell],
+    cells: &[PackedCell],
     areas: &[Option<u32>],
 ) -> Result<Vec<CellRef>, AllocError>
     requires { length areas.now ≡ length cells.now }
@@ -44,7 +45,11 @@ pub fn blocked_places(
 }
 
 /// The levels that a cell names in the four directions, without those neighbours that are among the taken places.
-pub fn next_kept(blocked: &[CellRef], passed: &mut Passed, cell: &SmallCell) -> [Option<u32>; 4]
+pub fn next_kept(
+    blocked: &[CellRef],
+    passed: &mut PassedPlaces,
+    cell: &PackedCell,
+) -> [Option<u32>; 4]
     requires cell { IsPlace cell.now.at }
     requires blocked { ArePlaces blocked.now }
     requires passed { ArePassed blocked.now passed.old cell.now.at }
@@ -52,21 +57,25 @@ pub fn next_kept(blocked: &[CellRef], passed: &mut Passed, cell: &SmallCell) -> 
     ensures passed { ArePassed blocked.now passed.new cell.now.at }
 {
     [
-        level_kept(blocked, &mut passed.left, cell, 0),
-        level_kept(blocked, &mut passed.above, cell, 1),
-        level_kept(blocked, &mut passed.right, cell, 2),
-        level_kept(blocked, &mut passed.below, cell, 3),
+        level_kept(blocked, &mut passed.left, cell, Direction::Left),
+        level_kept(blocked, &mut passed.above, cell, Direction::Above),
+        level_kept(blocked, &mut passed.right, cell, Direction::Right),
+        level_kept(blocked, &mut passed.below, cell, Direction::Below),
     ]
 }
 
 /// The level that a cell names in a direction, unless that neighbour is one of the taken places.
-fn level_kept(blocked: &[CellRef], passed: &mut usize, cell: &SmallCell, dir: usize) -> Option<u32>
-    requires dir { dir < 4 }
+fn level_kept(
+    blocked: &[CellRef],
+    passed: &mut usize,
+    cell: &PackedCell,
+    dir: Direction,
+) -> Option<u32>
     requires cell { IsPlace cell.now.at }
     requires blocked { ArePlaces blocked.now }
-    requires passed { IsPassed blocked.now passed.old (column_toward dir cell.now.at) }
-    ensures level { result ≡ level_kept blocked.now cell.now dir }
-    ensures passed { IsPassed blocked.now passed.new (column_toward dir cell.now.at) }
+    requires passed { IsPassed blocked.now passed.old (column_toward (number dir) cell.now.at) }
+    ensures level { result ≡ level_kept blocked.now cell.now (number dir) }
+    ensures passed { IsPassed blocked.now passed.new (column_toward (number dir) cell.now.at) }
 {
     let column = column_toward(dir, cell.at());
     *passed = pass(blocked, *passed, column);

@@ -1,4 +1,4 @@
--- The leaps that leave a polygon stand together, after those that leave earlier ones.
+-- The off-mesh links that leave a polygon stand together, after those that leave earlier ones.
 use Rattle.std.proofs.Common.{◌≡◌, ℕ, ◌+◌, ◌<◌, ◌≤◌, Bool, true, false, List, ◌++◌, length, take, drop, filter, get_or, sym, ap, ◌∙◌, arith}
 use Rattle.std.specs.Prelude.{◌==◌, nat_lt}
 use Rattle.std.specs.List.{All, AllWithin}
@@ -8,8 +8,8 @@ use Rattle.std.proofs.lemmas.List.{take-append-drop, append-nil, get_or-take, ge
 use Rattle.std.proofs.lemmas.List.Elements.{filter-append}
 use Rattle.nav_ground.proofs.Selections.{filter_all, filter_none}
 use Rattle.mesh_types.specs.declared.links.PolyRef.{PolyRef}
-use Rattle.off_links.specs.declared.leaps.Leap.{Leap}
-use Rattle.off_links.specs.Leaps.{AreInOrder, HasPlace, has_number, leap_number, leaves, number_of}
+use Rattle.off_links.specs.declared.off_mesh_links.OffMeshLink.{OffMeshLink}
+use Rattle.off_links.specs.OffMeshLinks.{AreInOrder, HasPlace, has_number, off_mesh_link_number, leaves, number_of}
 use Rattle.off_links.proofs.Tests.{filter_same, number_test}
 
 -- elements found by two places: after those that come early, those that are inside
@@ -46,26 +46,26 @@ parts {X = X} early inside xs first count apart point place =
         (place.1 (count + k) d (omega arith) (omega (arith, length-drop count (drop first xs))))
 
 -- of those that are not early, those with a number stand first
-pub own_first : (own : ℕ) (leaps : List Leap) (first : ℕ) → AreInOrder leaps
-    → AllWithin (λ (leap : Leap). nat_lt (leap_number leap) own ≡ false) leaps first (length leaps)
-    → IsPartitionedBy (λ (leap : Leap). leap_number leap == own) (drop first leaps)
-own_first own leaps first order others i j d le within later =
-    let there : first + j < length leaps = omega (arith, length-drop first leaps) in
-    let at : (leap_number (get_or leaps (first + j) d) == own) ≡ true = rw (← get_or-drop first leaps j d) later in
-    let last = eqb-true (leap_number (get_or leaps (first + j) d)) own at in
-    let up : leap_number (get_or leaps (first + i) d) ≤ leap_number (get_or leaps (first + j) d) = order (first + i) (first + j) d (omega (arith, le)) there in
-    let late = ltb-false (leap_number (get_or leaps (first + i) d)) own (others (first + i) d (omega arith) (omega (arith, le, there))) in
-    rw (get_or-drop first leaps i d) (eq-eqb (leap_number (get_or leaps (first + i) d)) own (omega (arith, last, up, late)))
+pub own_first : (own : ℕ) (off_mesh_links : List OffMeshLink) (first : ℕ) → AreInOrder off_mesh_links
+    → AllWithin (λ (off_mesh_link : OffMeshLink). nat_lt (off_mesh_link_number off_mesh_link) own ≡ false) off_mesh_links first (length off_mesh_links)
+    → IsPartitionedBy (λ (off_mesh_link : OffMeshLink). off_mesh_link_number off_mesh_link == own) (drop first off_mesh_links)
+own_first own off_mesh_links first order others i j d le within later =
+    let there : first + j < length off_mesh_links = omega (arith, length-drop first off_mesh_links) in
+    let at : (off_mesh_link_number (get_or off_mesh_links (first + j) d) == own) ≡ true = rw (← get_or-drop first off_mesh_links j d) later in
+    let last = eqb-true (off_mesh_link_number (get_or off_mesh_links (first + j) d)) own at in
+    let up : off_mesh_link_number (get_or off_mesh_links (first + i) d) ≤ off_mesh_link_number (get_or off_mesh_links (first + j) d) = order (first + i) (first + j) d (omega (arith, le)) there in
+    let late = ltb-false (off_mesh_link_number (get_or off_mesh_links (first + i) d)) own (others (first + i) d (omega arith) (omega (arith, le, there))) in
+    rw (get_or-drop first off_mesh_links i d) (eq-eqb (off_mesh_link_number (get_or off_mesh_links (first + i) d)) own (omega (arith, last, up, late)))
 
--- a leap by its number, whatever stands for one that is not there
-pub own_at : (own : ℕ) (leaps : List Leap) (k : ℕ) (d e : Leap) → k < length leaps → leap_number (get_or leaps k e) ≡ own
-    → has_number own (get_or leaps k d) ≡ true
-own_at own leaps k d e there same = eq-eqb (leap_number (get_or leaps k d)) own (ap leap_number (get_or_default leaps k d e there) ∙ same)
+-- an off-mesh link by its number, whatever stands for one that is not there
+pub own_at : (own : ℕ) (off_mesh_links : List OffMeshLink) (k : ℕ) (d e : OffMeshLink) → k < length off_mesh_links → off_mesh_link_number (get_or off_mesh_links k e) ≡ own
+    → has_number own (get_or off_mesh_links k d) ≡ true
+own_at own off_mesh_links k d e there same = eq-eqb (off_mesh_link_number (get_or off_mesh_links k d)) own (ap off_mesh_link_number (get_or_default off_mesh_links k d e there) ∙ same)
 
-pub other_at : (own : ℕ) (leaps : List Leap) (k : ℕ) (d e : Leap) → k < length leaps → (leap_number (get_or leaps k e) ≡ own → ⊥)
-    → has_number own (get_or leaps k d) ≡ false
-other_at own leaps k d e there apart =
-    ne_eqb (leap_number (get_or leaps k d)) own (λ same. apart (ap leap_number (get_or_default leaps k e d there) ∙ same))
+pub other_at : (own : ℕ) (off_mesh_links : List OffMeshLink) (k : ℕ) (d e : OffMeshLink) → k < length off_mesh_links → (off_mesh_link_number (get_or off_mesh_links k e) ≡ own → ⊥)
+    → has_number own (get_or off_mesh_links k d) ≡ false
+other_at own off_mesh_links k d e there apart =
+    ne_eqb (off_mesh_link_number (get_or off_mesh_links k d)) own (λ same. apart (ap off_mesh_link_number (get_or_default off_mesh_links k e d there) ∙ same))
 
 -- where those that pass a test come first, none passes after the first that fails
 pub none_after : {X : Type 0} (p : X → Bool) (xs : List X) (k : ℕ) → IsPartitionedBy p xs → AllWithin (λ (x : X). p x ≡ true) xs 0 k
@@ -73,17 +73,17 @@ pub none_after : {X : Type 0} (p : X → Bool) (xs : List X) (k : ℕ) → IsPar
 none_after p xs k parted before fails =
     (before, λ i d late within. false_from_ne_true (p (get_or xs i d)) (λ passes. true≢false (sym (parted k i d late within passes) ∙ fails d)))
 
--- the leaps found are those that leave the polygon
-pub leaving_found : (leaps : List Leap) (at : PolyRef) (own first count : ℕ) → own ≡ number_of at → at.index < 4294967296 → All HasPlace leaps
-    → IsPartitionPoint (λ (leap : Leap). nat_lt (leap_number leap) own ≡ true) (λ (leap : Leap). nat_lt (leap_number leap) own ≡ false) leaps first
-    → IsPartitionPoint (λ (leap : Leap). (leap_number leap == own) ≡ true) (λ (leap : Leap). (leap_number leap == own) ≡ false) (drop first leaps) count
-    → take count (drop first leaps) ≡ filter (leaves at) leaps
-leaving_found leaps at own first count is low places point place =
-    parts (λ (leap : Leap). nat_lt (leap_number leap) own) (λ (leap : Leap). leap_number leap == own) leaps first count
-    (λ leap early. ne_eqb (leap_number leap) own (λ same. apart (leap_number leap) own (ltb-true (leap_number leap) own early) same)) point place
-    ∙ ap (λ (n : ℕ). filter (λ (leap : Leap). leap_number leap == n) leaps) is
-    ∙ filter_same (λ (leap : Leap). leap_number leap == number_of at) (leaves at) leaps
-    (λ k d there. number_test (get_or leaps k d).from at (places k d there) low)
+-- the off-mesh links found are those that leave the polygon
+pub leaving_found : (off_mesh_links : List OffMeshLink) (at : PolyRef) (own first count : ℕ) → own ≡ number_of at → at.index < 4294967296 → All HasPlace off_mesh_links
+    → IsPartitionPoint (λ (off_mesh_link : OffMeshLink). nat_lt (off_mesh_link_number off_mesh_link) own ≡ true) (λ (off_mesh_link : OffMeshLink). nat_lt (off_mesh_link_number off_mesh_link) own ≡ false) off_mesh_links first
+    → IsPartitionPoint (λ (off_mesh_link : OffMeshLink). (off_mesh_link_number off_mesh_link == own) ≡ true) (λ (off_mesh_link : OffMeshLink). (off_mesh_link_number off_mesh_link == own) ≡ false) (drop first off_mesh_links) count
+    → take count (drop first off_mesh_links) ≡ filter (leaves at) off_mesh_links
+leaving_found off_mesh_links at own first count is low places point place =
+    parts (λ (off_mesh_link : OffMeshLink). nat_lt (off_mesh_link_number off_mesh_link) own) (λ (off_mesh_link : OffMeshLink). off_mesh_link_number off_mesh_link == own) off_mesh_links first count
+    (λ off_mesh_link early. ne_eqb (off_mesh_link_number off_mesh_link) own (λ same. apart (off_mesh_link_number off_mesh_link) own (ltb-true (off_mesh_link_number off_mesh_link) own early) same)) point place
+    ∙ ap (λ (n : ℕ). filter (λ (off_mesh_link : OffMeshLink). off_mesh_link_number off_mesh_link == n) off_mesh_links) is
+    ∙ filter_same (λ (off_mesh_link : OffMeshLink). off_mesh_link_number off_mesh_link == number_of at) (leaves at) off_mesh_links
+    (λ k d there. number_test (get_or off_mesh_links k d).from at (places k d there) low)
   where
     apart : (m n : ℕ) → m < n → m ≡ n → ⊥
     apart m n less same = omega (arith, less, same)

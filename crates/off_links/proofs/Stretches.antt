@@ -4,7 +4,7 @@ use Rattle.std.specs.Prelude.{All}
 use Rattle.std.proofs.lemmas.List.{append_assoc, append-nil, drop_more, get_or_default, length-map, length_push, map-append}
 use Rattle.std.proofs.lemmas.List.Elements.{All-weaker}
 use Rattle.nav_base.specs.declared.point.Point.{Point}
-use Rattle.mesh_types.specs.declared.corner.Corner.{Corner}
+use Rattle.mesh_types.specs.declared.answers.Corner.{Corner}
 use Rattle.mesh_types.specs.declared.links.Link.{Link}
 use Rattle.mesh_types.specs.declared.links.PolyRef.{PolyRef}
 use Rattle.mesh_types.specs.declared.links.Portal.{Portal}
@@ -18,9 +18,9 @@ use Rattle.mesh_types.specs.Bends.{some_corner}
 use Rattle.mesh_types.proofs.MeshLinks.{IsHeldIn, held_in}
 use Rattle.mesh_types.proofs.WalkChains.{HasEnds, held_in_coordinates, walk_is_chain, walk_ends}
 use Rattle.mesh_types.proofs.WalkChains.{walk_push}
-use Rattle.mesh_types.specs.declared.hops.Jump.{Jump}
-use Rattle.mesh_types.specs.declared.hops.HopStep.{HopStep}
-use Rattle.mesh_types.specs.declared.hops.HopStep.TheVariants as hops
+use Rattle.mesh_types.specs.declared.answers.Jump.{Jump}
+use Rattle.mesh_types.specs.declared.answers.HopStep.{HopStep}
+use Rattle.mesh_types.specs.declared.answers.HopStep.TheVariants as hops
 use Rattle.mesh_types.specs.Hops.{HopsTo}
 use Rattle.mesh_types.specs.Stretches.{AreTautIn, stretches_from, counted_from, jump_at, some_jump}
 use Rattle.funnel_path.specs.Coordinates.{HasEndCoordinates, HasChainCoordinates}

@@ -1,10 +1,10 @@
--- Tests of what a list of leaps holds, by numbers of polygons and by their tiles and places.
+-- Tests of what a list of off-mesh links holds, by numbers of polygons and by their tiles and places.
 use Rattle.std.proofs.Common.{◌≡◌, ℕ, ◌+◌, ◌*◌, ◌<◌, Bool, true, cond, List, [], ◌∷◌, filter, refl, sym, ap, ◌∙◌, inl, inr, arith}
 use Rattle.std.specs.Prelude.{◌==◌, ◌&&◌, All}
 use Rattle.std.proofs.lemmas.Bool.{and_parts, and_from, and_left, and_right, cases_eq, eqb-true, eq-eqb, ne_eqb}
 use Rattle.std.proofs.lemmas.List.Elements.{All-head, All-tail}
 use Rattle.mesh_types.specs.declared.links.PolyRef.{PolyRef}
-use Rattle.off_links.specs.Leaps.{number_of}
+use Rattle.off_links.specs.OffMeshLinks.{number_of}
 
 -- what tests agree on of each element they agree on of the list
 pub filter_same : {X : Type 0} (p q : X → Bool) (xs : List X) → All (λ (x : X). p x ≡ q x) xs → filter p xs ≡ filter q xs

@@ -1,4 +1,4 @@
-pub mod Leaps
+pub mod OffMeshLinks
 pub mod Slots
 pub mod HopGraphs
 pub mod Questions

@@ -1,14 +1,14 @@
 -- Pulling: what is asked and given where the stretches of a hop walk are pulled tight.
 use Rattle.std.specs.Prelude.{◌≡◌, ℕ, List, ◌++◌, map}
 use Rattle.nav_base.specs.declared.point.Point.{Point}
-use Rattle.mesh_types.specs.declared.corner.Corner.{Corner}
+use Rattle.mesh_types.specs.declared.answers.Corner.{Corner}
 use Rattle.mesh_types.specs.declared.links.PolyRef.{PolyRef}
 use Rattle.mesh_types.specs.declared.links.Portal.{Portal}
 use Rattle.mesh_types.specs.declared.mesh.Mesh.{Mesh}
 use Rattle.mesh_types.specs.Stretches.{counted_from}
 use Rattle.mesh_types.specs.Located.{IsLocated}
 use Rattle.mesh_types.specs.Taut.{IsTaut}
-use Rattle.off_links.specs.declared.question.HopQuestion.{HopQuestion}
+use Rattle.off_links.specs.declared.hops.HopQuestion.{HopQuestion}
 use Rattle.off_links.specs.Questions.{CanHop}
 
 -- the polygons that locate the places of a question that may be asked

@@ -1,13 +1,13 @@
 -- Questions: which questions for a hop walk may be asked, and which answers are right.
 use Rattle.std.specs.Prelude.{◌<◌, length, ⊤}
 use Rattle.nav_base.specs.Point.{HasCoordinates}
-use Rattle.mesh_types.specs.declared.hops.HopAnswer.{HopAnswer}
-use Rattle.mesh_types.specs.declared.hops.HopAnswer.TheVariants.{Found, NoStart, NoGoal, NoPath}
+use Rattle.mesh_types.specs.declared.answers.HopAnswer.{HopAnswer}
+use Rattle.mesh_types.specs.declared.answers.HopAnswer.TheVariants.{Found, NoStart, NoGoal, NoPath}
 use Rattle.mesh_types.specs.declared.mesh.Mesh.{Mesh}
 use Rattle.mesh_types.specs.Hops.{IsHopRight}
 use Rattle.mesh_types.specs.Soundness.{polygon_count}
-use Rattle.off_links.specs.declared.question.HopQuestion.{HopQuestion}
-use Rattle.off_links.specs.Leaps.{AreJumps}
+use Rattle.off_links.specs.declared.hops.HopQuestion.{HopQuestion}
+use Rattle.off_links.specs.OffMeshLinks.{AreJumps}
 
 -- both places and the points of all jumps have coordinates, and there are at most 256 jumps
 pub record CanHop (question : HopQuestion) : Type 0 where

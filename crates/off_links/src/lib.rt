@@ -8,12 +8,8 @@
 
 mod hop_graph;
 mod hops;
-mod leaps;
+mod off_mesh_links;
 mod pulling;
-mod question;
-mod search;
-mod slots;
 
-pub use hops::hop;
+pub use hops::{HopQuestion, hop};
 pub use mesh_types::{HopAnswer, HopFound, HopStep, Jump};
-pub use question::HopQuestion;

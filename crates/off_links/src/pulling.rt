@@ -3,19 +3,19 @@
 ghost use Rattle.std.specs.Prelude.{◌≡◌, ◌≤◌, ◌<◌, ◌+◌, ◌++◌, [], All, IfOk, OnOk, length, map};
 ghost use Rattle.nav_base.specs.Point.{HasCoordinates};
 ghost use Rattle.funnel_path.specs.Coordinates.{HasChainCoordinates};
-ghost use Rattle.mesh_types.specs.declared.corner.Corner.{Corner};
+ghost use Rattle.mesh_types.specs.declared.answers.Corner.{Corner};
 ghost use Rattle.mesh_types.specs.Chains.{IsChain};
 ghost use Rattle.mesh_types.specs.Hops.{HopsTo};
 ghost use Rattle.mesh_types.specs.Stretches.{AreTautIn, stretches_from, counted_from};
 ghost use Rattle.mesh_types.specs.Soundness.{IsSound};
 ghost use Rattle.off_links.specs.Pulling.{IsPulled, IsWithin};
-ghost use Rattle.off_links.specs.Leaps.{AreJumps};
+ghost use Rattle.off_links.specs.OffMeshLinks.{AreJumps};
 
-use crate::question::HopQuestion;
+use crate::hops::HopQuestion;
 use funnel_path::pull;
 use mesh_types::{Corner, HopStep, Jump, Mesh, PolyRef, Portal};
 use nav_base::Point;
-use nav_list::Items;
+use nav_lists::Items;
 use std::alloc::{AllocError, Global};
 
 /// The corners of taut lines through the portals of each stretch of a hop walk, from one place to another. Each names its portal by the

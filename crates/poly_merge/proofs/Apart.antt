@@ -11,10 +11,10 @@ use Rattle.std.proofs.lemmas.List.Elements.{All-get_or, All-head, All-more, All-
 use Rattle.nav_base.specs.declared.point.Point.{Point}
 use Rattle.nav_base.specs.Convex.{corner_at, place_after}
 use Rattle.nav_base.proofs.ConvexLaws.{place_after-in}
-use Rattle.mesh_types.specs.declared.outline.Piece.{Piece}
+use Rattle.mesh_types.specs.declared.region.Piece.{Piece}
 use Rattle.mesh_types.specs.Merging.{Merge, is_facing, edge_end, merge_over, merges_between, places_at}
 use Rattle.mesh_types.proofs.EarLaws.{all_below}
-use Rattle.poly_merge.specs.declared.rows.Rows.{Rows}
+use Rattle.poly_merge.specs.declared.edge.CornerRows.{CornerRows}
 use Rattle.poly_merge.specs.Rows.{lies_in}
 use Rattle.poly_merge.specs.Seen.{admissible_of}
 use Rattle.poly_merge.proofs.Unions.{find-below}
@@ -107,7 +107,7 @@ pub high_there : (a z : ℤ) → int_le z (int_max a z) ≡ true
 high_there a z = grind (arith, ints)
 
 -- rows that are widened to hold one more corner hold those that they held, too
-pub more_rows : (corners : List Point) (places : List ℕ) (rows made : Rows) (i : ℕ) → i < length places
+pub more_rows : (corners : List Point) (places : List ℕ) (rows made : CornerRows) (i : ℕ) → i < length places
     → made.low ≡ int_min rows.low (corner_at corners (get_or places i 0)).z → made.high ≡ int_max rows.high (corner_at corners (get_or places i 0)).z
     → All (λ n. lies_in rows (corner_at corners n) ≡ true) (take i places) → All (λ n. lies_in made (corner_at corners n) ≡ true) (take (i + 1) places)
 more_rows corners places rows made i below low high each =

@@ -13,7 +13,7 @@ use Rattle.std.proofs.lemmas.Cmp.{back_total, by_ranked, nat_cmp_total, on_total
 use Rattle.std.proofs.lemmas.List.Elements.{All-contains, All-cons, All-nil, All-weaker}
 use Rattle.std.proofs.lemmas.List.MinMax.{ranks_by}
 use Rattle.nav_base.specs.declared.point.Point.{Point}
-use Rattle.mesh_types.specs.declared.outline.Piece.{Piece}
+use Rattle.mesh_types.specs.declared.region.Piece.{Piece}
 use Rattle.mesh_types.specs.Choices.{first_best, or_earlier, or_later}
 use Rattle.mesh_types.specs.Merging.{Merge, best_merge, is_admissible, is_facing, merge_over, merges_between, merges_from, merges_of, places_at, shared_length}
 use Rattle.mesh_types.proofs.Words.{is_longer}

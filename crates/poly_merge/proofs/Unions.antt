@@ -9,7 +9,7 @@ use Rattle.std.proofs.lemmas.List.Elements.{All-map, All-append, All-get_or, All
 use Rattle.nav_base.specs.declared.point.Point.{Point}
 use Rattle.nav_base.specs.Point.{HasCoordinates}
 use Rattle.nav_base.specs.Convex.{IsStrictlyConvex, corner_at}
-use Rattle.mesh_types.specs.declared.outline.Piece.{Piece}
+use Rattle.mesh_types.specs.declared.region.Piece.{Piece}
 use Rattle.mesh_types.specs.Ears.{ArePlacesOf}
 use Rattle.mesh_types.specs.Merging as merging
 use Rattle.mesh_types.specs.Merging.{IsPieceOf, is_admissible, is_convex, is_facing, merge_over, merges_between, past_edge, places_at, union_of}

@@ -7,7 +7,7 @@ use Rattle.std.proofs.lemmas.List.Elements.{filter-append}
 use Rattle.std.proofs.lemmas.Grind.{flat_map-append}
 use Rattle.nav_ground.proofs.Selections.{range-push}
 use Rattle.nav_base.specs.declared.point.Point.{Point}
-use Rattle.mesh_types.specs.declared.outline.Piece.{Piece}
+use Rattle.mesh_types.specs.declared.region.Piece.{Piece}
 use Rattle.mesh_types.specs.Merging.{Merge, is_admissible}
 use Rattle.poly_merge.specs.declared.edge.Merge as code
 use Rattle.poly_merge.specs.Seen.{admissible_of}

@@ -4,7 +4,7 @@ use Rattle.std.specs.List.{find, flat_map, range_with_len}
 use Rattle.std.specs.Ordering.{is_lt, nat_cmp, ordering_then}
 use Rattle.std.specs.declared.cmp.Ordering.{Ordering}
 use Rattle.nav_base.specs.declared.point.Point.{Point}
-use Rattle.mesh_types.specs.declared.outline.Piece.{Piece}
+use Rattle.mesh_types.specs.declared.region.Piece.{Piece}
 use Rattle.mesh_types.specs.Merging as merging
 use Rattle.mesh_types.specs.Merging.{is_admissible, is_facing, merges_between, merges_from, places_at, shared_length}
 use Rattle.poly_merge.specs.declared.edge.Merge.{Merge}

@@ -1,11 +1,15 @@
-//! Edges of pieces.
+//! Edges of pieces. The rows that pieces reach. Two pieces that share an edge have a row in common.
 
-ghost use Rattle.std.specs.Prelude.{◌≡◌, ◌<◌, length, slice_index, true, IfSome};
-ghost use Rattle.std.specs.List.{find, range_with_len};
+ghost use Rattle.std.specs.Prelude.{◌≡◌, ◌<◌, length, slice_index, true, IfSome, All};
+ghost use Rattle.std.specs.List.{find, range_with_len, list_any};
 ghost use Rattle.mesh_types.specs.Merging.{edge_end, is_facing, places_at};
+ghost use Rattle.std.specs.Int.{int_max, int_min};
+ghost use Rattle.nav_base.specs.Convex.{corner_at};
+ghost use Rattle.mesh_types.specs.Ears.{ArePlacesOf};
+ghost use Rattle.poly_merge.specs.Rows.{lies_in};
 
 use mesh_types::Piece;
-use nav_base::next_place;
+use nav_base::{Point, next_place};
 
 /// Two pieces, by their indices, of which the first stands earlier, and the edge of each that they share, by the position where it begins.
 #[derive(Clone, Copy)]
@@ -54,4 +58,54 @@ fn is_facing(first: &[u32], edge: usize, second: &[u32], facing: usize) -> bool
     ensures { result ≡ is_facing first.now edge second.now facing }
 {
     second[facing] == edge_end(first, edge) && edge_end(second, facing) == first[edge]
+}
+
+/// Rows of corners, from the least z to the greatest.
+#[derive(Clone, Copy)]
+pub(crate) struct CornerRows {
+    low: i32,
+    high: i32,
+}
+
+/// The rows from the lowest to the highest of the corners at places.
+pub(crate) fn rows_of(corners: &[Point], places: &[u32]) -> CornerRows
+    requires { ArePlacesOf corners.now places.now }
+    ensures { All (λ place. lies_in result (corner_at corners.now place) ≡ true) places.now }
+{
+    let mut rows = CornerRows {
+        low: i32::MAX,
+        high: i32::MIN,
+    };
+    for place in places {
+        rows = widened(rows, corners[*place as usize]);
+    }
+    rows
+}
+
+/// The rows and that of a corner, with those between.
+fn widened(rows: CornerRows, corner: Point) -> CornerRows
+    ensures low { result.low ≡ int_min rows.low corner.z }
+    ensures high { result.high ≡ int_max rows.high corner.z }
+{
+    CornerRows {
+        low: rows.low.min(corner.z),
+        high: rows.high.max(corner.z),
+    }
+}
+
+/// Whether some corner at places lies in rows.
+pub(crate) fn reach(corners: &[Point], places: &[u32], rows: CornerRows) -> bool
+    requires { ArePlacesOf corners.now places.now }
+    ensures { result ≡ list_any (λ place. lies_in rows (corner_at corners.now place)) places.now }
+{
+    places.iter().any(|place| lies_in(corners, *place, rows))
+}
+
+/// Whether the corner at a place lies in rows.
+fn lies_in(corners: &[Point], place: u32, rows: CornerRows) -> bool
+    requires { place < length corners.now }
+    ensures { result ≡ lies_in rows (corner_at corners.now place) }
+{
+    let z = corners[place as usize].z;
+    rows.low <= z && z <= rows.high
 }

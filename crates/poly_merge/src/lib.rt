@@ -6,12 +6,8 @@
 //! Corners are named by their places in the outline, from 0. Pieces run counterclockwise.
 #![tactic(auto)]
 
-mod choice;
 mod choices;
 mod edge;
-mod join;
-mod merging;
-mod rows;
 mod union;
 
-pub use merging::merge;
+pub use union::merge;

@@ -1,15 +1,19 @@
-//! Two pieces together.
+//! Two pieces together. All merges of an outline. Two pieces of a list united.
 
-ghost use Rattle.std.specs.Prelude.{◌≡◌, ◌<◌, ◌≤◌, ◌++◌, ◌+◌, ◌-◌, length, map, take, All, IfOk, OnOk};
+ghost use Rattle.std.specs.Prelude.{◌≡◌, ◌<◌, ◌≤◌, ◌++◌, ◌+◌, ◌-◌, length, map, take, All, IfOk, OnOk, None};
 ghost use Rattle.nav_base.specs.Point.{HasCoordinates};
 ghost use Rattle.nav_base.specs.Convex.{corner_at};
-ghost use Rattle.mesh_types.specs.Ears.{ArePlacesOf};
-ghost use Rattle.mesh_types.specs.Merging.{past_edge, IsPieceOf, is_admissible};
+ghost use Rattle.mesh_types.specs.Ears.{ArePlacesOf, AreEarsOf, CanBeCut, outline_area};
+ghost use Rattle.mesh_types.specs.Merging.{past_edge, IsPieceOf, is_admissible, areas_of, best_merge, merged, joined};
 ghost use Rattle.poly_merge.specs.Seen.{IsMergeOf, IsSmall, seen};
+ghost use Rattle.mesh_types.specs.Edges.{HaveEdgesOnce, KeepOutline};
+ghost use Rattle.mesh_types.specs.Words.{piece_of};
 
+use crate::choices::{all_choices, best_merge, choices_after};
 use crate::edge::{Merge, places_at};
-use mesh_types::Piece;
+use mesh_types::{Outline, Piece, Triangle};
 use nav_base::{Point, strictly_convex};
+use nav_lists::Items;
 use std::alloc::{AllocError, Global};
 
 /// Whether two pieces together are strictly convex; they have at most six corners.
@@ -80,4 +84,72 @@ fn push_past_edge(places: &mut Vec<u32>, piece: &[u32], edge: usize) -> Result<(
 {
     places.extend_from_slice(&piece[edge + 1..])?;
     places.extend_from_slice(&piece[..edge])
+}
+
+/// The pieces into which the triangles of an outline are united. Only memory can be refused.
+pub fn merge(
+    alloc: Global,
+    outline: &Outline,
+    triangles: Items<Triangle>,
+) -> Result<Items<Piece>, AllocError>
+    requires outline { CanBeCut outline.now.corners }
+    requires triangles { AreEarsOf outline.now.corners triangles }
+    ensures value { IfOk result (λ pieces. pieces ≡ merged outline.now.corners triangles) }
+    ensures pieces { IfOk result (All (IsPieceOf outline.now.corners)) }
+
+    // Together they have exactly the area that the outline runs round.
+    ensures area { IfOk result (λ pieces. areas_of outline.now.corners pieces ≡ outline_area outline.now.corners) }
+    ensures few { IfOk result (λ pieces. length pieces + 2 ≤ length outline.now.corners) }
+
+    // No two of their edges lead from the same corner to the same other. Each edge of the outline is the edge of one piece, and none leads back along it.
+    ensures once { IfOk result HaveEdgesOnce }
+    ensures outline { IfOk result (KeepOutline outline.now.corners) }
+
+    // No two pieces are left that could be united.
+    ensures done { IfOk result (λ pieces. best_merge outline.now.corners pieces ≡ None) }
+{
+    let corners = outline.corners.as_slice();
+    let mut pieces = triangular(alloc, triangles.as_slice())?;
+    let mut choices = all_choices(alloc, corners, pieces.as_slice())?;
+    while let Some(next) = best_merge(corners, pieces.as_slice(), choices.as_slice()) {
+        join(alloc, &mut pieces, next)?;
+        choices = choices_after(alloc, corners, pieces.as_slice(), choices.as_slice(), next)?;
+    }
+    Ok(Items::from_vec(pieces))
+}
+
+/// Each triangle as a piece.
+pub(crate) fn triangular(alloc: Global, triangles: &[Triangle]) -> Result<Vec<Piece>, AllocError>
+    ensures { IfOk result (λ pieces. pieces.items ≡ map piece_of triangles.now) }
+{
+    let mut pieces = Vec::with_capacity(alloc, triangles.len())?;
+    for triangle in triangles {
+        pieces.push(piece_of(alloc, triangle)?)?;
+    }
+    Ok(pieces)
+}
+
+/// A triangle as a piece.
+fn piece_of(alloc: Global, triangle: &Triangle) -> Result<Piece, AllocError>
+    ensures { IfOk result (λ piece. piece ≡ piece_of triangle.now) }
+{
+    let corners = vec![in alloc; triangle.a, triangle.b, triangle.c]?;
+    Ok(Piece {
+        corners: Items::from_vec(corners),
+    })
+}
+
+/// Puts two pieces together in the place of the first, and takes the second out of the list.
+pub(crate) fn join(alloc: Global, pieces: &mut Vec<Piece>, merge: Merge) -> Result<(), AllocError>
+    requires { IsMergeOf pieces.old.items merge }
+    ensures { OnOk result (pieces.new.items ≡ joined pieces.old.items (seen merge)) }
+{
+    let first = places_at(pieces.as_slice(), merge.first);
+    let second = places_at(pieces.as_slice(), merge.second);
+    let places = union(alloc, first, merge.edge, second, merge.facing)?;
+    pieces[merge.first] = Piece {
+        corners: Items::from_vec(places),
+    };
+    let _united = pieces.remove(merge.second);
+    Ok(())
 }

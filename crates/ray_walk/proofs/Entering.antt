@@ -25,7 +25,7 @@ use Rattle.mesh_types.specs.WholeMesh.{poly_at}
 use Rattle.mesh_types.proofs.MeshLinks.{leads}
 use Rattle.mesh_types.proofs.MeshPolygons.{placed}
 use Rattle.mesh_types.proofs.PortalEnds.{HoldsEnds, in_held}
-use Rattle.ray_walk.specs.declared.ray.Ray.{Ray}
+use Rattle.ray_walk.specs.declared.raycast.Ray.{Ray}
 use Rattle.ray_walk.specs.Walking.{IsEntered}
 
 -- ---- turns along a way

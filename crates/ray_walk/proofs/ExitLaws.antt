@@ -9,8 +9,8 @@ use Rattle.mesh_types.specs.declared.polygon.Polygon.{Polygon}
 use Rattle.mesh_types.specs.Located.{Holds}
 use Rattle.mesh_types.specs.Rays.{side_of, exit_den, IsExit, IsLeastExit}
 use Rattle.mesh_types.specs.Words.{exit_num}
-use Rattle.ray_walk.specs.declared.ray.Ray.{Ray}
-use Rattle.ray_walk.specs.declared.ray.Exit.{Exit}
+use Rattle.ray_walk.specs.declared.raycast.Ray.{Ray}
+use Rattle.ray_walk.specs.declared.raycast.Exit.{Exit}
 use Rattle.ray_walk.specs.Walking.{IsEntered, IsExitOver, IsEarliest, IsFirstBefore, IsFirstOf}
 
 -- ---- fractions a / p, b / q and c / r, whose denominators are above 0

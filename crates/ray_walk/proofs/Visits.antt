@@ -7,7 +7,7 @@ use Rattle.std.proofs.lemmas.List.Elements.{Contains-append_left, Contains-appen
 use Rattle.std.proofs.lemmas.List.Sums.{sum_by-cons}
 use Rattle.std.proofs.lemmas.Option.{slice_get_within}
 use Rattle.mesh_types.specs.declared.links.PolyRef.{PolyRef}
-use Rattle.mesh_types.specs.declared.tile.TileMesh.{TileMesh}
+use Rattle.mesh_types.specs.declared.mesh.TileMesh.{TileMesh}
 use Rattle.mesh_types.specs.declared.mesh.Mesh.{Mesh}
 use Rattle.mesh_types.specs.Soundness.{IsSound}
 use Rattle.mesh_types.proofs.MeshPolygons.{placed}

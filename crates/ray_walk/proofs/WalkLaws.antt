@@ -21,8 +21,8 @@ use Rattle.mesh_types.specs.Rays.{IsHeldAt, IsLeastExit, LeadsOn, GoesOn, IsRayW
 use Rattle.mesh_types.specs.Soundness.{IsSound}
 use Rattle.mesh_types.specs.WholeMesh.{poly_at}
 use Rattle.mesh_types.proofs.WalkChains.{held_in_coordinates}
-use Rattle.ray_walk.specs.declared.ray.Ray.{Ray}
-use Rattle.ray_walk.specs.declared.ray.Exit.{Exit}
+use Rattle.ray_walk.specs.declared.raycast.Ray.{Ray}
+use Rattle.ray_walk.specs.declared.raycast.Exit.{Exit}
 use Rattle.ray_walk.specs.Walking.{HasEnds, IsEntered, IsFirstOf, IsFirstAmong, IsOnward, links_from, is_visited, pair_cmp, wall_of}
 use Rattle.ray_walk.proofs.Entering.{IsEnteredAt, begun, next_entered}
 use Rattle.ray_walk.proofs.LeavingLinks.{leaving, leaving_listed}

@@ -12,15 +12,15 @@ use Rattle.mesh_types.specs.declared.links.Link.{Link}
 use Rattle.mesh_types.specs.declared.links.PolyRef.{PolyRef}
 use Rattle.mesh_types.specs.declared.mesh.Mesh.{Mesh}
 use Rattle.mesh_types.specs.declared.polygon.Polygon.{Polygon}
-use Rattle.mesh_types.specs.declared.tile.TileMesh.{TileMesh}
+use Rattle.mesh_types.specs.declared.mesh.TileMesh.{TileMesh}
 use Rattle.mesh_types.specs.LinkIndex.{leaving_of}
 use Rattle.mesh_types.specs.LinkOrder.{link_cmp}
 use Rattle.mesh_types.specs.Rays.{side_of, exit_den, IsExit, IsLeastExit, IsFirstExit, Meets}
 use Rattle.mesh_types.specs.Words.{exit_num}
 use Rattle.mesh_types.specs.Portals.{edge_begin, edge_end}
 use Rattle.mesh_types.specs.WholeMesh.{poly_at}
-use Rattle.ray_walk.specs.declared.ray.Ray.{Ray}
-use Rattle.ray_walk.specs.declared.ray.Exit.{Exit}
+use Rattle.ray_walk.specs.declared.raycast.Ray.{Ray}
+use Rattle.ray_walk.specs.declared.raycast.Exit.{Exit}
 
 -- the mesh has the polygon that a reference names
 pub record IsThere (mesh : Mesh) (at : PolyRef) : Type 0 where

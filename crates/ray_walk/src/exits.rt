@@ -7,7 +7,7 @@ ghost use Rattle.mesh_types.specs.Located.{Holds};
 ghost use Rattle.mesh_types.specs.Rays.{IsExit, IsLeastExit, side_of};
 ghost use Rattle.ray_walk.specs.Walking.{HasEnds, IsEntered, IsExitOver, IsFirstBefore, IsFirstOf};
 
-use crate::ray::{Exit, Ray};
+use crate::raycast::{Exit, Ray};
 use mesh_types::{Polygon, edge_ends};
 use nav_base::{Point, orient};
 

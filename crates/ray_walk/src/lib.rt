@@ -11,7 +11,6 @@
 
 mod exits;
 mod onward;
-mod ray;
-mod walking;
+mod raycast;
 
-pub use walking::walk;
+pub use raycast::walk;

@@ -9,7 +9,7 @@ ghost use Rattle.mesh_types.specs.WholeMesh.{poly_at};
 ghost use Rattle.ray_walk.specs.Walking.{Gathers, HasEnds, IsEntered, IsFirstAmong, IsFirstOf, IsOnward, IsOutward, inner_links, links_from, outer_links};
 
 use crate::exits::is_least;
-use crate::ray::{Exit, Ray};
+use crate::raycast::{Exit, Ray};
 use mesh_types::{Link, Mesh, PolyRef, Polygon, Portal, order_links};
 use nav_base::orient;
 use std::alloc::AllocError;

@@ -4,7 +4,7 @@ use Rattle.std.specs.Prelude.{if◌then◌else◌}
 use Rattle.std.proofs.lemmas.List.{map_more}
 use Rattle.nav_ground.specs.declared.field.Span.{Span}
 use Rattle.nav_ground.specs.Filters.{areas_without}
-use Rattle.span_filters.specs.declared.ledge.Passed.{Passed}
+use Rattle.span_filters.specs.declared.filters.PassedSpans.{PassedSpans}
 use Rattle.span_filters.specs.Columns.{AreSpans, IsPassed, column_beside, place_of}
 use Rattle.span_filters.specs.Looks.{ArePassed}
 use Rattle.span_filters.proofs.Neighbours.{beside_rises}
@@ -42,7 +42,7 @@ passed_later spans n place place' later passed = record {
 }
 
 -- what one span has passed each later one has passed too
-pub passed_after : (spans : List Span) (passed : Passed) (height i : ℕ) → AreSpans spans → height ≤ 255
+pub passed_after : (spans : List Span) (passed : PassedSpans) (height i : ℕ) → AreSpans spans → height ≤ 255
     → ((d : Span) → ArePassed spans passed height (get_or spans i d))
     → (j : ℕ) (d : Span) → i + 1 ≤ j → j < length spans → ArePassed spans passed height (get_or spans j d)
 passed_after spans passed height i rules' low here j d later there =

@@ -5,8 +5,8 @@ use Rattle.std.proofs.lemmas.Bool.{cases_lt, eq-eqb}
 use Rattle.std.proofs.lemmas.List.{get_or_default, drop_more}
 use Rattle.nav_ground.specs.declared.field.Span.{Span}
 use Rattle.nav_ground.specs.Column.{gaps_over}
-use Rattle.span_filters.specs.declared.gaps.Stand.{Stand}
-use Rattle.span_filters.specs.declared.gaps.Seen.{Seen}
+use Rattle.span_filters.specs.declared.gaps.AgentStand.{AgentStand}
+use Rattle.span_filters.specs.declared.gaps.GapsSeen.{GapsSeen}
 use Rattle.span_filters.specs.Columns.{AreSpans, IsLargestSpan, IsSameColumn, IsPassed, column_of, start_of, is_in}
 use Rattle.span_filters.specs.Gaps.{with_gap, seen_over}
 use Rattle.span_filters.proofs.Stacks.{IsStack}
@@ -49,7 +49,7 @@ module _ (spans : List Span) (i column : ℕ) (span : Span) (there : i < length 
       let own : top ≡ span.top = at ∙ ap (λ (s : Span). s.top) (read_at spans i other span there is' ∙ sym is) in
       subst Q (sym own) (subst P (column_more spans i column span there is same) stack).2
 
-  pub seen_more : (stand : Stand) (seen after : Seen) (floor : Option ℕ) (under over : Span) (bottom top : ℕ) → under ≡ get_or spans i under → over ≡ get_or spans i over
+  pub seen_more : (stand : AgentStand) (seen after : GapsSeen) (floor : Option ℕ) (under over : Span) (bottom top : ℕ) → under ≡ get_or spans i under → over ≡ get_or spans i over
       → bottom ≡ under.bottom → top ≡ over.top → after ≡ with_gap stand seen (record { floor = floor; ceiling = bottom })
       → seen_over stand after (gaps_over (Some top) (filter (is_in column) (drop (i + 1) spans)))
       ≡ seen_over stand seen (gaps_over floor (filter (is_in column) (drop i spans)))
@@ -57,7 +57,7 @@ module _ (spans : List Span) (i column : ℕ) (span : Span) (there : i < length 
       let rest = filter (is_in column) (drop (i + 1) spans) in
       let low : bottom ≡ span.bottom = at ∙ ap (λ (s : Span). s.bottom) (read_at spans i under span there is-under ∙ sym is) in
       let high : top ≡ span.top = at' ∙ ap (λ (s : Span). s.top) (read_at spans i over span there is-over ∙ sym is) in
-      ap (λ (now : Seen). seen_over stand now (gaps_over (Some top) rest)) made
+      ap (λ (now : GapsSeen). seen_over stand now (gaps_over (Some top) rest)) made
       ∙ ap (λ ceiling. seen_over stand (with_gap stand seen (record { floor = floor; ceiling = ceiling })) (gaps_over (Some top) rest)) low
       ∙ ap (λ f. seen_over stand (with_gap stand seen (record { floor = floor; ceiling = span.bottom })) (gaps_over (Some f) rest)) high
       ∙ sym (ap (λ (xs : List Span). seen_over stand seen (gaps_over floor xs)) (column_more spans i column span there is same))

@@ -9,8 +9,8 @@ use Rattle.std.proofs.lemmas.List.Kept.{AllPairs-filter}
 use Rattle.nav_ground.specs.declared.field.Span.{Span}
 use Rattle.nav_ground.specs.Column.{gaps_over, gaps_of}
 use Rattle.nav_ground.specs.Fields.{IsSpan, IsSpanBefore}
-use Rattle.span_filters.specs.declared.gaps.Stand.{Stand}
-use Rattle.span_filters.specs.declared.gaps.Seen.{Seen}
+use Rattle.span_filters.specs.declared.gaps.AgentStand.{AgentStand}
+use Rattle.span_filters.specs.declared.gaps.GapsSeen.{GapsSeen}
 use Rattle.span_filters.specs.Columns.{AreSpans, IsCutAt, column_of, is_in, place_of, start_of, floor_over}
 use Rattle.span_filters.specs.Gaps.{IsStand, is_open_to, with_gap, with_floor, seen_over, is_in_reach}
 use Rattle.span_filters.proofs.Neighbours.{stacked}
@@ -34,7 +34,7 @@ own_below own None = omega arith
 own_below own (Some f) = omega arith
 
 -- a gap whose ceiling is too low for the own floor shows nothing
-closed_below : (stand : Stand) (seen : Seen) (floor : Option ℕ) (ceiling : ℕ) → ceiling < stand.floor + stand.height
+closed_below : (stand : AgentStand) (seen : GapsSeen) (floor : Option ℕ) (ceiling : ℕ) → ceiling < stand.floor + stand.height
     → with_gap stand seen (record { floor = floor; ceiling = ceiling }) ≡ seen
 unfolding higher
 closed_below stand seen floor ceiling low =
@@ -44,7 +44,7 @@ closed_below stand seen floor ceiling low =
     ap (λ b. if b then option_map_or (with_floor stand seen) floor (record seen { beside_drop = true }) else seen) closed
 
 -- a gap whose floor is too high for the own ceiling shows nothing
-closed_above : (stand : Stand) (seen : Seen) (floor ceiling : ℕ) → stand.ceiling < floor + stand.height
+closed_above : (stand : AgentStand) (seen : GapsSeen) (floor ceiling : ℕ) → stand.ceiling < floor + stand.height
     → with_gap stand seen (record { floor = Some floor; ceiling = ceiling }) ≡ seen
 closed_above stand seen floor ceiling high =
     let closed : is_open_to stand (record { floor = Some floor; ceiling = ceiling }) ≡ false =
@@ -52,21 +52,21 @@ closed_above stand seen floor ceiling high =
     ap (λ b. if b then with_floor stand seen floor else seen) closed
 
 -- spans whose bottoms are too low show nothing
-pub passed_gaps : (stand : Stand) (seen : Seen) (floor : Option ℕ) (xs ys : List Span)
+pub passed_gaps : (stand : AgentStand) (seen : GapsSeen) (floor : Option ℕ) (xs ys : List Span)
     → All (λ (s : Span). s.bottom < stand.floor + stand.height) xs
     → seen_over stand seen (gaps_over floor (xs ++ ys)) ≡ seen_over stand seen (gaps_over (floor_over floor xs) ys)
 passed_gaps stand seen floor [] ys each = refl
 passed_gaps stand seen floor (s ∷ xs) ys each =
     let P = λ (t : Span). t.bottom < stand.floor + stand.height in
-    ap (λ (now : Seen). seen_over stand now (gaps_over (Some s.top) (xs ++ ys))) (closed_below stand seen floor s.bottom (All-head P s xs each))
+    ap (λ (now : GapsSeen). seen_over stand now (gaps_over (Some s.top) (xs ++ ys))) (closed_below stand seen floor s.bottom (All-head P s xs each))
     ∙ passed_gaps stand seen (Some s.top) xs ys (All-tail P s xs each)
 
 -- spans over a floor that is too high show nothing
-pub gaps_too_high : (stand : Stand) (seen : Seen) (floor : ℕ) (xs : List Span) → IsStack (Some floor) xs → stand.ceiling < floor + stand.height
+pub gaps_too_high : (stand : AgentStand) (seen : GapsSeen) (floor : ℕ) (xs : List Span) → IsStack (Some floor) xs → stand.ceiling < floor + stand.height
     → seen_over stand seen (gaps_over (Some floor) xs) ≡ seen
 gaps_too_high stand seen floor [] stack high = closed_above stand seen floor 65535 high
 gaps_too_high stand seen floor (s ∷ xs) stack high =
-    ap (λ (now : Seen). seen_over stand now (gaps_over (Some s.top) xs)) (closed_above stand seen floor s.bottom high)
+    ap (λ (now : GapsSeen). seen_over stand now (gaps_over (Some s.top) xs)) (closed_above stand seen floor s.bottom high)
     ∙ gaps_too_high stand seen s.top xs stack.2 (omega (arith, high, stack.0, stack.1))
 
 -- the rest of a stack
@@ -114,7 +114,7 @@ floor_small floor (s ∷ xs) small each =
 cut : {A : Type 0} (p : A → Bool) (n : ℕ) (xs : List A) → filter p (take n xs) ++ filter p (drop n xs) ≡ filter p xs
 cut p n xs = sym (filter-append p (take n xs) (drop n xs)) ∙ ap (filter p) (take-append-drop n xs)
 
-module _ (stand : Stand) (spans : List Span) (n column : ℕ) (rules' : AreSpans spans) (at : IsStand stand)
+module _ (stand : AgentStand) (spans : List Span) (n column : ℕ) (rules' : AreSpans spans) (at : IsStand stand)
     (first : IsCutAt spans n (place_of column (stand.floor + stand.height))) where
   -- the spans of the column before the first one are too low
   low_before : All (λ (s : Span). s.bottom < stand.floor + stand.height) (filter (is_in column) (take n spans))
@@ -143,7 +143,7 @@ module _ (stand : Stand) (spans : List Span) (n column : ℕ) (rules' : AreSpans
         subst P (sym under) (rest_of_stack None (filter (is_in column) (take n spans)) (filter (is_in column) (drop n spans))
         (subst Q (sym (cut (is_in column) n spans)) (column_stack spans column rules')))
 
-    pub seen_from : (seen : Seen) → seen_over stand seen (gaps_over floor (filter (is_in column) (drop n spans)))
+    pub seen_from : (seen : GapsSeen) → seen_over stand seen (gaps_over floor (filter (is_in column) (drop n spans)))
         ≡ seen_over stand seen (gaps_of (filter (is_in column) spans))
     seen_from seen =
         ap (λ f. seen_over stand seen (gaps_over f (filter (is_in column) (drop n spans)))) under
@@ -157,7 +157,7 @@ module _ (stand : Stand) (spans : List Span) (n column : ℕ) (rules' : AreSpans
         (All-filter (is_in column) (IsSpan 1024 1024) (take n spans) (All-take (IsSpan 1024 1024) n spans rules'.each)))
 
 -- from a floor that is out of reach on nothing more is seen
-pub past_reach : (stand : Stand) (seen : Seen) (floor : Option ℕ) (xs : List Span) → is_in_reach stand floor ≡ false → IsStack floor xs
+pub past_reach : (stand : AgentStand) (seen : GapsSeen) (floor : Option ℕ) (xs : List Span) → is_in_reach stand floor ≡ false → IsStack floor xs
     → with_gap stand seen (record { floor = floor; ceiling = 65535 }) ≡ seen_over stand seen (gaps_over floor xs)
 past_reach stand seen None xs far stack = absurd (both_ways true far refl)
 past_reach stand seen (Some floor) xs far stack =

@@ -9,12 +9,12 @@ use Rattle.nav_ground.specs.declared.field.Span.{Span}
 use Rattle.nav_ground.specs.declared.field.Field.{Field}
 use Rattle.nav_ground.specs.Column.{Gap, ceiling_of}
 use Rattle.nav_ground.specs.Filters.{is_at_edge, is_drop, is_near, near_floors, is_steep, gaps_beside, open_gaps, is_ledge}
-use Rattle.span_filters.specs.declared.gaps.Stand.{Stand}
-use Rattle.span_filters.specs.declared.gaps.Seen.{Seen}
+use Rattle.span_filters.specs.declared.gaps.AgentStand.{AgentStand}
+use Rattle.span_filters.specs.declared.gaps.GapsSeen.{GapsSeen}
 use Rattle.span_filters.specs.Gaps.{is_open_to, with_floor, seen_over, seen_at_first, shows_ledge}
 
 -- one more open gap
-abbrev with_open : Stand → Seen → Gap → Seen
+abbrev with_open : AgentStand → GapsSeen → Gap → GapsSeen
 with_open stand seen gap = option_map_or (with_floor stand seen) gap.floor (record seen { beside_drop = true })
 
 -- the floors of gaps
@@ -22,7 +22,7 @@ abbrev floors_of : List Gap → List ℕ
 floors_of gaps = filter_map (λ (gap : Gap). gap.floor) gaps
 
 -- what is seen of gaps is what is seen of the open ones
-of_open : (stand : Stand) (seen : Seen) (gaps : List Gap) → seen_over stand seen gaps ≡ fold (with_open stand) seen (filter (is_open_to stand) gaps)
+of_open : (stand : AgentStand) (seen : GapsSeen) (gaps : List Gap) → seen_over stand seen gaps ≡ fold (with_open stand) seen (filter (is_open_to stand) gaps)
 of_open stand seen [] = refl
 of_open stand seen (gap ∷ gaps) =
     let taken = of_open stand (with_open stand seen gap) gaps in
@@ -50,45 +50,45 @@ not_less a b = elim (cases_lt b a) [
 ]
 
 -- what is seen of one more floor, by its two tests
-of_floor : Bool → Bool → Seen → ℕ → Seen
+of_floor : Bool → Bool → GapsSeen → ℕ → GapsSeen
 of_floor below near seen floor =
     if below then record seen { beside_drop = true }
     else (if near then record seen { least = min seen.least floor; greatest = max seen.greatest floor } else seen)
 
-floor_drop : (below near : Bool) (seen : Seen) (floor : ℕ) → (of_floor below near seen floor).beside_drop ≡ (seen.beside_drop || below)
+floor_drop : (below near : Bool) (seen : GapsSeen) (floor : ℕ) → (of_floor below near seen floor).beside_drop ≡ (seen.beside_drop || below)
 unfolding of_floor
 floor_drop true near seen floor = sym (or_true seen.beside_drop)
 floor_drop false true seen floor = sym (or_false seen.beside_drop)
 floor_drop false false seen floor = sym (or_false seen.beside_drop)
 
-floor_least : (below near : Bool) (seen : Seen) (floor : ℕ)
+floor_least : (below near : Bool) (seen : GapsSeen) (floor : ℕ)
     → (of_floor below near seen floor).least ≡ (if (not below && near) then min seen.least floor else seen.least)
 unfolding of_floor
 floor_least true near seen floor = refl
 floor_least false true seen floor = refl
 floor_least false false seen floor = refl
 
-floor_greatest : (below near : Bool) (seen : Seen) (floor : ℕ)
+floor_greatest : (below near : Bool) (seen : GapsSeen) (floor : ℕ)
     → (of_floor below near seen floor).greatest ≡ (if (not below && near) then max seen.greatest floor else seen.greatest)
 unfolding of_floor
 floor_greatest true near seen floor = refl
 floor_greatest false true seen floor = refl
 floor_greatest false false seen floor = refl
 
-module _ (stand : Stand) where
+module _ (stand : AgentStand) where
   -- a floor within the climb of the own one
   is_close : ℕ → Bool
   unfolding of_floor
   is_close floor = is_near stand.climb stand.floor floor
 
   -- a drop among open gaps is seen
-  gap_drop : (seen : Seen) (floor : Option ℕ) → (option_map_or (with_floor stand seen) floor (record seen { beside_drop = true })).beside_drop
+  gap_drop : (seen : GapsSeen) (floor : Option ℕ) → (option_map_or (with_floor stand seen) floor (record seen { beside_drop = true })).beside_drop
       ≡ (seen.beside_drop || option_map_or (λ f. nat_lt (f + stand.climb) stand.floor) floor true)
   unfolding of_floor
   gap_drop seen None = sym (or_true seen.beside_drop)
   gap_drop seen (Some f) = floor_drop (nat_lt (f + stand.climb) stand.floor) (nat_le f (stand.floor + stand.climb)) seen f
 
-  drop_seen : (seen : Seen) (gaps : List Gap)
+  drop_seen : (seen : GapsSeen) (gaps : List Gap)
       → (fold (with_open stand) seen gaps).beside_drop ≡ (seen.beside_drop || list_any (is_drop stand.climb stand.floor) gaps)
   drop_seen seen [] = sym (or_false seen.beside_drop)
   drop_seen seen (gap ∷ gaps) = drop_seen (with_open stand seen gap) gaps
@@ -104,7 +104,7 @@ module _ (stand : Stand) where
   close_is floor = ap (λ b. b && nat_le floor (stand.floor + stand.climb)) (sym (not_less stand.floor (floor + stand.climb)))
 
   -- the least and the greatest that are seen are those of the near floors
-  gap_least : (seen : Seen) (floor : Option ℕ) (rest : List ℕ)
+  gap_least : (seen : GapsSeen) (floor : Option ℕ) (rest : List ℕ)
       → fold min (option_map_or (with_floor stand seen) floor (record seen { beside_drop = true })).least (filter (is_near stand.climb stand.floor) rest)
       ≡ fold min seen.least (filter (is_near stand.climb stand.floor) (cons_option floor rest))
   unfolding of_floor
@@ -115,7 +115,7 @@ module _ (stand : Stand) where
       ∙ ap (λ b. if b then min seen.least f else seen.least) (close_is f))
       ∙ one_more min seen.least f (filter (is_near stand.climb stand.floor) rest) (is_near stand.climb stand.floor f)
 
-  gap_greatest : (seen : Seen) (floor : Option ℕ) (rest : List ℕ)
+  gap_greatest : (seen : GapsSeen) (floor : Option ℕ) (rest : List ℕ)
       → fold max (option_map_or (with_floor stand seen) floor (record seen { beside_drop = true })).greatest (filter (is_near stand.climb stand.floor) rest)
       ≡ fold max seen.greatest (filter (is_near stand.climb stand.floor) (cons_option floor rest))
   unfolding of_floor
@@ -126,12 +126,12 @@ module _ (stand : Stand) where
       ∙ ap (λ b. if b then max seen.greatest f else seen.greatest) (close_is f))
       ∙ one_more max seen.greatest f (filter (is_near stand.climb stand.floor) rest) (is_near stand.climb stand.floor f)
 
-  least_seen : (seen : Seen) (gaps : List Gap)
+  least_seen : (seen : GapsSeen) (gaps : List Gap)
       → (fold (with_open stand) seen gaps).least ≡ fold min seen.least (filter (is_near stand.climb stand.floor) (floors_of gaps))
   least_seen seen [] = refl
   least_seen seen (gap ∷ gaps) = least_seen (with_open stand seen gap) gaps ∙ gap_least seen gap.floor (floors_of gaps)
 
-  greatest_seen : (seen : Seen) (gaps : List Gap)
+  greatest_seen : (seen : GapsSeen) (gaps : List Gap)
       → (fold (with_open stand) seen gaps).greatest ≡ fold max seen.greatest (filter (is_near stand.climb stand.floor) (floors_of gaps))
   greatest_seen seen [] = refl
   greatest_seen seen (gap ∷ gaps) = greatest_seen (with_open stand seen gap) gaps ∙ gap_greatest seen gap.floor (floors_of gaps)
@@ -190,9 +190,9 @@ least_of_more : (a : ℕ) (xs : List ℕ) → fold min a xs ≤ a
 least_of_more a [] = omega arith
 least_of_more a (x ∷ xs) = let rest = least_of_more (min a x) xs in omega (arith, rest)
 
-pub least_falls : (stand : Stand) (seen now : Seen) (gaps : List Gap) → now ≡ seen_over stand seen gaps → now.least ≤ seen.least
+pub least_falls : (stand : AgentStand) (seen now : GapsSeen) (gaps : List Gap) → now ≡ seen_over stand seen gaps → now.least ≤ seen.least
 least_falls stand seen now gaps is =
-    let least = ap (λ (s : Seen). s.least) (is ∙ of_open stand seen gaps) ∙ least_seen stand seen (filter (is_open_to stand) gaps) in
+    let least = ap (λ (s : GapsSeen). s.least) (is ∙ of_open stand seen gaps) ∙ least_seen stand seen (filter (is_open_to stand) gaps) in
     omega (arith, least, least_of_more seen.least (filter (is_near stand.climb stand.floor) (floors_of (filter (is_open_to stand) gaps))))
 
 -- a span at the field's edge is a ledge
@@ -211,7 +211,7 @@ ledge_not_at_edge field agent span inside =
     let around = open_gaps agent.height field.spans span in
     ap (λ b. b || list_any (is_drop agent.climb span.top) around || is_steep agent.climb (near_floors agent.climb span.top around)) (sym inside)
 
-verdict_of : (climb floor : ℕ) (gaps : List Gap) (seen : Seen) → seen.beside_drop ≡ list_any (is_drop climb floor) gaps
+verdict_of : (climb floor : ℕ) (gaps : List Gap) (seen : GapsSeen) → seen.beside_drop ≡ list_any (is_drop climb floor) gaps
     → seen.least ≡ fold min floor (filter (is_near climb floor) (floors_of gaps))
     → seen.greatest ≡ fold max floor (filter (is_near climb floor) (floors_of gaps))
     → shows_ledge seen climb
@@ -223,31 +223,31 @@ verdict_of climb floor gaps seen drops least greatest =
     ∙ ap (λ n. list_any (is_drop climb floor) gaps || nat_lt (fold min floor near + climb) n) greatest
     ∙ ap (λ b. list_any (is_drop climb floor) gaps || b) (sym (steep_is climb floor near))
 
-pub ledge_seen : (field : Field) (agent : Agent) (span : Span) (stand : Stand) (seen : Seen) → is_at_edge field span ≡ false
+pub ledge_seen : (field : Field) (agent : Agent) (span : Span) (stand : AgentStand) (seen : GapsSeen) → is_at_edge field span ≡ false
     → stand ≡ record { floor = span.top; ceiling = ceiling_of field.spans span; height = agent.height; climb = agent.climb }
     → seen ≡ seen_over stand (seen_at_first stand) (gaps_beside field.spans span)
     → shows_ledge seen agent.climb ≡ is_ledge field agent span
 ledge_seen field agent span stand seen inside at is =
-    let own : Stand = record { floor = span.top; ceiling = ceiling_of field.spans span; height = agent.height; climb = agent.climb } in
+    let own : AgentStand = record { floor = span.top; ceiling = ceiling_of field.spans span; height = agent.height; climb = agent.climb } in
     let around = open_gaps agent.height field.spans span in
     let now : seen ≡ fold (with_open own) (seen_at_first own) around =
-    is ∙ ap (λ (s : Stand). seen_over s (seen_at_first s) (gaps_beside field.spans span)) at
+    is ∙ ap (λ (s : AgentStand). seen_over s (seen_at_first s) (gaps_beside field.spans span)) at
     ∙ of_open own (seen_at_first own) (gaps_beside field.spans span) in
     verdict_of agent.climb span.top around seen
-    (ap (λ (s : Seen). s.beside_drop) now ∙ drop_seen own (seen_at_first own) around)
-    (ap (λ (s : Seen). s.least) now ∙ least_seen own (seen_at_first own) around)
-    (ap (λ (s : Seen). s.greatest) now ∙ greatest_seen own (seen_at_first own) around)
+    (ap (λ (s : GapsSeen). s.beside_drop) now ∙ drop_seen own (seen_at_first own) around)
+    (ap (λ (s : GapsSeen). s.least) now ∙ least_seen own (seen_at_first own) around)
+    (ap (λ (s : GapsSeen). s.greatest) now ∙ greatest_seen own (seen_at_first own) around)
     ∙ ledge_not_at_edge field agent span inside
 
 -- the same for a span that is found at its place in a list of the field's spans
-pub ledge_found : (field : Field) (agent : Agent) (spans : List Span) (span here : Span) (ceiling : ℕ) (seen : Seen)
+pub ledge_found : (field : Field) (agent : Agent) (spans : List Span) (span here : Span) (ceiling : ℕ) (seen : GapsSeen)
     → spans ≡ field.spans → span ≡ here → is_at_edge field span ≡ false → ceiling ≡ ceiling_of spans span
-    → ◌≡◌ {A = Seen} seen (seen_over (record { floor = span.top; ceiling = ceiling; height = agent.height; climb = agent.climb })
+    → ◌≡◌ {A = GapsSeen} seen (seen_over (record { floor = span.top; ceiling = ceiling; height = agent.height; climb = agent.climb })
     (record { beside_drop = false; least = span.top; greatest = span.top }) (gaps_beside spans span))
     → shows_ledge seen agent.climb ≡ is_ledge field agent here
 ledge_found field agent spans span here ceiling seen same at inside under is =
-    let stand : Stand = record { floor = span.top; ceiling = ceiling; height = agent.height; climb = agent.climb } in
-    let own : Stand = record { floor = span.top; ceiling = ceiling_of field.spans span; height = agent.height; climb = agent.climb } in
+    let stand : AgentStand = record { floor = span.top; ceiling = ceiling; height = agent.height; climb = agent.climb } in
+    let own : AgentStand = record { floor = span.top; ceiling = ceiling_of field.spans span; height = agent.height; climb = agent.climb } in
     let stands : stand ≡ own =
     ap (λ n. record { floor = span.top; ceiling = n; height = agent.height; climb = agent.climb })
     (under ∙ ap (λ (xs : List Span). ceiling_of xs span) same) in

@@ -1,16 +1,22 @@
-//! The filters that look at one column alone, and all filters one after the other.
+//! The filters that look at one column alone, and all filters one after the other. The filter of ledges.
 
-ghost use Rattle.std.specs.Prelude.{◌≡◌, ◌<◌, IfOk, IfSome, length};
+ghost use Rattle.std.specs.Prelude.{◌≡◌, ◌<◌, IfOk, IfSome, length, ◌+◌, ◌≤◌, filter, slice_index_or, if◌then◌else◌};
 ghost use Rattle.nav_ground.specs.declared.field.Span.{Span};
 ghost use Rattle.nav_ground.specs.Fields.{IsField, AreAreas};
 ghost use Rattle.nav_ground.specs.Limits.{IsAgent};
-ghost use Rattle.nav_ground.specs.Filters.{low_hanging_areas, low_ceiling_areas, filtered_areas};
-ghost use Rattle.span_filters.specs.Columns.{IsLargestSpan};
+ghost use Rattle.nav_ground.specs.Directions.{number};
+ghost use Rattle.nav_ground.specs.Filters.{low_hanging_areas, low_ceiling_areas, filtered_areas, ledge_areas, is_ledge, is_at_edge, gaps_beside};
+ghost use Rattle.span_filters.specs.Columns.{IsLargestSpan, AreSpans, IsPassed, IsCutAt, column_beside, place_of, is_in};
 ghost use Rattle.span_filters.specs.Areas.{area_hung};
+ghost use Rattle.nav_ground.specs.Column.{gaps_of, column_toward};
+ghost use Rattle.span_filters.specs.Gaps.{IsStand, seen_over, seen_at_first};
+ghost use Rattle.span_filters.specs.Looks.{ArePassed};
 
-use crate::columns::{ceiling_of, span_below};
-use crate::ledge::ledges;
-use nav_ground::{Agent, Field, SmallSpan};
+use crate::gaps::{
+    AgentStand, GapsSeen, OPEN_SKY, ceiling_of, column_beside, column_of, floor_over, is_in_reach,
+    pass, place_of, shows_ledge, span_below, with_gap,
+};
+use nav_ground::{Agent, Direction, Field, PackedSpan};
 use std::alloc::{AllocError, Global};
 
 /// The areas of the spans, where each span with area 0 takes the area of the span directly below it if its top is at most the agent's
@@ -31,7 +37,7 @@ pub fn low_hanging(alloc: Global, field: &Field, agent: &Agent) -> Result<Vec<u3
 }
 
 /// The area of a span over the one directly below it.
-fn area_hung(climb: u32, span: &SmallSpan, below: Option<SmallSpan>) -> u32
+fn area_hung(climb: u32, span: &PackedSpan, below: Option<PackedSpan>) -> u32
     requires climb { climb < 256 }
     requires span { IsLargestSpan span.now }
     requires below { IfSome below IsLargestSpan }
@@ -87,4 +93,170 @@ pub fn filtered(alloc: Global, field: &Field, agent: &Agent) -> Result<Vec<u32>,
         ledges(alloc, field, hung.as_slice(), agent)?
     };
     low_ceilings(alloc, field, left.as_slice(), agent)
+}
+
+/// How many spans of the list lie before what a span can see of the neighbouring columns: in columns before them, or with their bottoms
+/// too low for a gap under them to be open. As spans are gone through in order these numbers only rise, so all of them together pass
+/// each span once a direction.
+#[derive(Clone, Copy)]
+pub struct PassedSpans {
+    pub left: usize,
+    pub above: usize,
+    pub right: usize,
+    pub below: usize,
+}
+
+/// The areas of the spans, with 0 for each span that is a ledge: at the field's edge, or beside a drop of more than the climb, or where
+/// the floors within reach around differ by more than the climb. It stands in place of Recast's ledge filter, with a rule of our own.
+pub fn ledges(
+    alloc: Global,
+    field: &Field,
+    areas: &[u32],
+    agent: &Agent,
+) -> Result<Vec<u32>, AllocError>
+    requires field { IsField field.now }
+    requires agent { IsAgent agent.now }
+    requires areas { AreAreas areas.now }
+    requires beside { length areas.now ≡ length field.now.spans }
+    ensures { IfOk result (λ left. left.items ≡ ledge_areas field.now areas.now agent.now) }
+{
+    let mut passed = PassedSpans {
+        left: 0,
+        above: 0,
+        right: 0,
+        below: 0,
+    };
+    let mut left = Vec::with_capacity(alloc, areas.len())?;
+    for (i, area) in areas.iter().enumerate() {
+        left.push(area_left(field, agent, &mut passed, i, *area))?;
+    }
+    Ok(left)
+}
+
+/// The area that a span is left with.
+fn area_left(field: &Field, agent: &Agent, passed: &mut PassedSpans, i: usize, area: u32) -> u32
+    requires field { IsField field.now }
+    requires agent { IsAgent agent.now }
+    requires there { i < length field.now.spans }
+    requires passed { (d : Span) → ArePassed field.now.spans passed.old agent.now.height (slice_index_or field.now.spans i d) }
+    ensures area { (d : Span) → result ≡ (if is_ledge field.now agent.now (slice_index_or field.now.spans i d) then 0 else area) }
+    ensures passed { (d : Span) → ArePassed field.now.spans passed.new agent.now.height (slice_index_or field.now.spans i d) }
+{
+    if area == 0 {
+        return 0;
+    }
+    if is_ledge(field, agent, passed, i) {
+        0
+    } else {
+        area
+    }
+}
+
+/// Whether a span is a ledge.
+fn is_ledge(field: &Field, agent: &Agent, passed: &mut PassedSpans, i: usize) -> bool
+    requires field { IsField field.now }
+    requires agent { IsAgent agent.now }
+    requires there { i < length field.now.spans }
+    requires passed { (d : Span) → ArePassed field.now.spans passed.old agent.now.height (slice_index_or field.now.spans i d) }
+    ensures ledge { (d : Span) → result ≡ Rattle.nav_ground.specs.Filters.is_ledge field.now agent.now (slice_index_or field.now.spans i d) }
+    ensures passed { (d : Span) → ArePassed field.now.spans passed.new agent.now.height (slice_index_or field.now.spans i d) }
+{
+    let spans = field.spans.as_slice();
+    let span = &spans[i];
+    if is_at_edge(field, span) {
+        return true;
+    }
+    let stand = AgentStand {
+        floor: span.top(),
+        ceiling: ceiling_of(spans, i),
+        height: agent.height,
+        climb: agent.climb,
+    };
+    let seen = look_around(&stand, spans, passed, span);
+    shows_ledge(&seen, agent.climb)
+}
+
+/// Whether one of the columns beside a span's lies outside the field.
+fn is_at_edge(field: &Field, span: &PackedSpan) -> bool
+    requires { IsLargestSpan span.now }
+    ensures { result ≡ is_at_edge field.now span.now }
+{
+    span.x() == 0 || span.z() == 0 || span.x() + 1 == field.width || span.z() + 1 == field.depth
+}
+
+/// What a span sees of the gaps of the four columns beside its own.
+fn look_around(
+    stand: &AgentStand,
+    spans: &[PackedSpan],
+    passed: &mut PassedSpans,
+    span: &PackedSpan,
+) -> GapsSeen
+    requires stand { IsStand stand.now }
+    requires spans { AreSpans spans.now }
+    requires span { IsLargestSpan span.now }
+    requires floor { stand.now.floor ≡ span.now.top }
+    requires passed { ArePassed spans.now passed.old stand.now.height span.now }
+    ensures seen { result ≡ seen_over stand.now (seen_at_first stand.now) (gaps_beside spans.now span.now) }
+    ensures least { result.least ≤ stand.now.floor }
+    ensures passed { ArePassed spans.now passed.new stand.now.height span.now }
+{
+    let own = GapsSeen {
+        beside_drop: false,
+        least: stand.floor,
+        greatest: stand.floor,
+    };
+    let post = LedgeView { stand, spans, span };
+    let one = look_toward(Direction::Left, post, &mut passed.left, own);
+    let two = look_toward(Direction::Above, post, &mut passed.above, one);
+    let three = look_toward(Direction::Right, post, &mut passed.right, two);
+    look_toward(Direction::Below, post, &mut passed.below, three)
+}
+
+/// Where gaps are looked at from: a span of a field, and the agent that would stand on it.
+#[derive(Clone, Copy, Drop)]
+struct LedgeView<'a> {
+    stand: &'a AgentStand,
+    spans: &'a [PackedSpan],
+    span: &'a PackedSpan,
+}
+
+/// What is seen once the gaps of the column beside a span's in a direction are looked at too.
+fn look_toward(dir: Direction, post: LedgeView<'_>, passed: &mut usize, seen: GapsSeen) -> GapsSeen
+    requires stand { IsStand post.stand.now }
+    requires spans { AreSpans post.spans.now }
+    requires span { IsLargestSpan post.span.now }
+    requires passed { IsPassed post.spans.now passed.old (place_of (column_beside (number dir) post.span.now) (post.stand.now.floor + post.stand.now.height)) }
+    ensures seen { result ≡ seen_over post.entry.stand.now seen (gaps_of (column_toward (number dir) post.entry.spans.now post.entry.span.now)) }
+    ensures passed { IsPassed post.entry.spans.now passed.new
+        (place_of (column_beside (number dir) post.entry.span.now) (post.entry.stand.now.floor + post.entry.stand.now.height)) }
+{
+    let LedgeView { stand, spans, span } = post;
+    let column = column_beside(dir, span);
+    *passed = pass(spans, *passed, place_of(column, stand.floor + stand.height));
+    look(stand, spans, *passed, column, seen)
+}
+
+/// What is seen once the gaps of a column are looked at too, where the first span that begins high enough for an open gap is known.
+/// Gaps are looked at from the bottom up until their floors are too high.
+fn look(
+    stand: &AgentStand,
+    spans: &[PackedSpan],
+    first: usize,
+    column: u32,
+    seen: GapsSeen,
+) -> GapsSeen
+    requires stand { IsStand stand.now }
+    requires spans { AreSpans spans.now }
+    requires first { IsCutAt spans.now first (place_of column (stand.now.floor + stand.now.height)) }
+    ensures { result ≡ seen_over stand.now seen (gaps_of (filter (is_in column) spans.now)) }
+{
+    let mut seen = seen;
+    let mut floor = floor_over(spans, first, column);
+    let mut i = first;
+    while i < spans.len() && column_of(&spans[i]) == column && is_in_reach(stand, floor) {
+        seen = with_gap(stand, seen, floor, spans[i].bottom());
+        floor = Some(spans[i].top());
+        i += 1;
+    }
+    with_gap(stand, seen, floor, OPEN_SKY)
 }

@@ -18,10 +18,10 @@ use Rattle.nav_ground.specs.Fields.{IsSpan, IsSpanBefore, IsField}
 use Rattle.nav_text.specs.declared.fault.FaultKind.{FaultKind}
 use Rattle.nav_text.specs.Forms.{line_text}
 use Rattle.nav_text.specs.Lines.{lines, text_of}
-use Rattle.nav_text.specs.Reading.{Verdict, Goes, Ends, lead}
+use Rattle.nav_text.specs.Reading.{Verdict, Goes, HopEnds, lead}
 use Rattle.nav_text.proofs.ReadingLaws.{EndsAt, read_takes, leads_keep}
-use Rattle.span_text.specs.declared.header.TextForm.{TextForm}
-use Rattle.span_text.specs.declared.header.TextForm.TheVariants.{First, Second}
+use Rattle.span_text.specs.declared.front.TextForm.{TextForm}
+use Rattle.span_text.specs.declared.front.TextForm.TheVariants.{First, Second}
 use Rattle.span_text.specs.declared.body.BodyLine.{BodyLine}
 use Rattle.span_text.specs.declared.body.BodyLine.TheVariants as said
 use Rattle.span_text.specs.FieldText.{Cost, RiseAbove, with_cost, costs_of, mesh_text, nav_text, clear_lines, header_lines, cost_text, span_text, IsFieldText}
@@ -313,7 +313,7 @@ field_goes setting before spans next those line any few has e =
 abbrev IsWhole : Value → List (List ℕ) → Type 0
 IsWhole value those = IsSetting value.0 × IsField value.1 × IsFieldText (text_of those) value.0 value.1
 
-lead_never_ends : {A V : Type 0} (told : Result A FaultKind) (next : A → Place) (value : V) → ◌≡◌ {A = Verdict Place V} (lead told next) (Ends value) → ⊥
+lead_never_ends : {A V : Type 0} (told : Result A FaultKind) (next : A → Place) (value : V) → ◌≡◌ {A = Verdict Place V} (lead told next) (HopEnds value) → ⊥
 lead_never_ends (Ok x) next value e = cc
 lead_never_ends (Err kind) next value e = cc
 
@@ -343,7 +343,7 @@ whole_body setting before spans those line few has end = (
 )
 
 body_ends : (setting : Setting) (before : ℕ) (spans : List Span) (value : Value) (those : List (List ℕ)) (line : List ℕ) → length spans ≤ 2000000 → HasSaid setting before spans those
-    → (told : BodyLine) → Says setting.width setting.depth before (length spans) (last_of spans) line told → body_verdict setting before spans told ≡ Ends value → IsWhole value (those ++ line ∷ [])
+    → (told : BodyLine) → Says setting.width setting.depth before (length spans) (last_of spans) line told → body_verdict setting before spans told ≡ HopEnds value → IsWhole value (those ++ line ∷ [])
 body_ends setting before spans value those line few has (said.Cost area cost) says e = absurd cc
 body_ends setting before spans value those line few has (said.Spans span) says e = absurd cc
 body_ends setting before spans value those line few has said.End says e =
@@ -356,9 +356,9 @@ pub record EndsBehind {V : Type 0} (body : BodyVerdict V) (place : Place) (value
   pub before : ℕ
   pub spans : List Span
   pub at : place ≡ AtBody setting before spans
-  pub ends : body setting before spans line ≡ Ends value
+  pub ends : body setting before spans line ≡ HopEnds value
 
-pub ends_behind : {V : Type 0} (body : BodyVerdict V) (place : Place) (value : V) (line : List ℕ) → headed body place line ≡ Ends value → EndsBehind body place value line
+pub ends_behind : {V : Type 0} (body : BodyVerdict V) (place : Place) (value : V) (line : List ℕ) → headed body place line ≡ HopEnds value → EndsBehind body place value line
 ends_behind body AtNav value line e = absurd (lead_never_ends (nav_line line) (λ form. AtSize form) value e)
 ends_behind body (AtSize form) value line e = absurd (lead_never_ends (size_line line) (λ size. AtTile form size.0 size.1) value e)
 ends_behind body (AtTile form width depth) value line e = absurd (lead_never_ends (limited (codes "tile") 4 128 line) (λ tile. AtAgent form width depth tile) value e)
@@ -372,7 +372,7 @@ ends_behind body (AtClear setting) value line e =
     absurd (lead_never_ends (clear_line setting.tile setting.agent.radius line) (λ clear. AtBody (record setting { clear = clear }) 0 []) value e)
 ends_behind body (AtBody setting before spans) value line e = record { setting = setting; before = before; spans = spans; at = refl; ends = e }
 
-place_ends : (place : Place) (value : Value) (those : List (List ℕ)) (line : List ℕ) → Said place those → headed field_body place line ≡ Ends value → IsWhole value (those ++ line ∷ [])
+place_ends : (place : Place) (value : Value) (those : List (List ℕ)) (line : List ℕ) → Said place those → headed field_body place line ≡ HopEnds value → IsWhole value (those ++ line ∷ [])
 place_ends place value those line h e =
     let told = ends_behind field_body place value line e in
     let setting = told.setting in

@@ -13,7 +13,7 @@ use Rattle.nav_text.specs.declared.fault.TextFault.{TextFault}
 use Rattle.nav_text.specs.Faults.{fault_at}
 use Rattle.nav_text.specs.Lines.{lines, text_of, is_line, IsPast}
 use Rattle.nav_text.specs.Forms.{has_word}
-use Rattle.nav_text.specs.Reading.{Verdict, Goes, Ends, Leads, read, read_on, IsFirstFault, lead}
+use Rattle.nav_text.specs.Reading.{Verdict, Goes, HopEnds, Leads, read, read_on, IsFirstFault, lead}
 use Rattle.nav_text.proofs.LineLaws.{lines_again, lines_of_first, IsPast_next, IsPast-used}
 use Rattle.nav_text.proofs.ReadingLaws.{EndsAt, read_takes, read_count, leads_keep, leads_read, first_fault}
 use Rattle.nav_text.proofs.Inversions.{ok_is}
@@ -22,8 +22,8 @@ use Rattle.span_text.specs.declared.body.BodyLine.TheVariants.{Cost, Spans, End,
 use Rattle.span_text.specs.declared.front.HeaderText.{HeaderText}
 use Rattle.span_text.specs.declared.field.FieldRefusal.{FieldRefusal}
 use Rattle.span_text.specs.declared.field.FieldRefusal.TheVariants as refusals
-use Rattle.span_text.specs.declared.header.TextForm.{TextForm}
-use Rattle.span_text.specs.declared.header.TextForm.TheVariants.{First, Second}
+use Rattle.span_text.specs.declared.front.TextForm.{TextForm}
+use Rattle.span_text.specs.declared.front.TextForm.TheVariants.{First, Second}
 use Rattle.span_text.specs.FieldText as said
 use Rattle.span_text.specs.FieldText.{RiseAbove, header_lines, cost_text, span_text, all_header_lines, IsHeaderText, GoesOn}
 use Rattle.span_text.specs.Header.{nav_line, size_line, limited, agent_line, mesh_line, clear_line}
@@ -86,7 +86,7 @@ kept_goes place next those line kept e =
     (header_goes (λ spans. spans ≡ []) header_body header_body_goes place next those line kept.1 kept.0 e, no_spans place next line kept.1 e)
 
 -- the line that ends a header has another first word than `cost`
-costs_end : (setting value : Setting) (before : ℕ) (spans : List Span) (told : BodyLine) → costs_verdict setting before spans told ≡ Ends value → setting ≡ value
+costs_end : (setting value : Setting) (before : ℕ) (spans : List Span) (told : BodyLine) → costs_verdict setting before spans told ≡ HopEnds value → setting ≡ value
 costs_end setting value before spans (Cost area cost) e = absurd cc
 costs_end setting value before spans (Spans span) e = cc
 costs_end setting value before spans End e = cc
@@ -203,7 +203,7 @@ costs_cut bytes rest setting before count has none = has.reads ∙ ap (read head
 
 -- the line that ends the header
 pub costs_done : (bytes rest : List ℕ) (setting : Setting) (before count : ℕ) (line after : List ℕ) (told : BodyLine) → HasCosts bytes rest setting before count
-    → lines rest ≡ line ∷ lines after → header_line before line ≡ told → costs_verdict setting before [] told ≡ Ends setting → has_word (codes "cost") line ≡ false
+    → lines rest ≡ line ∷ lines after → header_line before line ≡ told → costs_verdict setting before [] told ≡ HopEnds setting → has_word (codes "cost") line ≡ false
     → IsHeaderRead bytes (Ok (record { setting = setting; used = length bytes - length rest; lines = count }))
 costs_done bytes rest setting before count line after told has those is ends other =
     let used = IsPast-used bytes rest count has.past in

@@ -15,8 +15,8 @@ use Rattle.nav_text.specs.declared.fault.FaultKind.TheVariants.{Form, Range, Cli
 use Rattle.nav_text.specs.Forms.{line_text, numbers_of}
 use Rattle.nav_text.proofs.FormLaws.{numbers_take, numbers_again}
 use Rattle.nav_text.proofs.Inversions.{ok_is, unless, one_is, two_is, three_is}
-use Rattle.span_text.specs.declared.header.TextForm.{TextForm}
-use Rattle.span_text.specs.declared.header.TextForm.TheVariants.{First, Second}
+use Rattle.span_text.specs.declared.front.TextForm.{TextForm}
+use Rattle.span_text.specs.declared.front.TextForm.TheVariants.{First, Second}
 use Rattle.span_text.specs.FieldText.{mesh_text, nav_text}
 use Rattle.span_text.specs.Header.{nav_line, size_line, limited, agent_line, mesh_line, clear_in, clear_line}
 use Rattle.nav_ground.specs.Shapes.{is_in}

@@ -19,8 +19,8 @@ use Rattle.nav_text.specs.Reading.{Leads, read, read_on, lead}
 use Rattle.nav_text.proofs.LineLaws.{lines_again}
 use Rattle.nav_text.proofs.FormLaws.{is_line-line_text}
 use Rattle.nav_text.proofs.ReadingLaws.{leads_read}
-use Rattle.span_text.specs.declared.header.TextForm.{TextForm}
-use Rattle.span_text.specs.declared.header.TextForm.TheVariants.{First, Second}
+use Rattle.span_text.specs.declared.front.TextForm.{TextForm}
+use Rattle.span_text.specs.declared.front.TextForm.TheVariants.{First, Second}
 use Rattle.span_text.specs.FieldText.{Cost, RiseAbove, with_cost, costs_of, mesh_text, nav_text, clear_lines, header_lines, cost_text, span_text, field_lines, IsFieldText}
 use Rattle.span_text.specs.FieldFormat.{AtNav, AtSize, AtTile, AtAgent, AtError, AtMesh, AtLimit, AtBody, plain_setting, after_limit, set_cost, BodyVerdict, body_verdict, headed_format, field_body, field_format, field_of}
 use Rattle.span_text.specs.Words.{field_with}

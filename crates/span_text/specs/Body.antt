@@ -14,6 +14,7 @@ cost_in before read = option_map_or (λ (numbers : List ℕ).
     if not (is_in 1 63 (slice_index numbers 0)) || not (is_in 1 1000 (slice_index numbers 1)) then lines.Fails Range
     else (if nat_le (slice_index numbers 0) before then lines.Fails Order else lines.Cost (slice_index numbers 0) (slice_index numbers 1))) read (lines.Fails Form)
 
+-- the span of five numbers
 abbrev pub span_of : List ℕ → Span
 span_of numbers = record {
   x = slice_index numbers 0;
@@ -31,6 +32,7 @@ is_span width depth span = nat_lt span.x width && nat_lt span.z depth && nat_lt 
 abbrev pub is_column_before : Span → Span → Bool
 is_column_before a b = nat_lt a.z b.z || a.z == b.z && nat_lt a.x b.x
 
+-- two spans stand in one column
 abbrev pub is_column_of : Span → Span → Bool
 is_column_of a b = a.z == b.z && a.x == b.x
 
@@ -51,6 +53,7 @@ other_line before count line =
     if bytes_eq line (codes "end") then lines.End
     else (if nat_lt 0 count then lines.Fails Form else cost_in before (numbers_of (codes "cost") 2 line))
 
+-- a line with five numbers is judged as a span, any other as what else may stand there
 abbrev pub span_or_other : ℕ → ℕ → ℕ → List Span → List ℕ → Option (List ℕ) → BodyLine
 span_or_other width depth before spans line None = other_line before (length spans) line
 span_or_other width depth before spans line (Some numbers) = span_in width depth (slice_get spans (length spans - 1)) (span_of numbers)

@@ -7,9 +7,9 @@ use Rattle.nav_ground.specs.declared.field.Span.{Span}
 use Rattle.nav_ground.specs.declared.field.Field.{Field}
 use Rattle.nav_text.specs.declared.fault.TextFault.{TextFault}
 use Rattle.nav_text.specs.Lines.{lines}
-use Rattle.nav_text.specs.Reading.{Verdict, Goes, Ends, Refuses, Format, lead, read}
-use Rattle.span_text.specs.declared.header.TextForm.{TextForm}
-use Rattle.span_text.specs.declared.header.TextForm.TheVariants.{First, Second}
+use Rattle.nav_text.specs.Reading.{Verdict, Goes, HopEnds, Refuses, Format, lead, read}
+use Rattle.span_text.specs.declared.front.TextForm.{TextForm}
+use Rattle.span_text.specs.declared.front.TextForm.TheVariants.{First, Second}
 use Rattle.span_text.specs.declared.body.BodyLine.{BodyLine}
 use Rattle.span_text.specs.declared.body.BodyLine.TheVariants.{Cost, Spans, End, Fails}
 use Rattle.span_text.specs.Header.{nav_line, size_line, limited, agent_line, mesh_line, clear_line}
@@ -54,7 +54,7 @@ set_cost setting area cost = record setting { costs = slice_set setting.costs ar
 abbrev pub body_verdict : Setting → ℕ → List Span → BodyLine → Verdict Place Value
 body_verdict setting before spans (Cost area cost) = Goes (AtBody (set_cost setting area cost) area spans)
 body_verdict setting before spans (Spans span) = Goes (AtBody setting before (spans ++ span ∷ []))
-body_verdict setting before spans End = Ends (setting, record { width = setting.width; depth = setting.depth; spans = spans })
+body_verdict setting before spans End = HopEnds (setting, record { width = setting.width; depth = setting.depth; spans = spans })
 body_verdict setting before spans (Fails kind) = Refuses kind
 
 -- behind the seventh line texts of the second form say whether agents keep their radius from obstacles
@@ -95,16 +95,18 @@ field_format = headed_format field_body
 abbrev pub field_of : List ℕ → Result (Value × ℕ) TextFault
 field_of bytes = read field_format AtNav 0 (lines bytes)
 
+-- of a header's body a cost goes on, and any other line ends it
 abbrev pub costs_verdict : Setting → ℕ → List Span → BodyLine → Verdict Place Setting
 costs_verdict setting before spans (Cost area cost) = Goes (AtBody (set_cost setting area cost) area spans)
-costs_verdict setting before spans (Spans span) = Ends setting
-costs_verdict setting before spans End = Ends setting
+costs_verdict setting before spans (Spans span) = HopEnds setting
+costs_verdict setting before spans End = HopEnds setting
 costs_verdict setting before spans (Fails kind) = Refuses kind
 
 -- in headers only costs stand behind those of the setting, and a line with another first word ends the header: it is no part of it
 abbrev pub header_body : BodyVerdict Setting
 header_body setting before spans line = costs_verdict setting before spans (header_line before line)
 
+-- the format of headers: the lines of a setting, and then costs
 abbrev pub header_format : Format Place Setting
 header_format = headed_format header_body
 

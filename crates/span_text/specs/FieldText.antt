@@ -7,8 +7,8 @@ use Rattle.nav_ground.specs.declared.field.Span.{Span}
 use Rattle.nav_ground.specs.declared.field.Field.{Field}
 use Rattle.nav_text.specs.Lines.{lines, text_of}
 use Rattle.nav_text.specs.Forms.{line_text, has_word}
-use Rattle.span_text.specs.declared.header.TextForm.{TextForm}
-use Rattle.span_text.specs.declared.header.TextForm.TheVariants.{First, Second}
+use Rattle.span_text.specs.declared.front.TextForm.{TextForm}
+use Rattle.span_text.specs.declared.front.TextForm.TheVariants.{First, Second}
 
 -- what a `cost` line says: what a unit of way costs in an area
 pub record Cost : Type 0 where
@@ -20,6 +20,7 @@ abbrev pub RiseAbove : ℕ → List Cost → Type 0
 RiseAbove before [] = ⊤
 RiseAbove before (line ∷ more) = (before < line.area) × (line.area ≤ 63) × (1 ≤ line.cost) × (line.cost ≤ 1000) × RiseAbove line.area more
 
+-- a table of costs with the cost of one line
 abbrev pub with_cost : List ℕ → Cost → List ℕ
 with_cost table line = slice_set table line.area line.cost
 
@@ -32,6 +33,7 @@ abbrev pub mesh_text : MeshKind → List ℕ
 mesh_text Strips = codes "mesh strips"
 mesh_text Contours = codes "mesh contours"
 
+-- the first line, which names the form
 abbrev pub nav_text : TextForm → List ℕ
 nav_text First = codes "nav 1"
 nav_text Second = codes "nav 2"
@@ -41,6 +43,7 @@ abbrev pub clear_lines : TextForm → Bool → List (List ℕ)
 clear_lines First clear = []
 clear_lines Second clear = line_text (codes "clear") ((if clear then 1 else 0) ∷ []) ∷ []
 
+-- the lines of a setting in one of the two forms
 abbrev pub header_lines : TextForm → Setting → List (List ℕ)
 header_lines form setting =
     nav_text form
@@ -52,9 +55,11 @@ header_lines form setting =
     ∷ line_text (codes "limit") (setting.limit ∷ [])
     ∷ clear_lines form setting.clear
 
+-- the line of a cost
 abbrev pub cost_text : Cost → List ℕ
 cost_text line = line_text (codes "cost") (line.area ∷ line.cost ∷ [])
 
+-- the line of a span
 abbrev pub span_text : Span → List ℕ
 span_text span = line_text (codes "span") (span.x ∷ span.z ∷ span.bottom ∷ span.top ∷ span.area ∷ [])
 

@@ -8,8 +8,8 @@ pub use Rattle.nav_ground.specs.Shapes.{is_in}
 use Rattle.nav_text.specs.declared.fault.FaultKind.{FaultKind}
 use Rattle.nav_text.specs.declared.fault.FaultKind.TheVariants.{Form, Range, Climb}
 use Rattle.nav_text.specs.Forms.{numbers_of}
-use Rattle.span_text.specs.declared.header.TextForm.{TextForm}
-use Rattle.span_text.specs.declared.header.TextForm.TheVariants.{First, Second}
+use Rattle.span_text.specs.declared.front.TextForm.{TextForm}
+use Rattle.span_text.specs.declared.front.TextForm.TheVariants.{First, Second}
 
 -- `nav 1` or `nav 2`
 unfoldable pub nav_line : List ℕ → Result TextForm FaultKind
@@ -44,5 +44,6 @@ clear_in tile radius None = Err Form
 clear_in tile radius (Some numbers) =
     if nat_lt 1 (slice_index numbers 0) || slice_index numbers 0 == 1 && nat_lt tile (2 * radius) then Err Range else Ok (slice_index numbers 0 == 1)
 
+-- the line is `clear` and one number, which is judged so
 unfoldable pub clear_line : (tile radius : ℕ) → List ℕ → Result Bool FaultKind
 clear_line tile radius line = clear_in tile radius (numbers_of (codes "clear") 1 line)

@@ -1,15 +1,19 @@
-//! The lines behind the header: costs, spans and the end.
-ghost use Rattle.std.specs.Prelude.{◌≡◌, ℕ, ◌≤◌, [], Some, MatchOption, IfSome, codes, length};
-ghost use Rattle.span_text.specs.Body.{cost_in, span_of, is_span, is_column_before, is_column_of, span_after, span_in, other_line, body_line, header_line, Fits};
-ghost use Rattle.span_text.specs.NextLine.{SaysFirst, span_or_many};
-ghost use Rattle.nav_text.specs.Forms.{numbers_of};
-ghost use Rattle.nav_text.specs.Lines.{lines};
-ghost use Rattle.std.specs.Option.{option_copied};
+//! The lines behind the header: costs, spans and the end. The line of a span, read in one pass over its bytes. The line of a span, as it is
+//! written.
 
-use crate::header::is_in;
-use crate::one_pass::span_line;
-use nav_ground::{SmallSpan, Span};
-use nav_text::{FaultKind, first_line, has_word, numbers_of};
+ghost use Rattle.std.specs.Prelude.{◌≡◌, ℕ, ◌≤◌, [], Some, MatchOption, IfSome, codes, length, ◌*◌, ◌+◌, ◌-◌, ◌<◌, ◌++◌, ◌∷◌, decimal, IsOk, OnOk, OnErr, vec_len, vec_capacity};
+ghost use Rattle.span_text.specs.Body.{cost_in, span_of, is_span, is_column_before, is_column_of, span_after, span_in, other_line, body_line, header_line, Fits};
+ghost use Rattle.span_text.specs.NextLine.{SaysFirst, span_or_many, IsHeld};
+ghost use Rattle.nav_text.specs.Forms.{numbers_of};
+ghost use Rattle.nav_text.specs.Lines.{lines, ended};
+ghost use Rattle.std.specs.Option.{option_copied};
+ghost use Rattle.span_text.specs.FieldText.{span_text};
+ghost use Rattle.nav_text.specs.Appends.{Appends};
+
+use crate::front::is_in;
+use nav_ground::{PackedSpan, Span};
+use nav_text::{FaultKind, append_line, first_line, has_word, numbers_of};
+use std::alloc::AllocError;
 
 /// The most spans that a field can have.
 pub const MAX_SPANS: usize = 2000000;
@@ -32,7 +36,7 @@ pub fn next_line<'a>(
     width: u32,
     depth: u32,
     before: u32,
-    spans: &[SmallSpan],
+    spans: &[PackedSpan],
     text: &'a [u8],
 ) -> Option<(BodyLine, &'a [u8])>
     requires { length spans.now ≤ MAX_SPANS }
@@ -48,7 +52,7 @@ pub fn next_line<'a>(
 }
 
 /// The line of a span, after some spans.
-fn span_or_many(width: u32, depth: u32, spans: &[SmallSpan], span: Span) -> BodyLine
+fn span_or_many(width: u32, depth: u32, spans: &[PackedSpan], span: Span) -> BodyLine
     requires { length spans.now ≤ MAX_SPANS }
     ensures value { result ≡ span_or_many width depth spans.now span }
     ensures fits { (before : ℕ) → Fits before (length spans.now) result }
@@ -61,7 +65,7 @@ fn span_or_many(width: u32, depth: u32, spans: &[SmallSpan], span: Span) -> Body
 
 /// A line behind the header, after some spans. `before` is the area of the last cost, 0 at first.
 #[tactic(auto, unfolding(crate::specs::Body::body_line))]
-pub fn body_line(width: u32, depth: u32, before: u32, spans: &[SmallSpan], line: &[u8]) -> BodyLine
+pub fn body_line(width: u32, depth: u32, before: u32, spans: &[PackedSpan], line: &[u8]) -> BodyLine
     requires { length spans.now ≤ MAX_SPANS }
     ensures value { result ≡ body_line width depth before spans.now line.now }
     // A cost is one of a further area, and a span has room.
@@ -134,7 +138,7 @@ fn span_of(numbers: &[u32; 5]) -> Span
 }
 
 /// A span after the last one, whose numbers may be past their limits.
-fn span_in(width: u32, depth: u32, last: Option<SmallSpan>, span: Span) -> BodyLine
+fn span_in(width: u32, depth: u32, last: Option<PackedSpan>, span: Span) -> BodyLine
     ensures { result ≡ span_in width depth last span }
 {
     if !is_span(width, depth, &span) {
@@ -146,7 +150,7 @@ fn span_in(width: u32, depth: u32, last: Option<SmallSpan>, span: Span) -> BodyL
     }
 }
 
-fn span_after(last: &SmallSpan, span: Span) -> BodyLine
+fn span_after(last: &PackedSpan, span: Span) -> BodyLine
     ensures { result ≡ span_after (Some last.now) span }
 {
     if is_column_before(&span, last) {
@@ -170,15 +174,114 @@ fn is_span(width: u32, depth: u32, span: &Span) -> bool
 }
 
 /// Whether a span's column comes before another's, by z and then x.
-fn is_column_before(a: &Span, b: &SmallSpan) -> bool
+fn is_column_before(a: &Span, b: &PackedSpan) -> bool
     ensures { result ≡ is_column_before a.now b.now }
 {
     a.z < b.z() || a.z == b.z() && a.x < b.x()
 }
 
 /// Whether two spans are of one column.
-fn is_column_of(a: &Span, b: &SmallSpan) -> bool
+fn is_column_of(a: &Span, b: &PackedSpan) -> bool
     ensures { result ≡ is_column_of a.now b.now }
 {
     a.z == b.z() && a.x == b.x()
+}
+
+/// How many bytes the longest line has that is read so: the word, five numbers of at most four digits, each behind a space, and the line feed.
+const LONGEST: usize = 30;
+
+/// The span whose line a text begins with, and the text after it. None where it begins with no line of this form, where a number has more than
+/// four digits, and where the text is shorter than the longest line.
+pub fn span_line(text: &[u8]) -> Option<(Span, &[u8])>
+    ensures text { IfSome result (λ x. text.now ≡ span_text x.0 ++ 10 ∷ x.1.now) }
+    ensures held { IfSome result (λ x. IsHeld x.0) }
+{
+    if text.len() < LONGEST {
+        return None;
+    }
+    let rest = text.strip_prefix(b"span")?;
+    let (x, rest) = next_number(rest)?;
+    let (z, rest) = next_number(rest)?;
+    let (bottom, rest) = next_number(rest)?;
+    let (top, rest) = next_number(rest)?;
+    let (area, rest) = next_number(rest)?;
+    if rest[0] != b'\n' {
+        return None;
+    }
+    let span = Span {
+        x,
+        z,
+        bottom,
+        top,
+        area,
+    };
+    Some((span, &rest[1..]))
+}
+
+/// The number of at most four digits behind one space at the front, and the bytes after it. Behind a `0`, and behind four digits, a further digit
+/// is left in front.
+fn next_number(bytes: &[u8]) -> Option<(u32, &[u8])>
+    requires { 5 ≤ length bytes.now }
+    ensures text { IfSome result (λ x. bytes.now ≡ 32 ∷ (decimal x.0 ++ x.1.now)) }
+    ensures left { IfSome result (λ x. length bytes.now ≤ length x.1.now + 5) }
+{
+    if bytes[0] != b' ' {
+        return None;
+    }
+    let one = with_digit(0, &bytes[1..])?;
+    if one.0 == 0 {
+        return Some(one);
+    }
+    let Some(two) = with_digit(one.0, one.1) else {
+        return Some(one);
+    };
+    let Some(three) = with_digit(two.0, two.1) else {
+        return Some(two);
+    };
+    match with_digit(three.0, three.1) {
+        Some(four) => Some(four),
+        None => Some(three),
+    }
+}
+
+/// A number with the digit at the front of some bytes behind its own, and the bytes after it. None where another byte stands there.
+fn with_digit(number: u32, bytes: &[u8]) -> Option<(u32, &[u8])>
+    requires room { 0 < length bytes.now }
+    requires small { number < 1000 }
+    ensures least { IfSome result (λ x. 10 * number ≤ x.0) }
+    ensures most { IfSome result (λ x. x.0 < 10 * number + 10) }
+    ensures text { IfSome result (λ x. bytes.now ≡ (48 + (x.0 - 10 * number)) ∷ x.1.now) }
+{
+    let first = bytes[0];
+    if !first.is_ascii_digit() {
+        return None;
+    }
+    Some((10 * number + u32::from(first - b'0'), &bytes[1..]))
+}
+
+/// Appends the line of a span, or nothing where memory is refused.
+pub fn write_span(out: &mut Vec<u8>, span: &Span) -> Result<(), AllocError>
+    ensures ok { OnOk result (out.new.items ≡ out.old.items ++ ended (span_text span.now)) }
+    ensures err { OnErr result (out.new.items ≡ out.old.items) }
+    ensures room { vec_len out.old + length (ended (span_text span.now)) ≤ vec_capacity out.old → IsOk result }
+    ensures capacity { vec_capacity out.old ≤ vec_capacity out.new }
+{
+    let len = out.len();
+    let written = append_span(out, span);
+    if written.is_err() {
+        out.truncate(len);
+    }
+    written
+}
+
+/// The same, but where memory is refused a part may stand at the end.
+fn append_span(out: &mut Vec<u8>, span: &Span) -> Result<(), AllocError>
+    ensures { Appends out.old out.new result (ended (span_text span.now)) }
+{
+    append_line(
+        out,
+        b"span",
+        &[span.x, span.z, span.bottom, span.top, span.area],
+    )?;
+    out.extend_from_slice(b"\n")
 }

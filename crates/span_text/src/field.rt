@@ -13,8 +13,8 @@ ghost use Rattle.span_text.specs.Outcome.{IsRead, Gives, text_with};
 
 use crate::body::{BodyLine, next_line};
 use crate::front::read_front;
-use nav_ground::{Field, Setting, SmallSpan};
-use nav_list::Items;
+use nav_ground::{Field, PackedSpan, Setting};
+use nav_lists::Items;
 use nav_text::{FaultKind, TextFault};
 use std::alloc::Global;
 
@@ -40,7 +40,7 @@ pub enum FieldRefusal {
 }
 
 /// What is read of a whole text.
-fn field_text(setting: Setting, spans: Vec<SmallSpan>, used: usize, lines: u32) -> FieldText
+fn field_text(setting: Setting, spans: Vec<PackedSpan>, used: usize, lines: u32) -> FieldText
     ensures { result ≡ text_with setting spans.items used lines }
 {
     let field = Field {
@@ -71,7 +71,7 @@ fn read_body(
     ensures { IsRead bytes.now result }
 {
     let mut setting = front;
-    let mut spans: Vec<SmallSpan> = Vec::new(alloc);
+    let mut spans: Vec<PackedSpan> = Vec::new(alloc);
     let mut before = 0;
     let mut count = front_lines;
     let mut rest = body;
@@ -88,7 +88,7 @@ fn read_body(
                 before = area;
             }
             BodyLine::Spans(span) => {
-                let small = SmallSpan::new(&span);
+                let small = PackedSpan::new(&span);
                 if spans.push(small).is_err() {
                     return Err(FieldRefusal::OutOfMemory);
                 }

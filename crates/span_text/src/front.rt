@@ -1,4 +1,6 @@
-//! The header that a field text, as other texts, begins with: the lines of a setting, and costs.
+//! The header that a field text, as other texts, begins with: the lines of a setting, and costs. The lines of a setting that a field text
+//! begins with: seven in the first form, eight in the second.
+
 ghost use Rattle.std.specs.Prelude.{◌≡◌, ℕ, ◌≤◌, List, [], ◌∷◌, ◌++◌, take, drop, length, MatchResult, IfOk, Err};
 ghost use Rattle.nav_ground.specs.declared.setting.Setting.{Setting};
 ghost use Rattle.nav_ground.specs.Limits.{IsSetting};
@@ -10,12 +12,12 @@ ghost use Rattle.nav_text.specs.Reading.{read, IsFirstFault};
 ghost use Rattle.span_text.specs.FieldText.{IsHeaderText, GoesOn};
 ghost use Rattle.span_text.specs.FieldFormat.{field_of, field_format, header_of, header_format, after_limit, AtNav, AtError, AtBody};
 ghost use Rattle.span_text.specs.Outcome.{IsHeaderRead, GivesHeader};
+ghost use Rattle.span_text.specs.Header.{nav_line, size_line, limited, agent_line, mesh_line, clear_line};
 
 use crate::body::{BodyLine, header_line};
 use crate::field::FieldRefusal;
-use crate::header::{TextForm, agent_line, clear_line, limited, mesh_line, nav_line, size_line};
-use nav_ground::{AREAS, Agent, Setting};
-use nav_text::{FaultKind, TextFault, first_line};
+use nav_ground::{AREAS, Agent, MeshKind, Setting};
+use nav_text::{FaultKind, TextFault, first_line, numbers_of};
 
 /// A header that was read.
 #[derive(Clone, Copy)]
@@ -232,4 +234,114 @@ pub fn read_header(bytes: &[u8]) -> Result<HeaderText, FieldRefusal>
         → IsFirstFault header_format AtNav 0 (lines bytes.now) fault }
 {
     read_whole(bytes)
+}
+
+/// The two forms of a field text.
+#[derive(Clone, Copy)]
+pub enum TextForm {
+    /// `nav 1`: agents keep no distance from obstacles.
+    First,
+    /// `nav 2`: a line says whether agents keep their radius from obstacles.
+    Second,
+}
+
+/// The line that says of which form the text is.
+#[tactic(auto, unfolding(crate::specs::Header::nav_line))]
+pub fn nav_line(line: &[u8]) -> Result<TextForm, FaultKind>
+    ensures { result ≡ nav_line line.now }
+{
+    if line == b"nav 1".as_slice() {
+        Ok(TextForm::First)
+    } else if line == b"nav 2".as_slice() {
+        Ok(TextForm::Second)
+    } else {
+        Err(FaultKind::Form)
+    }
+}
+
+/// The width and the depth of the field, in columns.
+#[tactic(auto, unfolding(crate::specs::Header::size_line))]
+pub fn size_line(line: &[u8]) -> Result<(u32, u32), FaultKind>
+    ensures { result ≡ size_line line.now }
+{
+    let Some(numbers) = numbers_of::<2>(b"size", line) else {
+        return Err(FaultKind::Form);
+    };
+    let (width, depth) = (numbers[0], numbers[1]);
+    if !is_in(1, 1024, width) || !is_in(1, 1024, depth) {
+        return Err(FaultKind::Range);
+    }
+    Ok((width, depth))
+}
+
+/// The one number of a line that is a word and a number within limits.
+#[tactic(auto, unfolding(crate::specs::Header::limited))]
+pub fn limited(word: &[u8], low: u32, high: u32, line: &[u8]) -> Result<u32, FaultKind>
+    ensures { result ≡ limited word.now low high line.now }
+{
+    let Some(numbers) = numbers_of::<1>(word, line) else {
+        return Err(FaultKind::Form);
+    };
+    if !is_in(low, high, numbers[0]) {
+        return Err(FaultKind::Range);
+    }
+    Ok(numbers[0])
+}
+
+/// The agent: its height, climb and radius.
+#[tactic(auto, unfolding(crate::specs::Header::agent_line))]
+pub fn agent_line(line: &[u8]) -> Result<Agent, FaultKind>
+    ensures { result ≡ agent_line line.now }
+{
+    let Some(numbers) = numbers_of::<3>(b"agent", line) else {
+        return Err(FaultKind::Form);
+    };
+    let (height, climb, radius) = (numbers[0], numbers[1], numbers[2]);
+    if !is_in(1, 255, height) || climb > 254 || radius > 15 {
+        return Err(FaultKind::Range);
+    }
+    if climb >= height {
+        return Err(FaultKind::Climb);
+    }
+    Ok(Agent {
+        height,
+        climb,
+        radius,
+    })
+}
+
+/// How the polygons are made.
+#[tactic(auto, unfolding(crate::specs::Header::mesh_line))]
+pub fn mesh_line(line: &[u8]) -> Result<MeshKind, FaultKind>
+    ensures { result ≡ mesh_line line.now }
+{
+    if line == b"mesh strips".as_slice() {
+        Ok(MeshKind::Strips)
+    } else if line == b"mesh contours".as_slice() {
+        Ok(MeshKind::Contours)
+    } else {
+        Err(FaultKind::Form)
+    }
+}
+
+/// Whether agents keep their radius from obstacles too. Where they do, a tile is at least twice as wide as the radius.
+#[tactic(auto, unfolding(crate::specs::Header::clear_line))]
+pub fn clear_line(tile: u32, radius: u32, line: &[u8]) -> Result<bool, FaultKind>
+    ensures { result ≡ clear_line tile radius line.now }
+{
+    let Some(numbers) = numbers_of::<1>(b"clear", line) else {
+        return Err(FaultKind::Form);
+    };
+    let clear = numbers[0];
+    if clear > 1 || clear == 1 && u64::from(tile) < 2 * u64::from(radius) {
+        return Err(FaultKind::Range);
+    }
+    Ok(clear == 1)
+}
+
+/// Whether a number lies in a closed range.
+pub fn is_in(low: u32, high: u32, number: u32) -> bool
+    ensures { result ≡ Rattle.span_text.specs.Header.is_in low high number }
+{
+    low <= number && number <= high
 }

@@ -5,10 +5,7 @@
 mod body;
 mod field;
 mod front;
-mod header;
-mod one_pass;
-mod span;
 
+pub use body::write_span;
 pub use field::{FieldRefusal, FieldText, read_field};
 pub use front::{HeaderText, read_header};
-pub use span::write_span;

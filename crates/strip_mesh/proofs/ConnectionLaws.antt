@@ -14,7 +14,7 @@ use Rattle.nav_ground.specs.Cells.{IsCut, is_naming, opposite}
 use Rattle.nav_ground.proofs.FreeLayers.{names_one}
 use Rattle.cell_table.specs.Table.{index_named}
 use Rattle.cell_table.proofs.Tables.{one_index}
-use Rattle.mesh_types.specs.declared.label_runs.Run.{Run}
+use Rattle.mesh_types.specs.declared.region.LabelRun.{LabelRun}
 use Rattle.mesh_types.specs.declared.links.Link.{Link}
 use Rattle.mesh_types.specs.declared.links.Portal.{Portal}
 use Rattle.mesh_types.specs.Passages.{AreTwoWay, HasReverse, LinksConnected}
@@ -181,7 +181,7 @@ portal_back (suc (suc (suc zero))) own other first last first' last' small meets
 portal_back (suc (suc (suc (suc edge)))) own other first last first' last' small meets meets' beyond begins ends = absurd (omega (arith, small))
 
 -- the link along a run that is listed is listed
-link_listed : (tile : ℕ) (runs : List (List Cell)) (s edge : ℕ) (part : Run) → s < length runs → edge < 4
+link_listed : (tile : ℕ) (runs : List (List Cell)) (s edge : ℕ) (part : LabelRun) → s < length runs → edge < 4
     → Contains (runs_of (labels_of runs s (outside_of edge))) part → Contains (strip_links tile runs) (strip_link tile (get_or runs s []) s edge part)
 link_listed tile runs s edge part there small listed =
     let link : Link = strip_link tile (get_or runs s []) s edge part in
@@ -192,7 +192,7 @@ link_listed tile runs s edge part there small listed =
     (Contains-map (strip_link tile (get_or runs s []) s edge) (runs_of (labels_of runs s (outside_of edge))) part listed)))
 
 -- each link has its reverse
-reverse_listed : (cells : List Cell) → IsCut cells → (tile s edge : ℕ) (part : Run) → s < length (strip_runs cells) → edge < 4
+reverse_listed : (cells : List Cell) → IsCut cells → (tile s edge : ℕ) (part : LabelRun) → s < length (strip_runs cells) → edge < 4
     → IsMaximal (labels_of (strip_runs cells) s (outside_of edge)) part
     → HasReverse (strip_links tile (strip_runs cells)) (strip_link tile (get_or (strip_runs cells) s []) s edge part)
 reverse_listed cells cut tile s edge part there small is =
@@ -277,7 +277,7 @@ strips_linked setting free cut s t dir from to is =
     let beyond = (label_found runs s t (outside_of edge) k label).beyond in
     let meets = (placed free.cells cut edge s t k k is.first small (omega arith) k-in beyond beyond).0 in
     let row = row_is free.cells cut s is.first in
-    let part : Run = found.run in
+    let part : LabelRun = found.run in
     let labels : List (Option ℕ) = labels_of runs s (outside_of edge) in
     let range = (All-contains (IsMaximal labels) (runs_of labels) part (runs_are_maximal labels) found.listed).range in
     let last-in : part.last < length own = omega (arith, range.inside, length-map own (strip_beyond runs s (outside_of edge))) in

@@ -7,9 +7,9 @@ use Rattle.std.proofs.lemmas.List.Elements.{All-take, All-drop}
 use Rattle.nav_ground.specs.declared.cell.Cell.{Cell}
 use Rattle.cell_table.specs.Table.{neighbour}
 use Rattle.cell_table.proofs.Tables.{table_at}
-use Rattle.mesh_types.specs.declared.label_runs.Run.{Run}
-use Rattle.mesh_types.specs.declared.tile.LevelPair.{LevelPair}
-use Rattle.mesh_types.specs.declared.tile.RimEdge.{RimEdge}
+use Rattle.mesh_types.specs.declared.region.LabelRun.{LabelRun}
+use Rattle.mesh_types.specs.declared.mesh.LevelPair.{LevelPair}
+use Rattle.mesh_types.specs.declared.mesh.RimEdge.{RimEdge}
 use Rattle.mesh_types.specs.StripPolygons.{some_cell, first_of}
 use Rattle.mesh_types.specs.StripLinks.{strip_beyond}
 use Rattle.mesh_types.specs.Crossings.{position_of, level_pair}
@@ -95,7 +95,7 @@ pub run_length : (cells : List Cell) (run : List ℕ) (own : List Cell) → map 
 run_length cells run own are = sym (length-map run (cell_at cells)) ∙ ap length are
 
 -- an entry of the rim from its position and its pairs
-pub entry_is : (strip edge : ℕ) (cells : List Cell) (part_indices : List ℕ) (own : List Cell) (part : Run) (d : Cell) (first : ℕ) (pairs : List LevelPair)
+pub entry_is : (strip edge : ℕ) (cells : List Cell) (part_indices : List ℕ) (own : List Cell) (part : LabelRun) (d : Cell) (first : ℕ) (pairs : List LevelPair)
     → 0 < length part_indices → All (λ i. i < length cells) part_indices
     → first ≡ position_of (3 - edge) (get_or cells (get_or part_indices 0 0) d).at
     → cell_at cells (get_or part_indices 0 0) ≡ get_or own part.first some_cell

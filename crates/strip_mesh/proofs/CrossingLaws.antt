@@ -11,9 +11,9 @@ use Rattle.nav_ground.specs.declared.cell.FreeLayer.{FreeLayer}
 use Rattle.nav_ground.specs.declared.cell.Window.{Window}
 use Rattle.nav_ground.specs.Cells.{IsCut, IsInTile}
 use Rattle.nav_ground.specs.Tiling.{tile_window, IsInWindow}
-use Rattle.mesh_types.specs.declared.label_runs.Run.{Run}
-use Rattle.mesh_types.specs.declared.tile.LevelPair.{LevelPair}
-use Rattle.mesh_types.specs.declared.tile.RimEdge.{RimEdge}
+use Rattle.mesh_types.specs.declared.region.LabelRun.{LabelRun}
+use Rattle.mesh_types.specs.declared.mesh.LevelPair.{LevelPair}
+use Rattle.mesh_types.specs.declared.mesh.RimEdge.{RimEdge}
 use Rattle.mesh_types.specs.Passages.{ListsCrossings, is_listing}
 use Rattle.mesh_types.specs.Runs.{label_if, runs_of}
 use Rattle.mesh_types.specs.StripPolygons.{some_cell, strip_runs}
@@ -32,7 +32,7 @@ use Rattle.strip_mesh.proofs.RimTotals.{crossings, positions_rise, named_once}
 use Rattle.strip_mesh.proofs.RowLaws.{IsRow, row_is, own_all}
 
 -- the entry for a part of a strip lists each cell of the part
-part_lists : (window : Window) (own : List Cell) (s edge k : ℕ) (part : Run) → edge < 4 → IsRow own
+part_lists : (window : Window) (own : List Cell) (s edge k : ℕ) (part : LabelRun) → edge < 4 → IsRow own
     → All (λ (cell : Cell). IsInWindow window cell.at.x cell.at.z) own → IsRunOf (crossings window edge own) part → part.first ≤ k → k ≤ part.last
     → is_listing (outside_of edge) (get_or own k some_cell) (rim_edge s edge own part) ≡ true
 part_lists window own s edge k part small row each run low high =

@@ -6,7 +6,7 @@ use Rattle.std.proofs.lemmas.Bool.{cases_lt, eq-eqb}
 use Rattle.std.proofs.lemmas.List.{append-nil, get_or-map, get_or_past, get_or-drop, length-map}
 use Rattle.nav_ground.specs.declared.cell.Cell.{Cell}
 use Rattle.nav_ground.specs.Cells.{IsCut}
-use Rattle.mesh_types.specs.declared.label_runs.Run.{Run}
+use Rattle.mesh_types.specs.declared.region.LabelRun.{LabelRun}
 use Rattle.mesh_types.specs.declared.links.Link.{Link}
 use Rattle.mesh_types.specs.Runs.{runs_of, run_with, has_label}
 use Rattle.mesh_types.specs.StripPolygons.{strip_runs, some_cell}
@@ -81,7 +81,7 @@ none_next : (label : ℕ) (rest : List (Option ℕ)) → get_or rest 0 None ≡ 
 none_next label [] is = refl
 none_next label (next ∷ rest) is = ap (λ (o : Option ℕ). prefix_len (has_label label) (o ∷ rest)) is
 
-abbrev run : ℕ → ℕ → ℕ → Run
+abbrev run : ℕ → ℕ → ℕ → LabelRun
 run first last label = record { first = first; last = last; label = label }
 
 pub one_run : (labels : List (Option ℕ)) (place label : ℕ) → place < length labels → get_or labels place None ≡ Some label
@@ -134,13 +134,13 @@ no_end_link tile runs s edge place there alone is =
     ]))
 
 -- what was found beyond the cell with an index is beyond the cell at a place of the strip
-pub found_at : (cells : List Cell) (run : List ℕ) (own : List Cell) (runs : List (List Cell)) (s dir place : ℕ) (found : Option ℕ)
-    → map (cell_at cells) run ≡ own → place < length own → found ≡ strip_beyond runs s dir (cell_at cells (get_or run place 0))
+pub found_at : (cells : List Cell) (run : List ℕ) (own : List Cell) (runs : List (List Cell)) (s dir beyond place : ℕ) (found : Option ℕ)
+    → map (cell_at cells) run ≡ own → place < length own → beyond ≡ dir → found ≡ strip_beyond runs s beyond (cell_at cells (get_or run place 0))
     → strip_beyond runs s dir (get_or own place some_cell) ≡ found
-found_at cells run own runs s dir place found are there is =
+found_at cells run own runs s dir beyond place found are there same is =
     ap (λ (cs : List Cell). strip_beyond runs s dir (get_or cs place some_cell)) (sym are)
     ∙ ap (strip_beyond runs s dir) (get_or-map (cell_at cells) run place 0 some_cell (omega (arith, there, run_length cells run own are)))
-    ∙ sym is
+    ∙ sym (is ∙ ap (λ d. strip_beyond runs s d (cell_at cells (get_or run place 0))) same)
 
 -- the one link, or none, behind those before
 pub one_pushed : (before after : List Link) (made link : Link) (more : List Link) → after ≡ before ++ made ∷ [] → made ≡ link → more ≡ link ∷ [] → after ≡ before ++ more

@@ -9,11 +9,11 @@ use Rattle.nav_ground.specs.declared.cell.Cell.{Cell}
 use Rattle.nav_ground.specs.declared.cell.FreeLayer.{FreeLayer}
 use Rattle.nav_ground.specs.Cells.{IsCut, IsInTile}
 use Rattle.nav_ground.specs.Tiling.{tile_window, IsInWindow}
-use Rattle.mesh_types.specs.declared.label_runs.Run.{Run}
+use Rattle.mesh_types.specs.declared.region.LabelRun.{LabelRun}
 use Rattle.mesh_types.specs.declared.links.Link.{Link}
 use Rattle.mesh_types.specs.declared.polygon.Polygon.{Polygon}
-use Rattle.mesh_types.specs.declared.tile.RimEdge.{RimEdge}
-use Rattle.mesh_types.specs.declared.tile.TileMesh.{TileMesh}
+use Rattle.mesh_types.specs.declared.mesh.RimEdge.{RimEdge}
+use Rattle.mesh_types.specs.declared.mesh.TileMesh.{TileMesh}
 use Rattle.mesh_types.specs.Runs.{runs_of, label_if}
 use Rattle.mesh_types.specs.FitTiles.{IsPolygon, IsInSquare, IsInnerLink, IsRimOf, IsFit}
 use Rattle.mesh_types.specs.StripPolygons.{strip_runs, strip_polygon}
@@ -60,7 +60,7 @@ links_fit setting free cut =
 
 -- an entry of the rim
 entry_fits : (setting : Setting) (free : FreeLayer) → IsCut free.cells → IsInTile setting free.tile free.cells
-    → (s edge : ℕ) (part : Run) → s < length (strip_runs free.cells) → edge < 4
+    → (s edge : ℕ) (part : LabelRun) → s < length (strip_runs free.cells) → edge < 4
     → IsRunOf (map (λ (cell : Cell). label_if (is_crossing (tile_window setting free.tile) (outside_of edge) cell)) (get_or (strip_runs free.cells) s [])) part
     → IsRimOf setting (strip_mesh_of setting free) (rim_edge s edge (get_or (strip_runs free.cells) s []) part)
 unfolding strip_mesh_of

@@ -8,7 +8,7 @@ use Rattle.nav_ground.specs.declared.cell.Cell.{Cell}
 use Rattle.nav_ground.specs.declared.cell.CellRef.{CellRef}
 use Rattle.nav_ground.specs.Cells.{IsCut, is_naming, is_toward}
 use Rattle.nav_ground.proofs.Directions.{both_equal}
-use Rattle.mesh_types.specs.declared.label_runs.Run.{Run}
+use Rattle.mesh_types.specs.declared.region.LabelRun.{LabelRun}
 use Rattle.mesh_types.specs.declared.polygon.Polygon.{Polygon}
 use Rattle.mesh_types.specs.Portals.{LeadsThrough}
 use Rattle.mesh_types.specs.StripPolygons.{some_cell, first_of, strip_runs, strip_polygon}
@@ -101,7 +101,7 @@ polygon_there runs s there =
     ∙ ap (λ (p : Polygon). Some p) (get_or-map strip_polygon runs s [] (strip_polygon []) there)
 
 -- a link leads through its portal
-pub link_leads : (cells : List Cell) → IsCut cells → (tile s edge : ℕ) (part : Run) → s < length (strip_runs cells) → edge < 4
+pub link_leads : (cells : List Cell) → IsCut cells → (tile s edge : ℕ) (part : LabelRun) → s < length (strip_runs cells) → edge < 4
     → IsRunOf (map (strip_beyond (strip_runs cells) s (outside_of edge)) (get_or (strip_runs cells) s [])) part
     → LeadsThrough (slice_get (map strip_polygon (strip_runs cells)) s) (slice_get (map strip_polygon (strip_runs cells)) part.label)
     (strip_link tile (get_or (strip_runs cells) s []) s edge part)

@@ -5,7 +5,7 @@ use Rattle.std.specs.List.{range_with_len, flat_map}
 use Rattle.std.proofs.lemmas.List.{length-map}
 use Rattle.std.proofs.lemmas.List.Elements.{All-map, All-weaker}
 use Rattle.nav_ground.specs.declared.cell.Cell.{Cell}
-use Rattle.mesh_types.specs.declared.label_runs.Run.{Run}
+use Rattle.mesh_types.specs.declared.region.LabelRun.{LabelRun}
 use Rattle.mesh_types.specs.declared.links.Link.{Link}
 use Rattle.mesh_types.specs.Runs.{runs_of}
 use Rattle.mesh_types.specs.LinkIndex.{AreOrderedLinks, AreBelow}
@@ -24,10 +24,10 @@ own_few strips rules' s there =
     omega (arith, indices.few, run_length strips.free.cells run (run_in strips s) (run_cells strips rules' s run there refl))
 
 -- a part of a strip stands in it
-pub part_inside : (f : Cell → Option ℕ) (own : List Cell) (labels : List (Option ℕ)) (found : List Run) → labels ≡ map f own → found ≡ runs_of labels
-    → All (λ (part : Run). (part.first ≤ part.last) × (part.last < length own)) found
+pub part_inside : (f : Cell → Option ℕ) (own : List Cell) (labels : List (Option ℕ)) (found : List LabelRun) → labels ≡ map f own → found ≡ runs_of labels
+    → All (λ (part : LabelRun). (part.first ≤ part.last) × (part.last < length own)) found
 part_inside f own labels found labels_are found_are =
-    let P : List Run → Type 0 = All (λ (part : Run). (part.first ≤ part.last) × (part.last < length own)) in
+    let P : List LabelRun → Type 0 = All (λ (part : LabelRun). (part.first ≤ part.last) × (part.last < length own)) in
     let many : length labels ≡ length own = ap length labels_are ∙ length-map own f in
     subst P (sym found_are)
     (λ k d there. let is = runs_are_runs labels k d there in (is.order, omega (arith, is.inside, many)))

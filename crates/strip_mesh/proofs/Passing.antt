@@ -5,14 +5,14 @@ use Rattle.std.specs.List.{filter_map, cons_option, range_with_len, prefix_len}
 use Rattle.std.proofs.lemmas.Bool.{cases_lt, eq-eqb, ne_eqb, eqb-true, both_ways}
 use Rattle.std.proofs.lemmas.List.{append_assoc, append-nil, get_or_past, get_or-drop, length-drop, length-map, map-append}
 use Rattle.std.proofs.lemmas.List.Sums.{prefix_len_passes, prefix_len_stops, prefix_len-le-length}
-use Rattle.mesh_types.specs.declared.label_runs.Run.{Run}
+use Rattle.mesh_types.specs.declared.region.LabelRun.{LabelRun}
 use Rattle.mesh_types.specs.Runs.{runs_of, run_with, has_label}
 use Rattle.mesh_types.proofs.Labels.{one_more_place}
 use Rattle.mesh_types.proofs.RunLaws.{label_is}
 use Rattle.strip_mesh.specs.Strips.{behind, part_with}
 
 -- the runs that begin before a place
-abbrev pub runs_before : List (Option ℕ) → ℕ → List Run
+abbrev pub runs_before : List (Option ℕ) → ℕ → List LabelRun
 runs_before labels place = filter_map (λ p. run_with labels p (get_or labels p None)) (range_with_len 0 place)
 
 -- a label at the place begins a run
@@ -23,7 +23,7 @@ or_true : (a : Bool) → (a || true) ≡ true
 or_true true = refl
 or_true false = refl
 
-more : (labels : List (Option ℕ)) (place : ℕ) (next : Option Run) → next ≡ run_with labels place (get_or labels place None)
+more : (labels : List (Option ℕ)) (place : ℕ) (next : Option LabelRun) → next ≡ run_with labels place (get_or labels place None)
     → runs_before labels (place + 1) ≡ runs_before labels place ++ cons_option next []
 more labels place next is = sym (one_more_place (λ p. run_with labels p (get_or labels p None)) place (runs_before labels place) next is refl)
 
@@ -117,7 +117,7 @@ unfolding runs_of
 all_before labels place is = ap (runs_before labels) is
 
 -- one link more behind those before
-pub link_more : {B : Type 0} (f : Run → B) (labels : List (Option ℕ)) (place end : ℕ) (o : Option ℕ) (start made next : List B) → o ≡ get_or labels place None
+pub link_more : {B : Type 0} (f : LabelRun → B) (labels : List (Option ℕ)) (place end : ℕ) (o : Option ℕ) (start made next : List B) → o ≡ get_or labels place None
     → end ≡ behind labels place o → IsFresh labels place → made ≡ start ++ map f (runs_before labels place)
     → next ≡ made ++ map f (cons_option (part_with place end o) []) → next ≡ start ++ map f (runs_before labels end)
 link_more {B} f labels place end o start made next is end_is fresh so_far step =

@@ -8,7 +8,7 @@ use Rattle.nav_base.specs.Convex.{corner_at, place_after}
 use Rattle.nav_ground.specs.declared.cell.Cell.{Cell}
 use Rattle.nav_ground.specs.declared.cell.Window.{Window}
 use Rattle.nav_ground.specs.Tiling.{IsInWindow}
-use Rattle.mesh_types.specs.declared.label_runs.Run.{Run}
+use Rattle.mesh_types.specs.declared.region.LabelRun.{LabelRun}
 use Rattle.mesh_types.specs.Runs.{label_if}
 use Rattle.mesh_types.specs.FitTiles.{LiesOnSide, RunsOver}
 use Rattle.mesh_types.specs.StripPolygons.{some_cell, first_of, strip_polygon}
@@ -28,7 +28,7 @@ no_more : (a b : ℕ) → a ≤ b → pos a ≤ℤ pos b
 no_more a b h = omega (arith, ints)
 
 -- the cells of a part lie beside the tile's side
-pub part_at_side : (window : Window) (dir : ℕ) (own : List Cell) (part : Run)
+pub part_at_side : (window : Window) (dir : ℕ) (own : List Cell) (part : LabelRun)
     → IsRunOf (map (λ (cell : Cell). label_if (is_crossing window dir cell)) own) part → (k : ℕ) → part.first ≤ k → k ≤ part.last → k < length own
     → is_at_side window dir (get_or own k some_cell).at ≡ true
 part_at_side window dir own part is k least most inside =

@@ -11,9 +11,9 @@ use Rattle.nav_ground.specs.declared.cell.FreeLayer.{FreeLayer}
 use Rattle.nav_ground.specs.declared.cell.Window.{Window}
 use Rattle.nav_ground.specs.Cells.{IsCut, IsInTile}
 use Rattle.nav_ground.specs.Tiling.{tile_window, IsInWindow}
-use Rattle.mesh_types.specs.declared.label_runs.Run.{Run}
-use Rattle.mesh_types.specs.declared.tile.LevelPair.{LevelPair}
-use Rattle.mesh_types.specs.declared.tile.RimEdge.{RimEdge}
+use Rattle.mesh_types.specs.declared.region.LabelRun.{LabelRun}
+use Rattle.mesh_types.specs.declared.mesh.LevelPair.{LevelPair}
+use Rattle.mesh_types.specs.declared.mesh.RimEdge.{RimEdge}
 use Rattle.mesh_types.specs.Runs.{runs_of, label_if}
 use Rattle.mesh_types.specs.BorderLinks.{along_side}
 use Rattle.mesh_types.specs.StripPolygons.{some_cell, strip_runs}
@@ -36,7 +36,7 @@ crossings window edge own = map (λ (cell : Cell). label_if (is_crossing window 
 -- an entry for a part of a strip has no more than the part's cells
 abbrev IsWithin : Window → List Cell → ℕ → (RimEdge → ℕ) → (Cell → ℕ) → Type 0
 IsWithin window cells side w g =
-    (s edge : ℕ) (part : Run) → s < length (strip_runs cells) → edge < 4 → outside_of edge ≡ side
+    (s edge : ℕ) (part : LabelRun) → s < length (strip_runs cells) → edge < 4 → outside_of edge ≡ side
     → IsRunOf (crossings window edge (get_or (strip_runs cells) s [])) part
     → w (rim_edge s edge (get_or (strip_runs cells) s []) part) ≤ sum_by g (between part.first (part.last + 1) (get_or (strip_runs cells) s []))
 
@@ -52,12 +52,12 @@ edge_within window cells side s edge w g within there small =
     own : List Cell
     own = get_or (strip_runs cells) s []
 
-    parts : List Run
+    parts : List LabelRun
     parts = runs_of (crossings window edge own)
 
-    by_case : (b : Bool) → (outside_of edge == side) ≡ b → sum_by (λ (part : Run). cond b (w (rim_edge s edge own part)) 0) parts ≤ cond b (sum_by g own) 0
+    by_case : (b : Bool) → (outside_of edge == side) ≡ b → sum_by (λ (part : LabelRun). cond b (w (rim_edge s edge own part)) 0) parts ≤ cond b (sum_by g own) 0
     by_case true is =
-        let each = sum_by-no_more (λ (part : Run). w (rim_edge s edge own part)) (λ (part : Run). sum_by g (between part.first (part.last + 1) own)) parts
+        let each = sum_by-no_more (λ (part : LabelRun). w (rim_edge s edge own part)) (λ (part : LabelRun). sum_by g (between part.first (part.last + 1) own)) parts
         (λ k d inside. within s edge (get_or parts k d) there small (eqb-true _ side is) (runs_are_runs (crossings window edge own) k d inside)) in
         omega (arith, each, runs_within g own (crossings window edge own))
     by_case false is = omega (arith, sum_by-zero parts)
@@ -125,7 +125,7 @@ positions_rise (suc (suc (suc zero))) window own first k small row each inside f
 positions_rise (suc (suc (suc (suc edge)))) window own first k small row each inside f l = absurd (omega (arith, small))
 
 -- a position and level that an entry has is that of a cell of its part
-placed_in_part : (window : Window) (own : List Cell) (s edge position level : ℕ) (part : Run) → edge < 4 → IsRow own
+placed_in_part : (window : Window) (own : List Cell) (s edge position level : ℕ) (part : LabelRun) → edge < 4 → IsRow own
     → All (λ (cell : Cell). IsInWindow window cell.at.x cell.at.z) own → IsRunOf (crossings window edge own) part
     → cond (is_named (rim_edge s edge own part) position level) 1 0
     ≤ sum_by (λ (cell : Cell). cond (is_placed window (outside_of edge) position level cell) 1 0) (between part.first (part.last + 1) own)

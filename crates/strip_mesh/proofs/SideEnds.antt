@@ -6,7 +6,7 @@ use Rattle.std.proofs.lemmas.Int.{ints}
 use Rattle.std.proofs.lemmas.List.{append-nil, get_or-map, get_or_past, length-map}
 use Rattle.nav_ground.specs.declared.cell.Cell.{Cell}
 use Rattle.nav_ground.specs.declared.cell.Window.{Window}
-use Rattle.mesh_types.specs.declared.label_runs.Run.{Run}
+use Rattle.mesh_types.specs.declared.region.LabelRun.{LabelRun}
 use Rattle.mesh_types.specs.Runs.{runs_of, label_if}
 use Rattle.mesh_types.specs.StripPolygons.{first_of, some_cell}
 use Rattle.mesh_types.specs.Crossings.{is_crossing}
@@ -76,12 +76,12 @@ one_entry window own dir place label alone is =
     (get_or-map labels own place some_cell None alone.there ∙ is) (unlabelled window own dir place alone)
 
 -- one entry more, or none, behind those before
-pub entry_pushed : {B : Type 0} (f : Run → B) (before after : List B) (made : B) (runs : List Run) (part : Run) → after ≡ before ++ made ∷ [] → made ≡ f part
+pub entry_pushed : {B : Type 0} (f : LabelRun → B) (before after : List B) (made : B) (runs : List LabelRun) (part : LabelRun) → after ≡ before ++ made ∷ [] → made ≡ f part
     → runs ≡ part ∷ [] → after ≡ before ++ map f runs
 entry_pushed {B} f before after made runs part is same all =
     is ∙ ap (λ (b : B). before ++ b ∷ []) same ∙ sym (ap (λ rs. before ++ map f rs) all)
 
-pub no_entry_pushed : {B : Type 0} (f : Run → B) (before : List B) (runs : List Run) → runs ≡ [] → before ≡ before ++ map f runs
+pub no_entry_pushed : {B : Type 0} (f : LabelRun → B) (before : List B) (runs : List LabelRun) → runs ≡ [] → before ≡ before ++ map f runs
 no_entry_pushed f before runs none = sym (append-nil before) ∙ sym (ap (λ rs. before ++ map f rs) none)
 
 -- the label of the cell with an index is that of the cell at a place of the strip

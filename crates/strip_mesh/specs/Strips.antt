@@ -4,8 +4,8 @@ use Rattle.std.specs.List.{prefix_len}
 use Rattle.nav_ground.specs.declared.cell.Cell.{Cell}
 use Rattle.nav_ground.specs.declared.cell.Window.{Window}
 use Rattle.mesh_types.specs.declared.polygon.Polygon.{Polygon}
-use Rattle.mesh_types.specs.declared.tile.LevelPair.{LevelPair}
-use Rattle.mesh_types.specs.declared.label_runs.Run.{Run}
+use Rattle.mesh_types.specs.declared.mesh.LevelPair.{LevelPair}
+use Rattle.mesh_types.specs.declared.region.LabelRun.{LabelRun}
 use Rattle.mesh_types.specs.Runs.{has_label}
 use Rattle.mesh_types.specs.StripPolygons.{strip_polygon, some_cell}
 use Rattle.mesh_types.specs.StripLinks.{strip_beyond, outside_of}
@@ -44,6 +44,6 @@ behind labels place None = place + 1
 behind labels place (Some label) = place + 1 + prefix_len (has_label label) (drop (place + 1) labels)
 
 -- the run from one place to before another, where there is a label
-abbrev pub part_with : ℕ → ℕ → Option ℕ → Option Run
+abbrev pub part_with : ℕ → ℕ → Option ℕ → Option LabelRun
 part_with first end None = None
 part_with first end (Some label) = Some (record { first = first; last = end - 1; label = label })

@@ -19,8 +19,8 @@ use crate::rim::rim;
 use crate::tile_strips::TileStrips;
 use mesh_types::{Links, Polygons, RimEdge, TileMesh};
 use mono_regions::{StripTable, tabled_strips};
-use nav_ground::{FreeLayer, KeptLayer, Setting, Window, tile_bounds};
-use nav_list::{Duplicate, Items};
+use nav_ground::{FreeLayer, PackedFreeLayer, Setting, Window, tile_bounds};
+use nav_lists::{Duplicate, Items};
 use std::alloc::{AllocError, Global};
 
 /// The mesh of a tile from its free cells: a rectangle for each strip, the links between the strips, and the rim. The mesh keeps a copy of
@@ -99,7 +99,7 @@ fn mesh(alloc: Global, strips: TileStrips, setting: &Setting) -> Result<TileMesh
     let StripParts { polys, links, rim } = strip_parts(alloc, &strips, &window)?;
     Ok(TileMesh {
         tile,
-        free: KeptLayer::own(strips.into_free()),
+        free: PackedFreeLayer::own(strips.into_free()),
         polys,
         links,
         rim,

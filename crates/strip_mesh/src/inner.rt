@@ -1,15 +1,16 @@
-//! The links between the strips of a tile.
+//! The links between the strips of a tile. Corners of rectangles, and portals over their edges.
 
 ghost use Rattle.std.specs.Prelude.{◌≡◌, ◌<◌, ◌≤◌, ◌+◌, ◌++◌, [], None, IfOk, OnOk, drop, get_or, length, map};
 ghost use Rattle.std.specs.List.{cons_option, flat_map, prefix_len, range_with_len};
 ghost use Rattle.mesh_types.specs.Runs.{has_label};
-ghost use Rattle.mesh_types.specs.StripLinks.{strip_link, strip_links, strip_links_over, outside_of};
+ghost use Rattle.mesh_types.specs.StripLinks.{strip_link, strip_links, strip_links_over, outside_of, edge_portal};
 ghost use Rattle.strip_mesh.specs.Indexed.{AreIndexed, runs_in, run_in};
 ghost use Rattle.strip_mesh.specs.Strips.{MeetsOthersAt, behind, part_with, strips_over};
+ghost use Rattle.mesh_types.specs.StripPolygons.{corner, sixteenths};
 
-use crate::portals::edge_portal;
-use crate::tile_strips::TileStrips;
-use mesh_types::{Link, Links, PolyRef, Run, order_links};
+use crate::tile_strips::{TileStrips, outside_of};
+use mesh_types::{LabelRun, Link, Links, PolyRef, Portal, order_links};
+use nav_base::Point;
 use std::alloc::{AllocError, Global};
 
 /// The links between the strips of a tile, in order: over each edge one for each maximal run of columns whose cells are connected to cells
@@ -89,8 +90,9 @@ fn push_end_link(
     ensures { OnOk result (links.new.items ≡ links.old.items ++ strip_links_over one.entry.strips.now.free.tile (runs_in one.entry.strips.now) one.entry.strip edge) }
 {
     let run = one.strips.run(one.strip);
-    if let Some(label) = one.strips.beyond(one.strip, 3 - edge, run[place as usize]) {
-        let end = Run {
+    let dir = outside_of(edge);
+    if let Some(label) = one.strips.beyond(one.strip, dir, run[place as usize]) {
+        let end = LabelRun {
             first: place,
             last: place,
             label,
@@ -128,7 +130,7 @@ fn beyond_at(one: OneStrip, edge: u32, place: usize) -> Option<u32>
     ensures { result ≡ get_or (strips_over (runs_in one.entry.strips.now) one.entry.strip edge) place None }
 {
     let run = one.strips.run(one.strip);
-    one.strips.beyond(one.strip, 3 - edge, run[place])
+    one.strips.beyond(one.strip, outside_of(edge), run[place])
 }
 
 /// The place behind that of a cell, and behind those that follow it and are connected to the same strip, which is given.
@@ -193,7 +195,7 @@ fn push_part_link(
         ++ map (strip_link one.entry.strips.now.free.tile (run_in one.entry.strips.now one.entry.strip) one.entry.strip edge) (cons_option (part_with part.0 part.1 label) [])) }
 {
     if let Some(label) = label {
-        let run = Run {
+        let run = LabelRun {
             first: part.0 as u32,
             last: (part.1 - 1) as u32,
             label,
@@ -204,7 +206,7 @@ fn push_part_link(
 }
 
 /// The link over an edge of a strip along a run of its cells.
-fn link(strips: &TileStrips, strip: u32, edge: u32, part: Run) -> Link
+fn link(strips: &TileStrips, strip: u32, edge: u32, part: LabelRun) -> Link
     requires rules { AreIndexed strips.now }
     requires there { strip < length (runs_in strips.now) }
     requires first { part.first < 3000000 }
@@ -221,5 +223,53 @@ fn link(strips: &TileStrips, strip: u32, edge: u32, part: Run) -> Link
             index: part.label,
         },
         portal: edge_portal(edge, at.x + part.first, at.x + part.last, at.z),
+    }
+}
+
+/// A corner, in whole cells.
+pub fn corner(x: u32, z: u32) -> Point
+    requires x { x < 67108864 }
+    requires z { z < 67108864 }
+    ensures { result ≡ corner x z }
+{
+    Point {
+        x: x as i32,
+        z: z as i32,
+    }
+}
+
+/// The same point in sixteenths of a cell.
+fn sixteenths(x: u32, z: u32) -> Point
+    requires x { x < 4194304 }
+    requires z { z < 4194304 }
+    ensures { result ≡ sixteenths x z }
+{
+    corner(16 * x, 16 * z)
+}
+
+/// The portal over an edge of a row z along the columns x0 to x1.
+pub fn edge_portal(edge: u32, x0: u32, x1: u32, z: u32) -> Portal
+    requires x0 { x0 < 4000000 }
+    requires x1 { x1 < 4000000 }
+    requires z { z < 1024 }
+    ensures { result ≡ edge_portal edge x0 x1 z }
+{
+    match edge {
+        0 => Portal {
+            left: sixteenths(x1 + 1, z),
+            right: sixteenths(x0, z),
+        },
+        1 => Portal {
+            left: sixteenths(x1 + 1, z + 1),
+            right: sixteenths(x1 + 1, z),
+        },
+        2 => Portal {
+            left: sixteenths(x0, z + 1),
+            right: sixteenths(x1 + 1, z + 1),
+        },
+        _ => Portal {
+            left: sixteenths(x0, z),
+            right: sixteenths(x0, z + 1),
+        },
     }
 }

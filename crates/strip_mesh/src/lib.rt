@@ -10,7 +10,6 @@
 mod build;
 mod inner;
 mod polygons;
-mod portals;
 mod rim;
 mod tile_strips;
 

@@ -7,10 +7,10 @@ ghost use Rattle.mono_regions.specs.Indices.{cell_at, AreIndices};
 ghost use Rattle.strip_mesh.specs.Indexed.{AreIndexed, runs_in};
 ghost use Rattle.strip_mesh.specs.Strips.{polygon_at};
 
-use crate::portals::corner;
+use crate::inner::corner;
 use crate::tile_strips::TileStrips;
 use mesh_types::{Corners, Polygon, Polygons};
-use nav_ground::SmallCell;
+use nav_ground::PackedCell;
 use std::alloc::{AllocError, Global};
 
 /// The polygons of a tile: a rectangle for each strip, in order.
@@ -28,7 +28,7 @@ pub fn polygons(alloc: Global, strips: &TileStrips) -> Result<Polygons, AllocErr
 }
 
 /// The rectangle round cells of one row, by their indices, counterclockwise from its least corner.
-fn polygon(cells: &[SmallCell], run: &[u32]) -> Polygon
+fn polygon(cells: &[PackedCell], run: &[u32]) -> Polygon
     requires cells { IsCells cells.now }
     requires run { AreIndices cells.now run.now }
     ensures { result ≡ polygon_at cells.now run.now }
@@ -51,7 +51,7 @@ fn polygon(cells: &[SmallCell], run: &[u32]) -> Polygon
 }
 
 /// The least floor of cells.
-fn low(cells: &[SmallCell], run: &[u32]) -> u32
+fn low(cells: &[PackedCell], run: &[u32]) -> u32
     requires { AreIndices cells.now run.now }
     ensures { result ≡ low_of (map (cell_at cells.now) run.now) }
 {
@@ -63,7 +63,7 @@ fn low(cells: &[SmallCell], run: &[u32]) -> u32
 }
 
 /// The greatest floor of cells.
-fn high(cells: &[SmallCell], run: &[u32]) -> u32
+fn high(cells: &[PackedCell], run: &[u32]) -> u32
     requires { AreIndices cells.now run.now }
     ensures { result ≡ high_of (map (cell_at cells.now) run.now) }
 {

@@ -4,6 +4,7 @@ ghost use Rattle.std.specs.Prelude.{◌≡◌, ◌<◌, ◌≤◌, ◌+◌, ◌+
 ghost use Rattle.std.specs.List.{between, flat_map, range_with_len};
 ghost use Rattle.nav_ground.specs.declared.cell.Cell.{Cell};
 ghost use Rattle.nav_ground.specs.Cells.{IsCell, IsCells};
+ghost use Rattle.nav_ground.specs.Directions.{number};
 ghost use Rattle.mesh_types.specs.StripRim.{strip_rim, strip_rim_over};
 ghost use Rattle.mesh_types.specs.Crossings.{is_crossing};
 ghost use Rattle.mesh_types.specs.StripLinks.{outside_of};
@@ -13,10 +14,10 @@ ghost use Rattle.mono_regions.specs.Indices.{cell_at, AreIndices};
 ghost use Rattle.strip_mesh.specs.Indexed.{AreIndexed, runs_in, run_in};
 ghost use Rattle.strip_mesh.specs.Strips.{pair_at, IsAloneAtSide};
 
-use crate::tile_strips::TileStrips;
-use mesh_types::{LevelPair, RimEdge, Run, runs};
-use nav_ground::{CellRef, SmallCell, Window};
-use nav_list::Items;
+use crate::tile_strips::{TileStrips, outside_of};
+use mesh_types::{LabelRun, LevelPair, RimEdge, runs};
+use nav_ground::{CellRef, Direction, PackedCell, Window};
+use nav_lists::Items;
 use std::alloc::{AllocError, Global};
 
 /// The rim of a tile, strip by strip and edge by edge: for each edge along a side of the tile the maximal runs of cells that have a kept
@@ -80,7 +81,7 @@ fn push_rim_over(
     requires edge { edge < 4 }
     ensures { OnOk result (rim.new.items ≡ rim.old.items ++ strip_rim_over of.entry.window.now (runs_in of.entry.strips.now) of.entry.strip edge) }
 {
-    if !may_reach(of, 3 - edge) {
+    if !may_reach(of, outside_of(edge)) {
         return Ok(());
     }
     match end_at_side(of, edge) {
@@ -105,7 +106,7 @@ fn push_rim_at(
 {
     let run = of.strips.run(of.strip);
     if let Some(label) = label_at(of, edge, run[place as usize]) {
-        let part = Run {
+        let part = LabelRun {
             first: place,
             last: place,
             label,
@@ -196,16 +197,16 @@ fn is_last_column(window: &Window, at: CellRef) -> bool
 
 /// Whether a strip may have cells along the side of the tile in a direction: toward x + 1 its last cell comes nearest to that, else its
 /// first.
-fn may_reach(of: StripRim, dir: u32) -> bool
+fn may_reach(of: StripRim, dir: Direction) -> bool
     requires rules { AreIndexed of.strips.now }
     requires there { of.strip < length (runs_in of.strips.now) }
-    requires dir { dir < 4 }
-    ensures { result ≡ false → runs_of (map (λ (cell : Cell). label_if (is_crossing of.entry.window.now dir cell)) (run_in of.entry.strips.now of.entry.strip)) ≡ [] }
+    ensures { result ≡ false → runs_of (map (λ (cell : Cell). label_if (is_crossing of.entry.window.now (number dir) cell)) (run_in of.entry.strips.now of.entry.strip)) ≡ [] }
 {
-    if dir == 2 {
-        is_at_side(of.window, dir, of.strips.last(of.strip).at())
-    } else {
-        is_at_side(of.window, dir, of.strips.first(of.strip).at())
+    match dir {
+        Direction::Right => is_at_side(of.window, dir, of.strips.last(of.strip).at()),
+        Direction::Left | Direction::Above | Direction::Below => {
+            is_at_side(of.window, dir, of.strips.first(of.strip).at())
+        }
     }
 }
 
@@ -233,16 +234,15 @@ fn label_at(of: StripRim, edge: u32, at: u32) -> Option<u32>
     ensures { result ≡ label_if (is_crossing of.entry.window.now (outside_of edge) (cell_at of.entry.strips.now.free.cells at)) }
 {
     let cells = of.strips.free.cells.as_slice();
-    label(of.window, 3 - edge, &cells[at as usize])
+    label(of.window, outside_of(edge), &cells[at as usize])
 }
 
 /// The one label, for a cell that has a kept neighbour across the side of the tile in a direction.
-fn label(window: &Window, dir: u32, cell: &SmallCell) -> Option<u32>
-    requires dir { dir < 4 }
-    requires cell { IsCell cell.now }
-    ensures { result ≡ label_if (is_crossing window.now dir cell.now) }
+fn label(window: &Window, dir: Direction, cell: &PackedCell) -> Option<u32>
+    requires { IsCell cell.now }
+    ensures { result ≡ label_if (is_crossing window.now (number dir) cell.now) }
 {
-    if is_at_side(window, dir, cell.at()) && cell.next(dir as usize).is_some() {
+    if is_at_side(window, dir, cell.at()) && cell.next(dir).is_some() {
         Some(0)
     } else {
         None
@@ -250,16 +250,16 @@ fn label(window: &Window, dir: u32, cell: &SmallCell) -> Option<u32>
 }
 
 /// Whether the neighbouring column of a place in a direction lies outside the tile.
-fn is_at_side(window: &Window, dir: u32, at: CellRef) -> bool
+fn is_at_side(window: &Window, dir: Direction, at: CellRef) -> bool
     requires x { at.x < 1024 }
     requires z { at.z < 1024 }
-    ensures { result ≡ Rattle.mesh_types.specs.Crossings.is_at_side window.now dir at }
+    ensures { result ≡ Rattle.mesh_types.specs.Crossings.is_at_side window.now (number dir) at }
 {
     match dir {
-        0 => at.x as i32 <= window.x0,
-        1 => window.z1 <= at.z as i32,
-        2 => window.x1 <= at.x as i32,
-        _ => at.z as i32 <= window.z0,
+        Direction::Left => at.x as i32 <= window.x0,
+        Direction::Above => window.z1 <= at.z as i32,
+        Direction::Right => window.x1 <= at.x as i32,
+        Direction::Below => at.z as i32 <= window.z0,
     }
 }
 
@@ -269,7 +269,7 @@ fn rim_edge(
     strips: &TileStrips,
     strip: u32,
     edge: u32,
-    part: Run,
+    part: LabelRun,
 ) -> Result<RimEdge, AllocError>
     requires rules { AreIndexed strips.now }
     requires there { strip < length (runs_in strips.now) }
@@ -279,19 +279,19 @@ fn rim_edge(
     ensures { IfOk result (λ entry. entry ≡ Rattle.mesh_types.specs.StripRim.rim_edge strip edge (run_in strips.now strip) part) }
 {
     let cells = strips.free.cells.as_slice();
-    let side = 3 - edge;
+    let side = outside_of(edge);
     let run = part_of(strips, strip, part);
     Ok(RimEdge {
         poly: strip,
         edge,
-        side,
+        side: side.index() as u32,
         first: position_of(side, cells[run[0] as usize].at()),
         pairs: pairs(alloc, cells, run, side)?,
     })
 }
 
 /// The indices of the cells of a strip along a part of it.
-fn part_of(strips: &TileStrips, strip: u32, part: Run) -> &[u32]
+fn part_of(strips: &TileStrips, strip: u32, part: LabelRun) -> &[u32]
     requires rules { AreIndexed strips.now }
     requires there { strip < length (runs_in strips.now) }
     requires order { part.first ≤ part.last }
@@ -313,23 +313,27 @@ fn between(run: &[u32], first: usize, end: usize) -> &[u32]
 }
 
 /// The position of a place along a side of a tile: z on the sides 0 and 2, x on the sides 1 and 3.
-fn position_of(side: u32, at: CellRef) -> u32
-    ensures { result ≡ Rattle.mesh_types.specs.Crossings.position_of side at }
+fn position_of(side: Direction, at: CellRef) -> u32
+    ensures { result ≡ Rattle.mesh_types.specs.Crossings.position_of (number side) at }
 {
-    if side % 2 == 0 { at.z } else { at.x }
+    match side {
+        Direction::Left => at.z,
+        Direction::Above => at.x,
+        Direction::Right => at.z,
+        Direction::Below => at.x,
+    }
 }
 
 /// The levels of cells, by their indices, and of their neighbours across a side.
 fn pairs(
     alloc: Global,
-    cells: &[SmallCell],
+    cells: &[PackedCell],
     run: &[u32],
-    side: u32,
+    side: Direction,
 ) -> Result<Items<LevelPair>, AllocError>
-    requires side { side < 4 }
     requires cells { IsCells cells.now }
     requires run { All (λ i. i < length cells.now) run.now }
-    ensures { IfOk result (λ pairs. pairs ≡ map (pair_at cells.now side) run.now) }
+    ensures { IfOk result (λ pairs. pairs ≡ map (pair_at cells.now (number side)) run.now) }
 {
     let mut pairs = Vec::with_capacity(alloc, run.len())?;
     for at in run {
@@ -339,12 +343,11 @@ fn pairs(
 }
 
 /// The levels of a cell and of its neighbour across a side.
-fn level_pair(side: u32, cell: &SmallCell) -> LevelPair
-    requires side { side < 4 }
-    ensures { result ≡ Rattle.mesh_types.specs.Crossings.level_pair side cell.now }
+fn level_pair(side: Direction, cell: &PackedCell) -> LevelPair
+    ensures { result ≡ Rattle.mesh_types.specs.Crossings.level_pair (number side) cell.now }
 {
     LevelPair {
         own: cell.at().level,
-        other: cell.next(side as usize).unwrap_or(0),
+        other: cell.next(side).unwrap_or(0),
     }
 }

@@ -1,11 +1,13 @@
 //! A tile's free cells beside their neighbour table and their strips.
 
 ghost use Rattle.std.specs.Prelude.{◌≡◌, ◌<◌, ◌==◌, if◌then◌else◌, None, Some, option_and_then};
+ghost use Rattle.nav_ground.specs.Directions.{number};
 ghost use Rattle.cell_table.specs.Table.{neighbour};
+ghost use Rattle.mesh_types.specs.StripLinks.{outside_of};
 
 use mono_regions::{StripIndex, StripTable};
-use nav_ground::{FreeLayer, SmallCell};
-use nav_list::Items;
+use nav_ground::{Direction, FreeLayer, PackedCell};
+use nav_lists::Items;
 
 /// What a mesh of strips is made from.
 #[derive(Drop)]
@@ -63,7 +65,7 @@ impl TileStrips {
     }
 
     /// The first cell of a strip.
-    pub fn first(&self, strip: u32) -> &SmallCell
+    pub fn first(&self, strip: u32) -> &PackedCell
         requires rules { AreIndexed self.now }
         requires there { strip < length (runs_in self.now) }
         ensures value { result.now ≡ first_of (run_in self.now strip) }
@@ -75,7 +77,7 @@ impl TileStrips {
     }
 
     /// The last cell of a strip.
-    pub fn last(&self, strip: u32) -> &SmallCell
+    pub fn last(&self, strip: u32) -> &PackedCell
         requires rules { AreIndexed self.now }
         requires there { strip < length (runs_in self.now) }
         ensures value { result.now ≡ last_of (run_in self.now strip) }
@@ -87,25 +89,31 @@ impl TileStrips {
     }
 
     /// The strip, other than a cell's own, that holds the cell which it names in a direction.
-    pub fn beyond(&self, strip: u32, dir: u32, at: u32) -> Option<u32>
+    pub fn beyond(&self, strip: u32, dir: Direction, at: u32) -> Option<u32>
         requires rules { AreIndexed self.now }
-        requires dir { dir < 4 }
         requires there { at < length self.now.free.cells }
-        ensures { result ≡ strip_beyond (runs_in self.now) strip dir (cell_at self.now.free.cells at) }
+        ensures { result ≡ strip_beyond (runs_in self.now) strip (number dir) (cell_at self.now.free.cells at) }
     {
-        let to = neighbour(self.table.as_slice(), at, dir as usize);
+        let to = neighbour(self.table.as_slice(), at, dir);
         let owner = self.index.owners.get(to as usize).copied();
         other(owner, strip)
     }
 }
 
+/// The direction that lies outside an edge of a rectangle.
+pub fn outside_of(edge: u32) -> Direction
+    requires { edge < 4 }
+    ensures { number result ≡ outside_of edge }
+{
+    Direction::of(3 - edge)
+}
+
 /// The index in a table at a cell and a direction; past the table one that no cell has.
-fn neighbour(table: &[[u32; 4]], from: u32, dir: usize) -> u32
-    requires { dir < 4 }
-    ensures { result ≡ neighbour table.now from dir }
+fn neighbour(table: &[[u32; 4]], from: u32, dir: Direction) -> u32
+    ensures { result ≡ neighbour table.now from (number dir) }
 {
     match table.get(from as usize) {
-        Some(next) => next[dir],
+        Some(next) => next[dir.index()],
         None => u32::MAX,
     }
 }

@@ -8,7 +8,7 @@ use Rattle.nav_base.specs.declared.point.Point.{Point}
 use Rattle.nav_base.specs.Point.{IsCoordinate}
 use Rattle.nav_base.proofs.Polynomials.{at, number, sum, difference, product, equal}
 use Rattle.mesh_types.specs.LinkOrder.{is_point_before}
-use Rattle.surface_move.specs.declared.ways.Way.{Way}
+use Rattle.surface_move.specs.declared.nearby.StraightWay.{StraightWay}
 use Rattle.surface_move.specs.Moves.{leg_of, IsNear, IsNearAlong}
 use Rattle.surface_move.specs.Ways.{IsOffset, IsRounded, IsWay}
 use Rattle.surface_move.proofs.Numbers.{one_more, times_le, factor_le, factor_lt, factor_same, small_multiple}
@@ -198,7 +198,7 @@ pub long_axis : (a b : ℕ) → (a ≡ max a b) ⊎ (b ≡ max a b)
 long_axis a b = elim (cases_lt a b) [ inl less ↦ inr (omega (arith, less)) | inr more ↦ inl (omega (arith, more)) ]
 
 -- the points near a way, from the coordinates near it on either axis
-pub two_points : (way : Way) (g : ℕ) (x x' z z' : ℤ) (first second : Point) → IsWay way → first ≡ record { x = x; z = z } → second ≡ record { x = x'; z = z' }
+pub two_points : (way : StraightWay) (g : ℕ) (x x' z z' : ℤ) (first second : Point) → IsWay way → first ≡ record { x = x; z = z } → second ≡ record { x = x'; z = z' }
     → ((q : ℤ) → IsNearAlong way.steps g way.from.x way.to.x q ↔ ((q ≡ x) ⊎ (q ≡ x'))) → ((q : ℤ) → IsNearAlong way.steps g way.from.z way.to.z q ↔ ((q ≡ z) ⊎ (q ≡ z')))
     → (q : Point) → IsNear way.from way.to g q ↔ ((q ≡ first) ⊎ (q ≡ second))
 two_points way g x x' z z' first second is one two across along q = (found, near)
@@ -248,13 +248,13 @@ two_points way g x x' z z' first second is one two across along q = (found, near
         ((along q.z).0 (subst (λ (m : ℕ). IsNearAlong m g way.from.z way.to.z q.z) (sym is.steps) is_near.along)) axis
 
 -- by how much a near point is off the place that is reached, times the number of all steps
-abbrev pub offset_of : Way → ℕ → Point → Point
+abbrev pub offset_of : StraightWay → ℕ → Point → Point
 offset_of way g q = record {
   x = pos way.steps *ℤ q.x -ℤ reached_of way.steps g way.from.x way.to.x;
   z = pos way.steps *ℤ q.z -ℤ reached_of way.steps g way.from.z way.to.z;
 }
 
-pub near_offset : (way : Way) (g : ℕ) (q : Point) → IsWay way → IsNear way.from way.to g q → IsOffset way (offset_of way g q)
+pub near_offset : (way : StraightWay) (g : ℕ) (q : Point) → IsWay way → IsNear way.from way.to g q → IsOffset way (offset_of way g q)
 near_offset way g q is near = record {
   across = near_x;
   along = near_z;
@@ -269,7 +269,7 @@ near_offset way g q is near = record {
     near_z = subst (λ (m : ℕ). IsNearAlong m g way.from.z way.to.z q.z) (sym is.steps) near.along
 
 -- a way is at most as long as two coordinates are apart
-pub few_steps : (way : Way) → IsWay way → way.steps ≤ 131072
+pub few_steps : (way : StraightWay) → IsWay way → way.steps ≤ 131072
 few_steps way is = omega (arith, is.steps, apart way.from.x way.to.x is.from.across is.to.across, apart way.from.z way.to.z is.from.along is.to.along)
   where
     apart : (a b : ℤ) → IsCoordinate a → IsCoordinate b → unsigned_abs (b -ℤ a) ≤ 131072

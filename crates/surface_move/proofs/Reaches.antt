@@ -12,14 +12,14 @@ use Rattle.mesh_types.specs.LinkOrder.{is_point_before}
 use Rattle.mesh_types.specs.Located.{Holds}
 use Rattle.mesh_types.specs.Rays.{IsHeldAt}
 use Rattle.mesh_types.specs.WholeMesh.{poly_at}
-use Rattle.surface_move.specs.declared.ways.Steps.{Steps}
+use Rattle.surface_move.specs.declared.nearby.StepRange.{StepRange}
 use Rattle.surface_move.specs.Moves.{nth_polygon, IsNear, IsMet, IsPartEnd}
 use Rattle.surface_move.specs.Ways.{IsAmong, HoldsNear, HoldsNearFrom, IsFirstHolder, IsGreatest}
 use Rattle.surface_move.proofs.NearPoints.{in_order}
 
 -- ---- one polygon
 
-module _ (P : ℕ → Type 0) (gone rest step : ℕ) (more possible : Steps) (first : more.least ≡ gone + 1) (last : more.most ≡ rest)
+module _ (P : ℕ → Type 0) (gone rest step : ℕ) (more possible : StepRange) (first : more.least ≡ gone + 1) (last : more.most ≡ rest)
     (least : more.least ≤ possible.least) (most : possible.most ≤ more.most) (all : (g : ℕ) → IsAmong more g → P g → IsAmong possible g)
     (top : (g : ℕ) → IsAmong possible g → P g → g ≤ step) where
   -- the number of steps at hand is the greatest

@@ -10,7 +10,7 @@ use Rattle.nav_base.specs.Point.{from_to, dot_of, cross_of, orient_of}
 use Rattle.nav_base.proofs.Polynomials.{at, number, sum, difference, product, equal}
 use Rattle.nav_base.proofs.PointTerms.{place, coordinates, from_to_term, cross_term, orient_term}
 use Rattle.nav_base.proofs.Signs.{product-not_negative}
-use Rattle.surface_move.specs.declared.ways.Way.{Way}
+use Rattle.surface_move.specs.declared.nearby.StraightWay.{StraightWay}
 use Rattle.surface_move.specs.Moves.{IsNear}
 use Rattle.surface_move.specs.Ways.{IsOffset, IsWay}
 use Rattle.surface_move.proofs.NearPoints.{offset_of, near_offset}
@@ -37,7 +37,7 @@ turn_at u v from to q n g =
     }))) refl
 
 -- where q does not lie to the right, the turn at the place reached is not below 0, with what rounding can add
-pub not_right : (u v : Point) (way : Way) (g : ℕ) (q : Point) (start each rounding : ℤ) → IsWay way
+pub not_right : (u v : Point) (way : StraightWay) (g : ℕ) (q : Point) (start each rounding : ℤ) → IsWay way
     → ((off : Point) → IsOffset way off → cross_of (from_to u v) off ≤ℤ rounding)
     → start ≡ pos way.steps *ℤ orient_of u v way.from +ℤ rounding → each ≡ orient_of u v way.to -ℤ orient_of u v way.from
     → IsNear way.from way.to g q → pos 0 ≤ℤ orient_of u v q → pos 0 ≤ℤ (start +ℤ pos g *ℤ each)
@@ -58,7 +58,7 @@ not_right u v way g q start each rounding is most start_is each_is near left =
 -- ---- what rounding can add
 
 -- along one axis an offset is nothing, along the other less than all steps
-pub across_wide : (u v : Point) (way : Way) (off : Point) → IsOffset way off → unsigned_abs (way.to.x -ℤ way.from.x) ≡ way.steps
+pub across_wide : (u v : Point) (way : StraightWay) (off : Point) → IsOffset way off → unsigned_abs (way.to.x -ℤ way.from.x) ≡ way.steps
     → cross_of (from_to u v) off ≤ℤ pos (unsigned_abs (v.x -ℤ u.x) * (way.steps - 1))
 unfolding cross_of
 across_wide u v way off is wide =
@@ -72,7 +72,7 @@ across_wide u v way off is wide =
     bounded : (a b : ℤ) (k : ℕ) → unsigned_abs a ≤ k → b ≡ pos 0 → (a -ℤ b) ≤ℤ pos k
     bounded a b k h e = omega (arith, ints)
 
-pub across_high : (u v : Point) (way : Way) (off : Point) → IsOffset way off → unsigned_abs (way.to.z -ℤ way.from.z) ≡ way.steps
+pub across_high : (u v : Point) (way : StraightWay) (off : Point) → IsOffset way off → unsigned_abs (way.to.z -ℤ way.from.z) ≡ way.steps
     → cross_of (from_to u v) off ≤ℤ pos (unsigned_abs (v.z -ℤ u.z) * (way.steps - 1))
 unfolding cross_of
 across_high u v way off is high =

@@ -9,7 +9,7 @@ use Rattle.mesh_types.specs.declared.polygon.Polygon.{Polygon}
 use Rattle.mesh_types.specs.LinkOrder.{is_point_before}
 use Rattle.mesh_types.specs.Rays.{IsHeldAt}
 use Rattle.mesh_types.specs.WholeMesh.{poly_at}
-use Rattle.surface_move.specs.declared.ends.PartEnd.{PartEnd}
+use Rattle.surface_move.specs.declared.parts.PartEnd.{PartEnd}
 
 -- how far it is from one point to another along the longer axis
 abbrev pub leg_of : Point → Point → ℕ
@@ -36,6 +36,7 @@ AreThere mesh polys = All (IsThere mesh) polys
 abbrev pub no_polygon : PolyRef
 no_polygon = record { tile = 0; index = 0 }
 
+-- the polygon at a place of a list
 abbrev pub nth_polygon : List PolyRef → ℕ → PolyRef
 nth_polygon polys place = get_or polys place no_polygon
 

@@ -8,13 +8,13 @@ use Rattle.mesh_types.specs.declared.mesh.Mesh.{Mesh}
 use Rattle.mesh_types.specs.declared.polygon.Polygon.{Polygon}
 use Rattle.mesh_types.specs.Located.{Holds}
 use Rattle.mesh_types.specs.Rays.{IsHeldAt}
-use Rattle.surface_move.specs.declared.ways.Way.{Way}
-use Rattle.surface_move.specs.declared.ways.Steps.{Steps}
-use Rattle.surface_move.specs.declared.ways.Turn.{Turn}
+use Rattle.surface_move.specs.declared.nearby.StraightWay.{StraightWay}
+use Rattle.surface_move.specs.declared.nearby.StepRange.{StepRange}
+use Rattle.surface_move.specs.declared.nearby.SteppedNumber.{SteppedNumber}
 use Rattle.surface_move.specs.Moves.{leg_of, IsNear, IsMet, nth_polygon}
 
 -- a way between points with coordinates, of as many steps as it is long, which is not nowhere
-pub record IsWay (way : Way) : Type 0 where
+pub record IsWay (way : StraightWay) : Type 0 where
   pub from : HasCoordinates way.from
   pub to : HasCoordinates way.to
   pub steps : way.steps ≡ leg_of way.from way.to
@@ -28,19 +28,19 @@ pub record IsRounded (n value low high : ℤ) : Type 0 where
 
 -- by how much a near point is off the place that a way has reached, times the number of its steps: less than that number on either axis, and
 -- nothing on an axis along which each step goes a whole one
-pub record IsOffset (way : Way) (off : Point) : Type 0 where
+pub record IsOffset (way : StraightWay) (off : Point) : Type 0 where
   pub across : unsigned_abs off.x < way.steps
   pub along : unsigned_abs off.z < way.steps
   pub wide : unsigned_abs (way.to.x -ℤ way.from.x) ≡ way.steps → off.x ≡ pos 0
   pub high : unsigned_abs (way.to.z -ℤ way.from.z) ≡ way.steps → off.z ≡ pos 0
 
 -- a number of steps is one of some
-pub record IsAmong (steps : Steps) (g : ℕ) : Type 0 where
+pub record IsAmong (steps : StepRange) (g : ℕ) : Type 0 where
   pub least : steps.least ≤ g
   pub most : g ≤ steps.most
 
 -- what a turn comes to after g steps is not below 0
-abbrev pub IsNotRight : Turn → ℕ → Type 0
+abbrev pub IsNotRight : SteppedNumber → ℕ → Type 0
 IsNotRight turn g = pos 0 ≤ℤ (turn.start +ℤ pos g *ℤ turn.each)
 
 -- a polygon holds a point that is near a way after g steps

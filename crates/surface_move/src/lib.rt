@@ -1,4 +1,4 @@
-//! Straight moves over the polygons of a mesh, in whole points.
+//! Straight moves over the polygons of a mesh, in whole points; Detour's `moveAlongSurface` as far as it goes straight.
 //!
 //! A way from one point to another has as many steps as it is long on its longer axis, which `leg` tells. After each step at most two whole
 //! points are near it: the coordinate along the longer axis is whole there, the other is rounded down and up. `part` gives how far a way leads
@@ -11,13 +11,8 @@
 //! counterclockwise.
 #![tactic(auto)]
 
-mod bounds;
-mod ends;
-mod legs;
 mod nearby;
 mod parts;
-mod ways;
 
-pub use ends::PartEnd;
-pub use legs::leg;
-pub use parts::part;
+pub use nearby::leg;
+pub use parts::{PartEnd, part};

@@ -1,18 +1,17 @@
-//! The whole points that are near a way.
+//! The whole points that are near a way. How long a straight way is. Ways that are looked along.
 
 ghost use Rattle.std.specs.Prelude.{◌≡◌, ◌↔◌, ℕ, ◌≤◌, ◌^◌, ◌⊎◌, false, pos, negsuc, ◌+ℤ◌, ◌-ℤ◌, ◌*ℤ◌, ◌≤ℤ◌, ◌<ℤ◌, ℤ};
 ghost use Rattle.std.specs.Int.RustNames.{unsigned_abs};
 ghost use Rattle.nav_base.specs.declared.point.Point as points;
 ghost use Rattle.nav_base.specs.Point.{HasCoordinates, IsCoordinate};
 ghost use Rattle.mesh_types.specs.LinkOrder.{is_point_before};
-ghost use Rattle.surface_move.specs.Moves.{IsNear, IsNearAlong};
+ghost use Rattle.surface_move.specs.Moves.{IsNear, IsNearAlong, leg_of};
 ghost use Rattle.surface_move.specs.Ways.{IsRounded, IsWay};
 
-use crate::ways::Way;
 use nav_base::Point;
 
 /// The whole points that are near a way after a number of steps: two of which the second is not before the first, or one twice.
-pub(crate) fn near_points(way: Way, step: u32) -> (Point, Point)
+pub(crate) fn near_points(way: StraightWay, step: u32) -> (Point, Point)
     requires way { IsWay way }
     requires step { step ≤ way.steps }
     ensures near { (q : points.Point) → IsNear way.from way.to step q ↔ ((q ≡ result.0) ⊎ (q ≡ result.1)) }
@@ -100,4 +99,47 @@ fn quotient(place: i64, steps: u32) -> (i64, i64)
 {
     let steps = i64::from(steps);
     (place.div_euclid(steps), place.rem_euclid(steps))
+}
+
+/// How far it is from one point to another along the longer axis, in the unit of the points.
+pub fn leg(a: Point, b: Point) -> u32
+    ensures { result ≡ leg_of a b }
+{
+    across(a, b).max(along(a, b))
+}
+
+/// How far it is along x.
+pub(crate) fn across(a: Point, b: Point) -> u32
+    ensures { result ≡ unsigned_abs (b.x -ℤ a.x) }
+{
+    b.x.abs_diff(a.x)
+}
+
+/// How far it is along z.
+pub(crate) fn along(a: Point, b: Point) -> u32
+    ensures { result ≡ unsigned_abs (b.z -ℤ a.z) }
+{
+    b.z.abs_diff(a.z)
+}
+
+/// The straight way from one point to another, with the number of its steps: as many as it is long on its longer axis.
+#[derive(Clone, Copy)]
+pub(crate) struct StraightWay {
+    pub(crate) from: Point,
+    pub(crate) to: Point,
+    pub(crate) steps: u32,
+}
+
+/// Numbers of steps, from the least to the most; none where the most is less than the least.
+#[derive(Clone, Copy)]
+pub(crate) struct StepRange {
+    pub(crate) least: u64,
+    pub(crate) most: u64,
+}
+
+/// A number that changes with each step of a way: what it is at the start, and how much each step adds.
+#[derive(Clone, Copy)]
+pub(crate) struct SteppedNumber {
+    pub(crate) start: i64,
+    pub(crate) each: i64,
 }

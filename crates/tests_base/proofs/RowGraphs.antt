@@ -7,9 +7,9 @@ use Rattle.std.proofs.lemmas.List.{get_or_past, get_or-map, length-map, map-appe
 use Rattle.std.proofs.lemmas.List.Sums.{AllPass-from_list_all}
 use Rattle.std.proofs.lemmas.List.Elements.{All-map, All-weaker, All-nil}
 use Rattle.std.proofs.lemmas.List.FromFn.{get_or-map-range_with_len}
-use Rattle.graph_search.specs.declared.arcs.Vertex.{Vertex}
-use Rattle.graph_search.specs.declared.arcs.Arc.{Arc}
-use Rattle.graph_search.specs.declared.arcs.Step.{Step}
+use Rattle.graph_search.specs.declared.graph.Vertex.{Vertex}
+use Rattle.graph_search.specs.declared.graph.Arc.{Arc}
+use Rattle.graph_search.specs.declared.graph.Step.{Step}
 use Rattle.graph_search.specs.Walks.{no_arc, arc_of, ends_of, IsSearchable}
 use Rattle.tests_base.specs.Rows.{vertex_at, ten_vertices, is_pair, pair_arc, row_arcs, none_left}
 

@@ -1,8 +1,8 @@
 -- Small graphs that are given as rows, for the tests: for each vertex of one block the arcs that leave it, by where they end and their weight.
 use Rattle.std.specs.Prelude.{ℕ, Bool, IsTrue, nat_lt, ◌&&◌, List, [], map, slice_index_or}
 use Rattle.std.specs.List.{list_all, range_with_len}
-use Rattle.graph_search.specs.declared.arcs.Vertex.{Vertex}
-use Rattle.graph_search.specs.declared.arcs.Arc.{Arc}
+use Rattle.graph_search.specs.declared.graph.Vertex.{Vertex}
+use Rattle.graph_search.specs.declared.graph.Arc.{Arc}
 
 -- a vertex of the one block
 abbrev pub vertex_at : ℕ → Vertex

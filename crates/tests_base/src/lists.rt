@@ -1,7 +1,7 @@
 //! Lists at two types of elements, by hand.
 
 use crate::checks::same;
-use nav_list::{Duplicate, Items};
+use nav_lists::{Duplicate, Items};
 use std::alloc::{AllocError, Global};
 use std::process::Abort;
 

@@ -1,8 +1,7 @@
 //! Shared values, and values that hold them, seen as what they hold.
 
 use crate::checks::same;
-use nav_list::{Duplicate, Items};
-use nav_share::Shared;
+use nav_lists::{Duplicate, Items, Shared};
 use std::alloc::{AllocError, Global};
 
 /// The list of the number 7, shared.

@@ -2,7 +2,7 @@
 
 ghost use Rattle.std.specs.Prelude.{◌≡◌, ◌+◌, ◌<◌};
 
-use nav_steps::Steps;
+use nav_base::Steps;
 use std::marker::Brand;
 use std::sync::ledger::{Blank, Ledger};
 

@@ -6,9 +6,8 @@ ghost use Rattle.nav_ground.specs.Cells.{IsCells, IsCut, IsLayer};
 
 use crate::rows::{CellRow, NO, Row, cells_of, check_cells};
 use agent_erode::runs_near;
-use nav_ground::{FreeLayer, Layer, Shape, SmallCell, WideCells, Window};
-use nav_list::Items;
-use nav_share::Shared;
+use nav_ground::{FreeLayer, Layer, PackedCell, PaddedCells, Shape, Window};
+use nav_lists::{Items, Shared};
 use obstacle_mark::mark;
 use std::alloc::{AllocError, Global};
 use std::process::Abort;
@@ -90,21 +89,21 @@ const EVERYWHERE: Window = Window {
     z1: 1023,
 };
 
-fn inner(alloc: Global) -> Result<Vec<SmallCell>, AllocError>
+fn inner(alloc: Global) -> Result<Vec<PackedCell>, AllocError>
     ensures { IfOk result (λ cells. IsCut cells.items) }
 {
     let cells = cells_of(alloc, &INNER)?;
     Ok(cells)
 }
 
-fn wide(alloc: Global) -> Result<Vec<SmallCell>, AllocError>
+fn wide(alloc: Global) -> Result<Vec<PackedCell>, AllocError>
     ensures { IfOk result (λ cells. IsCells cells.items) }
 {
     let cells = cells_of(alloc, &WIDE)?;
     Ok(cells)
 }
 
-fn hollow(alloc: Global) -> Result<Vec<SmallCell>, AllocError>
+fn hollow(alloc: Global) -> Result<Vec<PackedCell>, AllocError>
     ensures { IfOk result (λ cells. IsCells cells.items) }
 {
     let cells = cells_of(alloc, &HOLLOW)?;
@@ -112,17 +111,17 @@ fn hollow(alloc: Global) -> Result<Vec<SmallCell>, AllocError>
 }
 
 /// Cells as wide cells: runs of a list, one a row.
-fn wide_of(alloc: Global, cells: Vec<SmallCell>) -> Result<WideCells, AllocError>
+fn wide_of(alloc: Global, cells: Vec<PackedCell>) -> Result<PaddedCells, AllocError>
     requires { IsCells cells.items }
     ensures { IfOk result IsCells }
 {
     let runs = runs_near(alloc, cells.as_slice(), EVERYWHERE, 0)?;
     let shared = Shared::new(alloc, Items::from_vec(cells))?;
-    Ok(WideCells::over(shared, runs))
+    Ok(PaddedCells::over(shared, runs))
 }
 
 /// A layer of the inner cells.
-fn layer(alloc: Global, radius: u32, wide: Vec<SmallCell>) -> Result<Layer, AllocError>
+fn layer(alloc: Global, radius: u32, wide: Vec<PackedCell>) -> Result<Layer, AllocError>
     requires { IsCells wide.items }
     ensures { IfOk result IsLayer }
 {
@@ -138,7 +137,7 @@ fn layer(alloc: Global, radius: u32, wide: Vec<SmallCell>) -> Result<Layer, Allo
 fn marked(
     alloc: Global,
     radius: u32,
-    wide: Vec<SmallCell>,
+    wide: Vec<PackedCell>,
     shapes: &[Shape],
 ) -> Result<FreeLayer, AllocError>
     requires wide { IsCells wide.items }

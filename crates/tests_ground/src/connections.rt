@@ -8,7 +8,7 @@ use crate::rows::{CellRow, NO, are_same, check_cells, place};
 use crate::rules::{keeps_rules, small_spans};
 use compact_layer::{CompactField, compact, neighbour};
 use nav_ground::{Agent, Field, Span};
-use nav_list::Duplicate;
+use nav_lists::Duplicate;
 use std::alloc::{AllocError, Global};
 use std::process::Abort;
 

@@ -12,10 +12,10 @@ use crate::rows::are_same;
 use crate::rules::{keeps_rules, small};
 use layer_cut::{ground, layer, tile_of};
 use nav_ground::{
-    AREAS, Agent, CellRef, Field, Ground, Layer, MeshKind, Setting, SmallCell, Span, TileNo,
+    AREAS, Agent, CellRef, Field, Ground, Layer, MeshKind, PackedCell, Setting, Span, TileNo,
     Window, tile_bounds, tiles,
 };
-use nav_list::Items;
+use nav_lists::Items;
 use std::alloc::{AllocError, Global};
 use std::process::Abort;
 
@@ -160,7 +160,7 @@ fn at_ground(x: u32, z: u32) -> CellRef {
 }
 
 /// The cell is as wanted.
-fn check_cell(rt: &impl Abort, case: &Case, cell: &SmallCell) {
+fn check_cell(rt: &impl Abort, case: &Case, cell: &PackedCell) {
     let cell = cell.get();
     let (x, z) = (cell.at.x, cell.at.z);
     assert!(rt; is_inside(x) && is_inside(z));
@@ -203,7 +203,7 @@ fn cells_in(layers: &[Layer]) -> usize {
 }
 
 /// Whether a cell lies in a tile.
-fn is_in(setting: &Setting, tile: TileNo, cell: &SmallCell) -> bool
+fn is_in(setting: &Setting, tile: TileNo, cell: &PackedCell) -> bool
     requires { IsSetting setting.now }
 {
     let CellRef { x, z, level: _ } = cell.at();
@@ -211,7 +211,7 @@ fn is_in(setting: &Setting, tile: TileNo, cell: &SmallCell) -> bool
 }
 
 /// The cells of a tile are as wanted, and lie in it.
-fn check_cells(rt: &impl Abort, case: &Case, setting: &Setting, tile: TileNo, cells: &[SmallCell])
+fn check_cells(rt: &impl Abort, case: &Case, setting: &Setting, tile: TileNo, cells: &[PackedCell])
     requires { IsSetting setting.now }
 {
     for cell in cells {
@@ -254,7 +254,13 @@ fn wide_wanted(alloc: Global, case: &Case, window: &Window) -> Result<Vec<CellRe
 }
 
 /// The radius and the wide cells of a layer are as wanted.
-fn check_wide(rt: &impl Abort, case: &Case, layer: &Layer, wide: &[SmallCell], places: &[CellRef]) {
+fn check_wide(
+    rt: &impl Abort,
+    case: &Case,
+    layer: &Layer,
+    wide: &[PackedCell],
+    places: &[CellRef],
+) {
     same(rt, layer.radius, margin_wanted(case));
     same(rt, wide.len(), places.len());
     for (cell, place) in wide.iter().zip(places.iter()) {
@@ -296,12 +302,12 @@ fn check_layers(
     rt: &impl Abort,
     alloc: Global,
     case: &Case,
-    whole: &Ground,
+    ground: &Ground,
 ) -> Result<(), AllocError>
-    requires { IsGround whole.now }
+    requires { IsGround ground.now }
 {
-    let setting = &whole.setting;
-    let layers = whole.layers.as_slice();
+    let setting = &ground.setting;
+    let layers = ground.layers.as_slice();
     assert!(rt; layers.len() == tiles(setting) as usize);
     for tile in 0..tiles(setting) {
         let there = &layers[tile as usize];
@@ -350,10 +356,10 @@ fn check(rt: &impl Abort, alloc: Global, case: &Case) -> Result<(), AllocError>
     requires radius { case.now.radius ≤ 15 }
     requires clear { case.now.clear ≡ true → 2 * case.now.radius ≤ case.now.tile }
 {
-    let whole = ground_of(rt, alloc, case)?;
-    same(rt, cells_in(whole.layers.as_slice()), cells_wanted(case));
-    check_layers(rt, alloc, case, &whole)?;
-    check_parts(rt, alloc, case, whole.layers.as_slice())
+    let ground = ground_of(rt, alloc, case)?;
+    same(rt, cells_in(ground.layers.as_slice()), cells_wanted(case));
+    check_layers(rt, alloc, case, &ground)?;
+    check_parts(rt, alloc, case, ground.layers.as_slice())
 }
 
 /// Each layer is also had from a part of the field.

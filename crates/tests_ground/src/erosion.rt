@@ -8,7 +8,7 @@ use crate::rows::{NO, Row, cells_of};
 use agent_erode::{erode, erode_window, kept_marks};
 use compact_layer::CompactField;
 use nav_ground::{CellRef, Window};
-use nav_list::Items;
+use nav_lists::Items;
 use std::alloc::{AllocError, Global};
 use std::process::Abort;
 

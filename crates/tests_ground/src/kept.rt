@@ -6,21 +6,21 @@ ghost use Rattle.nav_ground.specs.Cells.{IsCut, IsLayer};
 
 use crate::checks::same;
 use crate::rows::{CellRow, check_cells};
-use nav_ground::{FreeLayer, KeptLayer, Layer};
-use nav_list::Duplicate;
+use nav_ground::{FreeLayer, Layer, PackedFreeLayer};
+use nav_lists::Duplicate;
 use std::alloc::{AllocError, Global};
 use std::process::Abort;
 
 /// Free cells as a list of their own.
-fn own(free: FreeLayer) -> KeptLayer
+fn own(free: FreeLayer) -> PackedFreeLayer
     requires { IsCut free.cells }
     ensures { AreOrdered result.cells }
 {
-    KeptLayer::own(free)
+    PackedFreeLayer::own(free)
 }
 
 /// The same over their layer.
-fn over(alloc: Global, layer: &Layer, kept: KeptLayer) -> Result<KeptLayer, AllocError>
+fn over(alloc: Global, layer: &Layer, kept: PackedFreeLayer) -> Result<PackedFreeLayer, AllocError>
     requires layer { IsLayer layer.now }
     requires kept { AreOrdered kept.cells }
     ensures { IfOk result (λ over. AreOrdered over.cells) }
@@ -30,7 +30,7 @@ fn over(alloc: Global, layer: &Layer, kept: KeptLayer) -> Result<KeptLayer, Allo
 }
 
 /// The same as a copy.
-fn copy(alloc: Global, kept: &KeptLayer) -> Result<KeptLayer, AllocError>
+fn copy(alloc: Global, kept: &PackedFreeLayer) -> Result<PackedFreeLayer, AllocError>
     requires { AreOrdered kept.now.cells }
     ensures { IfOk result (λ copy. AreOrdered copy.cells) }
 {
@@ -63,7 +63,7 @@ pub(crate) fn check_kept(
 fn check_cells_kept(
     rt: &impl Abort,
     alloc: Global,
-    kept: &KeptLayer,
+    kept: &PackedFreeLayer,
     wanted: &[CellRow],
 ) -> Result<(), AllocError>
     requires { AreOrdered kept.now.cells }
@@ -81,7 +81,7 @@ fn check_cells_kept(
 fn check_column(
     rt: &impl Abort,
     alloc: Global,
-    kept: &KeptLayer,
+    kept: &PackedFreeLayer,
     at: (u32, u32),
     wanted: &[CellRow],
 ) -> Result<(), AllocError>

@@ -1,4 +1,4 @@
-//! Tests of the ground: tiles and shapes, the filters, cells and their connections, erosion, the cut and the marks of obstacles, and the desk.
+//! Tests of the ground: tiles and shapes, the filters, cells and their connections, erosion, the cut and the marks of obstacles, and the queue.
 //!
 //! The tests use public calls alone, and compare them with tables that were worked out by hand. They stand apart from what they test,
 //! so that no crate is proved a second time with its tests.
@@ -13,8 +13,6 @@ mod connections;
 #[cfg(test)]
 mod cuts;
 #[cfg(test)]
-mod desks;
-#[cfg(test)]
 mod erosion;
 #[cfg(test)]
 mod filters;
@@ -26,6 +24,8 @@ mod marks;
 mod neighbours;
 #[cfg(test)]
 mod open_cells;
+#[cfg(test)]
+mod queues;
 #[cfg(test)]
 mod rows;
 #[cfg(test)]

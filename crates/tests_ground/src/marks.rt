@@ -7,7 +7,7 @@ ghost use Rattle.nav_ground.specs.Cells.{IsLayer};
 use crate::checks::same;
 use crate::kept::check_kept;
 use crate::rows::{CellRow, NO, check_cells, stored};
-use nav_ground::{Layer, Shape, WideCells};
+use nav_ground::{Layer, PaddedCells, Shape};
 use obstacle_mark::mark;
 use std::alloc::{AllocError, Global};
 use std::process::Abort;
@@ -27,7 +27,7 @@ fn layer(alloc: Global) -> Result<Layer, AllocError>
         tile: 5,
         cells: stored(alloc, &CELLS)?,
         radius: 0,
-        wide: WideCells::none(alloc),
+        wide: PaddedCells::none(alloc),
     })
 }
 

@@ -6,7 +6,7 @@ ghost use Rattle.nav_ground.specs.Cells.{IsCells};
 use crate::checks::same;
 use crate::rows::{NO, Row, cells_of};
 use cell_table::neighbour_table;
-use nav_ground::SmallCell;
+use nav_ground::PackedCell;
 use std::alloc::{AllocError, Global};
 use std::test::Fail;
 
@@ -19,7 +19,7 @@ static ROWS: [Row; 5] = [
     (1, 1, 9, 0, NO, NO, 9),
 ];
 
-fn cells(alloc: Global) -> Result<Vec<SmallCell>, AllocError>
+fn cells(alloc: Global) -> Result<Vec<PackedCell>, AllocError>
     ensures { IfOk result (λ cells. IsCells cells.items) }
 {
     let cells = cells_of(alloc, &ROWS)?;

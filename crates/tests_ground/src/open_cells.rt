@@ -7,7 +7,7 @@ use crate::checks::same;
 use crate::cuts::flat_layer;
 use crate::rows::{NO, Row, cells_of};
 use agent_erode::kept;
-use nav_ground::{CellRef, Layer, SmallCell, Window};
+use nav_ground::{CellRef, Layer, PackedCell, Window};
 use std::alloc::{AllocError, Global};
 use std::process::Abort;
 
@@ -38,7 +38,7 @@ const EMPTY: Window = Window {
 };
 
 /// A truth value beside each cell, which is true but over one column.
-fn all_but(alloc: Global, cells: &[SmallCell], closed: (u32, u32)) -> Result<Vec<bool>, AllocError>
+fn all_but(alloc: Global, cells: &[PackedCell], closed: (u32, u32)) -> Result<Vec<bool>, AllocError>
     ensures { IfOk result (λ marks. length marks.items ≡ length cells.now) }
 {
     let mut marks = Vec::new(alloc);
@@ -52,7 +52,7 @@ fn all_but(alloc: Global, cells: &[SmallCell], closed: (u32, u32)) -> Result<Vec
 /// The kept ones of the cells but those over one column.
 fn kept_without(
     alloc: Global,
-    cells: &[SmallCell],
+    cells: &[PackedCell],
     closed: (u32, u32),
     window: Window,
     radius: u32,
@@ -102,7 +102,7 @@ static KEPT: [Kept; 11] = [
 ];
 
 /// The places of those of the cells that are to be kept.
-fn wanted(alloc: Global, cells: &[SmallCell], row: &Kept) -> Result<Vec<CellRef>, AllocError> {
+fn wanted(alloc: Global, cells: &[PackedCell], row: &Kept) -> Result<Vec<CellRef>, AllocError> {
     let mut places = Vec::new(alloc);
     for cell in cells {
         let CellRef { x, z, level: _ } = cell.at();
@@ -114,7 +114,7 @@ fn wanted(alloc: Global, cells: &[SmallCell], row: &Kept) -> Result<Vec<CellRef>
 }
 
 /// How many cells are kept, and whether they are the right ones.
-fn found(alloc: Global, cells: &[SmallCell], row: &Kept) -> Result<(usize, bool), AllocError>
+fn found(alloc: Global, cells: &[PackedCell], row: &Kept) -> Result<(usize, bool), AllocError>
     requires { IsCells cells.now }
 {
     let places = kept_without(alloc, cells, (6, 6), row.0, row.1)?;
@@ -154,7 +154,7 @@ static CROSS: [Row; 5] = [
     (2, 3, 0, NO, NO, NO, NO),
 ];
 
-fn cross(alloc: Global) -> Result<Vec<SmallCell>, AllocError>
+fn cross(alloc: Global) -> Result<Vec<PackedCell>, AllocError>
     ensures { IfOk result (λ cells. IsCells cells.items) }
 {
     let cells = cells_of(alloc, &CROSS)?;
@@ -170,7 +170,7 @@ static LEFT: [Row; 5] = [
     (2, 3, 0, NO, NO, NO, NO),
 ];
 
-fn left(alloc: Global) -> Result<Vec<SmallCell>, AllocError>
+fn left(alloc: Global) -> Result<Vec<PackedCell>, AllocError>
     ensures { IfOk result (λ cells. IsCells cells.items) }
 {
     let cells = cells_of(alloc, &LEFT)?;
@@ -191,7 +191,7 @@ static CROSSED: [Count; 5] = [
 fn check_counts(
     rt: &impl Abort,
     alloc: Global,
-    cells: &[SmallCell],
+    cells: &[PackedCell],
     rows: &[Count],
 ) -> Result<(), AllocError>
     requires { IsCells cells.now }

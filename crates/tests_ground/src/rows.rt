@@ -6,9 +6,8 @@ ghost use Rattle.nav_ground.specs.SmallCells.{IsSmall};
 ghost use Rattle.tests_ground.specs.Rows.{cell_of, named_by, whole_cell_of};
 
 use crate::checks::same;
-use nav_ground::{Cell, CellRef, SmallCell};
-use nav_list::Items;
-use nav_share::Shared;
+use nav_ground::{Cell, CellRef, PackedCell};
+use nav_lists::{Items, Shared};
 use std::alloc::{AllocError, Global};
 use std::process::Abort;
 
@@ -31,7 +30,7 @@ fn named(level: u8) -> Option<u32>
 }
 
 /// The cells of rows, in order.
-pub(crate) fn cells_of(alloc: Global, rows: &[Row]) -> Result<Vec<SmallCell>, AllocError>
+pub(crate) fn cells_of(alloc: Global, rows: &[Row]) -> Result<Vec<PackedCell>, AllocError>
     ensures { IfOk result (λ cells. cells.items ≡ map cell_of rows.now) }
 {
     let mut cells = Vec::new(alloc);
@@ -75,14 +74,14 @@ fn cell(row: &CellRow) -> Cell
 }
 
 /// The cell of a row, as lists keep it.
-fn small_cell(row: &CellRow) -> SmallCell
+fn small_cell(row: &CellRow) -> PackedCell
     ensures { result ≡ whole_cell_of row.now }
 {
-    SmallCell::new(&cell(row))
+    PackedCell::new(&cell(row))
 }
 
 /// The cells of whole rows, in order.
-pub(crate) fn whole_cells_of(alloc: Global, rows: &[CellRow]) -> Result<Vec<SmallCell>, AllocError>
+pub(crate) fn whole_cells_of(alloc: Global, rows: &[CellRow]) -> Result<Vec<PackedCell>, AllocError>
     ensures { IfOk result (λ cells. cells.items ≡ map whole_cell_of rows.now) }
 {
     let mut cells = Vec::new(alloc);
@@ -96,7 +95,7 @@ pub(crate) fn whole_cells_of(alloc: Global, rows: &[CellRow]) -> Result<Vec<Smal
 pub(crate) fn stored(
     alloc: Global,
     rows: &[CellRow],
-) -> Result<Shared<Items<SmallCell>>, AllocError>
+) -> Result<Shared<Items<PackedCell>>, AllocError>
     ensures { IfOk result (λ cells. cells ≡ map whole_cell_of rows.now) }
 {
     let cells = whole_cells_of(alloc, rows)?;
@@ -104,7 +103,7 @@ pub(crate) fn stored(
 }
 
 /// Cells are just those of rows.
-pub(crate) fn check_cells(rt: &impl Abort, cells: &[SmallCell], rows: &[CellRow]) {
+pub(crate) fn check_cells(rt: &impl Abort, cells: &[PackedCell], rows: &[CellRow]) {
     same(rt, cells.len(), rows.len());
     for (found, row) in cells.iter().zip(rows.iter()) {
         same(rt, found.get(), cell(row));
@@ -112,6 +111,6 @@ pub(crate) fn check_cells(rt: &impl Abort, cells: &[SmallCell], rows: &[CellRow]
 }
 
 /// Whether two lists have the same cells.
-pub(crate) fn are_same(a: &[SmallCell], b: &[SmallCell]) -> bool {
+pub(crate) fn are_same(a: &[PackedCell], b: &[PackedCell]) -> bool {
     a.len() == b.len() && a.iter().zip(b.iter()).all(|(a, b)| a.get() == b.get())
 }

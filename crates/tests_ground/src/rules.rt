@@ -5,8 +5,8 @@ ghost use Rattle.std.specs.List.{list_all};
 ghost use Rattle.nav_ground.specs.Fields.{IsField, AreAreas};
 ghost use Rattle.nav_ground.proofs.Literals;
 
-use nav_ground::{Field, SmallSpan, Span};
-use nav_list::Items;
+use nav_ground::{Field, PackedSpan, Span};
+use nav_lists::Items;
 use std::alloc::{AllocError, Global};
 
 /// Whether a field keeps the rules of fields.
@@ -34,7 +34,7 @@ fn both(a: bool, b: bool) -> bool
     a && b
 }
 
-fn are_spans(width: u32, depth: u32, spans: &[SmallSpan]) -> bool
+fn are_spans(width: u32, depth: u32, spans: &[PackedSpan]) -> bool
     ensures { result ≡ list_all (Literals.is_span width depth) spans.now }
 {
     match spans {
@@ -43,7 +43,7 @@ fn are_spans(width: u32, depth: u32, spans: &[SmallSpan]) -> bool
     }
 }
 
-fn are_after(first: &SmallSpan, rest: &[SmallSpan]) -> bool
+fn are_after(first: &PackedSpan, rest: &[PackedSpan]) -> bool
     ensures { result ≡ list_all (Literals.is_span_before first.now) rest.now }
 {
     match rest {
@@ -58,7 +58,7 @@ fn is_size(n: u32) -> bool
     1 <= n && n <= 1024
 }
 
-fn is_span(width: u32, depth: u32, span: &SmallSpan) -> bool
+fn is_span(width: u32, depth: u32, span: &PackedSpan) -> bool
     ensures { result ≡ Literals.is_span width depth span.now }
 {
     span.x() < width
@@ -68,7 +68,7 @@ fn is_span(width: u32, depth: u32, span: &SmallSpan) -> bool
         && span.area() <= 63
 }
 
-fn is_ordered(spans: &[SmallSpan]) -> bool
+fn is_ordered(spans: &[PackedSpan]) -> bool
     ensures { result ≡ Literals.is_ordered_by Literals.is_span_before spans.now }
 {
     match spans {
@@ -77,7 +77,7 @@ fn is_ordered(spans: &[SmallSpan]) -> bool
     }
 }
 
-fn is_span_before(a: &SmallSpan, b: &SmallSpan) -> bool
+fn is_span_before(a: &PackedSpan, b: &PackedSpan) -> bool
     ensures { result ≡ Literals.is_span_before a.now b.now }
 {
     a.z() < b.z()
@@ -101,8 +101,8 @@ fn all_small(areas: &[u32]) -> bool
 }
 
 /// A span of a test's table, whose numbers are within their limits.
-pub(crate) fn small(span: &Span) -> SmallSpan {
-    SmallSpan::new(&Span {
+pub(crate) fn small(span: &Span) -> PackedSpan {
+    PackedSpan::new(&Span {
         x: span.x.min(1023),
         z: span.z.min(1023),
         bottom: span.bottom.min(8191),
@@ -111,7 +111,7 @@ pub(crate) fn small(span: &Span) -> SmallSpan {
     })
 }
 
-pub(crate) fn small_spans(alloc: Global, spans: &[Span]) -> Result<Items<SmallSpan>, AllocError> {
+pub(crate) fn small_spans(alloc: Global, spans: &[Span]) -> Result<Items<PackedSpan>, AllocError> {
     let mut small_ones = Vec::with_capacity(alloc, spans.len())?;
     for span in spans {
         small_ones.push(small(span))?;

@@ -1,10 +1,10 @@
 //! Rows of columns worked by hand.
 ghost use Rattle.std.specs.Prelude.{◌<◌, IsTrue};
-ghost use Rattle.tri_rows.specs.Triangles.{IsTriangle, IsCorner};
-ghost use Rattle.tri_rows.specs.Rows.{MeetsRow};
+ghost use Rattle.tri_raster.specs.Triangles.{IsTriangle, IsCorner};
+ghost use Rattle.tri_raster.specs.Rows.{MeetsRow};
 
 use std::process::Abort;
-use tri_rows::{Bound, Corner3, Tri, row_shadows, shadow_of};
+use tri_raster::{Bound, Corner3, Tri, row_shadows, shadow_of};
 
 /// A triangle's corners, a row that it meets, the first column that it hits there and the one behind the last, and the bottom and top of its
 /// shadow in each of three columns, or twice 0 where there is none.

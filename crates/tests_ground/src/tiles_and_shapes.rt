@@ -7,7 +7,7 @@ use nav_ground::{
     AREAS, Agent, MeshKind, Setting, Shape, Window, bounds, covers, sets, tile_bounds, tiles,
     touches,
 };
-use nav_list::Duplicate;
+use nav_lists::Duplicate;
 use std::alloc::AllocError;
 use std::process::Abort;
 

@@ -13,7 +13,7 @@ use Rattle.nav_ground.specs.declared.cell.Window.{Window}
 use Rattle.nav_ground.specs.Tiling.{tile_count, tile_window}
 use Rattle.nav_ground.proofs.Literals.{IsCut-shown}
 use Rattle.mesh_types.specs.declared.polygon.Polygon.{Polygon}
-use Rattle.mesh_types.specs.declared.tile.TileMesh.{TileMesh}
+use Rattle.mesh_types.specs.declared.mesh.TileMesh.{TileMesh}
 use Rattle.mesh_types.specs.FitTiles.{IsPolygon, IsInSquare, IsRimOf, IsFit}
 use Rattle.mesh_types.specs.Soundness.{AreTiles}
 use Rattle.tests_mesh.specs.HandSettings.{plain_setting, point}

@@ -11,9 +11,8 @@ use mesh_types::{
     Corners, LevelPair, Link, Links, Mesh, PolyRef, Polygon, Polygons, Portal, RimEdge, TileMesh,
 };
 use nav_base::Point;
-use nav_ground::{AREAS, Agent, FreeLayer, KeptLayer, MeshKind, Setting, TileNo};
-use nav_list::Items;
-use nav_share::Shared;
+use nav_ground::{AREAS, Agent, Direction, FreeLayer, MeshKind, PackedFreeLayer, Setting, TileNo};
+use nav_lists::{Items, Shared};
 use std::alloc::{AllocError, Global};
 use tile_links::{across, replace, rim_links, whole};
 
@@ -66,7 +65,7 @@ pub(crate) fn tile(
     let links = Links::new(alloc, Vec::new(alloc), polygons)?;
     Ok(TileMesh {
         tile,
-        free: KeptLayer::own(FreeLayer {
+        free: PackedFreeLayer::own(FreeLayer {
             tile,
             cells: Items::new(alloc),
         }),
@@ -269,16 +268,16 @@ fn mesh_is_linked(alloc: Global) -> bool {
 }
 
 /// A tile, a side, and the tile across it.
-static SIDES: [(u32, u32, Option<u32>); 6] = [
-    (0, 0, None),
-    (0, 1, None),
-    (0, 2, Some(1)),
-    (1, 0, Some(0)),
-    (1, 2, None),
-    (1, 3, None),
+static SIDES: [(u32, Direction, Option<u32>); 6] = [
+    (0, Direction::Left, None),
+    (0, Direction::Above, None),
+    (0, Direction::Right, Some(1)),
+    (1, Direction::Left, Some(0)),
+    (1, Direction::Right, None),
+    (1, Direction::Below, None),
 ];
 
-fn wrong_side(rows: &[(u32, u32, Option<u32>)]) -> Option<usize> {
+fn wrong_side(rows: &[(u32, Direction, Option<u32>)]) -> Option<usize> {
     for row in 0..rows.len() {
         let (tile, side, wanted) = rows[row];
         if tile >= 2 || across(&SETTING, tile, side) != wanted {

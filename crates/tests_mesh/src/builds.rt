@@ -6,8 +6,8 @@ ghost use Rattle.nav_ground.specs.Limits.{IsShape};
 use crate::rows::hold;
 use crate::stored::shared;
 use mesh_types::TileMesh;
-use nav_ground::{AREAS, Agent, Cell, CellRef, Layer, MeshKind, Setting, Shape, WideCells};
-use nav_steps::Steps;
+use nav_base::Steps;
+use nav_ground::{AREAS, Agent, Cell, CellRef, Layer, MeshKind, PaddedCells, Setting, Shape};
 use std::alloc::{AllocError, Global};
 use std::marker::Brand;
 use std::sync::ledger::{Blank, Ledger};
@@ -89,7 +89,7 @@ fn built<L: Ledger>(
         tile: 0,
         cells: shared(alloc, &cells)?,
         radius: 0,
-        wide: WideCells::none(alloc),
+        wide: PaddedCells::none(alloc),
     };
     build_tile(alloc, &layer, &SETTING, shapes, steps)
 }

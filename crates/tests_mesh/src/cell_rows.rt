@@ -4,8 +4,8 @@ ghost use Rattle.std.specs.Prelude.{◌≡◌, IfOk, map};
 ghost use Rattle.nav_ground.specs.Cells.{IsCut};
 ghost use Rattle.tests_mesh.specs.Rows.{cell_of, named_by};
 
-use nav_ground::{Cell, CellRef, FreeLayer, SmallCell};
-use nav_list::Items;
+use nav_ground::{Cell, CellRef, FreeLayer, PackedCell};
+use nav_lists::Items;
 use std::alloc::{AllocError, Global};
 
 /// The x, z, level and area of a cell, and the levels that it names toward x - 1, z + 1, x + 1 and z - 1, or `NO` where it names none.
@@ -60,11 +60,11 @@ fn named(level: u16) -> Option<u32>
     }
 }
 
-fn cell(row: &Row) -> SmallCell
+fn cell(row: &Row) -> PackedCell
     ensures { result ≡ cell_of row.now }
 {
     let (x, z, level, area, left, above, right, below) = *row;
-    SmallCell::new(&Cell {
+    PackedCell::new(&Cell {
         at: CellRef {
             x: u32::from(x),
             z: u32::from(z),

@@ -8,7 +8,7 @@ use contour_walk::contour;
 use mesh_types::{Code, UnitEdge};
 use mono_regions::regions;
 use nav_ground::{AREAS, Agent, FreeLayer, MeshKind, Setting};
-use nav_list::Items;
+use nav_lists::Items;
 use std::alloc::{AllocError, Global};
 
 /// Where an edge begins, and its code.

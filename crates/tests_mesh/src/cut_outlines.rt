@@ -7,7 +7,7 @@ ghost use Rattle.mesh_types.specs.Ears.{CanBeCut};
 use ear_cut::{EarRefusal, ears};
 use mesh_types::{Outline, Piece, Triangle};
 use nav_base::Point;
-use nav_list::Items;
+use nav_lists::Items;
 use poly_merge::merge;
 use std::alloc::{AllocError, Global};
 use std::process::Abort;

@@ -5,14 +5,12 @@ ghost use Rattle.std.specs.Prelude.{◌<◌};
 use crate::borders::tile;
 use crate::rows::{all_hold, hold};
 use mesh_types::{
-    Corners, Link, Links, Mesh, PolyRef, Polygon, Portal, Run, TileMesh, copy_mesh, copy_tile,
+    Corners, LabelRun, Link, Links, Mesh, PolyRef, Polygon, Portal, TileMesh, copy_mesh, copy_tile,
     order_links, poly, runs,
 };
 use nav_base::Point;
-use nav_chunks::Chunks;
 use nav_ground::{AREAS, Agent, MeshKind, Setting};
-use nav_list::{Duplicate, Items};
-use nav_share::Shared;
+use nav_lists::{Chunks, Duplicate, Items, Shared};
 use std::alloc::{AllocError, Global};
 
 static LABELS: [Option<u32>; 8] = [
@@ -26,18 +24,18 @@ static LABELS: [Option<u32>; 8] = [
     Some(5),
 ];
 
-static RUNS: [Run; 3] = [
-    Run {
+static RUNS: [LabelRun; 3] = [
+    LabelRun {
         first: 0,
         last: 1,
         label: 4,
     },
-    Run {
+    LabelRun {
         first: 4,
         last: 4,
         label: 4,
     },
-    Run {
+    LabelRun {
         first: 5,
         last: 7,
         label: 5,
@@ -45,7 +43,7 @@ static RUNS: [Run; 3] = [
 ];
 
 /// Whether these are the runs of a few labels.
-fn has_runs(alloc: Global, labels: &[Option<u32>], wanted: &[Run]) -> bool {
+fn has_runs(alloc: Global, labels: &[Option<u32>], wanted: &[LabelRun]) -> bool {
     if labels.len() > 100 {
         return false;
     }

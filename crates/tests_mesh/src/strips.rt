@@ -9,7 +9,7 @@ use crate::stored::stored;
 use cell_table::neighbour_table;
 use mesh_types::Strip;
 use mono_regions::{StripIndex, strip_index, strips};
-use nav_ground::{FreeLayer, SmallCell};
+use nav_ground::{FreeLayer, PackedCell};
 use std::alloc::{AllocError, Global};
 
 fn free(alloc: Global) -> Result<FreeLayer, AllocError>
@@ -58,14 +58,14 @@ fn wrong_strip(alloc: Global, free: &FreeLayer) -> Option<usize>
     }
 }
 
-fn index(alloc: Global, cells: &[SmallCell]) -> Result<StripIndex, AllocError>
+fn index(alloc: Global, cells: &[PackedCell]) -> Result<StripIndex, AllocError>
     requires { IsCut cells.now }
 {
     let table = neighbour_table(alloc, cells)?;
     strip_index(alloc, cells, table.as_slice())
 }
 
-fn has_index(alloc: Global, cells: &[SmallCell]) -> bool
+fn has_index(alloc: Global, cells: &[PackedCell]) -> bool
     requires { IsCut cells.now }
 {
     match index(alloc, cells) {

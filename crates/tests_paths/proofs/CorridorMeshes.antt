@@ -9,7 +9,7 @@ use Rattle.nav_ground.specs.Tiling.{tile_window}
 use Rattle.nav_ground.proofs.Literals.{IsCut-shown}
 use Rattle.mesh_types.specs.declared.links.Link.{Link}
 use Rattle.mesh_types.specs.declared.polygon.Polygon.{Polygon}
-use Rattle.mesh_types.specs.declared.tile.TileMesh.{TileMesh}
+use Rattle.mesh_types.specs.declared.mesh.TileMesh.{TileMesh}
 use Rattle.mesh_types.specs.FitTiles.{IsPolygon, IsInSquare, IsFit, IsInnerLink}
 use Rattle.mesh_types.specs.Soundness.{IsSound, IsCrossLink}
 use Rattle.mesh_types.specs.Portals.{IsPortalOut, IsPortalIn}

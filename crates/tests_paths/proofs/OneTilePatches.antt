@@ -12,7 +12,7 @@ use Rattle.nav_ground.specs.Grounds.{IsGround}
 use Rattle.nav_ground.specs.History.{shapes_alive}
 use Rattle.nav_ground.specs.Limits.{IsShape}
 use Rattle.nav_ground.specs.Tiling.{tile_count}
-use Rattle.mesh_types.specs.declared.tile.TileMesh.{TileMesh}
+use Rattle.mesh_types.specs.declared.mesh.TileMesh.{TileMesh}
 use Rattle.mesh_types.specs.Builds.{build_of}
 use Rattle.mesh_types.specs.Soundness.{AreTiles, polygon_count}
 use Rattle.mesh_types.specs.FitTiles.{IsFit}
@@ -20,7 +20,7 @@ use Rattle.mesh_types.specs.WholeMesh.{mesh_of}
 use Rattle.tile_build.specs.Meshes.{tiles_under}
 use Rattle.tile_links.specs.NewTiles.{AreNew, New, tile_after, tiles_after}
 use Rattle.nav_book.proofs.GroundTiles.{are_tiles, build_from, tiles_of_build}
-use Rattle.nav_version.specs.declared.patch.Patch.{Patch}
+use Rattle.nav_version.specs.declared.press.Patch.{Patch}
 use Rattle.nav_version.specs.Pairs.{IsPatch}
 use Rattle.tests_paths.specs.OneTile.{numbered_tiles}
 
@@ -47,22 +47,22 @@ are_new setting (new ∷ []) one are = record {
   fit = All-cons (λ (n : New). IsFit setting n.1) (new.tile, new) [] (All-head (IsFit setting) new [] are.fit) (All-nil (λ (n : New). IsFit setting n.1));
 }
 
-pub is_patch : (whole : Ground) (shapes : List Shape) (entry : Entry) (patch : Patch) (tiles : List TileMesh) → IsGround whole → tile_count whole.setting ≡ 1 → All IsShape shapes
-    → shapes_alive (entry ∷ []) 1 ≡ shapes → tiles ≡ tiles_under whole shapes → patch.entries ≡ entry ∷ [] → patch.tiles.items ≡ numbered_tiles tiles
-    → IsPatch whole [] patch
-is_patch whole shapes entry patch tiles rules' one limits alive are entries news =
-    let made : List TileMesh = tiles_under whole shapes in
-    let fit : AreTiles whole.setting made = are_tiles whole shapes rules' limits in
+pub is_patch : (ground : Ground) (shapes : List Shape) (entry : Entry) (patch : Patch) (tiles : List TileMesh) → IsGround ground → tile_count ground.setting ≡ 1 → All IsShape shapes
+    → shapes_alive (entry ∷ []) 1 ≡ shapes → tiles ≡ tiles_under ground shapes → patch.entries ≡ entry ∷ [] → patch.tiles.items ≡ numbered_tiles tiles
+    → IsPatch ground [] patch
+is_patch ground shapes entry patch tiles rules' one limits alive are entries news =
+    let made : List TileMesh = tiles_under ground shapes in
+    let fit : AreTiles ground.setting made = are_tiles ground shapes rules' limits in
     let is : patch.tiles.items ≡ numbered_tiles made = news ∙ ap numbered_tiles are in
-    let replaced : tiles_after patch.tiles.items (build_of whole [] 0).tiles ≡ made =
-    ap (tiles_after patch.tiles.items) (tiles_of_build whole [] 0)
-    ∙ ap (λ (list : List New). tiles_after list (tiles_under whole [])) is
-    ∙ replaces_all whole.setting made (tiles_under whole []) one fit (are_tiles whole [] rules' (All-nil IsShape)) in
+    let replaced : tiles_after patch.tiles.items (build_of ground [] 0).tiles ≡ made =
+    ap (tiles_after patch.tiles.items) (tiles_of_build ground [] 0)
+    ∙ ap (λ (list : List New). tiles_after list (tiles_under ground [])) is
+    ∙ replaces_all ground.setting made (tiles_under ground []) one fit (are_tiles ground [] rules' (All-nil IsShape)) in
     record {
-      tiles = subst (AreNew whole.setting) (sym is) (are_new whole.setting made one fit);
+      tiles = subst (AreNew ground.setting) (sym is) (are_new ground.setting made one fit);
       polygons = omega (arith, ap polygon_count replaced, fit.few);
       few = omega (arith, ap (λ (list : List Entry). length list) entries);
-      mesh = ap (mesh_of whole.setting) replaced
-          ∙ build_from whole (entry ∷ []) 1 made (mesh_of whole.setting made) (ap (tiles_under whole) (sym alive)) refl
-          ∙ ap (λ (list : List Entry). build_of whole list (length list)) (sym entries);
+      mesh = ap (mesh_of ground.setting) replaced
+          ∙ build_from ground (entry ∷ []) 1 made (mesh_of ground.setting made) (ap (tiles_under ground) (sym alive)) refl
+          ∙ ap (λ (list : List Entry). build_of ground list (length list)) (sym entries);
     }

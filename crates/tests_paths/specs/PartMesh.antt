@@ -5,7 +5,7 @@ use Rattle.nav_ground.specs.declared.setting.Setting.{Setting}
 use Rattle.nav_ground.specs.declared.setting.MeshKind.TheVariants.{Strips}
 use Rattle.mesh_types.specs.declared.mesh.Mesh.{Mesh}
 use Rattle.mesh_types.specs.declared.polygon.Polygon.{Polygon}
-use Rattle.mesh_types.specs.declared.tile.TileMesh.{TileMesh}
+use Rattle.mesh_types.specs.declared.mesh.TileMesh.{TileMesh}
 
 -- 8 by 4 columns in one tile
 abbrev pub one_tile : Setting

@@ -15,15 +15,13 @@ use crate::rows::{all_hold, hold};
 use crate::versions::{both, floors};
 use layer_cut::ground;
 use mesh_types::{Answer, PathFound, PolyRef, TileMesh};
-use nav_base::{FloorAt, Point, Question};
+use nav_base::{FloorAt, Point, Question, Steps};
 use nav_book::{Book, HistoryFull, Job, Published, Submitted, TileResult, build_job};
 use nav_ground::{
-    AREAS, Agent, Entry, Field, Ground, HISTORY_LIMIT, MeshKind, Reply, Request, Setting, Shape,
-    SmallSpan, Span, tiles,
+    AREAS, Agent, Entry, Field, Ground, HISTORY_LIMIT, MeshKind, PackedSpan, Reply, Request,
+    Setting, Shape, Span, tiles,
 };
-use nav_list::Items;
-use nav_share::Shared;
-use nav_steps::Steps;
+use nav_lists::{Items, Shared};
 use nav_version::Eye;
 use std::alloc::{AllocError, Global};
 use std::marker::Brand;
@@ -92,7 +90,7 @@ pub(crate) fn flat_field(alloc: Global, width: u32, depth: u32) -> Result<Field,
             top: 10,
             area: 63,
         };
-        spans.push(SmallSpan::new(&span))?;
+        spans.push(PackedSpan::new(&span))?;
     }
     Ok(Field {
         width,
@@ -182,18 +180,18 @@ fn next_build<L: Ledger>(
     alloc: Global,
     steps: &mut Steps<L>,
 ) -> Result<Option<TileResult>, AllocError>
-    ensures same { book.new.state.whole ≡ book.old.state.whole }
+    ensures same { book.new.state.ground ≡ book.old.state.ground }
     ensures pair { book.new.pair ≡ book.old.pair }
-    ensures build { IfOk result (λ made. IfSome made (IsBuild book.old.state.whole)) }
+    ensures build { IfOk result (λ made. IfSome made (IsBuild book.old.state.ground)) }
 {
-    match book.level().setting.mesh {
+    match book.level().ground().setting.mesh {
         MeshKind::Strips => (),
         MeshKind::Contours => return Ok(None),
     }
     match book.claim(alloc)? {
         None => Ok(None),
         Some(job) => {
-            let mesh = build_job(alloc, book.level(), &job, steps)?;
+            let mesh = build_job(alloc, book.level().ground(), &job, steps)?;
             let Job { tile, shapes } = job;
             Ok(Some(TileResult { tile, shapes, mesh }))
         }
@@ -235,7 +233,7 @@ fn settled<R: Wait, L: Ledger>(
 }
 
 fn ask_all(book: &mut Book, requests: &[Asked])
-    ensures { book.new.state.whole ≡ book.old.state.whole }
+    ensures { book.new.state.ground ≡ book.old.state.ground }
 {
     for asked in requests {
         let _answer = book.request(0, request_of(*asked));
@@ -314,7 +312,7 @@ fn claimed(book: &mut Book, alloc: Global) -> Told {
 }
 
 fn put_back(book: &mut Book, alloc: Global, tile: u32) -> Told {
-    if tile < tiles(&book.level().setting) {
+    if tile < tiles(&book.level().ground().setting) {
         let shapes = Items::new(alloc);
         book.put_back(Job { tile, shapes });
     }

@@ -18,10 +18,8 @@ use mesh_types::{
     Corners, Corridor, Link, Links, Mesh, PolyRef, Polygon, Polygons, Portal, TileMesh,
 };
 use nav_base::Point;
-use nav_chunks::Chunks;
-use nav_ground::{AREAS, FreeLayer, KeptLayer, Setting};
-use nav_list::Items;
-use nav_share::Shared;
+use nav_ground::{AREAS, FreeLayer, PackedFreeLayer, Setting};
+use nav_lists::{Chunks, Items, Shared};
 use std::alloc::{AllocError, Global};
 
 /// The area 2 costs 3, and all others 1.
@@ -67,7 +65,7 @@ fn tile(
     let polys = Vec::from_array(alloc, [lower, upper])?;
     let made = TileMesh {
         tile,
-        free: KeptLayer::own(FreeLayer {
+        free: PackedFreeLayer::own(FreeLayer {
             tile,
             cells: Items::new(alloc),
         }),

@@ -2,7 +2,7 @@
 
 ghost use Rattle.std.specs.Prelude.{◌≡◌, IsTrue, All};
 ghost use Rattle.mesh_types.specs.Soundness.{IsSound};
-ghost use Rattle.off_links.specs.Leaps.{HasJumpCoordinates};
+ghost use Rattle.off_links.specs.OffMeshLinks.{HasJumpCoordinates};
 ghost use Rattle.off_links.specs.Questions.{CanHop};
 
 use crate::chains::has_coordinates;
@@ -10,7 +10,7 @@ use crate::questions::{SETTING, mesh};
 use crate::rows::all_hold;
 use mesh_types::Mesh;
 use nav_base::Point;
-use nav_list::Items;
+use nav_lists::Items;
 use off_links::{HopAnswer, HopQuestion, Jump, hop};
 use std::alloc::{AllocError, Global};
 

@@ -5,10 +5,9 @@ ghost use Rattle.std.specs.Prelude.{◌≡◌, ◌<◌, IfOk};
 use crate::books::{Asked, Layout, flat_ground, request_of};
 use crate::rows::all_hold;
 use mesh_types::Answer;
-use nav_base::{Point, Question};
+use nav_base::{Point, Question, Steps};
+use nav_book::{Level, Published};
 use nav_ground::Reply;
-use nav_level::{Level, Published};
-use nav_steps::Steps;
 use std::alloc::{AllocError, Global};
 use std::marker::Brand;
 use std::sync::Arc;
@@ -21,7 +20,7 @@ enum Step {
     Ask(Asked),
     Aim,
     /// One tile is claimed, built and taken in.
-    Build,
+    CachedBuild,
     Publish,
     Settle,
     /// The history begins again.
@@ -151,7 +150,7 @@ fn act<L: Ledger>(level: &mut Level, alloc: Global, steps: &mut Steps<L>, step: 
     match step {
         Step::Ask(request) => asked(level, request),
         Step::Aim => Told::Number(level.aim()),
-        Step::Build => built(level, alloc, steps),
+        Step::CachedBuild => built(level, alloc, steps),
         Step::Publish => published(level, alloc),
         Step::Settle => settled(level, alloc, steps),
         Step::Renew => renewed(level, alloc),
@@ -195,19 +194,19 @@ fn wrong_in_play<L: Ledger>(alloc: Global, rows: &[Row], blank: Blank) -> Option
 
 /// Tiles that are built one by one. The columns up to 3 are of the tile 0.
 static STEPS: [Row; 12] = [
-    (Step::Build, Told::Nothing),
+    (Step::CachedBuild, Told::Nothing),
     (
         Step::Ask(Asked::Block(1)),
         Told::Reply(1, Reply::Added { number: 1 }),
     ),
-    (Step::Build, Told::Nothing),
+    (Step::CachedBuild, Told::Nothing),
     (Step::Aim, Told::Number(1)),
     (
         Step::Publish,
         Told::Published(Published::NotYet { tile: 0 }),
     ),
-    (Step::Build, Told::Number(0)),
-    (Step::Build, Told::Nothing),
+    (Step::CachedBuild, Told::Number(0)),
+    (Step::CachedBuild, Told::Nothing),
     (Step::Floors(1, 1), Told::Floors(1)),
     (Step::Publish, Told::Published(Published::New { k: 1 })),
     (Step::Floors(1, 1), Told::Floors(0)),

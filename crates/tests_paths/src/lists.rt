@@ -6,10 +6,10 @@ ghost use Rattle.nav_ground.specs.Tiling.{tile_count};
 ghost use Rattle.nav_book.specs.Results.{IsBuild};
 
 use crate::books::{Asked, BARE, Layout, Row, Step, Told, play, request_of};
+use nav_base::Steps;
 use nav_book::{Book, Job, Published, Submitted, TileResult, build_job};
 use nav_ground::{Reply, Request, Shape, tiles};
-use nav_list::Items;
-use nav_steps::Steps;
+use nav_lists::Items;
 use std::alloc::{AllocError, Global};
 use std::sync::ledger::Ledger;
 
@@ -35,12 +35,12 @@ fn built_under<L: Ledger>(
     requests: &[Asked],
     steps: &mut Steps<L>,
 ) -> Result<TileResult, AllocError>
-    requires { tile < tile_count book.now.state.whole.setting }
-    ensures { IfOk result (λ made. IsBuild book.now.state.whole made) }
+    requires { tile < tile_count book.now.state.ground.setting }
+    ensures { IfOk result (λ made. IsBuild book.now.state.ground made) }
 {
     let shapes = shapes_of(alloc, requests)?;
     let job = Job { tile, shapes };
-    let mesh = build_job(alloc, book.level(), &job, steps)?;
+    let mesh = build_job(alloc, book.level().ground(), &job, steps)?;
     let Job { tile, shapes } = job;
     Ok(TileResult { tile, shapes, mesh })
 }
@@ -53,7 +53,7 @@ pub(crate) fn submitted_under<L: Ledger>(
     requests: &[Asked],
     steps: &mut Steps<L>,
 ) -> Told {
-    if tile < tiles(&book.level().setting) {
+    if tile < tiles(&book.level().ground().setting) {
         match built_under(book, alloc, tile, requests, steps) {
             Ok(made) => Told::Submitted(book.submit(made)),
             Err(_) => Told::NoMemory,

@@ -8,10 +8,8 @@ ghost use Rattle.tests_paths.specs.PartMesh.{flat, hand_mesh, hand_tile, left_ce
 use crate::rows::all_hold;
 use mesh_types::{Corners, Links, Mesh, PolyRef, Polygon, Polygons, TileMesh, poly};
 use nav_base::Point;
-use nav_chunks::Chunks;
-use nav_ground::{AREAS, Agent, FreeLayer, KeptLayer, MeshKind, Setting};
-use nav_list::Items;
-use nav_share::Shared;
+use nav_ground::{AREAS, Agent, FreeLayer, MeshKind, PackedFreeLayer, Setting};
+use nav_lists::{Chunks, Items, Shared};
 use std::alloc::{AllocError, Global};
 use surface_move::{leg, part};
 
@@ -101,7 +99,7 @@ fn tile(alloc: Global) -> Result<TileMesh, AllocError>
     let links = no_links(alloc)?;
     Ok(TileMesh {
         tile: 0,
-        free: KeptLayer::own(FreeLayer {
+        free: PackedFreeLayer::own(FreeLayer {
             tile: 0,
             cells: Items::new(alloc),
         }),

@@ -8,10 +8,8 @@ use crate::settings::PLAIN;
 use mesh_locate::locate;
 use mesh_types::{Corners, Links, Mesh, PolyRef, Polygon, Polygons, TileMesh};
 use nav_base::Point;
-use nav_chunks::Chunks;
-use nav_ground::{FreeLayer, KeptLayer};
-use nav_list::Items;
-use nav_share::Shared;
+use nav_ground::{FreeLayer, PackedFreeLayer};
+use nav_lists::{Chunks, Items, Shared};
 use std::alloc::{AllocError, Global};
 
 /// The triangle on four cells of the lowest row from a column on, that reaches four cells up at another column, with floors from `low` to two more.
@@ -47,7 +45,7 @@ fn tile(alloc: Global, tile: u32, polys: Vec<Polygon>) -> Result<Shared<TileMesh
     let links = Links::new(alloc, Vec::new(alloc), 0)?;
     let made = TileMesh {
         tile,
-        free: KeptLayer::own(FreeLayer {
+        free: PackedFreeLayer::own(FreeLayer {
             tile,
             cells: Items::new(alloc),
         }),

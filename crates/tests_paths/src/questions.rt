@@ -121,13 +121,13 @@ enum Wanted {
     NoPath,
     /// What a path costs, how many links it has, and where it turns; it begins in the first polygon.
     Path(u64, usize, Corner),
-    Ends(RayAnswer),
+    HopEnds(RayAnswer),
 }
 
 /// A walk that ends in a polygon.
 macro_rules! reached {
     ($index:expr) => {
-        Wanted::Ends(RayAnswer::Reached(PolyRef {
+        Wanted::HopEnds(RayAnswer::Reached(PolyRef {
             tile: 0,
             index: $index,
         }))
@@ -161,7 +161,7 @@ static ROWS: [(Question, Wanted); 14] = [
     // Over the part of an edge behind which there is a polygon, and over the part behind which there is none.
     (
         ray!(24, 8, 24, 40),
-        Wanted::Ends(RayAnswer::Wall {
+        Wanted::HopEnds(RayAnswer::Wall {
             a: Point { x: 48, z: 32 },
             b: Point { x: 16, z: 32 },
             num: 768,
@@ -170,7 +170,7 @@ static ROWS: [(Question, Wanted); 14] = [
     ),
     (
         ray!(8, 8, 8, 40),
-        Wanted::Ends(RayAnswer::Wall {
+        Wanted::HopEnds(RayAnswer::Wall {
             a: Point { x: 32, z: 16 },
             b: Point { x: 0, z: 16 },
             num: 256,
@@ -225,7 +225,7 @@ fn is_wanted(answer: &Answer, wanted: Wanted) -> bool {
             Answer::Path(found) => is_path(found, cost, links, turn),
             _ => false,
         },
-        Wanted::Ends(end) => end_of(answer) == Some(end),
+        Wanted::HopEnds(end) => end_of(answer) == Some(end),
     }
 }
 

@@ -2,7 +2,7 @@
 
 use crate::texts::{append, check};
 use nav_base::push_number;
-use nav_ground::{AREAS, Agent, MeshKind, Setting, SmallSpan, Span};
+use nav_ground::{AREAS, Agent, MeshKind, PackedSpan, Setting, Span};
 use nav_text::FaultKind;
 use span_text::{FieldRefusal, FieldText, read_field};
 use std::alloc::Global;
@@ -91,7 +91,7 @@ fn every_setting() -> Setting {
     }
 }
 
-fn are_spans(found: &[SmallSpan], wanted: &[Span]) -> bool {
+fn are_spans(found: &[PackedSpan], wanted: &[Span]) -> bool {
     found.len() == wanted.len()
         && found
             .iter()

@@ -7,7 +7,7 @@ use mesh_types::{
 };
 use nav_base::{FloorAt, Point};
 use nav_ground::{Entry, Reply, Request, Shape};
-use nav_list::Items;
+use nav_lists::Items;
 use nav_record::{
     StepAnswer, write_answer, write_done, write_entry, write_fault, write_final, write_history,
     write_hop, write_lane, write_no_walker, write_reply, write_step, write_walk,

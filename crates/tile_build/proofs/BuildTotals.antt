@@ -20,7 +20,7 @@ use Rattle.nav_ground.specs.FreeCells.{free_layer_of}
 use Rattle.nav_ground.specs.History.{IsRequest, entry_at, shape_in, shape_of, alive_after, shapes_alive}
 use Rattle.nav_ground.proofs.FreeLayers.{free_layer_cut}
 use Rattle.nav_ground.proofs.LayerLaws.{IsLayerOf-from_ground}
-use Rattle.mesh_types.specs.declared.tile.TileMesh.{TileMesh}
+use Rattle.mesh_types.specs.declared.mesh.TileMesh.{TileMesh}
 use Rattle.mesh_types.specs.ContourMeshes.{mesh_of_free}
 use Rattle.mesh_types.specs.WholeMesh.{mesh_of}
 use Rattle.mesh_types.specs.Builds.{tile_mesh_of, mesh_under, build_of}
@@ -43,54 +43,54 @@ small_mesh setting free cut in_tile =
     (λ tile is. small_contours setting free tile cut in_tile (regions_kept free.cells cut) is)
 
 -- every tile of the mesh is small
-small_tiles : (whole : Ground) (shapes : List Shape) → IsGround whole → All IsShape shapes → All IsSmall (tiles_under whole shapes)
-small_tiles whole shapes rules' limits =
-    All-map IsSmall (λ (layer : Layer). tile_mesh_of whole.setting layer shapes) whole.layers
+small_tiles : (ground : Ground) (shapes : List Shape) → IsGround ground → All IsShape shapes → All IsSmall (tiles_under ground shapes)
+small_tiles ground shapes rules' limits =
+    All-map IsSmall (λ (layer : Layer). tile_mesh_of ground.setting layer shapes) ground.layers
     (λ k d there.
-    let layer : Layer = get_or whole.layers k d in
-    let of_layer = IsLayerOf-from_ground whole rules' k d there in
-    small_mesh whole.setting (free_layer_of layer shapes) (free_layer_cut layer shapes of_layer.rules.cells limits)
-    (free_in_tile whole.setting layer shapes of_layer.inside))
+    let layer : Layer = get_or ground.layers k d in
+    let of_layer = IsLayerOf-from_ground ground rules' k d there in
+    small_mesh ground.setting (free_layer_of layer shapes) (free_layer_cut layer shapes of_layer.rules.cells limits)
+    (free_in_tile ground.setting layer shapes of_layer.inside))
 
 -- the tiles have together no more free cells than a field has spans
-few_in_tiles : (whole : Ground) (shapes : List Shape) → IsGround whole
-    → sum_by (λ (tile : TileMesh). length tile.free.cells) (tiles_under whole shapes) ≤ 2000000
-few_in_tiles whole shapes rules' =
+few_in_tiles : (ground : Ground) (shapes : List Shape) → IsGround ground
+    → sum_by (λ (tile : TileMesh). length tile.free.cells) (tiles_under ground shapes) ≤ 2000000
+few_in_tiles ground shapes rules' =
     omega (
       arith,
-      sum_by-map (λ (tile : TileMesh). length tile.free.cells) (λ (layer : Layer). tile_mesh_of whole.setting layer shapes) whole.layers,
-      sum_by-le-sum_by (λ (layer : Layer). length (tile_mesh_of whole.setting layer shapes).free.cells) (λ (layer : Layer). length layer.cells) whole.layers
+      sum_by-map (λ (tile : TileMesh). length tile.free.cells) (λ (layer : Layer). tile_mesh_of ground.setting layer shapes) ground.layers,
+      sum_by-le-sum_by (λ (layer : Layer). length (tile_mesh_of ground.setting layer shapes).free.cells) (λ (layer : Layer). length layer.cells) ground.layers
           few_in_tile,
-      few_cells_of_ground whole rules',
+      few_cells_of_ground ground rules',
     )
   where
-    few_in_tile : (layer : Layer) → length (tile_mesh_of whole.setting layer shapes).free.cells ≤ length layer.cells
+    few_in_tile : (layer : Layer) → length (tile_mesh_of ground.setting layer shapes).free.cells ≤ length layer.cells
     few_in_tile layer =
         omega (
           arith,
           few_free layer shapes,
-          ap (λ (free : FreeLayer). length free.cells) (mesh_of_cells whole.setting (free_layer_of layer shapes)),
+          ap (λ (free : FreeLayer). length free.cells) (mesh_of_cells ground.setting (free_layer_of layer shapes)),
         )
 
-pub few_polygons_of_tiles : (whole : Ground) (shapes : List Shape) → IsGround whole → All IsShape shapes → polygon_count (tiles_under whole shapes) ≤ 8000000
-few_polygons_of_tiles whole shapes rules' limits =
-    omega (arith, few_polygons (tiles_under whole shapes) (small_tiles whole shapes rules' limits), few_in_tiles whole shapes rules')
+pub few_polygons_of_tiles : (ground : Ground) (shapes : List Shape) → IsGround ground → All IsShape shapes → polygon_count (tiles_under ground shapes) ≤ 8000000
+few_polygons_of_tiles ground shapes rules' limits =
+    omega (arith, few_polygons (tiles_under ground shapes) (small_tiles ground shapes rules' limits), few_in_tiles ground shapes rules')
 
-pub few_polygons_under : (whole : Ground) (shapes : List Shape) → IsGround whole → All IsShape shapes → polygon_count (mesh_under whole shapes).tiles ≤ 8000000
+pub few_polygons_under : (ground : Ground) (shapes : List Shape) → IsGround ground → All IsShape shapes → polygon_count (mesh_under ground shapes).tiles ≤ 8000000
 unfolding mesh_of
-few_polygons_under whole shapes rules' limits = few_polygons_of_tiles whole shapes rules' limits
+few_polygons_under ground shapes rules' limits = few_polygons_of_tiles ground shapes rules' limits
 
 -- each tile has few links
-pub few_links_of_tiles : (whole : Ground) (shapes : List Shape) → IsGround whole → All IsShape shapes → All HasFewLinks (tiles_under whole shapes)
-few_links_of_tiles whole shapes rules' limits =
-    All-weaker IsSmall HasFewLinks (λ tile small. small.links) (tiles_under whole shapes) (small_tiles whole shapes rules' limits)
+pub few_links_of_tiles : (ground : Ground) (shapes : List Shape) → IsGround ground → All IsShape shapes → All HasFewLinks (tiles_under ground shapes)
+few_links_of_tiles ground shapes rules' limits =
+    All-weaker IsSmall HasFewLinks (λ tile small. small.links) (tiles_under ground shapes) (small_tiles ground shapes rules' limits)
 
-pub few_links_under : (whole : Ground) (shapes : List Shape) → IsGround whole → All IsShape shapes → link_count (mesh_under whole shapes) ≤ 56000000
-few_links_under whole shapes rules' limits =
+pub few_links_under : (ground : Ground) (shapes : List Shape) → IsGround ground → All IsShape shapes → link_count (mesh_under ground shapes) ≤ 56000000
+few_links_under ground shapes rules' limits =
     omega (
       arith,
-      few_links whole.setting (tiles_under whole shapes) (few_links_of_tiles whole shapes rules' limits),
-      few_in_tiles whole shapes rules',
+      few_links ground.setting (tiles_under ground shapes) (few_links_of_tiles ground shapes rules' limits),
+      few_in_tiles ground shapes rules',
     )
 
 -- the shape of an obstacle of a history is within its limits
@@ -116,12 +116,12 @@ alive_limits history k requests =
     All-found (shape_of history) IsShape (alive_after history k) (λ i d there shape found. shape_limits history _ shape requests found)
 
 -- the mesh of a ground and a history has at most 8000000 polygons and 56000000 links
-pub few_polygons_of_build : (whole : Ground) (history : List Entry) (k : ℕ) → IsGround whole → All (λ (entry : Entry). IsRequest entry.request) history
-    → polygon_count (build_of whole history k).tiles ≤ 8000000
+pub few_polygons_of_build : (ground : Ground) (history : List Entry) (k : ℕ) → IsGround ground → All (λ (entry : Entry). IsRequest entry.request) history
+    → polygon_count (build_of ground history k).tiles ≤ 8000000
 unfolding build_of
-few_polygons_of_build whole history k rules' requests = few_polygons_under whole (shapes_alive history k) rules' (alive_limits history k requests)
+few_polygons_of_build ground history k rules' requests = few_polygons_under ground (shapes_alive history k) rules' (alive_limits history k requests)
 
-pub few_links_of_build : (whole : Ground) (history : List Entry) (k : ℕ) → IsGround whole → All (λ (entry : Entry). IsRequest entry.request) history
-    → link_count (build_of whole history k) ≤ 56000000
+pub few_links_of_build : (ground : Ground) (history : List Entry) (k : ℕ) → IsGround ground → All (λ (entry : Entry). IsRequest entry.request) history
+    → link_count (build_of ground history k) ≤ 56000000
 unfolding build_of
-few_links_of_build whole history k rules' requests = few_links_under whole (shapes_alive history k) rules' (alive_limits history k requests)
+few_links_of_build ground history k rules' requests = few_links_under ground (shapes_alive history k) rules' (alive_limits history k requests)

@@ -5,10 +5,10 @@ use Rattle.nav_ground.specs.declared.history.Ground.{Ground}
 use Rattle.nav_ground.specs.Grounds.{IsGround}
 use Rattle.nav_ground.specs.Tiling.{tile_count}
 use Rattle.nav_ground.proofs.LayerLaws.{length-layers_of_ground}
-use Rattle.nav_steps.specs.Counts.{HasRisenAtMost}
+use Rattle.nav_base.specs.Counts.{HasRisenAtMost}
 
 -- steps for the layers of a ground are steps for its tiles
-pub for_tiles : (whole : Ground) (layers : List Layer) (before after : ℕ) → IsGround whole → layers ≡ whole.layers
-    → HasRisenAtMost (length layers) before after → HasRisenAtMost (tile_count whole.setting) before after
-for_tiles whole layers before after rules' same =
-    subst (λ n. HasRisenAtMost n before after) (ap length same ∙ length-layers_of_ground whole rules')
+pub for_tiles : (ground : Ground) (layers : List Layer) (before after : ℕ) → IsGround ground → layers ≡ ground.layers
+    → HasRisenAtMost (length layers) before after → HasRisenAtMost (tile_count ground.setting) before after
+for_tiles ground layers before after rules' same =
+    subst (λ n. HasRisenAtMost n before after) (ap length same ∙ length-layers_of_ground ground rules')

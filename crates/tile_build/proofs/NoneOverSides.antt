@@ -18,8 +18,8 @@ use Rattle.nav_ground.specs.Tiling.{tile_window}
 use Rattle.mesh_types.specs.declared.polygon.Polygon.{Polygon}
 use Rattle.mesh_types.specs.declared.links.Link.{Link}
 use Rattle.mesh_types.specs.declared.links.Portal.{Portal}
-use Rattle.mesh_types.specs.declared.tile.RimEdge.{RimEdge}
-use Rattle.mesh_types.specs.declared.tile.TileMesh.{TileMesh}
+use Rattle.mesh_types.specs.declared.mesh.RimEdge.{RimEdge}
+use Rattle.mesh_types.specs.declared.mesh.TileMesh.{TileMesh}
 use Rattle.mesh_types.specs.BorderLinks.{scaled}
 use Rattle.mesh_types.specs.FitTiles.{IsFit, IsInnerLink, IsInSquare, IsPolygon, IsRimOf, LiesOnSide}
 use Rattle.mesh_types.specs.Portals.{IsPortalIn, IsPortalOut, edge_begin, edge_end}

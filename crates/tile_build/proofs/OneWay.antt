@@ -21,14 +21,14 @@ use Rattle.nav_ground.specs.Limits.{IsShape}
 use Rattle.nav_ground.specs.Tiling.{tile_window}
 use Rattle.nav_ground.proofs.FreeLayers.{free_layer_cut}
 use Rattle.nav_ground.proofs.LayerLaws.{IsLayerOf-from_ground}
-use Rattle.mesh_types.specs.declared.door.Door.{Door}
-use Rattle.mesh_types.specs.declared.door.Part.{Part}
-use Rattle.mesh_types.specs.declared.label_runs.Run.{Run}
+use Rattle.mesh_types.specs.declared.region.PortalEdge.{PortalEdge}
+use Rattle.mesh_types.specs.declared.region.RegionPart.{RegionPart}
+use Rattle.mesh_types.specs.declared.region.LabelRun.{LabelRun}
 use Rattle.mesh_types.specs.declared.links.Link.{Link}
 use Rattle.mesh_types.specs.declared.links.PolyRef.{PolyRef}
 use Rattle.mesh_types.specs.declared.links.Portal.{Portal}
 use Rattle.mesh_types.specs.declared.polygon.Polygon.{Polygon}
-use Rattle.mesh_types.specs.declared.tile.TileMesh.{TileMesh}
+use Rattle.mesh_types.specs.declared.mesh.TileMesh.{TileMesh}
 use Rattle.mesh_types.specs.Builds.{tile_mesh_of}
 use Rattle.mesh_types.specs.Facets.{Facet, facets_of}
 use Rattle.mesh_types.specs.Doors.{are_facing, door_link, door_links, door_over, doors_of, facet_doors, link_through}
@@ -62,13 +62,13 @@ LeadsOneWay tile =
 -- ---- outlines: through each door there is one link at most
 
 -- a door is told by its polygon and its edge
-abbrev door_at : List Facet → ℕ → ℕ → Door
+abbrev door_at : List Facet → ℕ → ℕ → PortalEdge
 door_at facets polygon edge = door_over polygon (get_or facets polygon no_facet) edge
 
-doors_told : (facets : List Facet) → All (λ (door : Door). door ≡ door_at facets door.polygon door.edge) (doors_of facets)
+doors_told : (facets : List Facet) → All (λ (door : PortalEdge). door ≡ door_at facets door.polygon door.edge) (doors_of facets)
 unfolding doors_of
 doors_told facets =
-    let P : Door → Type 0 = λ door. door ≡ door_at facets door.polygon door.edge in
+    let P : PortalEdge → Type 0 = λ door. door ≡ door_at facets door.polygon door.edge in
     gathered_all P (λ polygon. facet_doors polygon (get_or facets polygon no_facet)) 0 (length facets)
     (λ polygon least most.
     let facet : Facet = get_or facets polygon no_facet in
@@ -76,22 +76,22 @@ doors_told facets =
 
 -- the link through a door
 record IsThroughDoor (tile : ℕ) (facets : List Facet) (link : Link) : Type 0 where
-  pub door : Door
+  pub door : PortalEdge
   pub told : door ≡ door_at facets door.polygon door.edge
   pub leads : link_through tile (doors_of facets) door ≡ Some link
 
 through_doors : (tile : ℕ) (facets : List Facet) → All (IsThroughDoor tile facets) (door_links tile (doors_of facets))
 through_doors tile facets =
-    let doors : List Door = doors_of facets in
+    let doors : List PortalEdge = doors_of facets in
     All-ordered_links (IsThroughDoor tile facets) (filter_map (link_through tile doors) doors)
     (All-found (link_through tile doors) (IsThroughDoor tile facets) doors
     (λ k d there link is. record { door = get_or doors k d; told = doors_told facets k d there; leads = is }))
 
 -- it leaves the door's polygon over the door's edge
-leaves_door : (tile : ℕ) (doors : List Door) (door : Door) (link : Link) → link_through tile doors door ≡ Some link → (door.polygon ≡ link.from.index) × (door.edge ≡ link.edge)
+leaves_door : (tile : ℕ) (doors : List PortalEdge) (door : PortalEdge) (link : Link) → link_through tile doors door ≡ Some link → (door.polygon ≡ link.from.index) × (door.edge ≡ link.edge)
 leaves_door tile doors door link is = by_found (find (are_facing door) doors) is
   where
-    by_found : (found : Option Door) → option_map (door_link tile door) found ≡ Some link → (door.polygon ≡ link.from.index) × (door.edge ≡ link.edge)
+    by_found : (found : Option PortalEdge) → option_map (door_link tile door) found ≡ Some link → (door.polygon ≡ link.from.index) × (door.edge ≡ link.edge)
     by_found None made = absurd (none-some link made)
     by_found (Some other) made =
         let same : door_link tile door other ≡ link = same_Some (door_link tile door other) link made in
@@ -100,7 +100,7 @@ leaves_door tile doors door link is = by_found (find (are_facing door) doors) is
 one_through : (tile : ℕ) (facets : List Facet) (link other : Link) → IsThroughDoor tile facets link → IsThroughDoor tile facets other → link.from ≡ other.from
     → link.edge ≡ other.edge → link ≡ other
 one_through tile facets link other is is' from edge =
-    let doors : List Door = doors_of facets in
+    let doors : List PortalEdge = doors_of facets in
     let at = leaves_door tile doors is.door link is.leads in
     let at' = leaves_door tile doors is'.door other is'.leads in
     let polygons : is.door.polygon ≡ is'.door.polygon = at.0 ∙ ap (λ (r : PolyRef). r.index) from ∙ sym at'.0 in
@@ -112,7 +112,7 @@ contours_one_way : (setting : Setting) (free : FreeLayer) (tile : TileMesh) → 
 unfolding contour_mesh_of parts_mesh
 contours_one_way setting free tile is = by_parts (parts_of (tile_window setting free.tile) setting.error free.cells (regions_of free.cells)) is
   where
-    by_parts : (found : Option (List Part)) → option_map (parts_mesh setting free (regions_of free.cells)) found ≡ Some tile → LeadsOneWay tile
+    by_parts : (found : Option (List RegionPart)) → option_map (parts_mesh setting free (regions_of free.cells)) found ≡ Some tile → LeadsOneWay tile
     by_parts None made = absurd (none-some tile made)
     by_parts (Some parts) made =
         let facets : List Facet = facets_of parts in
@@ -131,14 +131,14 @@ abbrev labels_of : List (List Cell) → ℕ → ℕ → List (Option ℕ)
 labels_of runs s dir = map (strip_beyond runs s dir) (get_or runs s [])
 
 -- the portal along a run of a strip's cells
-abbrev portal_along : List Cell → ℕ → Run → Portal
+abbrev portal_along : List Cell → ℕ → LabelRun → Portal
 portal_along own edge run = edge_portal edge ((first_of own).at.x + run.first) ((first_of own).at.x + run.last) (first_of own).at.z
 
 -- a link leads along a run of cells of the strip that it leaves into the one strip beyond them
 record IsStripLink (tile : ℕ) (runs : List (List Cell)) (link : Link) : Type 0 where
   pub there : link.from.index < length runs
   pub small : link.edge < 4
-  pub run : Run
+  pub run : LabelRun
   pub range : IsRunOf (labels_of runs link.from.index (outside_of link.edge)) run
   pub to : link.to ≡ record { tile = tile; index = run.label }
   pub portal : link.portal ≡ portal_along (get_or runs link.from.index []) link.edge run
@@ -185,7 +185,7 @@ falls_after g p q less falls =
     ]
 
 -- portals along two runs of a strip's cells that have a common inner point have a common column
-begins_within : (edge : ℕ) (own : List Cell) (run other : Run) → edge < 4 → 0 < length own → run.first ≤ run.last → run.last < length own → other.first ≤ other.last
+begins_within : (edge : ℕ) (own : List Cell) (run other : LabelRun) → edge < 4 → 0 < length own → run.first ≤ run.last → run.last < length own → other.first ≤ other.last
     → other.last < length own → MeetsAt edge own run.first run.last → MeetsAt edge own other.first other.last
     → along (edge_begin (strip_polygon own) edge) (edge_end (strip_polygon own) edge) (portal_along own edge other).right
     <ℤ along (edge_begin (strip_polygon own) edge) (edge_end (strip_polygon own) edge) (portal_along own edge run).left
@@ -213,7 +213,7 @@ begins_within (suc (suc (suc zero))) own run other small some order inside order
 begins_within (suc (suc (suc (suc edge)))) own run other small some order inside order' inside' meets meets' before next = absurd (omega (arith, small))
 
 -- two runs with a common place have one label
-one_label : (labels : List (Option ℕ)) (run other : Run) → IsRunOf labels run → IsRunOf labels other → other.first ≤ run.last → run.first ≤ other.last → run.label ≡ other.label
+one_label : (labels : List (Option ℕ)) (run other : LabelRun) → IsRunOf labels run → IsRunOf labels other → other.first ≤ run.last → run.first ≤ other.last → run.label ≡ other.label
 one_label labels run other range range' begins begins' =
     elim (cases_lt run.first other.first) [
       | inl less ↦
@@ -225,7 +225,7 @@ one_label labels run other range range' begins begins' =
     ]
 
 -- where the cells of a run meet the strip beyond
-run_meets : (cells : List Cell) → IsCut cells → (s edge : ℕ) (run : Run) → s < length (strip_runs cells) → edge < 4
+run_meets : (cells : List Cell) → IsCut cells → (s edge : ℕ) (run : LabelRun) → s < length (strip_runs cells) → edge < 4
     → IsRunOf (labels_of (strip_runs cells) s (outside_of edge)) run
     → (run.last < length (get_or (strip_runs cells) s [])) × MeetsAt edge (get_or (strip_runs cells) s []) run.first run.last
 run_meets cells cut s edge run there small range =
@@ -245,7 +245,7 @@ run_meets cells cut s edge run there small range =
         beyond_found runs s (outside_of edge) run.label (get_or own k some_cell)
         (sym (get_or-map (strip_beyond runs s (outside_of edge)) own k some_cell None (omega (arith, most, inside))) ∙ range.labelled k least most)
 
-runs_agree : (cells : List Cell) → IsCut cells → (s edge : ℕ) (run other : Run) → s < length (strip_runs cells) → edge < 4
+runs_agree : (cells : List Cell) → IsCut cells → (s edge : ℕ) (run other : LabelRun) → s < length (strip_runs cells) → edge < 4
     → IsRunOf (labels_of (strip_runs cells) s (outside_of edge)) run → IsRunOf (labels_of (strip_runs cells) s (outside_of edge)) other
     → Overlap (strip_polygon (get_or (strip_runs cells) s [])) edge (portal_along (get_or (strip_runs cells) s []) edge run) (portal_along (get_or (strip_runs cells) s []) edge other)
     → run.label ≡ other.label
@@ -293,9 +293,9 @@ strips_one_way setting free cut polygon link other has has' from edge there over
 pub mesh_one_way : (setting : Setting) (free : FreeLayer) → IsCut free.cells → LeadsOneWay (mesh_of_free setting free)
 mesh_one_way setting free cut = of_either LeadsOneWay setting free (strips_one_way setting free cut) (λ tile is. contours_one_way setting free tile is)
 
-pub tiles_one_way : (whole : Ground) (shapes : List Shape) → IsGround whole → All IsShape shapes → All LeadsOneWay (tiles_under whole shapes)
-tiles_one_way whole shapes rules' limits =
-    All-map LeadsOneWay (λ (layer : Layer). tile_mesh_of whole.setting layer shapes) whole.layers
+pub tiles_one_way : (ground : Ground) (shapes : List Shape) → IsGround ground → All IsShape shapes → All LeadsOneWay (tiles_under ground shapes)
+tiles_one_way ground shapes rules' limits =
+    All-map LeadsOneWay (λ (layer : Layer). tile_mesh_of ground.setting layer shapes) ground.layers
     (λ k d there.
-    let layer : Layer = get_or whole.layers k d in
-    mesh_one_way whole.setting (free_layer_of layer shapes) (free_layer_cut layer shapes (IsLayerOf-from_ground whole rules' k d there).rules.cells limits))
+    let layer : Layer = get_or ground.layers k d in
+    mesh_one_way ground.setting (free_layer_of layer shapes) (free_layer_cut layer shapes (IsLayerOf-from_ground ground rules' k d there).rules.cells limits))

@@ -15,7 +15,7 @@ use Rattle.nav_ground.specs.Grounds.{IsGround}
 use Rattle.nav_ground.specs.Layers.{layer_of, layers_of}
 use Rattle.nav_ground.specs.Limits.{IsSetting}
 use Rattle.nav_ground.specs.Tiling.{tile_count}
-use Rattle.mesh_types.specs.declared.tile.TileMesh.{TileMesh}
+use Rattle.mesh_types.specs.declared.mesh.TileMesh.{TileMesh}
 use Rattle.mesh_types.specs.Builds.{tile_mesh_of, mesh_under}
 use Rattle.mesh_types.specs.ContourMeshes.{parts_mesh, contour_mesh_of, mesh_of_kind, mesh_of_free}
 use Rattle.mesh_types.specs.StripMeshes.{strip_mesh_of}
@@ -41,11 +41,11 @@ plain_tile setting field tile limits rules' =
     ∙ plain_free setting (free_layer_of (layer_of (plain_setting setting) field tile) [])
 
 -- so all tiles are
-pub plain_tiles : (whole : Ground) → IsGround whole → tiles_under whole [] ≡ tiles_under (plain_ground whole) []
+pub plain_tiles : (ground : Ground) → IsGround ground → tiles_under ground [] ≡ tiles_under (plain_ground ground) []
 unfolding layers_of
-plain_tiles whole rules' =
-    let setting = whole.setting in
-    let field = whole.field in
+plain_tiles ground rules' =
+    let setting = ground.setting in
+    let field = ground.field in
     let tiles : List ℕ = range_with_len 0 (tile_count setting) in
     let same = plain_tile setting field in
     ap (tiles_of setting []) rules'.layers
@@ -54,9 +54,9 @@ plain_tiles whole rules' =
     ∙ sym (map-map (λ (layer : Layer). tile_mesh_of (plain_setting setting) layer []) (layer_of (plain_setting setting) field) tiles)
 
 -- and the links over their sides
-pub plain_parts : (whole : Ground) → IsGround whole → HasSameParts (mesh_under whole []) (mesh_under (plain_ground whole) [])
+pub plain_parts : (ground : Ground) → IsGround ground → HasSameParts (mesh_under ground []) (mesh_under (plain_ground ground) [])
 unfolding mesh_of
-plain_parts whole rules' = record {
-  tiles = plain_tiles whole rules';
-  cross = ap (λ (tiles : List TileMesh). map (cross_links whole.setting tiles) tiles) (plain_tiles whole rules');
+plain_parts ground rules' = record {
+  tiles = plain_tiles ground rules';
+  cross = ap (λ (tiles : List TileMesh). map (cross_links ground.setting tiles) tiles) (plain_tiles ground rules');
 }

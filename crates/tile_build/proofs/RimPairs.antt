@@ -22,13 +22,13 @@ use Rattle.nav_ground.specs.Limits.{IsShape}
 use Rattle.nav_ground.specs.Tiling.{tile_window, IsInWindow}
 use Rattle.nav_ground.proofs.FreeLayers.{free_layer_cut}
 use Rattle.nav_ground.proofs.LayerLaws.{IsLayerOf-from_ground}
-use Rattle.mesh_types.specs.declared.door.Door.{Door}
-use Rattle.mesh_types.specs.declared.door.Part.{Part}
-use Rattle.mesh_types.specs.declared.label_runs.Run.{Run}
+use Rattle.mesh_types.specs.declared.region.PortalEdge.{PortalEdge}
+use Rattle.mesh_types.specs.declared.region.RegionPart.{RegionPart}
+use Rattle.mesh_types.specs.declared.region.LabelRun.{LabelRun}
 use Rattle.mesh_types.specs.declared.region.Regions.{Regions}
-use Rattle.mesh_types.specs.declared.tile.LevelPair.{LevelPair}
-use Rattle.mesh_types.specs.declared.tile.RimEdge.{RimEdge}
-use Rattle.mesh_types.specs.declared.tile.TileMesh.{TileMesh}
+use Rattle.mesh_types.specs.declared.mesh.LevelPair.{LevelPair}
+use Rattle.mesh_types.specs.declared.mesh.RimEdge.{RimEdge}
+use Rattle.mesh_types.specs.declared.mesh.TileMesh.{TileMesh}
 use Rattle.mesh_types.specs.BorderLinks.{HasOnePair, Names, pair_at}
 use Rattle.mesh_types.specs.Builds.{tile_mesh_of}
 use Rattle.mesh_types.specs.Facets.{Facet, facets_of}
@@ -101,7 +101,7 @@ place_is (suc (suc (suc (suc edge)))) window own n position small row each insid
 abbrev strip_pair : List (List Cell) → ℕ → ℕ → ℕ → ℕ → LevelPair
 strip_pair runs s edge side position = level_pair side (get_or (get_or runs s []) (place_in_strip (get_or runs s []) edge position) some_cell)
 
-strip_names : (window : Window) (runs : List (List Cell)) (s edge : ℕ) (part : Run) → edge < 4 → IsRow (get_or runs s [])
+strip_names : (window : Window) (runs : List (List Cell)) (s edge : ℕ) (part : LabelRun) → edge < 4 → IsRow (get_or runs s [])
     → All (λ (cell : Cell). IsInWindow window cell.at.x cell.at.z) (get_or runs s []) → IsRunOf (crossings window edge (get_or runs s [])) part
     → Names (strip_pair runs) (rim_edge s edge (get_or runs s []) part)
 strip_names window runs s edge part small row each run position found there =
@@ -147,7 +147,7 @@ strips_one_pair setting free cut in_tile =
 -- ---- outlines
 
 -- a door has the region of its polygon
-abbrev IsOfFacet : List Facet → Door → Type 0
+abbrev IsOfFacet : List Facet → PortalEdge → Type 0
 IsOfFacet facets door = door.region ≡ (facet_at facets door.polygon).region
 
 doors_of_facets : (facets : List Facet) → All (IsOfFacet facets) (doors_of facets)
@@ -162,7 +162,7 @@ module _ (window : Window) (cells : List Cell) (regions : Regions) (facets : Lis
   abbrev region_pair : ℕ → ℕ → ℕ → ℕ → LevelPair
   region_pair polygon edge side position = crossing_pair window cells regions (facet_at facets polygon).region side position
 
-  entry_names : (door : Door) (side : ℕ) (run : Run) → IsOfFacet facets door → Names region_pair (door_entry window cells regions door side run)
+  entry_names : (door : PortalEdge) (side : ℕ) (run : LabelRun) → IsOfFacet facets door → Names region_pair (door_entry window cells regions door side run)
   entry_names door side run of position found there =
       let entry : RimEdge = door_entry window cells regions door side run in
       let f : ℕ → LevelPair = crossing_pair window cells regions door.region side in
@@ -174,7 +174,7 @@ module _ (window : Window) (cells : List Cell) (regions : Regions) (facets : Lis
       ∙ get_or-map-range_with_len f entry.first count k position (level_pair side some_cell) k-in (omega (arith, at.begins))
       ∙ ap (λ r. crossing_pair window cells regions r side position) of
 
-  door_names : (doors : List Door) (door : Door) → IsOfFacet facets door → All (Names region_pair) (door_entries window cells regions doors door)
+  door_names : (doors : List PortalEdge) (door : PortalEdge) → IsOfFacet facets door → All (Names region_pair) (door_entries window cells regions doors door)
   door_names doors door of = by_side (side_of window door)
     where
       by_side : (found : Option ℕ) → All (Names region_pair) (option_map_or (side_entries window cells regions doors door) found [])
@@ -199,7 +199,7 @@ contours_one_pair setting free tile is = by_parts (parts_of window setting.error
     regions : Regions
     regions = regions_of free.cells
 
-    by_parts : (found : Option (List Part)) → option_map (parts_mesh setting free regions) found ≡ Some tile → HasOnePair tile
+    by_parts : (found : Option (List RegionPart)) → option_map (parts_mesh setting free regions) found ≡ Some tile → HasOnePair tile
     by_parts None same = absurd (none-some tile same)
     by_parts (Some parts) same =
         subst HasOnePair (same_Some (parts_mesh setting free regions parts) tile same)
@@ -207,13 +207,13 @@ contours_one_pair setting free tile is = by_parts (parts_of window setting.error
 
 -- ---- the tiles of a ground
 
-pub tiles_one_pair : (whole : Ground) (shapes : List Shape) → IsGround whole → All IsShape shapes → All HasOnePair (tiles_under whole shapes)
-tiles_one_pair whole shapes rules' limits =
-    All-map HasOnePair (λ (layer : Layer). tile_mesh_of whole.setting layer shapes) whole.layers
+pub tiles_one_pair : (ground : Ground) (shapes : List Shape) → IsGround ground → All IsShape shapes → All HasOnePair (tiles_under ground shapes)
+tiles_one_pair ground shapes rules' limits =
+    All-map HasOnePair (λ (layer : Layer). tile_mesh_of ground.setting layer shapes) ground.layers
     (λ k d there.
-    let layer : Layer = get_or whole.layers k d in
-    let of_layer = IsLayerOf-from_ground whole rules' k d there in
+    let layer : Layer = get_or ground.layers k d in
+    let of_layer = IsLayerOf-from_ground ground rules' k d there in
     let free : FreeLayer = free_layer_of layer shapes in
     let cut = free_layer_cut layer shapes of_layer.rules.cells limits in
-    of_either HasOnePair whole.setting free (strips_one_pair whole.setting free cut (free_in_tile whole.setting layer shapes of_layer.inside))
-    (contours_one_pair whole.setting free))
+    of_either HasOnePair ground.setting free (strips_one_pair ground.setting free cut (free_in_tile ground.setting layer shapes of_layer.inside))
+    (contours_one_pair ground.setting free))

@@ -6,7 +6,7 @@ use Rattle.nav_ground.specs.declared.setting.MeshKind.TheVariants.{Strips, Conto
 use Rattle.nav_ground.specs.declared.setting.Setting.{Setting}
 use Rattle.nav_ground.specs.declared.cell.FreeLayer.{FreeLayer}
 use Rattle.nav_ground.specs.Cells.{IsCut, IsInTile}
-use Rattle.mesh_types.specs.declared.tile.TileMesh.{TileMesh}
+use Rattle.mesh_types.specs.declared.mesh.TileMesh.{TileMesh}
 use Rattle.mesh_types.specs.StripMeshes.{strip_mesh_of}
 use Rattle.mesh_types.specs.FitTiles.{IsFit}
 use Rattle.mesh_types.specs.ContourMeshes.{contour_mesh_of, mesh_of_kind, mesh_of_free}

@@ -13,7 +13,7 @@ use Rattle.nav_ground.specs.Grounds.{IsGround}
 use Rattle.nav_ground.specs.FreeCells.{free_layer_of}
 use Rattle.nav_ground.proofs.FreeLayers.{free_layer_cut}
 use Rattle.nav_ground.proofs.LayerLaws.{IsLayerOf-from_ground}
-use Rattle.mesh_types.specs.declared.tile.TileMesh.{TileMesh}
+use Rattle.mesh_types.specs.declared.mesh.TileMesh.{TileMesh}
 use Rattle.mesh_types.specs.Builds.{tile_mesh_of}
 use Rattle.mesh_types.specs.ContourMeshes.{mesh_of_free}
 use Rattle.mesh_types.specs.Passages.{AreTwoWay, ListsCrossings}
@@ -39,21 +39,21 @@ mesh_lists setting free cut in_tile =
     (contours_list setting free cut in_tile (regions_kept free.cells cut))
 
 -- what holds of the mesh of cut free cells of a tile holds of every tile of a ground under obstacles
-each_tile : (P : TileMesh → Type 0) (whole : Ground) (shapes : List Shape) → IsGround whole → All IsShape shapes
-    → ((free : FreeLayer) → IsCut free.cells → IsInTile whole.setting free.tile free.cells → P (mesh_of_free whole.setting free)) → All P (tiles_under whole shapes)
-each_tile P whole shapes rules' limits holds =
-    All-map P (λ (layer : Layer). tile_mesh_of whole.setting layer shapes) whole.layers
+each_tile : (P : TileMesh → Type 0) (ground : Ground) (shapes : List Shape) → IsGround ground → All IsShape shapes
+    → ((free : FreeLayer) → IsCut free.cells → IsInTile ground.setting free.tile free.cells → P (mesh_of_free ground.setting free)) → All P (tiles_under ground shapes)
+each_tile P ground shapes rules' limits holds =
+    All-map P (λ (layer : Layer). tile_mesh_of ground.setting layer shapes) ground.layers
     (λ k d there.
-    let layer : Layer = get_or whole.layers k d in
-    let of_layer = IsLayerOf-from_ground whole rules' k d there in
-    holds (free_layer_of layer shapes) (free_layer_cut layer shapes of_layer.rules.cells limits) (free_in_tile whole.setting layer shapes of_layer.inside))
+    let layer : Layer = get_or ground.layers k d in
+    let of_layer = IsLayerOf-from_ground ground rules' k d there in
+    holds (free_layer_of layer shapes) (free_layer_cut layer shapes of_layer.rules.cells limits) (free_in_tile ground.setting layer shapes of_layer.inside))
 
 -- each link inside a tile of a build has its reverse
-pub tiles_two_way : (whole : Ground) (shapes : List Shape) → IsGround whole → All IsShape shapes
-    → All (λ (tile : TileMesh). AreTwoWay tile.links) (tiles_under whole shapes)
-tiles_two_way whole shapes rules' limits =
-    each_tile (λ (tile : TileMesh). AreTwoWay tile.links) whole shapes rules' limits (mesh_two_way whole.setting)
+pub tiles_two_way : (ground : Ground) (shapes : List Shape) → IsGround ground → All IsShape shapes
+    → All (λ (tile : TileMesh). AreTwoWay tile.links) (tiles_under ground shapes)
+tiles_two_way ground shapes rules' limits =
+    each_tile (λ (tile : TileMesh). AreTwoWay tile.links) ground shapes rules' limits (mesh_two_way ground.setting)
 
 -- each free cell of a tile of a build with a kept neighbour across a side is listed once by the tile's rim
-pub tiles_list : (whole : Ground) (shapes : List Shape) → IsGround whole → All IsShape shapes → All (ListsCrossings whole.setting) (tiles_under whole shapes)
-tiles_list whole shapes rules' limits = each_tile (ListsCrossings whole.setting) whole shapes rules' limits (mesh_lists whole.setting)
+pub tiles_list : (ground : Ground) (shapes : List Shape) → IsGround ground → All IsShape shapes → All (ListsCrossings ground.setting) (tiles_under ground shapes)
+tiles_list ground shapes rules' limits = each_tile (ListsCrossings ground.setting) ground shapes rules' limits (mesh_lists ground.setting)

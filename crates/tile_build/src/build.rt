@@ -1,23 +1,29 @@
-//! The build of one tile.
+//! The build of one tile. All tiles of a ground.
 
-ghost use Rattle.std.specs.Prelude.{◌≡◌, ◌+◌, ◌⊎◌, IfOk, All, unwrap_or};
+ghost use Rattle.std.specs.Prelude.{◌≡◌, ◌+◌, ◌⊎◌, IfOk, All, unwrap_or, length, OnOk, []};
 ghost use Rattle.nav_ground.specs.CellColumns.{AreOrdered};
 ghost use Rattle.nav_ground.specs.Cells.{IsCut, IsInTile};
-ghost use Rattle.nav_ground.specs.Grounds.{IsLayerOf, IsWideWithin};
+ghost use Rattle.nav_ground.specs.Grounds.{IsLayerOf, IsWideWithin, IsGround};
 ghost use Rattle.nav_ground.specs.Limits.{IsSetting, IsShape};
 ghost use Rattle.nav_ground.specs.Touching.{touching_shapes};
-ghost use Rattle.mesh_types.specs.Builds.{tile_mesh_of};
+ghost use Rattle.mesh_types.specs.Builds.{tile_mesh_of, mesh_under};
 ghost use Rattle.mesh_types.specs.ContourMeshes.{contour_mesh_of, mesh_of_free};
 ghost use Rattle.mesh_types.specs.Passages.{AreTwoWay, LinksConnected, ListsCrossings};
 ghost use Rattle.mesh_types.specs.FitTiles.{IsFit};
 ghost use Rattle.mesh_types.specs.StripCover.{CoversCells, IsOfStrips};
 ghost use Rattle.mesh_types.specs.StripMeshes.{strip_mesh_of};
 ghost use Rattle.contour_mesh.specs.Linked.{IsOfOutlines, LinksFacing};
+ghost use Rattle.nav_ground.specs.declared.cell.Layer.{Layer};
+ghost use Rattle.nav_ground.specs.Tiling.{tile_count};
+ghost use Rattle.nav_base.specs.Counts.{HasRisenAtMost};
+ghost use Rattle.mesh_types.specs.WholeMesh.{mesh_of};
+ghost use Rattle.tile_build.specs.Meshes.{tiles_of, tiles_under, plain_ground, HasSameParts};
 
 use contour_mesh::{ContourMesh, contour_mesh_over};
 use mesh_types::TileMesh;
-use nav_ground::{FreeLayer, Layer, MeshKind, Setting, Shape};
-use nav_steps::Steps;
+use nav_base::Steps;
+use nav_ground::{FreeLayer, Ground, Layer, MeshKind, Setting, Shape};
+use nav_lists::{Items, Shared};
 use obstacle_mark::mark;
 use std::alloc::{AllocError, Global};
 use std::sync::ledger::Ledger;
@@ -102,4 +108,52 @@ fn contour_or_strips(
         ContourMesh::Made(tile) => Ok(tile),
         ContourMesh::NotCut { free, strips } => strip_mesh_of_table(alloc, free, strips, setting),
     }
+}
+
+/// The mesh of each tile of a ground under a list of shapes, in order. Without shapes the mesh of these tiles has the polygons and the links
+/// that it has where agents keep no radius from obstacles. It takes one step a tile. Only memory can be refused.
+pub fn build_tiles<L: Ledger>(
+    alloc: Global,
+    ground: &Ground,
+    shapes: &[Shape],
+    steps: &mut Steps<L>,
+) -> Result<Items<Shared<TileMesh>>, AllocError>
+    requires level { IsGround ground.now }
+    requires shapes { All IsShape shapes.now }
+    ensures tiles { IfOk result (λ tiles. tiles ≡ tiles_under ground.now shapes.now) }
+    ensures plain { shapes.now ≡ [] → IfOk result (λ tiles. HasSameParts (mesh_of ground.now.setting tiles) (mesh_under (plain_ground ground.now) [])) }
+    ensures steps { OnOk result (steps.new ≡ steps.old + tile_count ground.now.setting) }
+    ensures most { HasRisenAtMost (tile_count ground.now.setting) steps.old steps.new }
+{
+    let tiles = built(
+        alloc,
+        ground.layers.as_slice(),
+        &ground.setting,
+        shapes,
+        steps,
+    )?;
+    Ok(Items::from_vec(tiles))
+}
+
+/// The meshes of layers.
+fn built<L: Ledger>(
+    alloc: Global,
+    layers: &[Layer],
+    setting: &Setting,
+    shapes: &[Shape],
+    steps: &mut Steps<L>,
+) -> Result<Vec<Shared<TileMesh>>, AllocError>
+    requires setting { IsSetting setting.now }
+    requires layers { All (IsLayerOf setting.now) layers.now }
+    requires shapes { All IsShape shapes.now }
+    ensures tiles { IfOk result (λ tiles. tiles.items ≡ tiles_of setting.now shapes.now layers.now) }
+    ensures steps { OnOk result (steps.new ≡ steps.old + length layers.now) }
+    ensures most { HasRisenAtMost (length layers.now) steps.old steps.new }
+{
+    let mut tiles = Vec::with_capacity(alloc, layers.len())?;
+    for layer in layers {
+        let tile = build_tile(alloc, layer, setting, shapes, steps)?;
+        tiles.push(Shared::new(alloc, tile)?)?;
+    }
+    Ok(tiles)
 }

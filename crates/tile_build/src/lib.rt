@@ -6,7 +6,5 @@
 #![tactic(auto)]
 
 mod build;
-mod ground_tiles;
 
-pub use build::build_tile;
-pub use ground_tiles::build_tiles;
+pub use build::{build_tile, build_tiles};

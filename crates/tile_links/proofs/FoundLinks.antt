@@ -9,15 +9,15 @@ use Rattle.std.proofs.lemmas.List.Sorted.{sum_by-IsPermutation}
 use Rattle.std.proofs.lemmas.List.Sums.{sum_by-cons, sum_by-append, get_or-le-sum_by}
 use Rattle.std.proofs.lemmas.Option.{slice_get_within, get_or_from_slice_get, slice_get-get_or}
 use Rattle.nav_ground.specs.Cells.{opposite}
-use Rattle.mesh_types.specs.declared.label_runs.Run.{Run}
+use Rattle.mesh_types.specs.declared.region.LabelRun.{LabelRun}
 use Rattle.mesh_types.specs.declared.links.Link.{Link}
-use Rattle.mesh_types.specs.declared.tile.LevelPair.{LevelPair}
-use Rattle.mesh_types.specs.declared.tile.RimEdge.{RimEdge}
-use Rattle.mesh_types.specs.declared.tile.TileMesh.{TileMesh}
+use Rattle.mesh_types.specs.declared.mesh.LevelPair.{LevelPair}
+use Rattle.mesh_types.specs.declared.mesh.RimEdge.{RimEdge}
+use Rattle.mesh_types.specs.declared.mesh.TileMesh.{TileMesh}
 use Rattle.mesh_types.specs.Runs.{label_if, run_with, runs_of}
 use Rattle.mesh_types.specs.BorderLinks.{pair_at, are_meeting, meetings, along_side, border_link}
 use Rattle.mesh_types.proofs.Totals.{sum_by-map, sum_by-flat_map, sum_by-filter, sum_by-zero, sum_by-same, sum_by-range_same, sum_by-exchanged, sum_by-numbers, once_in_range}
-use Rattle.tile_links.specs.declared.place.Place.{Place}
+use Rattle.tile_links.specs.declared.rim.RimPlace.{RimPlace}
 use Rattle.tile_links.specs.RimPlaces.{some_entry, some_pair, pair_of, entry_of, place_of, entry_places, places_along, side_places, is_at_place}
 use Rattle.tile_links.specs.Loose.{run_at, pair_links, entry_links, loose_links, run_links, place_links, placed_links, HasGained}
 use Rattle.tile_links.proofs.MeetingPlaces.{length-meetings, meeting_at}
@@ -59,7 +59,7 @@ met entry other place there meet = by_test (nat_le other.first position) refl (o
     by_test false after is = absurd cc
 
 -- where a run begins the entries meet
-begun_met : (entry other : RimEdge) (place : ℕ) (run : Run) → place < length entry.pairs → run_at entry other place ≡ Some run → IsMet entry other place
+begun_met : (entry other : RimEdge) (place : ℕ) (run : LabelRun) → place < length entry.pairs → run_at entry other place ≡ Some run → IsMet entry other place
 begun_met entry other place run there is =
     met entry other place there
     (by_test (are_meeting (pair_at entry (entry.first + place)) (pair_at other (entry.first + place)))
@@ -107,7 +107,7 @@ looked_up_weight p a b side entry other place there = by_run (run_at entry other
     nothing true = refl
     nothing false = refl
 
-    by_run : (o : Option Run) → run_at entry other place ≡ o
+    by_run : (o : Option LabelRun) → run_at entry other place ≡ o
         → sum_by (λ k. cond (test k) (count_by p (map (border_link a b side entry other) (cons_option o []))) 0) (range_with_len 0 (length other.pairs))
         ≡ count_by p (map (border_link a b side entry other) (cons_option o []))
     by_run None is = sum_by-same (λ k. cond (test k) 0 0) (λ k. 0) (range_with_len 0 (length other.pairs)) (λ k. nothing (test k)) ∙ sum_by-zero (range_with_len 0 (length other.pairs))
@@ -121,13 +121,13 @@ found_by_run p a b side entry other =
     by_places (range_with_len 0 (length (meetings entry other)))
     ∙ ap (λ n. sum_by (weight_of p a b side entry other) (range_with_len 0 n)) (length-meetings entry other)
   where
-    g : Run → Link
+    g : LabelRun → Link
     g = border_link a b side entry other
 
     rest_of : List ℕ → List Link
     rest_of places = map g (filter_map (run_at entry other) places)
 
-    by_run : (places : List ℕ) (o : Option Run) → count_by p (rest_of places) ≡ sum_by (weight_of p a b side entry other) places
+    by_run : (places : List ℕ) (o : Option LabelRun) → count_by p (rest_of places) ≡ sum_by (weight_of p a b side entry other) places
         → count_by p (map g (cons_option o (filter_map (run_at entry other) places)))
         ≡ count_by p (map g (cons_option o [])) + sum_by (weight_of p a b side entry other) places
     by_run places None rest = omega (arith, rest)
@@ -140,13 +140,13 @@ found_by_run p a b side entry other =
         by_run places (run_at entry other place) (by_places places) ∙ sym (sum_by-cons (weight_of p a b side entry other) place places)
 
 -- what is found at a place of an entry, entry by entry across
-found_at_place : (p : Link → Bool) (a b : TileMesh) (side : ℕ) (entry : RimEdge) (places : List Place) (place : ℕ)
+found_at_place : (p : Link → Bool) (a b : TileMesh) (side : ℕ) (entry : RimEdge) (places : List RimPlace) (place : ℕ)
     → IsPermutation (side_places (opposite side) b.rim) places → place < length entry.pairs
     → count_by p (place_links a b side entry places place)
     ≡ sum_by (λ (other : RimEdge). weight_of p a b side entry other place) (along_side (opposite side) b.rim)
 found_at_place p a b side entry places place all there =
     sum_by-flat_map (λ link. cond (p link) 1 0) (run_links a b side entry place) (filter test places)
-    ∙ sum_by-filter (λ (found : Place). weight (entry_of b.rim found.entry)) test places
+    ∙ sum_by-filter (λ (found : RimPlace). weight (entry_of b.rim found.entry)) test places
     ∙ sum_by-IsPermutation looked (side_places facing b.rim) places all
     ∙ sum_by-flat_map looked (places_along facing b.rim) (range_with_len 0 (length b.rim))
     ∙ sum_by-same (λ number. sum_by looked (places_along facing b.rim number)) (λ number. faced (entry_of b.rim number)) (range_with_len 0 (length b.rim))
@@ -157,13 +157,13 @@ found_at_place p a b side entry places place all there =
     facing : ℕ
     facing = opposite side
 
-    test : Place → Bool
+    test : RimPlace → Bool
     test = is_at_place (entry.first + place) (pair_of entry place).other
 
     weight : RimEdge → ℕ
     weight other = weight_of p a b side entry other place
 
-    looked : Place → ℕ
+    looked : RimPlace → ℕ
     looked found = cond (test found) (weight (entry_of b.rim found.entry)) 0
 
     faced : RimEdge → ℕ
@@ -177,7 +177,7 @@ found_at_place p a b side entry places place all there =
     by_side number false = refl
 
 -- what is found of an entry
-found_of_entry : (p : Link → Bool) (a b : TileMesh) (side : ℕ) (places : List Place) (entry : RimEdge)
+found_of_entry : (p : Link → Bool) (a b : TileMesh) (side : ℕ) (places : List RimPlace) (entry : RimEdge)
     → IsPermutation (side_places (opposite side) b.rim) places
     → count_by p (placed_links a b side places entry) ≡ count_by p (entry_links a b side entry (along_side (opposite side) b.rim))
 found_of_entry p a b side places entry all =
@@ -193,7 +193,7 @@ found_of_entry p a b side places entry all =
     ∙ sym (sum_by-flat_map (λ link. cond (p link) 1 0) (pair_links a b side entry) others)
 
 -- so the links from all entries along a side are gained
-pub gained : (a b : TileMesh) (side : ℕ) (places : List Place) (old new : List Link) → IsPermutation (side_places (opposite side) b.rim) places
+pub gained : (a b : TileMesh) (side : ℕ) (places : List RimPlace) (old new : List Link) → IsPermutation (side_places (opposite side) b.rim) places
     → new ≡ old ++ flat_map (placed_links a b side places) (along_side side a.rim) → HasGained old (loose_links a b side) new
 gained a b side places old new all is p =
     let entries : List RimEdge = along_side side a.rim in

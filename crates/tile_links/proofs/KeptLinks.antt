@@ -4,20 +4,21 @@ use Rattle.std.specs.Prelude.{All, not, ◌&&◌, slice_get, option_and_then}
 use Rattle.std.specs.List.{count_by, filter, flat_map, range_with_len}
 use Rattle.std.specs.Option.{option_map_or}
 use Rattle.std.proofs.lemmas.List.{append-nil, get_or-map, length-map, take_all}
-use Rattle.std.proofs.lemmas.List.Elements.{All-filter, All-head, All-map, All-tail, filter-append}
-use Rattle.std.proofs.lemmas.List.FromFn.{get_or-range_with_len, length-range_with_len}
+use Rattle.std.proofs.lemmas.List.Elements.{All-head, All-map, All-tail, filter-append}
 use Rattle.std.proofs.lemmas.List.Sums.{sum_by-append, sum_by-cons}
 use Rattle.std.proofs.lemmas.Option.{get_or_from_slice_get, slice_get_within}
+use Rattle.nav_ground.specs.declared.direction.Direction.{Direction}
 use Rattle.nav_ground.specs.declared.setting.Setting.{Setting}
+use Rattle.nav_ground.specs.Directions.{number}
 use Rattle.nav_ground.proofs.Selections.{range-push}
 use Rattle.mesh_types.specs.declared.links.Link.{Link}
-use Rattle.mesh_types.specs.declared.tile.TileMesh.{TileMesh}
+use Rattle.mesh_types.specs.declared.mesh.TileMesh.{TileMesh}
 use Rattle.mesh_types.specs.BorderLinks.{border_link, border_links, meetings}
 use Rattle.mesh_types.specs.Runs.{runs_of}
 use Rattle.mesh_types.specs.Soundness.{AreTiles}
 use Rattle.mesh_types.specs.WholeMesh.{tile_across, links_over, cross_links}
 use Rattle.mesh_types.proofs.LinksInOrder.{All-ordered_links, ordered_links-count}
-use Rattle.tile_links.specs.KeptLinks.{KeepsOld, leads_to_old, new_sides}
+use Rattle.tile_links.specs.KeptLinks.{KeepsOld, leads_to_old}
 use Rattle.tile_links.specs.Loose.{loose_links, loose_over, HasGained}
 use Rattle.tile_links.specs.NewTiles.{New, is_new, is_new_across, tile_after, tiles_after}
 use Rattle.tile_links.proofs.LooseLinks.{loose_all}
@@ -165,17 +166,6 @@ links_keep_old setting news tiles t d e are there old =
     subst (λ (t' : TileMesh). KeepsOld setting news (tiles_after news tiles) t' (get_or (map (cross_links setting tiles) tiles) t d)) (sym here)
     (subst (λ (ls : List Link). KeepsOld setting news (tiles_after news tiles) tile ls) (sym links) (keeps_old setting news tiles tile are))
 
--- the four sides
-pub four_sides : All (λ (side : ℕ). side < 4) (range_with_len 0 4)
-four_sides k d there =
-    let below : k < 4 = omega (arith, there, length-range_with_len 0 4) in
-    omega (arith, below, get_or-range_with_len 0 4 k d below)
-
--- the sides across which something is new are sides
-pub sides_below : (setting : Setting) (news : List New) (tile : ℕ) → All (λ (side : ℕ). side < 4) (new_sides setting news tile)
-sides_below setting news tile =
-    All-filter (is_new_across setting news tile) (λ (side : ℕ). side < 4) (range_with_len 0 4) four_sides
-
 -- one more side that is looked at
 pub one_more_side : (q : ℕ → Bool) (n : ℕ) (b : Bool) (sides : List ℕ) → sides ≡ filter q (range_with_len 0 n) → q n ≡ b
     → sides ++ cond b (n ∷ []) [] ≡ filter q (range_with_len 0 (n + 1))
@@ -201,10 +191,10 @@ old_here setting news tiles cross place tile own are there is same held none =
     (held own tile (ap (is_new news) (sym number) ∙ none)))
 
 -- once the links over all sides that are to be made have come, those over all four are there
-pub all_gained : (f : ℕ → List Link) (sides : List ℕ) (i : ℕ) (known all links : List Link) → length sides ≤ i
-    → HasGained known (flat_map f (take i sides)) links → HasGained known (flat_map f sides) all → HasGained [] all links
+pub all_gained : (f : ℕ → List Link) (sides : List Direction) (i : ℕ) (known all links : List Link) → length sides ≤ i
+    → HasGained known (flat_map f (map number (take i sides))) links → HasGained known (flat_map f (map number sides)) all → HasGained [] all links
 all_gained f sides i known all links past gained others p =
-    gained p ∙ ap (λ (xs : List ℕ). count_by p (known ++ flat_map f xs)) (take_all i sides past) ∙ sym (others p)
+    gained p ∙ ap (λ (xs : List Direction). count_by p (known ++ flat_map f (map number xs))) (take_all i sides past) ∙ sym (others p)
 
 -- where none are known, all sides are to be made
 pub none_known : (f : ℕ → List Link) (known : List Link) → known ≡ [] → HasGained known (flat_map f (range_with_len 0 4)) (flat_map f (range_with_len 0 4))

@@ -13,8 +13,8 @@ use Rattle.nav_ground.specs.declared.setting.Setting.{Setting}
 use Rattle.nav_ground.specs.Cells.{opposite}
 use Rattle.nav_ground.proofs.Selections.{range-push}
 use Rattle.mesh_types.specs.declared.links.Link.{Link}
-use Rattle.mesh_types.specs.declared.tile.RimEdge.{RimEdge}
-use Rattle.mesh_types.specs.declared.tile.TileMesh.{TileMesh}
+use Rattle.mesh_types.specs.declared.mesh.RimEdge.{RimEdge}
+use Rattle.mesh_types.specs.declared.mesh.TileMesh.{TileMesh}
 use Rattle.mesh_types.specs.Runs.{runs_of}
 use Rattle.mesh_types.specs.LinkOrder.{ordered_links}
 use Rattle.mesh_types.specs.BorderLinks.{along_side, border_link, border_links, meetings}

@@ -4,8 +4,8 @@ use Rattle.std.specs.Prelude.{None, Some}
 use Rattle.std.specs.List.{prefix_len}
 use Rattle.std.proofs.lemmas.List.FromFn.{get_or-map-range_with_len, length-map-range_with_len}
 use Rattle.std.proofs.lemmas.List.Sums.{prefix_len-drop_yes, prefix_len-drop_no, prefix_len-drop_all}
-use Rattle.mesh_types.specs.declared.tile.LevelPair.{LevelPair}
-use Rattle.mesh_types.specs.declared.tile.RimEdge.{RimEdge}
+use Rattle.mesh_types.specs.declared.mesh.LevelPair.{LevelPair}
+use Rattle.mesh_types.specs.declared.mesh.RimEdge.{RimEdge}
 use Rattle.mesh_types.specs.Runs.{has_label, label_if}
 use Rattle.mesh_types.specs.BorderLinks.{are_meeting, pair_at, meetings}
 

@@ -15,13 +15,13 @@ use Rattle.nav_ground.specs.declared.cell.Window.{Window}
 use Rattle.nav_ground.specs.declared.setting.Setting.{Setting}
 use Rattle.nav_ground.specs.Cells.{opposite}
 use Rattle.nav_ground.specs.Tiling.{tile_window}
-use Rattle.mesh_types.specs.declared.label_runs.Run.{Run}
+use Rattle.mesh_types.specs.declared.region.LabelRun.{LabelRun}
 use Rattle.mesh_types.specs.declared.links.Link.{Link}
 use Rattle.mesh_types.specs.declared.links.PolyRef.{PolyRef}
 use Rattle.mesh_types.specs.declared.polygon.Polygon.{Polygon}
-use Rattle.mesh_types.specs.declared.tile.LevelPair.{LevelPair}
-use Rattle.mesh_types.specs.declared.tile.RimEdge.{RimEdge}
-use Rattle.mesh_types.specs.declared.tile.TileMesh.{TileMesh}
+use Rattle.mesh_types.specs.declared.mesh.LevelPair.{LevelPair}
+use Rattle.mesh_types.specs.declared.mesh.RimEdge.{RimEdge}
+use Rattle.mesh_types.specs.declared.mesh.TileMesh.{TileMesh}
 use Rattle.mesh_types.specs.Runs.{runs_of}
 use Rattle.mesh_types.specs.BorderLinks.{HasOnePair, along_side, are_meeting, border_link, line_of, meetings, pair_at, side_portal}
 use Rattle.mesh_types.specs.Soundness.{AreTiles}
@@ -50,7 +50,7 @@ pub record IsCrossing (setting : Setting) (tiles : List TileMesh) (link : Link) 
   pub side : ℕ
   pub entry : RimEdge
   pub other : RimEdge
-  pub run : Run
+  pub run : LabelRun
   pub is : border_link a b side entry other run ≡ link
   pub small : side < 4
   pub across : tile_across setting a.tile side ≡ Some b.tile
@@ -112,7 +112,7 @@ crossing_of setting tiles link links are there held =
 -- ---- where entries meet
 
 -- two entries meet at each position of a run
-run_meets : (entry other : RimEdge) (run : Run) (position : ℕ) → IsRunOf (meetings entry other) run → entry.first + run.first ≤ position
+run_meets : (entry other : RimEdge) (run : LabelRun) (position : ℕ) → IsRunOf (meetings entry other) run → entry.first + run.first ≤ position
     → position ≤ entry.first + run.last → are_meeting (pair_at entry position) (pair_at other position) ≡ true
 run_meets entry other run position range least most =
     let k : ℕ = position - entry.first in

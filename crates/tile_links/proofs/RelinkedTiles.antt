@@ -8,7 +8,7 @@ use Rattle.std.proofs.lemmas.List.{get_or-map, get_or-replicate, get_or-set_same
 use Rattle.std.proofs.lemmas.List.Elements.{All-head, All-tail}
 use Rattle.nav_ground.specs.declared.setting.Setting.{Setting}
 use Rattle.mesh_types.specs.declared.links.Link.{Link}
-use Rattle.mesh_types.specs.declared.tile.TileMesh.{TileMesh}
+use Rattle.mesh_types.specs.declared.mesh.TileMesh.{TileMesh}
 use Rattle.mesh_types.specs.Soundness.{AreTiles}
 use Rattle.mesh_types.specs.WholeMesh.{cross_links}
 use Rattle.tile_links.specs.NearTiles.{IsMarked}

@@ -13,8 +13,8 @@ use Rattle.nav_base.specs.Convex.{place_after}
 use Rattle.nav_base.proofs.ConvexLaws.{place_after-in}
 use Rattle.nav_ground.specs.declared.setting.Setting.{Setting}
 use Rattle.mesh_types.specs.declared.polygon.Polygon.{Polygon}
-use Rattle.mesh_types.specs.declared.tile.RimEdge.{RimEdge}
-use Rattle.mesh_types.specs.declared.tile.TileMesh.{TileMesh}
+use Rattle.mesh_types.specs.declared.mesh.RimEdge.{RimEdge}
+use Rattle.mesh_types.specs.declared.mesh.TileMesh.{TileMesh}
 use Rattle.mesh_types.specs.FitTiles.{IsFit, IsPolygon, IsRimOf, RunsOver}
 use Rattle.tile_links.specs.Across.{IsNamed, IsWithinField}
 

@@ -7,9 +7,9 @@ use Rattle.std.proofs.lemmas.Option.{slice_get_within}
 use Rattle.std.proofs.lemmas.List.{get_or_past, get_or-drop}
 use Rattle.std.proofs.lemmas.List.Elements.{All-cons, All-nil}
 use Rattle.std.proofs.lemmas.List.Sums.{prefix_len_passes}
-use Rattle.mesh_types.specs.declared.label_runs.Run.{Run}
-use Rattle.mesh_types.specs.declared.tile.LevelPair.{LevelPair}
-use Rattle.mesh_types.specs.declared.tile.RimEdge.{RimEdge}
+use Rattle.mesh_types.specs.declared.region.LabelRun.{LabelRun}
+use Rattle.mesh_types.specs.declared.mesh.LevelPair.{LevelPair}
+use Rattle.mesh_types.specs.declared.mesh.RimEdge.{RimEdge}
 use Rattle.mesh_types.specs.Runs.{has_label, label_if, run_with, runs_of}
 use Rattle.mesh_types.specs.BorderLinks.{are_meeting, pair_at, meetings}
 use Rattle.tile_links.specs.Loose.{run_at}
@@ -22,7 +22,7 @@ pub record IsOfBoth (a b : RimEdge) (place : ℕ) : Type 0 where
   pub ends : a.first + place < b.first + length b.pairs
 
 -- a run of places of an entry begins and ends at positions of another
-pub record IsShared (a b : RimEdge) (run : Run) : Type 0 where
+pub record IsShared (a b : RimEdge) (run : LabelRun) : Type 0 where
   pub order : run.first ≤ run.last
   pub first : IsOfBoth a b run.first
   pub last : IsOfBoth a b run.last
@@ -72,7 +72,7 @@ last_met labels place label (suc k) is first =
     ∙ ap (has_label label) (sym (get_or-drop (place + 1) labels k None))
     ∙ prefix_len_passes (has_label label) (drop (place + 1) labels) k None (omega (arith, is))
 
-run_shared : (a b : RimEdge) (place : ℕ) (run : Run) → run_at a b place ≡ Some run → IsShared a b run
+run_shared : (a b : RimEdge) (place : ℕ) (run : LabelRun) → run_at a b place ≡ Some run → IsShared a b run
 run_shared a b place run found = by_label (get_or (meetings a b) place None) refl found
   where
     by_test : (label : ℕ) (test : Bool) → get_or (meetings a b) place None ≡ Some label

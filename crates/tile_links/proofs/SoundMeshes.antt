@@ -14,9 +14,9 @@ use Rattle.nav_ground.specs.Cells.{opposite}
 use Rattle.nav_ground.specs.Tiling.{tile_window, tiles_in_row}
 use Rattle.mesh_types.specs.declared.links.Link.{Link}
 use Rattle.mesh_types.specs.declared.polygon.Polygon.{Polygon}
-use Rattle.mesh_types.specs.declared.label_runs.Run.{Run}
-use Rattle.mesh_types.specs.declared.tile.RimEdge.{RimEdge}
-use Rattle.mesh_types.specs.declared.tile.TileMesh.{TileMesh}
+use Rattle.mesh_types.specs.declared.region.LabelRun.{LabelRun}
+use Rattle.mesh_types.specs.declared.mesh.RimEdge.{RimEdge}
+use Rattle.mesh_types.specs.declared.mesh.TileMesh.{TileMesh}
 use Rattle.mesh_types.specs.declared.mesh.Mesh.{Mesh}
 use Rattle.mesh_types.specs.Runs.{runs_of}
 use Rattle.mesh_types.specs.BorderLinks.{border_link, line_of, meetings}
@@ -41,7 +41,7 @@ line_is setting tile entry side rim on =
     (fixed_on_side entry.side (tile_window setting tile.tile) _ _ rim.side rim.lies)
 
 -- a link along a shared run of two entries leads from the one polygon to the other
-through : (setting : Setting) (a b : TileMesh) (side : ℕ) (entry other : RimEdge) (run : Run) → IsSetting setting → IsPlacedAcross setting a.tile side b.tile
+through : (setting : Setting) (a b : TileMesh) (side : ℕ) (entry other : RimEdge) (run : LabelRun) → IsSetting setting → IsPlacedAcross setting a.tile side b.tile
     → IsRimOf setting a entry → entry.side ≡ side → IsRimOf setting b other → other.side ≡ opposite side → IsShared entry other run
     → LeadsThrough (slice_get a.polys entry.poly) (slice_get b.polys other.poly) (border_link a b side entry other run)
 through setting a b side entry other run limits at rim on rim' on' shared =
@@ -100,7 +100,7 @@ loose_sound setting mesh a b side limits fit fit' at there there' =
     loose_all (IsCrossLink mesh a.tile) (IsRimOf setting a) (IsRimOf setting b) a b side fit.rim fit'.rim
     (λ entry other rim on rim' on'.
     All-map (IsCrossLink mesh a.tile) (border_link a b side entry other) (runs_of (meetings entry other))
-    (All-weaker (IsShared entry other) (λ (run : Run). IsCrossLink mesh a.tile (border_link a b side entry other run))
+    (All-weaker (IsShared entry other) (λ (run : LabelRun). IsCrossLink mesh a.tile (border_link a b side entry other run))
     (λ run shared.
     let leads = through setting a b side entry other run limits at rim on rim' on' shared in
     record {

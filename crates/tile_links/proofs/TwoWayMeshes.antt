@@ -12,12 +12,12 @@ use Rattle.nav_ground.specs.declared.setting.Setting.{Setting}
 use Rattle.nav_ground.specs.Limits.{IsSetting}
 use Rattle.nav_ground.specs.Cells.{opposite}
 use Rattle.nav_ground.specs.Tiling.{tiles_in_row, tile_rows}
-use Rattle.mesh_types.specs.declared.label_runs.Run.{Run}
+use Rattle.mesh_types.specs.declared.region.LabelRun.{LabelRun}
 use Rattle.mesh_types.specs.declared.links.Link.{Link}
 use Rattle.mesh_types.specs.declared.links.Portal.{Portal}
-use Rattle.mesh_types.specs.declared.tile.LevelPair.{LevelPair}
-use Rattle.mesh_types.specs.declared.tile.RimEdge.{RimEdge}
-use Rattle.mesh_types.specs.declared.tile.TileMesh.{TileMesh}
+use Rattle.mesh_types.specs.declared.mesh.LevelPair.{LevelPair}
+use Rattle.mesh_types.specs.declared.mesh.RimEdge.{RimEdge}
+use Rattle.mesh_types.specs.declared.mesh.TileMesh.{TileMesh}
 use Rattle.mesh_types.specs.Runs.{has_label, label_if, runs_of}
 use Rattle.mesh_types.specs.BorderLinks.{along_side, are_meeting, border_link, line_of, meetings, pair_at, side_portal}
 use Rattle.mesh_types.specs.Passages.{AreTwoWay, HasReverse, HasReverseIn, IsTwoWay, reverse_of}
@@ -79,7 +79,7 @@ label_zero : (b : Bool) (label : ℕ) → label_if b ≡ Some label → label �
 label_zero true label is = cc
 label_zero false label is = absurd cc
 
-run_label : (a b : RimEdge) (run : Run) → IsMaximal (meetings a b) run → run.label ≡ 0
+run_label : (a b : RimEdge) (run : LabelRun) → IsMaximal (meetings a b) run → run.label ≡ 0
 run_label a b run is =
     let there = is.range.labelled run.first (omega arith) is.range.order in
     elim (cases_lt run.first (length a.pairs)) [
@@ -90,7 +90,7 @@ run_label a b run is =
 -- ---- the links over a border
 
 -- the link along a run where two entries meet is found
-loose_held : (a b : TileMesh) (side : ℕ) (entry other : RimEdge) (run : Run) → Contains a.rim entry → entry.side ≡ side → Contains b.rim other
+loose_held : (a b : TileMesh) (side : ℕ) (entry other : RimEdge) (run : LabelRun) → Contains a.rim entry → entry.side ≡ side → Contains b.rim other
     → other.side ≡ opposite side → Contains (runs_of (meetings entry other)) run → Contains (loose_links a b side) (border_link a b side entry other run)
 loose_held a b side entry other run held along held' along' listed =
     let link : Link = border_link a b side entry other run in
@@ -147,7 +147,7 @@ pub record IsEntry (setting : Setting) (tile : TileMesh) (entry : RimEdge) : Typ
 pub entries : (setting : Setting) (tile : TileMesh) → IsFit setting tile → All (IsEntry setting tile) tile.rim
 entries setting tile fit k d there = record { held = All-contains_itself tile.rim k d there; rim = fit.rim k d there }
 
-link_back : (setting : Setting) (a b : TileMesh) (side : ℕ) (entry other : RimEdge) (run : Run) → IsSetting setting → side < 4
+link_back : (setting : Setting) (a b : TileMesh) (side : ℕ) (entry other : RimEdge) (run : LabelRun) → IsSetting setting → side < 4
     → IsPlacedAcross setting a.tile side b.tile → IsEntry setting a entry → entry.side ≡ side → IsEntry setting b other → other.side ≡ opposite side
     → IsMaximal (meetings entry other) run
     → Contains (loose_links b a (opposite side)) (reverse_of other.edge (border_link a b side entry other run))

@@ -3,7 +3,7 @@ use Rattle.std.specs.Prelude.{ℕ, Bool, not, List, [], filter}
 use Rattle.std.specs.List.{flat_map, range_with_len}
 use Rattle.nav_ground.specs.declared.setting.Setting.{Setting}
 use Rattle.mesh_types.specs.declared.links.Link.{Link}
-use Rattle.mesh_types.specs.declared.tile.TileMesh.{TileMesh}
+use Rattle.mesh_types.specs.declared.mesh.TileMesh.{TileMesh}
 use Rattle.tile_links.specs.Loose.{loose_over, HasGained}
 use Rattle.tile_links.specs.NewTiles.{New, is_new, is_new_across}
 

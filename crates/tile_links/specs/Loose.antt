@@ -5,17 +5,17 @@ use Rattle.std.specs.Option.{option_map_or}
 use Rattle.nav_ground.specs.declared.setting.Setting.{Setting}
 use Rattle.nav_ground.specs.Cells.{opposite}
 use Rattle.mesh_types.specs.declared.links.Link.{Link}
-use Rattle.mesh_types.specs.declared.tile.RimEdge.{RimEdge}
-use Rattle.mesh_types.specs.declared.tile.TileMesh.{TileMesh}
-use Rattle.mesh_types.specs.declared.label_runs.Run.{Run}
+use Rattle.mesh_types.specs.declared.mesh.RimEdge.{RimEdge}
+use Rattle.mesh_types.specs.declared.mesh.TileMesh.{TileMesh}
+use Rattle.mesh_types.specs.declared.region.LabelRun.{LabelRun}
 use Rattle.mesh_types.specs.Runs.{runs_of, run_with}
 use Rattle.mesh_types.specs.BorderLinks.{along_side, border_link, meetings}
 use Rattle.mesh_types.specs.WholeMesh.{tile_across}
-use Rattle.tile_links.specs.declared.place.Place.{Place}
+use Rattle.tile_links.specs.declared.rim.RimPlace.{RimPlace}
 use Rattle.tile_links.specs.RimPlaces.{entry_of, pair_of, is_at_place}
 
 -- the maximal run that begins at a place of an entry where it meets another, if one does
-abbrev pub run_at : RimEdge → RimEdge → ℕ → Option Run
+abbrev pub run_at : RimEdge → RimEdge → ℕ → Option LabelRun
 run_at entry other place = run_with (meetings entry other) place (slice_index_or (meetings entry other) place None)
 
 -- the links from an entry of a tile to one of the tile across
@@ -40,18 +40,18 @@ loose_over setting tiles tile side =
     option_map_or (λ (other : TileMesh). loose_links tile other side) (option_and_then (slice_get tiles) (tile_across setting tile.tile side)) []
 
 -- the link from an entry along the run that begins at one of its places where it meets the entry of a place across, if one does
-abbrev pub run_links : TileMesh → TileMesh → ℕ → RimEdge → ℕ → Place → List Link
+abbrev pub run_links : TileMesh → TileMesh → ℕ → RimEdge → ℕ → RimPlace → List Link
 run_links a b side entry place found =
     map (border_link a b side entry (entry_of b.rim found.entry)) (cons_option (run_at entry (entry_of b.rim found.entry) place) [])
 
 -- the links from an entry along the runs that begin at one of its places, by the places across that have its position and the level that it
 -- leads to
-abbrev pub place_links : TileMesh → TileMesh → ℕ → RimEdge → List Place → ℕ → List Link
+abbrev pub place_links : TileMesh → TileMesh → ℕ → RimEdge → List RimPlace → ℕ → List Link
 place_links a b side entry places place =
     flat_map (run_links a b side entry place) (filter (is_at_place (entry.first + place) (pair_of entry place).other) places)
 
 -- the links from an entry, place by place
-abbrev pub placed_links : TileMesh → TileMesh → ℕ → List Place → RimEdge → List Link
+abbrev pub placed_links : TileMesh → TileMesh → ℕ → List RimPlace → RimEdge → List Link
 placed_links a b side places entry = flat_map (place_links a b side entry places) (range_with_len 0 (length entry.pairs))
 
 -- a list has become another by these links more, in whatever order

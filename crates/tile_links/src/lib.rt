@@ -10,13 +10,8 @@
 //! Rim entries and corners are in whole cells, portals in sixteenths of a cell.
 #![tactic(auto)]
 
-mod border;
 mod join;
-mod meetings;
-mod merge;
 mod new_tiles;
-mod place;
-mod places;
 mod portals;
 mod rim;
 

@@ -5,8 +5,9 @@ ghost use Rattle.std.specs.List.{filter};
 ghost use Rattle.std.specs.Option.{option_copied};
 ghost use Rattle.nav_ground.specs.Limits.{IsSetting};
 ghost use Rattle.nav_ground.specs.Tiling.{tile_count};
+ghost use Rattle.nav_ground.specs.Directions.{number};
 ghost use Rattle.mesh_types.specs.declared.links.Link.{Link};
-ghost use Rattle.mesh_types.specs.declared.tile.TileMesh.{TileMesh};
+ghost use Rattle.mesh_types.specs.declared.mesh.TileMesh.{TileMesh};
 ghost use Rattle.mesh_types.specs.Passages.{AreTwoWay, IsTwoWay};
 ghost use Rattle.mesh_types.specs.Soundness.{AreTiles, IsSound, polygon_count};
 ghost use Rattle.mesh_types.specs.FitTiles.{IsFit};
@@ -16,12 +17,10 @@ ghost use Rattle.tile_links.specs.NearTiles.{IsMarked, IsMarkedAcross};
 ghost use Rattle.tile_links.specs.KeptLinks.{KeepsOld};
 ghost use Rattle.tile_links.specs.Relinked.{AreInOrder, AreRelinked, ComeBeside};
 
-use crate::join::{Tiled, across, cross_links, links_with};
+use crate::join::{NumberedTiles, across, cross_links, links_with};
 use mesh_types::{Link, Links, Mesh, TileMesh};
-use nav_chunks::Chunks;
-use nav_ground::{Setting, TileNo};
-use nav_list::Duplicate;
-use nav_share::Shared;
+use nav_ground::{Direction, Setting, TileNo};
+use nav_lists::{Chunks, Duplicate, Shared};
 use std::alloc::{AllocError, Global};
 
 /// Puts new tile meshes into a mesh, each with the number of its tile. The links over the borders of those tiles are made again, from
@@ -66,7 +65,7 @@ pub fn replaced(
     ensures back { All (λ (tile : TileMesh). AreTwoWay tile.links) (tiles_after news.now mesh.now.tiles) → IfOk result IsTwoWay }
 {
     let tiles = tiles_after(alloc, &mesh.tiles, news)?;
-    let tiled = Tiled {
+    let tiled = NumberedTiles {
         setting: &mesh.setting,
         tiles: &tiles,
     };
@@ -98,7 +97,7 @@ fn tiles_after(
 /// The links that leave each tile, given those that left the tiles before the new ones came.
 fn cross_after(
     alloc: Global,
-    tiled: Tiled,
+    tiled: NumberedTiles,
     cross: &Chunks<Shared<Links>>,
     news: &[(TileNo, Shared<TileMesh>)],
 ) -> Result<Chunks<Shared<Links>>, AllocError>
@@ -141,7 +140,7 @@ struct Relinked {
 /// Makes the links again that leave a tile and those across its sides.
 fn relink_near(
     alloc: Global,
-    tiled: Tiled,
+    tiled: NumberedTiles,
     changes: Changes,
     made: &mut Relinked,
     tile: TileNo,
@@ -160,7 +159,7 @@ fn relink_near(
 {
     relink(alloc, tiled, changes, made, tile)?;
     for side in 0..4 {
-        relink_across(alloc, tiled, changes, made, (tile, side))?;
+        relink_across(alloc, tiled, changes, made, (tile, Direction::of(side)))?;
     }
     Ok(())
 }
@@ -168,10 +167,10 @@ fn relink_near(
 /// Makes the links again that leave the tile across a side of a tile, if there is one.
 fn relink_across(
     alloc: Global,
-    tiled: Tiled,
+    tiled: NumberedTiles,
     changes: Changes,
     made: &mut Relinked,
-    over: (TileNo, u32),
+    over: (TileNo, Direction),
 ) -> Result<(), AllocError>
     requires setting { IsSetting tiled.setting.now }
     requires tiles { AreTiles tiled.setting.now tiled.tiles.now }
@@ -180,11 +179,10 @@ fn relink_across(
     requires old { ComeBeside tiled.setting.now changes.news.now tiled.tiles.now changes.cross.now }
     requires made { AreRelinked tiled.setting.now tiled.tiles.now changes.cross.now made.old.done.items made.old.cross }
     requires there { over.0 < tile_count tiled.setting.now }
-    requires side { over.1 < 4 }
     ensures made { OnOk result (AreRelinked tiled.entry.setting.now tiled.entry.tiles.now changes.entry.cross.now made.new.done.items made.new.cross) }
     ensures kept { OnOk result ((other : ℕ) → slice_index_or made.old.done.items other false ≡ true
         → slice_index_or made.new.done.items other false ≡ true) }
-    ensures marked { OnOk result (IsMarkedAcross tiled.entry.setting.now made.new.done.items over.0 over.1) }
+    ensures marked { OnOk result (IsMarkedAcross tiled.entry.setting.now made.new.done.items over.0 (number over.1)) }
 {
     match across(tiled.setting, over.0, over.1) {
         Some(other) => relink(alloc, tiled, changes, made, other),
@@ -195,7 +193,7 @@ fn relink_across(
 /// Makes the links again that leave a tile, unless they were.
 fn relink(
     alloc: Global,
-    tiled: Tiled,
+    tiled: NumberedTiles,
     changes: Changes,
     made: &mut Relinked,
     tile: TileNo,
@@ -233,7 +231,7 @@ fn relink(
 /// What `near_links` gives, as a value that several meshes can share.
 fn shared_near_links(
     alloc: Global,
-    tiled: Tiled,
+    tiled: NumberedTiles,
     news: &[(TileNo, Shared<TileMesh>)],
     old: &Links,
     tile: &TileMesh,
@@ -255,7 +253,7 @@ fn shared_near_links(
 /// those over the sides across which one is.
 fn near_links(
     alloc: Global,
-    tiled: Tiled,
+    tiled: NumberedTiles,
     news: &[(TileNo, Shared<TileMesh>)],
     old: &Links,
     tile: &TileMesh,
@@ -323,16 +321,17 @@ fn new_sides(
     setting: &Setting,
     news: &[(TileNo, Shared<TileMesh>)],
     tile: TileNo,
-) -> Result<Vec<u32>, AllocError>
+) -> Result<Vec<Direction>, AllocError>
     requires setting { IsSetting setting.now }
     requires there { tile < tile_count setting.now }
     requires rising { AreRising news.now }
-    ensures { IfOk result (λ sides. sides.items ≡ Rattle.tile_links.specs.KeptLinks.new_sides setting.now news.now tile) }
+    ensures { IfOk result (λ sides. map number sides.items ≡ Rattle.tile_links.specs.KeptLinks.new_sides setting.now news.now tile) }
 {
     let mut sides = Vec::with_capacity(alloc, 4)?;
     for beside in 0..4 {
-        if is_new_across(setting, news, tile, beside) {
-            sides.push(beside)?;
+        let side = Direction::of(beside);
+        if is_new_across(setting, news, tile, side) {
+            sides.push(side)?;
         }
     }
     Ok(sides)
@@ -343,12 +342,12 @@ fn is_new_across(
     setting: &Setting,
     news: &[(TileNo, Shared<TileMesh>)],
     tile: TileNo,
-    side: u32,
+    side: Direction,
 ) -> bool
     requires setting { IsSetting setting.now }
     requires there { tile < tile_count setting.now }
     requires rising { AreRising news.now }
-    ensures { result ≡ Rattle.tile_links.specs.NewTiles.is_new_across setting.now news.now tile side }
+    ensures { result ≡ Rattle.tile_links.specs.NewTiles.is_new_across setting.now news.now tile (number side) }
 {
     match across(setting, tile, side) {
         Some(other) => is_new(news, other),

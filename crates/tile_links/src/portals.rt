@@ -1,17 +1,24 @@
-//! The link from one rim entry to another along a run of positions, and its portal.
+//! The link from one rim entry to another along a run of positions, and its portal. Where two rim entries meet: the runs of positions at
+//! which each names the other's level.
 
-ghost use Rattle.std.specs.Prelude.{◌≡◌, ◌+◌, ◌<◌, ◌≤◌, pos, ◌≤ℤ◌, All};
+ghost use Rattle.std.specs.Prelude.{◌≡◌, ◌+◌, ◌<◌, ◌≤◌, pos, ◌≤ℤ◌, All, ◌++◌, [], map, drop, length, OnOk, IfSome, Some};
 ghost use Rattle.nav_base.specs.Convex.{corner_at};
-ghost use Rattle.mesh_types.specs.BorderLinks.{border_link, line_of, scaled, side_portal};
-ghost use Rattle.mesh_types.specs.declared.tile.RimEdge.{RimEdge};
-ghost use Rattle.tile_links.specs.Across.{HasLine, IsNamed, IsOnField};
+ghost use Rattle.mesh_types.specs.BorderLinks.{border_link, line_of, scaled, side_portal, are_meeting, pair_at, meetings};
+ghost use Rattle.mesh_types.specs.declared.mesh.RimEdge.{RimEdge};
+ghost use Rattle.tile_links.specs.Across.{HasLine, IsNamed, IsOnField, IsWithinField};
+ghost use Rattle.std.specs.List.{prefix_len, cons_option};
+ghost use Rattle.mesh_types.specs.Runs.{has_label};
+ghost use Rattle.tile_links.specs.Loose.{run_at};
 
-use crate::border::Border;
-use mesh_types::{Link, PolyRef, Polygon, Polygons, Portal, RimEdge, Run, TileMesh};
+use crate::join::Border;
+use mesh_types::{
+    LabelRun, LevelPair, Link, PolyRef, Polygon, Polygons, Portal, RimEdge, TileMesh,
+};
 use nav_base::Point;
+use std::alloc::AllocError;
 
 /// The link from an entry of a tile on its side of the border to an entry of the tile across, along a run of the first one's positions.
-pub fn border_link(border: Border, entry: &RimEdge, other: &RimEdge, run: Run) -> Link
+pub fn border_link(border: Border, entry: &RimEdge, other: &RimEdge, run: LabelRun) -> Link
     requires entry { IsNamed border.tile.now entry.now }
     requires line { border.line ≡ line_of border.side border.tile.now.polys entry.now }
     requires run { (run.first ≤ run.last) × (entry.now.first + run.last < 1024) }
@@ -121,5 +128,94 @@ fn scaled(x: i32, z: i32) -> Point
     Point {
         x: 16 * x,
         z: 16 * z,
+    }
+}
+
+/// Appends the link from an entry of a tile on its side of the border to an entry of the tile across along the run of positions where they meet
+/// that begins at a place of the entry, if one does.
+pub fn push_run_link(
+    links: &mut Vec<Link>,
+    border: Border,
+    entry: &RimEdge,
+    other: &RimEdge,
+    place: usize,
+) -> Result<(), AllocError>
+    requires entry { IsNamed border.tile.now entry.now }
+    requires line { border.line ≡ line_of border.side border.tile.now.polys entry.now }
+    requires there { place < length entry.now.pairs }
+    ensures { OnOk result (links.new.items ≡ links.old.items ++ map (border_link border.entry.tile.now border.entry.across.now border.entry.side entry.now other.now)
+        (cons_option (run_at entry.now other.now place) [])) }
+{
+    if let Some(run) = run_from(entry, other, place) {
+        links.push(border_link(border, entry, other, run))?;
+    }
+    Ok(())
+}
+
+/// The maximal run of places of an entry where it meets another that begins at a place, if one does. In most places a run goes on, so that is
+/// looked at first.
+#[tactic(auto, using(crate::proofs::MeetingPlaces::meeting_at))]
+fn run_from(entry: &RimEdge, other: &RimEdge, place: usize) -> Option<LabelRun>
+    requires inside { IsWithinField entry.now }
+    requires there { place < length entry.now.pairs }
+    ensures value { result ≡ run_at entry.now other.now place }
+    ensures inside { IfSome result (λ run. (run.first ≤ run.last) × (run.last < length entry.now.pairs)) }
+{
+    if place != 0 && are_met(entry, other, place - 1) {
+        return None;
+    }
+    if !are_met(entry, other, place) {
+        return None;
+    }
+    let more = run_len(entry, other, place + 1);
+    Some(LabelRun {
+        first: place as u32,
+        last: (place + more) as u32,
+        label: 0,
+    })
+}
+
+/// At how many places of an entry, from one on, it meets another without a break.
+fn run_len(entry: &RimEdge, other: &RimEdge, first: usize) -> usize
+    requires inside { IsWithinField entry.now }
+    requires there { first ≤ length entry.now.pairs }
+    ensures value { result ≡ prefix_len (has_label 0) (drop first (meetings entry.now other.now)) }
+    ensures most { first + result ≤ length entry.now.pairs }
+{
+    let mut end = first;
+    while end < entry.pairs.len() && are_met(entry, other, end) {
+        end += 1;
+    }
+    end - first
+}
+
+/// Whether an entry meets another at one of its places.
+fn are_met(entry: &RimEdge, other: &RimEdge, place: usize) -> bool
+    requires inside { IsWithinField entry.now }
+    requires there { place < length entry.now.pairs }
+    ensures { result ≡ are_meeting (pair_at entry.now (entry.now.first + place)) (pair_at other.now (entry.now.first + place)) }
+{
+    let pair = entry.pairs.as_slice()[place];
+    match pair_at(other, entry.first + place as u32) {
+        Some(across) => are_meeting(pair, across),
+        None => false,
+    }
+}
+
+/// Whether two pairs of levels name each other.
+fn are_meeting(a: LevelPair, b: LevelPair) -> bool
+    ensures { result ≡ are_meeting (Some a) (Some b) }
+{
+    a.own == b.other && a.other == b.own
+}
+
+/// The levels that an entry has at a position, if it has some there.
+fn pair_at(entry: &RimEdge, position: u32) -> Option<LevelPair>
+    ensures { result ≡ pair_at entry.now position }
+{
+    if entry.first <= position {
+        entry.pairs.get((position - entry.first) as usize).copied()
+    } else {
+        None
     }
 }

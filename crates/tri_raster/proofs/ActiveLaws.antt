@@ -8,12 +8,12 @@ use Rattle.std.proofs.lemmas.Nat.{div_below, le-div}
 use Rattle.std.proofs.lemmas.Grind.{div_ceil_times}
 use Rattle.std.proofs.lemmas.List.{length-set, get_or-set_same, get_or-set_other, get_or_read}
 use Rattle.std.proofs.lemmas.List.Elements.{All-contains, All-nil, Contains-append_left, Contains-append_right, Contains-append_cases, Contains-push_cases, Contains-push, Contains-get_or, All-filter, filter_passes}
-use Rattle.tri_rows.specs.declared.shadow.Shadow.{Shadow}
-use Rattle.tri_rows.specs.declared.triangle.Corner3.{Corner3}
-use Rattle.tri_rows.specs.declared.triangle.Tri.{Tri}
-use Rattle.tri_rows.specs.Rasters.{IsShadow}
-use Rattle.tri_rows.specs.Rows.{MeetsRow}
-use Rattle.tri_rows.specs.Triangles.{Weights, count_of, z_of, IsInside}
+use Rattle.tri_raster.specs.declared.triangle.Shadow.{Shadow}
+use Rattle.tri_raster.specs.declared.triangle.Corner3.{Corner3}
+use Rattle.tri_raster.specs.declared.triangle.Tri.{Tri}
+use Rattle.tri_raster.specs.Rasters.{IsShadow}
+use Rattle.tri_raster.specs.Rows.{MeetsRow}
+use Rattle.tri_raster.specs.Triangles.{Weights, count_of, z_of, IsInside}
 use Rattle.tri_raster.specs.ActiveRows.{first_row, end_row, BeginIn, AreByRow, MayReach, DoReach, reaches_row}
 use Rattle.tri_raster.specs.Columns.{AreKept}
 use Rattle.tri_raster.proofs.ShadowLaws.{each_of, not_in_none, more_shadows, alone, only_one}

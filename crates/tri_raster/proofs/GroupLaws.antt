@@ -8,11 +8,11 @@ use Rattle.std.proofs.lemmas.List.Elements.{All-contains, All-nil, All-more, All
 use Rattle.std.proofs.lemmas.List.Quantifiers.{all_pairs_push}
 use Rattle.nav_ground.specs.declared.field.Span.{Span}
 use Rattle.nav_ground.specs.Fields.{IsSmallSpan}
-use Rattle.tri_rows.specs.declared.shadow.Shadow.{Shadow}
-use Rattle.tri_rows.specs.Rasters.{Meets, AreLinked}
+use Rattle.tri_raster.specs.declared.triangle.Shadow.{Shadow}
+use Rattle.tri_raster.specs.Rasters.{Meets, AreLinked}
 use Rattle.tri_raster.specs.Columns.{IsUpright, IsLimited, AreLinkedIn, no_shadow, first_of, IsFirstGroup, IsNear, IsTopArea, StandFor, Reaches, IsApart, IsGroupSpan, AreGroupSpans, AreColumnSpans}
-use Rattle.tri_raster.specs.declared.refusal.RasterRefusal.{RasterRefusal}
-use Rattle.tri_raster.specs.declared.refusal.RasterRefusal.TheVariants as refusals
+use Rattle.tri_raster.specs.declared.text.RasterRefusal.{RasterRefusal}
+use Rattle.tri_raster.specs.declared.text.RasterRefusal.TheVariants as refusals
 use Rattle.tri_raster.specs.Sweeps.{AppendsSpans, ExceedsSpans, HasPushed}
 use Rattle.tri_raster.proofs.LinkLaws.{linked_more, linked_among}
 use Rattle.tri_raster.proofs.ShadowLaws.{each_of, any_of, member_of, stand_same, stand_on}

@@ -4,9 +4,9 @@ use Rattle.std.specs.Prelude.{All, AllPairs, Any, Contains}
 use Rattle.std.proofs.lemmas.Bool.{cases_lt}
 use Rattle.std.proofs.lemmas.List.Elements.{All-contains, All-append, Contains-append_left}
 use Rattle.nav_ground.specs.declared.field.Span.{Span}
-use Rattle.tri_rows.specs.declared.shadow.Shadow.{Shadow}
-use Rattle.tri_rows.specs.declared.triangle.Tri.{Tri}
-use Rattle.tri_rows.specs.Rasters.{IsShadow, Meets, AreLinked, IsOfGroup, IsSpanOf}
+use Rattle.tri_raster.specs.declared.triangle.Shadow.{Shadow}
+use Rattle.tri_raster.specs.declared.triangle.Tri.{Tri}
+use Rattle.tri_raster.specs.Rasters.{IsShadow, Meets, AreLinked, IsOfGroup, IsSpanOf}
 use Rattle.tri_raster.specs.Columns.{Covers, IsCovered, AreKept, AreLinkedIn, Reaches, IsApart, IsNear, IsGroupSpan}
 use Rattle.tri_raster.proofs.ShadowLaws.{member_of, solid_shadow}
 

@@ -9,10 +9,10 @@ use Rattle.nav_ground.specs.Fields.{IsField, IsSpan}
 use Rattle.nav_ground.specs.Fields.{IsSpanBefore as ComesBefore}
 use Rattle.nav_ground.specs.Grounds.{IsSized}
 use Rattle.nav_ground.specs.Limits.{IsSetting}
-use Rattle.tri_rows.specs.declared.shadow.Shadow.{Shadow}
-use Rattle.tri_rows.specs.declared.triangle.Tri.{Tri}
-use Rattle.tri_rows.specs.Triangles.{IsTriangle}
-use Rattle.tri_rows.specs.Rasters.{IsShadow, Meets, AreLinked, IsOfGroup, IsSpanOf, HoldsShadow, IsSpanBefore, IsRaster, HasManySpans}
+use Rattle.tri_raster.specs.declared.triangle.Shadow.{Shadow}
+use Rattle.tri_raster.specs.declared.triangle.Tri.{Tri}
+use Rattle.tri_raster.specs.Triangles.{IsTriangle}
+use Rattle.tri_raster.specs.Rasters.{IsShadow, Meets, AreLinked, IsOfGroup, IsSpanOf, HoldsShadow, IsSpanBefore, IsRaster, HasManySpans}
 use Rattle.tri_raster.specs.Columns.{IsLimited, Reaches}
 use Rattle.tri_raster.proofs.ShadowLaws.{each_of, member_of, solid_shadow, limited_shadow}
 use Rattle.tri_raster.proofs.LinkLaws.{linked_on, linked_back, linked_more, last_is, passes_at}

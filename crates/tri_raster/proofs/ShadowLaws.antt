@@ -8,10 +8,10 @@ use Rattle.std.proofs.Math.Nat.{mul-le-mul_left, le_of_mul-le-mul_right}
 use Rattle.std.proofs.lemmas.List.Elements.{All-contains, All-from_recursion, All-weaker, All-contains_itself, Contains-append_left, Contains-append_right, Contains-push, Contains-push_cases, Contains-append_cases, All-head, All-tail, All-cons, All-nil}
 use Rattle.std.proofs.lemmas.List.Filters.{All-dedup}
 use Rattle.std.proofs.lemmas.List.Sorted.{Contains-permutation, IsPermutation-sym}
-use Rattle.tri_rows.specs.declared.shadow.Shadow.{Shadow}
-use Rattle.tri_rows.specs.declared.triangle.Tri.{Tri}
-use Rattle.tri_rows.specs.Triangles.{Weights, count_of, y_of, IsOver, IsInside, IsTriangle}
-use Rattle.tri_rows.specs.Rasters.{IsShadow, IsBottom, IsHighest}
+use Rattle.tri_raster.specs.declared.triangle.Shadow.{Shadow}
+use Rattle.tri_raster.specs.declared.triangle.Tri.{Tri}
+use Rattle.tri_raster.specs.Triangles.{Weights, count_of, y_of, IsOver, IsInside, IsTriangle}
+use Rattle.tri_raster.specs.Rasters.{IsShadow, IsBottom, IsHighest}
 use Rattle.tri_raster.specs.Columns.{IsLimited, Covers, covers, IsCovered, StandFor, AreKept, IsUpright}
 
 -- members

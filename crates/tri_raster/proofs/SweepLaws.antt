@@ -7,18 +7,18 @@ use Rattle.std.proofs.lemmas.List.Elements.{All-contains, All-nil, All-append, C
 use Rattle.nav_ground.specs.declared.field.Field.{Field}
 use Rattle.nav_ground.specs.declared.field.Span.{Span}
 use Rattle.nav_ground.specs.declared.setting.Setting.{Setting}
-use Rattle.tri_rows.specs.declared.bound.Bound.{Bound}
-use Rattle.tri_rows.specs.declared.bound.Hits.{Hits}
-use Rattle.tri_rows.specs.declared.shadow.Shadow.{Shadow}
-use Rattle.tri_rows.specs.declared.triangle.Tri.{Tri}
-use Rattle.tri_rows.specs.Bounds.{bound_at}
-use Rattle.tri_rows.specs.Rows.{MeetsRow, AreRowShadows, shadow_of}
-use Rattle.tri_rows.specs.Triangles.{IsTriangle}
-use Rattle.tri_rows.specs.Rasters.{IsShadow, IsSpanOf, HoldsShadow, IsSpanBefore, IsRaster, HasManySpans}
+use Rattle.tri_raster.specs.declared.triangle.Bound.{Bound}
+use Rattle.tri_raster.specs.declared.triangle.Hits.{Hits}
+use Rattle.tri_raster.specs.declared.triangle.Shadow.{Shadow}
+use Rattle.tri_raster.specs.declared.triangle.Tri.{Tri}
+use Rattle.tri_raster.specs.Bounds.{bound_at}
+use Rattle.tri_raster.specs.Rows.{MeetsRow, AreRowShadows, shadow_of}
+use Rattle.tri_raster.specs.Triangles.{IsTriangle}
+use Rattle.tri_raster.specs.Rasters.{IsShadow, IsSpanOf, HoldsShadow, IsSpanBefore, IsRaster, HasManySpans}
 use Rattle.tri_raster.specs.ActiveRows.{first_row, end_row, BeginIn, AreByRow, MayReach, CanEnter, reaches_row}
 use Rattle.tri_raster.specs.Columns.{IsLimited, Covers, IsCovered, IsUpright, StandFor, AreKept, Reaches, IsGroupSpan, AreGroupSpans, AreColumnSpans}
-use Rattle.tri_raster.specs.declared.refusal.RasterRefusal.{RasterRefusal}
-use Rattle.tri_raster.specs.declared.refusal.RasterRefusal.TheVariants as refusals
+use Rattle.tri_raster.specs.declared.text.RasterRefusal.{RasterRefusal}
+use Rattle.tri_raster.specs.declared.text.RasterRefusal.TheVariants as refusals
 use Rattle.tri_raster.specs.Sweeps.{column_at, AreAdded, IsColumnBefore, AreSpansBefore, AppendsSpans, ExceedsSpans, HasPushed, IsRowOf, HasRow, HasRows, AreEmpty, IsAtRow, IsBeforeRow}
 use Rattle.tri_raster.proofs.LinkLaws.{span_of_group}
 use Rattle.tri_raster.proofs.ShadowLaws.{each_of, any_of, member_of, kept_on, kept_more, kept_passed, solid_shadow, limited_shadow}

@@ -10,14 +10,14 @@ use Rattle.std.proofs.lemmas.List.Elements.{All-nil, All-push, All-head, All-tai
 use Rattle.std.proofs.lemmas.List.Folds.{list_all-append}
 use Rattle.nav_ground.specs.declared.setting.Setting.{Setting}
 use Rattle.nav_ground.specs.Limits.{IsSetting}
-use Rattle.nav_list.specs.declared.items.Items.{Items}
+use Rattle.nav_lists.specs.declared.items.Items.{Items}
 use Rattle.nav_text.specs.declared.fault.TextFault.{TextFault}
 use Rattle.nav_text.specs.declared.fault.FaultKind.{FaultKind}
 use Rattle.nav_text.specs.declared.fault.FaultKind.TheVariants.{Range, TooManyTriangles, Unfinished}
 use Rattle.nav_text.specs.Faults.{fault_at}
 use Rattle.nav_text.specs.Lines.{lines, text_of, is_line, is_ended}
 use Rattle.nav_text.specs.Forms.{line_text, numbers_of, has_word, AreNumbers}
-use Rattle.nav_text.specs.Reading.{Verdict, Goes, Ends, Refuses, Leads, read, read_on, read_end, IsFirstFault}
+use Rattle.nav_text.specs.Reading.{Verdict, Goes, HopEnds, Refuses, Leads, read, read_on, read_end, IsFirstFault}
 use Rattle.nav_text.proofs.FormLaws.{numbers_take, numbers_again, has_word-numbers, is_line-line_text}
 use Rattle.nav_text.proofs.LineLaws.{lines_again}
 use Rattle.nav_text.proofs.TextLaws.{text_ended, whole_text}
@@ -28,12 +28,12 @@ use Rattle.span_text.specs.declared.field.FieldRefusal.TheVariants as refusals
 use Rattle.span_text.specs.declared.front.HeaderText.{HeaderText}
 use Rattle.span_text.specs.FieldText.{IsHeaderText, GoesOn}
 use Rattle.span_text.specs.Outcome.{GivesHeader}
-use Rattle.tri_rows.specs.declared.triangle.Corner3.{Corner3}
-use Rattle.tri_rows.specs.declared.triangle.Tri.{Tri}
+use Rattle.tri_raster.specs.declared.triangle.Corner3.{Corner3}
+use Rattle.tri_raster.specs.declared.triangle.Tri.{Tri}
 use Rattle.tri_raster.specs.declared.text.TriText.{TriText}
 use Rattle.tri_raster.specs.declared.text.TriLine.{TriLine}
 use Rattle.tri_raster.specs.declared.text.TriLine.TheVariants.{Triangle, End, Fails}
-use Rattle.tri_rows.specs.Triangles.{IsCorner, IsTriangle}
+use Rattle.tri_raster.specs.Triangles.{IsCorner, IsTriangle}
 use Rattle.tri_raster.specs.TriText.{tri_text, tri_lines, AreTriangles, BeginsWithHeader, IsTriText}
 use Rattle.tri_raster.specs.TriFormat.{Place, AtTris, AtEnd, tri_of, is_corner, is_triangle, tri_in, is_too_many, tri_line, wrong_behind, tri_verdict, verdict, value_at, tri_format, value_of, IsReading, IsTextFault, Gives}
 
@@ -176,7 +176,7 @@ tris_found text count tris e = of_result (read (tri_format (is_ended text)) (AtT
         (sym (whole_text text told.0) ∙ ap text_of (parts ∙ append-nil good ∙ told.1), told.2)
     at_end (AtTris other) good (line ∷ rest) more said ends parts = absurd (no_end (tri_line (length other) line) ends.0)
       where
-        no_end : (said : TriLine) → tri_verdict other said ≡ Ends tris → ⊥
+        no_end : (said : TriLine) → tri_verdict other said ≡ HopEnds tris → ⊥
         no_end (Triangle tri) e = cc
         no_end End e = cc
         no_end (Fails kind) e = cc

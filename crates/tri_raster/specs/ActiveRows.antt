@@ -1,8 +1,8 @@
 -- Which rows of columns a triangle may meet, and the lists of triangles that are kept by that.
 use Rattle.std.specs.Prelude.{◌≡◌, ℕ, ◌+◌, ◌/◌, ◌<◌, ◌≤◌, Bool, nat_lt, min, max, List, ◌++◌, filter, length, slice_index_or, [], All, Contains}
 use Rattle.std.specs.Int.{div_ceil}
-use Rattle.tri_rows.specs.declared.triangle.Tri.{Tri}
-use Rattle.tri_rows.specs.Triangles.{IsTriangle}
+use Rattle.tri_raster.specs.declared.triangle.Tri.{Tri}
+use Rattle.tri_raster.specs.Triangles.{IsTriangle}
 
 -- the first row that a triangle may meet, and the one behind the last
 abbrev pub first_row : Tri → ℕ

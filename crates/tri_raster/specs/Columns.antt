@@ -1,9 +1,9 @@
 -- Shadows kept for a column in place of all, and the spans of their groups.
 use Rattle.std.specs.Prelude.{◌≡◌, ℕ, ◌+◌, ◌<◌, ◌≤◌, ◌⊎◌, Bool, nat_le, ◌&&◌, List, [], ◌∷◌, ◌++◌, length, take, drop, slice_index_or, All, AllPairs, Any, Contains}
 use Rattle.nav_ground.specs.declared.field.Span.{Span}
-use Rattle.tri_rows.specs.declared.shadow.Shadow.{Shadow}
-use Rattle.tri_rows.specs.declared.triangle.Tri.{Tri}
-use Rattle.tri_rows.specs.Rasters.{IsShadow, AreLinked}
+use Rattle.tri_raster.specs.declared.triangle.Shadow.{Shadow}
+use Rattle.tri_raster.specs.declared.triangle.Tri.{Tri}
+use Rattle.tri_raster.specs.Rasters.{IsShadow, AreLinked}
 
 -- a shadow reaches over another and has no lesser area, so that the other changes no span
 abbrev pub Covers : Shadow → Shadow → Type 0

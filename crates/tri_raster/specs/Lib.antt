@@ -3,3 +3,8 @@ pub mod TriFormat
 pub mod Columns
 pub mod ActiveRows
 pub mod Sweeps
+pub mod Triangles
+pub mod Rasters
+pub mod Spots
+pub mod Bounds
+pub mod Rows

@@ -2,15 +2,15 @@
 use Rattle.std.specs.Prelude.{◌≡◌, ℕ, ◌+◌, ◌<◌, ◌≤◌, ◌⊎◌, List, [], ◌∷◌, ◌++◌, length, slice_index_or, All, AllPairs, Any, Result, Ok, Err, ⊤}
 use Rattle.nav_ground.specs.declared.field.Span.{Span}
 use Rattle.nav_ground.specs.declared.setting.Setting.{Setting}
-use Rattle.tri_rows.specs.declared.bound.Bound.{Bound}
-use Rattle.tri_rows.specs.declared.bound.Hits.{Hits}
-use Rattle.tri_rows.specs.declared.shadow.Shadow.{Shadow}
-use Rattle.tri_rows.specs.declared.triangle.Tri.{Tri}
-use Rattle.tri_rows.specs.Bounds.{bound_at}
-use Rattle.tri_rows.specs.Rasters.{IsShadow, IsSpanOf, HoldsShadow, IsSpanBefore, HasManySpans}
-use Rattle.tri_rows.specs.Rows.{shadow_of}
-use Rattle.tri_raster.specs.declared.refusal.RasterRefusal.{RasterRefusal}
-use Rattle.tri_raster.specs.declared.refusal.RasterRefusal.TheVariants as refusals
+use Rattle.tri_raster.specs.declared.triangle.Bound.{Bound}
+use Rattle.tri_raster.specs.declared.triangle.Hits.{Hits}
+use Rattle.tri_raster.specs.declared.triangle.Shadow.{Shadow}
+use Rattle.tri_raster.specs.declared.triangle.Tri.{Tri}
+use Rattle.tri_raster.specs.Bounds.{bound_at}
+use Rattle.tri_raster.specs.Rasters.{IsShadow, IsSpanOf, HoldsShadow, IsSpanBefore, HasManySpans}
+use Rattle.tri_raster.specs.Rows.{shadow_of}
+use Rattle.tri_raster.specs.declared.text.RasterRefusal.{RasterRefusal}
+use Rattle.tri_raster.specs.declared.text.RasterRefusal.TheVariants as refusals
 use Rattle.tri_raster.specs.ActiveRows.{BeginIn, MayReach}
 use Rattle.tri_raster.specs.Columns.{StandFor, AreKept, AreColumnSpans, AreGroupSpans}
 

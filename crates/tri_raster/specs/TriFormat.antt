@@ -1,7 +1,7 @@
 -- The format of what follows the header of a triangle text: what each line is, after what the lines before it have said.
 use Rattle.std.specs.Prelude.{◌≡◌, ℕ, ◌+◌, ◌⊎◌, Bool, nat_le, ◌&&◌, ◌==◌, if◌then◌else◌, List, [], ◌∷◌, ◌++◌, length, bytes_eq, codes, slice_index, Option, Some, None, Result, Ok, Err, ⊤}
 use Rattle.nav_ground.specs.declared.setting.Setting.{Setting}
-use Rattle.nav_list.specs.declared.items.Items.{Items}
+use Rattle.nav_lists.specs.declared.items.Items.{Items}
 use Rattle.nav_text.specs.declared.fault.TextFault.{TextFault}
 use Rattle.nav_text.specs.declared.fault.FaultKind.{FaultKind}
 use Rattle.nav_text.specs.declared.fault.FaultKind.TheVariants.{Form, Range, TooManyTriangles}
@@ -12,8 +12,8 @@ use Rattle.span_text.specs.declared.field.FieldRefusal.{FieldRefusal}
 use Rattle.span_text.specs.declared.field.FieldRefusal.TheVariants as refusals
 use Rattle.span_text.specs.FieldFormat.{AtNav, header_format}
 use Rattle.span_text.specs.FieldText.{GoesOn}
-use Rattle.tri_rows.specs.declared.triangle.Corner3.{Corner3}
-use Rattle.tri_rows.specs.declared.triangle.Tri.{Tri}
+use Rattle.tri_raster.specs.declared.triangle.Corner3.{Corner3}
+use Rattle.tri_raster.specs.declared.triangle.Tri.{Tri}
 use Rattle.tri_raster.specs.declared.text.TriLine.{TriLine}
 use Rattle.tri_raster.specs.declared.text.TriLine.TheVariants as told
 use Rattle.tri_raster.specs.declared.text.TriText.{TriText}
@@ -24,9 +24,11 @@ pub data Place : Type 0 where
   AtTris : (tris : List Tri) → Place
   AtEnd : (tris : List Tri) → Place
 
+-- the corner that three numbers from a place on spell
 abbrev pub corner_of : List ℕ → ℕ → Corner3
 corner_of numbers i = record { x = slice_index numbers i; y = slice_index numbers (i + 1); z = slice_index numbers (i + 2) }
 
+-- the triangle of ten numbers
 abbrev pub tri_of : List ℕ → Tri
 tri_of numbers = record { a = corner_of numbers 0; b = corner_of numbers 3; c = corner_of numbers 6; area = slice_index numbers 9 }
 
@@ -34,6 +36,7 @@ tri_of numbers = record { a = corner_of numbers 0; b = corner_of numbers 3; c = 
 abbrev pub is_corner : Corner3 → Bool
 is_corner corner = nat_le corner.x 16384 && nat_le corner.y 8190 && nat_le corner.z 16384
 
+-- a triangle is within its limits
 abbrev pub is_triangle : Tri → Bool
 is_triangle tri = is_corner tri.a && is_corner tri.b && is_corner tri.c && nat_le tri.area 63
 
@@ -56,11 +59,13 @@ tri_line count line =
 abbrev pub wrong_behind : ℕ → List ℕ → FaultKind
 wrong_behind count line = if is_too_many count line then TooManyTriangles else Form
 
+-- what a line among triangles leads to
 abbrev pub tri_verdict : List Tri → TriLine → Verdict Place (List Tri)
 tri_verdict tris (told.Triangle tri) = Goes (AtTris (tris ++ tri ∷ []))
 tri_verdict tris told.End = Goes (AtEnd tris)
 tri_verdict tris (told.Fails kind) = Refuses kind
 
+-- what a line leads to at a place
 abbrev pub verdict : Place → List ℕ → Verdict Place (List Tri)
 verdict (AtTris tris) line = tri_verdict tris (tri_line (length tris) line)
 verdict (AtEnd tris) line = Refuses (wrong_behind (length tris) line)

@@ -5,8 +5,8 @@ use Rattle.nav_ground.specs.Limits.{IsSetting}
 use Rattle.nav_text.specs.Lines.{text_of}
 use Rattle.nav_text.specs.Forms.{line_text}
 use Rattle.span_text.specs.FieldText.{IsHeaderText}
-use Rattle.tri_rows.specs.declared.triangle.Tri.{Tri}
-use Rattle.tri_rows.specs.Triangles.{IsTriangle}
+use Rattle.tri_raster.specs.declared.triangle.Tri.{Tri}
+use Rattle.tri_raster.specs.Triangles.{IsTriangle}
 
 -- the line of a triangle: its corners, x, height and z of each, and its area
 abbrev pub tri_text : Tri → List ℕ

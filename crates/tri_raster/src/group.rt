@@ -1,14 +1,14 @@
 //! The groups of a column's shadows, and their spans.
 ghost use Rattle.std.specs.Prelude.{◌≡◌, ◌<◌, ◌≤◌, length, All, Any};
 ghost use Rattle.std.specs.List.Sorted.{IsNonDecreasingBy};
-ghost use Rattle.tri_rows.specs.declared.shadow.Shadow.{Shadow};
+ghost use Rattle.tri_raster.specs.declared.triangle.Shadow.{Shadow};
 ghost use Rattle.tri_raster.specs.Columns.{IsUpright, IsLimited, IsFirstGroup, IsNear, IsTopArea};
 ghost use Rattle.tri_raster.specs.Sweeps.{HasPushed};
 
+use crate::Shadow;
 use crate::column::Column;
-use crate::refusal::RasterRefusal;
-use nav_ground::{SmallSpan, Span};
-use tri_rows::Shadow;
+use crate::text::RasterRefusal;
+use nav_ground::{PackedSpan, Span};
 
 /// The most spans that a field can have.
 const MAX_SPANS: usize = 2000000;
@@ -51,7 +51,7 @@ pub(crate) fn push_spans(
     climb: u32,
     x: u32,
     z: u32,
-    spans: &mut Vec<SmallSpan>,
+    spans: &mut Vec<PackedSpan>,
 ) -> Result<(), RasterRefusal>
     requires column { (x < 1024) × (z < 1024) }
     requires upright { All IsUpright column.old }
@@ -69,7 +69,7 @@ fn push_groups(
     climb: u32,
     x: u32,
     z: u32,
-    spans: &mut Vec<SmallSpan>,
+    spans: &mut Vec<PackedSpan>,
 ) -> Result<(), RasterRefusal>
     requires column { (x < 1024) × (z < 1024) }
     requires upright { All IsUpright shadows.now }
@@ -93,7 +93,7 @@ fn push_groups(
         if spans.len() == MAX_SPANS {
             return Err(RasterRefusal::TooManySpans);
         }
-        spans.push(SmallSpan::new(&span))?;
+        spans.push(PackedSpan::new(&span))?;
         rest = behind;
     }
     Ok(())

@@ -1,21 +1,27 @@
-//! Rows of columns, from the front of a field to its back.
-ghost use Rattle.std.specs.Prelude.{◌≡◌, ◌<◌, ◌≤◌, ◌+◌, ℕ, List, [], length, All, OnOk, IfOk};
+//! Rows of columns, from the front of a field to its back. The field of triangles.
+
+ghost use Rattle.std.specs.Prelude.{◌≡◌, ◌<◌, ◌≤◌, ◌+◌, ℕ, List, [], length, All, OnOk, IfOk, ◌≢◌, Err};
 ghost use Rattle.nav_ground.specs.declared.setting.Setting.{Setting};
-ghost use Rattle.tri_rows.specs.declared.triangle.Tri.{Tri};
-ghost use Rattle.tri_rows.specs.Bounds.{bound_at};
-ghost use Rattle.tri_rows.specs.Rows.{MeetsRow};
-ghost use Rattle.tri_rows.specs.Triangles.{IsTriangle};
+ghost use Rattle.tri_raster.specs.declared.triangle.Tri.{Tri};
+ghost use Rattle.tri_raster.specs.Bounds.{bound_at};
+ghost use Rattle.tri_raster.specs.Rows.{MeetsRow};
+ghost use Rattle.tri_raster.specs.Triangles.{IsTriangle};
 ghost use Rattle.tri_raster.specs.ActiveRows.{BeginIn, CanEnter};
 ghost use Rattle.tri_raster.specs.Columns.{IsUpright, IsLimited, AreKept};
-ghost use Rattle.tri_raster.specs.Sweeps.{column_at, AreAdded, AreEmpty, IsRowOf, HasRow, IsAtRow, IsBeforeRow};
+ghost use Rattle.tri_raster.specs.Sweeps.{column_at, AreAdded, AreEmpty, IsRowOf, HasRow, IsAtRow, IsBeforeRow, HasRows};
+ghost use Rattle.nav_ground.specs.declared.field.Field.{Field};
+ghost use Rattle.nav_ground.specs.Fields.{IsField};
+ghost use Rattle.nav_ground.specs.Grounds.{IsSized};
+ghost use Rattle.nav_ground.specs.Limits.{IsSetting};
+ghost use Rattle.tri_raster.specs.Rasters.{IsRaster, HasManySpans};
 
-use crate::active::to_row;
-use crate::column::Column;
+use crate::column::{Column, by_row, to_row};
 use crate::group::push_spans;
-use crate::refusal::RasterRefusal;
-use nav_ground::SmallSpan;
+use crate::text::RasterRefusal;
+use crate::{Bound, FRESH, Hits, Tri, row_shadows, shadow_of};
+use nav_ground::{Field, PackedSpan, Setting};
+use nav_lists::Items;
 use std::alloc::{AllocError, Global};
-use tri_rows::{Bound, FRESH, Hits, Tri, row_shadows, shadow_of};
 
 /// What the rows of a field are made with, one after the other.
 #[derive(Drop)]
@@ -48,7 +54,7 @@ impl Sweep {
         entering: &[Tri],
         climb: u32,
         z: u32,
-        spans: &mut Vec<SmallSpan>,
+        spans: &mut Vec<PackedSpan>,
     ) -> Result<(), RasterRefusal>
         requires triangles { CanEnter z self.old.active.items entering.now }
         requires width { length self.old.bounds.items ≤ 1024 }
@@ -136,7 +142,7 @@ fn push_row(
     columns: &mut [Column],
     climb: u32,
     z: u32,
-    spans: &mut Vec<SmallSpan>,
+    spans: &mut Vec<PackedSpan>,
 ) -> Result<(), RasterRefusal>
     requires width { length columns.old ≤ 1024 }
     requires depth { z < 1024 }
@@ -154,4 +160,50 @@ fn push_row(
         columns[x].clear();
     }
     Ok(())
+}
+
+/// The field of triangles over a setting's columns: in each column the groups of what the triangles leave there as one span each, with the greatest
+/// area of those whose top is at most the climb below the group's. A triangle that lies on a line between columns leaves nothing. Corners beyond
+/// the field are allowed; what lies there is cut off.
+pub fn raster(alloc: Global, setting: &Setting, tris: &[Tri]) -> Result<Field, RasterRefusal>
+    requires setting { IsSetting setting.now }
+    requires triangles { All IsTriangle tris.now }
+
+    // The spans are those of the exact clipped triangles, and no others; there is one such field, and it keeps the rules of a field.
+    ensures field { IfOk result (λ field. IsRaster setting.now tris.now field) }
+    ensures one { IfOk result (λ field. (other : Field) → IsRaster setting.now tris.now other → other ≡ field) }
+    ensures rules { IfOk result IsField }
+    ensures sized { IfOk result (IsSized setting.now) }
+
+    // It is refused exactly where there are more spans than a field may have, unless memory runs out.
+    ensures many { result ≡ Err RasterRefusal.TooManySpans → HasManySpans setting.now tris.now }
+    ensures few { (field : Field) → IsRaster setting.now tris.now field → length field.spans ≤ 2000000
+        → result ≢ Err RasterRefusal.TooManySpans }
+{
+    let spans = spans_of(alloc, setting, tris)?;
+    Ok(Field {
+        width: setting.width,
+        depth: setting.depth,
+        spans,
+    })
+}
+
+/// The spans of triangles, by z, then x, then from the bottom up.
+fn spans_of(
+    alloc: Global,
+    setting: &Setting,
+    tris: &[Tri],
+) -> Result<Items<PackedSpan>, RasterRefusal>
+    requires setting { IsSetting setting.now }
+    requires triangles { All IsTriangle tris.now }
+    ensures { HasRows setting.now tris.now setting.now.depth result }
+{
+    let lists = by_row(alloc, setting.depth, tris)?;
+    let mut sweep = Sweep::new(alloc, setting.width)?;
+    let mut spans = Vec::new(alloc);
+    for z in 0..setting.depth {
+        let entering = lists[z as usize].as_slice();
+        sweep.row(entering, setting.agent.climb, z, &mut spans)?;
+    }
+    Ok(Items::from_vec(spans))
 }

@@ -1,20 +1,21 @@
-//! Reading a triangle text.
+//! Reading a triangle text. Why no field was made.
+
 ghost use Rattle.std.specs.Prelude.{◌≡◌, ◌≤◌, ℕ, List, [], Err, Some, IfOk};
 ghost use Rattle.nav_ground.specs.declared.setting.Setting.{Setting};
 ghost use Rattle.nav_text.specs.declared.fault.TextFault.{TextFault};
 ghost use Rattle.nav_text.specs.Faults.{fault_at};
 ghost use Rattle.nav_text.specs.Lines.{lines, is_ended};
 ghost use Rattle.nav_text.specs.Reading.{read};
-ghost use Rattle.tri_rows.specs.declared.triangle.Tri.{Tri};
+ghost use Rattle.tri_raster.specs.declared.triangle.Tri.{Tri};
 ghost use Rattle.tri_raster.specs.TriText.{IsTriText};
 ghost use Rattle.tri_raster.specs.TriFormat.{is_corner, tri_in, tri_line, is_too_many, wrong_behind, AtTris, AtEnd, tri_format, IsReading, IsTextFault, Gives};
 
+use crate::{Corner3, Tri};
 use nav_ground::Setting;
-use nav_list::Items;
+use nav_lists::Items;
 use nav_text::{FaultKind, TextFault, first_line, has_word, numbers_of};
 use span_text::{FieldRefusal, HeaderText, read_header};
-use std::alloc::Global;
-use tri_rows::{Corner3, Tri};
+use std::alloc::{AllocError, AllocFailed, Global};
 
 /// The most triangles that a text can have.
 const MAX_TRIANGLES: usize = 100000;
@@ -182,5 +183,35 @@ pub fn read_triangles(alloc: Global, bytes: &[u8]) -> Result<TriText, FieldRefus
             tris,
         }),
         Err(refusal) => Err(refusal),
+    }
+}
+
+/// Why no field was made of triangles.
+#[derive(Clone, Copy)]
+pub enum RasterRefusal {
+    /// The triangles give more than 2000000 spans.
+    TooManySpans,
+    OutOfMemory,
+}
+
+impl From<AllocError> for RasterRefusal {
+    ghost use Rattle.std.specs.Prelude.{◌≡◌};
+    ghost use Rattle.tri_raster.specs.declared.text.RasterRefusal.{RasterRefusal};
+
+    ghost from_gives = { λ _ refusal. refusal ≡ RasterRefusal.OutOfMemory };
+
+    fn from(_error: AllocError) -> Self {
+        RasterRefusal::OutOfMemory
+    }
+}
+
+impl<T: Drop> From<AllocFailed<T>> for RasterRefusal {
+    ghost use Rattle.std.specs.Prelude.{◌≡◌};
+    ghost use Rattle.tri_raster.specs.declared.text.RasterRefusal.{RasterRefusal};
+
+    ghost from_gives = { λ _ refusal. refusal ≡ RasterRefusal.OutOfMemory };
+
+    fn from(_error: AllocFailed<T>) -> Self {
+        RasterRefusal::OutOfMemory
     }
 }

@@ -7,7 +7,7 @@ use mathlib.Core.Option as maybe
 use lib.ListN.{get_elem?}
 use Rattle.atomic_table.specs.Table.{Final, Seen}
 use Rattle.turn_lock.specs.declared.view.Claim.{Claim}
-use Rattle.turn_lock.specs.declared.view.View.{View}
+use Rattle.turn_lock.specs.declared.view.SeatView.{SeatView}
 use Rattle.turn_lock.specs.Growth.{Extends}
 use Rattle.turn_lock.specs.Locks.{PassView, claim_of}
 use Rattle.turn_lock.specs.Turns.{Stands, Turns}
@@ -44,7 +44,7 @@ module _ {B G E : Type 0} (root_of : B → G) (entries : B → List E) (maker : 
     pub met : All (λ p. p.met ≤ length (entries value)) items
     pub made : All (λ e. Any (λ p. p.number ≡ maker e) items) (entries value)
 
-  pub closes : (items : List (PassView G E)) (id : ℕ) (v : View G E) (words : List ℕ) (slots : List B) (value : B) → v.root ≡ Some r → v.holds ≡ false → claims_of v ≡ map claim_of items
+  pub closes : (items : List (PassView G E)) (id : ℕ) (v : SeatView G E) (words : List ℕ) (slots : List B) (value : B) → v.root ≡ Some r → v.holds ≡ false → claims_of v ≡ map claim_of items
       → ((k : ℕ) → k < passes → Any (λ p. p.number ≡ k) items)
       → Final (Seen (Turns root_of entries maker r passes) id v) words slots → get_elem? slots 0 ≡ maybe.some value → Closes items value
   closes items id v words slots value rooted idle claims all final taken =

@@ -8,7 +8,7 @@ use lib.ListN.{get_elem?}
 use Rattle.atomic_table.specs.Table.{State, Splits, Joins, opening, Final, Seen}
 use Rattle.atomic_table.proofs.Lists.{at_set, at_longer, set_else}
 use Rattle.turn_lock.specs.declared.view.Claim.{Claim}
-use Rattle.turn_lock.specs.declared.view.View.{View}
+use Rattle.turn_lock.specs.declared.view.SeatView.{SeatView}
 use Rattle.turn_lock.specs.Turns.{Stands, Knows, Turns}
 use Rattle.turn_lock.specs.SeatViews.{claims_of, first_view, left_view, right_view, joined_view, spent_view, new_claim}
 use Rattle.turn_lock.proofs.Steps.{resting, holds_on}
@@ -36,13 +36,13 @@ moved_else : (seat_of : ℕ → ℕ) (i j number seat : ℕ) → seat_of number 
 moved_else seat_of i j number seat is apart = ap (λ b. cond b j (seat_of number)) (ne_eqb (seat_of number) i (λ e. apart (sym is ∙ e))) ∙ is
 
 module _ {B G E : Type 0} (root_of : B → G) (entries : B → List E) (maker : E → ℕ) (r : G) (passes : ℕ) where
-  abbrev Rule : State B (View G E) → Type 0
+  abbrev Rule : State B (SeatView G E) → Type 0
   Rule = Turns root_of entries maker r passes
 
   -- a new table
   pub starts : (value : B) → root_of value ≡ r → entries value ≡ [] → 1 ≤ passes → Rule (opening (0 ∷ []) (value ∷ []) (first_view r))
   starts value root empty some =
-      let none_else : (seat : ℕ) (v : View G E) → get_elem? (first_view r ∷ []) seat ≡ maybe.some v → (seat ≡ 0) × (v ≡ first_view r) = λ seat v e. only seat v e in
+      let none_else : (seat : ℕ) (v : SeatView G E) → get_elem? (first_view r ∷ []) seat ≡ maybe.some v → (seat ≡ 0) × (v ≡ first_view r) = λ seat v e. only seat v e in
       record {
         current = [];
         count = 1;
@@ -58,7 +58,7 @@ module _ {B G E : Type 0} (root_of : B → G) (entries : B → List E) (maker : 
         turn = λ seat told. absurd (let e = told in cc);
         knows = λ seat v g e rooted.
             let at = (only seat v e).0 in
-            let P : ℕ → View G E → Type 0 = λ i u. Knows maker r [] 1 0 (λ _. 0) None i u in
+            let P : ℕ → SeatView G E → Type 0 = λ i u. Knows maker r [] 1 0 (λ _. 0) None i u in
             subst (λ u. P seat u) (sym (only seat v e).1) (subst (λ i. P i (first_view r)) (sym at) (record {
               root = refl;
               claims = All-cons (Stands maker 1 (λ _. 0) 0 []) (new_claim 0) [] (record { given = omega arith; place = refl; extends = Extends-itself maker 0 []; met = omega arith; met_all = omega arith }) (All-nil (Stands maker 1 (λ _. 0) 0 []));
@@ -67,12 +67,12 @@ module _ {B G E : Type 0} (root_of : B → G) (entries : B → List E) (maker : 
             }));
       }
     where
-      only : (seat : ℕ) (v : View G E) → get_elem? (first_view r ∷ []) seat ≡ maybe.some v → (seat ≡ 0) × (v ≡ first_view r)
+      only : (seat : ℕ) (v : SeatView G E) → get_elem? (first_view r ∷ []) seat ≡ maybe.some v → (seat ≡ 0) × (v ≡ first_view r)
       only zero v e = (refl, sym (maybe.some-injective (first_view r) v e))
       only (suc k) v e = absurd (maybe.some-ne-none v (sym e))
 
   -- cut off a seat for the next number
-  pub splits : (id : ℕ) (v : View G E) → v.root ≡ Some r → 0 < v.given → v.given < passes → Splits Rule id v (left_view v) (right_view v)
+  pub splits : (id : ℕ) (v : SeatView G E) → v.root ≡ Some r → 0 < v.given → v.given < passes → Splits Rule id v (left_view v) (right_view v)
   splits id v rooted gives below s t at =
       let knows = t.knows id v r at rooted in
       let count : ℕ = t.count in
@@ -89,7 +89,7 @@ module _ {B G E : Type 0} (root_of : B → G) (entries : B → List E) (maker : 
         met = stands.met;
         met_all = stands.met_all;
       } in
-      let keep : (seat : ℕ) (u : View G E) → Knows maker r t.current count t.chief t.seat_of t.holder seat u → All (Stands maker (count + 1) place seat t.current) (claims_of u) =
+      let keep : (seat : ℕ) (u : SeatView G E) → Knows maker r t.current count t.chief t.seat_of t.holder seat u → All (Stands maker (count + 1) place seat t.current) (claims_of u) =
       λ seat u k. All-weaker (Stands maker count t.seat_of seat t.current) (Stands maker (count + 1) place seat t.current) (moves seat) (claims_of u) k.claims in
       record {
         current = t.current;
@@ -108,14 +108,14 @@ module _ {B G E : Type 0} (root_of : B → G) (entries : B → List E) (maker : 
             record { view = has.view; there = at_longer (slice_set s.views id (left_view v)) (right_view v ∷ []) seat has.view has.there; root = has.root; holds = has.holds };
         knows = λ seat u g e rooted_u. ⊎_elim
             (λ old. ⊎_elim
-            (λ (here, is). let P : View G E → Type 0 = λ x. Knows maker r t.current (count + 1) new place t.holder seat x in
+            (λ (here, is). let P : SeatView G E → Type 0 = λ x. Knows maker r t.current (count + 1) new place t.holder seat x in
             subst P is (let Q : ℕ → Type 0 = λ i. Knows maker r t.current (count + 1) new place t.holder i (left_view v) in
             subst Q (sym here) (record { root = rooted; claims = keep id v knows; holds = knows.holds; given = λ some. absurd (let none = some in omega arith) })))
             (λ (else, there). let k = t.knows seat u g there rooted_u in
             record { root = k.root; claims = keep seat u k; holds = k.holds; given = λ some. absurd (else ((k.given some).0 ∙ sym chief)) })
             (at_set s.views id seat (left_view v) u old))
             (λ (last, is). let there : seat ≡ new = last ∙ long in
-            let P : View G E → Type 0 = λ x. Knows maker r t.current (count + 1) new place t.holder seat x in
+            let P : SeatView G E → Type 0 = λ x. Knows maker r t.current (count + 1) new place t.holder seat x in
             subst P is (let Q : ℕ → Type 0 = λ i. Knows maker r t.current (count + 1) new place t.holder i (right_view v) in
             subst Q (sym there) (record {
               root = rooted;
@@ -133,9 +133,9 @@ module _ {B G E : Type 0} (root_of : B → G) (entries : B → List E) (maker : 
       }
 
   -- take a seat in
-  pub joins : (id : ℕ) (v : View G E) (other : ℕ) (w : View G E) → v.root ≡ Some r → w.root ≡ Some r → v.holds ≡ false → w.holds ≡ false → Joins Rule id v other w (joined_view v w) spent_view
+  pub joins : (id : ℕ) (v : SeatView G E) (other : ℕ) (w : SeatView G E) → v.root ≡ Some r → w.root ≡ Some r → v.holds ≡ false → w.holds ≡ false → Joins Rule id v other w (joined_view v w) spent_view
   joins id v other w rooted rooted_w idle idle_w s t at apart at_w =
-      let both : View G E = joined_view v w in
+      let both : SeatView G E = joined_view v w in
       let there_w : get_elem? s.views other ≡ maybe.some w = sym (set_else s.views id other both apart) ∙ at_w in
       let knows = t.knows id v r at rooted in
       let knows_w = t.knows other w r there_w rooted_w in
@@ -165,7 +165,7 @@ module _ {B G E : Type 0} (root_of : B → G) (entries : B → List E) (maker : 
         knows = λ seat u g e rooted_u. ⊎_elim
             (λ (gone, is). absurd (let none = ap (λ x. x.root) is in cc))
             (λ (not_other, e'). ⊎_elim
-            (λ (mine, is). let P : View G E → Type 0 = λ x. Knows maker r t.current t.count t.chief place t.holder seat x in
+            (λ (mine, is). let P : SeatView G E → Type 0 = λ x. Knows maker r t.current t.count t.chief place t.holder seat x in
             subst P is (let Q : ℕ → Type 0 = λ i. Knows maker r t.current t.count t.chief place t.holder i both in
             subst Q (sym mine) (record {
               root = rooted;
@@ -183,7 +183,7 @@ module _ {B G E : Type 0} (root_of : B → G) (entries : B → List E) (maker : 
 
   -- What holds once one seat speaks for all numbers and has not the turn: nobody has it. So the value is at home, and
   -- its list goes on from all that was seen
-  pub record Ended (v : View G E) (value : B) : Type 0 where
+  pub record Ended (v : SeatView G E) (value : B) : Type 0 where
     pub root : root_of value ≡ r
     pub count : ℕ
     pub seat_of : ℕ → ℕ
@@ -191,7 +191,7 @@ module _ {B G E : Type 0} (root_of : B → G) (entries : B → List E) (maker : 
     pub claims : All (Stands maker count seat_of seat (entries value)) (claims_of v)
     pub makers : All (λ e. maker e < passes) (entries value)
 
-  pub ends : (id : ℕ) (v : View G E) (words : List ℕ) (slots : List B) → v.root ≡ Some r → v.holds ≡ false
+  pub ends : (id : ℕ) (v : SeatView G E) (words : List ℕ) (slots : List B) → v.root ≡ Some r → v.holds ≡ false
       → ((k : ℕ) → k < passes → Any (λ c. c.number ≡ k) (claims_of v))
       → Final (Seen Rule id v) words slots → (value : B) → get_elem? slots 0 ≡ maybe.some value → Ended v value
   ends id v words slots rooted idle all (s, (t, at), same, long, values) value taken =

@@ -10,7 +10,7 @@ use lib.ListN.{get_elem?}
 use Rattle.atomic_table.specs.Table.{State, Me, Act, step, stepped, Allows, Valid, keeps, takes, gives, carried_after}
 use Rattle.atomic_table.proofs.Lists.{at_set, set_here, set_else, set_again, exchanged}
 use Rattle.turn_lock.specs.declared.view.Claim.{Claim}
-use Rattle.turn_lock.specs.declared.view.View.{View}
+use Rattle.turn_lock.specs.declared.view.SeatView.{SeatView}
 use Rattle.turn_lock.specs.Growth.{Extends, Grows}
 use Rattle.turn_lock.specs.Turns.{Stands, Knows, HasTurn, Phase, Turns, Takes, Gives, Looks, Returns}
 use Rattle.turn_lock.specs.SeatViews.{having_seen, having_met, claims_of}
@@ -46,11 +46,11 @@ module _ {B G E : Type 0} (root_of : B → G) (entries : B → List E) where
   slot_out r current (Some other) seat word home is p = p.0
 
 module _ {B G E : Type 0} (root_of : B → G) (entries : B → List E) (maker : E → ℕ) (r : G) (passes : ℕ) where
-  abbrev Rule : State B (View G E) → Type 0
+  abbrev Rule : State B (SeatView G E) → Type 0
   Rule = Turns root_of entries maker r passes
 
   -- the word is set to itself, and the seat keeps what it knows
-  stays : (s : State B (View G E)) (id : ℕ) (me : Me B (View G E)) → get_elem? s.views id ≡ maybe.some me.0 → Rule s → Rule (stepped s 0 (slice_index s.words 0) id me.1 me.0 keeps)
+  stays : (s : State B (SeatView G E)) (id : ℕ) (me : Me B (SeatView G E)) → get_elem? s.views id ≡ maybe.some me.0 → Rule s → Rule (stepped s 0 (slice_index s.words 0) id me.1 me.0 keeps)
   stays s id me at t =
       let one = t.one_word in
       let words : slice_set s.words 0 (slice_index s.words 0) ≡ s.words = set_itself s.words 0 (omega arith) in
@@ -65,10 +65,10 @@ module _ {B G E : Type 0} (root_of : B → G) (entries : B → List E) (maker : 
       record { given = stands.given; place = stands.place; extends = subst (λ l. Extends maker claim.number l current) (sym same) (Extends-itself maker claim.number current); met = omega arith; met_all = omega arith }
 
   -- what the seats know after a step of one of them
-  known : (s : State B (View G E)) (t : Rule s) (id : ℕ) (w : View G E) (current : List E) (holder : Option ℕ)
+  known : (s : State B (SeatView G E)) (t : Rule s) (id : ℕ) (w : SeatView G E) (current : List E) (holder : Option ℕ)
       → Knows maker r current t.count t.chief t.seat_of holder id w
-      → ((seat : ℕ) (v : View G E) → seat ≢ id → Knows maker r t.current t.count t.chief t.seat_of t.holder seat v → Knows maker r current t.count t.chief t.seat_of holder seat v)
-      → (seat : ℕ) (v : View G E) (g : G) → get_elem? (slice_set s.views id w) seat ≡ maybe.some v → v.root ≡ Some g → Knows maker r current t.count t.chief t.seat_of holder seat v
+      → ((seat : ℕ) (v : SeatView G E) → seat ≢ id → Knows maker r t.current t.count t.chief t.seat_of t.holder seat v → Knows maker r current t.count t.chief t.seat_of holder seat v)
+      → (seat : ℕ) (v : SeatView G E) (g : G) → get_elem? (slice_set s.views id w) seat ≡ maybe.some v → v.root ≡ Some g → Knows maker r current t.count t.chief t.seat_of holder seat v
   known s t id w current holder own others seat v g e rooted = ⊎_elim
       (λ (here, is). let P : ℕ → Type 0 = λ i. Knows maker r current t.count t.chief t.seat_of holder i v in
       subst P (sym here) (subst (Knows maker r current t.count t.chief t.seat_of holder id) is own))
@@ -76,7 +76,7 @@ module _ {B G E : Type 0} (root_of : B → G) (entries : B → List E) (maker : 
       (at_set s.views id seat w v e)
 
   -- the seat that has the turn still has it after a step that leaves that
-  pub holds_on : (s : State B (View G E)) (t : Rule s) (id : ℕ) (v w : View G E) → get_elem? s.views id ≡ maybe.some v → w.root ≡ Some r → (v.holds ≡ true → w.holds ≡ true)
+  pub holds_on : (s : State B (SeatView G E)) (t : Rule s) (id : ℕ) (v w : SeatView G E) → get_elem? s.views id ≡ maybe.some v → w.root ≡ Some r → (v.holds ≡ true → w.holds ≡ true)
       → (seat : ℕ) → t.holder ≡ Some seat → HasTurn r (slice_set s.views id w) seat
   holds_on s t id v w at rooted still seat told =
       let has = t.turn seat told in
@@ -87,14 +87,14 @@ module _ {B G E : Type 0} (root_of : B → G) (entries : B → List E) (maker : 
       (λ apart. record { view = has.view; there = set_else s.views id seat w apart ∙ has.there; root = has.root; holds = has.holds })
 
   -- take the turn
-  taken : (s : State B (View G E)) (t : Rule s) (n id : ℕ) (me : Me B (View G E)) (old new : ℕ) → new ≡ old + 1 → me.1 ≡ [] → me.0.taken ≡ [] → me.0.root ≡ Some r
+  taken : (s : State B (SeatView G E)) (t : Rule s) (n id : ℕ) (me : Me B (SeatView G E)) (old new : ℕ) → new ≡ old + 1 → me.1 ≡ [] → me.0.taken ≡ [] → me.0.root ≡ Some r
       → get_elem? s.views id ≡ maybe.some me.0 → AtHome root_of entries r t.current t.holder old (get_elem? s.homes 0) → (found : ℕ) → found ≡ old
-      → (w : View G E) × (a : Act B) × Valid s.homes me.1 a × Rule (stepped s 0 new id me.1 w a) × Takes root_of entries maker (step n 0 old new maybe.none) me found (w, carried_after me.1 a)
+      → (w : SeatView G E) × (a : Act B) × Valid s.homes me.1 a × Rule (stepped s 0 new id me.1 w a) × Takes root_of entries maker (step n 0 old new maybe.none) me found (w, carried_after me.1 a)
   taken s t n id me old new next idle single rooted at home found is =
       let knows = t.knows id me.0 r at rooted in
       let own : Stands maker t.count t.seat_of id t.current me.0.own = All-head (Stands maker t.count t.seat_of id t.current) me.0.own me.0.taken knows.claims in
       let long = ap length home.list in
-      let w : View G E = having_seen true (entries home.value) me.0 in
+      let w : SeatView G E = having_seen true (entries home.value) me.0 in
       let one = t.one_word in
       let slot = t.one_slot in
       let here = at_below s.views id me.0 at in
@@ -130,19 +130,19 @@ module _ {B G E : Type 0} (root_of : B → G) (entries : B → List E) (maker : 
         ),
       )
 
-  pub takes_turn : (n id : ℕ) (me : Me B (View G E)) (old new : ℕ) → old % 2 ≡ 0 → new ≡ old + 1 → me.1 ≡ [] → me.0.taken ≡ [] → me.0.root ≡ Some r
+  pub takes_turn : (n id : ℕ) (me : Me B (SeatView G E)) (old new : ℕ) → old % 2 ≡ 0 → new ≡ old + 1 → me.1 ≡ [] → me.0.taken ≡ [] → me.0.root ≡ Some r
       → Allows Rule n id me 0 (λ y. either (eqb y old) new y) (Takes root_of entries maker (step n 0 old new maybe.none) me)
   takes_turn n id me old new even next idle single rooted s t wide at fits =
       exchanged (slice_index s.words 0) old new
-      (λ x. (w : View G E) × (a : Act B) × Valid s.homes me.1 a × Rule (stepped s 0 x id me.1 w a) × Takes root_of entries maker (step n 0 old new maybe.none) me (slice_index s.words 0) (w, carried_after me.1 a))
+      (λ x. (w : SeatView G E) × (a : Act B) × Valid s.homes me.1 a × Rule (stepped s 0 x id me.1 w a) × Takes root_of entries maker (step n 0 old new maybe.none) me (slice_index s.words 0) (w, carried_after me.1 a))
       (λ hit. let p : Phase root_of entries r t.current t.holder old (get_elem? s.homes 0) = subst (λ x. Phase root_of entries r t.current t.holder x (get_elem? s.homes 0)) hit t.phase in
       taken s t n id me old new next idle single rooted at (at_home root_of entries r t.current t.holder old (get_elem? s.homes 0) even p) (slice_index s.words 0) hit)
       (λ miss. (me.0, keeps, tt, stays s id me at t, ((λ hit. absurd (miss hit)), (λ _. refl))))
 
   -- give it back
-  given_back : (s : State B (View G E)) (t : Rule s) (n id : ℕ) (v : View G E) (value : B) (word : ℕ) → word ≡ 2 * length (entries value)
+  given_back : (s : State B (SeatView G E)) (t : Rule s) (n id : ℕ) (v : SeatView G E) (value : B) (word : ℕ) → word ≡ 2 * length (entries value)
       → Returns root_of entries maker r v value → get_elem? s.views id ≡ maybe.some v
-      → (w : View G E) × (a : Act B) × Valid s.homes ((0, value) ∷ []) a × Rule (stepped s 0 word id ((0, value) ∷ []) w a)
+      → (w : SeatView G E) × (a : Act B) × Valid s.homes ((0, value) ∷ []) a × Rule (stepped s 0 word id ((0, value) ∷ []) w a)
       × Gives entries (step n 0 word 0 maybe.none) (v, (0, value) ∷ []) word (w, carried_after ((0, value) ∷ []) a)
   given_back s t n id v value word is back at =
       let knows = t.knows id v r at back.rooted in
@@ -150,7 +150,7 @@ module _ {B G E : Type 0} (root_of : B → G) (entries : B → List E) (maker : 
       let own : Stands maker t.count t.seat_of id t.current v.own = All-head (Stands maker t.count t.seat_of id t.current) v.own v.taken knows.claims in
       let list : List E = entries value in
       let grows : Grows maker (Some v.own.number) t.current list = subst (λ l. Grows maker (Some v.own.number) l list) has.1 back.grows in
-      let w : View G E = having_seen false list v in
+      let w : SeatView G E = having_seen false list v in
       let one = t.one_word in
       let slot = t.one_slot in
       let long = Grows-length maker (Some v.own.number) t.current list grows in
@@ -197,26 +197,26 @@ module _ {B G E : Type 0} (root_of : B → G) (entries : B → List E) (maker : 
         (λ i. (w, [])),
       )
 
-  pub gives_turn : (n id : ℕ) (v : View G E) (value : B) (word : ℕ) → word ≡ 2 * length (entries value) → Returns root_of entries maker r v value
+  pub gives_turn : (n id : ℕ) (v : SeatView G E) (value : B) (word : ℕ) → word ≡ 2 * length (entries value) → Returns root_of entries maker r v value
       → Allows Rule n id (v, (0, value) ∷ []) 0 (λ _. word) (λ _. Gives entries (step n 0 word 0 maybe.none) (v, (0, value) ∷ []) word)
   gives_turn n id v value word is back s t wide at fits = given_back s t n id v value word is back at
 
   -- The same, where the seat is known to hold the slot by an equation
-  pub gives_turn_as : (n id : ℕ) (me : Me B (View G E)) (value : B) (word : ℕ) → me.1 ≡ (0, value) ∷ [] → word ≡ 2 * length (entries value) → Returns root_of entries maker r me.0 value
+  pub gives_turn_as : (n id : ℕ) (me : Me B (SeatView G E)) (value : B) (word : ℕ) → me.1 ≡ (0, value) ∷ [] → word ≡ 2 * length (entries value) → Returns root_of entries maker r me.0 value
       → Allows Rule n id me 0 (λ _. word) (λ _. Gives entries (step n 0 word 0 maybe.none) me word)
   gives_turn_as n id me value word held is back =
       subst (λ (l : List (ℕ × B)). Allows Rule n id (me.0, l) 0 (λ _. word) (λ _. Gives entries (step n 0 word 0 maybe.none) (me.0, l) word)) (sym held) (gives_turn n id me.0 value word is back)
 
   -- look at the word
-  looked : (s : State B (View G E)) (t : Rule s) (n id : ℕ) (me : Me B (View G E)) → me.0.taken ≡ [] → me.0.root ≡ Some r → get_elem? s.views id ≡ maybe.some me.0
-      → (w : View G E) × (a : Act B) × Valid s.homes me.1 a × Rule (stepped s 0 (slice_index s.words 0) id me.1 w a)
+  looked : (s : State B (SeatView G E)) (t : Rule s) (n id : ℕ) (me : Me B (SeatView G E)) → me.0.taken ≡ [] → me.0.root ≡ Some r → get_elem? s.views id ≡ maybe.some me.0
+      → (w : SeatView G E) × (a : Act B) × Valid s.homes me.1 a × Rule (stepped s 0 (slice_index s.words 0) id me.1 w a)
       × Looks (step {S = B} n 0 0 0 maybe.none) me (slice_index s.words 0) (w, carried_after me.1 a)
   looked s t n id me single rooted at =
       let knows = t.knows id me.0 r at rooted in
       let own : Stands maker t.count t.seat_of id t.current me.0.own = All-head (Stands maker t.count t.seat_of id t.current) me.0.own me.0.taken knows.claims in
       let word : ℕ = slice_index s.words 0 in
       let length_is : word / 2 ≡ length t.current = half root_of entries r t.current t.holder word (get_elem? s.homes 0) t.phase in
-      let w : View G E = having_met (word / 2) me.0 in
+      let w : SeatView G E = having_met (word / 2) me.0 in
       let one = t.one_word in
       let here = at_below s.views id me.0 at in
       let same : slice_set s.words 0 word ≡ s.words = set_itself s.words 0 (omega arith) in
@@ -253,5 +253,5 @@ module _ {B G E : Type 0} (root_of : B → G) (entries : B → List E) (maker : 
         ((λ i. (w, me.1)), (let m = own.met in omega arith), omega arith),
       )
 
-  pub looks : (n id : ℕ) (me : Me B (View G E)) → me.0.taken ≡ [] → me.0.root ≡ Some r → Allows Rule n id me 0 (λ y. y) (Looks (step {S = B} n 0 0 0 maybe.none) me)
+  pub looks : (n id : ℕ) (me : Me B (SeatView G E)) → me.0.taken ≡ [] → me.0.root ≡ Some r → Allows Rule n id me 0 (λ y. y) (Looks (step {S = B} n 0 0 0 maybe.none) me)
   looks n id me single rooted s t wide at fits = looked s t n id me single rooted at

@@ -3,15 +3,15 @@ use Rattle.std.proofs.Common.{◌≡◌, ℕ, ◌⊎◌, Bool, true, false, List
 use lib.ListN.{get_elem?}
 use Rattle.atomic_table.specs.Table.{State}
 use Rattle.turn_lock.specs.declared.view.Claim.{Claim}
-use Rattle.turn_lock.specs.declared.view.View.{View}
+use Rattle.turn_lock.specs.declared.view.SeatView.{SeatView}
 use Rattle.turn_lock.specs.Turns.{Stands, Knows, Phase, Turns}
 use Rattle.turn_lock.specs.SeatViews.{claims_of}
 use Rattle.turn_lock.specs.OneHistory.{IsSeat, IsClaim, AtRest, InTurn, OneHistory}
 use Rattle.turn_lock.proofs.GrowthLemmas.{Extends-own}
 use Rattle.turn_lock.proofs.TableLemmas.{All-at}
 
-module _ {B G E : Type 0} (root_of : B → G) (entries : B → List E) (maker : E → ℕ) (r : G) (passes : ℕ) (s : State B (View G E)) (t : Turns root_of entries maker r passes s) where
-  knows_of : (seat : ℕ) (v : View G E) → IsSeat s seat v → Knows maker r t.current t.count t.chief t.seat_of t.holder seat v
+module _ {B G E : Type 0} (root_of : B → G) (entries : B → List E) (maker : E → ℕ) (r : G) (passes : ℕ) (s : State B (SeatView G E)) (t : Turns root_of entries maker r passes s) where
+  knows_of : (seat : ℕ) (v : SeatView G E) → IsSeat s seat v → Knows maker r t.current t.count t.chief t.seat_of t.holder seat v
   knows_of seat v is = t.knows seat v is.known.0 is.there is.known.1
 
   stands_of : (seat : ℕ) (claim : Claim E) → IsClaim s seat claim → Stands maker t.count t.seat_of seat t.current claim

@@ -1,4 +1,5 @@
-//! A lock whose threads can say afterwards that all that they did stands in one history.
+//! A mutex with a journal: its threads can say afterwards that all that they did stands in one history. A pass is a thread's ticket for the
+//! lock, and a turn the time in which it holds it.
 //!
 //! A `TurnLock` guards a value with a list of entries, a `Booked`. A thread acts on the value through a `Pass`, one
 //! thread at a time. A pass has a number and knows a beginning of the list, the part that it has seen. What a mutex

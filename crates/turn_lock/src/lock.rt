@@ -6,7 +6,7 @@ ghost use Rattle.turn_lock.specs.Turns.{Finds, Returns, held_list};
 ghost use Rattle.turn_lock.specs.SeatViews.{having_seen, first_view, claims_of};
 
 use crate::booked::Booked;
-use crate::turns::{Board, Dealing, Gathering, Giving, Looking, Place, Start, Taking};
+use crate::turns::{Board, Dealing, Gathering, Giving, Looking, SeatPlace, TableStart, Taking};
 use atomic_table::Refused;
 use std::alloc::{AllocError, Global};
 use std::hint::spin_loop;
@@ -50,7 +50,7 @@ impl<B: Booked> Model for TurnLock<B> {
 /// length that it has met, which is at least that list's.
 #[derive(Drop)]
 pub struct Pass<B: Booked> {
-    place: Place<B>,
+    place: SeatPlace<B>,
 }
 
 impl<B: Booked> Model for Pass<B> {
@@ -71,7 +71,7 @@ impl<B: Booked> Model for Pass<B> {
 
 impl<B: Booked> TurnLock<B> {
     // One try at the turn, where the word was seen to be `word`.
-    fn try_take(&self, place: &mut Place<B>, word: u64) -> bool
+    fn try_take(&self, place: &mut SeatPlace<B>, word: u64) -> bool
         requires of { (place.old.table_id ≡ self.now.table) × (place.old.me.0.root ≡ Some self.now.root) }
         requires idle { (place.old.me.1 ≡ []) × (place.old.me.0.taken ≡ []) }
         requires free { word % 2 ≡ 0 }
@@ -101,7 +101,7 @@ impl<B: Booked> TurnLock<B> {
     }
 
     // Waits for the turn.
-    fn take<R: Wait>(&self, rt: &R, place: &mut Place<B>)
+    fn take<R: Wait>(&self, rt: &R, place: &mut SeatPlace<B>)
         requires of { (place.old.table_id ≡ self.now.table) × (place.old.me.0.root ≡ Some self.now.root) }
         requires idle { (place.old.me.1 ≡ []) × (place.old.me.0.taken ≡ []) }
         ensures of { place.new.table_id ≡ place.old.table_id }
@@ -123,7 +123,7 @@ impl<B: Booked> TurnLock<B> {
     }
 
     // Gives the turn back, with the value where it lies and the number of its entries.
-    fn give(&self, place: &mut Place<B>, count: u32)
+    fn give(&self, place: &mut SeatPlace<B>, count: u32)
         requires of { place.old.table_id ≡ self.now.table }
         requires value { (value : B) × (place.old.me.1 ≡ (0, value) ∷ [])
             × Returns B.root B.entries B.maker self.now.root place.old.me.0 value }
@@ -176,7 +176,7 @@ impl<B: Booked> TurnLock<B> {
         alloc: Global,
         value: B,
         passes: u32,
-    ) -> Result<(TurnLock<B>, Place<B>), (B, AllocError)>
+    ) -> Result<(TurnLock<B>, SeatPlace<B>), (B, AllocError)>
         requires some { 1 ≤ passes }
         requires empty { B.entries value ≡ [] }
         ensures lock { IfOk result (λ made. (made.0.root ≡ B.root value) × (made.0.passes ≡ passes)) }
@@ -184,7 +184,7 @@ impl<B: Booked> TurnLock<B> {
             (made.1.table_id ≡ made.0.table) × (made.1.me ≡ (first_view (B.root value), []))) }
         ensures back { IfErr result (λ failed. failed.0 ≡ value) }
     {
-        let start = Start {
+        let start = TableStart {
             value: Snapshot::of(&value),
             passes,
         };
@@ -212,7 +212,7 @@ impl<B: Booked> TurnLock<B> {
     }
 
     // Makes the passes from the first seat on, each with the next number.
-    fn deal(&self, first: Place<B>, passes: u32, list: &mut Vec<Pass<B>>)
+    fn deal(&self, first: SeatPlace<B>, passes: u32, list: &mut Vec<Pass<B>>)
         requires count { (1 ≤ passes) × (passes ≡ self.now.passes) }
         requires first { (first.table_id ≡ self.now.table) × (first.me ≡ (first_view self.now.root, [])) }
         requires room { (list.old.items ≡ []) × (passes ≤ vec_capacity list.old) }
@@ -250,7 +250,7 @@ impl<B: Booked> TurnLock<B> {
     }
 
     // Joins the seats of all passes: one seat then speaks for them all.
-    fn gather(&self, mut passes: Vec<Pass<B>>) -> Place<B>
+    fn gather(&self, mut passes: Vec<Pass<B>>) -> SeatPlace<B>
         requires some { 1 ≤ self.now.passes }
         requires all { AreAll self.now passes.items }
         ensures of { (result.table_id ≡ self.now.table) × (result.me.0.root ≡ Some self.now.root) }

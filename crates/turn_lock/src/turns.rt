@@ -4,19 +4,19 @@ ghost use Rattle.turn_lock.specs.Turns.{Turns, Takes, Gives, Looks};
 ghost use Rattle.turn_lock.specs.SeatViews.{first_view, left_view, right_view, joined_view, spent_view};
 
 use crate::booked::Booked;
-use crate::view::View;
+use crate::view::SeatView;
 use atomic_table::{Join, Play, Seat, Split, Table, TableRule};
 use std::alloc::Global;
 use std::marker::PhantomData;
 use std::snapshot::Snapshot;
 
 /// What the table is told when it is made: the value as it was then, and the number of passes.
-pub struct Start<B> {
+pub struct TableStart<B> {
     pub value: Snapshot<B>,
     pub passes: u32,
 }
 
-impl<B> Drop for Start<B> {
+impl<B> Drop for TableStart<B> {
     fn drop(self) {
         let Self {
             value: _,
@@ -25,15 +25,15 @@ impl<B> Drop for Start<B> {
     }
 }
 
-pub type Known<B> = View<<B as Booked>::Root, <B as Booked>::Entry>;
+pub type Known<B> = SeatView<<B as Booked>::Root, <B as Booked>::Entry>;
 
-pub type Board<B> = Table<B, Known<B>, Start<B>, Turning<B>, Global>;
+pub type Board<B> = Table<B, Known<B>, TableStart<B>, Turning<B>, Global>;
 
-pub type Place<B> = Seat<B, Known<B>>;
+pub type SeatPlace<B> = Seat<B, Known<B>>;
 
 pub struct Turning<B>(PhantomData<B>);
 
-impl<B: Booked> TableRule<B, Known<B>, Start<B>> for Turning<B> {
+impl<B: Booked> TableRule<B, Known<B>, TableStart<B>> for Turning<B> {
     ghost holds = { λ key. Turns B.root B.entries B.maker (B.root key.value.value) key.passes };
 
     ghost first = { λ key. first_view (B.root key.value.value) };

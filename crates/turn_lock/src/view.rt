@@ -9,7 +9,7 @@ pub struct Claim<E> {
 }
 
 /// What a seat knows. A seat that was joined away has no root, and nothing is said of it any more.
-pub struct View<G, E> {
+pub struct SeatView<G, E> {
     pub root: Option<G>,
     pub own: Claim<E>,
     // The claims of the seats that were joined to it.

@@ -1,6 +1,6 @@
 -- One more corner keeps the path pulled, and once the goal is seen it is taut.
 use Rattle.std.proofs.Common.{◌+◌, List, sym, subst}
-use Rattle.mesh_types.specs.declared.corner.Corner.{Corner}
+use Rattle.mesh_types.specs.declared.answers.Corner.{Corner}
 use Rattle.mesh_types.specs.Chains.{IsBehind, portal_at}
 use Rattle.funnel_path.proofs.NextLaws.{end_behind, named_coordinates, next_step}
 use Rattle.funnel_path.proofs.PullLaws.{IsPulled, pulled_more, pulled_taut}

@@ -1,4 +1,3 @@
-use Rattle.std.proofs.Common.{arith}
 use Rattle.agent_erode.proofs.RunLaws.{ends_rise, run_between}
 use Rattle.agent_erode.proofs.windows.run_of.Goals as goal
 

@@ -1,7 +1,7 @@
 -- The points of the jumps so far have coordinates.
 use Rattle.std.proofs.Common.{ℕ, ◌<◌, get_or}
 use Rattle.mesh_types.specs.Stretches.{some_jump}
-use Rattle.off_links.specs.Leaps.{HasJumpCoordinates}
+use Rattle.off_links.specs.OffMeshLinks.{HasJumpCoordinates}
 use Rattle.bench_hops.proofs.asking.have_coordinates.Given as goal
 
 abbrev pub invariant-loop-jump : goal.invariant-loop-jump

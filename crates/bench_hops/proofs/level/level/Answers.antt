@@ -8,7 +8,7 @@ use Rattle.nav_book.proofs.GroundTiles.{are_tiles}
 use Rattle.bench_hops.proofs.level.level.Goals as goal
 
 pub joined-requires-clause-tiles : goal.joined-requires-clause-tiles
-joined-requires-clause-tiles g c = rw (c.in_ok-tiles.ensures.tiles) (are_tiles c.args.whole.now [] c.requires.ground (All-nil IsShape))
+joined-requires-clause-tiles g c = rw (c.in_ok-tiles.ensures.tiles) (are_tiles c.args.ground.now [] c.requires.ground (All-nil IsShape))
 
 pub returns-clause-setting : goal.returns-clause-setting
 unfolding mesh_of

@@ -2,10 +2,10 @@ use Rattle.std.proofs.Common.{◌≡◌, List, ℕ, ap, ◌∙◌, subst, sym}
 use Rattle.std.proofs.lemmas.Result.{IfOk-weaker}
 use Rattle.nav_ground.specs.declared.cell.Cell.{Cell}
 use Rattle.cell_table.specs.Table.{neighbour_table}
-use Rattle.mesh_types.specs.declared.tile.TileMesh.{TileMesh}
+use Rattle.mesh_types.specs.declared.mesh.TileMesh.{TileMesh}
 use Rattle.mesh_types.specs.Regions.{AreRegionsOf, regions_of}
 use Rattle.mesh_types.specs.FitTiles.{IsFit}
-use Rattle.mono_regions.specs.declared.strip_table.StripTable.{StripTable}
+use Rattle.mono_regions.specs.declared.touching.StripTable.{StripTable}
 use Rattle.mono_regions.specs.Joining.{IsTableOf}
 use Rattle.contour_mesh.specs.Outcomes.{IfMade}
 use Rattle.contour_mesh.specs.SharedEdges.{OutlinesShareEdges}

@@ -1,7 +1,7 @@
 use Rattle.std.proofs.Common.{◌∙◌, List, Option, Some, ap, refl, subst, sym}
 use Rattle.std.specs.Prelude.{All, IfSome}
-use Rattle.mesh_types.specs.declared.door.Part.{Part}
-use Rattle.mesh_types.specs.declared.tile.TileMesh.{TileMesh}
+use Rattle.mesh_types.specs.declared.region.RegionPart.{RegionPart}
+use Rattle.mesh_types.specs.declared.mesh.TileMesh.{TileMesh}
 use Rattle.mesh_types.specs.Passages.{AreTwoWay, ListsCrossings}
 use Rattle.mesh_types.specs.Regions.{AreRegionsOf}
 use Rattle.mesh_types.specs.FitTiles.{IsFit}
@@ -40,7 +40,7 @@ mesh-requires-clause-window c = window_fits c.args.setting.now c.args.free.tile 
 
 pub mesh-requires-clause-parts : goal.mesh-requires-clause-parts
 mesh-requires-clause-parts c =
-    let P : Option (List Part) → Type 0 = λ found. IfSome found (All IsCutPart) in
+    let P : Option (List RegionPart) → Type 0 = λ found. IfSome found (All IsCutPart) in
     subst (All IsCutPart) (sym c.as_slice.ensures) (subst P c.in-Some.is c.in_ok-parts.ensures.each)
 
 -- the parts as they were handed over
@@ -48,19 +48,19 @@ pub mesh-requires-clause-each : goal.mesh-requires-clause-each
 mesh-requires-clause-each c =
     no_more_parts c.args.setting.now c.args.free c.requires.cells c.requires.tile c.args.regions.now c.requires.regions c.args.tables.regions.window
     c.requires.window c.as_slice-cells.result.now c.as_slice-cells.ensures c.as_slice.result.now
-    (ap (λ (parts : List Part). Some parts) c.as_slice.ensures ∙ sym c.in-Some.is ∙ c.in_ok-parts.ensures.value)
+    (ap (λ (parts : List RegionPart). Some parts) c.as_slice.ensures ∙ sym c.in-Some.is ∙ c.in_ok-parts.ensures.value)
 
 pub mesh-requires-clause-few : goal.mesh-requires-clause-few
 mesh-requires-clause-few c =
     few_polygons c.args.setting.now c.args.free c.requires.cells c.requires.tile c.args.regions.now c.requires.regions c.args.tables.regions.window
     c.requires.window c.as_slice-cells.result.now c.as_slice-cells.ensures c.as_slice.result.now
-    (ap (λ (parts : List Part). Some parts) c.as_slice.ensures ∙ sym c.in-Some.is ∙ c.in_ok-parts.ensures.value)
+    (ap (λ (parts : List RegionPart). Some parts) c.as_slice.ensures ∙ sym c.in-Some.is ∙ c.in_ok-parts.ensures.value)
 
 pub returns-in_ok-mesh-in-Some-clause-value : goal.returns-in_ok-mesh-in-Some-clause-value
 returns-in_ok-mesh-in-Some-clause-value c =
     mesh_is c.args.setting.now c.args.free c.requires.cells c.requires.tile c.args.regions.now c.requires.regions c.args.tables.regions.window
     c.requires.window c.as_slice-cells.result.now c.as_slice-cells.ensures c.as_slice.result.now c.in_ok-mesh-in-Some.mesh c.requires.all
-    (ap (λ (parts : List Part). Some parts) c.as_slice.ensures ∙ sym c.in-Some.is ∙ c.in_ok-parts.ensures.value)
+    (ap (λ (parts : List RegionPart). Some parts) c.as_slice.ensures ∙ sym c.in-Some.is ∙ c.in_ok-parts.ensures.value)
     (c.in_ok-mesh-in-Some.ensures c.args.setting.now c.requires.window)
 
 pub returns-in_ok-mesh-in-Some-clause-fit : goal.returns-in_ok-mesh-in-Some-clause-fit

@@ -1,6 +1,6 @@
 use Rattle.std.proofs.Common.{◌≡◌, List, subst}
 use Rattle.std.specs.Prelude.{IfOk}
-use Rattle.mesh_types.specs.declared.tile.RimEdge.{RimEdge}
+use Rattle.mesh_types.specs.declared.mesh.RimEdge.{RimEdge}
 use Rattle.contour_mesh.proofs.RimLaws.{rim_is}
 use Rattle.contour_mesh.proofs.build.rim.Goals as goal
 

@@ -1,5 +1,5 @@
 use Rattle.std.proofs.Common.{ap, arith, length}
-use Rattle.mesh_types.specs.declared.door.Part.{Part}
+use Rattle.mesh_types.specs.declared.region.RegionPart.{RegionPart}
 use Rattle.contour_mesh.proofs.DoorSteps.{doors_end, doors_more, few_polygons}
 use Rattle.contour_mesh.proofs.doors.doors.Goals as goal
 
@@ -12,13 +12,13 @@ pub overflow_cast-polygon : goal.overflow_cast-polygon
 overflow_cast-polygon c =
     let few = few_polygons c.args.parts.now c.loop-region.region c.loop-region.polygon c.index-parts-region-in-loop-region.result c.loop-region.doors.items
     c.loop-region-test.true c.index-parts-region-in-loop-region.is c.loop-region.invariant c.requires.polygons in
-    omega (arith, few, c.len.ensures, ap (λ (p : Part). length p.pieces) c.index-parts-region-in-loop-region.is)
+    omega (arith, few, c.len.ensures, ap (λ (p : RegionPart). length p.pieces) c.index-parts-region-in-loop-region.is)
 
 pub overflow_add-polygon : goal.overflow_add-polygon
 overflow_add-polygon c =
     let few = few_polygons c.args.parts.now c.loop-region.region c.loop-region.polygon c.index-parts-region-in-loop-region.result c.loop-region.doors.items
     c.loop-region-test.true c.index-parts-region-in-loop-region.is c.loop-region.invariant c.requires.polygons in
-    omega (arith, few, c.len.ensures, ap (λ (p : Part). length p.pieces) c.index-parts-region-in-loop-region.is)
+    omega (arith, few, c.len.ensures, ap (λ (p : RegionPart). length p.pieces) c.index-parts-region-in-loop-region.is)
 
 pub loop-region-preserved : goal.loop-region-preserved
 loop-region-preserved c =

@@ -2,7 +2,7 @@ use Rattle.std.proofs.Common.{◌∙◌, ◌++◌, [], Option, ap, get_or}
 use Rattle.std.specs.Option.{option_map}
 use Rattle.std.specs.List.{cons_option, filter_map}
 use Rattle.std.proofs.lemmas.List.{take_all}
-use Rattle.mesh_types.specs.declared.door.Door.{Door}
+use Rattle.mesh_types.specs.declared.region.PortalEdge.{PortalEdge}
 use Rattle.mesh_types.specs.Doors.{door_link, link_through}
 use Rattle.contour_mesh.proofs.FacingLaws.{facing_is, meets_sorted, no_door}
 use Rattle.contour_mesh.proofs.Steps.{one_more_found}
@@ -17,7 +17,7 @@ loop-door-preserved c =
     one_more_found (link_through c.args.tile c.args.doors.now) c.args.doors.now c.loop-door.door-index no_door c.loop-door.links.items c.push_link.new.links.items
     c.loop-door-test.true c.loop-door.invariant
     (c.in_ok-push_link.ensures
-    ∙ ap (λ (o : Option Door). c.loop-door.links.items ++ cons_option (option_map (door_link c.args.tile (get_or c.args.doors.now c.loop-door.door-index no_door)) o) [])
+    ∙ ap (λ (o : Option PortalEdge). c.loop-door.links.items ++ cons_option (option_map (door_link c.args.tile (get_or c.args.doors.now c.loop-door.door-index no_door)) o) [])
     (c.facing.ensures ∙ facing_is c.args.doors.now c.args.by_begin.now (get_or c.args.doors.now c.loop-door.door-index no_door) c.requires.order (c.requires.meet c.loop-door.door-index no_door c.loop-door-test.true)))
 
 pub facing-requires-clause-order : goal.facing-requires-clause-order

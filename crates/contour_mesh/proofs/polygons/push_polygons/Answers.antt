@@ -1,7 +1,7 @@
 use Rattle.std.proofs.Common.{◌≡◌, ℕ, ◌<◌, ◌∙◌, ◌++◌, List, length, get_or, map, ap, arith, subst, sym}
 use Rattle.std.proofs.lemmas.List.{take_all}
-use Rattle.mesh_types.specs.declared.door.Part.{Part}
-use Rattle.mesh_types.specs.declared.outline.Piece.{Piece}
+use Rattle.mesh_types.specs.declared.region.RegionPart.{RegionPart}
+use Rattle.mesh_types.specs.declared.region.Piece.{Piece}
 use Rattle.mesh_types.specs.Merging.{IsPieceOf}
 use Rattle.contour_mesh.specs.Footings.{polygon_over}
 use Rattle.contour_mesh.specs.Parts.{IsCutPart}
@@ -9,7 +9,7 @@ use Rattle.contour_mesh.proofs.Steps.{one_more_made}
 use Rattle.contour_mesh.proofs.polygons.push_polygons.Goals as goal
 
 -- a piece that is looked up is a piece of the outline
-piece_fits : (part : Part) (lent : List Piece) (number : ℕ) (d : Piece) → IsCutPart part → lent ≡ part.pieces → number < length lent
+piece_fits : (part : RegionPart) (lent : List Piece) (number : ℕ) (d : Piece) → IsCutPart part → lent ≡ part.pieces → number < length lent
     → IsPieceOf part.outline.corners (get_or lent number d)
 piece_fits part lent number d cut same there =
     subst (λ (pieces : List Piece). IsPieceOf part.outline.corners (get_or pieces number d)) (sym same) (cut.pieces number d (omega (arith, there, ap length same)))

@@ -1,5 +1,5 @@
 use Rattle.std.proofs.Common.{◌≡◌, ◌++◌, map, take}
-use Rattle.mesh_types.specs.declared.outline.Piece.{Piece}
+use Rattle.mesh_types.specs.declared.region.Piece.{Piece}
 use Rattle.contour_mesh.specs.Footings.{polygon_over}
 use Rattle.contour_mesh.proofs.polygons.push_polygons.Given as goal
 

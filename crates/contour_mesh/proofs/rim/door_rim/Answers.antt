@@ -1,8 +1,10 @@
 use Rattle.std.proofs.Common.{ℕ, ◌∙◌, ◌++◌, [], List, Option, ap, get_or, sym}
+use Rattle.std.specs.Prelude.{option_map}
 use Rattle.std.specs.List.{flat_map}
 use Rattle.std.specs.Option.{option_map_or}
 use Rattle.std.proofs.lemmas.List.{append-nil, take_all}
-use Rattle.mesh_types.specs.declared.tile.RimEdge.{RimEdge}
+use Rattle.nav_ground.specs.Directions.{number}
+use Rattle.mesh_types.specs.declared.mesh.RimEdge.{RimEdge}
 use Rattle.contour_mesh.specs.RimTables.{entries_in, entries_on}
 use Rattle.contour_mesh.proofs.FacingLaws.{no_door}
 use Rattle.contour_mesh.proofs.Steps.{one_more_gathered}
@@ -17,8 +19,8 @@ loop-door-preserved c =
     one_more_gathered (entries_in c.args.window.now c.args.tables.now) c.args.doors.now c.loop-door.door-index no_door before _ c.loop-door-test.true
     c.loop-door.invariant
     (elim c.match-side_of.branch [
-      | in-Some+in_ok-push_entries w ↦ (λ i. (w.rim-is i).items) ∙ w.in_ok-push_entries.ensures ∙ ap listed (sym w.in-Some.is ∙ c.side_of.ensures.value)
-      | in_default w ↦ (λ i. (w.rim-is i).items) ∙ sym (append-nil before) ∙ ap listed (sym w.in_default.is ∙ c.side_of.ensures.value)
+      | in-Some+in_ok-push_entries w ↦ (λ i. (w.rim-is i).items) ∙ w.in_ok-push_entries.ensures ∙ ap listed (ap (option_map number) (sym w.in-Some.is) ∙ c.side_of.ensures)
+      | in_default w ↦ (λ i. (w.rim-is i).items) ∙ sym (append-nil before) ∙ ap listed (ap (option_map number) (sym w.in_default.is) ∙ c.side_of.ensures)
     ])
 
 pub returns : goal.returns

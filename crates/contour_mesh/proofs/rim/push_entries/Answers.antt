@@ -1,14 +1,15 @@
 use Rattle.std.proofs.Common.{◌++◌, List, map, length, ap, ◌∙◌, arith, subst, sym, Option, ℕ, ◌≡◌}
 use Rattle.std.specs.Prelude.{All}
 use Rattle.std.proofs.lemmas.Result.{on_ok_weaker}
-use Rattle.mesh_types.specs.declared.label_runs.Run.{Run}
+use Rattle.nav_ground.specs.Directions.{number}
+use Rattle.mesh_types.specs.declared.region.LabelRun.{LabelRun}
 use Rattle.mesh_types.specs.Runs.{runs_of}
 use Rattle.mesh_types.proofs.RunLaws.{IsRunOf, runs_are_runs}
 use Rattle.contour_mesh.specs.RimTables.{entry_in}
 use Rattle.contour_mesh.proofs.rim.push_entries.Goals as goal
 
 -- the runs that are found are runs of the labels
-runs_inside : (labels : List (Option ℕ)) (found : List Run) → found ≡ runs_of labels → All (IsRunOf labels) found
+runs_inside : (labels : List (Option ℕ)) (found : List LabelRun) → found ≡ runs_of labels → All (IsRunOf labels) found
 runs_inside labels found is = subst (All (IsRunOf labels)) (sym is) (runs_are_runs labels)
 
 pub runs-requires : goal.runs-requires
@@ -25,6 +26,6 @@ pub returns : goal.returns
 returns c =
     on_ok_weaker c.push_runs.result
     (λ is. is
-    ∙ ap (λ (parts : List Run). c.args.rim.now.items ++ map (entry_in c.args.on.tables.now c.args.on.door.now c.args.on.side) parts)
+    ∙ ap (λ (parts : List LabelRun). c.args.rim.now.items ++ map (entry_in c.args.on.tables.now c.args.on.door.now (number c.args.on.side)) parts)
     (c.as_slice-2.ensures.value ∙ c.in_ok-parts.ensures ∙ ap runs_of (c.as_slice.ensures.value ∙ c.in_ok-label_positions.ensures.value)))
     c.push_runs.ensures

@@ -6,11 +6,11 @@ use Rattle.contour_simplify.proofs.kept.kept_corners.Goals as goal
 
 pub loop-run-preserved : goal.loop-run-preserved
 loop-run-preserved c =
-    let there : c.loop-run.run + 1 < length c.args.stops.now = omega (arith, c.loop-run-test.true) in
-    runs_more (left_of_run c.args.error c.args.round.now) c.args.stops.now c.loop-run.run c.loop-run.corners.items c.push_run.new.corners.items there
+    let there : c.loop-run.run + 1 < length c.args.kept_round.now = omega (arith, c.loop-run-test.true) in
+    runs_more (left_of_run c.args.error c.args.round.now) c.args.kept_round.now c.loop-run.run c.loop-run.corners.items c.push_run.new.corners.items there
     c.loop-run.invariant c.in_ok-push_run.ensures
 
 pub returns : goal.returns
 returns c =
     c.loop-run.invariant
-    ∙ ap (flat_map (left_of_run c.args.error c.args.round.now)) (runs_all c.args.stops.now c.loop-run.run c.loop-run-test.false)
+    ∙ ap (flat_map (left_of_run c.args.error c.args.round.now)) (runs_all c.args.kept_round.now c.loop-run.run c.loop-run-test.false)

@@ -6,4 +6,4 @@ use Rattle.contour_simplify.proofs.kept.kept_corners.Given as goal
 
 -- what the runs so far leave
 abbrev pub invariant-loop-run : goal.invariant-loop-run
-invariant-loop-run l = l.corners.items ≡ flat_map (left_of_run l.error l.round) (take l.run (runs_between l.stops))
+invariant-loop-run l = l.corners.items ≡ flat_map (left_of_run l.error l.round) (take l.run (runs_between l.kept_round))

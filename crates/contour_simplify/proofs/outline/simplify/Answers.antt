@@ -10,7 +10,7 @@ use Rattle.mesh_types.specs.LinkOrder.{is_point_before}
 use Rattle.mesh_types.specs.Simplified.{begins_among, kept_edges, kept_corners}
 use Rattle.mesh_types.specs.Words.{codes_of}
 use Rattle.mesh_types.proofs.LinkOrderLaws.{points_order}
-use Rattle.contour_simplify.proofs.Rising.{stops_are}
+use Rattle.contour_simplify.proofs.Rising.{kept_round_are}
 use Rattle.contour_simplify.proofs.Outlines.{nothing_left, simplified_is, same_among, flat_if, corners_inside, outline_is}
 use Rattle.contour_simplify.proofs.outline.simplify.Goals as goal
 
@@ -26,10 +26,10 @@ returns-then-is_empty-clause-outline c = outline_is c.args.error c.args.edges.no
 pub kept_corners-requires-clause-inside : goal.kept_corners-requires-clause-inside
 kept_corners-requires-clause-inside c = rw (c.as_slice.ensures.value, c.in_ok-round.ensures) (corners_inside c.args.edges.now c.requires)
 
-pub kept_corners-requires-clause-stops : goal.kept_corners-requires-clause-stops
-kept_corners-requires-clause-stops c =
+pub kept_corners-requires-clause-kept_round : goal.kept_corners-requires-clause-kept_round
+kept_corners-requires-clause-kept_round c =
     let some : 0 < length c.args.edges.now = omega (arith, eqb-false (length c.args.edges.now) 0 (sym c.if-is_empty.ensures)) in
-    rw (c.as_slice.ensures.value, c.in_ok-round.ensures, c.as_slice-2.ensures.value, c.in_ok-stops.ensures) (stops_are c.args.edges.now c.requires some)
+    rw (c.as_slice.ensures.value, c.in_ok-round.ensures, c.as_slice-2.ensures.value, c.in_ok-kept_round.ensures) (kept_round_are c.args.edges.now c.requires some)
 
 pub outline-requires : goal.outline-requires
 outline-requires c =
@@ -41,7 +41,7 @@ returns-clause-value c =
     let edges : List UnitEdge = c.args.edges.now in
     let sorted : List Point = c.as_slice-3.result.now in
     let kept : c.in_ok-kept.kept.items ≡ kept_corners c.args.error edges =
-    c.in_ok-kept.ensures ∙ rw (c.as_slice.ensures.value, c.in_ok-round.ensures, c.as_slice-2.ensures.value, c.in_ok-stops.ensures) refl in
+    c.in_ok-kept.ensures ∙ rw (c.as_slice.ensures.value, c.in_ok-round.ensures, c.as_slice-2.ensures.value, c.in_ok-kept_round.ensures) refl in
     let permuted : IsPermutation (kept_corners c.args.error edges) sorted = rw (← kept, c.as_slice-3.ensures.value) c.sort_unstable_by.ensures.permutation in
     let same : filter (begins_among sorted) edges ≡ kept_edges c.args.error edges = same_among c.args.error edges sorted permuted in
     c.simplified.ensures

@@ -1,13 +1,13 @@
 use Rattle.std.proofs.Common.{List, ◌∷◌, [], ◌++◌, length, ◌∙◌, sym}
 use Rattle.nav_base.specs.declared.point.Point.{Point}
 use Rattle.mesh_types.specs.Simplified.{origin, kept_walking}
-use Rattle.contour_simplify.specs.declared.run.Half.{Half}
+use Rattle.contour_simplify.specs.declared.run.RunHalf.{RunHalf}
 use Rattle.contour_simplify.proofs.Halving.{smaller, less_on_stack, walked_split, walked_straight, parts_corners, rest_of, straight}
 use Rattle.contour_simplify.proofs.run.walk.Goals as goal
 
 pub loop-half-smaller-in-Continue-branch-2 : goal.loop-half-smaller-in-Continue-branch-2
 loop-half-smaller-in-Continue-branch-2 c =
-    let half : Half = c.in-Some.half in
+    let half : RunHalf = c.in-Some.half in
     let parts = c.in_ok-push_parts-in-Some-split.ensures origin in
     rw (parts.pushed, c.in-Some.ensures.items)
     (less_on_stack c.pop.new.self.items half parts.before parts.after
@@ -15,8 +15,8 @@ loop-half-smaller-in-Continue-branch-2 c =
 
 pub loop-half-preserved-in-Continue-branch-2 : goal.loop-half-preserved-in-Continue-branch-2
 loop-half-preserved-in-Continue-branch-2 c =
-    let half : Half = c.in-Some.half in
-    let rest : List Half = c.pop.new.self.items in
+    let half : RunHalf = c.in-Some.half in
+    let rest : List RunHalf = c.pop.new.self.items in
     let all : List Point = kept_walking (length c.args.inner.now) c.args.error c.args.first c.args.inner.now c.args.last ++ c.args.last ∷ [] in
     let parts = c.in_ok-push_parts-in-Some-split.ensures origin in
     record {
@@ -28,8 +28,8 @@ loop-half-preserved-in-Continue-branch-2 c =
 
 pub loop-half-preserved : goal.loop-half-preserved
 loop-half-preserved c =
-    let half : Half = c.in-Some.half in
-    let rest : List Half = c.pop.new.self.items in
+    let half : RunHalf = c.in-Some.half in
+    let rest : List RunHalf = c.pop.new.self.items in
     let all : List Point = kept_walking (length c.args.inner.now) c.args.error c.args.first c.args.inner.now c.args.last ++ c.args.last ∷ [] in
     record {
       told = rw c.in_ok-push-in-None.ensures.items (walked_straight c.args.error c.loop-half.kept.items rest half all

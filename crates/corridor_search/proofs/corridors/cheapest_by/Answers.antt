@@ -2,9 +2,9 @@ use Rattle.std.proofs.Common.{◌*◌, ◌≤◌, List, All, Contains, length, a
 use Rattle.std.specs.Prelude.{Option, IfSome, IfNone}
 use Rattle.std.specs.Option.{option_copied}
 use Rattle.std.proofs.lemmas.Nat.{mul-le}
-use Rattle.graph_search.specs.declared.arcs.Vertex.{Vertex}
-use Rattle.graph_search.specs.declared.arcs.Step.{Step}
-use Rattle.graph_search.specs.declared.arcs.Walk.{Walk}
+use Rattle.graph_search.specs.declared.graph.Vertex.{Vertex}
+use Rattle.graph_search.specs.declared.graph.Step.{Step}
+use Rattle.graph_search.specs.declared.graph.Walk.{Walk}
 use Rattle.graph_search.specs.Walks as graph
 use Rattle.corridor_search.specs.MeshGraphs.{IsOver, vertex_of, vertices_of, arcs_from, link_of}
 use Rattle.corridor_search.proofs.Vertices.{there-contains}

@@ -1,6 +1,6 @@
 use Rattle.std.proofs.Common.{◌∙◌, ap, map, sym}
 use Rattle.std.proofs.lemmas.List.{map_more, take_all}
-use Rattle.graph_search.specs.declared.arcs.Step.{Step}
+use Rattle.graph_search.specs.declared.graph.Step.{Step}
 use Rattle.corridor_search.specs.MeshGraphs.{link_of}
 use Rattle.corridor_search.proofs.corridors.links_along.Goals as goal
 

@@ -1,7 +1,7 @@
 use Rattle.std.proofs.Common.{◌≡◌, ◌++◌, List, map, append_assoc, ap, sym, ◌∙◌}
 use Rattle.std.proofs.lemmas.List.{map-append}
 use Rattle.std.proofs.lemmas.Result.{on_ok_weaker}
-use Rattle.graph_search.specs.declared.arcs.Vertex.{Vertex}
+use Rattle.graph_search.specs.declared.graph.Vertex.{Vertex}
 use Rattle.corridor_search.specs.MeshGraphs.{inner_links, outer_links, end_of, vertex_of}
 use Rattle.corridor_search.proofs.Searchable.{ends-over}
 use Rattle.corridor_search.proofs.mesh_graph.push_link_ends.Goals as goal

@@ -5,7 +5,7 @@ use Rattle.std.specs.Int.Signed.{lt_z}
 use Rattle.std.proofs.lemmas.List.FromFn.{length-range_with_len}
 use Rattle.nav_base.specs.declared.point.Point.{Point}
 use Rattle.std.proofs.lemmas.List.Edits.{length-remove}
-use Rattle.mesh_types.specs.declared.outline.Triangle.{Triangle}
+use Rattle.mesh_types.specs.declared.region.Triangle.{Triangle}
 use Rattle.mesh_types.specs.Ears.{ArePlacesOf, ears_of, cut_ears, turn_of, triangle_at, best_ear}
 use Rattle.mesh_types.proofs.EarLaws.{after, all_places, places-remove, cut-begun, cut-more, cut-none, cut-last, cut-last_none, ears_of-triangles}
 use Rattle.mesh_types.proofs.AreaLaws.{ears_of-area}

@@ -2,9 +2,9 @@ use Rattle.std.proofs.Common.{◌≡◌, ℕ, ◌+◌, ◌*◌, ◌≤◌, ◌�
 use Rattle.std.specs.Prelude.{All, Option, Some, IfSome}
 use Rattle.std.specs.List.Sorted.{IsPermutation}
 use Rattle.std.proofs.lemmas.Result.{IfOk-from_err}
-use Rattle.graph_search.specs.declared.arcs.Vertex.{Vertex}
+use Rattle.graph_search.specs.declared.graph.Vertex.{Vertex}
 use Rattle.graph_search.specs.declared.visits.Visit.{Visit}
-use Rattle.graph_search.specs.declared.entry.Entry.{Entry}
+use Rattle.graph_search.specs.declared.radix_heap.HeapEntry.{HeapEntry}
 use Rattle.graph_search.specs.Visited.{visit_at, IsClosed}
 use Rattle.graph_search.specs.Entries.{Queue}
 use Rattle.graph_search.specs.Searching.{IsKnown}
@@ -14,15 +14,15 @@ use Rattle.graph_search.proofs.Turns.{between-begun, work-dropped, between-dropp
 use Rattle.graph_search.proofs.search.cheapest_walk.Goals as goal
 
 -- what is said of the entry that was taken
-taken_of : (found : Option Entry) (first : Entry) (old new : List Entry) → found ≡ Some first → IfSome found (λ e. IsPermutation old (e ∷ new)) → IsPermutation old (first ∷ new)
-taken_of found first old new is held = subst (λ (f : Option Entry). IfSome f (λ e. IsPermutation old (e ∷ new))) is held
+taken_of : (found : Option HeapEntry) (first : HeapEntry) (old new : List HeapEntry) → found ≡ Some first → IfSome found (λ e. IsPermutation old (e ∷ new)) → IsPermutation old (first ∷ new)
+taken_of found first old new is held = subst (λ (f : Option HeapEntry). IfSome f (λ e. IsPermutation old (e ∷ new))) is held
 
-least_of : (found : Option Entry) (first : Entry) (old : List Entry) → found ≡ Some first → IfSome found (λ e. All (λ (other : Entry). e.key ≤ other.key) old)
-    → All (λ (other : Entry). first.key ≤ other.key) old
-least_of found first old is held = subst (λ (f : Option Entry). IfSome f (λ e. All (λ (other : Entry). e.key ≤ other.key) old)) is held
+least_of : (found : Option HeapEntry) (first : HeapEntry) (old : List HeapEntry) → found ≡ Some first → IfSome found (λ e. All (λ (other : HeapEntry). e.key ≤ other.key) old)
+    → All (λ (other : HeapEntry). first.key ≤ other.key) old
+least_of found first old is held = subst (λ (f : Option HeapEntry). IfSome f (λ e. All (λ (other : HeapEntry). e.key ≤ other.key) old)) is held
 
-last_of : (found : Option Entry) (first : Entry) (last : ℕ) → found ≡ Some first → IfSome found (λ e. last ≡ e.key) → last ≡ first.key
-last_of found first last is held = subst (λ (f : Option Entry). IfSome f (λ e. last ≡ e.key)) is held
+last_of : (found : Option HeapEntry) (first : HeapEntry) (last : ℕ) → found ≡ Some first → IfSome found (λ e. last ≡ e.key) → last ≡ first.key
+last_of found first last is held = subst (λ (f : Option HeapEntry). IfSome f (λ e. last ≡ e.key)) is held
 
 pub loop-ends-init : goal.loop-ends-init
 loop-ends-init g c =

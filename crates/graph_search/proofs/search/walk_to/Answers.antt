@@ -1,6 +1,6 @@
 use Rattle.std.proofs.Common.{◌≡◌, Bool, true, false, not, ◌++◌, ◌∷◌, [], List, length, ap, ◌∙◌, refl, sym, subst, arith}
 use Rattle.std.proofs.lemmas.List.{length-append, length-reverse}
-use Rattle.graph_search.specs.declared.arcs.Step.{Step}
+use Rattle.graph_search.specs.declared.graph.Step.{Step}
 use Rattle.graph_search.specs.declared.visits.Visit.{Visit}
 use Rattle.graph_search.specs.Visited.{visit_at, IsClosed}
 use Rattle.graph_search.proofs.Writing.{apart_if, same_if}

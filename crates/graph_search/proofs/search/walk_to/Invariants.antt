@@ -1,6 +1,6 @@
 use Rattle.std.proofs.Common.{◌+◌, ◌≤◌, List, length}
-use Rattle.graph_search.specs.declared.arcs.Vertex.{Vertex}
-use Rattle.graph_search.specs.declared.arcs.Arc.{Arc}
+use Rattle.graph_search.specs.declared.graph.Vertex.{Vertex}
+use Rattle.graph_search.specs.declared.graph.Arc.{Arc}
 use Rattle.graph_search.specs.Visited.{visit_at, IsClosed}
 use Rattle.graph_search.specs.Searching.{IsTree}
 use Rattle.graph_search.proofs.WayBack.{IsWayTo}

@@ -3,7 +3,7 @@ use Rattle.std.specs.Prelude.{◌&&◌}
 use Rattle.std.specs.List.{list_all}
 use Rattle.std.proofs.lemmas.List.FromFn.{length-map-range_with_len}
 use Rattle.mesh_types.specs.StripPolygons.{strip_runs}
-use Rattle.mono_regions.specs.declared.seen.Seen.TheVariants.{Nothing}
+use Rattle.mono_regions.specs.declared.touching.SeenStrips.TheVariants.{Nothing}
 use Rattle.mono_regions.specs.Seeing.{is_one}
 use Rattle.mono_regions.specs.Joining.{indices_of, touched_from, is_fitting, has_area_of}
 use Rattle.mono_regions.proofs.Touches.{joins_where}

@@ -1,6 +1,6 @@
 use Rattle.std.proofs.Common.{◌≡◌, ap, ◌∙◌, sym, refl, arith}
 use Rattle.std.proofs.lemmas.Bool.{eq-eqb}
-use Rattle.mono_regions.specs.declared.seen.Seen.TheVariants.{Nothing, One, Several}
+use Rattle.mono_regions.specs.declared.touching.SeenStrips.TheVariants.{Nothing, One, Several}
 use Rattle.mono_regions.specs.Seeing.{is_one, touched_by}
 use Rattle.mono_regions.specs.Joining.{touched_from}
 use Rattle.mono_regions.proofs.JoinLaws.{one_small, joined_one, joined_else, joined_unseen}

@@ -20,11 +20,11 @@ unreachable-requires g c =
 pub returns-clause-text : goal.returns-clause-text
 returns-clause-text g c =
     elim c.match-end.branch [
-      | in-Ok w ↦ subst (λ r. IfOk r (λ text. LiveRecord c.args.lock.root.level c.args.run.now.script.now text.items)) (sym w.text-is)
+      | in-Ok w ↦ subst (λ r. IfOk r (λ text. LiveRecord c.args.lock.root.ground c.args.run.now.script.now text.items)) (sym w.text-is)
           (record_of (λ text. text.items) w.finish-text.result c.args.lock c.args.run.now.script.now c.args.left c.close-book.result.book w.deref_mut.result.now
           c.args.left.texts.items (has_left c.args.end w.in-Ok.is c.requires.well)
           (is_closed c.args.lock c.args.left.passes.items c.close-book.result.book.state.history c.close-book.ensures.legal
           c.close-book.ensures.extends c.close-book.ensures.made) c.close-book.ensures.root w.deref_mut.ensures.value refl
           w.finish-text.ensures.text w.finish-text.ensures.seen)
-      | in-Err+in-NoMemory w ↦ subst (λ r. IfOk r (λ text. LiveRecord c.args.lock.root.level c.args.run.now.script.now text.items)) (sym w.text-is) tt
+      | in-Err+in-NoMemory w ↦ subst (λ r. IfOk r (λ text. LiveRecord c.args.lock.root.ground c.args.run.now.script.now text.items)) (sym w.text-is) tt
     ]

@@ -9,7 +9,7 @@ use Rattle.nav_play.proofs.run.begin.Goals as goal
 pub returns-clause-state : goal.returns-clause-state
 returns-clause-state g c =
     c.in_ok-opened.ensures.state
-    ∙ ap (λ (whole : Ground). opening_state whole c.args.script.now.lanes c.args.script.now.workers) c.in_ok-level.ensures.value
+    ∙ ap (λ (ground : Ground). opening_state ground c.args.script.now.lanes c.args.script.now.workers) c.in_ok-level.ensures.value
 
 pub returns-in_err-level-clause-most : goal.returns-in_err-level-clause-most
 returns-in_err-level-clause-most g c = no_step _ _

@@ -3,8 +3,8 @@ use Rattle.nav_ground.specs.declared.history.Ground.{Ground}
 use Rattle.nav_ground.specs.Grounds.{IsGround}
 use Rattle.tile_build.specs.Meshes.{tiles_under}
 use Rattle.std.proofs.lemmas.List.{length-replicate}
-use Rattle.nav_desk.specs.BookState.{first_state}
-use Rattle.nav_book.specs.declared.result.TileResult.{TileResult}
+use Rattle.build_queue.specs.BookState.{first_state}
+use Rattle.nav_book.specs.declared.book.TileResult.{TileResult}
 use Rattle.nav_play.proofs.Arms.{no_jumps}
 use Rattle.nav_play.proofs.Held.{held_none}
 use Rattle.nav_play.proofs.Playing.{begun_state}
@@ -35,4 +35,4 @@ pub begin-requires-clause-level : goal.begin-requires-clause-level
 begin-requires-clause-level g c = subst IsGround (sym c.in_ok-new.ensures.ok) c.requires.level
 
 pub begin-requires-clause-tiles : goal.begin-requires-clause-tiles
-begin-requires-clause-tiles g c = c.requires.tiles ∙ ap (λ (whole : Ground). tiles_under whole []) (sym c.in_ok-new.ensures.ok)
+begin-requires-clause-tiles g c = c.requires.tiles ∙ ap (λ (ground : Ground). tiles_under ground []) (sym c.in_ok-new.ensures.ok)

@@ -1,6 +1,6 @@
 use Rattle.std.proofs.Common.{sym, subst}
 use Rattle.std.proofs.lemmas.Result.{IfOk-weaker}
-use Rattle.nav_base.specs.declared.answers.Question.{Question}
+use Rattle.nav_base.specs.declared.point.Question.{Question}
 use Rattle.mesh_types.specs.declared.answers.Answer.{Answer}
 use Rattle.mesh_types.specs.Right.{AreAlike, IsRight, IsRightPath, IsRightRay}
 use Rattle.mesh_types.proofs.RightLaws.{alike}

@@ -1,6 +1,6 @@
 use Rattle.std.proofs.Common.{ap, ◌∙◌, Err, subst}
-use Rattle.nav_run.proofs.AnswerLaws.{no_fault}
-use Rattle.nav_run.proofs.InputLaws.{runnable_of}
+use Rattle.top_call.proofs.AnswerLaws.{no_fault}
+use Rattle.top_call.proofs.InputLaws.{runnable_of}
 use Rattle.navd_scene.specs.Drawn.{IsLineOf}
 use Rattle.navd_scene.proofs.Ends.{line_right}
 use Rattle.navd_scene.proofs.course.due_for.Goals as goal

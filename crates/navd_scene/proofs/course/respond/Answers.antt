@@ -1,6 +1,6 @@
 use Rattle.std.proofs.Common.{Err, ap, ◌∙◌}
 use Rattle.std.proofs.KnownBytes.{Keeps-refl}
-use Rattle.nav_run.proofs.TopLaws.{took_within, took_many, took_all}
+use Rattle.top_call.proofs.TopLaws.{took_within, took_many, took_all}
 use Rattle.navd_scene.proofs.Ends.{drawn_run, long_run, refused_run}
 use Rattle.navd_scene.proofs.course.respond.Goals as goal
 

@@ -8,7 +8,7 @@ use Rattle.nav_ground.specs.declared.cell.CellRef.{CellRef}
 use Rattle.nav_ground.specs.Cells.{IsCell}
 use Rattle.nav_ground.specs.FreeCells.{free_cell_of}
 use Rattle.obstacle_mark.specs.Places.{next_kept, ArePassed}
-use Rattle.obstacle_mark.specs.declared.places.Passed.{Passed}
+use Rattle.obstacle_mark.specs.declared.places.PassedPlaces.{PassedPlaces}
 use Rattle.obstacle_mark.proofs.Blocked.{area_beside, no_cell}
 use Rattle.obstacle_mark.proofs.FreeCellsLeft.{all_unpassed, free_cell_left, one_more_free, one_more_blocked_cell, passed_after}
 use Rattle.obstacle_mark.proofs.free.free_cells.Goals as goal
@@ -63,7 +63,7 @@ loop-i-preserved c =
             ap (λ (v : Vec Cell). v.items) w.free-is ∙ w.in_ok-push.ensures.items
             ∙ one_more_free taken cells shapes i no_cell area c.loop-i.free.items _ c.loop-i-test.true is_left is_free_cell (c.loop-i.invariant.free taken shapes left places);
         passed = λ j d later there.
-            let P : Passed → Type 0 = λ (p : Passed). ArePassed blocked p (get_or cells j d).at in
+            let P : PassedPlaces → Type 0 = λ (p : PassedPlaces). ArePassed blocked p (get_or cells j d).at in
             subst P (sym w.passed-is)
             (passed_after cells blocked w.free_cell.new.passed i no_cell c.requires.cells c.loop-i-test.true
             (subst (λ (own : Cell). ArePassed blocked w.free_cell.new.passed own.at) item w.free_cell.ensures.passed) j d later there);
@@ -75,7 +75,7 @@ loop-i-preserved c =
             ∙ one_more_blocked_cell taken cells shapes i no_cell c.loop-i.free.items c.loop-i-test.true
             (sym beside ∙ none_where (get_or areas i None) w.in_default.not-Some) (c.loop-i.invariant.free taken shapes left places);
         passed = λ j d later there.
-            let P : Passed → Type 0 = λ (p : Passed). ArePassed blocked p (get_or cells j d).at in
+            let P : PassedPlaces → Type 0 = λ (p : PassedPlaces). ArePassed blocked p (get_or cells j d).at in
             subst P (sym w.passed-is) (c.loop-i.invariant.passed j d (omega (arith, later)) there);
       }
     ]

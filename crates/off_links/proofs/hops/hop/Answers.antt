@@ -1,6 +1,6 @@
 use Rattle.std.proofs.Common.{List, subst}
 use Rattle.std.proofs.lemmas.Result.{IfOk-weaker}
-use Rattle.mesh_types.specs.declared.hops.Jump.{Jump}
+use Rattle.mesh_types.specs.declared.answers.Jump.{Jump}
 use Rattle.mesh_types.specs.Hops.{IsHopRight}
 use Rattle.mesh_types.proofs.HopLaws.{alike_hops, as_path}
 use Rattle.off_links.proofs.hops.hop.Goals as goal

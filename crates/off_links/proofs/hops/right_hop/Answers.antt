@@ -1,9 +1,9 @@
 use Rattle.std.proofs.Common.{List, [], length, ap, refl, sym, subst, arith}
-use Rattle.mesh_types.specs.declared.hops.Jump.{Jump}
-use Rattle.mesh_types.specs.declared.hops.HopStep.{HopStep}
+use Rattle.mesh_types.specs.declared.answers.Jump.{Jump}
+use Rattle.mesh_types.specs.declared.answers.HopStep.{HopStep}
 use Rattle.mesh_types.specs.Hops.{HopsTo}
 use Rattle.mesh_types.specs.Stretches.{AreTautIn, stretches_from}
-use Rattle.off_links.specs.Leaps.{AreJumps}
+use Rattle.off_links.specs.OffMeshLinks.{AreJumps}
 use Rattle.off_links.specs.HopGraphs.{HasNoHops, IsCheapestHops}
 use Rattle.off_links.proofs.Polygons.{located_there}
 use Rattle.off_links.proofs.hops.right_hop.Goals as goal

@@ -1,6 +1,6 @@
 use Rattle.std.proofs.Common.{◌+◌, ◌<◌, ◌++◌, List, All, map, ap, sym, subst, ◌∙◌}
 use Rattle.std.proofs.lemmas.Result.{on_ok_weaker}
-use Rattle.mesh_types.specs.declared.corner.Corner.{Corner}
+use Rattle.mesh_types.specs.declared.answers.Corner.{Corner}
 use Rattle.mesh_types.specs.Stretches.{counted_from}
 use Rattle.off_links.proofs.Stretches.{counted_few}
 use Rattle.off_links.proofs.pulling.push_turns.Goals as goal

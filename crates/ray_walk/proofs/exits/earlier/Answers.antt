@@ -1,7 +1,7 @@
 use Rattle.std.proofs.Common.{subst}
 use Rattle.std.specs.Prelude.{Option}
 use Rattle.std.proofs.lemmas.Bool.{iff_false}
-use Rattle.ray_walk.specs.declared.ray.Exit.{Exit}
+use Rattle.ray_walk.specs.declared.raycast.Exit.{Exit}
 use Rattle.ray_walk.specs.Walking.{IsFirstBefore}
 use Rattle.ray_walk.proofs.ExitLaws.{not_exit, first_found, taken, left}
 use Rattle.ray_walk.proofs.exits.earlier.Goals as goal

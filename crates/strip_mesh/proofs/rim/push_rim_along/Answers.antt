@@ -1,7 +1,7 @@
 use Rattle.std.proofs.Common.{◌++◌, List, map, length, ap, ◌∙◌, arith}
 use Rattle.std.proofs.lemmas.List.{take_all, length-map}
 use Rattle.nav_ground.specs.declared.cell.Cell.{Cell}
-use Rattle.mesh_types.specs.declared.label_runs.Run.{Run}
+use Rattle.mesh_types.specs.declared.region.LabelRun.{LabelRun}
 use Rattle.mesh_types.specs.Runs.{runs_of, label_if}
 use Rattle.mesh_types.specs.Crossings.{is_crossing}
 use Rattle.mesh_types.specs.StripRim.{rim_edge}
@@ -47,6 +47,6 @@ pub returns : goal.returns
 returns c =
     let strips = c.args.of.strips.now in
     c.loop-part.invariant
-    ∙ ap (λ (parts : List Run). c.args.rim.now.items ++ map (rim_edge c.args.of.strip c.args.edge (run_in strips c.args.of.strip)) parts)
+    ∙ ap (λ (parts : List LabelRun). c.args.rim.now.items ++ map (rim_edge c.args.of.strip c.args.edge (run_in strips c.args.of.strip)) parts)
     (take_all c.loop-part.part-index c.as_slice-parts.result.now c.loop-part-test.false
     ∙ c.as_slice-parts.ensures.value ∙ c.in_ok-parts.ensures ∙ ap runs_of (c.as_slice.ensures.value ∙ c.in_ok-label_crossing.ensures))

@@ -1,5 +1,5 @@
 use Rattle.std.proofs.Common.{sym, subst}
-use Rattle.mesh_types.specs.declared.tile.TileMesh.{TileMesh}
+use Rattle.mesh_types.specs.declared.mesh.TileMesh.{TileMesh}
 use Rattle.tile_links.specs.Across.{AreAcross}
 use Rattle.tests_mesh.specs.TwoTiles.{left_tile, right_tile}
 use Rattle.tests_mesh.proofs.HandTiles.{AreAcross-left, AreAcross-right}

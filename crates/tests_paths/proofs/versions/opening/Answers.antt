@@ -1,5 +1,5 @@
 use Rattle.std.proofs.Common.{[], ◌∙◌, rules, sym}
-use Rattle.nav_level.proofs.GroundTiles.{whole_build}
+use Rattle.nav_book.proofs.GroundTiles.{whole_build}
 use Rattle.nav_book.proofs.Opening.{opening_is}
 use Rattle.tests_paths.proofs.versions.opening.Goals as goal
 

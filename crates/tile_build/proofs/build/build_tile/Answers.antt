@@ -3,7 +3,7 @@ use Rattle.nav_ground.specs.declared.cell.FreeLayer.{FreeLayer}
 use Rattle.nav_ground.specs.Cells.{IsInTile}
 use Rattle.std.proofs.lemmas.Result.{IfOk-weaker}
 use Rattle.nav_ground.specs.Touching.{touching_shapes}
-use Rattle.mesh_types.specs.declared.tile.TileMesh.{TileMesh}
+use Rattle.mesh_types.specs.declared.mesh.TileMesh.{TileMesh}
 use Rattle.mesh_types.specs.Builds.{tile_mesh_of}
 use Rattle.mesh_types.specs.ContourMeshes.{mesh_of_free}
 use Rattle.mesh_types.specs.Passages.{AreTwoWay, LinksConnected, ListsCrossings}

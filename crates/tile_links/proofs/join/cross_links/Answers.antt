@@ -1,9 +1,6 @@
 use Rattle.tile_links.specs.Loose.{loose_over}
-use Rattle.tile_links.proofs.KeptLinks.{four_sides, none_known}
+use Rattle.tile_links.proofs.KeptLinks.{none_known}
 use Rattle.tile_links.proofs.join.cross_links.Goals as goal
-
-pub links_with-requires-clause-sides : goal.links_with-requires-clause-sides
-links_with-requires-clause-sides c = four_sides
 
 pub links_with-requires-clause-others : goal.links_with-requires-clause-others
 links_with-requires-clause-others c =

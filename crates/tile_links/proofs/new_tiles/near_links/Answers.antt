@@ -1,16 +1,11 @@
-use Rattle.std.proofs.Common.{ℕ, ◌<◌, [], ap, ◌∙◌, sym, subst}
-use Rattle.std.specs.Prelude.{All}
+use Rattle.std.proofs.Common.{[], map, ap, ◌∙◌, sym, subst}
 use Rattle.std.specs.List.{filter, flat_map, range_with_len}
+use Rattle.nav_ground.specs.Directions.{number}
 use Rattle.tile_links.specs.KeptLinks.{leads_to_old, old_sides}
 use Rattle.tile_links.specs.Loose.{loose_over, HasGained}
 use Rattle.tile_links.specs.NewTiles.{is_new_across}
-use Rattle.tile_links.proofs.KeptLinks.{others_gained, sides_below}
+use Rattle.tile_links.proofs.KeptLinks.{others_gained}
 use Rattle.tile_links.proofs.new_tiles.near_links.Goals as goal
-
-pub links_with-requires-clause-sides : goal.links_with-requires-clause-sides
-links_with-requires-clause-sides c =
-    subst (All (λ (side : ℕ). side < 4)) (sym (c.as_slice-2.ensures.value ∙ c.in_ok-sides.ensures))
-    (sides_below c.args.tiled.setting.now c.args.news.now c.args.tile.now.tile)
 
 pub links_with-requires-clause-others : goal.links_with-requires-clause-others
 links_with-requires-clause-others c =
@@ -20,6 +15,6 @@ links_with-requires-clause-others c =
     let f = loose_over setting c.args.tiled.tiles.now tile in
     let held = c.requires.old (sym c.is_new.ensures ∙ c.if-is_new.false) in
     let kept = c.in_ok-kept.ensures ∙ ap (filter (leads_to_old news)) c.as_slice.ensures.value in
-    others_gained f (is_new_across setting news tile.tile) (range_with_len 0 4) c.in_ok-kept.kept.items (flat_map f c.as_slice-2.result.now)
+    others_gained f (is_new_across setting news tile.tile) (range_with_len 0 4) c.in_ok-kept.kept.items (flat_map f (map number c.as_slice-2.result.now))
     (subst (HasGained [] (flat_map f (old_sides setting news tile.tile))) (sym kept) held)
-    (ap (flat_map f) (c.as_slice-2.ensures.value ∙ c.in_ok-sides.ensures))
+    (ap (flat_map f) (ap (map number) c.as_slice-2.ensures.value ∙ c.in_ok-sides.ensures))

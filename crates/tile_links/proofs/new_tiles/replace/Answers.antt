@@ -1,6 +1,6 @@
 use Rattle.std.proofs.Common.{List, sym, subst}
 use Rattle.std.specs.Prelude.{All}
-use Rattle.mesh_types.specs.declared.tile.TileMesh.{TileMesh}
+use Rattle.mesh_types.specs.declared.mesh.TileMesh.{TileMesh}
 use Rattle.mesh_types.specs.Passages.{AreTwoWay}
 use Rattle.tile_links.specs.NewTiles.{New, tiles_after}
 use Rattle.tile_links.proofs.new_tiles.replace.Goals as goal

@@ -1,5 +1,5 @@
 use Rattle.std.proofs.Common.{◌≡◌, ℕ, ◌<◌, get_or}
-use Rattle.mesh_types.specs.declared.tile.RimEdge.{RimEdge}
+use Rattle.mesh_types.specs.declared.mesh.RimEdge.{RimEdge}
 use Rattle.tile_links.proofs.portals.rim_line.Given as goal
 
 -- none of the entries so far runs along the side

@@ -1,5 +1,5 @@
 use Rattle.std.proofs.Common.{◌+◌, List, filter, get_or, ap, ◌∙◌}
-use Rattle.mesh_types.specs.declared.tile.LevelPair.{LevelPair}
+use Rattle.mesh_types.specs.declared.mesh.LevelPair.{LevelPair}
 use Rattle.tile_links.specs.RimPlaces.{some_pair, is_at_place}
 use Rattle.tile_links.proofs.rim.places_across.Goals as goal
 

@@ -1,7 +1,7 @@
 use Rattle.std.proofs.Common.{◌+◌, ◌++◌, List, ap, ◌∙◌}
 use Rattle.std.specs.List.{flat_map}
 use Rattle.nav_ground.specs.Cells.{opposite}
-use Rattle.tile_links.specs.declared.place.Place.{Place}
+use Rattle.tile_links.specs.declared.rim.RimPlace.{RimPlace}
 use Rattle.tile_links.specs.Loose.{place_links, run_links}
 use Rattle.tile_links.specs.RimPlaces.{pair_of}
 use Rattle.tile_links.proofs.LooseLinks.{one_more_gathered}
@@ -23,4 +23,4 @@ loop-place-preserved c =
     one_more_gathered (place_links a b c.args.border.side entry c.args.places.now) place c.args.links.now.items
     c.loop-place.links.items c.push_place_links.new.links.items c.loop-place.invariant
     (c.in_ok-push_place_links.ensures
-    ∙ ap (λ (found : List Place). c.loop-place.links.items ++ flat_map (run_links a b c.args.border.side entry place) found) c.places_across-across.ensures)
+    ∙ ap (λ (found : List RimPlace). c.loop-place.links.items ++ flat_map (run_links a b c.args.border.side entry place) found) c.places_across-across.ensures)

@@ -1,7 +1,7 @@
 use Rattle.std.proofs.Common.{◌++◌, [], List, map, length, get_or, ap, ◌∙◌, arith}
 use Rattle.std.specs.List.{cons_option}
 use Rattle.mesh_types.specs.BorderLinks.{border_link}
-use Rattle.mesh_types.specs.declared.tile.RimEdge.{RimEdge}
+use Rattle.mesh_types.specs.declared.mesh.RimEdge.{RimEdge}
 use Rattle.tile_links.specs.Loose.{run_at, run_links}
 use Rattle.tile_links.specs.RimPlaces.{entry_of}
 use Rattle.tile_links.proofs.LooseLinks.{one_more_taken}

@@ -5,7 +5,7 @@ use Rattle.std.proofs.lemmas.List.{length_push}
 use Rattle.std.proofs.lemmas.List.Elements.{All-drop}
 use Rattle.std.proofs.lemmas.List.Sorted.{IsNonDecreasingBy-drop}
 use Rattle.nav_ground.specs.declared.field.Span.{Span}
-use Rattle.tri_rows.specs.declared.shadow.Shadow.{Shadow}
+use Rattle.tri_raster.specs.declared.triangle.Shadow.{Shadow}
 use Rattle.tri_raster.specs.Columns.{IsUpright, IsLimited, IsTopArea}
 use Rattle.tri_raster.proofs.GroupLaws.{HasGroups, IsByBottoms, groups_none, groups_more, groups_exceed, groups_all, group_small, next_span}
 use Rattle.tri_raster.proofs.group.push_groups.Goals as goal

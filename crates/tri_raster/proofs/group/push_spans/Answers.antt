@@ -1,6 +1,6 @@
 use Rattle.std.proofs.Common.{List, subst, sym}
 use Rattle.std.specs.Prelude.{All}
-use Rattle.tri_rows.specs.declared.shadow.Shadow.{Shadow}
+use Rattle.tri_raster.specs.declared.triangle.Shadow.{Shadow}
 use Rattle.tri_raster.specs.Columns.{IsUpright, IsLimited}
 use Rattle.tri_raster.specs.Sweeps.{HasPushed}
 use Rattle.tri_raster.proofs.GroupLaws.{pushed_for, upright_for, limited_for}

@@ -1,8 +1,8 @@
 use Rattle.std.proofs.Common.{◌<◌, [], ◌∷◌, ◌++◌, length, get_or, subst, arith}
 use Rattle.std.proofs.lemmas.List.{get_or_default}
-use Rattle.tri_rows.specs.declared.shadow.Shadow.{Shadow}
-use Rattle.tri_rows.specs.Bounds.{bound_at}
-use Rattle.tri_rows.specs.Rows.{shadow_of}
+use Rattle.tri_raster.specs.declared.triangle.Shadow.{Shadow}
+use Rattle.tri_raster.specs.Bounds.{bound_at}
+use Rattle.tri_raster.specs.Rows.{shadow_of}
 use Rattle.tri_raster.specs.Columns.{StandFor}
 use Rattle.tri_raster.proofs.SweepLaws.{added_none, added_more, added_all}
 use Rattle.tri_raster.proofs.sweep.add_shadows.Goals as goal

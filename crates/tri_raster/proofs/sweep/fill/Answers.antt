@@ -1,6 +1,6 @@
 use Rattle.std.proofs.Common.{◌≡◌, ℕ, ◌+◌, ◌<◌, List, [], ◌∷◌, ◌++◌, length, get_or, take, sym, subst, ◌∙◌, arith}
 use Rattle.std.proofs.lemmas.List.{take_more, take_all}
-use Rattle.tri_rows.specs.declared.triangle.Tri.{Tri}
+use Rattle.tri_raster.specs.declared.triangle.Tri.{Tri}
 use Rattle.tri_raster.specs.Columns.{AreKept}
 use Rattle.tri_raster.specs.Sweeps.{column_at, AreAdded}
 use Rattle.tri_raster.proofs.ActiveLaws.{no_tri}

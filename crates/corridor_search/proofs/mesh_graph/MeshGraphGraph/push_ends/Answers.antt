@@ -1,7 +1,7 @@
 use Rattle.std.proofs.Common.{◌++◌, List, map, ap, ◌∙◌}
 use Rattle.std.proofs.lemmas.Result.{on_ok_weaker}
 use Rattle.mesh_types.specs.declared.links.PolyRef.{PolyRef}
-use Rattle.graph_search.specs.declared.arcs.Vertex.{Vertex}
+use Rattle.graph_search.specs.declared.graph.Vertex.{Vertex}
 use Rattle.corridor_search.specs.MeshGraphs.{links_from, end_of, polygon_of}
 use Rattle.corridor_search.proofs.Searchable.{ends-are}
 use Rattle.corridor_search.proofs.mesh_graph.MeshGraphGraph.push_ends.Goals as goal

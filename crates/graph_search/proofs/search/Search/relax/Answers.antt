@@ -2,8 +2,8 @@ use Rattle.std.proofs.Common.{◌≡◌, ℕ, List, [], ◌++◌, length, get_or
 use Rattle.std.proofs.Math.ListN.{get_or-map}
 use Rattle.std.proofs.lemmas.List.{length-map}
 use Rattle.std.proofs.lemmas.Result.{IfOk-from_err}
-use Rattle.graph_search.specs.declared.arcs.Arc.{Arc}
-use Rattle.graph_search.specs.declared.arcs.Vertex.{Vertex}
+use Rattle.graph_search.specs.declared.graph.Arc.{Arc}
+use Rattle.graph_search.specs.declared.graph.Vertex.{Vertex}
 use Rattle.graph_search.specs.Walks.{no_arc, ends_of}
 use Rattle.graph_search.specs.Visited.{visit_at}
 use Rattle.graph_search.specs.Searching.{AreBeingRelaxed}

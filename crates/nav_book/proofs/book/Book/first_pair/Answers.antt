@@ -2,7 +2,7 @@ use Rattle.std.proofs.Common.{◌∙◌, ap, rules}
 use Rattle.std.specs.Prelude.{replicate}
 use Rattle.std.specs.Arc.{arc_value}
 use Rattle.nav_version.specs.Pairs.{eye_of}
-use Rattle.nav_level.specs.Results.{published_mesh}
+use Rattle.nav_book.specs.LevelResults.{published_mesh}
 use Rattle.nav_book.proofs.Opening.{opening_is}
 use Rattle.nav_book.proofs.book.Book.first_pair.Goals as goal
 

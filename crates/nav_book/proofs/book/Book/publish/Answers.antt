@@ -1,9 +1,9 @@
 use Rattle.std.proofs.Common.{◌∙◌, ap, subst, sym}
 use Rattle.std.specs.Prelude.{slice_range}
 use Rattle.mesh_types.specs.Soundness.{IsSound}
-use Rattle.nav_desk.specs.BookState.{BookState}
-use Rattle.nav_desk.specs.Steps.{after_publish}
-use Rattle.nav_level.specs.Results.{target_mesh}
+use Rattle.build_queue.specs.BookState.{BookState}
+use Rattle.build_queue.specs.Steps.{after_publish}
+use Rattle.nav_book.specs.LevelResults.{target_mesh}
 use Rattle.nav_book.proofs.Showing.{is_next, shown_next}
 use Rattle.nav_book.proofs.book.Book.publish.Goals as goal
 

@@ -1,7 +1,7 @@
 use Rattle.std.proofs.Common.{◌≡◌, ◌++◌, List, Some, length, drop, ap, sym, subst, ◌∙◌, rules}
 use Rattle.std.proofs.lemmas.List.{take_rest}
 use Rattle.nav_ground.specs.declared.history.Entry.{Entry}
-use Rattle.nav_version.specs.declared.shown.Shown.{Shown}
+use Rattle.nav_version.specs.declared.version.PublishedVersion.{PublishedVersion}
 use Rattle.nav_version.specs.Pairs.{PressView}
 use Rattle.nav_version.specs.VersionRule.{IsKept}
 use Rattle.nav_version.proofs.PressLaws.{GoesOn-grown, IsKept-grown, IsShown-grown, all_added, left_behind}
@@ -9,7 +9,7 @@ use Rattle.nav_version.proofs.press.Press.show.Goals as goal
 
 pub show-shown-requires-clause-is : goal.show-shown-requires-clause-is
 show-shown-requires-clause-is g c =
-    let next : Shown = record { version = c.args.next; told = c.told-told.result } in
+    let next : PublishedVersion = record { version = c.args.next; told = c.told-told.result } in
     let before = c.self.inside.stage.told in
     let is : c.self.inside.ahead ≡ Some c.in-Some.ahead = search rules in
     let begun : c.args.more ≡ c.in-Some.ahead ++ drop (length c.in-Some.ahead) c.args.more = search rules in
@@ -23,7 +23,7 @@ show-shown-requires-clause-is g c =
 
 pub show-shown-requires-clause-goes_on : goal.show-shown-requires-clause-goes_on
 show-shown-requires-clause-goes_on g c =
-    let next : Shown = record { version = c.args.next; told = c.told-told.result } in
+    let next : PublishedVersion = record { version = c.args.next; told = c.told-told.result } in
     GoesOn-grown c.self.inside.stage next c.self.inside.history c.add.new.self c.self.inside.ahead c.self.invariant c.add.ensures.pair c.add.ensures.begins
     c.told-told.ensures (c.requires.ground ∙ ap (λ (press : PressView). press.ground) (sym c.self.view_is))
 

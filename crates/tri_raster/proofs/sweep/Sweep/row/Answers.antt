@@ -3,11 +3,11 @@ use Rattle.std.specs.Prelude.{All}
 use Rattle.std.proofs.lemmas.List.Elements.{All-weaker}
 use Rattle.std.proofs.lemmas.Result.{on_ok_weaker}
 use Rattle.nav_ground.specs.declared.setting.Setting.{Setting}
-use Rattle.tri_rows.specs.declared.bound.Bound.{Bound}
-use Rattle.tri_rows.specs.declared.shadow.Shadow.{Shadow}
-use Rattle.tri_rows.specs.declared.triangle.Tri.{Tri}
-use Rattle.tri_rows.specs.Rows.{MeetsRow}
-use Rattle.tri_rows.specs.Triangles.{IsTriangle}
+use Rattle.tri_raster.specs.declared.triangle.Bound.{Bound}
+use Rattle.tri_raster.specs.declared.triangle.Shadow.{Shadow}
+use Rattle.tri_raster.specs.declared.triangle.Tri.{Tri}
+use Rattle.tri_raster.specs.Rows.{MeetsRow}
+use Rattle.tri_raster.specs.Triangles.{IsTriangle}
 use Rattle.tri_raster.specs.ActiveRows.{BeginIn, reaches_row}
 use Rattle.tri_raster.specs.Columns.{IsUpright, IsLimited, AreKept}
 use Rattle.tri_raster.specs.Sweeps.{column_at, AreEmpty, IsAtRow, IsRowOf, HasRow, IsBeforeRow}

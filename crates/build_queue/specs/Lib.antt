@@ -1,0 +1,12 @@
+pub mod Bounds
+pub mod Flags
+pub mod Words
+pub mod SameShapes
+pub mod LiveTable
+pub mod BookState
+pub mod Steps
+pub mod Waiting
+pub mod Awaiting
+pub mod Representation
+pub mod Renewal
+pub mod StepContracts

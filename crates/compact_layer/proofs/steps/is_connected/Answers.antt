@@ -1,5 +1,0 @@
-use Rattle.std.proofs.Common.{rules}
-use Rattle.compact_layer.proofs.steps.is_connected.Goals as goal
-
-pub returns-else-a-floor : goal.returns-else-a-floor
-returns-else-a-floor c = search rules

@@ -1,5 +1,0 @@
-use Rattle.std.proofs.Common.{rules}
-use Rattle.ear_cut.proofs.triangle.is_not_right.Goals as goal
-
-pub returns : goal.returns
-returns c = search rules

@@ -1,5 +1,0 @@
-use Rattle.std.proofs.Common.{rules}
-use Rattle.ear_cut.proofs.triangle.runs_counterclockwise.Goals as goal
-
-pub returns : goal.returns
-returns c = search rules

@@ -1,7 +1,0 @@
--- Each part of the difference is small enough for its type.
-use Rattle.std.proofs.Common.{arith}
-use Rattle.std.proofs.lemmas.Int.{to_z-of_z}
-use Rattle.nav_base.proofs.vector.Vector.between.Goals as goal
-
-pub returns-clause-value : goal.returns-clause-value
-returns-clause-value c = grind (arith, to_z-of_z)

@@ -1,6 +1,0 @@
-use Rattle.std.proofs.Common.{arith}
-use Rattle.std.proofs.lemmas.Int.{to_z-of_z}
-use Rattle.nav_desk.proofs.bounded.are_meeting.Goals as goal
-
-pub returns-then-are_overlapping : goal.returns-then-are_overlapping
-returns-then-are_overlapping c = grind (arith, to_z-of_z)

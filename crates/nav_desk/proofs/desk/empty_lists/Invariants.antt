@@ -1,6 +1,0 @@
-use Rattle.std.proofs.Common.{◌≡◌, [], replicate}
-use Rattle.nav_desk.proofs.desk.empty_lists.Given as goal
-
--- the lists so far
-abbrev pub invariant-loop-tile : goal.invariant-loop-tile
-invariant-loop-tile l = l.lists.items ≡ replicate l._tile []

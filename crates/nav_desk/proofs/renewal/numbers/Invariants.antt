@@ -1,7 +1,0 @@
-use Rattle.std.proofs.Common.{◌≡◌, take}
-use Rattle.nav_desk.specs.LiveTable.{numbers_of}
-use Rattle.nav_desk.proofs.renewal.numbers.Given as goal
-
--- the numbers of the rows so far
-abbrev pub invariant-loop-row : goal.invariant-loop-row
-invariant-loop-row l = l.numbers.items ≡ numbers_of (take l.row-index l.live)

@@ -1,5 +1,0 @@
-use Rattle.nav_ffi.proofs.steps.navd_settle.Given as goal
-
--- the counter of steps has the blank ledger
-abbrev pub ghosts-settle : goal.ghosts-settle
-ghosts-settle a = record { name = a.blank.name; parts = a.blank.parts }

@@ -1,0 +1,7 @@
+use Rattle.std.proofs.Common.{◌≡◌, ◌++◌, drop, map, take}
+use Rattle.nav_handle.specs.Wire.{turn_told}
+use Rattle.nav_handle.proofs.ends.lay_turns.Given as goal
+
+-- the places so far have what is told, the others are as they were
+abbrev pub invariant-loop-place : goal.invariant-loop-place
+invariant-loop-place l = l.room ≡ take l.place (map turn_told l.turns) ++ drop l.place l.fn.room

@@ -1,0 +1,167 @@
+//! What is asked of the mesh of a handle: of what a level has published, or of what a view shows.
+
+ghost use Rattle.std.specs.Prelude.{◌≡◌};
+ghost use Rattle.nav_base.specs.declared.point.Question.{Question};
+ghost use Rattle.nav_query.specs.Questions.{IsAnswerable};
+ghost use Rattle.nav_handle.specs.Answers.{EndsSo, IsAsked};
+ghost use Rattle.nav_handle.specs.Telling.{PathRoom, told_floors, told_path, told_ray};
+ghost use Rattle.nav_handle.specs.Wire.{path_asked, ray_asked};
+
+use crate::ends::{end_floors, end_path, end_ray, is_way, path_question, ray_question};
+use crate::handles::{NavdLevel, NavdView};
+use crate::wire::{
+    EMPTY, NO_MEMORY, NavdFloor, NavdLink, NavdPath, NavdRay, NavdTurn, NavdWay, OUT_OF_RANGE,
+};
+use mesh_types::{Answer, Asked};
+use nav_base::Question;
+use std::alloc::Global;
+
+/// A handle of something that has a mesh, or of nothing.
+pub trait HasMesh {
+    ghost use Rattle.std.specs.Prelude.{Option};
+    ghost use Rattle.mesh_types.specs.declared.mesh.Mesh.{Mesh};
+    ghost use Rattle.nav_query.specs.Questions.{IsAnswerable};
+    ghost use Rattle.nav_handle.specs.Answers.{IsReplied, IsRepliedBy};
+
+    /// The mesh, where it holds something.
+    ghost mesh_in: { Self → Option Mesh };
+
+    /// Whether it holds the same before and after.
+    ghost is_same: { Self → Self → Type 0 };
+
+    /// An answer to a question of the mesh, or the status that says why there is none.
+    fn ask(&mut self, alloc: Global, question: &Question) -> Result<Answer, u32>
+        requires { IsAnswerable question.now }
+        ensures same { is_same self.old self.new }
+        ensures replied { IsReplied (mesh_in self.old) question.now result };
+
+    /// The same, of a question of any kind.
+    fn ask_by<Q: Asked>(&mut self, alloc: Global, question: &Q) -> Result<Q::Answer, u32>
+        requires { Q.can_ask question.now }
+        ensures same { is_same self.old self.new }
+        ensures replied { IsRepliedBy (λ mesh answer. Q.is_right question.now mesh answer) (mesh_in self.old) result };
+
+    /// What is left alone is the same.
+    ghost untouched: { (handle : Self) → is_same handle handle };
+}
+
+impl HasMesh for NavdLevel {
+    ghost use Rattle.std.specs.Prelude.{◌≡◌, refl};
+    ghost use Rattle.nav_handle.specs.Answers.{shown_in};
+
+    ghost mesh_in = { λ handle. shown_in handle.level };
+
+    ghost is_same = { λ before after. after.level ≡ before.level };
+
+    ghost untouched = { λ handle. refl };
+
+    fn ask(&mut self, alloc: Global, question: &Question) -> Result<Answer, u32> {
+        let Some(held) = self.take(alloc) else {
+            return Err(EMPTY);
+        };
+        let told = held.ask(alloc, question);
+        self.put(held);
+        match told {
+            Ok((_, answer)) => Ok(answer),
+            Err(_) => Err(NO_MEMORY),
+        }
+    }
+
+    fn ask_by<Q: Asked>(&mut self, alloc: Global, question: &Q) -> Result<Q::Answer, u32> {
+        let Some(held) = self.take(alloc) else {
+            return Err(EMPTY);
+        };
+        let told = held.ask_by(alloc, question);
+        self.put(held);
+        match told {
+            Ok((_, answer)) => Ok(answer),
+            Err(_) => Err(NO_MEMORY),
+        }
+    }
+}
+
+impl HasMesh for NavdView {
+    ghost use Rattle.std.specs.Prelude.{◌≡◌, refl};
+    ghost use Rattle.nav_handle.specs.Answers.{seen_in};
+
+    ghost mesh_in = { λ handle. seen_in handle.view };
+
+    ghost is_same = { λ before after. after.view ≡ before.view };
+
+    ghost untouched = { λ handle. refl };
+
+    fn ask(&mut self, alloc: Global, question: &Question) -> Result<Answer, u32> {
+        let Some(held) = self.take(alloc) else {
+            return Err(EMPTY);
+        };
+        let told = held.ask(alloc, question);
+        self.put(held);
+        match told {
+            Ok(answer) => Ok(answer),
+            Err(_) => Err(NO_MEMORY),
+        }
+    }
+
+    fn ask_by<Q: Asked>(&mut self, alloc: Global, question: &Q) -> Result<Q::Answer, u32> {
+        let Some(held) = self.take(alloc) else {
+            return Err(EMPTY);
+        };
+        let told = held.ask_by(alloc, question);
+        self.put(held);
+        match told {
+            Ok(answer) => Ok(answer),
+            Err(_) => Err(NO_MEMORY),
+        }
+    }
+}
+
+/// A cheapest corridor and a taut path through it, from one place to another.
+pub fn find_path<H: HasMesh>(
+    alloc: Global,
+    held: &mut H,
+    way: &NavdWay,
+    links: &mut [NavdLink],
+    turns: &mut [NavdTurn],
+    path: &mut NavdPath,
+) -> u32
+    ensures asked { IsAnswerable (path_asked way.now)
+        → IsAsked told_path (H.mesh_in held.old) (path_asked way.now) (path.old, links.old, turns.old) (path.new, links.new, turns.new) result }
+    ensures refused { (IsAnswerable (path_asked way.now) → ⊥)
+        → EndsSo {Room = PathRoom} OUT_OF_RANGE (path.old, links.old, turns.old) (path.new, links.new, turns.new) result }
+    ensures same { H.is_same held.old held.new }
+{
+    if !is_way(way) {
+        return OUT_OF_RANGE;
+    }
+    let answer = held.ask(alloc, &path_question(way));
+    end_path(answer, path, links, turns)
+}
+
+/// The straight walk from a place toward a point.
+pub fn cast_ray<H: HasMesh>(alloc: Global, held: &mut H, way: &NavdWay, ray: &mut NavdRay) -> u32
+    ensures asked { IsAnswerable (ray_asked way.now) → IsAsked told_ray (H.mesh_in held.old) (ray_asked way.now) ray.old ray.new result }
+    ensures refused { (IsAnswerable (ray_asked way.now) → ⊥) → EndsSo OUT_OF_RANGE ray.old ray.new result }
+    ensures same { H.is_same held.old held.new }
+{
+    if !is_way(way) {
+        return OUT_OF_RANGE;
+    }
+    let answer = held.ask(alloc, &ray_question(way));
+    end_ray(answer, ray)
+}
+
+/// The floors of the free cells of a column; how many there are is left at `count`.
+pub fn find_floors<H: HasMesh>(
+    alloc: Global,
+    held: &mut H,
+    x: u32,
+    z: u32,
+    floors: &mut [NavdFloor],
+    count: &mut usize,
+) -> u32
+    ensures asked { IsAsked told_floors (H.mesh_in held.old) (Question.Floor x z) (count.old, floors.old) (count.new, floors.new) result }
+    ensures same { H.is_same held.old held.new }
+{
+    let answer = held.ask(alloc, &Question::Floor { x, z });
+    end_floors(answer, count, floors)
+}

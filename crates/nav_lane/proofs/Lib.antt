@@ -1,7 +1,0 @@
-mod ActLaws
-pub mod EntryLaws
-pub mod AnswerLaws
-pub mod RecordLaws
-mod PassLaws
-mod WalkLaws
-mod LaneLaws

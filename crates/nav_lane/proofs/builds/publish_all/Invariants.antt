@@ -1,6 +1,0 @@
-use Rattle.nav_lane.specs.Lanes.{SawOthers}
-use Rattle.nav_lane.proofs.builds.publish_all.Given as goal
-
--- the pass has seen no further entry of its own since the call
-abbrev pub invariant-loop : goal.invariant-loop
-invariant-loop g l = SawOthers l.bench.lock.now l.fn.pass l.pass

@@ -1,5 +1,0 @@
-use Rattle.std.proofs.Common.{rules}
-use Rattle.nav_lane.proofs.lane.Lane.number_of_add.Goals as goal
-
-pub returns : goal.returns
-returns c = search rules

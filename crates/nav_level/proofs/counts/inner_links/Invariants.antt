@@ -1,8 +1,0 @@
-use Rattle.std.proofs.Common.{◌≡◌, length, take}
-use Rattle.std.specs.List.{sum_by}
-use Rattle.mesh_types.specs.declared.tile.TileMesh.{TileMesh}
-use Rattle.nav_level.proofs.counts.inner_links.Given as goal
-
--- those of the tiles so far
-abbrev pub invariant-loop-place : goal.invariant-loop-place
-invariant-loop-place l = l.count ≡ sum_by (λ (tile : TileMesh). length tile.links) (take l.place l.tiles)

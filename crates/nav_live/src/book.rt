@@ -1,0 +1,300 @@
+//! The book under the lock. What actors do while they have the turn, but for requests; each rings for what others may wait for, once it has
+//! given the turn back.
+
+ghost use Rattle.std.specs.Prelude.{◌≡◌, IfOk, IfSome};
+ghost use Rattle.nav_ground.specs.History.{IsRequest};
+ghost use Rattle.nav_live.specs.ActRules.{DoesClaim, DoesPublish, IsMade};
+ghost use Rattle.nav_live.specs.LiveBooks.{Steps};
+ghost use Rattle.nav_live.specs.Roots.{root_of};
+ghost use Rattle.nav_live.specs.declared.book.LiveAct.TheVariants as acts;
+ghost use Rattle.turn_lock.specs.Locks.{IsOf};
+ghost use Rattle.build_queue.specs.Steps.{IsJob};
+ghost use Rattle.nav_live.specs.Acting.{HasActed, HasDone, HasTried, claim_done};
+ghost use Rattle.nav_live.specs.Lanes.{IsToldOf, SawOthers};
+
+use crate::builds::RunContext;
+use mesh_types::TileMesh;
+use nav_book::{Book, HistoryFull, Job, Published, Submitted, TileResult};
+use nav_ground::{Entry, Ground, Reply, Request};
+use nav_lists::Shared;
+use nav_version::Told;
+use std::alloc::{AllocError, Global};
+use std::marker::Model;
+use std::sync::Wait;
+use turn_lock::{Booked, Pass};
+
+/// What no act changes: the ground of the book, and the pair of its press and its eyes, which is that of a published length. No value of
+/// it is made.
+#[derive(Drop)]
+pub struct LiveRoot {
+    ground: Ground,
+    told: Told,
+}
+
+impl Model for LiveRoot {
+    ghost use Rattle.nav_live.specs.Roots.{RootView};
+
+    ghost Value = { RootView };
+
+    ghost view = { λ root. record { ground = root.ground; pair = root.told.pair } };
+}
+
+/// What an actor asks of the book while it has the turn.
+#[derive(Drop)]
+pub enum LiveAct {
+    /// A request of a lane.
+    Ask { lane: u32, request: Request },
+    /// The whole history is to be shown.
+    Aim,
+    /// A tile to build is wanted.
+    Claim,
+    /// A job is given back.
+    PutBack { job: Job },
+    /// A tile was built.
+    Submit { made: TileResult },
+    /// The target is to be published.
+    Publish,
+}
+
+/// What the book answers. Lengths count entries of the history.
+#[derive(Drop)]
+pub enum LiveDone {
+    /// The number of the request's entry, from 1, and its reply.
+    Asked { number: u32, reply: Reply },
+    /// The history has `len` entries and takes no more; nothing was asked.
+    HistoryFull { len: u32 },
+    /// The target is the history's length, `k`.
+    Aim { k: u32 },
+    /// The job of a tile that waits for its build.
+    Claimed { job: Job },
+    /// No tile waits for a builder.
+    NoTile,
+    /// The job is open again.
+    Back,
+    /// Whether the build was taken.
+    Submitted { answer: Submitted },
+    /// What the publishing came to, and the published length after it, for an eye to learn.
+    Published { answer: Published, told: Told },
+    /// Memory was refused, and nothing has changed.
+    NoMemory,
+}
+
+/// A book that one actor after another acts on. It is not `Drop`, since its book is not.
+pub struct LiveBook {
+    pub book: Book,
+}
+
+impl LiveBook {
+    /// Makes a request of a lane.
+    fn ask(&mut self, lane: u32, request: Request) -> LiveDone
+        requires { IsRequest request }
+        ensures { Steps self.old.book (acts.Ask lane request) result self.new.book }
+    {
+        match self.book.request(lane, request) {
+            Ok((number, reply)) => LiveDone::Asked { number, reply },
+            Err(HistoryFull { len }) => LiveDone::HistoryFull { len },
+        }
+    }
+
+    /// Claims a tile, if one waits.
+    fn claim(&mut self, alloc: Global) -> LiveDone
+        ensures steps { Steps self.old.book acts.Claim result self.new.book }
+        ensures fits { DoesClaim (root_of self.old.book) result }
+    {
+        match self.book.claim(alloc) {
+            Ok(Some(job)) => LiveDone::Claimed { job },
+            Ok(None) => LiveDone::NoTile,
+            Err(AllocError) => LiveDone::NoMemory,
+        }
+    }
+
+    /// Publishes the target, and tells what is published then.
+    fn publish<R: Wait>(&mut self, rt: &R, alloc: Global) -> LiveDone
+        ensures steps { Steps self.old.book acts.Publish result self.new.book }
+        ensures tells { DoesPublish (root_of self.old.book) self.new.book.state.history result }
+    {
+        match self.book.publish(rt, alloc) {
+            Ok(answer) => {
+                // It shows no more entries than there are, as each book does.
+                let _level = self.book.level();
+                LiveDone::Published {
+                    answer,
+                    told: self.book.told(),
+                }
+            }
+            Err(AllocError) => LiveDone::NoMemory,
+        }
+    }
+}
+
+impl Booked for LiveBook {
+    ghost use Rattle.nav_live.specs.LiveBooks.{Steps};
+    ghost use Rattle.nav_live.specs.Roots.{root_of};
+    ghost use Rattle.nav_live.specs.ActRules.{lane_of, IsLegal, IsAllowed, Does};
+
+    type Root = LiveRoot;
+
+    type Entry = Entry;
+
+    type Act = LiveAct;
+
+    type Done = LiveDone;
+
+    ghost root = { λ live. root_of live.book };
+
+    ghost entries = { λ live. live.book.state.history };
+
+    ghost maker = { λ entry. entry.lane };
+
+    ghost by = { lane_of };
+
+    ghost legal = { IsLegal };
+
+    ghost may = { IsAllowed };
+
+    ghost did = { Does };
+
+    ghost step = { λ live act done after. Steps live.book act done after.book };
+
+    fn length(&self) -> u32 {
+        // Its history keeps the rules, as that of each book does.
+        let _entries = self.book.entries();
+        self.book.length()
+    }
+
+    fn act<R: Wait>(&mut self, rt: &R, alloc: Global, act: LiveAct) -> LiveDone {
+        match act {
+            LiveAct::Ask { lane, request } => self.ask(lane, request),
+            LiveAct::Aim => LiveDone::Aim { k: self.book.aim() },
+            LiveAct::Claim => self.claim(alloc),
+            LiveAct::PutBack { job } => {
+                self.book.put_back(job);
+                LiveDone::Back
+            }
+            LiveAct::Submit { made } => LiveDone::Submitted {
+                answer: self.book.submit(made),
+            },
+            LiveAct::Publish => self.publish(rt, alloc),
+        }
+    }
+}
+
+/// A job that its actor has claimed. It cannot be dropped: it ends by `submit` or by `put_back`.
+pub(crate) struct HeldJob {
+    job: Job,
+}
+
+impl Model for HeldJob {
+    ghost use Rattle.build_queue.specs.declared.live.Job.{Job};
+
+    ghost Value = { Job };
+
+    ghost view = { λ held. held.job };
+}
+
+impl HeldJob {
+    /// The job.
+    pub(crate) fn job(&self) -> &Job
+        ensures { result.now ≡ self.now }
+    {
+        &self.job
+    }
+}
+
+/// Makes the whole history the target.
+pub(crate) fn aim<R: Wait, G>(context: &RunContext<'_, R, G>, pass: &mut Pass<LiveBook>)
+    requires { IsOf context.now.lock.now pass.old }
+    ensures { HasActed context.now.lock.now acts.Aim pass.old pass.new }
+{
+    let _done = context
+        .lock
+        .with(context.rt, context.alloc, pass, LiveAct::Aim);
+    context.events.tiles_changed();
+}
+
+/// Claims a tile, if one waits.
+pub(crate) fn claim<R: Wait, G>(
+    context: &RunContext<'_, R, G>,
+    pass: &mut Pass<LiveBook>,
+) -> Result<Option<HeldJob>, AllocError>
+    requires { IsOf context.now.lock.now pass.old }
+    ensures done { HasDone context.now.lock.now acts.Claim (claim_done result) pass.old pass.new }
+    ensures fit { IfOk result (λ job. IfSome job (IsJob context.now.lock.now.root.ground.setting)) }
+{
+    match context
+        .lock
+        .with(context.rt, context.alloc, pass, LiveAct::Claim)
+    {
+        LiveDone::Claimed { job } => Ok(Some(HeldJob { job })),
+        LiveDone::NoTile => Ok(None),
+        LiveDone::NoMemory => Err(AllocError),
+        _ => unreachable!(),
+    }
+}
+
+/// Gives a job back.
+pub(crate) fn put_back<R: Wait, G>(
+    context: &RunContext<'_, R, G>,
+    pass: &mut Pass<LiveBook>,
+    held: HeldJob,
+)
+    requires of { IsOf context.now.lock.now pass.old }
+    requires job { IsJob context.now.lock.now.root.ground.setting held }
+    ensures { HasActed context.now.lock.now (acts.PutBack held) pass.old pass.new }
+{
+    let HeldJob { job } = held;
+    let _done = context
+        .lock
+        .with(context.rt, context.alloc, pass, LiveAct::PutBack { job });
+    context.events.builds_changed();
+    context.events.tiles_changed();
+}
+
+/// Hands the build of a job in. One that came too late leaves a tile that can be claimed again.
+pub(crate) fn submit<R: Wait, G>(
+    context: &RunContext<'_, R, G>,
+    pass: &mut Pass<LiveBook>,
+    held: HeldJob,
+    mesh: Shared<TileMesh>,
+)
+    requires of { IsOf context.now.lock.now pass.old }
+    requires made { IsMade context.now.lock.now.root (record { tile = held.tile; shapes = held.shapes; mesh = mesh }) }
+    ensures { HasActed context.now.lock.now (acts.Submit (record { tile = held.tile; shapes = held.shapes; mesh = mesh })) pass.old pass.new }
+{
+    let HeldJob { job } = held;
+    let Job { tile, shapes } = job;
+    let made = TileResult { tile, shapes, mesh };
+    let done = context
+        .lock
+        .with(context.rt, context.alloc, pass, LiveAct::Submit { made });
+    context.events.builds_changed();
+    if let LiveDone::Submitted {
+        answer: Submitted::Stale,
+    } = done
+    {
+        context.events.tiles_changed();
+    }
+}
+
+/// Publishes the target, and tells the published length; none where a tile still waits for its build.
+pub(crate) fn publish<R: Wait, G>(
+    context: &RunContext<'_, R, G>,
+    pass: &mut Pass<LiveBook>,
+) -> Result<Option<Told>, AllocError>
+    requires { IsOf context.now.lock.now pass.old }
+    ensures tried { HasTried context.now.lock.now pass.old pass.new result }
+    ensures told { IfOk result (λ told. IfSome told (IsToldOf context.now.lock.now)) }
+    ensures saw { SawOthers context.now.lock.now pass.old pass.new }
+{
+    match context
+        .lock
+        .with(context.rt, context.alloc, pass, LiveAct::Publish)
+    {
+        LiveDone::Published { answer, told } => match answer {
+            Published::New { .. } | Published::Same { .. } => Ok(Some(told)),
+            Published::NotYet { .. } => Ok(None),
+        },
+        LiveDone::NoMemory => Err(AllocError),
+        _ => unreachable!(),
+    }
+}

@@ -1,4 +1,0 @@
-use Rattle.nav_record.proofs.paths.append_link.Goals as goal
-
-pub returns : goal.returns
-returns c = c.append_parts.ensures

@@ -1,6 +1,0 @@
-use Rattle.std.proofs.Common.{refl}
-use Rattle.nav_scene.proofs.Writing.{stands_same}
-use Rattle.nav_scene.proofs.meshes.append_free.Goals as goal
-
-pub returns-in_err-cells-clause-front : goal.returns-in_err-cells-clause-front
-returns-in_err-cells-clause-front c = stands_same c.args.out.now.items c.args.out.now.items refl

@@ -1,7 +1,0 @@
-use Rattle.std.proofs.Common.{sym, ◌∙◌}
-use Rattle.off_links.proofs.TakenSlots.{none_leaves}
-use Rattle.off_links.proofs.slots.leaving_by_slot.Goals as goal
-
-pub returns-else-is_taken : goal.returns-else-is_taken
-returns-else-is_taken c =
-    sym (none_leaves c.args.leaps.now c.args.slots.now c.args.at c.requires.slots (sym c.is_taken.ensures ∙ c.if-is_taken.false))

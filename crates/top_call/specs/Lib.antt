@@ -1,0 +1,14 @@
+pub mod Statuses
+pub mod Words
+pub mod Inputs
+pub mod Readings
+pub mod Answers
+pub mod Made
+pub mod Triangles
+pub mod Outcomes
+pub mod Endings
+pub mod StepCounts
+pub mod Courses
+pub mod Outsides
+pub mod TopContract
+pub mod Exits

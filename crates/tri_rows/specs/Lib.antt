@@ -1,5 +1,0 @@
-pub mod Triangles
-pub mod Rasters
-pub mod Spots
-pub mod Bounds
-pub mod Rows
