@@ -7,28 +7,41 @@
  * Units. The ground is cut into columns of one cell by one cell; x grows to the right and z upward. Points are in sixteenths of a cell.
  * Heights are in the field text's units, 0 to 8191. Costs are in sixteenths of a cell times the cost of the area that is walked on.
  *
- * Handles. A handle whose bytes are all 0 holds nothing, and each call is given the address of one: never a null pointer. No call but these
- * changes a handle, and no byte of it is copied or read by the host. What it holds is on the heap; `navd_close` frees it.
+ * Handles. A handle whose bytes are all 0 holds nothing, and each call is given the address of one. No call but these changes a handle, and a
+ * host reads nothing in it. It may be moved to another place; a copy that is used beside the original is not allowed. What a handle holds is on
+ * the heap. That goes back once the handle is closed, or holds something else (tested).
+ *
+ * Addresses. None is null, and each is aligned for its type. The places that are handed to one call do not overlap, and what a call is handed to
+ * read stays as it is while the call runs. A place for an answer alone need not be written before.
+ *
+ * Arrays. An array is given by its address and by how many elements it has room for. That is the room that is there, at most PTRDIFF_MAX bytes:
+ * SIZE_MAX does not stand for 'enough'. Where there is room for none, or no element (as the jumps of a hop), any address will do that is aligned
+ * and not null, as that of one element beside: the data() of an empty std::vector may be null. As much is laid into an array as there is room
+ * for, and what is behind that stays as it was; how many there are is told beside it. Who had too little room asks once more, and is told the
+ * same (tested).
+ *
+ * Ends. Each call ends with one of the numbers below that stand at it, and with no other: where NAVD_NO_MEMORY is not among them, want of memory
+ * does not stop it. Where it says of an out parameter nothing else, that is unchanged unless the call ended with NAVD_OK.
  *
  * Threads. A handle is in one call at a time, questions too; it may go from thread to thread, by a lock or by the start or the end of a thread.
- * Calls of two handles may run side by side, also of a level and of views and jobs of it: so one thread changes a level while others ask views, each
- * its own, or build jobs. A view is brought up to a level by navd_look, and a job is claimed, handed in and put back by calls that are of both.
+ * Calls of two handles may run side by side (tested), also of a level and of views and jobs of it: so one thread changes a level while others ask
+ * views, each its own, or build jobs. A view is brought up to a level by navd_look, and a job is claimed, handed in and put back by calls that are
+ * of both. No call is made from a signal handler, nor in the forked child of a process that has threads.
  *
- * Arrays. An array is given by its address and by how many elements it has room for; the address is not null, also where there is room for
- * none, or no element (as the jumps of a hop). As much is laid into it as there is room for, and what is behind that stays as it was; how many
- * there are is told beside it. The places that are handed to one call do not overlap.
- *
- * Ends. Each call tells how it ended by one of the numbers below. Where it says of an out parameter nothing else, that is unchanged unless
- * the call ended with NAVD_OK.
+ * Stack. Little is wanted: `navd play` of the examples runs with a stack of 48 kilobytes, `ulimit -s 48` (measured).
  *
  * Memory comes from three functions that the host provides (hosts/c/heap.c has them over malloc). They come from one allocator, align blocks to
  * `align`, which is a power of two up to 16, and are called from no signal handler. Where memory is refused, `ok` is false, `block` is any
  * address that is not null, and a block that was to be made another size is as it was; a size may be 0. Where levels are in calls on several
- * threads, the three are called from these at once.
+ * threads, the three are called from these at once. They return: no longjmp and no exception goes through the library. They make no call of a
+ * handle that is in a call.
  *     typedef struct { bool ok; void *block; } navd_tried;
  *     navd_tried rattle_alloc(size_t size, size_t align);
  *     navd_tried rattle_realloc(void *block, size_t kept, size_t size, size_t align);
  *     void rattle_dealloc(void *block);
+ *
+ * Proofs. What stands at a call is proved, for hosts that keep to this head, but where it says (tested) or (measured). docs/EMBEDDING.md names the
+ * definitions. How many corners a polygon has and which way round, its area, and the order of links are proved where meshes are built.
  */
 #ifndef NAVD_H
 #define NAVD_H
@@ -231,8 +244,7 @@ uint32_t navd_open_triangles(navd_level *level, const uint8_t *text, size_t leng
 void navd_close(navd_level *level);
 
 /* == Requests ==
- * Each makes one entry in the history, whose number, from 1, is left at `entry`; 0 where none was made. What is published stays. No memory is
- * taken. */
+ * Each makes one entry in the history, whose number, from 1, is left at `entry`; 0 where none was made. What is published stays. */
 
 /* Adds an obstacle. With the area 0 it stops agents, which keep their radius from it where the field text says `clear 1`; with an area, 1 to 63,
  * it gives that area to the cells that it covers. Its number is that of the entry.
@@ -247,11 +259,11 @@ uint32_t navd_remove(navd_level *level, uint32_t number, uint32_t *entry);
 /* == Building == */
 
 /* Builds all that the history asks for and publishes it; how many entries that are is left at `published`. All claims of jobs are ended.
- * NAVD_OK. NAVD_EMPTY. NAVD_NO_MEMORY: the whole history may be the target, and some of its tiles built, and navd_step builds on from there;
- * what is published, and the history, are as they were. */
+ * NAVD_OK. NAVD_EMPTY. NAVD_NO_MEMORY: what is published, and the history, are as they were; the whole history may be the target, and some of
+ * its tiles built, and another navd_settle or navd_step builds on from there (tested). */
 uint32_t navd_settle(navd_level *level, uint32_t *published);
 
-/* Makes the whole history the target, up to which tiles are built from now on; its length is left at `target`. No memory is taken.
+/* Makes the whole history the target, up to which tiles are built from now on; its length is left at `target`.
  * NAVD_OK. NAVD_EMPTY. */
 uint32_t navd_aim(navd_level *level, uint32_t *target);
 
@@ -266,8 +278,8 @@ uint32_t navd_publish(navd_level *level, uint32_t *number);
 
 /* Begins the history again, where all of it is published: it has one entry then for each obstacle that is alive, in the order of their numbers,
  * and so the number of each is from then on its place in the list of the numbers that they had, from 1. That list is laid into `numbers`, and
- * how many there are, never more than the field text's limit, is left at `count`. Nothing is built, and the published mesh is the same. A host
- * that runs for long does this before its history is full.
+ * how many there are is left at `count`: never more than the field text's limit (tested). The published mesh is the same. A host that runs for
+ * long does this before its history is full.
  * NAVD_OK. NAVD_NOT_YET: not all of the history is published. NAVD_NO_ROOM: only `count` was left. NAVD_EMPTY. NAVD_NO_MEMORY. */
 uint32_t navd_renew(navd_level *level, uint32_t *numbers, size_t room, size_t *count);
 
@@ -289,16 +301,15 @@ uint32_t navd_build(navd_job *job);
 /* Hands a job in that is built; the job's handle holds nothing then.
  * NAVD_OK: it is taken, and published with the next publish if no aim changes which obstacles touch the tile. NAVD_STALE: its tile is not awaited, or
  * was built under other obstacles than touch it at the target. With the next, the job stays: NAVD_EMPTY: one of the handles holds nothing.
- * NAVD_FOREIGN, before NAVD_NOT_YET: the level has another setting, or another ground in the tile or near it. NAVD_NOT_YET: it is not built.
- * No memory is taken. */
+ * NAVD_FOREIGN, before NAVD_NOT_YET: the level has another setting, or another ground in the tile or near it. NAVD_NOT_YET: it is not built. */
 uint32_t navd_submit(navd_level *level, navd_job *job);
 
 /* Puts a job back; the job's handle holds nothing then.
- * NAVD_OK. NAVD_FOREIGN, NAVD_EMPTY: as above. No memory is taken. */
+ * NAVD_OK. NAVD_FOREIGN, NAVD_EMPTY: as above. */
 uint32_t navd_put_back(navd_level *level, navd_job *job);
 
 /* Ends all claims of a level.
- * NAVD_OK. NAVD_EMPTY. No memory is taken. */
+ * NAVD_OK. NAVD_EMPTY. */
 uint32_t navd_put_back_all(navd_level *level);
 
 /* Closes the job, if the handle holds one; the handle holds nothing then, and the tile stays claimed. */
@@ -311,10 +322,11 @@ void navd_job_close(navd_job *job);
  * NAVD_OK. NAVD_EMPTY. NAVD_NO_MEMORY. */
 uint32_t navd_floors(navd_level *level, uint32_t x, uint32_t z, navd_floor *floors, size_t room, size_t *count);
 
-/* Makes landmarks of what is published, where there are none yet, for a host that asks a level for many paths before it changes: for about as
- * much time as thirty paths take, and 32 bytes a polygon, later ones take about a fifth. They go with the next publish that shows something new.
- * What is asked is answered rightly either way; of several corridors that cost the same another one may be told. Views have none.
- * NAVD_OK. NAVD_EMPTY. NAVD_NO_MEMORY: there are none still. */
+/* For a host that asks a level for many paths before it changes: makes landmarks of what is published, where there are none yet. That takes about as
+ * much time as thirty paths, and 32 bytes a polygon; later paths take about a fifth, until the next publish that shows something new. Views have
+ * none. So far all is measured and not proved. What is asked is answered rightly either way; of several corridors that cost the same another one
+ * may be told.
+ * NAVD_OK. NAVD_EMPTY. NAVD_NO_MEMORY. */
 uint32_t navd_prepare(navd_level *level);
 
 /* A cheapest corridor and a taut path through it: what it costs, its links in order, and where it turns.
@@ -346,7 +358,7 @@ uint32_t navd_send(navd_level *level, const navd_way *way, navd_link *links, siz
 uint32_t navd_march(navd_level *level, navd_walker *walker, uint32_t length, navd_link *links, size_t room);
 
 /* == What there is, to draw it ==
- * Tiles are numbered row by row, from 0 up to below the count of tiles. These calls change nothing, and take no memory but in navd_obstacles. */
+ * Tiles are numbered row by row, from 0 up to below the count of tiles. These calls change nothing. */
 
 /* The polygons of a tile, in the order of their places; how many there are is left at `count`.
  * NAVD_OK. NAVD_OUT_OF_RANGE: there is no such tile. NAVD_EMPTY. */
@@ -368,7 +380,7 @@ uint32_t navd_count(navd_level *level, navd_counts *counts);
 /* == Views == */
 
 /* Brings a view up to what the level has published now; how many entries that are is left at `published`. What the view showed is let go. Where the
- * view has costs of its own it keeps them, and the call goes over the tiles, else it copies nothing and takes a few words of memory.
+ * view has costs of its own it keeps them, and the call goes over the tiles; else the mesh is shared.
  * NAVD_OK. NAVD_EMPTY: the level's handle holds none. NAVD_NO_MEMORY: the view shows what it showed. */
 uint32_t navd_look(navd_view *view, navd_level *level, uint32_t *published);
 

@@ -1,16 +1,21 @@
 #!/usr/bin/env python3
-"""Writes docs/CLAIM.md: which definitions a reader has to believe for the top call, `pub fn navd` of crates/nav_run/src/top.rt.
+"""Writes docs/CLAIM.md: the definitions that a reader has to believe for the top call, `pub fn navd` of crates/top_call/src/top.rt.
 
 It reads the clauses of that call and goes on from each name in them to the definition of that name under crates/*/specs, and from
 there to the names in that definition, and so on. Of a type of the code it takes what contracts see: the fields, or the value that its
-`impl Model` gives. A name counts as cited where it stands in the text of a definition, so the page can name a definition too many,
+`impl Model` gives. A name counts as cited where it stands in the text of a definition, so the claim can have a definition too many,
 where a variable is called like one, and none too few. Words of the toolchain's library are counted and not listed.
 
-usage: tools/claim.py             writes the page
-       tools/claim.py --of NAME   lists what stands behind one definition, as IsRightPath, in reading order
-       tools/claim.py --check     ends with 1 where the page is not what the files say
-       tools/claim.py --unused    lists the definitions that contracts do not need: those that proofs alone cite, and those that nothing cites
-       tools/claim.py --calls     lists the public calls of the product with the names of their clauses, to compare before and after
+The page has the chapters that a play with paths needs, with the text of each definition. All other chapters are printed on demand.
+Every definition of the claim stands in one chapter.
+
+usage: tools/claim.py                 writes the page, as --read play does
+       tools/claim.py --read CHAPTER  prints a chapter: of what the page has no text of, or one of its own
+       tools/claim.py --of NAME       lists what stands behind one definition, as IsRightPath, in reading order
+       tools/claim.py --check         ends with 1 where the page is not what the files say
+       tools/claim.py --unused        lists the definitions that contracts do not need: those that proofs alone cite, and those that nothing cites
+       tools/claim.py --rest          lists the files of definitions that the claim does not need, and whom they serve
+       tools/claim.py --calls         lists the public calls of the product with the names of their clauses, to compare before and after
 """
 import re
 import sys
@@ -20,7 +25,7 @@ from pathlib import Path
 
 TOP = Path(__file__).resolve().parent.parent
 PAGE = TOP / "docs" / "CLAIM.md"
-ROOT_CRATE, ROOT_FILE, ROOT_CALL = "nav_run", "top", "navd"
+ROOT_CRATE, ROOT_FILE, ROOT_CALL = "top_call", "top", "navd"
 NAME = r"[A-Za-z_][\w'?]*(?:-[A-Za-z_][\w'?]*)*"
 HEADER = re.compile(rf"( *)(?:abbrev |unfoldable )?(?:pub )?(?:record |data )?({NAME})(?= [:({{])")
 # What belongs to one part of what the program does: constructors that its lines name, definitions, files and clauses of the call.
@@ -32,11 +37,85 @@ PARTS = {
     "walkers": "Send March Walked NoWalker WalkAnswer send_line march_line walker_line Standing standing_of standing_after standing_with "
     "IsSentTo IsMarchOf IsMarchTold IsMoved AreMoved surface_move/Moves agent_walks/Marches nav_record/WalkTexts",
     "triangles": "TooManyTriangles IsRasterForm IsFieldDue IsTriFaultDue IsManyDue HasToldMany header_format header_body costs_verdict header_line "
-    "IsHeaderText all_header_lines span_text/FieldText.GoesOn nav_run/Triangles tri_raster/TriText tri_raster/TriFormat tri_rows/Rasters "
-    "tri_rows/Triangles clause:too_many clause:raster_complete clause:raster_wrong clause:raster_many",
+    "IsHeaderText all_header_lines span_text/FieldText.GoesOn top_call/Triangles tri_raster/TriText tri_raster/TriFormat tri_raster/Rasters "
+    "tri_raster/Triangles too_many raster_complete raster_wrong raster_many",
     "clearance round obstacles": "AtClear First Second TextForm nav_text margin_of widened clear_places is_crowded is_same_place wide_cells clear_in "
     "clear_line clear_lines touch_window",
 }
+# The chapters: name, whether the page has its text, heading, what it is about, and its files in reading order, or single definitions as
+# crate/File.name. What is of one of PARTS stands in the chapter of that part.
+CHAPTERS = [
+    ("mesh", True, "What the mesh is",
+     "A mesh has a list of tiles and, for each, links over its borders. `build_of` is the mesh of a ground and the first k entries of "
+     "a history. A tile's mesh is made of strips (here) or of outlines (`--read outlines`).",
+     "mesh_types/Builds mesh_types/WholeMesh mesh_types/ContourMeshes mesh_types/StripMeshes mesh_types/Strips "
+     "mesh_types/StripPolygons"),
+    ("path", True, "A path, and none",
+     "`IsRightPath` says which answers to a path question are right in a mesh. A path is a cheapest walk over links between the two "
+     "polygons that locate its ends, with a line that is taut in the portals of those links.",
+     "mesh_types/Right mesh_types/Located mesh_types/Corridors mesh_types/Taut mesh_types/Floors"),
+    ("obstacles", True, "Obstacles, and what they leave",
+     "A history is a list of entries, each a request with its reply. It says which shapes are alive after k entries; a tile's free "
+     "cells are those that no shape takes.",
+     "nav_ground/History nav_ground/FreeCells"),
+    ("version", True, "A version",
+     "A book has a history, a target and a published length. `published_mesh` is the mesh that questions see: that of as many entries "
+     "as are published. A publish shows the target once no tile is awaited.",
+     "nav_book/LevelResults build_queue/BookState build_queue/Steps nav_book/Settling nav_book/Openings"),
+    ("play", True, "A play",
+     "`IsPlayText` says which texts a play may write: line by line what each step of the book is answered. Only what is written after "
+     "a question leaves a choice.",
+     "nav_play/PlayRecord nav_play/Answering nav_play/PlayStates"),
+    ("links", False, "Links and rims",
+     "The links over borders, the links between the strips of a tile, the entries of its rim, and the order of links.",
+     "mesh_types/BorderLinks mesh_types/StripLinks mesh_types/StripRim mesh_types/LinkOrder mesh_types/Runs mesh_types/Portals"),
+    ("taut", False, "Taut lines",
+     "The conditions of a taut line: segments that go through portals, and bends that are held.",
+     "mesh_types/Segments mesh_types/Bends mesh_types/Chains"),
+    ("rays", False, "Rays", "Where a ray ends.", "mesh_types/Right.IsRay mesh_types/Right.IsRightRay mesh_types/Rays"),
+    ("numbers", False, "Points and numbers",
+     "Points, the square root, deviations and convex lists.",
+     "nav_base/Point nav_base/Convex nav_base/Root nav_base/Deviation nav_base/Number"),
+    ("ground", False, "From spans to layers",
+     "The filters of spans, cells and their connections, clearance from walls, layers of tiles, limits, and what a shape covers.",
+     "nav_ground/Layers nav_ground/Tiling nav_ground/Clearance nav_ground/Connection nav_ground/Filters nav_ground/Column "
+     "nav_ground/Cells nav_ground/CellColumns nav_ground/Directions nav_ground/Fields nav_ground/Limits nav_ground/Shapes"),
+    ("outlines", False, "A tile's mesh by outlines",
+     "Regions, contours, simplified outlines, ears, merged pieces and the doors between them.",
+     "mesh_types/ContourMeshes.contour_mesh_of mesh_types/ContourMeshes.parts_mesh mesh_types/Parts mesh_types/Regions "
+     "mesh_types/Contours mesh_types/Simplified mesh_types/Ears mesh_types/Rings mesh_types/Choices mesh_types/Merging "
+     "mesh_types/Facets mesh_types/Doors mesh_types/DoorRim mesh_types/Crossings mesh_types/Soundness"),
+    ("workers", False, "Lanes and workers of a play, totals and counts",
+     "The numbers of a lane's obstacles, the jobs of workers, equal lists of shapes, the totals of answers and the builds that are "
+     "counted.",
+     "nav_play/PlayStates.number_added nav_play/PlayStates.number_answered nav_play/PlayStates.number_got nav_play/PlayStates.adds_and "
+     "nav_play/PlayStates.number_in nav_play/PlayStates.held_by nav_play/Jobs build_queue/Steps.next_job build_queue/Steps.submission "
+     "build_queue/Steps.after_put_back nav_ground/Touching build_queue/SameShapes build_queue/Flags mesh_types/Right.AreAlike "
+     "nav_play/PlayTotals nav_play/Work"),
+    ("live", False, "Live runs",
+     "What lanes in threads may write.",
+     "nav_live/LiveRecord nav_live/LaneRecords nav_live/LaneEntries nav_live/LaneWalkers nav_live/LaneTexts"),
+    ("texts", False, "The grammar of texts",
+     "How texts are read and written, line by line: what FORMATS says in words.",
+     "nav_text/Lines nav_text/Forms nav_text/Reading nav_text/Faults span_text/Header span_text/Body span_text/FieldFormat "
+     "span_text/FieldText nav_script/WayForms nav_script/Reading nav_script/Lanes nav_script/Forms nav_script/RequestForms "
+     "nav_script/QuestionForms nav_script/Limits nav_script/Spelling nav_record/StepTexts nav_record/AnswerTexts nav_record/EntryTexts "
+     "nav_record/FrameTexts"),
+    ("program", False, "The program",
+     "What a run reads, writes and answers: the clauses of the call.",
+     "top_call/TopContract top_call/Outsides top_call/Outcomes top_call/Inputs top_call/Words top_call/StepCounts nav_io/Causes nav_base/Counts"),
+    ("made", False, "Made inputs",
+     "The input and the summary of `navd gen`.",
+     "top_call/Made nav_gen/MadeText nav_gen/MadeField nav_gen/MadeScript nav_gen/Draws nav_gen/Summary"),
+    ("areas", False, "Obstacles that set an area", "", "part:obstacles that set an area"),
+    ("jumps", False, "Jumps and hop walks", "", "part:jumps and hop walks"),
+    ("walkers", False, "Walkers", "", "part:walkers"),
+    ("raster", False, "Triangles", "", "part:triangles"),
+    ("clearance", False, "Clearance round obstacles", "", "part:clearance round obstacles"),
+]
+# What lines are told apart by on the page, chapter by chapter: constructors that the chapter's lines name. Those of PARTS come to these.
+LINES = {"rays": "Ray Reached", "workers": "Claim Back Submit"}
+OTHER = ("rest", False, "Files that no chapter names", "", "")
 STARTS = re.compile(r" *(?:abbrev|unfoldable|pub|record|data) ")
 MODULE = re.compile(r"( *)module _ (.*) where$")
 
@@ -306,86 +385,187 @@ def wrapped(words, rest=""):
     return textwrap.fill(words, 118, subsequent_indent=rest, break_long_words=False, break_on_hyphens=False)
 
 
+class Claim:
+    """What the top call's clauses stand on, and in which chapter each definition is."""
+
+    def __init__(self, house):
+        self.house = house
+        self.root = house.code[ROOT_CRATE, ROOT_FILE]
+        self.head, self.clauses = house.clauses(self.root, ROOT_CALL)
+        roots, self.std = house.cited(self.root, self.head)
+        self.items = house.reached(roots)
+        for item in self.items:
+            self.std |= item.std
+        self.definitions = [item for item in self.items if item.kind == "definition"]
+        self.types = [item for item in self.items if item.kind != "definition"]
+        self.modules = order_of(house, self.items)
+        whole, parts = without(house, []), {part: without(house, [part]) for part in PARTS}
+        part_of = {item: f"part:{part}" for part in PARTS for item in whole - parts[part]}
+        place = {word: chapter[0] for chapter in CHAPTERS for word in (chapter[4].split() if ":" not in chapter[4] else [chapter[4]])}
+        self.chapter = {}
+        for it in self.definitions:
+            names = [part_of.get(it), f"{it.crate}/{it.module}.{it.name}", f"{it.crate}/{it.module}"]
+            self.chapter[it] = next((place[name] for name in names if name in place), OTHER[0])
+
+    def of(self, chapter):
+        """The definitions of a chapter, file by file in the order of CHAPTERS."""
+        files = [word.split(".")[0] for word in chapter[4].split()]
+        keys = sorted(self.modules, key=lambda key: files.index("/".join(key)) if "/".join(key) in files else len(files))
+        found = [(key, [it for it in in_order(self.house.specs[key], self.items) if self.chapter.get(it) == chapter[0]]) for key in keys]
+        return [(key, items) for key, items in found if items]
+
+
+def count_of(definitions):
+    return len(definitions), sum(map(lines_of, definitions))
+
+
+def shown(item, chapter):
+    """A definition with its comment, as the page shows it: without the words that say how proofs see it. Lines that are told in another chapter
+    are left out, and that chapter is named."""
+    units, fields = units_of(item)
+    kept, left = units[:1], []
+    for unit in units[1:]:
+        found = [name for name in lines_told() if is_named(unit, fields, name)]
+        if not found or chapter in found or len(units) == 2:
+            kept.append(unit)
+        else:
+            left += [name for name in found if name not in left]
+    lines = [line for unit in kept for line in unit]
+    indent = len(lines[0]) - len(lines[0].lstrip())
+    lines = [re.sub(r"^( *)(?:(?:abbrev|unfoldable|pub) )+", r"\1", line[indent:]) for line in lines]
+    return [f"-- {line}" for line in item.comment] + lines + ([f"-- .. {', '.join(left)}"] if left else [])
+
+
+def told_lines(item, chapter):
+    """The lines of a definition of another chapter that are told in this one."""
+    units, fields = units_of(item)
+    found = [unit for unit in units[1:] if is_named(unit, fields, chapter) and len(units) > 2]
+    return [re.sub(r"^( *)pub ", r"\1", line) for unit in found for line in unit]
+
+
+def lines_told():
+    """The chapters that lines of other chapters belong to, each with the words of these lines."""
+    parts = {chapter[0]: PARTS[chapter[4][5:]] for chapter in CHAPTERS if chapter[4].startswith("part:")}
+    return {**parts, **LINES}
+
+
+def is_named(unit, fields, chapter):
+    text = "\n".join(unit)
+    if fields and chapter in LINES:
+        return False
+    return bool(any_of(lines_told()[chapter]).search(text if fields else re.split(r" =\s", text)[0]))
+
+
+def any_of(words, before=r"\w"):
+    """Finds any of these words, behind none of these characters; not what names a file, a definition of a file or a clause."""
+    words = [word for word in words.split() if "/" not in word and ":" not in word]
+    return re.compile(rf"(?<![{before}])(?:" + "|".join(map(re.escape, words)) + r")(?![\w'-])|(?!)")
+
+
+def kept_of(claim, definitions):
+    """What contracts see of the types that definitions cite, one a line."""
+    found = sorted({it for item in definitions for it in item.cites if it.kind in ("struct", "enum")}, key=lambda it: it.name)
+    rows = []
+    for item in found:
+        text = re.sub(r"\s+", " ", " ".join(item.text)).replace("pub ", "")
+        text = re.sub(r": [ui](?:8|16|32|64)\b|: usize", "", text).replace(", }", " }")
+        value = re.search(r"ghost Value = \{(.*?)\}", text) or re.search(r"ghost Value[^{]*\{(.*)\}", text)
+        body = re.search(r"\{(.*)\}", text)
+        if value:
+            rows.append((item, f"{item.name} = {value[1].strip()}"))
+        elif body:
+            inside = body[1].strip().rstrip(",")
+            rows.append((item, f"{item.name} {{ {inside} }}" if item.kind == "struct" else f"{item.name} = {inside}"))
+    return rows
+
+
+def further(claim, found, chapter, told):
+    """The words of other chapters that the text of a chapter has, but for those that the page has before."""
+    words = defaultdict(set)
+    for key, items in found:
+        for item in items:
+            cites = claim.house.cited(claim.house.specs[key], "\n".join(shown(item, chapter) + item.outer), item)[0]
+            for it in cites - told:
+                if it in claim.chapter and claim.chapter[it] != chapter:
+                    words[claim.chapter[it]].add(it.name)
+    order = [one[0] for one in CHAPTERS]
+    return [f"{', '.join(f'`{word}`' for word in sorted(words[name]))} ({name})" for name in sorted(words, key=order.index)]
+
+
+def chapter_text(claim, chapter, level, seen):
+    """The text of a chapter; `seen` has the types and the definitions that the page has told before."""
+    name, _, heading, words, _ = chapter
+    found = claim.of(chapter)
+    count = count_of([it for _, items in found for it in items])
+    out = [f"{'#' * level} {heading}", "", wrapped(f"{words} {count[0]} definitions, {count[1]} lines.".strip()), ""]
+    rows = [row for row in kept_of(claim, [it for _, items in found for it in items]) if row[0] not in seen]
+    seen |= {row[0] for row in rows}
+    if rows:
+        out += ["```", *[line for _, row in rows for line in textwrap.wrap(row, 118, subsequent_indent="    ")], "```", ""]
+    for key, items in found:
+        out += ["```", f"-- {key[0]}/specs/{key[1].replace('.', '/')}"]
+        for item in items:
+            out += ["", *shown(item, name)]
+        out += ["```", ""]
+    if words := further(claim, found, name, seen):
+        out += [wrapped(f"Words of other chapters: {'; '.join(words)}."), ""]
+    seen |= {it for _, items in found for it in items}
+    if name in lines_told() and not chapter[1]:
+        rows = [(item, told_lines(item, name)) for item in claim.definitions if claim.chapter[item] != name]
+        out += ["```", "-- lines of other definitions"]
+        for item, lines in sorted(rows, key=lambda it: it[0].name):
+            out += ["", f"-- {item.crate}/specs/{item.module.replace('.', '/')}, {item.name}", *lines] if lines else []
+        out += ["```", ""]
+    return out
+
+
 def page(house):
-    root = house.code[ROOT_CRATE, ROOT_FILE]
-    head, clauses = house.clauses(root, ROOT_CALL)
-    roots, std = house.cited(root, head)
-    items = house.reached(roots)
-    for item in items:
-        std |= item.std
-    definitions = [item for item in items if item.kind == "definition"]
-    types = [item for item in items if item.kind != "definition"]
-    modules = order_of(house, items)
+    claim = Claim(house)
     everything = [item for module in house.specs.values() for item in module.items.values()]
-    out = ["# The claim: what has to be believed for the top call", ""]
-    out += [wrapped(f"`{ROOT_CALL}` of `crates/{ROOT_CRATE}/src/{ROOT_FILE}.rt` promises all that the program does. Its clauses are proved, so what is left to "
-                    "believe is that they say what was meant: they, and the definitions that their words stand for. This page lists these, so that "
-                    "nobody has to read more: no code, no proof, and none of the other definitions."), ""]
-    out += [wrapped("`tools/claim.py` writes it from the files, and `tools/claim.py --check` fails where it is not what they say. Do not edit it by hand."), ""]
-    out += ["```sh", "python3 tools/claim.py            # writes this page; under a second, nothing else changes",
-            "python3 tools/claim.py --check    # compares it",
-            "python3 tools/claim.py --of IsRightPath    # what stands behind one definition", "```", ""]
-    out += ["## How much it is", "", "| | the claim | all of `specs/` |", "|---|---|---|",
-            f"| files of definitions | {len(modules)} | {len(house.specs)} |",
-            f"| definitions | {len(definitions)} | {len(everything)} |",
-            f"| lines of definitions | {sum(map(lines_of, definitions))} | {sum(map(lines_of, everything))} |",
-            f"| lines of comments on them | {sum(len(it.comment) for it in definitions)} | {sum(len(it.comment) for it in everything)} |",
-            f"| types, traits and constants of the code | {len(types)} | |",
-            f"| words of the toolchain's library | {len(std)} | |", ""]
-    rows = defaultdict(lambda: [0, 0, 0])
-    for item in definitions:
-        row = rows[house.storeys[item.crate]]
-        row[1] += 1
-        row[2] += lines_of(item)
-    for crate, _ in modules:
-        rows[house.storeys[crate]][0] += 1
-    out += ["| Storey | files | definitions | lines |", "|---|---|---|---|"]
-    out += [f"| {storey} | {rows[storey][0]} | {rows[storey][1]} | {rows[storey][2]} |" for storey in dict.fromkeys(house.storeys.values()) if storey in rows]
-    out += ["", wrapped("Some parts of what the program does can be told apart. Of each this says what the claim would have less if that part were not there: "
-                        "its lines of scripts and of texts, its arms of definitions, and what nothing else names."), "", *parts_table(house)]
-    out += ["", "## The clauses", "", wrapped(f"Of each clause of `{ROOT_CALL}` the words that this repository defines, and how many definitions stand behind them. "
-            "What each clause says is in the call's comments and in README."), ""]
-    for name, text in clauses:
-        cited = sorted({it.name for it in house.cited(root, text)[0] if it.kind == "definition"})
-        behind = [it for it in house.reached(house.cited(root, text)[0]) if it.kind == "definition"]
-        out.append(wrapped(f"- `{name}`: " + (", ".join(f"`{word}`" for word in cited) or "words of the library alone") + f" ({len(behind)})", "  "))
-    out += ["", "## The definitions, in reading order", "",
-            wrapped("From the lowest storey up: a crate's definitions stand on those above them on this page. Behind a file's name stand how many of its definitions the claim "
-                    "needs, of how many, and the first sentence of its head. Of each definition the first words of its comment; the definitions "
-                    "themselves are short, and their comments say the rule whole. To read from the top, begin at the end."), ""]
-    storey = None
-    for crate in house.storeys:
-        own = [key for key in modules if key[0] == crate]
-        kept = sorted((it for it in types if it.crate == crate), key=lambda it: it.name)
-        if not own and not kept:
-            continue
-        if house.storeys[crate] != storey:
-            storey = house.storeys[crate]
-            out += [f"### {storey[0].upper()}{storey[1:]}", ""]
-        out += [f"#### `{crate}`", ""]
-        if kept:
-            out += [wrapped("Types: " + ", ".join(f"`{it.name}`" for it in kept) + "."), ""]
-        for key in own:
-            module = house.specs[key]
-            wanted = in_order(module, items)
-            say = sentence(module.head, 100)
-            out += [wrapped(f"`specs/{key[1].replace('.', '/')}`, {len(wanted)} of {len(module.items)}. {say}" + ("." if say else "")), ""]
-            for item in wanted:
-                say = sentence(item.comment, 112 - len(item.name)) or "the same comment, above"
-                out.append(f"- `{item.name}`: {say}")
-            out.append("")
-    out += ["## What the claim does not need", "",
-            wrapped("Files of definitions of which the claim needs none. They serve other calls that a host may make, private code (how a value is kept, "
-                    "what a step does inside), or proofs. `calls`: contracts of public calls of the product name them; `inside`: contracts of private "
-                    "functions alone; `tests`, `proofs`: these alone."), ""]
-    kinds = house_uses(house)
-    out += ["| File | serves | what it has |", "|---|---|---|"]
+    parts = [chapter for chapter in [*CHAPTERS, OTHER] if claim.of(chapter)]
+    text = {chapter[0] for chapter in parts if chapter[1]}
+    out = ["# The claim: what has to be believed", ""]
+    out += [wrapped(f"`{ROOT_CALL}` of `crates/{ROOT_CRATE}/src/{ROOT_FILE}.rt` promises all that the program does. Its clauses are proved. What is left to "
+                    "believe is that they say what was meant: they, and the definitions that their words stand for. This page has the definitions "
+                    "for plays with paths, core first. It has no proof and no code."), ""]
+    out += [wrapped("`tools/claim.py` writes the page from the files; do not edit it. The words `abbrev`, `unfoldable` and `pub` are left out. "
+                    "A line `-- .. jumps` says which lines of a definition stand in another chapter; behind a chapter stand the words that it "
+                    "takes from others."), ""]
+    all_rows = count_of(claim.definitions)
+    out += ["| Chapter | on this page | definitions | lines |", "|---|---|---|---|"]
+    for chapter in parts:
+        count = count_of([it for _, items in claim.of(chapter) for it in items])
+        where = "yes" if chapter[1] else f"`tools/claim.py --read {chapter[0]}`" + (", or [FORMATS](FORMATS.md)" if chapter[0] == "texts" else "")
+        out.append(f"| {chapter[2]} | {where} | {count[0]} | {count[1]} |")
+    shown_rows = count_of([it for it in claim.definitions if claim.chapter[it] in text])
+    out += [f"| all of the claim | {shown_rows[0]} definitions | {all_rows[0]} | {all_rows[1]} |",
+            f"| all of `specs/` | | {len(everything)} | {sum(map(lines_of, everything))} |", ""]
+    out += [wrapped(f"Beside these the claim has {len(claim.types)} types, traits and constants of the code, and {len(claim.std)} words of the "
+                    "toolchain's library. "
+                    "A chapter begins with the types that it needs, as contracts see them; a part without a type is a number."), ""]
+    out += ["## The clauses", "", wrapped(f"Of each clause of `{ROOT_CALL}` the words that this repository defines, and how many definitions stand behind them. "
+            "From `ok`, a field of `TellsWhatWasDone`, the way leads over `HasDone`, `IsTextDue`, `IsRunText` and `IsTextOf` (`--read program`) "
+            "to `IsPlayText`."), ""]
+    rows = []
+    for name, words in claim.clauses:
+        cited = sorted({it.name for it in house.cited(claim.root, words)[0] if it.kind == "definition"})
+        behind = [it for it in house.reached(house.cited(claim.root, words)[0]) if it.kind == "definition"]
+        rows.append(f"`{name}`: " + (", ".join(f"`{word}`" for word in cited) or "words of the library alone") + f" ({len(behind)})")
+    out += [wrapped("; ".join(rows) + "."), ""]
+    seen = set()
+    for chapter in CHAPTERS:
+        if chapter[1]:
+            out += chapter_text(claim, chapter, 2, seen)
+    return "\n".join(out)
+
+
+def rest(house):
+    """The files of definitions that the claim does not need, and whom they serve."""
+    kinds, modules = house_uses(house), set(Claim(house).modules)
     for (crate, name), module in house.specs.items():
         if (crate, name) not in modules and module.items:
             serves = min((kinds.get(item, "nothing") for item in module.items.values()), key=ORDER.index)
-            out.append(f"| `{crate}/specs/{name.replace('.', '/')}` | {serves} | {sentence(module.head, 84).replace('|', '/')} |")
-    out.append("")
-    return "\n".join(out)
+            print(f"{crate}/specs/{name.replace('.', '/')}  {serves}  {sentence(module.head, 84)}")
 
 
 def units_of(item):
@@ -395,7 +575,7 @@ def units_of(item):
     fields = bool(re.match(r" *(?:pub )?(?:record|data) ", text[0]))
     units = [text[:1]]
     for line in text[1:]:
-        if len(line) - len(line.lstrip()) == base + 2 * fields:
+        if len(line) - len(line.lstrip()) == base + 2 * fields and not line.lstrip().startswith("}"):
             units.append([line])
         else:
             units[-1].append(line)
@@ -403,39 +583,30 @@ def units_of(item):
 
 
 def without(house, parts):
-    """How many definitions and lines the claim would have if these parts were not there: their definitions fall, with each equation for a
-    constructor of theirs, each field or variant that names something of theirs, and all that nothing else names."""
+    """The definitions that the claim would have if these parts were not there: their definitions fall, with each equation for a constructor of
+    theirs, each field or variant that names something of theirs, and all that nothing else names."""
     words = {word for part in parts for word in PARTS[part].split()}
     gone = {item for module in house.specs.values() for item in module.items.values()
             if words & {item.name, f"{item.crate}/{item.module}", f"{item.crate}/{item.module}.{item.name}"}}
-    named = re.compile(r"(?<![\w.])(?:" + "|".join(re.escape(word) for word in words if "/" not in word and ":" not in word) + r")(?![\w'-])|(?!)")
+    named = [any_of(PARTS[part], r"\w.") for part in parts]
     root = house.code[ROOT_CRATE, ROOT_FILE]
     head, clauses = house.clauses(root, ROOT_CALL)
-    texts = [head[:head.index(clauses[0][1])]] + [text for name, text in clauses if f"clause:{name}" not in words]
+    texts = [head[:head.index(clauses[0][1])]] + [text for _, text in clauses]
     todo = [item for text in texts for item in house.cited(root, text)[0]]
-    seen, lines = set(), 0
+    seen = set()
     while todo:
         item = todo.pop()
         if item in seen or item in gone:
             continue
         seen.add(item)
         cites = item.cites
-        if item.kind == "definition":
+        if item.kind == "definition" and words:
             units, fields = units_of(item)
-            if words:
-                units = units[:1] + [it for it in units[1:] if not named.search("\n".join(it) if fields else re.split(r" =\s", "\n".join(it))[0])]
-            kept = [line for unit in units for line in unit]
-            cites, lines = house.cited(house.specs[item.crate, item.module], "\n".join(kept + item.outer), item)[0], lines + len(kept)
+            units = units[:1] + [it for it in units[1:] for text in ["\n".join(it) if fields else re.split(r" =\s", "\n".join(it))[0]]
+                                 if not any(names.search(text) for names in named)]
+            cites = house.cited(house.specs[item.crate, item.module], "\n".join([line for unit in units for line in unit] + item.outer), item)[0]
         todo += cites
-    return sum(1 for item in seen if item.kind == "definition"), lines
-
-
-def parts_table(house):
-    """How much of the claim came with which part."""
-    whole = without(house, [])
-    rows = [f"| {part} | {whole[0] - less[0]} | {whole[1] - less[1]} |" for part in PARTS for less in [without(house, [part])]]
-    rest = without(house, list(PARTS))
-    return ["| Part | definitions | lines |", "|---|---|---|", *rows, f"| all else | {rest[0]} | {rest[1]} |"]
+    return {item for item in seen if item.kind == "definition"}
 
 
 ORDER = ["calls", "inside", "tests", "proofs", "nothing"]
@@ -524,23 +695,33 @@ def main():
         behind(house, sys.argv[sys.argv.index("--of") + 1])
         return 0
     if "--calls" in sys.argv:
-        try:
-            calls(house)
-        except BrokenPipeError:
-            sys.stderr.close()
+        calls(house)
         return 0
     if "--unused" in sys.argv:
         unused(house)
         return 0
+    if "--rest" in sys.argv:
+        rest(house)
+        return 0
+    if "--read" in sys.argv and sys.argv[-1] != "play":
+        chapter = next((it for it in [*CHAPTERS, OTHER] if it[0] == sys.argv[-1]), None)
+        if chapter is None:
+            print("chapters: play (the page) " + " ".join(it[0] for it in CHAPTERS))
+            return 1
+        print("\n".join(chapter_text(Claim(house), chapter, 1, set())))
+        return 0
     text = page(house)
     if "--check" in sys.argv:
         same = PAGE.exists() and PAGE.read_text() == text
-        print("docs/CLAIM.md is what the files say" if same else "docs/CLAIM.md is stale: run python3 tools/claim.py")
+        print("docs/CLAIM.md is what the files say" if same else "docs/CLAIM.md is stale: run tools/claim.py")
         return 0 if same else 1
     PAGE.write_text(text)
-    print("\n".join(line for line in text.splitlines() if line.startswith("| ") and ("definitions" in line or "lines" in line)))
+    print(next(line for line in text.splitlines() if line.startswith("| all of the claim")), f"{len(text.encode())} bytes")
     return 0
 
 
 if __name__ == "__main__":
-    sys.exit(main())
+    try:
+        sys.exit(main())
+    except BrokenPipeError:
+        sys.stderr.close()
