@@ -1,7 +1,7 @@
 //! The memory that the library asks for: the C library's.
 
 use std::ffi::c_void;
-use std::ptr::addr_of_mut;
+use std::ptr::NonNull;
 
 extern "C" {
     fn malloc(size: usize) -> *mut c_void;
@@ -16,9 +16,8 @@ struct Tried {
 }
 
 fn tried(block: *mut c_void) -> Tried {
-    static mut NO_BLOCK: u8 = 0;
     if block.is_null() {
-        Tried { ok: false, block: addr_of_mut!(NO_BLOCK).cast() }
+        Tried { ok: false, block: NonNull::<u128>::dangling().as_ptr().cast() }
     } else {
         Tried { ok: true, block }
     }
