@@ -8,32 +8,47 @@ BLUE, SKY, GREEN, ORANGE, RED, PURPLE, YELLOW = "#0072b2", "#56b4e9", "#009e73",
 # Areas take these in order, the greatest number first; 63 is what most ground is.
 AREA_COLOURS = (SKY, ORANGE, PURPLE, YELLOW, GREEN, RED, BLUE)
 SHADES = 8
-# The lines of a drawing: how each is drawn, and how wide in pixels where a cell has many of them.
+# The lines of a drawing: how each is drawn, how wide in pixels where a cell has many of them, and its dashes, in pixels too.
 LINES = {
-    "p": ("stroke:#23364d;fill-opacity:.42", 0.8),
-    "tile": ("fill:none;stroke:#1a1a1a;stroke-dasharray:5 3", 1.2),
-    "o": ("fill:url(#hatch);stroke:#000", 1.6),
-    "in": ("fill:none;stroke:#e69f00", 2.6),
-    "gate": ("stroke:#d55e00;stroke-linecap:round", 3.2),
-    "halo": ("fill:none;stroke:#fff;stroke-linejoin:round", 6),
-    "path": ("fill:none;stroke:#0072b2;stroke-linejoin:round", 3),
-    "jump": ("fill:none;stroke:#cc79a7;stroke-dasharray:7 3", 3),
-    "ray": ("fill:none;stroke:#000;stroke-dasharray:2 4", 2),
-    "wall": ("stroke:#d55e00", 5),
-    "none": ("fill:none;stroke:#000;stroke-dasharray:8 5", 1.4),
-    "from": ("fill:#fff;stroke:#000", 1.6),
-    "to": ("fill:#000;stroke:#fff", 1),
-    "turn": ("fill:#f0e442;stroke:#000", 1.2),
+    "p": ("stroke:#23364d;fill-opacity:.42", 0.8, ()),
+    "tile": ("fill:none;stroke:#1a1a1a", 1.2, (5, 3)),
+    "o": ("fill:url(#hatch);stroke:#000", 1.6, ()),
+    "paint": ("fill-opacity:.3", 1.6, (6, 3)),
+    "in": ("fill:none;stroke:#e69f00", 2.6, ()),
+    "gate": ("stroke:#d55e00;stroke-linecap:round", 3.2, ()),
+    "halo": ("fill:none;stroke:#fff;stroke-linejoin:round", 6, ()),
+    "path": ("fill:none;stroke:#0072b2;stroke-linejoin:round", 3, ()),
+    "jump": ("fill:none;stroke:#cc79a7", 3, (7, 3)),
+    "ray": ("fill:none;stroke:#000", 2, (2, 4)),
+    "wall": ("stroke:#d55e00", 5, ()),
+    "none": ("fill:none;stroke:#000", 1.4, (8, 5)),
+    "from": ("fill:#fff;stroke:#000", 1.6, ()),
+    "to": ("fill:#000;stroke:#fff", 1, ()),
+    "turn": ("fill:#f0e442;stroke:#000", 1.2, ()),
 }
+FONT = "text{font-family:'DejaVu Sans',Verdana,sans-serif;fill:#1a1a1a}"
 
 
 def style(cell):
-    """The style of a drawing whose cells have so many pixels: on small cells lines are thin."""
-    part = max(0.3, min(1, cell / 10))
-    rows = ["text{font-family:'DejaVu Sans',Verdana,sans-serif;fill:#1a1a1a}"]
-    for name, (how, width) in LINES.items():
-        rows.append(f".{name}{{{how};stroke-width:{show(width * part)};vector-effect:non-scaling-stroke}}")
+    """The style of a picture whose cells have so many pixels: widths and dashes are in cells, so that every viewer draws them; in its legend, `key`,
+    in pixels."""
+    part = thin(cell)
+    rows = [FONT]
+    for name, (how, width, dashes) in LINES.items():
+        rows.append(f".{name}{{{how};{widths(width * part, dashes, 1 / cell)}}}")
+        rows.append(f".key .{name}{{{widths(width * part, dashes, 1)}}}")
     return "\n".join(rows)
+
+
+def thin(cell):
+    """On small cells lines are thin."""
+    return max(0.3, min(1, cell / 10))
+
+
+def widths(width, dashes, unit):
+    """The width and the dashes of a line, in units of so many to a pixel."""
+    text = f"stroke-width:{show(width * unit)}"
+    return text + (f";stroke-dasharray:{' '.join(show(dash * unit) for dash in dashes)}" if dashes else "")
 
 
 def show(number):
@@ -153,8 +168,8 @@ class Drawing:
     def obstacle(self, obstacle):
         """A block over its columns, or a cylinder as wide as it reaches."""
         title = f"<title>obstacle {obstacle.number}: {obstacle.kind} {' '.join(map(str, obstacle.numbers))}</title>"
-        style = "" if obstacle.area is None else f' style="fill:{self.area_colour(obstacle.area)};fill-opacity:.3;stroke-dasharray:6 3"'
-        head = f'class="o" data-o="{obstacle.number}"{style}'
+        name, style = ("o", "") if obstacle.area is None else ("o paint", f' style="fill:{self.area_colour(obstacle.area)}"')
+        head = f'class="{name}" data-o="{obstacle.number}"{style}'
         if obstacle.kind == "block":
             x0, x1, low, high, z0, z1 = obstacle.numbers
             width, height = x1 - x0 + 1, z1 - z0 + 1

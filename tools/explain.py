@@ -2,13 +2,15 @@
 """Says in words what is wrong with an input: the line of its fault, what was expected there, and why.
 
 The program navd tells a fault as `fault LINE KIND`. This asks it for the fault of an input, or takes one by --fault, and prints the line
-and one sentence. docs/FORMATS.md has the grammar and the kinds.
+and one sentence, and a way out where the level is too large. A text with `tri` lines is taken for one of `navd raster`. docs/FORMATS.md
+has the grammar and the kinds.
 """
 import argparse
 import os
 import subprocess
 import sys
 
+from frames import MOST_COLUMNS, read_frame, ways_out
 from inputs import HERE, Trouble, read_input
 
 PROGRAM = os.path.join(HERE, "..", "crates", "navd", "out", "navd")
@@ -28,6 +30,9 @@ KINDS = {
     11: ("TooManyLines", "as many lines as a script may have stand before this one: 300000 behind `script`, or, for `live`, 262144 that add or take away"),
     12: ("TooManyJumps", "256 `jump` lines stand before this one, as many as a script may have"),
 }
+# The kind that texts of triangles have in place of TooMany.
+TRIANGLE_KINDS = {13: ("TooManyTriangles", "100000 triangles stand before this line, as many as a triangle text may have")}
+LARGER = "larger cells, or a part of the level, would fit (--cell-size and --crop of tools/obj2tri.py)"
 
 # The forms of lines, with their limits.
 FORMS = {
@@ -41,6 +46,7 @@ FORMS = {
     "clear": "clear V, 0 or 1, and 1 only where the side of a tile is at least twice the radius",
     "cost": "cost AREA COST, AREA 1 to 63 and above the one before, COST 1 to 1000",
     "span": "span X Z BOTTOM TOP AREA, X and Z in the field, BOTTOM below TOP, TOP at most 8191, AREA 0 to 63",
+    "tri": "tri X Y Z X Y Z X Y Z AREA, X and Z at most 16384 (sixteenths of a cell), Y at most 8190, AREA 0 to 63",
     "end": "end",
     "script": "script LANES WORKERS, LANES 1 to 16, WORKERS 1 to 8",
     "lane": "lane I, I below LANES",
@@ -76,6 +82,9 @@ AFTER = {
     "span": ["span", "end"],
     "end": ["script"],
 }
+# What follows in a triangle text: triangles stand in the place of spans, and nothing behind `end`.
+AFTER_TRIANGLES = {word: [form if form != "span" else "tri" for form in forms] for word, forms in AFTER.items() if word not in ("span", "end")}
+AFTER_TRIANGLES["tri"] = ["tri", "end"]
 PLAYED = ["lane", "add", "remove", "drop", "floor", "path", "ray", "settle", "aim", "publish", "claim", "back", "submit", "jump", "hop"]
 LIVED = [word for word in PLAYED if word not in ("aim", "publish", "claim", "back", "submit", "jump", "hop")] + ["send", "march"]
 
@@ -84,14 +93,14 @@ def first_word(line):
     return line.split(b" ")[0].decode("ascii", "replace")
 
 
-def expected(lines, number, live):
+def expected(lines, number, way):
     """The forms that may stand in a line, given the lines before it."""
     before = first_word(lines[number - 2]) if 2 <= number <= len(lines) + 1 else None
     if number > 1 and any(line.startswith(b"script ") for line in lines[: number - 1]):
-        return LIVED if live else PLAYED
+        return LIVED if way == "live" else PLAYED
     if before == "limit" and lines[0] == b"nav 2":
         return ["clear"]
-    return AFTER.get(before, [])
+    return (AFTER_TRIANGLES if way == "raster" else AFTER).get(before, [])
 
 
 def spelled(lines, number):
@@ -103,18 +112,27 @@ def spelled(lines, number):
     return repr(text)[1:-1] if text else "(an empty line)"
 
 
-def explain(lines, number, kind, live=False):
+def explain(lines, number, kind, way="play", frame=None):
     """The words for a fault, one line each."""
-    if kind not in KINDS:
-        raise Trouble(f"there is no kind of fault {kind}; the kinds are 1 to {max(KINDS)}")
-    name, why = KINDS[kind]
+    kinds = {**KINDS, **TRIANGLE_KINDS}
+    if kind not in kinds:
+        raise Trouble(f"there is no kind of fault {kind}; the kinds are 1 to {max(kinds)}")
+    name, why = kinds[kind]
     words = [f"line {number}: {spelled(lines, number)}", f"kind {kind}, {name}: {why}."]
-    due = expected(lines, number, live)
+    due = expected(lines, number, way)
     here = first_word(lines[number - 1]) if number <= len(lines) else ""
     forms = [here] if kind not in (1, 7, 8) and here in FORMS else due
     if forms:
         words.append("expected here: " + "; or ".join(FORMS[form] for form in forms))
-    return words
+    return words + way_out(lines, number, kind, here, frame)
+
+
+def way_out(lines, number, kind, here, frame):
+    """What makes a level fit that is too large, in one line; none where it is not."""
+    if kind == 2 and here == "size":
+        size = [int(word) for word in lines[number - 1].split(b" ")[1:] if word.isdigit()]
+        return [f"a way out: {ways_out(size, frame)}"] if len(size) == 2 and max(size) > MOST_COLUMNS else []
+    return [f"a way out: {LARGER}"] if kind in (6, 13) else []
 
 
 def told(navd, way, data):
@@ -125,6 +143,8 @@ def told(navd, way, data):
     first = ran.stdout.split(b"\n")[0].decode("ascii", "replace")
     if first == "fault too long":
         raise Trouble("the input has more than 67108864 bytes")
+    if first == "fault too many spans":
+        raise Trouble(f"the triangles give more than 2000000 spans; {LARGER}")
     if first.startswith("fault "):
         return tuple(int(word) for word in first.split(" ")[1:])
     if ran.returncode != 0:
@@ -132,15 +152,29 @@ def told(navd, way, data):
     return None
 
 
-def main():
+def way_of(words, lines):
+    """The word of navd that the input is for."""
+    is_raster = words.raster or any(line.startswith(b"tri ") for line in lines)
+    return "live" if words.live else "raster" if is_raster else "play"
+
+
+def arguments():
     parser = argparse.ArgumentParser(description=__doc__, formatter_class=argparse.RawDescriptionHelpFormatter)
     parser.add_argument("input", help="an input of navd")
     parser.add_argument("--fault", type=int, nargs=2, metavar=("LINE", "KIND"), help="explain this fault of the input, and ask no program")
     parser.add_argument("--live", action="store_true", help="take the input as one of `navd live`, not of `navd play`")
+    parser.add_argument("--raster", action="store_true", help="take the input as one of `navd raster`, as is done where it has a `tri` line")
+    parser.add_argument("--frame", metavar="FILE", help="the frame that tools/obj2tri.py --frame wrote: a way out is told in the numbers of the level's file")
     parser.add_argument("--program", metavar="FILE", help="the built program navd (default crates/navd/out/navd)")
-    words = parser.parse_args()
+    return parser.parse_args()
+
+
+def main():
+    words = arguments()
     try:
         lines = read_input(words.input)
+        frame = read_frame(words.frame) if words.frame else None
+        way = way_of(words, lines)
         if words.fault:
             fault = tuple(words.fault)
             if not 1 <= fault[0] <= len(lines) + 1:
@@ -148,11 +182,11 @@ def main():
         else:
             with open(words.input, "rb") as file:
                 navd = words.program or os.environ.get("NAVD") or PROGRAM
-                fault = told(navd, "live" if words.live else "play", file.read())
+                fault = told(navd, way, file.read())
         if fault is None:
             print("the input is in the grammar: navd tells no fault")
         else:
-            print("\n".join(explain(lines, *fault, live=words.live)))
+            print("\n".join(explain(lines, *fault, way, frame)))
     except Trouble as trouble:
         sys.exit(f"explain.py: {trouble}")
 

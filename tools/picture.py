@@ -17,6 +17,7 @@ LEGEND = 22
 # What is drawn by each name, for the legend.
 MARKS = {
     "o": ('<rect width="16" height="12" fill="#fff" stroke="#000" stroke-width="1.6"/><path d="M1 11L11 1M7 11L15 3" stroke="#000" fill="none"/>', "obstacle"),
+    "o paint": ('<rect class="o paint" style="fill:#fff" width="16" height="12"/>', "obstacle that sets an area"),
     "path": ('<path class="path" d="M0 6h16"/>', "path"),
     "in": ('<rect class="in" width="16" height="12"/>', "corridor"),
     "gate": ('<path class="gate" d="M1 6h14"/>', "portal"),
@@ -62,7 +63,7 @@ def legend(drawing, top, cell, body, title):
     for name, (mark, words) in MARKS.items():
         if f'class="{name}"' in body:
             entry(mark, words)
-    return "".join(parts), y + MARGIN
+    return f'<g class="key">{"".join(parts)}</g>', y + MARGIN
 
 
 def draw(play, length, floors, polygons):

@@ -2,6 +2,8 @@
 """Tests of tools/picture.py and tools/page.py on the examples: every polygon of the engine's scene is drawn and no other, with corners that
 were worked out by hand, at each published length. Pages are opened in a headless Chromium, if there is one.
 
+The pictures of docs/pictures look the same by rsvg-convert and by Chromium, if there are both.
+
 usage: [NAVD_SCENE=FILE] python3 tools/tests/test_drawings.py     with the built navd_scene, crates/navd_scene/out/navd_scene if none is named
 """
 import os
@@ -11,6 +13,7 @@ import subprocess
 import sys
 import tempfile
 import unittest
+import zlib
 
 HERE = os.path.dirname(os.path.abspath(__file__))
 TOOLS = os.path.join(HERE, "..")
@@ -18,7 +21,9 @@ EXAMPLES = os.path.join(HERE, "..", "..", "examples")
 sys.path.insert(0, TOOLS)
 import scenes
 
+PICTURES = os.path.join(HERE, "..", "..", "docs", "pictures")
 CHROMIUM = shutil.which("chromium") or shutil.which("chromium-browser")
+RSVG = shutil.which("rsvg-convert")
 POLYGON = re.compile(r'<polygon class="p" [^>]*data-p="(\d+) (\d+) (\d+) (\d+) (\d+)" points="([^"]*)"/>')
 
 # Of the example `detour`, a room of 12 by 10 columns in one tile, whose rows 1 to 8 are strips from column 1 to 10: the published length, how
@@ -134,6 +139,60 @@ class Pictures(unittest.TestCase):
                     self.assertNotIn("Traceback", ran.stderr)
         ran = run("picture.py", example("detour"), "--length", 7)
         self.assertIn("the published lengths are 0, 1, 2, 3", ran.stderr)
+
+
+def pixels(path):
+    """The width of a PNG file of eight bits a colour, and its rows of bytes, three a pixel."""
+    with open(path, "rb") as file:
+        data = file.read()
+    at, body = 8, b""
+    while at < len(data):
+        size, kind = int.from_bytes(data[at : at + 4], "big"), data[at + 4 : at + 8]
+        chunk = data[at + 8 : at + 8 + size]
+        if kind == b"IHDR":
+            width, colours = int.from_bytes(chunk[:4], "big"), {2: 3, 6: 4}[chunk[9]]
+        body += chunk if kind == b"IDAT" else b""
+        at += size + 12
+    flat, rows, before = zlib.decompress(body), [], bytes(width * colours)
+    for start in range(0, len(flat), width * colours + 1):
+        before = unfiltered(flat[start], flat[start + 1 : start + 1 + width * colours], before, colours)
+        rows.append(bytes(part for at, part in enumerate(before) if at % colours < 3))
+    return width, rows
+
+
+def unfiltered(kind, row, before, step):
+    """A row of a PNG file as it was before its filter."""
+    found = bytearray(row)
+    for at in range(len(found)):
+        left, up, corner = (found[at - step] if at >= step else 0), before[at], (before[at - step] if at >= step else 0)
+        near = min((left, up, corner), key=lambda part: abs(left + up - corner - part))
+        found[at] = (found[at] + (0, left, up, (left + up) // 2, near)[kind]) % 256
+    return found
+
+
+@unittest.skipUnless(CHROMIUM and RSVG, "there is no Chromium or no rsvg-convert")
+class Viewers(unittest.TestCase):
+    def test_two_viewers_draw_the_same(self):
+        """Of each hundred pixels fewer than three differ by more than a fourth of the brightness, between a browser and librsvg."""
+        for name in ("storeroom", "ledge", "mud"):
+            path = os.path.join(PICTURES, name + ".svg")
+            with self.subTest(name=name), tempfile.TemporaryDirectory() as folder:
+                with open(path, encoding="utf-8") as file:
+                    size = re.search(r'width="(\d+)" height="(\d+)"', file.read()).groups()
+                one, two = os.path.join(folder, "one.png"), os.path.join(folder, "two.png")
+                subprocess.run([RSVG, "-o", one, path], check=True)
+                words = ["--headless", "--no-sandbox", "--disable-gpu", "--hide-scrollbars", f"--user-data-dir={folder}/own", f"--window-size={','.join(size)}"]
+                subprocess.run([CHROMIUM, *words, f"--screenshot={two}", "file://" + os.path.abspath(path)], capture_output=True, timeout=300)
+                width, rows = pixels(one)
+                self.assertEqual((width, len(rows)), tuple(map(int, size)))
+                pairs = [(a, b) for row, other in zip(rows, pixels(two)[1]) for a, b in zip(row, other)]
+                self.assertLess(sum(abs(a - b) > 64 for a, b in pairs), 0.03 * len(pairs))
+
+    def test_no_picture_asks_for_what_a_viewer_may_not_know(self):
+        for name in sorted(os.listdir(PICTURES)):
+            if name.endswith(".svg"):
+                with open(os.path.join(PICTURES, name), encoding="utf-8") as file:
+                    self.assertNotIn("vector-effect", file.read())
 
 
 # What a page does when its slider is moved to each place, and when its first path is clicked: the counts of what is drawn then.
