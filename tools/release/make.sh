@@ -79,7 +79,7 @@ told_build() {
     [ -z "$gate" ] || echo "last line of the gate: $(tail -n 1 "$gate")"
 }
 
-lay_papers() {
+lay_documents() {
     cp "$top/LICENSE" "$top/LICENSE-MIT" "$top/LICENSE-APACHE" "$top/CHANGELOG.md" "$1"
 }
 
@@ -106,36 +106,36 @@ make_tarball() {
     cp "$1/lib/libnavd.so.$version.debug" "$tree/lib/.debug"
     cp "$program" "$tree/bin/navd"
     chmod 755 "$tree/bin/navd"
-    lay_papers "$tree"
+    lay_documents "$tree"
     lay_first "$tree"
     lay_hosts "$tree"
     filled package.md "$tree/README.md"
     told_build >"$tree/BUILD.txt"
     (cd "$tree" && find . -type f | sort | xargs sha256sum >"$1/sums" && mv "$1/sums" SHA256SUMS)
-    packed "$1/trees" "$full" | xz -T1 -9e >"$1/out/$full.tar.xz"
+    packed "$1/trees" "$full" | xz --threads=1 -9e >"$1/out/$full.tar.xz"
 }
 
 # == Debian packages ==
 
-debian_papers() {
-    papers=$1/usr/share/doc/$2
-    mkdir -p "$papers"
+debian_documents() {
+    documents=$1/usr/share/doc/$2
+    mkdir -p "$documents"
     {
         echo "Format: https://www.debian.org/doc/packaging-manuals/copyright-format/1.0/"
         printf '\nFiles: *\nCopyright: 2026 the authors of navd\nLicense: Expat or Apache-2.0\n'
         printf '\nLicense: Expat\n'
         sed -e '1,4d' -e 's/^$/./' -e 's/^/ /' "$top/LICENSE-MIT"
         printf '\nLicense: Apache-2.0\n On Debian systems its text is in /usr/share/common-licenses/Apache-2.0.\n'
-    } >"$papers/copyright"
+    } >"$documents/copyright"
     printf 'navd (%s) unstable; urgency=low\n\n  * CHANGELOG.md of the source has the changes.\n\n -- %s  %s\n' \
-        "$version" "$maintainer" "$(date -R -d "@$SOURCE_DATE_EPOCH")" | gzip -n9 >"$papers/changelog.gz"
+        "$version" "$maintainer" "$(date -R -d "@$SOURCE_DATE_EPOCH")" | gzip -n9 >"$documents/changelog.gz"
 }
 
 # deb DIR NAME SECTION DEPENDS WHAT MORE: packs what lies in DIR/debs/NAME.
 deb() {
     root=$1/debs/$2
     mkdir -p "$root/DEBIAN"
-    debian_papers "$root" "$2"
+    debian_documents "$root" "$2"
     size=$(find "$root/usr" -type f -printf '%s\n' | awk '{ all += $1 } END { print int((all + 1023) / 1024) }')
     {
         printf 'Package: %s\nSource: navd\nVersion: %s\nArchitecture: amd64\nMaintainer: %s\n' "$2" "$version" "$maintainer"
@@ -195,7 +195,7 @@ make_crate() {
     tracked hosts/rust "$tree" Cargo.toml build.rs src
     cp "$1/lib/libnavd.a" "$tree/native"
     cp "$parts/first/first.rs" "$top/examples/detour.nav" "$tree/examples"
-    lay_papers "$tree"
+    lay_documents "$tree"
     packed "$1/crates" "$name" | gzip -n9 >"$1/out/$name.crate"
 }
 
