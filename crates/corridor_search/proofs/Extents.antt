@@ -24,7 +24,7 @@ use Rattle.graph_search.specs.declared.graph.Vertex.{Vertex}
 use Rattle.graph_search.specs.declared.graph.Step.{Step}
 use Rattle.graph_search.specs.Walks.{arc_of}
 use Rattle.corridor_search.specs.MeshGraphs.{IsThere, polygon_of, arcs_from}
-use Rattle.corridor_search.specs.Estimates.{IsBox, nowhere, extent_at, middle_of, estimates_of}
+use Rattle.corridor_search.specs.Estimates.{IsBox, nowhere, extent_at, middle_of, estimate_from}
 use Rattle.corridor_search.proofs.Boxes.{low-corner, high-corner, low-bound, high-bound}
 use Rattle.corridor_search.proofs.Sound.{placed, polygon-rules}
 use Rattle.corridor_search.proofs.Searchable.{step-enters, step-weight}
@@ -79,7 +79,7 @@ extent-rules mesh at extent sound there same =
 
 -- the estimate by the extent
 pub estimate-by : (mesh : Mesh) (goal : Point) (v : Vertex) (extent : Extent) → IsThere mesh (polygon_of v) → extent ≡ extent_at mesh (polygon_of v)
-    → ceil_sqrt_of (square_of (from_to (middle_of extent) goal)) ≡ estimates_of mesh goal v
+    → ceil_sqrt_of (square_of (from_to (middle_of extent) goal)) ≡ estimate_from mesh goal (polygon_of v)
 estimate-by mesh goal v extent there same =
     ap (λ (e : Extent). ceil_sqrt_of (square_of (from_to (middle_of e) goal))) (same ∙ extent-is mesh (polygon_of v) there.polygon there.is)
     ∙ sym (ap (λ (o : Option Polygon). option_map_or (λ (polygon : Polygon). ceil_sqrt_of (square_of (from_to (centre_of polygon.corners) goal))) o 0) there.is)

@@ -104,16 +104,16 @@ outer-listed mesh t sound = by_links (slice_get mesh.cross t) refl
             record { listed = inr (links, ap (slice_get mesh.cross) from ∙ is, Contains-get_or links k d below) }
 
 -- an estimate by landmarks is one that a mesh may be searched with
-module _ (mesh : Mesh) (goal : Point) (heights : List ℕ) where
-  by-most : (marks : Option Heights) → IsSearchedBy mesh goal marks → (v : Vertex) → estimates_by mesh goal marks heights v ≤ 4294967295
-  by-most None rules v = omega (arith, estimate-most mesh goal (polygon_of v) rules.searched.sound rules.searched.in_field)
-  by-most (Some marks) rules v = omega (arith, estimate-most mesh goal (polygon_of v) rules.searched.sound rules.searched.in_field)
+module _ (mesh : Mesh) (goal : Point) (least : ℕ) (heights : List ℕ) where
+  by-most : (marks : Option Heights) → IsSearchedBy mesh goal least marks → (v : Vertex) → estimates_by mesh goal least marks heights v ≤ 4294967295
+  by-most None rules v = omega (arith, estimate-most mesh goal (polygon_of v) least rules.searched.sound rules.searched.setting rules.searched.in_field rules.cost)
+  by-most (Some marks) rules v = omega (arith, estimate-most mesh goal (polygon_of v) least rules.searched.sound rules.searched.setting rules.searched.in_field rules.cost)
 
-  by-falls : (marks : Option Heights) (link : Link) → IsSearchedBy mesh goal marks → IsLinkOf mesh link
-      → estimates_of mesh goal (vertex_of link.from)
-      ≤ weight_of mesh link + estimates_of mesh goal (vertex_of link.to)
-      → estimates_by mesh goal marks heights (vertex_of link.from)
-      ≤ weight_of mesh link + estimates_by mesh goal marks heights (vertex_of link.to)
+  by-falls : (marks : Option Heights) (link : Link) → IsSearchedBy mesh goal least marks → IsLinkOf mesh link
+      → estimates_of mesh goal least (vertex_of link.from)
+      ≤ weight_of mesh link + estimates_of mesh goal least (vertex_of link.to)
+      → estimates_by mesh goal least marks heights (vertex_of link.from)
+      ≤ weight_of mesh link + estimates_by mesh goal least marks heights (vertex_of link.to)
   by-falls None link rules listed falls = falls
   by-falls (Some marks) link rules listed falls =
       both _ _ _ _ _ _ falls (gap-triangle 8 (heights_at marks link.from) (heights_at marks link.to) heights) (rules.landmarks.each link listed).gap
@@ -121,18 +121,19 @@ module _ (mesh : Mesh) (goal : Point) (heights : List ℕ) where
       both : (d e w p q r : ℕ) → d ≤ w + e → p ≤ r + q → r ≤ w → max d (min p 4294967295) ≤ w + max e (min q 4294967295)
       both d e w p q r h k g = omega (arith, h, k, g)
 
-pub searchable-by : (mesh : Mesh) (goal : Point) (marks : Option Heights) (heights : List ℕ) → IsSearchedBy mesh goal marks
-    → IsSearchable (vertices_of mesh) (arcs_from mesh) (estimates_by mesh goal marks heights) 2897000
-searchable-by mesh goal marks heights rules = record {
+pub searchable-by : (mesh : Mesh) (goal : Point) (least : ℕ) (marks : Option Heights) (heights : List ℕ) → IsSearchedBy mesh goal least marks
+    → IsSearchable (vertices_of mesh) (arcs_from mesh) (estimates_by mesh goal least marks heights) 2897000
+searchable-by mesh goal least marks heights rules = record {
   enters = plain.enters;
   weights = plain.weights;
-  consistent = λ v member. each-arc mesh v (λ arc. estimates_by mesh goal marks heights v ≤ arc.weight + estimates_by mesh goal marks heights arc.to) (λ link held.
+  consistent = λ v member. each-arc mesh v (λ arc. estimates_by mesh goal least marks heights v ≤ arc.weight + estimates_by mesh goal least marks heights arc.to) (λ link held.
       let leading = leads mesh (polygon_of v) link rules.searched.sound held in
-      subst (λ (at : PolyRef). estimates_by mesh goal marks heights (vertex_of at) ≤ weight_of mesh link + estimates_by mesh goal marks heights (vertex_of link.to)) leading.leaves
-      (by-falls mesh goal heights marks link rules leading.listed (estimate-falls mesh link rules.searched.sound rules.searched.setting leading.through goal)));
+      subst (λ (at : PolyRef). estimates_by mesh goal least marks heights (vertex_of at) ≤ weight_of mesh link + estimates_by mesh goal least marks heights (vertex_of link.to)) leading.leaves
+      (by-falls mesh goal least heights marks link rules leading.listed
+      (estimate-falls mesh link rules.searched.sound rules.searched.setting leading.through goal least rules.cost)));
   few = plain.few;
-  small = λ v member. omega (arith, mul-le (length (vertices_of mesh)) 2897000 8000000 2897000 (vertices-few mesh rules.searched.sound) (omega arith), by-most mesh goal heights marks rules v);
+  small = λ v member. omega (arith, mul-le (length (vertices_of mesh)) 2897000 8000000 2897000 (vertices-few mesh rules.searched.sound) (omega arith), by-most mesh goal least heights marks rules v);
 }
   where
-    plain : IsSearchable (vertices_of mesh) (arcs_from mesh) (estimates_of mesh goal) 2897000
-    plain = searchable mesh goal rules.searched
+    plain : IsSearchable (vertices_of mesh) (arcs_from mesh) (estimates_of mesh goal least) 2897000
+    plain = searchable mesh goal least rules.searched rules.cost

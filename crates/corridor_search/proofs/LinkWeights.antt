@@ -1,5 +1,5 @@
 -- What links weigh: no more than a tile's side across, at the greatest cost of an area; and the estimate falls by no more.
-use Rattle.std.proofs.Common.{◌≡◌, ℕ, ◌<◌, ◌≤◌, ◌+◌, ◌-◌, max, min, ℤ, pos, ◌+ℤ◌, ◌-ℤ◌, ◌*ℤ◌, ◌≤ℤ◌, length, refl, subst, ap, ◌∙◌, arith}
+use Rattle.std.proofs.Common.{◌≡◌, ℕ, ◌<◌, ◌≤◌, ◌+◌, ◌-◌, ◌*◌, max, min, ℤ, pos, ◌+ℤ◌, ◌-ℤ◌, ◌*ℤ◌, ◌≤ℤ◌, length, add-mul, refl, subst, ap, ◌∙◌, arith}
 use Rattle.std.specs.Prelude.{All, slice_index, Some, None, Option, unsigned_abs}
 use Rattle.std.specs.Option.{option_map_or}
 use Rattle.std.proofs.lemmas.Int.{ints}
@@ -28,7 +28,7 @@ use Rattle.mesh_types.specs.Corridors.{centre_of, step_cost, weight_of}
 use Rattle.mesh_types.specs.FitTiles.{IsPolygon, IsInSquare}
 use Rattle.mesh_types.specs.Soundness.{IsSound}
 use Rattle.mesh_types.specs.Portals.{LeadsThrough, edge_begin, edge_end}
-use Rattle.corridor_search.specs.Estimates.{weight_from, estimate_from}
+use Rattle.corridor_search.specs.Estimates.{weight_from, estimate_from, IsLeastCost}
 use Rattle.corridor_search.proofs.Boxes.{low, high, low-corner, high-corner, low-bound, high-bound, IsOn, begin_on, end_on, on_above_x, on_below_x, on_above_z, on_below_z}
 use Rattle.corridor_search.proofs.Sound.{placed, tile-fit, polygon-rules}
 
@@ -94,9 +94,9 @@ centre-in_field polygon rules = record {
     below : (l h : ℤ) {c : ℤ} → h ≤ℤ pos 1024 → l ≤ℤ c → c ≤ℤ h → (pos 8 *ℤ (l +ℤ h)) ≤ℤ pos 16384
     below l h most first last = omega (arith, ints)
 
--- no estimate is greater than the distance across the largest field
-pub estimate-most : (mesh : Mesh) (goal : Point) (at : PolyRef) → IsSound mesh → IsInField goal → estimate_from mesh goal at ≤ 23171
-estimate-most mesh goal at sound in_field = by_polygon (poly_at mesh at) refl
+-- no goal is farther than the distance across the largest field
+distance-most : (mesh : Mesh) (goal : Point) (at : PolyRef) → IsSound mesh → IsInField goal → estimate_from mesh goal at ≤ 23171
+distance-most mesh goal at sound in_field = by_polygon (poly_at mesh at) refl
   where
     near : (a b : ℤ) → pos 0 ≤ℤ a → a ≤ℤ pos 16384 → pos 0 ≤ℤ b → b ≤ℤ pos 16384 → unsigned_abs (b -ℤ a) ≤ 16384
     near a b la ha lb hb = omega (arith, ints)
@@ -111,6 +111,15 @@ estimate-most mesh goal at sound in_field = by_polygon (poly_at mesh at) refl
         } in
         let square = dot_of-bound 16384 (from_to (centre_of polygon.corners) goal) (from_to (centre_of polygon.corners) goal) within within in
         ceil_sqrt_of-at_most (square_of (from_to (centre_of polygon.corners) goal)) 23171 (omega (arith, square))
+
+-- no estimate is greater than that at the greatest cost of an area
+pub estimate-most : (mesh : Mesh) (goal : Point) (at : PolyRef) (least : ℕ) → IsSound mesh → IsSetting mesh.setting → IsInField goal → IsLeastCost mesh least
+    → estimate_from mesh goal at * least ≤ 23171000
+estimate-most mesh goal at least sound setting in_field cost =
+    let first : IsArea 1 = record { least = omega arith; most = omega arith } in
+    let few : least ≤ 1000 = omega (arith, cost.each 1 first, (area_cost mesh.setting 1 setting first).1) in
+    let whole = mul-le (estimate_from mesh goal at) least 23171 1000 (distance-most mesh goal at sound in_field) few in
+    omega (arith, whole)
 
 -- a point in the box of a polygon, in sixteenths
 pub record IsInBox (polygon : Polygon) (p : Point) : Type 0 where
@@ -180,13 +189,20 @@ module _ (mesh : Mesh) (link : Link) (sound : IsSound mesh) (setting : IsSetting
       omega (arith, whole, same)
 
   -- the estimate falls along a link by no more than it weighs
-  pub estimate-falls : (goal : Point) → estimate_from mesh goal link.from ≤ weight_of mesh link + estimate_from mesh goal link.to
-  estimate-falls goal =
+  pub estimate-falls : (goal : Point) (least : ℕ) → IsLeastCost mesh least
+      → estimate_from mesh goal link.from * least ≤ weight_of mesh link + estimate_from mesh goal link.to * least
+  estimate-falls goal least cost =
       let from = ap (λ (o : Option Polygon). option_map_or (λ (p : Polygon). ceil_sqrt_of (square_of (from_to (centre_of p.corners) goal))) o 0) through.is_left in
       let to = ap (λ (o : Option Polygon). option_map_or (λ (p : Polygon). ceil_sqrt_of (square_of (from_to (centre_of p.corners) goal))) o 0) through.is_entered in
       let length = ceil_sqrt_of (square_of (from_to (centre_of through.leaves.corners) (centre_of through.enters.corners))) in
       let way = ceil_sqrt_of-from_to (centre_of through.leaves.corners) (centre_of through.enters.corners) goal in
-      let cost = (area_cost mesh.setting through.enters.area setting entered-area).0 in
-      let whole = mul-le (max 1 length) 1 (max 1 length) (slice_index mesh.setting.costs through.enters.area) (omega arith) cost in
+      let whole = mul-le length least (max 1 length) (slice_index mesh.setting.costs through.enters.area) (omega arith) (cost.each through.enters.area entered-area) in
       let same = weight-is mesh link through.leaves through.enters through.is_left through.is_entered in
-      omega (arith, from, to, way, whole, same)
+      let near : estimate_from mesh goal link.from ≤ length + estimate_from mesh goal link.to = omega (arith, from, to, way) in
+      scaled (estimate_from mesh goal link.from) length (estimate_from mesh goal link.to) (weight_of mesh link) near (omega (arith, whole, same))
+    where
+      scaled : (d e f w : ℕ) → d ≤ e + f → e * least ≤ w → d * least ≤ w + f * least
+      scaled d e f w below covered =
+          let times = mul-le d least (e + f) least below (omega arith) in
+          let parts : (e + f) * least ≡ e * least + f * least = add-mul e f least in
+          omega (arith, times, parts, covered)

@@ -1,5 +1,5 @@
 -- A sound mesh is a graph that may be searched.
-use Rattle.std.proofs.Common.{◌≡◌, ◌<◌, ◌≤◌, ◌+◌, List, [], ◌∷◌, length, map, get_or, refl, sym, subst, ap, ◌∙◌, arith}
+use Rattle.std.proofs.Common.{◌≡◌, ℕ, ◌<◌, ◌≤◌, ◌+◌, ◌*◌, List, [], ◌∷◌, length, map, get_or, refl, sym, subst, ap, ◌∙◌, arith}
 use Rattle.std.specs.Prelude.{All, Contains, Some}
 use Rattle.std.proofs.lemmas.Nat.{mul-le}
 use Rattle.std.proofs.lemmas.List.Elements.{All-map, Contains-get_or}
@@ -17,7 +17,7 @@ use Rattle.graph_search.specs.declared.graph.Arc.{Arc}
 use Rattle.graph_search.specs.declared.graph.Step.{Step}
 use Rattle.graph_search.specs.Walks.{arc_of, ends_of, IsSearchable}
 use Rattle.corridor_search.specs.MeshGraphs.{IsThere, vertex_of, polygon_of, vertices_of, links_from, arc_over, arcs_from, no_link, link_of, end_of, IsSearched}
-use Rattle.corridor_search.specs.Estimates.{weight_from, estimate_from, estimates_of}
+use Rattle.corridor_search.specs.Estimates.{weight_from, estimate_from, IsLeastCost, estimates_of}
 use Rattle.corridor_search.proofs.Sound.{leads}
 use Rattle.corridor_search.proofs.MeshWalks.{step-there, arc-over-link}
 use Rattle.corridor_search.proofs.Vertices.{vertices-count, there-contains}
@@ -75,17 +75,18 @@ each-arc mesh v P each =
     All-map P (arc_over mesh) (links_from mesh (polygon_of v)) (λ k d there.
     each (get_or (links_from mesh (polygon_of v)) k d) (Contains-get_or (links_from mesh (polygon_of v)) k d there))
 
--- an estimate is a distance in the field
-pub searchable : (mesh : Mesh) (goal : Point) → IsSearched mesh goal → IsSearchable (vertices_of mesh) (arcs_from mesh) (estimates_of mesh goal) 2897000
-searchable mesh goal rules = record {
+-- an estimate is a distance in the field, at a cost
+pub searchable : (mesh : Mesh) (goal : Point) (least : ℕ) → IsSearched mesh goal → IsLeastCost mesh least
+    → IsSearchable (vertices_of mesh) (arcs_from mesh) (estimates_of mesh goal least) 2897000
+searchable mesh goal least rules cost = record {
   enters = λ v member. each-arc mesh v (λ arc. Contains (vertices_of mesh) arc.to) (λ link held.
       there-contains mesh link.to (enters-there mesh (polygon_of v) link rules.sound held));
   weights = λ v member. each-arc mesh v (λ arc. arc.weight ≤ 2897000) (λ link held.
       weight-most mesh link rules.sound rules.setting (leads mesh (polygon_of v) link rules.sound held).through);
-  consistent = λ v member. each-arc mesh v (λ arc. estimate_from mesh goal (polygon_of v) ≤ arc.weight + estimate_from mesh goal (polygon_of arc.to)) (λ link held.
+  consistent = λ v member. each-arc mesh v (λ arc. estimate_from mesh goal (polygon_of v) * least ≤ arc.weight + estimate_from mesh goal (polygon_of arc.to) * least) (λ link held.
       let leading = leads mesh (polygon_of v) link rules.sound held in
-      subst (λ (at : PolyRef). estimate_from mesh goal at ≤ weight_of mesh link + estimate_from mesh goal link.to) leading.leaves
-      (estimate-falls mesh link rules.sound rules.setting leading.through goal));
+      subst (λ (at : PolyRef). estimate_from mesh goal at * least ≤ weight_of mesh link + estimate_from mesh goal link.to * least) leading.leaves
+      (estimate-falls mesh link rules.sound rules.setting leading.through goal least cost));
   few = omega (arith, vertices-few mesh rules.sound);
-  small = λ v member. omega (arith, mul-le (length (vertices_of mesh)) 2897000 8000000 2897000 (vertices-few mesh rules.sound) (omega arith), estimate-most mesh goal (polygon_of v) rules.sound rules.in_field);
+  small = λ v member. omega (arith, mul-le (length (vertices_of mesh)) 2897000 8000000 2897000 (vertices-few mesh rules.sound) (omega arith), estimate-most mesh goal (polygon_of v) least rules.sound rules.setting rules.in_field cost);
 }

@@ -1,9 +1,10 @@
 -- What a step into a polygon costs from a point, and the estimate of what is left to go, by the extents of polygons.
-use Rattle.std.specs.Prelude.{ℕ, ◌*◌, max, pos, ◌+ℤ◌, ◌*ℤ◌, map, slice_get, slice_index, slice_index_or}
+use Rattle.std.specs.Prelude.{ℕ, ◌*◌, ◌≤◌, max, pos, ◌+ℤ◌, ◌*ℤ◌, map, slice_get, slice_index, slice_index_or}
 use Rattle.std.specs.Option.{option_map_or}
 use Rattle.nav_base.specs.declared.point.Point.{Point}
 use Rattle.nav_base.specs.Point.{IsCellCorner}
 use Rattle.nav_base.specs.Distance.{distance_of}
+use Rattle.nav_ground.specs.Limits.{IsArea}
 use Rattle.mesh_types.specs.declared.links.PolyRef.{PolyRef}
 use Rattle.mesh_types.specs.declared.polygon.Polygon.{Polygon}
 use Rattle.mesh_types.specs.declared.mesh.TileMesh.{TileMesh}
@@ -20,7 +21,7 @@ abbrev pub weight_from : Mesh → Point → PolyRef → ℕ
 weight_from mesh centre at =
     option_map_or (λ (to : Polygon). max 1 (distance_of centre (centre_of to.corners)) * slice_index mesh.setting.costs to.area) (poly_at mesh at) 0
 
--- the estimate of what is left to go from a polygon: the distance from its middle to the goal, rounded up
+-- how far it is from a polygon's middle to the goal, rounded up
 abbrev pub estimate_from : Mesh → Point → PolyRef → ℕ
 estimate_from mesh goal at = option_map_or (λ (polygon : Polygon). distance_of (centre_of polygon.corners) goal) (poly_at mesh at) 0
 
@@ -41,6 +42,11 @@ pub record IsBox (extent : Extent) : Type 0 where
   pub low : IsCellCorner extent.low
   pub high : IsCellCorner extent.high
 
--- the estimates of all vertices
-abbrev pub estimates_of : Mesh → Point → Vertex → ℕ
-estimates_of mesh goal v = estimate_from mesh goal (polygon_of v)
+-- a number from 1 on than which no area costs less
+pub record IsLeastCost (mesh : Mesh) (least : ℕ) : Type 0 where
+  pub some : 1 ≤ least
+  pub each : (area : ℕ) → IsArea area → least ≤ slice_index mesh.setting.costs area
+
+-- the estimates of all vertices: the distance to the goal, each sixteenth of it at the least cost
+abbrev pub estimates_of : Mesh → Point → ℕ → Vertex → ℕ
+estimates_of mesh goal least v = estimate_from mesh goal (polygon_of v) * least

@@ -10,7 +10,7 @@ use Rattle.mesh_types.specs.declared.mesh.Mesh.{Mesh}
 use Rattle.mesh_types.specs.Corridors.{IsLinkOf, weight_of}
 use Rattle.graph_search.specs.declared.graph.Vertex.{Vertex}
 use Rattle.corridor_search.specs.MeshGraphs.{polygon_of, IsSearched}
-use Rattle.corridor_search.specs.Estimates.{estimates_of}
+use Rattle.corridor_search.specs.Estimates.{IsLeastCost, estimates_of}
 
 -- heights by tile, and by place there: for each polygon one over each of eight landmarks
 abbrev pub Heights : Type 0
@@ -47,13 +47,14 @@ pub record IsGentle (mesh : Mesh) (marks : Heights) (link : Link) : Type 0 where
 pub record AreLandmarks (mesh : Mesh) (marks : Heights) : Type 0 where
   pub each : (link : Link) → IsLinkOf mesh link → IsGentle mesh marks link
 
--- the estimate of what is left to go from a vertex to a polygon with given heights: the distance to the goal, or the gap between the heights
--- where that is greater. A gap counts as no more than 32 bits hold, so that costs and estimates add up in 64.
-abbrev pub estimates_by : Mesh → Point → Option Heights → List ℕ → Vertex → ℕ
-estimates_by mesh goal None heights v = estimates_of mesh goal v
-estimates_by mesh goal (Some marks) heights v = max (estimates_of mesh goal v) (min (gap_of 8 (heights_at marks (polygon_of v)) heights) 4294967295)
+-- the estimate of what is left to go from a vertex to a polygon with given heights: the distance to the goal at the least cost, or the gap
+-- between the heights where that is greater. A gap counts as no more than 32 bits hold, so that costs and estimates add up in 64.
+abbrev pub estimates_by : Mesh → Point → ℕ → Option Heights → List ℕ → Vertex → ℕ
+estimates_by mesh goal least None heights v = estimates_of mesh goal least v
+estimates_by mesh goal least (Some marks) heights v = max (estimates_of mesh goal least v) (min (gap_of 8 (heights_at marks (polygon_of v)) heights) 4294967295)
 
--- a mesh that is searched by landmarks, where there are some
-pub record IsSearchedBy (mesh : Mesh) (goal : Point) (marks : Option Heights) : Type 0 where
+-- a mesh that is searched by the least cost of its areas, and by landmarks, where there are some
+pub record IsSearchedBy (mesh : Mesh) (goal : Point) (least : ℕ) (marks : Option Heights) : Type 0 where
   pub searched : IsSearched mesh goal
+  pub cost : IsLeastCost mesh least
   pub landmarks : IfSome marks (AreLandmarks mesh)

@@ -12,7 +12,7 @@ ghost use Rattle.corridor_search.specs.Landmarks.{Heights, flat, heights_at, Are
 use crate::islands::is_cut_off;
 use crate::landmarks::{FLAT, LANDMARKS, Landmarks, are_alike, are_seen};
 use crate::mesh_graph::{MeshGraph, link_at, vertex_at};
-use crate::weights::{extent_at, middle};
+use crate::weights::{extent_at, least_cost, middle};
 use graph_search::{Step, cheapest_walk};
 use mesh_types::{Corridor, Link, Mesh, PolyRef};
 use nav_lists::Items;
@@ -64,6 +64,7 @@ pub fn cheapest_by(
     let graph = MeshGraph {
         mesh,
         goal,
+        least: least_cost(&mesh.setting),
         landmarks,
         heights,
     };

@@ -8,7 +8,7 @@ ghost use Rattle.graph_search.specs.Walks.{arc_of};
 ghost use Rattle.corridor_search.specs.MeshGraphs.{vertex_of, vertices_of, polygon_of, inner_links, outer_links, links_from, link_of, end_of, arcs_from};
 
 use crate::landmarks::{LANDMARKS, Landmarks, bound};
-use crate::weights::{distance, distance_or, extent_at, middle, weight};
+use crate::weights::{cost_or, distance, extent_at, middle, weight};
 use graph_search::{Graph, Step, Vertex};
 use mesh_types::{Link, Mesh, PolyRef};
 use nav_base::Point;
@@ -135,6 +135,8 @@ pub(crate) struct MeshGraph<'a> {
     pub(crate) mesh: &'a Mesh,
     /// The middle of the goal's polygon, in sixteenths of a cell.
     pub(crate) goal: Point,
+    /// A cost than which no area costs less.
+    pub(crate) least: u32,
     /// Landmarks of the mesh, where there are some.
     pub(crate) landmarks: Option<&'a Landmarks>,
     /// The heights of the goal's polygon over them.
@@ -146,13 +148,13 @@ impl Graph for MeshGraph<'_> {
     ghost use Rattle.std.specs.Option.{option_copied};
     ghost use Rattle.corridor_search.specs.Landmarks.{IsSearchedBy, estimates_by};
 
-    ghost is_sound = { λ g. IsSearchedBy g.mesh.now g.goal (option_copied g.landmarks) };
+    ghost is_sound = { λ g. IsSearchedBy g.mesh.now g.goal g.least (option_copied g.landmarks) };
 
     ghost vertices = { λ g. vertices_of g.mesh.now };
 
     ghost arcs = { λ g. arcs_from g.mesh.now };
 
-    ghost estimates = { λ g. estimates_by g.mesh.now g.goal (option_copied g.landmarks) g.heights };
+    ghost estimates = { λ g. estimates_by g.mesh.now g.goal g.least (option_copied g.landmarks) g.heights };
 
     /// The middles of two linked polygons are at most the side of a tile apart along each axis: 128 cells, 2048 sixteenths. Rounded up, that
     /// is 2897 across, at a cost of at most 1000.
@@ -173,9 +175,9 @@ impl Graph for MeshGraph<'_> {
         match self.landmarks {
             Some(marks) => {
                 let bound = bound(marks.heights(at), self.heights);
-                u64::from(distance_or(middle, self.goal, bound))
+                cost_or(middle, self.goal, self.least, bound)
             }
-            None => u64::from(distance(middle, self.goal)),
+            None => u64::from(distance(middle, self.goal)) * u64::from(self.least),
         }
     }
 }

@@ -1,6 +1,6 @@
 //! Middles of polygons, and what links cost. What one link weighs. Roots of squares of distances, rounded up, without a division.
 
-ghost use Rattle.std.specs.Prelude.{◌≡◌, ◌*◌, map, max, slice_index, slice_index_or, pos, ◌≤ℤ◌, ◌+ℤ◌, ◌*ℤ◌, ◌≤◌, ◌<◌, IsTrue};
+ghost use Rattle.std.specs.Prelude.{◌≡◌, ◌*◌, map, max, slice_index, slice_index_or, pos, ℕ, ◌≤ℤ◌, ◌+ℤ◌, ◌*ℤ◌, ◌≤◌, ◌<◌, IsTrue};
 ghost use Rattle.nav_base.specs.Point.{IsInField};
 ghost use Rattle.nav_base.specs.Distance.{distance_of};
 ghost use Rattle.nav_ground.specs.Limits.{IsSetting, IsArea};
@@ -12,7 +12,7 @@ ghost use Rattle.nav_base.specs.Root.{IsLeastRoot, ceil_sqrt_of};
 
 use mesh_types::{Extent, Link, Mesh, PolyRef, Polygons};
 use nav_base::{Point, ceil_sqrt, square_distance};
-use nav_ground::Setting;
+use nav_ground::{AREAS, Setting};
 
 /// Stands for the extent of no polygon.
 const NOWHERE: Extent = Extent {
@@ -84,6 +84,35 @@ pub(crate) fn distance_or(from: Point, to: Point, other: u32) -> u32
     } else {
         root(square).max(other)
     }
+}
+
+/// The distance between two points, rounded up, at a cost of each sixteenth of it; or a number where that is greater. No root is taken where
+/// it is.
+pub(crate) fn cost_or(from: Point, to: Point, cost: u32, other: u32) -> u64
+    requires from { IsInField from }
+    requires to { IsInField to }
+    requires cost { 1 ≤ cost }
+    ensures { result ≡ max (distance_of from to * cost) other }
+{
+    if cost == 1 {
+        return u64::from(distance_or(from, to, other));
+    }
+    let distance = distance_or(from, to, other / cost);
+    (u64::from(distance) * u64::from(cost)).max(u64::from(other))
+}
+
+/// The least of the costs of areas.
+pub(crate) fn least_cost(setting: &Setting) -> u32
+    requires { IsSetting setting.now }
+    ensures some { 1 ≤ result }
+    ensures few { result ≤ 1000 }
+    ensures least { (area : ℕ) → IsArea area → result ≤ slice_index setting.now.costs area }
+{
+    let mut least = 1000;
+    for area in 1..AREAS {
+        least = setting.costs[area].min(least);
+    }
+    least
 }
 
 /// What a step costs from a point into a polygon with an extent: the distance to its middle, rounded up and at least 1, times the cost of its

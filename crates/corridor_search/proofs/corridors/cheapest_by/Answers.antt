@@ -19,9 +19,10 @@ middle-goal-requires c = (extent-rules c.args.mesh.now c.args.to c.extent_at.res
 
 pub cheapest_walk-requires-clause-searchable : goal.cheapest_walk-requires-clause-searchable
 cheapest_walk-requires-clause-searchable c =
-    searchable-by c.args.mesh.now c.middle-goal.result (option_copied c.args.landmarks) c.heights_of-heights.result
+    searchable-by c.args.mesh.now c.middle-goal.result c.least_cost.result (option_copied c.args.landmarks) c.heights_of-heights.result
     (record {
       searched = record { sound = c.requires.sound; setting = c.requires.setting; in_field = c.middle-goal.ensures.in_field };
+      cost = record { some = c.least_cost.ensures.some; each = c.least_cost.ensures.least };
       landmarks = c.requires.landmarks;
     })
 
