@@ -1,6 +1,6 @@
 //! Islands around goals: where a goal stands on a small one that no link leads to, no walk leads there.
 
-ghost use Rattle.std.specs.Prelude.{◌≡◌, true, false, ℕ, Contains, All, IfOk, OnOk};
+ghost use Rattle.std.specs.Prelude.{◌≡◌, ◌<◌, true, false, ℕ, Contains, All, IfOk, IfSome, OnOk};
 ghost use Rattle.nav_ground.specs.Limits.{IsSetting};
 ghost use Rattle.mesh_types.specs.Soundness.{IsSound};
 ghost use Rattle.corridor_search.specs.MeshGraphs.{IsApart};
@@ -12,6 +12,9 @@ use std::alloc::{AllocError, Global};
 
 /// How many polygons an island that is looked at may have.
 const MOST: usize = 128;
+
+/// How many slots the table of an island's polygons has, a power of two.
+const SLOTS: usize = 512;
 
 /// Whether it is seen from the goal that no walk leads there: the polygons that links lead to from it are few, the start is none of them,
 /// and no link leads to them from outside.
@@ -35,35 +38,66 @@ pub(crate) fn is_cut_off(
 }
 
 /// The polygons that links lead to from the goal, the nearest first; some of them where they are more than `MOST`, or where the start is met.
+/// Nothing is promised of them: they are tested.
 fn island_of(
     alloc: Global,
     mesh: &Mesh,
     from: PolyRef,
     to: PolyRef,
 ) -> Result<Vec<PolyRef>, AllocError> {
-    let mut island = Vec::new(alloc);
-    island.push(to)?;
+    let mut island = Vec::with_capacity(alloc, MOST + 1)?;
+    let mut slots = [0; SLOTS];
+    add(&mut island, &mut slots, &[to])?;
     let mut place = 0;
     while place < MOST && place < island.len() && island.len() <= MOST {
         let at = island[place];
         if at == from {
             break;
         }
-        add(&mut island, entered_inside(mesh, at))?;
-        add(&mut island, entered_outside(mesh, at))?;
+        add(&mut island, &mut slots, entered_inside(mesh, at))?;
+        add(&mut island, &mut slots, entered_outside(mesh, at))?;
         place += 1;
     }
     Ok(island)
 }
 
-/// Adds those of some polygons that an island does not have.
-fn add(island: &mut Vec<PolyRef>, polygons: &[PolyRef]) -> Result<(), AllocError> {
+/// Adds those of some polygons that an island does not have, until it has more than `MOST`. A slot holds the place of a polygon in the island,
+/// counted from 1, or 0.
+fn add(
+    island: &mut Vec<PolyRef>,
+    slots: &mut [u16; SLOTS],
+    polygons: &[PolyRef],
+) -> Result<(), AllocError> {
     for at in polygons {
-        if !has(island.as_slice(), *at) {
+        let count = island.len();
+        if count > MOST {
+            break;
+        }
+        if let Some(slot) = free_slot(island.as_slice(), slots, *at) {
             island.push(*at)?;
+            slots[slot] = count as u16 + 1;
         }
     }
     Ok(())
+}
+
+/// The slot for a polygon that an island does not have; none where it has the polygon.
+fn free_slot(island: &[PolyRef], slots: &[u16; SLOTS], at: PolyRef) -> Option<usize>
+    ensures { IfSome result (λ slot. slot < 512) }
+{
+    let mixed = at.tile.wrapping_mul(2654435761) ^ at.index.wrapping_mul(2246822519);
+    let first = (mixed >> 23) as usize;
+    for step in 0..SLOTS {
+        let slot = (first + step) % SLOTS;
+        let place = slots[slot] as usize;
+        if place == 0 {
+            return Some(slot);
+        }
+        if island.get(place - 1) == Some(&at) {
+            return None;
+        }
+    }
+    None
 }
 
 /// Whether an island has a polygon.
