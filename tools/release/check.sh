@@ -138,6 +138,15 @@ check_python() {
     says "in Python by the tarball" env PYTHONPATH="$package/hosts/python" python3 -B "$package/first/first.py"
 }
 
+check_csharp() {
+    if ! command -v mcs >/dev/null || ! command -v mono >/dev/null; then
+        echo "skipped, there is no Mono: the first path in C#"
+        return
+    fi
+    builds "C#" mcs -out:first.exe "$package/first/first.cs" "$package/hosts/csharp/Navd.cs"
+    says "in C#" env LD_LIBRARY_PATH="$package/lib" mono first.exe
+}
+
 check_rust() {
     if ! command -v cargo >/dev/null; then
         echo "skipped, there is no cargo: the first path in Rust"
@@ -161,6 +170,7 @@ check_release() {
     check_cmake
     check_debian "$1"
     check_python "$1"
+    check_csharp
     check_rust "$1"
     cd "$top"
 }

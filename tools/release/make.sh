@@ -59,7 +59,7 @@ lay_shared() {
 # lay_static DIR TREE LIB UP: what hosts are built with. UP leads from the folder of the libraries to that above include/.
 lay_static() {
     mkdir -p "$2/$3/pkgconfig" "$2/$3/cmake/navd" "$2/$3/$4/include"
-    cp "$top/include/navd.h" "$2/$3/$4/include"
+    cp "$top/include/navd.h" "$top/hosts/cpp/navd.hpp" "$2/$3/$4/include"
     cp "$1/lib/libnavd.a" "$2/$3"
     ln -s "$soname" "$2/$3/libnavd.so"
     filled navd.pc.in "$2/$3/pkgconfig/navd.pc" "$4"
@@ -85,7 +85,7 @@ lay_documents() {
 
 lay_first() {
     mkdir -p "$1/first"
-    for file in first.c first.cpp first.py first.rs CMakeLists.txt; do
+    for file in first.c first.cpp first.cs first.py first.rs CMakeLists.txt; do
         filled "first/$file" "$1/first/$file"
     done
     tracked examples "$1/examples" '*.nav' '*.out'
