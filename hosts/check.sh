@@ -50,20 +50,20 @@ wants() {
     done
 }
 
-# plays NAME COMMAND..: the examples, asked of the level and of a view; and what no script asks for, which is told as the host before told it.
+# plays NAME COMMAND..: the inputs, asked of the level and of a view, as the host in C; and what no script asks for, as the first of these hosts.
 plays() {
     name=$1
     shift
-    for out in "$here"/../examples/*.out; do
-        input=${out%.out}.nav
-        for mode in "" view; do
-            "$@" $mode < "$input" > "$to/told" || [ "$(cut -c1-6 "$to/told")" = "fault " ] || { echo "failed: $name $mode $input"; exit 1; }
-            cmp "$to/told" "$out" || { echo "differs: $name $mode $input"; exit 1; }
+    for input in "$here"/../examples/*.nav; do
+        due=$to/$(basename "$input")
+        "$to/play" < "$input" > "$due" 2> "$to/errors" || :
+        for mode in "" view more; do
+            "$@" $mode < "$input" > "$to/told" 2> "$to/errors" || [ "$(cut -c1-6 "$to/told")" = "fault " ] ||
+                { echo "failed: $name $mode $input"; cat "$to/errors"; exit 1; }
+            [ "$mode" != more ] || due=$due.more
+            [ -f "$due" ] || cp "$to/told" "$due"
+            cmp "$to/told" "$due" || { echo "differs: $name $mode $input"; exit 1; }
         done
-        more=$to/$(basename "$out").more
-        "$@" more < "$input" > "$to/told" || [ "$(cut -c1-6 "$to/told")" = "fault " ] || { echo "failed: $name more $input"; exit 1; }
-        [ -f "$more" ] || cp "$to/told" "$more"
-        cmp "$to/told" "$more" || { echo "differs: $name more $input"; exit 1; }
     done
     echo "$name plays alike"
 }

@@ -415,7 +415,12 @@ namespace Navd
         internal static T[] Items<T>(T[] items, string name)
         {
             if (items == null) throw new ArgumentNullException(name);
-            return items.Length == 0 ? new T[1] : items;
+            return items.Length == 0 ? None<T>.Items : items;
+        }
+
+        static class None<T>
+        {
+            internal static readonly T[] Items = new T[1];
         }
     }
 
