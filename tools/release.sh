@@ -14,8 +14,8 @@
 #
 #     tools/release.sh [--arch ARCH] [--out DIR] [--archive LIB] [--program NAVD] [--gate FILE] [--new-abi]
 #
-# --arch     x86_64, or aarch64. Where this machine is of another one, it wants a cross compiler (Debian's g++-aarch64-linux-gnu), runs the hosts in
-#            C and C++ under qemu-user and no others, makes no crate, and packs a program only where --program names one
+# --arch     x86_64, or aarch64. Where this machine is of another one it wants a cross compiler (Debian's g++-aarch64-linux-gnu), runs the
+#            hosts in C and C++ under qemu-user and no others, makes no crate, and packs a program only where --program names one
 # --out      where the release goes; else out/release
 # --archive  what `rt lib` of crates/nav_ffi left, --program what `rt run` of crates/navd left; else they are looked for in these crates
 # --gate     what the gate wrote; its last line is told in the package
@@ -84,7 +84,8 @@ find_arch() {
 }
 
 find_tools() {
-    for tool in git python3 "$cc" "$cxx" ${run%% *} "${tools}ar" "${tools}nm" "${tools}objcopy" "${tools}objdump" "${tools}readelf" tar xz gzip sha256sum dpkg-deb pkg-config cmake; do
+    for tool in git python3 "$cc" "$cxx" ${run%% *} "${tools}ar" "${tools}nm" "${tools}objcopy" "${tools}objdump" "${tools}readelf" \
+        tar xz gzip sha256sum dpkg-deb pkg-config cmake; do
         command -v "$tool" >/dev/null || stop "there is no $tool"
     done
 }

@@ -17,6 +17,9 @@
 
 using navd::Status;
 
+static_assert(std::is_nothrow_move_constructible_v<navd::Level> && std::is_nothrow_move_assignable_v<navd::Job>);
+static_assert(!std::is_copy_constructible_v<navd::Level> && !std::is_copy_assignable_v<navd::View>);
+
 namespace {
 
 std::istream &operator>>(std::istream &in, navd_point &point) { return in >> point.x >> point.z; }
