@@ -6,6 +6,8 @@
 # The host in C plays each example plainly, with the compiler's checks of addresses and undefined behaviour, and, on one example, with each
 # allocation refused in turn; random calls, valid and not, follow, and
 # threads that ask views beside one that changes the level. The host in Python plays them through a shared object, and the one in Rust runs its test, where there is cargo.
+# The hosts in C++, built by g++ for C++17 with these checks and by clang++ for C++20, and in C#, by Mono, play them too, asked of the level and of
+# a view; what no script asks for they have to tell alike. Each is skipped with a line where its compiler is not there.
 set -eu
 here=$(cd "$(dirname "$0")" && pwd)
 lib=$(realpath "${1:-$here/../crates/nav_ffi/out/libnav_ffi.a}")
@@ -37,4 +39,49 @@ echo "played $count times alike, and $((refused - 1)) times with an allocation r
 "$to/readers_checked" "$here/../examples/storeroom.nav" 2000
 if command -v cargo > "$to/cargo"; then
     NAVD_LIBRARY_DIR=$(dirname "$lib") cargo test --quiet --offline --manifest-path "$here/rust/Cargo.toml" --target-dir "$to/target"
+fi
+
+# wants WHAT TOOL..: the tools are there; else it says what is skipped.
+wants() {
+    what=$1
+    shift
+    for tool in "$@"; do
+        command -v "$tool" > "$to/tool" || { echo "skipped, there is no $tool: $what"; return 1; }
+    done
+}
+
+# plays NAME COMMAND..: the inputs, asked of the level and of a view, as the host in C; and what no script asks for, as the first of these hosts.
+plays() {
+    name=$1
+    shift
+    for input in "$here"/../examples/*.nav; do
+        due=$to/$(basename "$input")
+        "$to/play" < "$input" > "$due" 2> "$to/errors" || :
+        for mode in "" view more; do
+            "$@" $mode < "$input" > "$to/told" 2> "$to/errors" || [ "$(cut -c1-6 "$to/told")" = "fault " ] ||
+                { echo "failed: $name $mode $input"; cat "$to/errors"; exit 1; }
+            [ "$mode" != more ] || due=$due.more
+            [ -f "$due" ] || cp "$to/told" "$due"
+            cmp "$to/told" "$due" || { echo "differs: $name $mode $input"; exit 1; }
+        done
+    done
+    echo "$name plays alike"
+}
+
+# cpp COMPILER WORDS..: builds the host in C++.
+cpp() {
+    "$@" -Wall -Wextra -Wpedantic -Werror -I"$here/../include" "$here/cpp/play.cpp" "$lib"
+}
+
+if wants "C++17" g++; then
+    cpp g++ -std=c++17 -g -fsanitize=address,undefined -fno-sanitize-recover=all -o "$to/play_17"
+    plays "C++17" "$to/play_17"
+fi
+if wants "C++20" clang++; then
+    cpp clang++ -std=c++20 -O2 -o "$to/play_20"
+    plays "C++20" "$to/play_20"
+fi
+if wants "C#" mcs mono; then
+    mcs -warn:4 -warnaserror -out:"$to/play.exe" "$here/csharp/Navd.cs" "$here/csharp/Play.cs"
+    plays "C#" env LD_LIBRARY_PATH="$to" mono "$to/play.exe"
 fi

@@ -1,13 +1,14 @@
 #!/usr/bin/env python3
-"""Compares the four places that say how a host calls the library, which people write by hand: include/navd.h, the exports and #[repr(C)] structs
-of the library (crates/nav_ffi, crates/nav_handle), hosts/rust/src/sys.rs and hosts/python/navd.py. The linker compares names alone.
+"""Compares the five places that say how a host calls the library, which people write by hand: include/navd.h, the exports and #[repr(C)] structs
+of the library (crates/nav_ffi, crates/nav_handle), hosts/rust/src/sys.rs, hosts/python/navd.py and hosts/csharp/Navd.cs. The linker compares names
+alone. hosts/cpp/navd.hpp includes the header: of it each call and each status number is wanted, and its compiler compares the rest.
 
 The header is the measure. Each of the others must have the same calls, with the same parameters in the same order, the same structs, field by
 field, and the same status numbers. What a place cannot say is not asked of it:
 
   - a slice of the library is an address and a count, and the count has no name there; ghost fields and an allocator have no bytes
   - the library has no arrays in structs: fields called first, second and so on stand for one, which is called like its elements
-  - the hosts have one struct for the three handles; Python has no names of parameters and no const
+  - the hosts have one struct for the three handles; Python has no names of parameters and no const, C# has no const and no arrays in structs
 
 usage: tools/header.py --check [FOLDER]    of the repository in FOLDER, or of this one; ends with 1, and a line for each difference
 """
@@ -20,8 +21,11 @@ from types import SimpleNamespace
 from unittest import mock
 
 HEADER, RUST, PYTHON = "include/navd.h", "hosts/rust/src/sys.rs", "hosts/python/navd.py"
+CSHARP, CPP = "hosts/csharp/Navd.cs", "hosts/cpp/navd.hpp"
 LIBRARY = ("crates/nav_ffi/src", "crates/nav_handle/src")
 C_TYPES = {"uint8_t": "u8", "uint32_t": "u32", "int32_t": "i32", "uint64_t": "u64", "int64_t": "i64", "size_t": "usize", "void": "nothing"}
+CSHARP_TYPES = {"byte": "u8", "uint": "u32", "int": "i32", "ulong": "u64", "long": "i64", "UIntPtr": "usize", "IntPtr": "pointer", "void": "nothing",
+                "Status": "u32"}
 ORDINALS = ("first", "second", "third", "fourth", "fifth", "sixth", "seventh", "eighth", "")
 HANDLES = ("level", "view", "job")
 # Numbers by name; fields by struct and parameters by call, each a name, or None where the place has none, and a type; what each call gives back.
@@ -214,6 +218,46 @@ def of_python(top):
     )
 
 
+# == The host in C# ==
+
+
+def snake(name):
+    return re.sub(r"(?<=[a-z])(?=[A-Z])", "_", name).lower()
+
+
+def csharp_type(name):
+    return CSHARP_TYPES.get(name) or plain(name)
+
+
+def csharp_fields(text):
+    for declared in parts(CSHARP, text, ";", r"(?:public|internal) (\w+) (.*)"):
+        for field in parts(CSHARP, declared[2], ",", r"\w+"):
+            yield snake(field[0]), csharp_type(declared[1])
+
+
+def csharp_parameters(text):
+    """The parameters of a call. The owner of a handle stands for its address, and so does an IntPtr where that handle is closed."""
+    for word in parts(CSHARP, re.sub(r"\s+", " ", text), ",", r"(?:\[Out\] )?(ref |out )?(\w+)(\[\])? (\w+)"):
+        base, name = csharp_type(word[2]), snake(word[4])
+        is_handle = name in HANDLES and base in (f"{name}_handle", "pointer")
+        yield name, "* handle" if is_handle else f"* {base}" if word[1] or word[3] else base
+
+
+def of_csharp(top):
+    text = re.sub(r"//[^\n]*", "", (top / CSHARP).read_text())
+    wanted = r"\[StructLayout\(LayoutKind\.Sequential\)\]\s*(?:public|internal) struct (\w+)\s*\{(.*?)\}"
+    structs = found(CSHARP, text, r"\bstruct \w+\s*\{", wanted)
+    numbers = [one for told in found(CSHARP, text, r"\benum ", r"enum Status : uint\s*\{(.*?)\}") for one in parts(CSHARP, told[1], ",", r"(\w+) = (\d+)")]
+    calls = found(CSHARP, text, r"\bextern ", r"\[DllImport\(Library\)\]\s*internal static extern (\w+) (\w+)\(([^;{]*?)\);")
+    return Border(
+        CSHARP,
+        {snake(one[1]).upper(): int(one[2]) for one in numbers},
+        {plain(one[1]): with_arrays(list(csharp_fields(one[2]))) for one in structs},
+        {one[2]: list(csharp_parameters(one[3])) for one in calls},
+        {one[2]: csharp_type(one[1]) for one in calls},
+    )
+
+
 # == Comparing ==
 
 
@@ -265,12 +309,20 @@ def compared(header, other):
     yield from of_values(place, "the result of ", header.results, other.results)
 
 
+def of_cpp(top, header):
+    """Calls and status numbers of the header that the host in C++ does not name."""
+    words = set(re.findall(r"\w+", re.sub(r"//[^\n]*", "", (top / CPP).read_text())))
+    yield from (f"{CPP}: the call {name} is missing" for name in header.calls if name not in words)
+    yield from (f"{CPP}: the number {name} is missing" for name in header.numbers if f"NAVD_{name}" not in words)
+
+
 def differences(top):
     """A line for each difference, and what was compared."""
     header = of_header(top)
     lines = [*compared(header, of_library(top))]
     lines += compared(for_hosts(header, lambda told: told), of_rust(top))
-    lines += compared(for_hosts(header, lambda told: re.sub(r"\*(const|mut) ", "* ", told)), of_python(top))
+    eased = for_hosts(header, lambda told: re.sub(r"\*(const|mut) ", "* ", told))
+    lines += [*compared(eased, of_python(top)), *compared(eased, of_csharp(top)), *of_cpp(top, header)]
     words, fields = (sum(map(len, lists.values())) for lists in (header.calls, header.structs))
     said = f"{len(header.calls)} calls with {words} parameters, {len(header.structs)} structs with {fields} fields, "
     return lines, said + f"{len(header.numbers)} status numbers"
@@ -284,7 +336,7 @@ def main(words):
         lines, said = differences(Path(words[1]) if len(words) == 2 else Path(__file__).resolve().parent.parent)
     except (Unreadable, OSError) as error:
         lines, said = [str(error)], ""
-    print("\n".join(lines) or f"the header, the library, and the hosts in Rust and Python are alike: {said}")
+    print("\n".join(lines) or f"the header, the library, and the hosts in Rust, Python, C# and C++ are alike: {said}")
     return 1 if lines else 0
 
 

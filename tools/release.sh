@@ -7,12 +7,15 @@
 #   - the types of the header are those of tools/release/navd.abi (skipped with a line where there is no abidiff, of Debian's abigail-tools)
 #   - no symbol of the C library is newer than 2.17, of the program than 2.34; the shared object has at most 600 KB and needs the C library alone
 #   - hosts that are built over the packages alone find the path of README: in C and C++ by pkg-config, CMake and the Debian packages, in Python by
-#     the wheel, in Rust by the crate (skipped with a line where there is no cargo); the program plays that example
+#     the wheel, in Rust by the crate (skipped with a line where there is no cargo), in C# over the shared object (skipped with a line where there
+#     is no Mono); the program plays that example
 #
 # tools/release/stops.py tries each of these without the toolchain.
 #
-#     tools/release.sh [--out DIR] [--archive LIB] [--program NAVD] [--gate FILE] [--new-abi]
+#     tools/release.sh [--arch ARCH] [--out DIR] [--archive LIB] [--program NAVD] [--gate FILE] [--new-abi]
 #
+# --arch     x86_64, or aarch64. Where this machine is of another one it wants a cross compiler (Debian's g++-aarch64-linux-gnu), runs the
+#            hosts in C and C++ under qemu-user and no others, makes no crate, and packs a program only where --program names one
 # --out      where the release goes; else out/release
 # --archive  what `rt lib` of crates/nav_ffi left, --program what `rt run` of crates/navd left; else they are looked for in these crates
 # --gate     what the gate wrote; its last line is told in the package
@@ -28,7 +31,8 @@ top=$(cd "$(dirname "$0")/.." && pwd)
 parts=$top/tools/release
 out=$top/out/release
 archive=$top/crates/nav_ffi/out/libnav_ffi.a
-program=$top/crates/navd/out/navd
+program=
+arch=x86_64
 gate=
 new_abi=
 
@@ -36,8 +40,6 @@ new_abi=
 glibc=2.17
 program_glibc=2.34
 soname=libnavd.so.0
-cc=${CC:-cc}
-cxx=${CXX:-c++}
 
 stop() {
     echo "release: $*" >&2
@@ -51,10 +53,11 @@ read_words() {
     while [ $# -gt 0 ]; do
         case $1 in
             --new-abi) new_abi=yes; shift; continue ;;
-            --out | --archive | --program | --gate) [ $# -gt 1 ] || stop "$1 wants a name" ;;
+            --arch | --out | --archive | --program | --gate) [ $# -gt 1 ] || stop "$1 wants a name" ;;
             *) stop "$1 is no word of this; the head of tools/release.sh has them" ;;
         esac
         case $1 in
+            --arch) arch=$2 ;;
             --out) out=$(realpath -m "$2") ;;
             --archive) archive=$(realpath -m "$2") ;;
             --program) program=$(realpath -m "$2") ;;
@@ -64,15 +67,32 @@ read_words() {
     done
 }
 
+# What the architecture is called; and, where this machine is of another one, what its tools begin with and what runs its programs.
+find_arch() {
+    case $arch in
+        x86_64) debian=amd64 processor="an x86-64 processor with SSE4.2 and POPCNT (x86-64-v2)" ;;
+        aarch64) debian=arm64 processor="a 64-bit ARM processor" ;;
+        *) stop "$arch is neither x86_64 nor aarch64" ;;
+    esac
+    triplet=$arch-linux-gnu tools='' run='' cross=''
+    if [ "$(uname -m)" = "$arch" ]; then
+        cc=${CC:-cc} cxx=${CXX:-c++} program=${program:-$top/crates/navd/out/navd}
+    else
+        cross=yes tools=$triplet- run="qemu-$arch -L /usr/$triplet"
+        cc=${CC:-${tools}gcc} cxx=${CXX:-${tools}g++}
+    fi
+}
+
 find_tools() {
-    for tool in git python3 "$cc" "$cxx" ar nm objcopy objdump readelf tar xz gzip sha256sum dpkg-deb pkg-config cmake; do
+    for tool in git python3 "$cc" "$cxx" ${run%% *} "${tools}ar" "${tools}nm" "${tools}objcopy" "${tools}objdump" "${tools}readelf" \
+        tar xz gzip sha256sum dpkg-deb pkg-config cmake; do
         command -v "$tool" >/dev/null || stop "there is no $tool"
     done
 }
 
 find_inputs() {
     [ -f "$archive" ] || stop "there is no archive $archive: cd crates/nav_ffi && rt lib"
-    [ -f "$program" ] || stop "there is no program $program: cd crates/navd && rt run"
+    [ -z "$program" ] || [ -f "$program" ] || stop "there is no program $program: cd crates/navd && rt run"
     [ -z "$gate" ] || [ -f "$gate" ] || stop "there is no file $gate"
 }
 
@@ -89,6 +109,7 @@ find_version() {
 
 main() {
     read_words "$@"
+    find_arch
     find_tools
     find_version
     work=$(mktemp -d)

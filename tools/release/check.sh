@@ -28,7 +28,7 @@ check_abi() {
         return
     fi
     make_stub
-    abidiff "$parts/navd.abi" "$work/stub.so" >"$work/abi" 2>&1 ||
+    abidiff --no-architecture "$parts/navd.abi" "$work/stub.so" >"$work/abi" 2>&1 ||
         stop "the header has other types than tools/release/navd.abi: $(grep . "$work/abi" | head -n 1)"
 }
 
@@ -41,29 +41,29 @@ same_names() {
 
 check_exports() {
     python3 "$parts/exports.py" names >"$work/names"
-    nm -D --defined-only "$1/lib/libnavd.so.$version" | awk '$2 != "A" { sub("@.*", "", $3); print $3 }' | sort >"$work/found"
+    "${tools}nm" -D --defined-only "$1/lib/libnavd.so.$version" | awk '$2 != "A" { sub("@.*", "", $3); print $3 }' | sort >"$work/found"
     same_names libnavd.so
-    nm --defined-only --extern-only "$1/lib/libnavd.a" | awk 'NF == 3 && $2 != "W" { print $3 }' | sort >"$work/found"
+    "${tools}nm" --defined-only --extern-only "$1/lib/libnavd.a" | awk 'NF == 3 && $2 != "W" { print $3 }' | sort >"$work/found"
     same_names libnavd.a
 }
 
 check_shared() {
-    readelf -dW "$1/lib/libnavd.so.$version" >"$work/dynamic"
+    "${tools}readelf" -dW "$1/lib/libnavd.so.$version" >"$work/dynamic"
     grep -q "SONAME.*\[$soname\]" "$work/dynamic" || stop "the shared object has not the name $soname"
     grep -q 'FLAGS.*NOW' "$work/dynamic" || stop "the shared object is not bound at its start"
-    readelf -lW "$1/lib/libnavd.so.$version" | grep -q GNU_RELRO || stop "the shared object has no part that is read only once it is bound"
+    "${tools}readelf" -lW "$1/lib/libnavd.so.$version" | grep -q GNU_RELRO || stop "the shared object has no part that is read only once it is bound"
     size=$(wc -c <"$1/lib/libnavd.so.$version")
     [ "$size" -le 614400 ] || stop "the shared object has $size bytes, more than 600 KB"
 }
 
 # The Debian packages name the C library alone as what they depend on.
 check_needed() {
-    others=$(readelf -dW "$1" | grep NEEDED | grep -v '\[libc\.so\.6\]' | grep -o '\[.*\]') || return 0
+    others=$("${tools}readelf" -dW "$1" | grep NEEDED | grep -v '\[libc\.so\.6\]' | grep -o '\[.*\]') || return 0
     stop "$(basename "$1") needs more than the C library: $(echo "$others" | tr '\n' ' ')"
 }
 
 newest_glibc() {
-    objdump -T "$1" | grep -o 'GLIBC_[0-9.]*' | cut -c7- | sort -Vu | tail -n 1
+    "${tools}objdump" -T "$1" | grep -o 'GLIBC_[0-9.]*' | cut -c7- | sort -Vu | tail -n 1
 }
 
 # check_glibc FILE LIMIT
@@ -98,44 +98,55 @@ check_tarball() {
     mkdir "$work/first"
     cd "$work/first"
     begun=$(now)
-    tar -xJf "$1/out/$name-linux-x86_64.tar.xz"
-    package=$work/first/$name-linux-x86_64
+    tar -xJf "$1/out/$name-linux-$arch.tar.xz"
+    package=$work/first/$name-linux-$arch
     builds "C over the archive" "$cc" -std=c11 -Wall -Wextra -Wpedantic -Werror -I"$package/include" "$package/first/first.c" \
         "$package/lib/libnavd.a" -o plain
-    says "in C over the archive" ./plain
+    says "in C over the archive" $run ./plain
     echo "from unpacking to the first path: $((($(now) - begun) / 1000000)) ms"
     (cd "$package" && sha256sum --quiet -c SHA256SUMS) || stop "SHA256SUMS of the tarball is wrong"
-    "$package/bin/navd" play <"$package/examples/detour.nav" >played || stop "bin/navd does not play examples/detour.nav"
+    [ "$program" ] || return 0
+    $run "$package/bin/navd" play <"$package/examples/detour.nav" >played || stop "bin/navd does not play examples/detour.nav"
     cmp -s played "$package/examples/detour.out" || stop "bin/navd plays examples/detour.nav in another way"
 }
 
 check_pkg_config() {
     builds "C by pkg-config" "$cc" "$package/first/first.c" -o shared $(PKG_CONFIG_PATH=$package/lib/pkgconfig pkg-config --cflags --libs navd)
-    says "in C by pkg-config" env LD_LIBRARY_PATH="$package/lib" ./shared
+    says "in C by pkg-config" env LD_LIBRARY_PATH="$package/lib" $run ./shared
 }
 
 check_cmake() {
-    builds "CMake's project" cmake -S "$package/first" -B built -DCMAKE_PREFIX_PATH="$package"
+    builds "CMake's project" cmake -S "$package/first" -B built -DCMAKE_PREFIX_PATH="$package" \
+        ${cross:+-DCMAKE_SYSTEM_NAME=Linux -DCMAKE_C_COMPILER=$cc -DCMAKE_CXX_COMPILER=$cxx}
     builds "C and C++ by CMake" cmake --build built
-    says "in C by CMake" built/first_c
-    says "in C++ by CMake" built/first_cpp
-    says "in C over the archive by CMake" built/first_static
+    says "in C by CMake" $run built/first_c
+    says "in C++ by CMake" $run built/first_cpp
+    says "in C over the archive by CMake" $run built/first_static
 }
 
 check_debian() {
     for made in "$1"/out/*.deb; do
         dpkg-deb -x "$made" debian
     done
-    found=debian/usr/lib/x86_64-linux-gnu
+    found=debian/usr/lib/$triplet
     builds "C over the Debian packages" "$cc" "$package/first/first.c" -o debian/first \
         $(PKG_CONFIG_PATH=$found/pkgconfig pkg-config --cflags --libs navd)
-    says "in C over the Debian packages" env LD_LIBRARY_PATH="$found" debian/first
+    says "in C over the Debian packages" env LD_LIBRARY_PATH="$found" $run debian/first
 }
 
 check_python() {
     python3 -m zipfile -e "$1"/out/*.whl wheel
     says "in Python by the wheel" env PYTHONPATH=wheel python3 -B "$package/first/first.py"
     says "in Python by the tarball" env PYTHONPATH="$package/hosts/python" python3 -B "$package/first/first.py"
+}
+
+check_csharp() {
+    if ! command -v mcs >/dev/null || ! command -v mono >/dev/null; then
+        echo "skipped, there is no Mono: the first path in C#"
+        return
+    fi
+    builds "C#" mcs -out:first.exe "$package/first/first.cs" "$package/hosts/csharp/Navd.cs"
+    says "in C#" env LD_LIBRARY_PATH="$package/lib" mono first.exe
 }
 
 check_rust() {
@@ -152,15 +163,20 @@ check_release() {
     check_exports "$1"
     check_shared "$1"
     check_glibc "$1/lib/libnavd.so.$version" $glibc
-    check_glibc "$program" $program_glibc
+    [ -z "$program" ] || check_glibc "$program" $program_glibc
     check_needed "$1/lib/libnavd.so.$version"
-    check_needed "$program"
+    [ -z "$program" ] || check_needed "$program"
     check_abi
     check_tarball "$1"
     check_pkg_config
     check_cmake
     check_debian "$1"
-    check_python "$1"
-    check_rust "$1"
+    if [ "$cross" ]; then
+        echo "skipped, this machine is no $arch: the first path in Python, C# and Rust"
+    else
+        check_python "$1"
+        check_csharp
+        check_rust "$1"
+    fi
     cd "$top"
 }

@@ -3,6 +3,7 @@
 # A file of this folder, with its words filled in. The third word leads from the folder of the libraries to that above include/.
 filled() {
     sed -e "s/@VERSION@/$version/g" -e "s/@SERIES@/$series/g" -e "s/@GLIBC@/$glibc/g" -e "s/@PROGRAM_GLIBC@/$program_glibc/g" -e "s,@UP@,${3-},g" \
+        -e "s/@PROCESSOR@/$processor/g" \
         "$parts/$1" >"$2"
 }
 
@@ -30,11 +31,11 @@ packed() {
 # The archive, and beside its objects the memory over malloc, whose functions are weak: a host's own stand in their place.
 make_archive() {
     mkdir -p "$1/lib" "$1/objects"
-    [ -z "$(ar t "$archive" | sort | uniq -d)" ] || stop "two objects of the archive have one name"
-    (cd "$1/objects" && ar x "$archive")
+    [ -z "$("${tools}ar" t "$archive" | sort | uniq -d)" ] || stop "two objects of the archive have one name"
+    (cd "$1/objects" && "${tools}ar" x "$archive")
     "$cc" -std=c11 -O2 -fPIC -fvisibility=hidden -ffile-prefix-map="$top=." -c "$top/hosts/c/heap.c" -o "$1/objects/navd_heap.o"
-    objcopy --weaken "$1/objects/navd_heap.o"
-    (cd "$1/objects" && ar rcsD "$1/lib/libnavd.a" $(ls | sort))
+    "${tools}objcopy" --weaken "$1/objects/navd_heap.o"
+    (cd "$1/objects" && "${tools}ar" rcsD "$1/lib/libnavd.a" $(ls | sort))
 }
 
 # The shared object, and beside it the names that a debugger wants.
@@ -43,8 +44,8 @@ make_shared() {
     "$cc" -shared -o "$1/lib/whole.so" -Wl,--whole-archive "$1/lib/libnavd.a" -Wl,--no-whole-archive -Wl,-soname,$soname \
         -Wl,--version-script="$1/exports.map" -Wl,-z,relro,-z,now,-z,noexecstack,-z,defs,-z,text -Wl,--gc-sections,--as-needed,--build-id=sha1 \
         2>"$1/errors" || stop "the shared object does not link: $(head -n 1 "$1/errors")"
-    objcopy --only-keep-debug "$1/lib/whole.so" "$1/lib/libnavd.so.$version.debug"
-    (cd "$1/lib" && objcopy --strip-all --add-gnu-debuglink="libnavd.so.$version.debug" whole.so "libnavd.so.$version")
+    "${tools}objcopy" --only-keep-debug "$1/lib/whole.so" "$1/lib/libnavd.so.$version.debug"
+    (cd "$1/lib" && "${tools}objcopy" --strip-all --add-gnu-debuglink="libnavd.so.$version.debug" whole.so "libnavd.so.$version")
     rm "$1/lib/whole.so"
     chmod 644 "$1"/lib/*
 }
@@ -59,7 +60,7 @@ lay_shared() {
 # lay_static DIR TREE LIB UP: what hosts are built with. UP leads from the folder of the libraries to that above include/.
 lay_static() {
     mkdir -p "$2/$3/pkgconfig" "$2/$3/cmake/navd" "$2/$3/$4/include"
-    cp "$top/include/navd.h" "$2/$3/$4/include"
+    cp "$top/include/navd.h" "$top/hosts/cpp/navd.hpp" "$2/$3/$4/include"
     cp "$1/lib/libnavd.a" "$2/$3"
     ln -s "$soname" "$2/$3/libnavd.so"
     filled navd.pc.in "$2/$3/pkgconfig/navd.pc" "$4"
@@ -73,7 +74,7 @@ told_build() {
     changed=$(git -C "$top" status --porcelain --untracked-files=no)
     echo "navd $version, packed at the commit $(git -C "$top" rev-parse HEAD)${changed:+, with changes}"
     echo "the archive that rt lib left: $(sha256sum <"$archive" | cut -c1-64)"
-    echo "the program that rt run left: $(sha256sum <"$program" | cut -c1-64)"
+    [ -z "$program" ] || echo "the program that rt run left: $(sha256sum <"$program" | cut -c1-64)"
     command -v rt >/dev/null && echo "rt version: $(rt version)"
     echo "compiler of the shared object: $("$cc" --version | head -n 1)"
     [ -z "$gate" ] || echo "last line of the gate: $(tail -n 1 "$gate")"
@@ -85,7 +86,7 @@ lay_documents() {
 
 lay_first() {
     mkdir -p "$1/first"
-    for file in first.c first.cpp first.py first.rs CMakeLists.txt; do
+    for file in first.c first.cpp first.cs first.py first.rs CMakeLists.txt; do
         filled "first/$file" "$1/first/$file"
     done
     tracked examples "$1/examples" '*.nav' '*.out'
@@ -93,23 +94,29 @@ lay_first() {
 
 lay_hosts() {
     tracked hosts "$1/hosts" ':!*.gitignore'
+    [ "$arch" = x86_64 ] || sed -i "s/x86_64/$arch/g" "$1/hosts/rust/build.rs"
     tracked docs "$1/docs" EMBEDDING.md FORMATS.md
     ln -s "../../lib/$soname" "$1/hosts/python/libnavd.so"
 }
 
 make_tarball() {
-    full=$name-linux-x86_64
+    full=$name-linux-$arch
     tree=$1/trees/$full
-    mkdir -p "$tree/bin" "$tree/lib/.debug"
+    mkdir -p "$tree/lib/.debug"
     lay_shared "$1" "$tree" lib
     lay_static "$1" "$tree" lib ..
     cp "$1/lib/libnavd.so.$version.debug" "$tree/lib/.debug"
-    cp "$program" "$tree/bin/navd"
-    chmod 755 "$tree/bin/navd"
     lay_documents "$tree"
     lay_first "$tree"
     lay_hosts "$tree"
     filled package.md "$tree/README.md"
+    if [ "$program" ]; then
+        mkdir "$tree/bin"
+        cp "$program" "$tree/bin/navd"
+        chmod 755 "$tree/bin/navd"
+    else
+        sed -i '/`bin/d' "$tree/README.md"
+    fi
     told_build >"$tree/BUILD.txt"
     (cd "$tree" && find . -type f | sort | xargs sha256sum >"$1/sums" && mv "$1/sums" SHA256SUMS)
     packed "$1/trees" "$full" | xz --threads=1 -9e >"$1/out/$full.tar.xz"
@@ -138,17 +145,17 @@ deb() {
     debian_documents "$root" "$2"
     size=$(find "$root/usr" -type f -printf '%s\n' | awk '{ all += $1 } END { print int((all + 1023) / 1024) }')
     {
-        printf 'Package: %s\nSource: navd\nVersion: %s\nArchitecture: amd64\nMaintainer: %s\n' "$2" "$version" "$maintainer"
+        printf 'Package: %s\nSource: navd\nVersion: %s\nArchitecture: %s\nMaintainer: %s\n' "$2" "$version" "$debian" "$maintainer"
         printf 'Installed-Size: %s\nDepends: %s\nSection: %s\nPriority: optional\n%s' "$size" "$4" "$3" "${6-}"
         printf 'Description: %s\n A level is opened from a text, obstacles come and go, paths and rays\n come out. Its functions are proved.\n' "$5"
     } >"$root/DEBIAN/control"
     (cd "$root" && find usr -type f | sort | xargs md5sum >DEBIAN/md5sums)
     same_everywhere "$root"
-    dpkg-deb --root-owner-group --threads-max=1 -Zxz --build "$root" "$1/out/${2}_${version}_amd64.deb" >"$1/dpkg.txt" || stop "dpkg-deb failed on $2"
+    dpkg-deb --root-owner-group --threads-max=1 -Zxz --build "$root" "$1/out/${2}_${version}_$debian.deb" >"$1/dpkg.txt" || stop "dpkg-deb failed on $2"
 }
 
 make_runtime_deb() {
-    lay_shared "$1" "$1/debs/libnavd0" usr/lib/x86_64-linux-gnu
+    lay_shared "$1" "$1/debs/libnavd0" usr/lib/$triplet
     mkdir -p "$1/debs/libnavd0/DEBIAN"
     echo "libnavd 0 libnavd0 (>= $version)" >"$1/debs/libnavd0/DEBIAN/shlibs"
     echo "activate-noawait ldconfig" >"$1/debs/libnavd0/DEBIAN/triggers"
@@ -164,12 +171,13 @@ make_runtime_deb() {
 make_debs() {
     maintainer=$(git -C "$top" log -1 --format='%an <%ae>')
     make_runtime_deb "$1"
-    lay_static "$1" "$1/debs/libnavd-dev" usr/lib/x86_64-linux-gnu ../..
+    lay_static "$1" "$1/debs/libnavd-dev" usr/lib/$triplet ../..
     lay_first "$1/debs/libnavd-dev/usr/share/doc/libnavd-dev"
     deb "$1" libnavd-dev libdevel "libnavd0 (= $version)" "proved navigation-mesh server core, for building hosts" "Multi-Arch: same
 "
+    [ "$program" ] || return 0
     mkdir -p "$1/debs/navd/usr/bin"
-    objcopy --strip-all "$program" "$1/debs/navd/usr/bin/navd"
+    "${tools}objcopy" --strip-all "$program" "$1/debs/navd/usr/bin/navd"
     chmod 755 "$1/debs/navd/usr/bin/navd"
     deb "$1" navd utils "libc6 (>= $program_glibc)" "proved navigation-mesh server core, the program that plays inputs"
 }
@@ -177,7 +185,7 @@ make_debs() {
 # == A wheel and a crate ==
 
 make_wheel() {
-    tag=py3-none-manylinux_$(echo $glibc | tr . _)_x86_64
+    tag=py3-none-manylinux_$(echo $glibc | tr . _)_$arch
     told=$1/wheel/$name.dist-info
     mkdir -p "$1/wheel/navd" "$told/licenses"
     cp "$top/hosts/python/navd.py" "$1/wheel/navd/__init__.py"
@@ -206,6 +214,6 @@ make_release() {
     make_tarball "$1"
     make_debs "$1"
     make_wheel "$1"
-    make_crate "$1"
+    [ "$cross" ] || make_crate "$1"
     (cd "$1/out" && sha256sum * >"$1/sums" && mv "$1/sums" SHA256SUMS)
 }

@@ -1,5 +1,5 @@
 #!/usr/bin/env python3
-"""Tests of tools/header.py: the four places agree, and one thing that is changed in a copy of one of them is found and told in a line.
+"""Tests of tools/header.py: the places agree, and one thing that is changed in a copy of one of them is found and told in a line.
 
 usage: python3 tools/tests/test_header.py
 """
@@ -18,8 +18,9 @@ sys.dont_write_bytecode = True
 import header
 
 SOURCES = [path for folder in header.LIBRARY for path in sorted((TOP / folder).glob("*.rt"))]
-FILES = [header.HEADER, header.RUST, header.PYTHON, *(str(path.relative_to(TOP)) for path in SOURCES)]
-PLACES = {"header": "include/", "library": "crates/", "rust": "hosts/rust/", "python": "hosts/python/"}
+FILES = [header.HEADER, header.RUST, header.PYTHON, header.CSHARP, header.CPP, *(str(path.relative_to(TOP)) for path in SOURCES)]
+PLACES = {"header": "include/", "library": "crates/", "rust": "hosts/rust/", "python": "hosts/python/", "csharp": "hosts/csharp/",
+          "cpp": "hosts/cpp/"}
 
 # The place, what stands there, what is put in its stead, and what is told of it.
 ROWS = [
@@ -92,6 +93,28 @@ ROWS = [
     ("header", "#define NAVD_BUSY 17u", "#define NAVD_BUSY (16u + 1u)", "of 19 places like"),
     ("library", "#[repr(C)]\n#[derive(Clone, Copy)]\npub struct NavdRay", "#[repr(C, packed)]\n#[derive(Clone, Copy)]\npub struct NavdRay",
      "of 23 places like"),
+    # C#: each kind of difference once more
+    ("csharp", "public uint Tile, Index;", "public uint Index, Tile;", "field 1 of polygon is index: u32, the header has tile: u32"),
+    ("csharp", "internal UIntPtr Links, Turns;", "internal ulong Links, Turns;", "field 3 of path is links: u64, the header has links: usize"),
+    ("csharp", "Fourth, Fifth, Sixth;", "Fourth, Fifth;", "field 2 of face is corner: [corner; 5], the header has corner: [corner; 6]"),
+    ("csharp", "internal struct NavdHop", "internal struct NavdWalk", "the struct walk is not in the header"),
+    ("csharp", "    [StructLayout(LayoutKind.Sequential)]\n    public struct Ray", "    public struct Ray", "of 21 places like"),
+    ("csharp", "Wall = 13,", "Wall = 12,", "WALL is 12, the header has 13"),
+    ("csharp", "        Busy = 17,\n", "", "the number BUSY is missing"),
+    ("csharp", "navd_claim(LevelHandle level, JobHandle job,", "navd_claim(JobHandle job, LevelHandle level,",
+     "parameter 1 of navd_claim is job: * handle, the header has level: * handle"),
+    ("csharp", "navd_view_count(ViewHandle view, out", "navd_view_count(LevelHandle view, out",
+     "parameter 1 of navd_view_count is view: level_handle, the header has view: * handle"),
+    ("csharp", "navd_remove(LevelHandle level, uint number, out uint entry)", "navd_remove(LevelHandle level, uint number, uint entry)",
+     "parameter 3 of navd_remove is entry: u32, the header has entry: * u32"),
+    ("csharp", "extern Status navd_build(", "extern void navd_build(", "the result of navd_build is nothing, the header has u32"),
+    ("csharp", "        [DllImport(Library)]\n        internal static extern Status navd_prepare(LevelHandle level);\n", "",
+     "the call navd_prepare is missing"),
+    ("csharp", "[DllImport(Library)]\n        internal static extern Status navd_aim", '[DllImport("other")]\n        internal static extern Status navd_aim',
+     "of 42 places like"),
+    # C++: its compiler compares the rest
+    ("cpp", "navd_view_find_hop;", "navd_find_hop;", "the call navd_view_find_hop is missing"),
+    ("cpp", "stale = NAVD_STALE, ", "", "the number STALE is missing"),
 ]
 
 

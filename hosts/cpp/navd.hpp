@@ -1,0 +1,323 @@
+// navd.hpp: navd.h for C++17. Owners of its handles, statuses that are not dropped unseen, answers in vectors.
+//
+//     navd::Level level;                                        // closed with its scope
+//     navd_fault fault;
+//     uint32_t number;
+//     navd::Path path;                                          // its vectors keep their room for the next question
+//     if (level.open(text, fault) != navd::Status::ok) return;
+//     if (level.add_block({1, 8, 0, 100, 4, 5}, 0, number) != navd::Status::ok) return;
+//     if (level.settle(number) != navd::Status::ok) return;
+//     if (level.find_path({{40, 40}, 10, {40, 120}, 10}, path) == navd::Status::ok) follow(path.turns);
+//
+// A function is the call of navd.h with its name, which says what it does, its units and limits, and its ends. A vector for an answer is
+// given more room where it has too little, has just what was told after Status::ok, and is empty after another end.
+//
+// Threads. As with the handles: an owner is in one call at a time, and calls of two owners may run side by side.
+//
+// Exceptions. A vector that gets no memory throws std::bad_alloc, between two calls of the library and never through one; the level is as
+// the last call left it. Nothing else throws.
+//
+// Memory. libnavd.a and libnavd.so of a release take it from malloc. Over the archive that `rt lib` leaves, one file of the host defines
+// NAVD_HEAP before it includes this header, and so has the three functions of the heap.
+#ifndef NAVD_HPP
+#define NAVD_HPP
+
+#include "navd.h"
+
+#include <algorithm>
+#include <cstddef>
+#include <cstdint>
+#include <cstdlib>
+#include <iterator>
+#include <string_view>
+#include <type_traits>
+#include <utility>
+#include <vector>
+#if __has_include(<version>)
+#include <version>
+#endif
+#ifdef __cpp_lib_span
+#include <span>
+#endif
+
+#ifdef NAVD_HEAP
+extern "C" {
+struct navd_tried {
+    bool ok;
+    void *block;
+};
+
+navd_tried rattle_alloc(size_t size, size_t align) noexcept {
+    static char no_block;
+    void *block = std::malloc(size ? size : align);
+    return {block != nullptr, block ? block : &no_block};
+}
+
+navd_tried rattle_realloc(void *old, size_t, size_t size, size_t align) noexcept {
+    void *block = std::realloc(old, size ? size : align);
+    return {block != nullptr, block ? block : old};
+}
+
+void rattle_dealloc(void *block) noexcept { std::free(block); }
+}
+#endif
+
+namespace navd {
+
+// How a call ended: the numbers NAVD_.. of navd.h.
+enum class [[nodiscard]] Status : uint32_t {
+    ok = NAVD_OK, no_memory = NAVD_NO_MEMORY, empty = NAVD_EMPTY, faulty = NAVD_FAULTY, out_of_range = NAVD_OUT_OF_RANGE,
+    too_many = NAVD_TOO_MANY, dead = NAVD_DEAD, history_full = NAVD_HISTORY_FULL, not_yet = NAVD_NOT_YET, same = NAVD_SAME,
+    no_start = NAVD_NO_START, no_goal = NAVD_NO_GOAL, no_path = NAVD_NO_PATH, wall = NAVD_WALL, no_room = NAVD_NO_ROOM,
+    stale = NAVD_STALE, foreign = NAVD_FOREIGN, busy = NAVD_BUSY, too_many_spans = NAVD_TOO_MANY_SPANS,
+};
+
+// What a call reads: an address and a length.
+#ifdef __cpp_lib_span
+template <class T> using Array = std::span<const T>;
+#else
+template <class T> class Array {
+public:
+    Array() = default;
+    Array(const T *data, size_t size) : at(data), count(size) {}
+    template <class List> Array(const List &list) : at(std::data(list)), count(std::size(list)) {}
+    const T *data() const noexcept { return at; }
+    size_t size() const noexcept { return count; }
+
+private:
+    const T *at = nullptr;
+    size_t count = 0;
+};
+#endif
+
+// What navd_path and navd_hop tell, with their arrays.
+struct Path {
+    uint64_t cost = 0;
+    navd_polygon first{};
+    std::vector<navd_link> links;
+    std::vector<navd_turn> turns;
+};
+
+struct Hop {
+    uint64_t cost = 0;
+    navd_polygon first{};
+    std::vector<navd_step_taken> steps;
+    std::vector<navd_turn> turns;
+};
+
+namespace detail {
+
+// No address that the library is handed is null, also where there is no element.
+template <class T> T *address(T *data) noexcept {
+    static std::remove_const_t<T> none{};
+    return data ? data : &none;
+}
+
+template <class T> size_t room(const std::vector<T> &list) noexcept { return std::max<size_t>(list.capacity(), 16); }
+
+// Makes a call that lays into a vector, and once more where that had too little room. The call is handed the room, and leaves how many
+// there are.
+template <class T, class Call> Status all(std::vector<T> &list, Call call) {
+    size_t count = room(list);
+    for (;;) {
+        list.resize(count);
+        const Status status{call(address(list.data()), &count)};
+        if (status != Status::ok) count = 0;
+        if (count > list.size()) continue;
+        list.resize(count);
+        return status;
+    }
+}
+
+// The same with two vectors.
+template <class T, class U, class Call> Status both(std::vector<T> &list, std::vector<U> &other, Call call) {
+    size_t count = room(list), others = room(other);
+    for (;;) {
+        list.resize(count);
+        other.resize(others);
+        const Status status{call(address(list.data()), count, address(other.data()), others)};
+        if (status != Status::ok) count = others = 0;
+        if (count > list.size() || others > other.size()) continue;
+        list.resize(count);
+        other.resize(others);
+        return status;
+    }
+}
+
+// A handle, which can be moved and is closed once.
+template <class Handle, void (*Close)(Handle *)> class Owner {
+public:
+    Owner() noexcept = default;
+    Owner(Owner &&other) noexcept : handle(std::exchange(other.handle, Handle{})) {}
+    Owner &operator=(Owner &&other) noexcept {
+        Owner moved(std::move(other));
+        std::swap(handle, moved.handle);
+        return *this;
+    }
+    ~Owner() { close(); }
+
+    void close() noexcept { Close(&handle); }
+    // For the calls of navd.h themselves.
+    Handle *get() noexcept { return &handle; }
+
+protected:
+    Handle handle{};
+};
+
+struct LevelCalls {
+    static constexpr auto floors = navd_floors;
+    static constexpr auto find_path = navd_find_path;
+    static constexpr auto cast_ray = navd_cast_ray;
+    static constexpr auto find_hop = navd_find_hop;
+    static constexpr auto send = navd_send;
+    static constexpr auto march = navd_march;
+    static constexpr auto polygons = navd_polygons;
+    static constexpr auto inner_links = navd_inner_links;
+    static constexpr auto border_links = navd_border_links;
+};
+
+struct ViewCalls {
+    static constexpr auto floors = navd_view_floors;
+    static constexpr auto find_path = navd_view_find_path;
+    static constexpr auto cast_ray = navd_view_cast_ray;
+    static constexpr auto find_hop = navd_view_find_hop;
+    static constexpr auto send = navd_view_send;
+    static constexpr auto march = navd_view_march;
+    static constexpr auto polygons = navd_view_polygons;
+    static constexpr auto inner_links = navd_view_inner_links;
+    static constexpr auto border_links = navd_view_border_links;
+};
+
+// What is asked of a level and of a view alike.
+template <class Handle, void (*Close)(Handle *), class Calls> class Asked : public Owner<Handle, Close> {
+public:
+    Status floors(uint32_t x, uint32_t z, std::vector<navd_floor> &floors) {
+        return all(floors, [&](navd_floor *to, size_t *count) { return Calls::floors(&this->handle, x, z, to, *count, count); });
+    }
+
+    Status find_path(const navd_way &way, Path &path) {
+        navd_path told{};
+        const Status status = both(path.links, path.turns, [&](navd_link *links, size_t &count, navd_turn *turns, size_t &others) {
+            const uint32_t end = Calls::find_path(&this->handle, &way, links, count, turns, others, &told);
+            count = told.links;
+            others = told.turns;
+            return end;
+        });
+        path.cost = told.cost;
+        path.first = told.first;
+        return status;
+    }
+
+    Status cast_ray(const navd_way &way, navd_ray &ray) noexcept { return Status{Calls::cast_ray(&this->handle, &way, &ray)}; }
+
+    Status find_hop(const navd_way &way, Array<navd_jump> jumps, Hop &hop) {
+        navd_hop told{};
+        told.way = way;
+        const Status status = both(hop.steps, hop.turns, [&](navd_step_taken *steps, size_t &count, navd_turn *turns, size_t &others) {
+            const uint32_t end = Calls::find_hop(&this->handle, &told, address(jumps.data()), jumps.size(), steps, count, turns, others);
+            count = told.steps;
+            others = told.turns;
+            return end;
+        });
+        hop.cost = told.cost;
+        hop.first = told.first;
+        return status;
+    }
+
+    Status send(const navd_way &way, navd_walker &walker, std::vector<navd_link> &links) {
+        return all(links, [&](navd_link *to, size_t *count) {
+            const uint32_t end = Calls::send(&this->handle, &way, to, *count, &walker);
+            *count = walker.links;
+            return end;
+        });
+    }
+
+    // Where the links have too little room, the walker goes once more from where it was.
+    Status march(navd_walker &walker, uint32_t length, std::vector<navd_link> &links) {
+        navd_walker moved = walker;
+        const Status status = all(links, [&](navd_link *to, size_t *count) {
+            moved = walker;
+            const uint32_t end = Calls::march(&this->handle, &moved, length, to, *count);
+            *count = moved.links;
+            return end;
+        });
+        walker = moved;
+        return status;
+    }
+
+    Status polygons(uint32_t tile, std::vector<navd_face> &polygons) {
+        return all(polygons, [&](navd_face *to, size_t *count) { return Calls::polygons(&this->handle, tile, to, *count, count); });
+    }
+
+    Status inner_links(uint32_t tile, std::vector<navd_link> &links) {
+        return all(links, [&](navd_link *to, size_t *count) { return Calls::inner_links(&this->handle, tile, to, *count, count); });
+    }
+
+    Status border_links(uint32_t tile, std::vector<navd_link> &links) {
+        return all(links, [&](navd_link *to, size_t *count) { return Calls::border_links(&this->handle, tile, to, *count, count); });
+    }
+};
+
+} // namespace detail
+
+class Job : public detail::Owner<navd_job, navd_job_close> {
+public:
+    Status build() noexcept { return Status{navd_build(&handle)}; }
+};
+
+class Level : public detail::Asked<navd_level, navd_close, detail::LevelCalls> {
+public:
+    Status open(std::string_view text, navd_fault &fault) noexcept {
+        return Status{navd_open(&handle, bytes(text), text.size(), &fault)};
+    }
+    Status open_triangles(std::string_view text, navd_fault &fault) noexcept {
+        return Status{navd_open_triangles(&handle, bytes(text), text.size(), &fault)};
+    }
+
+    Status add_block(const navd_block &block, uint32_t area, uint32_t &entry) noexcept {
+        return Status{navd_add_block(&handle, &block, area, &entry)};
+    }
+    Status add_cylinder(const navd_cylinder &cylinder, uint32_t area, uint32_t &entry) noexcept {
+        return Status{navd_add_cylinder(&handle, &cylinder, area, &entry)};
+    }
+    Status remove(uint32_t number, uint32_t &entry) noexcept { return Status{navd_remove(&handle, number, &entry)}; }
+
+    Status settle(uint32_t &published) noexcept { return Status{navd_settle(&handle, &published)}; }
+    Status aim(uint32_t &target) noexcept { return Status{navd_aim(&handle, &target)}; }
+    Status step(uint32_t &tile) noexcept { return Status{navd_step(&handle, &tile)}; }
+    Status publish(uint32_t &number) noexcept { return Status{navd_publish(&handle, &number)}; }
+    Status prepare() noexcept { return Status{navd_prepare(&handle)}; }
+
+    Status renew(std::vector<uint32_t> &numbers) {
+        return detail::all(numbers, [&](uint32_t *to, size_t *count) {
+            const uint32_t end = navd_renew(&handle, to, *count, count);
+            return end == NAVD_NO_ROOM ? NAVD_OK : end; // nothing was done, and the count is more than the room
+        });
+    }
+
+    Status claim(Job &job, uint32_t &tile) noexcept { return Status{navd_claim(&handle, job.get(), &tile)}; }
+    Status submit(Job &job) noexcept { return Status{navd_submit(&handle, job.get())}; }
+    Status put_back(Job &job) noexcept { return Status{navd_put_back(&handle, job.get())}; }
+    Status put_back_all() noexcept { return Status{navd_put_back_all(&handle)}; }
+
+    Status obstacles(std::vector<navd_obstacle> &obstacles) {
+        return detail::all(obstacles, [&](navd_obstacle *to, size_t *count) { return navd_obstacles(&handle, to, *count, count); });
+    }
+    Status count(navd_counts &counts) noexcept { return Status{navd_count(&handle, &counts)}; }
+
+private:
+    static const uint8_t *bytes(std::string_view text) noexcept { return reinterpret_cast<const uint8_t *>(detail::address(text.data())); }
+};
+
+class View : public detail::Asked<navd_view, navd_view_close, detail::ViewCalls> {
+public:
+    Status look(Level &level, uint32_t &published) noexcept { return Status{navd_look(&handle, level.get(), &published)}; }
+    Status set_costs(Array<uint32_t> costs) noexcept {
+        return Status{navd_view_set_costs(&handle, detail::address(costs.data()), costs.size())};
+    }
+    Status count(navd_shown &shown) noexcept { return Status{navd_view_count(&handle, &shown)}; }
+};
+
+} // namespace navd
+
+#endif

@@ -1,0 +1,746 @@
+// Navd.cs: a level of navd over its shared library, by P/Invoke. C# 7, for .NET, Mono and Unity, without unsafe code.
+//
+//     using (var level = new Navd.Level())
+//     {
+//         Navd.Fault fault;
+//         uint number;
+//         var path = new Navd.Path();                         // its arrays keep their room for the next question
+//         level.Open(text, out fault);                        // each of these tells a Status
+//         level.AddBlock(new Navd.Block { X0 = 1, X1 = 8, Y0 = 0, Y1 = 100, Z0 = 4, Z1 = 5 }, 0, out number);
+//         level.Settle(out number);
+//         var from = new Navd.Point { X = 40, Z = 40 };
+//         var to = new Navd.Point { X = 40, Z = 120 };
+//         if (level.FindPath(new Navd.Way { From = from, FromY = 10, To = to, ToY = 10 }, path) == Navd.Status.Ok) Follow(path.Turns);
+//     }
+//
+// A method is the call of include/navd.h with its name, which says what it does, its units and limits, and its ends. The library is looked
+// for as P/Invoke does: libnavd.so beside the program or in LD_LIBRARY_PATH, in Unity below Assets/Plugins.
+//
+// Threads. A level, a view and a job are each in one call at a time; calls of two of them may run side by side. What was not disposed of is
+// closed by the thread of the finalizers, beside no other call of it.
+//
+// Garbage. A question whose answer has room in the arrays that it is handed makes none.
+using System;
+using System.Runtime.InteropServices;
+
+namespace Navd
+{
+    /// <summary>How a call ended.</summary>
+    public enum Status : uint
+    {
+        Ok = 0,
+        NoMemory = 1,
+        Empty = 2,
+        Faulty = 3,
+        OutOfRange = 4,
+        TooMany = 5,
+        Dead = 6,
+        HistoryFull = 7,
+        NotYet = 8,
+        Same = 9,
+        NoStart = 10,
+        NoGoal = 11,
+        NoPath = 12,
+        Wall = 13,
+        NoRoom = 14,
+        Stale = 15,
+        Foreign = 16,
+        Busy = 17,
+        TooManySpans = 18
+    }
+
+    // == The structs of include/navd.h, field for field ==
+
+    [StructLayout(LayoutKind.Sequential)]
+    internal struct Handle
+    {
+        internal IntPtr At;
+        internal uint Full;
+    }
+
+    /// <summary>A point, in sixteenths of a cell.</summary>
+    [StructLayout(LayoutKind.Sequential)]
+    public struct Point
+    {
+        public int X, Z;
+    }
+
+    /// <summary>Columns X0 to X1 and Z0 to Z1, heights Y0 to Y1.</summary>
+    [StructLayout(LayoutKind.Sequential)]
+    public struct Block
+    {
+        public uint X0, X1, Y0, Y1, Z0, Z1;
+    }
+
+    /// <summary>A centre in half cells, a radius in cells, heights Y0 to Y1.</summary>
+    [StructLayout(LayoutKind.Sequential)]
+    public struct Cylinder
+    {
+        public uint Cx, Cz, R, Y0, Y1;
+    }
+
+    /// <summary>From where to where, with heights that say in which storey.</summary>
+    [StructLayout(LayoutKind.Sequential)]
+    public struct Way
+    {
+        public Point From;
+        public uint FromY;
+        public Point To;
+        public uint ToY;
+    }
+
+    [StructLayout(LayoutKind.Sequential)]
+    public struct Polygon
+    {
+        public uint Tile, Index;
+    }
+
+    /// <summary>A way into a polygon, through the portal from right to left.</summary>
+    [StructLayout(LayoutKind.Sequential)]
+    public struct Link
+    {
+        public Polygon From;
+        public uint Edge;
+        public Polygon To;
+        public Point Left, Right;
+    }
+
+    /// <summary>A corner of a polygon, in whole cells.</summary>
+    [StructLayout(LayoutKind.Sequential)]
+    public struct Corner
+    {
+        public int X, Z;
+    }
+
+    /// <summary>A polygon as it is drawn; face.Corner(place) has its corners, from 0 to below Corners.</summary>
+    [StructLayout(LayoutKind.Sequential)]
+    public struct Face
+    {
+        public uint Corners;
+        public Corner First, Second, Third, Fourth, Fifth, Sixth;
+        public uint Area, Low, High;
+    }
+
+    /// <summary>A block (Kind 0) or a cylinder (Kind 1), with the area that it gives, or 0 where it stops agents.</summary>
+    [StructLayout(LayoutKind.Sequential)]
+    public struct Obstacle
+    {
+        public uint Number, Area, Kind;
+        public Block Block;
+        public Cylinder Cylinder;
+    }
+
+    /// <summary>A one-way jump, and what it costs.</summary>
+    [StructLayout(LayoutKind.Sequential)]
+    public struct Jump
+    {
+        public Point From;
+        public uint FromY;
+        public Point To;
+        public uint ToY;
+        public uint Cost;
+    }
+
+    /// <summary>A step over a link (Kind 0) or by the jump with a number (Kind 1), of which Link.To alone says something.</summary>
+    [StructLayout(LayoutKind.Sequential)]
+    public struct Step
+    {
+        public uint Kind, Jump;
+        public Link Link;
+    }
+
+    [StructLayout(LayoutKind.Sequential)]
+    internal struct NavdHop
+    {
+        internal Way Way;
+        internal ulong Cost;
+        internal Polygon First;
+        internal UIntPtr Steps, Turns;
+    }
+
+    /// <summary>An agent on its way: where it stands, its goal, what the way that is left costs, and how many links that has.</summary>
+    [StructLayout(LayoutKind.Sequential)]
+    public struct Walker
+    {
+        public Polygon Polygon;
+        public Point At;
+        public uint Y;
+        public Point Goal;
+        public uint GoalY;
+        public ulong Cost;
+        public UIntPtr Links;
+    }
+
+    /// <summary>A turn of a path, round the left end (Side 0) or the right end (Side 1) of the portal of a link.</summary>
+    [StructLayout(LayoutKind.Sequential)]
+    public struct Turn
+    {
+        public Point At;
+        public uint Side, Link;
+    }
+
+    [StructLayout(LayoutKind.Sequential)]
+    public struct Floor
+    {
+        public uint Y, Area;
+    }
+
+    [StructLayout(LayoutKind.Sequential)]
+    internal struct NavdPath
+    {
+        internal ulong Cost;
+        internal Polygon First;
+        internal UIntPtr Links, Turns;
+    }
+
+    /// <summary>Where a ray ends. Status.Ok: in Last. Status.Wall: at the edge from A to B, Num / Den of the way.</summary>
+    [StructLayout(LayoutKind.Sequential)]
+    public struct Ray
+    {
+        public Polygon Last;
+        public Point A, B;
+        public long Num, Den;
+    }
+
+    /// <summary>The first line of a text that fails, from 1, and the kind of its fault.</summary>
+    [StructLayout(LayoutKind.Sequential)]
+    public struct Fault
+    {
+        public uint Line, Kind;
+    }
+
+    [StructLayout(LayoutKind.Sequential)]
+    public struct Counts
+    {
+        public uint History, Target, Published, Tiles, Polygons, Links;
+    }
+
+    [StructLayout(LayoutKind.Sequential)]
+    public struct Shown
+    {
+        public uint Published, Tiles;
+    }
+
+    // == The calls of include/navd.h ==
+
+    internal static class Native
+    {
+        const string Library = "navd";
+
+        [DllImport(Library)]
+        internal static extern Status navd_open(LevelHandle level, byte[] text, UIntPtr length, out Fault fault);
+        [DllImport(Library)]
+        internal static extern Status navd_open_triangles(LevelHandle level, byte[] text, UIntPtr length, out Fault fault);
+        [DllImport(Library)]
+        internal static extern void navd_close(IntPtr level);
+        [DllImport(Library)]
+        internal static extern Status navd_add_block(LevelHandle level, ref Block block, uint area, out uint entry);
+        [DllImport(Library)]
+        internal static extern Status navd_add_cylinder(LevelHandle level, ref Cylinder cylinder, uint area, out uint entry);
+        [DllImport(Library)]
+        internal static extern Status navd_remove(LevelHandle level, uint number, out uint entry);
+        [DllImport(Library)]
+        internal static extern Status navd_settle(LevelHandle level, out uint published);
+        [DllImport(Library)]
+        internal static extern Status navd_aim(LevelHandle level, out uint target);
+        [DllImport(Library)]
+        internal static extern Status navd_step(LevelHandle level, out uint tile);
+        [DllImport(Library)]
+        internal static extern Status navd_publish(LevelHandle level, out uint number);
+        [DllImport(Library)]
+        internal static extern Status navd_renew(LevelHandle level, [Out] uint[] numbers, UIntPtr room, out UIntPtr count);
+        [DllImport(Library)]
+        internal static extern Status navd_claim(LevelHandle level, JobHandle job, out uint tile);
+        [DllImport(Library)]
+        internal static extern Status navd_build(JobHandle job);
+        [DllImport(Library)]
+        internal static extern Status navd_submit(LevelHandle level, JobHandle job);
+        [DllImport(Library)]
+        internal static extern Status navd_put_back(LevelHandle level, JobHandle job);
+        [DllImport(Library)]
+        internal static extern Status navd_put_back_all(LevelHandle level);
+        [DllImport(Library)]
+        internal static extern void navd_job_close(IntPtr job);
+        [DllImport(Library)]
+        internal static extern Status navd_floors(LevelHandle level, uint x, uint z, [Out] Floor[] floors, UIntPtr room, out UIntPtr count);
+        [DllImport(Library)]
+        internal static extern Status navd_prepare(LevelHandle level);
+        [DllImport(Library)]
+        internal static extern Status navd_find_path(LevelHandle level, ref Way way, [Out] Link[] links, UIntPtr linksRoom,
+            [Out] Turn[] turns,
+            UIntPtr turnsRoom, ref NavdPath path);
+        [DllImport(Library)]
+        internal static extern Status navd_cast_ray(LevelHandle level, ref Way way, ref Ray ray);
+        [DllImport(Library)]
+        internal static extern Status navd_find_hop(LevelHandle level, ref NavdHop hop, Jump[] jumps, UIntPtr count, [Out] Step[] steps,
+            UIntPtr stepsRoom, [Out] Turn[] turns, UIntPtr turnsRoom);
+        [DllImport(Library)]
+        internal static extern Status navd_send(LevelHandle level, ref Way way, [Out] Link[] links, UIntPtr room, ref Walker walker);
+        [DllImport(Library)]
+        internal static extern Status navd_march(LevelHandle level, ref Walker walker, uint length, [Out] Link[] links, UIntPtr room);
+        [DllImport(Library)]
+        internal static extern Status navd_polygons(LevelHandle level, uint tile, [Out] Face[] polygons, UIntPtr room, out UIntPtr count);
+        [DllImport(Library)]
+        internal static extern Status navd_inner_links(LevelHandle level, uint tile, [Out] Link[] links, UIntPtr room, out UIntPtr count);
+        [DllImport(Library)]
+        internal static extern Status navd_border_links(LevelHandle level, uint tile, [Out] Link[] links, UIntPtr room, out UIntPtr count);
+        [DllImport(Library)]
+        internal static extern Status navd_obstacles(LevelHandle level, [Out] Obstacle[] obstacles, UIntPtr room, out UIntPtr count);
+        [DllImport(Library)]
+        internal static extern Status navd_count(LevelHandle level, out Counts counts);
+        [DllImport(Library)]
+        internal static extern Status navd_look(ViewHandle view, LevelHandle level, out uint published);
+        [DllImport(Library)]
+        internal static extern void navd_view_close(IntPtr view);
+        [DllImport(Library)]
+        internal static extern Status navd_view_set_costs(ViewHandle view, uint[] costs, UIntPtr count);
+        [DllImport(Library)]
+        internal static extern Status navd_view_count(ViewHandle view, out Shown shown);
+        [DllImport(Library)]
+        internal static extern Status navd_view_floors(ViewHandle view, uint x, uint z, [Out] Floor[] floors, UIntPtr room,
+            out UIntPtr count);
+        [DllImport(Library)]
+        internal static extern Status navd_view_find_path(ViewHandle view, ref Way way, [Out] Link[] links, UIntPtr linksRoom,
+            [Out] Turn[] turns, UIntPtr turnsRoom, ref NavdPath path);
+        [DllImport(Library)]
+        internal static extern Status navd_view_cast_ray(ViewHandle view, ref Way way, ref Ray ray);
+        [DllImport(Library)]
+        internal static extern Status navd_view_find_hop(ViewHandle view, ref NavdHop hop, Jump[] jumps, UIntPtr count, [Out] Step[] steps,
+            UIntPtr stepsRoom, [Out] Turn[] turns, UIntPtr turnsRoom);
+        [DllImport(Library)]
+        internal static extern Status navd_view_send(ViewHandle view, ref Way way, [Out] Link[] links, UIntPtr room, ref Walker walker);
+        [DllImport(Library)]
+        internal static extern Status navd_view_march(ViewHandle view, ref Walker walker, uint length, [Out] Link[] links, UIntPtr room);
+        [DllImport(Library)]
+        internal static extern Status navd_view_polygons(ViewHandle view, uint tile, [Out] Face[] polygons, UIntPtr room,
+            out UIntPtr count);
+        [DllImport(Library)]
+        internal static extern Status navd_view_inner_links(ViewHandle view, uint tile, [Out] Link[] links, UIntPtr room,
+            out UIntPtr count);
+        [DllImport(Library)]
+        internal static extern Status navd_view_border_links(ViewHandle view, uint tile, [Out] Link[] links, UIntPtr room,
+            out UIntPtr count);
+    }
+
+    // == Owners of handles ==
+
+    /// <summary>The place of a handle, outside of what the garbage collector moves. It begins zeroed, and so holds nothing.</summary>
+    internal abstract class Owned : SafeHandle
+    {
+        protected Owned() : base(IntPtr.Zero, true)
+        {
+            SetHandle(Marshal.AllocHGlobal(Marshal.SizeOf(typeof(Handle))));
+            Marshal.StructureToPtr(new Handle(), handle, false);
+        }
+
+        public override bool IsInvalid
+        {
+            get { return handle == IntPtr.Zero; }
+        }
+
+        protected bool Freed()
+        {
+            Marshal.FreeHGlobal(handle);
+            return true;
+        }
+    }
+
+    internal sealed class LevelHandle : Owned
+    {
+        protected override bool ReleaseHandle()
+        {
+            Native.navd_close(handle);
+            return Freed();
+        }
+    }
+
+    internal sealed class ViewHandle : Owned
+    {
+        protected override bool ReleaseHandle()
+        {
+            Native.navd_view_close(handle);
+            return Freed();
+        }
+    }
+
+    internal sealed class JobHandle : Owned
+    {
+        protected override bool ReleaseHandle()
+        {
+            Native.navd_job_close(handle);
+            return Freed();
+        }
+    }
+
+    // == Arrays ==
+
+    /// <summary>What a call told: Count elements, in an array with room for more, which is kept for the next call.</summary>
+    public sealed class Room<T> where T : struct
+    {
+        public T[] Items = new T[16];
+        public int Count;
+
+        public T this[int place]
+        {
+            get
+            {
+                if (place < 0 || place >= Count) throw new ArgumentOutOfRangeException("place");
+                return Items[place];
+            }
+        }
+
+        internal UIntPtr Length
+        {
+            get { return Given.Length(Items); }
+        }
+
+        /// <summary>Takes how many there are, or 0 where nothing was told. False, and room is made, where there was too little.</summary>
+        internal bool Takes(bool told, UIntPtr count)
+        {
+            Count = told ? checked((int)count.ToUInt64()) : 0;
+            if (Count <= Items.Length) return true;
+            Items = new T[Count];
+            return false;
+        }
+    }
+
+    internal static class Given
+    {
+        internal static UIntPtr Length(Array items)
+        {
+            return (UIntPtr)(uint)items.Length;
+        }
+
+        /// <summary>What a call reads: no null, and an address also where there is no element.</summary>
+        internal static T[] Items<T>(T[] items, string name)
+        {
+            if (items == null) throw new ArgumentNullException(name);
+            return items.Length == 0 ? None<T>.Items : items;
+        }
+
+        static class None<T>
+        {
+            internal static readonly T[] Items = new T[1];
+        }
+    }
+
+    public static class Faces
+    {
+        /// <summary>A corner of a polygon, by its place from 0.</summary>
+        public static Corner Corner(this Face face, int place)
+        {
+            if (place < 0 || place >= face.Corners) throw new ArgumentOutOfRangeException("place");
+            switch (place)
+            {
+                case 0: return face.First;
+                case 1: return face.Second;
+                case 2: return face.Third;
+                case 3: return face.Fourth;
+                case 4: return face.Fifth;
+                default: return face.Sixth;
+            }
+        }
+    }
+
+    public sealed class Path
+    {
+        public ulong Cost;
+        public Polygon First;
+        public readonly Room<Link> Links = new Room<Link>();
+        public readonly Room<Turn> Turns = new Room<Turn>();
+    }
+
+    public sealed class Hop
+    {
+        public ulong Cost;
+        public Polygon First;
+        public readonly Room<Step> Steps = new Room<Step>();
+        public readonly Room<Turn> Turns = new Room<Turn>();
+    }
+
+    // == A level, a view, a job ==
+
+    /// <summary>What is asked of a level and of a view alike.</summary>
+    public abstract class Asked : IDisposable
+    {
+        internal readonly LevelHandle level;
+        internal readonly ViewHandle view;
+
+        internal Asked(LevelHandle level, ViewHandle view)
+        {
+            this.level = level;
+            this.view = view;
+        }
+
+        public void Dispose()
+        {
+            if (view == null) level.Dispose(); else view.Dispose();
+        }
+
+        public Status Floors(uint x, uint z, Room<Floor> floors)
+        {
+            Status status;
+            UIntPtr count;
+            do
+            {
+                status = view == null
+                    ? Native.navd_floors(level, x, z, floors.Items, floors.Length, out count)
+                    : Native.navd_view_floors(view, x, z, floors.Items, floors.Length, out count);
+            } while (!floors.Takes(status == Status.Ok, count));
+            return status;
+        }
+
+        public Status FindPath(Way way, Path path)
+        {
+            Status status;
+            var told = new NavdPath();
+            Room<Link> links = path.Links;
+            Room<Turn> turns = path.Turns;
+            do
+            {
+                status = view == null
+                    ? Native.navd_find_path(level, ref way, links.Items, links.Length, turns.Items, turns.Length, ref told)
+                    : Native.navd_view_find_path(view, ref way, links.Items, links.Length, turns.Items, turns.Length, ref told);
+            } while (!links.Takes(status == Status.Ok, told.Links) | !turns.Takes(status == Status.Ok, told.Turns));
+            path.Cost = told.Cost;
+            path.First = told.First;
+            return status;
+        }
+
+        public Status CastRay(Way way, ref Ray ray)
+        {
+            return view == null ? Native.navd_cast_ray(level, ref way, ref ray) : Native.navd_view_cast_ray(view, ref way, ref ray);
+        }
+
+        public Status FindHop(Way way, Jump[] jumps, Hop hop)
+        {
+            Status status;
+            var told = new NavdHop { Way = way };
+            Jump[] items = Given.Items(jumps, "jumps");
+            UIntPtr count = Given.Length(jumps);
+            Room<Step> steps = hop.Steps;
+            Room<Turn> turns = hop.Turns;
+            do
+            {
+                status = view == null
+                    ? Native.navd_find_hop(level, ref told, items, count, steps.Items, steps.Length, turns.Items, turns.Length)
+                    : Native.navd_view_find_hop(view, ref told, items, count, steps.Items, steps.Length, turns.Items, turns.Length);
+            } while (!steps.Takes(status == Status.Ok, told.Steps) | !turns.Takes(status == Status.Ok, told.Turns));
+            hop.Cost = told.Cost;
+            hop.First = told.First;
+            return status;
+        }
+
+        public Status Send(Way way, ref Walker walker, Room<Link> links)
+        {
+            Status status;
+            do
+            {
+                status = view == null
+                    ? Native.navd_send(level, ref way, links.Items, links.Length, ref walker)
+                    : Native.navd_view_send(view, ref way, links.Items, links.Length, ref walker);
+            } while (!links.Takes(status == Status.Ok, walker.Links));
+            return status;
+        }
+
+        /// <summary>Where the links have too little room, the walker goes once more from where it was.</summary>
+        public Status March(ref Walker walker, uint length, Room<Link> links)
+        {
+            Status status;
+            Walker moved;
+            do
+            {
+                moved = walker;
+                status = view == null
+                    ? Native.navd_march(level, ref moved, length, links.Items, links.Length)
+                    : Native.navd_view_march(view, ref moved, length, links.Items, links.Length);
+            } while (!links.Takes(status == Status.Ok, moved.Links));
+            walker = moved;
+            return status;
+        }
+
+        public Status Polygons(uint tile, Room<Face> polygons)
+        {
+            Status status;
+            UIntPtr count;
+            do
+            {
+                status = view == null
+                    ? Native.navd_polygons(level, tile, polygons.Items, polygons.Length, out count)
+                    : Native.navd_view_polygons(view, tile, polygons.Items, polygons.Length, out count);
+            } while (!polygons.Takes(status == Status.Ok, count));
+            return status;
+        }
+
+        public Status InnerLinks(uint tile, Room<Link> links)
+        {
+            Status status;
+            UIntPtr count;
+            do
+            {
+                status = view == null
+                    ? Native.navd_inner_links(level, tile, links.Items, links.Length, out count)
+                    : Native.navd_view_inner_links(view, tile, links.Items, links.Length, out count);
+            } while (!links.Takes(status == Status.Ok, count));
+            return status;
+        }
+
+        public Status BorderLinks(uint tile, Room<Link> links)
+        {
+            Status status;
+            UIntPtr count;
+            do
+            {
+                status = view == null
+                    ? Native.navd_border_links(level, tile, links.Items, links.Length, out count)
+                    : Native.navd_view_border_links(view, tile, links.Items, links.Length, out count);
+            } while (!links.Takes(status == Status.Ok, count));
+            return status;
+        }
+    }
+
+    public sealed class Level : Asked
+    {
+        public Level() : base(new LevelHandle(), null)
+        {
+        }
+
+        public Status Open(byte[] text, out Fault fault)
+        {
+            byte[] items = Given.Items(text, "text");
+            return Native.navd_open(level, items, Given.Length(text), out fault);
+        }
+
+        public Status OpenTriangles(byte[] text, out Fault fault)
+        {
+            byte[] items = Given.Items(text, "text");
+            return Native.navd_open_triangles(level, items, Given.Length(text), out fault);
+        }
+
+        public Status AddBlock(Block block, uint area, out uint entry)
+        {
+            return Native.navd_add_block(level, ref block, area, out entry);
+        }
+
+        public Status AddCylinder(Cylinder cylinder, uint area, out uint entry)
+        {
+            return Native.navd_add_cylinder(level, ref cylinder, area, out entry);
+        }
+
+        public Status Remove(uint number, out uint entry)
+        {
+            return Native.navd_remove(level, number, out entry);
+        }
+
+        public Status Settle(out uint published)
+        {
+            return Native.navd_settle(level, out published);
+        }
+
+        public Status Aim(out uint target)
+        {
+            return Native.navd_aim(level, out target);
+        }
+
+        public Status Step(out uint tile)
+        {
+            return Native.navd_step(level, out tile);
+        }
+
+        public Status Publish(out uint number)
+        {
+            return Native.navd_publish(level, out number);
+        }
+
+        public Status Prepare()
+        {
+            return Native.navd_prepare(level);
+        }
+
+        /// <summary>Status.NoRoom does not come: nothing was done then, and the room is made.</summary>
+        public Status Renew(Room<uint> numbers)
+        {
+            Status status;
+            UIntPtr count;
+            do
+            {
+                status = Native.navd_renew(level, numbers.Items, numbers.Length, out count);
+            } while (!numbers.Takes(status == Status.Ok || status == Status.NoRoom, count));
+            return status;
+        }
+
+        public Status Claim(Job job, out uint tile)
+        {
+            return Native.navd_claim(level, job.job, out tile);
+        }
+
+        public Status Submit(Job job)
+        {
+            return Native.navd_submit(level, job.job);
+        }
+
+        public Status PutBack(Job job)
+        {
+            return Native.navd_put_back(level, job.job);
+        }
+
+        public Status PutBackAll()
+        {
+            return Native.navd_put_back_all(level);
+        }
+
+        public Status Obstacles(Room<Obstacle> obstacles)
+        {
+            Status status;
+            UIntPtr count;
+            do
+            {
+                status = Native.navd_obstacles(level, obstacles.Items, obstacles.Length, out count);
+            } while (!obstacles.Takes(status == Status.Ok, count));
+            return status;
+        }
+
+        public Status Count(out Counts counts)
+        {
+            return Native.navd_count(level, out counts);
+        }
+    }
+
+    public sealed class View : Asked
+    {
+        public View() : base(null, new ViewHandle())
+        {
+        }
+
+        public Status Look(Level level, out uint published)
+        {
+            return Native.navd_look(view, level.level, out published);
+        }
+
+        public Status SetCosts(uint[] costs)
+        {
+            uint[] items = Given.Items(costs, "costs");
+            return Native.navd_view_set_costs(view, items, Given.Length(costs));
+        }
+
+        public Status Count(out Shown shown)
+        {
+            return Native.navd_view_count(view, out shown);
+        }
+    }
+
+    public sealed class Job : IDisposable
+    {
+        internal readonly JobHandle job = new JobHandle();
+
+        public Status Build()
+        {
+            return Native.navd_build(job);
+        }
+
+        public void Dispose()
+        {
+            job.Dispose();
+        }
+    }
+}
