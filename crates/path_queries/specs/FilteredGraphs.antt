@@ -1,5 +1,5 @@
--- The mesh as a filter lets it be walked, as a graph: its polygons are the vertices, and its links the arcs, but none leaves a polygon of a closed
--- area other than the one in which walks begin.
+-- The mesh as a filter lets it be walked, as a graph: its polygons are the vertices, and its links the arcs, but none leaves a polygon of a
+-- closed area other than the one in which walks begin.
 use Rattle.std.specs.Prelude.{◌≡◌, ℕ, ◌*◌, ◌<◌, ◌≤◌, Bool, true, false, ◌==◌, ◌&&◌, ◌||◌, if◌then◌else◌, List, [], length, map, slice_index}
 use Rattle.nav_base.specs.declared.point.Point.{Point}
 use Rattle.nav_base.specs.Point.{IsInField}
@@ -24,7 +24,8 @@ pub record AreSearchCosts (areas : ℕ) (costs search : List ℕ) : Type 0 where
 pub record IsLeastCost (areas : ℕ) (costs : List ℕ) (least : ℕ) : Type 0 where
   pub most : least ≤ 1000
   pub below : (area : ℕ) → IsArea area → is_open areas area ≡ true → least ≤ slice_index costs area
-  pub greatest : (other : ℕ) → other ≤ 1000 → ((area : ℕ) → IsArea area → is_open areas area ≡ true → other ≤ slice_index costs area) → other ≤ least
+  pub greatest : (other : ℕ) → other ≤ 1000 → ((area : ℕ) → IsArea area → is_open areas area ≡ true → other ≤ slice_index costs area)
+      → other ≤ least
 
 -- a walk may lead on from a polygon: it is the one in which walks begin, or its area is open
 abbrev pub leads_on : Mesh → ℕ → PolyRef → PolyRef → Bool
@@ -42,8 +43,8 @@ filtered_arcs mesh areas costs start v = map (arc_over (with_costs costs mesh)) 
 abbrev pub filtered_estimates : Mesh → Point → ℕ → Vertex → ℕ
 filtered_estimates mesh aim least v = estimates_of mesh aim v * least
 
--- a mesh that is searched through a filter: it is sound, its setting keeps the rules, the costs are costs, the aim lies in the field, and no area
--- costs less than the least
+-- a mesh that is searched through a filter: it is sound, its setting keeps the rules, the costs are costs, the aim lies in the field, and
+-- no area costs less than the least
 pub record IsFiltered (mesh : Mesh) (costs : List ℕ) (aim : Point) (least : ℕ) : Type 0 where
   pub sound : IsSound mesh
   pub setting : IsSetting mesh.setting

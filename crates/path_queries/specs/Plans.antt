@@ -1,5 +1,5 @@
--- Plans: which questions for a way may be asked, and which answers are right. The kind of a right answer is determined by the question, and so
--- are its first polygon and its cost; of several cheapest allowed walks, and of several taut lines through one, any is right.
+-- Plans: which questions for a way may be asked, and which answers are right. The kind of a right answer is determined by the question, and
+-- so are its first polygon and its cost; of several cheapest allowed walks, and of several taut lines through one, any is right.
 use Rattle.std.specs.Prelude.{◌≡◌, ◌<◌, ◌^◌, List, ⊤}
 use Rattle.nav_base.specs.Point.{HasCoordinates}
 use Rattle.mesh_types.specs.declared.answers.Answer.{Answer}
@@ -30,8 +30,8 @@ pub record HasNoWay (mesh : Mesh) (query : PathQuery) : Type 0 where
   pub goal : IsLocated mesh query.goal query.goal_y last
   pub no_walk : (links : List Link) → AllowedTo mesh query.filter.areas first links last → ⊥
 
--- a way begins in the polygon that locates the start; its links are a cheapest allowed walk from there to the polygon that locates the goal, of
--- the cost that it says, and its line is taut in the portals of those links
+-- a way begins in the polygon that locates the start; its links are a cheapest allowed walk from there to the polygon that locates the goal,
+-- of the cost that it says, and its line is taut in the portals of those links
 pub record IsWay (mesh : Mesh) (query : PathQuery) (found : PathFound) : Type 0 where
   pub start : IsLocated mesh query.from query.from_y found.first
   pub last : PolyRef

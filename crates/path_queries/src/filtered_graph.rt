@@ -18,8 +18,8 @@ use nav_base::{Point, ceil_sqrt, square_distance};
 use nav_ground::AREAS;
 use std::alloc::AllocError;
 
-/// A mesh that is searched for allowed walks. A polygon of a closed area may be reached, but no arc leaves it: so a polygon's area is looked at
-/// once, when the search comes to it, and not at each arc that enters it.
+/// A mesh that is searched for allowed walks. A polygon of a closed area may be reached, but no arc leaves it: so a polygon's area is
+/// looked at once, when the search comes to it, and not at each arc that enters it.
 #[derive(Clone, Copy)]
 pub(crate) struct FilteredGraph<'a> {
     pub(crate) mesh: &'a Mesh,
@@ -77,7 +77,7 @@ pub(crate) fn leads_on(mesh: &Mesh, areas: u64, start: PolyRef, at: PolyRef) -> 
     requires there { IsThere mesh.now at }
     ensures { result ≡ leads_on mesh.now areas start at }
 {
-    at.tile == start.tile && at.index == start.index || is_open(areas, extent_at(mesh, at).area)
+    at == start || is_open(areas, extent_at(mesh, at).area)
 }
 
 /// The middle of a polygon's box, in sixteenths of a cell.
@@ -101,8 +101,8 @@ fn half_way(least: i32, greatest: i32) -> i32
     8 * (least + greatest)
 }
 
-/// What a step costs from a point into a polygon with an extent: the distance to its middle, rounded up and at least 1, times the cost of its
-/// area.
+/// What a step costs from a point into a polygon with an extent: the distance to its middle, rounded up and at least 1, times the cost of
+/// its area.
 fn step_cost(costs: &[u32; AREAS], from: Point, to: Extent) -> u64
     requires costs { AreCosts costs.now }
     requires from { IsInField from }

@@ -26,8 +26,8 @@ pub(crate) fn is_open(areas: u64, area: u32) -> bool
     (areas >> area) & 1 == 1
 }
 
-/// The costs that a search goes by: those of open areas, and the greatest for closed ones. Links lead into polygons of closed areas too, and
-/// there an estimate at the least cost of an open area must not fall by more than the link weighs.
+/// The costs that a search goes by: those of open areas, and the greatest for closed ones. Links lead into polygons of closed areas too,
+/// and along those an estimate at the least cost of an open area must not fall by more than the link weighs.
 pub(crate) fn search_costs(areas: u64, costs: &[u32; AREAS]) -> [u32; AREAS]
     ensures { AreSearchCosts areas costs.now result }
 {
