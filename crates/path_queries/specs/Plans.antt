@@ -1,0 +1,74 @@
+-- Plans: which questions for a way may be asked, and which answers are right. The kind of a right answer is determined by the question, and
+-- so are its first polygon and its cost; of several cheapest allowed walks, and of several taut lines through one, any is right.
+use Rattle.std.specs.Prelude.{◌≡◌, ◌<◌, ◌^◌, List, ⊤}
+use Rattle.nav_base.specs.Point.{HasCoordinates}
+use Rattle.mesh_types.specs.declared.answers.Answer.{Answer}
+use Rattle.mesh_types.specs.declared.answers.Answer.TheVariants as paths
+use Rattle.mesh_types.specs.declared.answers.PathFound.{PathFound}
+use Rattle.mesh_types.specs.declared.links.Link.{Link}
+use Rattle.mesh_types.specs.declared.links.PolyRef.{PolyRef}
+use Rattle.mesh_types.specs.declared.mesh.Mesh.{Mesh}
+use Rattle.mesh_types.specs.Located.{IsLocated}
+use Rattle.mesh_types.specs.Right.{HasNoGoal, IsNowhere, portals_of}
+use Rattle.mesh_types.specs.Taut.{IsTaut}
+use Rattle.path_queries.specs.declared.plans.PathQuery.{PathQuery}
+use Rattle.path_queries.specs.declared.plans.PlanAnswer.{PlanAnswer}
+use Rattle.path_queries.specs.declared.plans.PlanAnswer.TheVariants.{Whole, NoStart, NoGoal, NoPath}
+use Rattle.path_queries.specs.Filters.{AllowedTo, IsCheapestAllowed, IsFilter}
+
+-- both points have coordinates, and the filter's own costs are costs
+pub record CanPlan (query : PathQuery) : Type 0 where
+  pub from : HasCoordinates query.from
+  pub goal : HasCoordinates query.goal
+  pub filter : IsFilter query.filter
+
+-- both places are held, and no allowed walk leads from the polygon that locates the one to the polygon that locates the other
+pub record HasNoWay (mesh : Mesh) (query : PathQuery) : Type 0 where
+  pub first : PolyRef
+  pub start : IsLocated mesh query.from query.from_y first
+  pub last : PolyRef
+  pub goal : IsLocated mesh query.goal query.goal_y last
+  pub no_walk : (links : List Link) → AllowedTo mesh query.filter.areas first links last → ⊥
+
+-- a way begins in the polygon that locates the start; its links are a cheapest allowed walk from there to the polygon that locates the goal,
+-- of the cost that it says, and its line is taut in the portals of those links
+pub record IsWay (mesh : Mesh) (query : PathQuery) (found : PathFound) : Type 0 where
+  pub start : IsLocated mesh query.from query.from_y found.first
+  pub last : PolyRef
+  pub goal : IsLocated mesh query.goal query.goal_y last
+  pub cheapest : IsCheapestAllowed mesh query.filter found.first last (record { cost = found.cost; links = found.links })
+  pub taut : IsTaut query.from (portals_of found.links) query.goal found.turns
+
+-- an answer to a question for a way is right in a mesh
+abbrev pub IsPlan : PathQuery → Mesh → PlanAnswer → Type 0
+IsPlan query mesh (Whole found) = IsWay mesh query found
+IsPlan query mesh NoStart = IsNowhere mesh query.from query.from_y
+IsPlan query mesh NoGoal = HasNoGoal mesh query.from query.from_y query.goal query.goal_y
+IsPlan query mesh NoPath = HasNoWay mesh query
+
+-- a way that was found costs less than 2 ^ 45
+abbrev pub HasLowCost : PlanAnswer → Type 0
+HasLowCost (Whole found) = found.cost < 2 ^ 45
+HasLowCost NoStart = ⊤
+HasLowCost NoGoal = ⊤
+HasLowCost NoPath = ⊤
+
+-- right, and of low cost
+abbrev pub IsRightPlan : PathQuery → Mesh → PlanAnswer → Type 0
+IsRightPlan query mesh answer = IsPlan query mesh answer × HasLowCost answer
+
+-- two answers are alike: of one kind, with the same first polygon and the same cost
+abbrev pub AreAlikePlans : PlanAnswer → PlanAnswer → Type 0
+AreAlikePlans (Whole a) (Whole b) = (a.first ≡ b.first) × (a.cost ≡ b.cost)
+AreAlikePlans NoStart NoStart = ⊤
+AreAlikePlans NoGoal NoGoal = ⊤
+AreAlikePlans NoPath NoPath = ⊤
+AreAlikePlans _ _ = ⊥
+
+-- an answer is like one to the question for a path: of that kind, with the same first polygon and the same cost
+abbrev pub IsPlanAsPath : PlanAnswer → Answer → Type 0
+IsPlanAsPath (Whole a) (paths.Path b) = (a.first ≡ b.first) × (a.cost ≡ b.cost)
+IsPlanAsPath NoStart paths.NoStart = ⊤
+IsPlanAsPath NoGoal paths.NoGoal = ⊤
+IsPlanAsPath NoPath paths.NoPath = ⊤
+IsPlanAsPath _ _ = ⊥

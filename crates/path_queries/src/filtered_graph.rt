@@ -1,0 +1,124 @@
+//! The mesh as a filter lets it be walked, as a graph.
+
+ghost use Rattle.std.specs.Prelude.{◌≡◌, ◌*◌, max, slice_index, pos, ◌≤ℤ◌, ◌+ℤ◌, ◌*ℤ◌};
+ghost use Rattle.nav_base.specs.Point.{IsInField};
+ghost use Rattle.nav_base.specs.Distance.{distance_of};
+ghost use Rattle.nav_ground.specs.Limits.{IsArea};
+ghost use Rattle.mesh_types.specs.Soundness.{IsSound};
+ghost use Rattle.corridor_search.specs.MeshGraphs.{IsThere};
+ghost use Rattle.corridor_search.specs.Estimates.{IsBox, middle_of};
+ghost use Rattle.path_queries.specs.Filters.{AreCosts};
+ghost use Rattle.path_queries.specs.FilteredGraphs.{leads_on};
+
+use crate::filters::is_open;
+use corridor_search::{extent_at, polygon_at, push_link_ends};
+use graph_search::{Graph, Step, Vertex};
+use mesh_types::{Extent, Mesh, PolyRef};
+use nav_base::{Point, ceil_sqrt, square_distance};
+use nav_ground::AREAS;
+use std::alloc::AllocError;
+
+/// A mesh that is searched for allowed walks. A polygon of a closed area may be reached, but no arc leaves it: so a polygon's area is
+/// looked at once, when the search comes to it, and not at each arc that enters it.
+#[derive(Clone, Copy)]
+pub(crate) struct FilteredGraph<'a> {
+    pub(crate) mesh: &'a Mesh,
+    /// Bit a: polygons of area a may be entered.
+    pub(crate) areas: u64,
+    /// What a sixteenth of a cell costs in each area, as the search goes by it.
+    pub(crate) costs: &'a [u32; AREAS],
+    /// The polygon in which walks begin: they leave it also where its area is closed.
+    pub(crate) start: PolyRef,
+    /// The middle of the goal's polygon, in sixteenths of a cell.
+    pub(crate) aim: Point,
+    /// No area costs less.
+    pub(crate) least: u32,
+}
+
+impl Graph for FilteredGraph<'_> {
+    ghost use Rattle.corridor_search.specs.MeshGraphs.{vertices_of};
+    ghost use Rattle.path_queries.specs.FilteredGraphs.{IsFiltered, filtered_arcs, filtered_estimates};
+
+    ghost is_sound = { λ g. IsFiltered g.mesh.now g.costs.now g.aim g.least };
+
+    ghost vertices = { λ g. vertices_of g.mesh.now };
+
+    ghost arcs = { λ g. filtered_arcs g.mesh.now g.areas g.costs.now g.start };
+
+    ghost estimates = { λ g. filtered_estimates g.mesh.now g.aim g.least };
+
+    /// The middles of two linked polygons are at most 2897 sixteenths apart, at a cost of at most 1000.
+    ghost heaviest = { λ _. 2897000 };
+
+    fn push_ends(&self, from: Vertex, ends: &mut Vec<Vertex>) -> Result<(), AllocError> {
+        let at = polygon_at(from);
+        if leads_on(self.mesh, self.areas, self.start, at) {
+            push_link_ends(self.mesh, at, ends)
+        } else {
+            Ok(())
+        }
+    }
+
+    fn weight(&self, step: Step, to: Vertex) -> u64 {
+        let left = extent_at(self.mesh, polygon_at(step.from));
+        let entered = extent_at(self.mesh, polygon_at(to));
+        step_cost(self.costs, middle(left), entered)
+    }
+
+    fn estimate(&self, from: Vertex) -> u64 {
+        let middle = middle(extent_at(self.mesh, polygon_at(from)));
+        u64::from(distance(middle, self.aim)) * u64::from(self.least)
+    }
+}
+
+/// Whether a walk may lead on from a polygon: it is the one in which walks begin, or its area is open.
+pub(crate) fn leads_on(mesh: &Mesh, areas: u64, start: PolyRef, at: PolyRef) -> bool
+    requires sound { IsSound mesh.now }
+    requires there { IsThere mesh.now at }
+    ensures { result ≡ leads_on mesh.now areas start at }
+{
+    at == start || is_open(areas, extent_at(mesh, at).area)
+}
+
+/// The middle of a polygon's box, in sixteenths of a cell.
+pub(crate) fn middle(extent: Extent) -> Point
+    requires { IsBox extent }
+    ensures value { result ≡ middle_of extent }
+    ensures in_field { IsInField result }
+{
+    Point {
+        x: half_way(extent.low.x, extent.high.x),
+        z: half_way(extent.low.z, extent.high.z),
+    }
+}
+
+/// Half way between two coordinates of cells, in sixteenths.
+fn half_way(least: i32, greatest: i32) -> i32
+    requires least { (pos 0 ≤ℤ least) × (least ≤ℤ pos 1024) }
+    requires greatest { (pos 0 ≤ℤ greatest) × (greatest ≤ℤ pos 1024) }
+    ensures { result ≡ pos 8 *ℤ (least +ℤ greatest) }
+{
+    8 * (least + greatest)
+}
+
+/// What a step costs from a point into a polygon with an extent: the distance to its middle, rounded up and at least 1, times the cost of
+/// its area.
+fn step_cost(costs: &[u32; AREAS], from: Point, to: Extent) -> u64
+    requires costs { AreCosts costs.now }
+    requires from { IsInField from }
+    requires to { IsBox to }
+    requires area { IsArea to.area }
+    ensures { result ≡ max 1 (distance_of from (middle_of to)) * slice_index costs.now to.area }
+{
+    let length = distance(from, middle(to)).max(1);
+    u64::from(length) * u64::from(costs[to.area as usize])
+}
+
+/// The distance between two points, rounded up.
+fn distance(from: Point, to: Point) -> u32
+    requires from { IsInField from }
+    requires to { IsInField to }
+    ensures { result ≡ distance_of from to }
+{
+    ceil_sqrt(square_distance(from, to))
+}
