@@ -28,7 +28,7 @@ use Rattle.mesh_types.specs.Corridors.{centre_of, step_cost, weight_of}
 use Rattle.mesh_types.specs.FitTiles.{IsPolygon, IsInSquare}
 use Rattle.mesh_types.specs.Soundness.{IsSound}
 use Rattle.mesh_types.specs.Portals.{LeadsThrough, edge_begin, edge_end}
-use Rattle.corridor_search.specs.Estimates.{weight_from, estimate_from, IsLeastCost}
+use Rattle.corridor_search.specs.Estimates.{weight_from, estimate_from, CostsAtLeast}
 use Rattle.corridor_search.proofs.Boxes.{low, high, low-corner, high-corner, low-bound, high-bound, IsOn, begin_on, end_on, on_above_x, on_below_x, on_above_z, on_below_z}
 use Rattle.corridor_search.proofs.Sound.{placed, tile-fit, polygon-rules}
 
@@ -95,7 +95,7 @@ centre-in_field polygon rules = record {
     below l h most first last = omega (arith, ints)
 
 -- no goal is farther than the distance across the largest field
-distance-most : (mesh : Mesh) (goal : Point) (at : PolyRef) → IsSound mesh → IsInField goal → estimate_from mesh goal at ≤ 23171
+pub distance-most : (mesh : Mesh) (goal : Point) (at : PolyRef) → IsSound mesh → IsInField goal → estimate_from mesh goal at ≤ 23171
 distance-most mesh goal at sound in_field = by_polygon (poly_at mesh at) refl
   where
     near : (a b : ℤ) → pos 0 ≤ℤ a → a ≤ℤ pos 16384 → pos 0 ≤ℤ b → b ≤ℤ pos 16384 → unsigned_abs (b -ℤ a) ≤ 16384
@@ -113,7 +113,7 @@ distance-most mesh goal at sound in_field = by_polygon (poly_at mesh at) refl
         ceil_sqrt_of-at_most (square_of (from_to (centre_of polygon.corners) goal)) 23171 (omega (arith, square))
 
 -- no estimate is greater than that at the greatest cost of an area
-pub estimate-most : (mesh : Mesh) (goal : Point) (at : PolyRef) (least : ℕ) → IsSound mesh → IsSetting mesh.setting → IsInField goal → IsLeastCost mesh least
+pub estimate-most : (mesh : Mesh) (goal : Point) (at : PolyRef) (least : ℕ) → IsSound mesh → IsSetting mesh.setting → IsInField goal → CostsAtLeast mesh least
     → estimate_from mesh goal at * least ≤ 23171000
 estimate-most mesh goal at least sound setting in_field cost =
     let first : IsArea 1 = record { least = omega arith; most = omega arith } in
@@ -189,7 +189,7 @@ module _ (mesh : Mesh) (link : Link) (sound : IsSound mesh) (setting : IsSetting
       omega (arith, whole, same)
 
   -- the estimate falls along a link by no more than it weighs
-  pub estimate-falls : (goal : Point) (least : ℕ) → IsLeastCost mesh least
+  pub estimate-falls : (goal : Point) (least : ℕ) → CostsAtLeast mesh least
       → estimate_from mesh goal link.from * least ≤ weight_of mesh link + estimate_from mesh goal link.to * least
   estimate-falls goal least cost =
       let from = ap (λ (o : Option Polygon). option_map_or (λ (p : Polygon). ceil_sqrt_of (square_of (from_to (centre_of p.corners) goal))) o 0) through.is_left in

@@ -17,7 +17,7 @@ use Rattle.graph_search.specs.declared.graph.Arc.{Arc}
 use Rattle.graph_search.specs.declared.graph.Step.{Step}
 use Rattle.graph_search.specs.Walks.{arc_of, ends_of, IsSearchable}
 use Rattle.corridor_search.specs.MeshGraphs.{IsThere, vertex_of, polygon_of, vertices_of, links_from, arc_over, arcs_from, no_link, link_of, end_of, IsSearched}
-use Rattle.corridor_search.specs.Estimates.{weight_from, estimate_from, IsLeastCost, estimates_of}
+use Rattle.corridor_search.specs.Estimates.{weight_from, estimate_from, CostsAtLeast, estimates_of}
 use Rattle.corridor_search.proofs.Sound.{leads}
 use Rattle.corridor_search.proofs.MeshWalks.{step-there, arc-over-link}
 use Rattle.corridor_search.proofs.Vertices.{vertices-count, there-contains}
@@ -76,7 +76,7 @@ each-arc mesh v P each =
     each (get_or (links_from mesh (polygon_of v)) k d) (Contains-get_or (links_from mesh (polygon_of v)) k d there))
 
 -- an estimate is a distance in the field, at a cost
-pub searchable : (mesh : Mesh) (goal : Point) (least : ℕ) → IsSearched mesh goal → IsLeastCost mesh least
+pub searchable : (mesh : Mesh) (goal : Point) (least : ℕ) → IsSearched mesh goal → CostsAtLeast mesh least
     → IsSearchable (vertices_of mesh) (arcs_from mesh) (estimates_of mesh goal least) 2897000
 searchable mesh goal least rules cost = record {
   enters = λ v member. each-arc mesh v (λ arc. Contains (vertices_of mesh) arc.to) (λ link held.

@@ -43,7 +43,7 @@ pub record IsBox (extent : Extent) : Type 0 where
   pub high : IsCellCorner extent.high
 
 -- a number from 1 on than which no area costs less
-pub record IsLeastCost (mesh : Mesh) (least : ℕ) : Type 0 where
+pub record CostsAtLeast (mesh : Mesh) (least : ℕ) : Type 0 where
   pub some : 1 ≤ least
   pub each : (area : ℕ) → IsArea area → least ≤ slice_index mesh.setting.costs area
 

@@ -10,7 +10,7 @@ use Rattle.mesh_types.specs.declared.mesh.Mesh.{Mesh}
 use Rattle.mesh_types.specs.Corridors.{IsLinkOf, weight_of}
 use Rattle.graph_search.specs.declared.graph.Vertex.{Vertex}
 use Rattle.corridor_search.specs.MeshGraphs.{polygon_of, IsSearched}
-use Rattle.corridor_search.specs.Estimates.{IsLeastCost, estimates_of}
+use Rattle.corridor_search.specs.Estimates.{CostsAtLeast, estimates_of}
 
 -- heights by tile, and by place there: for each polygon one over each of eight landmarks
 abbrev pub Heights : Type 0
@@ -56,5 +56,5 @@ estimates_by mesh goal least (Some marks) heights v = max (estimates_of mesh goa
 -- a mesh that is searched by the least cost of its areas, and by landmarks, where there are some
 pub record IsSearchedBy (mesh : Mesh) (goal : Point) (least : ℕ) (marks : Option Heights) : Type 0 where
   pub searched : IsSearched mesh goal
-  pub cost : IsLeastCost mesh least
+  pub cost : CostsAtLeast mesh least
   pub landmarks : IfSome marks (AreLandmarks mesh)

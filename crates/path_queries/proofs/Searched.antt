@@ -24,7 +24,7 @@ use Rattle.graph_search.specs.declared.graph.Vertex.{Vertex}
 use Rattle.graph_search.specs.Walks.{IsSearchable}
 use Rattle.corridor_search.specs.MeshGraphs.{arc_over, links_from, polygon_of, vertices_of}
 use Rattle.corridor_search.specs.Estimates.{estimate_from}
-use Rattle.corridor_search.proofs.LinkWeights.{estimate-most, weight-is, weight-most}
+use Rattle.corridor_search.proofs.LinkWeights.{distance-most, weight-is, weight-most}
 use Rattle.corridor_search.proofs.Searchable.{enters-there, vertices-few}
 use Rattle.corridor_search.proofs.Sound.{leads, polygon-rules}
 use Rattle.corridor_search.proofs.Vertices.{there-contains}
@@ -84,7 +84,7 @@ filtered-searchable mesh areas costs start aim least rules = record {
       omega (
         arith,
         mul-le (length (vertices_of mesh)) 2897000 8000000 2897000 (vertices-few mesh rules.sound) (omega arith),
-        mul-le (estimate_from mesh aim (polygon_of v)) least 23171 1000 (estimate-most mesh aim (polygon_of v) rules.sound rules.in_field) rules.most,
+        mul-le (estimate_from mesh aim (polygon_of v)) least 23171 1000 (distance-most mesh aim (polygon_of v) rules.sound rules.in_field) rules.most,
       );
 }
 

@@ -11,7 +11,7 @@ use Rattle.mesh_types.specs.Soundness.{IsSound}
 use Rattle.graph_search.specs.declared.graph.Vertex.{Vertex}
 use Rattle.graph_search.specs.declared.graph.Arc.{Arc}
 use Rattle.corridor_search.specs.MeshGraphs.{arc_over, links_from, polygon_of}
-use Rattle.corridor_search.specs.Estimates.{estimates_of, extent_at}
+use Rattle.corridor_search.specs.Estimates.{estimate_from, extent_at}
 use Rattle.path_queries.specs.Filters.{AreCosts, is_open, with_costs}
 
 -- the costs that a search goes by: those of open areas, and the greatest for closed ones, which no allowed walk enters
@@ -41,7 +41,7 @@ filtered_arcs mesh areas costs start v = map (arc_over (with_costs costs mesh)) 
 
 -- the estimate of what is left to go from a vertex: the distance to the aim, at the least cost of an open area
 abbrev pub filtered_estimates : Mesh → Point → ℕ → Vertex → ℕ
-filtered_estimates mesh aim least v = estimates_of mesh aim v * least
+filtered_estimates mesh aim least v = estimate_from mesh aim (polygon_of v) * least
 
 -- a mesh that is searched through a filter: it is sound, its setting keeps the rules, the costs are costs, the aim lies in the field, and
 -- no area costs less than the least
