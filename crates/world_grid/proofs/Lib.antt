@@ -1,0 +1,6 @@
+pub mod NearestLaws
+pub mod ValueLaws
+pub mod StepLaws
+pub mod Readings
+pub mod ToldLaws
+pub mod SizeLaws
