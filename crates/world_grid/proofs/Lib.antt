@@ -4,3 +4,5 @@ pub mod StepLaws
 pub mod Readings
 pub mod ToldLaws
 pub mod SizeLaws
+pub mod StretchLaws
+pub mod FrameLaws

@@ -39,6 +39,7 @@ pub record IsGridSize (size : Float) : Type 0 where
   pub least : fin false 1 (neg_ℤ (pos 10)) ≤ᶠ size
   pub most : size ≤ᶠ fin false 1 (pos 10)
 
--- 2^finer steps are the size
-abbrev pub IsStepOf : Float → ℕ → GridStep → Type 0
-IsStepOf size finer step = HasValue size false (length_of step * 2 ^ finer) (2 ^ 149)
+-- 2^finer steps are the size, which a cell or a height unit may have
+pub record IsStepOf (size : Float) (finer : ℕ) (step : GridStep) : Type 0 where
+  pub allowed : IsGridSize size
+  pub value : HasValue size false (length_of step * 2 ^ finer) (2 ^ 149)

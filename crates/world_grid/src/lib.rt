@@ -8,8 +8,10 @@
 #![tactic(auto)]
 
 mod float_parts;
+mod frame;
 mod grid_step;
 mod steps;
 
+pub use frame::{Frame, FramedField, STEP_LIMIT, WorldPoint, frame_of};
 pub use grid_step::GridStep;
 pub use steps::{dequantize, quantize, step_of};

@@ -21,7 +21,7 @@ pub returns-clause-found : goal.returns-clause-found
 returns-clause-found c =
     let parts = c.in_ok-parts.parts in
     let has = size_parts c.args.size parts c.if-not-is_grid_size.ensures c.in_ok-parts.ensures.found in
-    finer_value c.args.size parts.negative parts.digits parts.power c.args.finer has.positive (le_trans c.requires.finer (le_trans (lit≤ tt) has.least)) c.in_ok-parts.ensures.found
+    record { allowed = c.if-not-is_grid_size.ensures; value = finer_value c.args.size parts.negative parts.digits parts.power c.args.finer has.positive (le_trans c.requires.finer (le_trans (lit≤ tt) has.least)) c.in_ok-parts.ensures.found }
 
 pub returns-clause-none : goal.returns-clause-none
 returns-clause-none c = (λ e. absurd (true≢false e), λ none. absurd (none c.if-not-is_grid_size.ensures))
