@@ -9,6 +9,8 @@ mod checks;
 #[cfg(test)]
 mod geometry;
 #[cfg(test)]
+mod grids;
+#[cfg(test)]
 mod lines;
 #[cfg(test)]
 mod lists;
