@@ -3,3 +3,4 @@ pub mod FewLinks
 pub mod NeverBack
 pub mod UnfoldedBuilds
 mod PathParts
+pub mod HopStretches

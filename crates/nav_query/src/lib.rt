@@ -8,11 +8,15 @@
 //!
 //! `Asking` is such a question as one that carries how it is answered, for what takes questions of any kind.
 //!
+//! `paths_never_fold` and `hops_never_fold` are laws: what holds of every right answer in a build.
+//!
 //! Columns are in whole cells, points in sixteenths of a cell, heights in the unit of the floors.
 #![tactic(auto)]
 
 mod answering;
+mod laws;
 mod paths;
 mod rays;
 
 pub use answering::{Asking, answer, answer_by};
+pub use laws::{hops_never_fold, paths_never_fold};
