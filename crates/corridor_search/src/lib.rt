@@ -18,4 +18,4 @@ mod weights;
 pub use corridors::{cheapest, cheapest_by};
 pub use landmarks::{Landmarks, landmarks_of};
 pub use mesh_graph::{link_at, link_weight, past_links, polygon_at, push_link_ends, vertex_at};
-pub use weights::{extent_at, weight_over};
+pub use weights::{distance, extent_at, middle, weight_over};

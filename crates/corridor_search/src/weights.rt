@@ -43,7 +43,7 @@ fn extent_in(polygons: &Polygons, place: usize) -> Extent
 }
 
 /// The middle of a polygon's box, in sixteenths of a cell.
-pub(crate) fn middle(extent: Extent) -> Point
+pub fn middle(extent: Extent) -> Point
     requires { IsBox extent }
     ensures value { result ≡ middle_of extent }
     ensures in_field { IsInField result }
@@ -64,7 +64,7 @@ fn half_way(least: i32, greatest: i32) -> i32
 }
 
 /// The distance between two points, rounded up.
-pub(crate) fn distance(from: Point, to: Point) -> u32
+pub fn distance(from: Point, to: Point) -> u32
     requires from { IsInField from }
     requires to { IsInField to }
     ensures { result ≡ distance_of from to }

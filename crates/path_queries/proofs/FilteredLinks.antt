@@ -18,25 +18,29 @@ use Rattle.path_queries.specs.Filters.{Enters, is_open, with_costs}
 use Rattle.path_queries.specs.FilteredGraphs.{filtered_arcs, filtered_links, leads_on}
 
 module _ (mesh : Mesh) (areas : ℕ) (start : PolyRef) where
-  pub links-all : (v : Vertex) → leads_on mesh areas start (polygon_of v) ≡ true → filtered_links mesh areas start v ≡ links_from mesh (polygon_of v)
+  pub links-all : (v : Vertex) → leads_on mesh areas start (polygon_of v) ≡ true
+      → filtered_links mesh areas start v ≡ links_from mesh (polygon_of v)
   links-all v on = ap (λ (b : Bool). if b then links_from mesh (polygon_of v) else []) on
 
   pub links-none : (v : Vertex) → leads_on mesh areas start (polygon_of v) ≡ false → filtered_links mesh areas start v ≡ []
   links-none v off = ap (λ (b : Bool). if b then links_from mesh (polygon_of v) else []) off
 
   -- a polygon that a link leaves leads on
-  pub held-on : (v : Vertex) (link : Link) → Contains (filtered_links mesh areas start v) link → leads_on mesh areas start (polygon_of v) ≡ true
+  pub held-on : (v : Vertex) (link : Link) → Contains (filtered_links mesh areas start v) link
+      → leads_on mesh areas start (polygon_of v) ≡ true
   held-on v link held = by_test (leads_on mesh areas start (polygon_of v)) refl
     where
       by_test : (b : Bool) → leads_on mesh areas start (polygon_of v) ≡ b → b ≡ true
       by_test true is = refl
       by_test false is = absurd (contains_none link (subst (λ (links : List Link). Contains links link) (links-none v is) held))
 
-  pub held-link : (v : Vertex) (link : Link) → Contains (filtered_links mesh areas start v) link → Contains (links_from mesh (polygon_of v)) link
+  pub held-link : (v : Vertex) (link : Link) → Contains (filtered_links mesh areas start v) link
+      → Contains (links_from mesh (polygon_of v)) link
   held-link v link held = subst (λ (links : List Link). Contains links link) (links-all v (held-on v link held)) held
 
   -- so does one with a place of such a link
-  pub below-on : (v : Vertex) (place : ℕ) → place < length (filtered_links mesh areas start v) → leads_on mesh areas start (polygon_of v) ≡ true
+  pub below-on : (v : Vertex) (place : ℕ) → place < length (filtered_links mesh areas start v)
+      → leads_on mesh areas start (polygon_of v) ≡ true
   below-on v place below = by_test (leads_on mesh areas start (polygon_of v)) refl
     where
       by_test : (b : Bool) → leads_on mesh areas start (polygon_of v) ≡ b → b ≡ true
@@ -54,7 +58,8 @@ module _ (mesh : Mesh) (areas : ℕ) (start : PolyRef) where
   pub start-on : leads_on mesh areas start start ≡ true
   start-on =
       or_left (start.tile == start.tile && start.index == start.index) (is_open areas (extent_at mesh start).area)
-      (and_from (start.tile == start.tile) (start.index == start.index) (eq-eqb start.tile start.tile refl) (eq-eqb start.index start.index refl))
+      (and_from (start.tile == start.tile) (start.index == start.index) (eq-eqb start.tile start.tile refl)
+      (eq-eqb start.index start.index refl))
 
   pub open-on : (link : Link) → Enters mesh areas link → leads_on mesh areas start link.to ≡ true
   open-on link enters =

@@ -1,4 +1,5 @@
--- What the arcs that leave a vertex through a filter enter and weigh: what those of the whole mesh do, by the costs that the search goes by.
+-- What the arcs that leave a vertex through a filter enter and weigh: what those of the whole mesh do, by the costs that the search goes
+-- by.
 use Rattle.std.proofs.Common.{◌≡◌, ℕ, ◌<◌, ◌*◌, max, List, length, sym, ap, ◌∙◌, subst}
 use Rattle.std.specs.Prelude.{slice_index, slice_index_or}
 use Rattle.nav_base.specs.Distance.{distance_of}
@@ -16,11 +17,12 @@ use Rattle.corridor_search.proofs.Extents.{weight-by-extents}
 use Rattle.corridor_search.proofs.Searchable.{step-enters}
 use Rattle.path_queries.specs.Filters.{with_costs}
 use Rattle.path_queries.specs.FilteredGraphs.{filtered_arcs}
-use Rattle.path_queries.proofs.Costs.{sound-with}
+use Rattle.path_queries.proofs.CostLaws.{sound-with}
 use Rattle.path_queries.proofs.FilteredLinks.{arcs-all}
 
 module _ (mesh : Mesh) (areas : ℕ) (costs : List ℕ) (start : PolyRef) (step : Step) (to : Vertex) (sound : IsSound mesh)
-    (below : step.place < length (filtered_arcs mesh areas costs start step.from)) (end : (arc_of (filtered_arcs mesh areas costs start) step).to ≡ to) where
+    (below : step.place < length (filtered_arcs mesh areas costs start step.from))
+    (end : (arc_of (filtered_arcs mesh areas costs start) step).to ≡ to) where
   same : arc_of (filtered_arcs mesh areas costs start) step ≡ arc_of (arcs_from (with_costs costs mesh)) step
   same = ap (λ (arcs : List Arc). slice_index_or arcs step.place no_arc) (arcs-all mesh areas start costs step.from step.place below)
 
@@ -37,9 +39,12 @@ module _ (mesh : Mesh) (areas : ℕ) (costs : List ℕ) (start : PolyRef) (step 
       record { polygon = there.polygon; is = there.is }
 
   -- the weight by the extents of both ends
-  pub weight-by : (left entered : Extent) → IsThere mesh (polygon_of step.from) → left ≡ extent_at mesh (polygon_of step.from) → entered ≡ extent_at mesh (polygon_of to)
-      → max 1 (distance_of (middle_of left) (middle_of entered)) * slice_index costs entered.area ≡ (arc_of (filtered_arcs mesh areas costs start) step).weight
+  pub weight-by : (left entered : Extent) → IsThere mesh (polygon_of step.from) → left ≡ extent_at mesh (polygon_of step.from)
+      → entered ≡ extent_at mesh (polygon_of to)
+      → max 1 (distance_of (middle_of left) (middle_of entered)) * slice_index costs entered.area ≡
+      (arc_of (filtered_arcs mesh areas costs start) step).weight
   weight-by left entered there is_left is_entered =
-      weight-by-extents (with_costs costs mesh) step to left entered (sound-with mesh costs sound) (record { polygon = there.polygon; is = there.is }) below-all end-all
+      weight-by-extents (with_costs costs mesh) step to left entered (sound-with mesh costs sound)
+      (record { polygon = there.polygon; is = there.is }) below-all end-all
       is_left is_entered
       ∙ ap (λ (arc : Arc). arc.weight) (sym same)

@@ -1,8 +1,8 @@
+pub mod CostLaws
 mod FilteredLinks
 mod FilteredWeights
 mod AllowedWalks
 mod Searched
 mod SearchCosts
-mod Costs
 mod PlanLaws
 mod WayParts

@@ -1,4 +1,5 @@
--- What is right for the question for a way is determined: its kind, its first polygon and its cost. With all areas open and no costs of its own
+-- What is right for the question for a way is determined: its kind, its first polygon and its cost. With all areas open and no costs of
+-- its own
 -- these are those of a path.
 use Rattle.std.proofs.Common.{◌≡◌, ℕ, List, [], ◌∷◌, sym, subst, arith}
 use Rattle.std.specs.Prelude.{All, None}
@@ -64,25 +65,31 @@ module _ (mesh : Mesh) (query : PathQuery) where
 -- ---- with all areas open
 
 -- each walk is allowed
-all_enter : (mesh : Mesh) (areas : ℕ) (from : PolyRef) (links : List Link) (to : PolyRef) → IsSound mesh → AreAllOpen areas → WalksTo mesh from links to
+all_enter : (mesh : Mesh) (areas : ℕ) (from : PolyRef) (links : List Link) (to : PolyRef) → IsSound mesh → AreAllOpen areas
+    → WalksTo mesh from links to
     → All (Enters mesh areas) links
 all_enter mesh areas from [] to sound all walk = All-nil (Enters mesh areas)
 all_enter mesh areas from (link ∷ links) to sound all walk =
     let lead = leads mesh link sound walk.0 in
     let area = (placed mesh link.to lead.enters sound lead.is_entered).rules.area in
-    All-cons (Enters mesh areas) link links (record { polygon = lead.enters; there = lead.is_entered; area_open = all lead.enters.area area })
+    All-cons (Enters mesh areas) link links
+    (record { polygon = lead.enters; there = lead.is_entered; area_open = all lead.enters.area area })
     (all_enter mesh areas link.to links to sound all walk.2)
 
 module _ (mesh : Mesh) (query : PathQuery) (sound : IsSound mesh) (all : AreAllOpen query.filter.areas) where
   -- a way costs what a path does
-  way_and_path : (f : PathFound) (g : PathFound) → query.filter.costs ≡ None → IsWay mesh query f → IsPath mesh query.from query.from_y query.goal query.goal_y g
+  way_and_path : (f : PathFound) (g : PathFound) → query.filter.costs ≡ None → IsWay mesh query f
+      → IsPath mesh query.from query.from_y query.goal query.goal_y g
       → (f.first ≡ g.first) × (f.cost ≡ g.cost)
   way_and_path f g none is is' =
       let first = one_located mesh query.from query.from_y f.first g.first is.start is'.start in
       let last = one_located mesh query.goal query.goal_y is.last is'.last is.goal is'.goal in
-      let walk = subst (λ (at : PolyRef). WalksTo mesh at f.links is'.last) first (subst (WalksTo mesh f.first f.links) last is.cheapest.allowed.walks) in
-      let walk' = subst (λ (at : PolyRef). WalksTo mesh at g.links is.last) (sym first) (subst (WalksTo mesh g.first g.links) (sym last) is'.cheapest.walks) in
-      let no_more = is.cheapest.least g.links (record { walks = walk'; enters = all_enter mesh query.filter.areas f.first g.links is.last sound all walk' }) in
+      let walk = subst (λ (at : PolyRef). WalksTo mesh at f.links is'.last) first
+      (subst (WalksTo mesh f.first f.links) last is.cheapest.allowed.walks) in
+      let walk' = subst (λ (at : PolyRef). WalksTo mesh at g.links is.last) (sym first)
+      (subst (WalksTo mesh g.first g.links) (sym last) is'.cheapest.walks) in
+      let no_more = is.cheapest.least g.links
+      (record { walks = walk'; enters = all_enter mesh query.filter.areas f.first g.links is.last sound all walk' }) in
       let no_less = is'.cheapest.least f.links walk in
       let own = own_cost f.links in
       let other = own_cost g.links in
@@ -96,17 +103,20 @@ module _ (mesh : Mesh) (query : PathQuery) (sound : IsSound mesh) (all : AreAllO
   no_way_no_path g none is =
       let first = one_located mesh query.from query.from_y g.first none.first is.start none.start in
       let last = one_located mesh query.goal query.goal_y is.last none.last is.goal none.goal in
-      let walk = subst (λ (at : PolyRef). WalksTo mesh at g.links none.last) first (subst (WalksTo mesh g.first g.links) last is.cheapest.walks) in
+      let walk = subst (λ (at : PolyRef). WalksTo mesh at g.links none.last) first
+      (subst (WalksTo mesh g.first g.links) last is.cheapest.walks) in
       none.no_walk g.links (record { walks = walk; enters = all_enter mesh query.filter.areas none.first g.links none.last sound all walk })
 
   no_path_no_way : (f : PathFound) → IsWay mesh query f → HasNoPath mesh query.from query.from_y query.goal query.goal_y → ⊥
   no_path_no_way f is none =
       let first = one_located mesh query.from query.from_y f.first none.first is.start none.start in
       let last = one_located mesh query.goal query.goal_y is.last none.last is.goal none.goal in
-      none.no_walk f.links (subst (λ (at : PolyRef). WalksTo mesh at f.links none.last) first (subst (WalksTo mesh f.first f.links) last is.cheapest.allowed.walks))
+      none.no_walk f.links (subst (λ (at : PolyRef). WalksTo mesh at f.links none.last) first
+      (subst (WalksTo mesh f.first f.links) last is.cheapest.allowed.walks))
 
   -- a right answer is like the right answers to the question for a path
-  pub plan_as_path : (a : PlanAnswer) (b : Answer) → query.filter.costs ≡ None → IsPlan query mesh a → IsRightPath mesh query.from query.from_y query.goal query.goal_y b
+  pub plan_as_path : (a : PlanAnswer) (b : Answer) → query.filter.costs ≡ None → IsPlan query mesh a
+      → IsRightPath mesh query.from query.from_y query.goal query.goal_y b
       → IsPlanAsPath a b
   plan_as_path NoStart paths.NoStart none r s = tt
   plan_as_path NoStart paths.NoGoal none r s = absurd (r s.first s.start.holding)

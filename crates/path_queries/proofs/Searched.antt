@@ -31,12 +31,14 @@ use Rattle.corridor_search.proofs.Vertices.{there-contains}
 use Rattle.path_queries.specs.declared.filters.Filter.{Filter}
 use Rattle.path_queries.specs.Filters.{AreCosts, IsFilter, costs_in, with_costs}
 use Rattle.path_queries.specs.FilteredGraphs.{AreSearchCosts, IsFiltered, IsLeastCost, filtered_arcs, filtered_estimates, filtered_links}
-use Rattle.path_queries.proofs.Costs.{least-below, priced-costs, search-costs, setting-with, sound-with}
+use Rattle.path_queries.proofs.CostLaws.{priced-costs, setting-with, sound-with}
+use Rattle.path_queries.proofs.SearchCosts.{least-below, search-costs}
 use Rattle.path_queries.proofs.FilteredLinks.{held-link}
 
 -- what holds of each link that leaves a polygon holds of each arc that leaves its vertex
 each-arc : (mesh : Mesh) (areas : ℕ) (costs : List ℕ) (start : PolyRef) (v : Vertex) (P : Arc → Type 0)
-    → ((link : Link) → Contains (links_from mesh (polygon_of v)) link → P (arc_over (with_costs costs mesh) link)) → All P (filtered_arcs mesh areas costs start v)
+    → ((link : Link) → Contains (links_from mesh (polygon_of v)) link → P (arc_over (with_costs costs mesh) link))
+    → All P (filtered_arcs mesh areas costs start v)
 each-arc mesh areas costs start v P each =
     All-map P (arc_over (with_costs costs mesh)) (filtered_links mesh areas start v) (λ k d there.
     each (slice_index_or (filtered_links mesh areas start v) k d)
@@ -66,18 +68,21 @@ estimate-falls mesh costs aim least link rules through =
         let length = mul-le (max 1 l) least (max 1 l) cost (omega arith) below in
         omega (arith, scaled, split, length, weight)
 
-pub filtered-searchable : (mesh : Mesh) (areas : ℕ) (costs : List ℕ) (start : PolyRef) (aim : Point) (least : ℕ) → IsFiltered mesh costs aim least
+pub filtered-searchable : (mesh : Mesh) (areas : ℕ) (costs : List ℕ) (start : PolyRef) (aim : Point) (least : ℕ)
+    → IsFiltered mesh costs aim least
     → IsSearchable (vertices_of mesh) (filtered_arcs mesh areas costs start) (filtered_estimates mesh aim least) 2897000
 filtered-searchable mesh areas costs start aim least rules = record {
   enters = λ v member. each-arc mesh areas costs start v (λ arc. Contains (vertices_of mesh) arc.to) (λ link held.
       there-contains mesh link.to (enters-there mesh (polygon_of v) link rules.sound held));
   weights = λ v member. each-arc mesh areas costs start v (λ arc. arc.weight ≤ 2897000) (λ link held.
-      weight-most (with_costs costs mesh) link (sound-with mesh costs rules.sound) (setting-with mesh.setting costs rules.setting rules.costs_are)
+      weight-most (with_costs costs mesh) link (sound-with mesh costs rules.sound)
+      (setting-with mesh.setting costs rules.setting rules.costs_are)
       (leads mesh (polygon_of v) link rules.sound held).through);
   consistent = λ v member. each-arc mesh areas costs start v
       (λ arc. filtered_estimates mesh aim least v ≤ arc.weight + filtered_estimates mesh aim least arc.to) (λ link held.
       let leading = leads mesh (polygon_of v) link rules.sound held in
-      subst (λ (at : PolyRef). estimate_from mesh aim at * least ≤ weight_of (with_costs costs mesh) link + estimate_from mesh aim link.to * least) leading.leaves
+      subst (λ (at : PolyRef). estimate_from mesh aim at * least ≤ weight_of (with_costs costs mesh) link + estimate_from mesh aim link.to
+      * least) leading.leaves
       (estimate-falls mesh costs aim least link rules leading.through));
   few = omega (arith, vertices-few mesh rules.sound);
   small = λ v member.
@@ -89,8 +94,10 @@ filtered-searchable mesh areas costs start aim least rules = record {
 }
 
 -- what is searched with costs that a filter gives
-pub filtered-rules : (mesh : Mesh) (filter : Filter) (costs search : List ℕ) (aim : Point) (least : ℕ) → IsSound mesh → IsSetting mesh.setting → IsFilter filter
-    → costs ≡ costs_in mesh filter → AreSearchCosts filter.areas costs search → IsLeastCost filter.areas costs least → IsInField aim → IsFiltered mesh search aim least
+pub filtered-rules : (mesh : Mesh) (filter : Filter) (costs search : List ℕ) (aim : Point) (least : ℕ) → IsSound mesh
+    → IsSetting mesh.setting → IsFilter filter
+    → costs ≡ costs_in mesh filter → AreSearchCosts filter.areas costs search → IsLeastCost filter.areas costs least → IsInField aim
+    → IsFiltered mesh search aim least
 filtered-rules mesh filter costs search aim least sound setting rules same are is in_field =
     let costs_are = subst AreCosts (sym same) (priced-costs mesh filter setting rules) in
     record {

@@ -26,10 +26,14 @@ pub record ArePulled (start : Point) (portals : List Portal) (goal : Point) : Ty
   pub chain : IsChain start portals goal
   pub coordinates : HasChainCoordinates start portals goal
 
-pub pulled : (mesh : Mesh) (from : Point) (from_y : ℕ) (to : Point) (to_y : ℕ) (first last : PolyRef) (links : List Link) → IsSound mesh → HasCoordinates from
-    → HasCoordinates to → IsLocated mesh from from_y first → IsLocated mesh to to_y last → WalksTo mesh first links last → ArePulled from (portals_of links) to
+pub pulled : (mesh : Mesh) (from : Point) (from_y : ℕ) (to : Point) (to_y : ℕ) (first last : PolyRef) (links : List Link) → IsSound mesh
+    → HasCoordinates from
+    → HasCoordinates to → IsLocated mesh from from_y first → IsLocated mesh to to_y last → WalksTo mesh first links last
+    → ArePulled from (portals_of links) to
 pulled mesh from from_y to to_y first last links sound at_from at_to start goal walks = record {
-  chain = walk_is_chain mesh first links last from to sound walks (held_in mesh from from_y first start.holding) (held_in mesh to to_y last goal.holding);
+  chain =
+      walk_is_chain mesh first links last from to sound walks (held_in mesh from from_y first start.holding)
+      (held_in mesh to to_y last goal.holding);
   coordinates = record {
     at_start = at_from;
     at_ends = All-weaker HasEnds HasEndCoordinates (λ portal ends. record { left = ends.left; right = ends.right }) (portals_of links)

@@ -47,15 +47,15 @@ IsPlan query mesh NoGoal = HasNoGoal mesh query.from query.from_y query.goal que
 IsPlan query mesh NoPath = HasNoWay mesh query
 
 -- a way that was found costs less than 2 ^ 45
-abbrev pub HasLowCost : PlanAnswer → Type 0
-HasLowCost (Whole found) = found.cost < 2 ^ 45
-HasLowCost NoStart = ⊤
-HasLowCost NoGoal = ⊤
-HasLowCost NoPath = ⊤
+abbrev pub HasLowWayCost : PlanAnswer → Type 0
+HasLowWayCost (Whole found) = found.cost < 2 ^ 45
+HasLowWayCost NoStart = ⊤
+HasLowWayCost NoGoal = ⊤
+HasLowWayCost NoPath = ⊤
 
 -- right, and of low cost
 abbrev pub IsRightPlan : PathQuery → Mesh → PlanAnswer → Type 0
-IsRightPlan query mesh answer = IsPlan query mesh answer × HasLowCost answer
+IsRightPlan query mesh answer = IsPlan query mesh answer × HasLowWayCost answer
 
 -- two answers are alike: of one kind, with the same first polygon and the same cost
 abbrev pub AreAlikePlans : PlanAnswer → PlanAnswer → Type 0

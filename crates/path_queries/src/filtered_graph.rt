@@ -1,6 +1,6 @@
 //! The mesh as a filter lets it be walked, as a graph.
 
-ghost use Rattle.std.specs.Prelude.{◌≡◌, ◌*◌, max, slice_index, pos, ◌≤ℤ◌, ◌+ℤ◌, ◌*ℤ◌};
+ghost use Rattle.std.specs.Prelude.{◌≡◌, ◌*◌, max, slice_index};
 ghost use Rattle.nav_base.specs.Point.{IsInField};
 ghost use Rattle.nav_base.specs.Distance.{distance_of};
 ghost use Rattle.nav_ground.specs.Limits.{IsArea};
@@ -11,10 +11,10 @@ ghost use Rattle.path_queries.specs.Filters.{AreCosts};
 ghost use Rattle.path_queries.specs.FilteredGraphs.{leads_on};
 
 use crate::filters::is_open;
-use corridor_search::{extent_at, polygon_at, push_link_ends};
+use corridor_search::{distance, extent_at, middle, polygon_at, push_link_ends};
 use graph_search::{Graph, Step, Vertex};
 use mesh_types::{Extent, Mesh, PolyRef};
-use nav_base::{Point, ceil_sqrt, square_distance};
+use nav_base::Point;
 use nav_ground::AREAS;
 use std::alloc::AllocError;
 
@@ -80,27 +80,6 @@ pub(crate) fn leads_on(mesh: &Mesh, areas: u64, start: PolyRef, at: PolyRef) -> 
     at == start || is_open(areas, extent_at(mesh, at).area)
 }
 
-/// The middle of a polygon's box, in sixteenths of a cell.
-pub(crate) fn middle(extent: Extent) -> Point
-    requires { IsBox extent }
-    ensures value { result ≡ middle_of extent }
-    ensures in_field { IsInField result }
-{
-    Point {
-        x: half_way(extent.low.x, extent.high.x),
-        z: half_way(extent.low.z, extent.high.z),
-    }
-}
-
-/// Half way between two coordinates of cells, in sixteenths.
-fn half_way(least: i32, greatest: i32) -> i32
-    requires least { (pos 0 ≤ℤ least) × (least ≤ℤ pos 1024) }
-    requires greatest { (pos 0 ≤ℤ greatest) × (greatest ≤ℤ pos 1024) }
-    ensures { result ≡ pos 8 *ℤ (least +ℤ greatest) }
-{
-    8 * (least + greatest)
-}
-
 /// What a step costs from a point into a polygon with an extent: the distance to its middle, rounded up and at least 1, times the cost of
 /// its area.
 fn step_cost(costs: &[u32; AREAS], from: Point, to: Extent) -> u64
@@ -112,13 +91,4 @@ fn step_cost(costs: &[u32; AREAS], from: Point, to: Extent) -> u64
 {
     let length = distance(from, middle(to)).max(1);
     u64::from(length) * u64::from(costs[to.area as usize])
-}
-
-/// The distance between two points, rounded up.
-fn distance(from: Point, to: Point) -> u32
-    requires from { IsInField from }
-    requires to { IsInField to }
-    ensures { result ≡ distance_of from to }
-{
-    ceil_sqrt(square_distance(from, to))
 }

@@ -12,11 +12,11 @@ ghost use Rattle.mesh_types.specs.Right.{IsRightPath, portals_of};
 ghost use Rattle.mesh_types.specs.Soundness.{IsSound};
 ghost use Rattle.mesh_types.specs.Taut.{IsTaut};
 ghost use Rattle.path_queries.specs.Filters.{AllowedTo, AreAllOpen, IsCheapestAllowed, IsFilter};
-ghost use Rattle.path_queries.specs.Plans.{AreAlikePlans, CanPlan, HasLowCost, IsPlan, IsPlanAsPath, IsRightPlan};
+ghost use Rattle.path_queries.specs.Plans.{AreAlikePlans, CanPlan, HasLowWayCost, IsPlan, IsPlanAsPath, IsRightPlan};
 
-use crate::filtered_graph::{FilteredGraph, leads_on, middle};
+use crate::filtered_graph::{FilteredGraph, leads_on};
 use crate::filters::{Filter, least_cost, search_costs};
-use corridor_search::{extent_at, link_at, vertex_at};
+use corridor_search::{extent_at, link_at, middle, vertex_at};
 use funnel_path::pull;
 use graph_search::{Step, cheapest_walk};
 use mesh_locate::locate;
@@ -54,7 +54,7 @@ pub fn plan(alloc: Global, mesh: &Mesh, query: &PathQuery) -> Result<PlanAnswer,
     requires setting { IsSetting mesh.now.setting }
     requires query { CanPlan query.now }
     ensures right { IfOk result (λ answer. IsPlan query.now mesh.now answer) }
-    ensures low_cost { IfOk result HasLowCost }
+    ensures low_cost { IfOk result HasLowWayCost }
 
     // Right answers are of one kind, with the same first polygon and the same cost.
     ensures only { IfOk result (λ answer. (other : PlanAnswer) → IsPlan query.now mesh.now other → AreAlikePlans answer other) }
@@ -72,7 +72,7 @@ fn right_plan(alloc: Global, mesh: &Mesh, query: &PathQuery) -> Result<PlanAnswe
     requires setting { IsSetting mesh.now.setting }
     requires query { CanPlan query.now }
     ensures right { IfOk result (λ answer. IsPlan query.now mesh.now answer) }
-    ensures low_cost { IfOk result HasLowCost }
+    ensures low_cost { IfOk result HasLowWayCost }
 {
     let Some(first) = locate(mesh, query.from, query.from_y) else {
         return Ok(PlanAnswer::NoStart);
@@ -80,7 +80,7 @@ fn right_plan(alloc: Global, mesh: &Mesh, query: &PathQuery) -> Result<PlanAnswe
     let Some(last) = locate(mesh, query.goal, query.goal_y) else {
         return Ok(PlanAnswer::NoGoal);
     };
-    let Some(corridor) = cheapest_allowed(alloc, mesh, query.filter, first, last)? else {
+    let Some(corridor) = cheapest_allowed(alloc, mesh, &query.filter, first, last)? else {
         return Ok(PlanAnswer::NoPath);
     };
     let turns = turns(alloc, query.from, corridor.links.as_slice(), query.goal)?;
@@ -108,17 +108,17 @@ impl Asked for PathQuery {
 pub(crate) fn cheapest_allowed(
     alloc: Global,
     mesh: &Mesh,
-    filter: Filter,
+    filter: &Filter,
     from: PolyRef,
     to: PolyRef,
 ) -> Result<Option<Corridor>, AllocError>
     requires sound { IsSound mesh.now }
     requires setting { IsSetting mesh.now.setting }
-    requires filter { IsFilter filter }
+    requires filter { IsFilter filter.now }
     requires from { IsThere mesh.now from }
     requires to { IsThere mesh.now to }
-    ensures found { IfOk result (λ answer. IfSome answer (λ corridor. IsCheapestAllowed mesh.now filter from to corridor)) }
-    ensures none { IfOk result (λ answer. IfNone answer ((links : List Link) → AllowedTo mesh.now filter.areas from links to → ⊥)) }
+    ensures found { IfOk result (λ answer. IfSome answer (λ corridor. IsCheapestAllowed mesh.now filter.now from to corridor)) }
+    ensures none { IfOk result (λ answer. IfNone answer ((links : List Link) → AllowedTo mesh.now filter.now.areas from links to → ⊥)) }
     ensures low { IfOk result (λ answer. IfSome answer (λ corridor. corridor.cost < 2 ^ 45)) }
     ensures few { IfOk result (λ answer. IfSome answer (λ corridor. length corridor.links < 8000000)) }
 {

@@ -4,5 +4,6 @@ use Rattle.path_queries.proofs.filtered_graph.leads_on.Goals as goal
 
 pub is_open-requires : goal.is_open-requires
 is_open-requires c =
-    let most = (extent-rules c.args.mesh.now c.args.at c.extent_at.result c.requires.sound c.requires.there c.extent_at.ensures).area.most in
+    let most = (extent-rules c.args.mesh.now c.args.at c.extent_at.result c.requires.sound c.requires.there c.extent_at.ensures).area.most
+    in
     omega (arith, most)

@@ -8,8 +8,13 @@ loop-area-preserved c =
     let areas = c.args.areas in
     let costs = c.args.costs.now in
     elim c.if-is_open.branch [
-      | then-is_open w ↦ rw w.least-is (rw w.min-least.ensures (least-open areas costs c.loop-area.area c.loop-area.least c.loop-area.auto.area c.loop-area.invariant (sym c.is_open.ensures ∙ w.if-is_open.true)))
-      | else-is_open w ↦ rw w.least-is (least-closed areas costs c.loop-area.area c.loop-area.least c.loop-area.invariant (sym c.is_open.ensures ∙ w.if-is_open.false))
+      | then-is_open w ↦
+          rw w.least-is (rw w.min-least.ensures
+          (least-open areas costs c.loop-area.area c.loop-area.least c.loop-area.auto.area c.loop-area.invariant
+          (sym c.is_open.ensures ∙ w.if-is_open.true)))
+      | else-is_open w ↦
+          rw w.least-is (least-closed areas costs c.loop-area.area c.loop-area.least c.loop-area.invariant
+          (sym c.is_open.ensures ∙ w.if-is_open.false))
     ]
 
 pub returns : goal.returns

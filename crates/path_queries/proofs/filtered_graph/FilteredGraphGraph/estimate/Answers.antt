@@ -19,6 +19,7 @@ returns c =
     let aim = c.args.self.now.aim in
     let middle =
     c.from.ensures ∙ c.distance.ensures ∙ ap (λ (p : Point). distance_of p aim) c.middle-middle.ensures.value
-    ∙ estimate-by mesh aim c.args.from c.extent_at.result (contains-there mesh c.args.from c.requires.there) (c.extent_at.ensures ∙ ap (extent_at mesh) c.polygon_at.ensures) in
+    ∙ estimate-by mesh aim c.args.from c.extent_at.result (contains-there mesh c.args.from c.requires.there)
+    (c.extent_at.ensures ∙ ap (extent_at mesh) c.polygon_at.ensures) in
     let least = c.from-2.ensures in
     λ i. (middle i) * (least i)

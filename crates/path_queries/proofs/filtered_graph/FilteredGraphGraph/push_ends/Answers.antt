@@ -17,7 +17,8 @@ leads_on-requires-clause-sound c = c.requires.sound.sound
 
 pub leads_on-requires-clause-there : goal.leads_on-requires-clause-there
 leads_on-requires-clause-there c =
-    subst (IsThere c.args.self.now.mesh.now) (sym c.polygon_at-at.ensures) (contains-there c.args.self.now.mesh.now c.args.from c.requires.there)
+    subst (IsThere c.args.self.now.mesh.now) (sym c.polygon_at-at.ensures)
+    (contains-there c.args.self.now.mesh.now c.args.from c.requires.there)
 
 pub returns-then-leads_on : goal.returns-then-leads_on
 returns-then-leads_on c =
@@ -29,7 +30,8 @@ returns-then-leads_on c =
     on_ok_weaker c.push_link_ends.result
     (λ next. next ∙ ap (λ (p : PolyRef). old ++ map end_of (links_from mesh p)) c.polygon_at-at.ensures
     ∙ ap (λ (vs : List Vertex). old ++ vs) (ends-are priced (polygon_of c.args.from))
-    ∙ ap (λ (links : List Link). old ++ ends_of (map (arc_over priced) links)) (sym (links-all mesh g.areas g.start c.args.from on))) c.push_link_ends.ensures
+    ∙ ap (λ (links : List Link). old ++ ends_of (map (arc_over priced) links)) (sym (links-all mesh g.areas g.start c.args.from on)))
+    c.push_link_ends.ensures
 
 pub returns-else-leads_on : goal.returns-else-leads_on
 returns-else-leads_on c =
@@ -38,4 +40,5 @@ returns-else-leads_on c =
     let priced = with_costs g.costs.now mesh in
     let off = ap (leads_on mesh g.areas g.start) (sym c.polygon_at-at.ensures) ∙ sym c.leads_on.ensures ∙ c.if-leads_on.false in
     sym (append-nil c.args.ends.now.items)
-    ∙ ap (λ (links : List Link). c.args.ends.now.items ++ ends_of (map (arc_over priced) links)) (sym (links-none mesh g.areas g.start c.args.from off))
+    ∙ ap (λ (links : List Link). c.args.ends.now.items ++ ends_of (map (arc_over priced) links))
+    (sym (links-none mesh g.areas g.start c.args.from off))

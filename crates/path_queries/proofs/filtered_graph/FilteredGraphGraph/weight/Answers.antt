@@ -12,7 +12,8 @@ use Rattle.path_queries.proofs.filtered_graph.FilteredGraphGraph.weight.Goals as
 pub middle-requires : goal.middle-requires
 middle-requires c =
     let mesh = c.args.self.now.mesh.now in
-    (extent-rules mesh (polygon_of c.args.step.from) c.extent_at-left.result c.requires.sound.sound (contains-there mesh c.args.step.from c.requires.there)
+    (extent-rules mesh (polygon_of c.args.step.from) c.extent_at-left.result c.requires.sound.sound
+    (contains-there mesh c.args.step.from c.requires.there)
     (c.extent_at-left.ensures ∙ ap (extent_at mesh) c.polygon_at.ensures)).box
 
 pub step_cost-requires-clause-to : goal.step_cost-requires-clause-to
@@ -33,7 +34,10 @@ pub returns : goal.returns
 returns c =
     let g = c.args.self.now in
     c.step_cost.ensures
-    ∙ ap (λ (p : Point). max 1 (distance_of p (middle_of c.extent_at-entered.result)) * slice_index g.costs.now c.extent_at-entered.result.area) c.middle.ensures.value
-    ∙ weight-by g.mesh.now g.areas g.costs.now g.start c.args.step c.args.to c.requires.sound.sound c.requires.place c.requires.end c.extent_at-left.result
-    c.extent_at-entered.result (contains-there g.mesh.now c.args.step.from c.requires.there) (c.extent_at-left.ensures ∙ ap (extent_at g.mesh.now) c.polygon_at.ensures)
+    ∙ ap (λ (p : Point). max 1 (distance_of p (middle_of c.extent_at-entered.result)) * slice_index g.costs.now
+    c.extent_at-entered.result.area) c.middle.ensures.value
+    ∙ weight-by g.mesh.now g.areas g.costs.now g.start c.args.step c.args.to c.requires.sound.sound c.requires.place c.requires.end
+    c.extent_at-left.result
+    c.extent_at-entered.result (contains-there g.mesh.now c.args.step.from c.requires.there)
+    (c.extent_at-left.ensures ∙ ap (extent_at g.mesh.now) c.polygon_at.ensures)
     (c.extent_at-entered.ensures ∙ ap (extent_at g.mesh.now) c.polygon_at-2.ensures)

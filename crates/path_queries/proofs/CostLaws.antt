@@ -1,12 +1,9 @@
--- What costs change nothing of: soundness reads of a setting only its columns and tiles. What the costs of a search are.
-use Rattle.std.proofs.Common.{◌≡◌, ℕ, ◌<◌, ◌≤◌, Bool, true, false, List, get_or, refl, sym, subst, arith}
-use Rattle.std.specs.Prelude.{IfSome, Option, Some, None, slice_index}
+-- What costs change nothing of: soundness reads of a setting only its columns and tiles. The costs of a filter are costs.
+use Rattle.std.proofs.Common.{ℕ, List, get_or}
+use Rattle.std.specs.Prelude.{IfSome, Option, Some, None}
 use Rattle.std.specs.Option.{unwrap_or}
-use Rattle.std.proofs.lemmas.Bool.{and_parts, leb-true}
-use Rattle.std.proofs.lemmas.Grind.{get_or_default_zero}
-use Rattle.std.proofs.lemmas.List.Sums.{AllPass-from_list_all, list_all-from_AllPass}
 use Rattle.nav_ground.specs.declared.setting.Setting.{Setting}
-use Rattle.nav_ground.specs.Limits.{IsArea, IsSetting, is_cost}
+use Rattle.nav_ground.specs.Limits.{IsSetting}
 use Rattle.mesh_types.specs.declared.links.Link.{Link}
 use Rattle.mesh_types.specs.declared.mesh.Mesh.{Mesh}
 use Rattle.mesh_types.specs.declared.mesh.RimEdge.{RimEdge}
@@ -14,8 +11,7 @@ use Rattle.mesh_types.specs.declared.mesh.TileMesh.{TileMesh}
 use Rattle.mesh_types.specs.Soundness.{IsSound, IsCrossLink}
 use Rattle.mesh_types.specs.FitTiles.{IsFit, IsRimOf}
 use Rattle.path_queries.specs.declared.filters.Filter.{Filter}
-use Rattle.path_queries.specs.Filters.{AreCosts, IsFilter, costs_in, is_open, with_costs}
-use Rattle.path_queries.specs.FilteredGraphs.{AreSearchCosts, IsLeastCost}
+use Rattle.path_queries.specs.Filters.{AreCosts, IsFilter, costs_in, with_costs}
 
 module _ (setting : Setting) (costs : List ℕ) where
   rim-with : (tile : TileMesh) (entry : RimEdge) → IsRimOf setting tile entry → IsRimOf (record setting { costs = costs }) tile entry
@@ -57,7 +53,8 @@ module _ (setting : Setting) (costs : List ℕ) where
     clear = rules.clear;
   }
 
-cross-with : (mesh : Mesh) (costs : List ℕ) (tile : ℕ) (link : Link) → IsCrossLink mesh tile link → IsCrossLink (with_costs costs mesh) tile link
+cross-with : (mesh : Mesh) (costs : List ℕ) (tile : ℕ) (link : Link) → IsCrossLink mesh tile link
+    → IsCrossLink (with_costs costs mesh) tile link
 cross-with mesh costs tile link is = record { from_here = is.from_here; to_another = is.to_another; through = is.through }
 
 pub sound-with : (mesh : Mesh) (costs : List ℕ) → IsSound mesh → IsSound (with_costs costs mesh)
@@ -79,31 +76,3 @@ priced-costs mesh filter setting rules = by_own filter.costs rules
     by_own : (own : Option (List ℕ)) → IfSome own AreCosts → AreCosts (unwrap_or own mesh.setting.costs)
     by_own None none = record { areas = setting.areas; each = setting.costs }
     by_own (Some costs) are = are
-
--- a cost lies between 1 and 1000
-cost-range : (costs : List ℕ) (area : ℕ) → AreCosts costs → area < 64 → (1 ≤ slice_index costs area) × (slice_index costs area ≤ 1000)
-cost-range costs area are below =
-    let parts = and_parts _ _ (AllPass-from_list_all is_cost costs are.each area 0 (omega (arith, below, are.areas))) in
-    (leb-true _ _ parts.0, leb-true _ _ parts.1)
-
--- the costs of a search are costs, and none is less than the least of an open area
-module _ (areas : ℕ) (costs search : List ℕ) (are : AreSearchCosts areas costs search) where
-  pub search-costs : AreCosts costs → AreCosts search
-  search-costs rules = record {
-    areas = are.count;
-    each = list_all-from_AllPass is_cost search (λ k d there.
-        subst (λ (n : ℕ). is_cost n ≡ true) (sym (get_or_default_zero search k d there)) (by_test k (omega (arith, there, are.count)) (is_open areas k) refl));
-  }
-    where
-      by_test : (k : ℕ) → k < 64 → (b : Bool) → is_open areas k ≡ b → is_cost (slice_index search k) ≡ true
-      by_test k below true is =
-          subst (λ (n : ℕ). is_cost n ≡ true) (sym (are.of_open k below is))
-          (AllPass-from_list_all is_cost costs rules.each k 0 (omega (arith, below, rules.areas)))
-      by_test k below false is = subst (λ (n : ℕ). is_cost n ≡ true) (sym (are.of_closed k below is)) refl
-
-  pub least-below : (least : ℕ) → IsLeastCost areas costs least → (area : ℕ) → IsArea area → least ≤ slice_index search area
-  least-below least is area there = by_test (is_open areas area) refl
-    where
-      by_test : (b : Bool) → is_open areas area ≡ b → least ≤ slice_index search area
-      by_test true passes = omega (arith, is.below area there passes, are.of_open area (omega (arith, there.most)) passes)
-      by_test false fails = omega (arith, is.most, are.of_closed area (omega (arith, there.most)) fails)
