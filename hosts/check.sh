@@ -6,8 +6,8 @@
 # The host in C plays each example plainly, with the compiler's checks of addresses and undefined behaviour, and, on one example, with each
 # allocation refused in turn; random calls, valid and not, follow, and
 # threads that ask views beside one that changes the level. The host in Python plays them through a shared object, and the one in Rust runs its test, where there is cargo.
-# The hosts in C++, built by g++ for C++17 with these checks and by clang++ for C++20, and in C#, by Mono, play them too, asked of the level and of
-# a view; what no script asks for they have to tell alike. Each is skipped with a line where its compiler is not there.
+# The hosts in C++, built by g++ for C++17 with these checks and by clang++ for C++20, and in C#, by Mono, play all inputs, asked of the
+# level and of a view; what no script asks for they have to tell alike. Each is skipped with a line where its compiler is not there.
 set -eu
 here=$(cd "$(dirname "$0")" && pwd)
 lib=$(realpath "${1:-$here/../crates/nav_ffi/out/libnav_ffi.a}")
@@ -50,7 +50,7 @@ wants() {
     done
 }
 
-# plays NAME COMMAND..: the inputs, asked of the level and of a view, as the host in C; and what no script asks for, as the first of these hosts.
+# plays NAME COMMAND..: the inputs, asked of the level and of a view, as the host in C; and what no script asks for, as the first of these.
 plays() {
     name=$1
     shift

@@ -1,14 +1,15 @@
 #!/usr/bin/env python3
-"""Compares the five places that say how a host calls the library, which people write by hand: include/navd.h, the exports and #[repr(C)] structs
-of the library (crates/nav_ffi, crates/nav_handle), hosts/rust/src/sys.rs, hosts/python/navd.py and hosts/csharp/Navd.cs. The linker compares names
-alone. hosts/cpp/navd.hpp includes the header: of it each call and each status number is wanted, and its compiler compares the rest.
+"""Compares the five places that say how a host calls the library, which people write by hand: include/navd.h, the exports and #[repr(C)]
+structs of the library (crates/nav_ffi, crates/nav_handle), hosts/rust/src/sys.rs, hosts/python/navd.py and hosts/csharp/Navd.cs. The linker
+compares names alone. hosts/cpp/navd.hpp includes the header: of it each call and each status number is wanted, and its compiler compares
+the rest.
 
 The header is the measure. Each of the others must have the same calls, with the same parameters in the same order, the same structs, field by
 field, and the same status numbers. What a place cannot say is not asked of it:
 
   - a slice of the library is an address and a count, and the count has no name there; ghost fields and an allocator have no bytes
   - the library has no arrays in structs: fields called first, second and so on stand for one, which is called like its elements
-  - the hosts have one struct for the three handles; Python has no names of parameters and no const, C# has no const and no arrays in structs
+  - the hosts have one struct for the three handles; Python has no names of parameters, C# no arrays in structs, and neither has const
 
 usage: tools/header.py --check [FOLDER]    of the repository in FOLDER, or of this one; ends with 1, and a line for each difference
 """
@@ -24,8 +25,8 @@ HEADER, RUST, PYTHON = "include/navd.h", "hosts/rust/src/sys.rs", "hosts/python/
 CSHARP, CPP = "hosts/csharp/Navd.cs", "hosts/cpp/navd.hpp"
 LIBRARY = ("crates/nav_ffi/src", "crates/nav_handle/src")
 C_TYPES = {"uint8_t": "u8", "uint32_t": "u32", "int32_t": "i32", "uint64_t": "u64", "int64_t": "i64", "size_t": "usize", "void": "nothing"}
-CSHARP_TYPES = {"byte": "u8", "uint": "u32", "int": "i32", "ulong": "u64", "long": "i64", "UIntPtr": "usize", "IntPtr": "pointer", "void": "nothing",
-                "Status": "u32"}
+CSHARP_TYPES = {"byte": "u8", "uint": "u32", "int": "i32", "ulong": "u64", "long": "i64", "UIntPtr": "usize", "IntPtr": "pointer",
+                "void": "nothing", "Status": "u32"}
 ORDINALS = ("first", "second", "third", "fourth", "fifth", "sixth", "seventh", "eighth", "")
 HANDLES = ("level", "view", "job")
 # Numbers by name; fields by struct and parameters by call, each a name, or None where the place has none, and a type; what each call gives back.
@@ -247,7 +248,8 @@ def of_csharp(top):
     text = re.sub(r"//[^\n]*", "", (top / CSHARP).read_text())
     wanted = r"\[StructLayout\(LayoutKind\.Sequential\)\]\s*(?:public|internal) struct (\w+)\s*\{(.*?)\}"
     structs = found(CSHARP, text, r"\bstruct \w+\s*\{", wanted)
-    numbers = [one for told in found(CSHARP, text, r"\benum ", r"enum Status : uint\s*\{(.*?)\}") for one in parts(CSHARP, told[1], ",", r"(\w+) = (\d+)")]
+    statuses = found(CSHARP, text, r"\benum ", r"enum Status : uint\s*\{(.*?)\}")
+    numbers = [one for told in statuses for one in parts(CSHARP, told[1], ",", r"(\w+) = (\d+)")]
     calls = found(CSHARP, text, r"\bextern ", r"\[DllImport\(Library\)\]\s*internal static extern (\w+) (\w+)\(([^;{]*?)\);")
     return Border(
         CSHARP,

@@ -7,8 +7,8 @@
 #   - the types of the header are those of tools/release/navd.abi (skipped with a line where there is no abidiff, of Debian's abigail-tools)
 #   - no symbol of the C library is newer than 2.17, of the program than 2.34; the shared object has at most 600 KB and needs the C library alone
 #   - hosts that are built over the packages alone find the path of README: in C and C++ by pkg-config, CMake and the Debian packages, in Python by
-#     the wheel, in Rust by the crate (skipped with a line where there is no cargo), in C# over the shared object (skipped with a line where there
-#     is no Mono); the program plays that example
+#     the wheel, in Rust by the crate (skipped with a line where there is no cargo), in C# over the shared object (skipped with a line where
+#     there is no Mono); the program plays that example
 #
 # tools/release/stops.py tries each of these without the toolchain.
 #

@@ -51,7 +51,8 @@ check_shared() {
     "${tools}readelf" -dW "$1/lib/libnavd.so.$version" >"$work/dynamic"
     grep -q "SONAME.*\[$soname\]" "$work/dynamic" || stop "the shared object has not the name $soname"
     grep -q 'FLAGS.*NOW' "$work/dynamic" || stop "the shared object is not bound at its start"
-    "${tools}readelf" -lW "$1/lib/libnavd.so.$version" | grep -q GNU_RELRO || stop "the shared object has no part that is read only once it is bound"
+    "${tools}readelf" -lW "$1/lib/libnavd.so.$version" | grep -q GNU_RELRO ||
+        stop "the shared object has no part that is read only once it is bound"
     size=$(wc -c <"$1/lib/libnavd.so.$version")
     [ "$size" -le 614400 ] || stop "the shared object has $size bytes, more than 600 KB"
 }

@@ -151,7 +151,8 @@ deb() {
     } >"$root/DEBIAN/control"
     (cd "$root" && find usr -type f | sort | xargs md5sum >DEBIAN/md5sums)
     same_everywhere "$root"
-    dpkg-deb --root-owner-group --threads-max=1 -Zxz --build "$root" "$1/out/${2}_${version}_$debian.deb" >"$1/dpkg.txt" || stop "dpkg-deb failed on $2"
+    dpkg-deb --root-owner-group --threads-max=1 -Zxz --build "$root" "$1/out/${2}_${version}_$debian.deb" >"$1/dpkg.txt" ||
+        stop "dpkg-deb failed on $2"
 }
 
 make_runtime_deb() {

@@ -95,7 +95,8 @@ ROWS = [
      "of 23 places like"),
     # C#: each kind of difference once more
     ("csharp", "public uint Tile, Index;", "public uint Index, Tile;", "field 1 of polygon is index: u32, the header has tile: u32"),
-    ("csharp", "internal UIntPtr Links, Turns;", "internal ulong Links, Turns;", "field 3 of path is links: u64, the header has links: usize"),
+    ("csharp", "internal UIntPtr Links, Turns;", "internal ulong Links, Turns;",
+     "field 3 of path is links: u64, the header has links: usize"),
     ("csharp", "Fourth, Fifth, Sixth;", "Fourth, Fifth;", "field 2 of face is corner: [corner; 5], the header has corner: [corner; 6]"),
     ("csharp", "internal struct NavdHop", "internal struct NavdWalk", "the struct walk is not in the header"),
     ("csharp", "    [StructLayout(LayoutKind.Sequential)]\n    public struct Ray", "    public struct Ray", "of 21 places like"),
@@ -110,8 +111,8 @@ ROWS = [
     ("csharp", "extern Status navd_build(", "extern void navd_build(", "the result of navd_build is nothing, the header has u32"),
     ("csharp", "        [DllImport(Library)]\n        internal static extern Status navd_prepare(LevelHandle level);\n", "",
      "the call navd_prepare is missing"),
-    ("csharp", "[DllImport(Library)]\n        internal static extern Status navd_aim", '[DllImport("other")]\n        internal static extern Status navd_aim',
-     "of 42 places like"),
+    ("csharp", "[DllImport(Library)]\n        internal static extern Status navd_aim",
+     '[DllImport("other")]\n        internal static extern Status navd_aim', "of 42 places like"),
     # C++: its compiler compares the rest
     ("cpp", "navd_view_find_hop;", "navd_find_hop;", "the call navd_view_find_hop is missing"),
     ("cpp", "stale = NAVD_STALE, ", "", "the number STALE is missing"),
