@@ -1,5 +1,4 @@
 mod Words
 mod Crossing
-mod CostLaws
 mod Laying
 mod JumpLaws

@@ -1,11 +1,11 @@
 -- What a reader has of a level.
-use Rattle.std.specs.Prelude.{◌≡◌, ℕ, IsTrue, List, length, Option, Some, None, ⊤}
-use Rattle.std.specs.List.{list_all}
-use Rattle.nav_ground.specs.Limits.{IsSetting, is_cost}
+use Rattle.std.specs.Prelude.{ℕ, List, Option, Some, None, ⊤}
+use Rattle.nav_ground.specs.Limits.{IsSetting}
 use Rattle.mesh_types.specs.declared.mesh.Mesh.{Mesh}
 use Rattle.mesh_types.specs.Soundness.{IsSound}
 use Rattle.build_queue.specs.BookState.{BookState}
 use Rattle.nav_book.specs.LevelResults.{published_mesh}
+pub use Rattle.path_queries.specs.Filters.{AreCosts, with_costs}
 use Rattle.nav_handle.specs.declared.view.MeshView.TheInside.{Inside}
 
 -- a published length, the mesh that was published with it, and the costs of areas that the reader has of its own, if there are some: then they are
@@ -18,15 +18,6 @@ pub record Seen : Type 0 where
 -- what a level shows now
 abbrev pub shown_by : BookState → Seen
 shown_by state = record { length = state.published; mesh = published_mesh state; own = None }
-
--- a table of costs: one an area, each from 1 to 1000
-pub record AreCosts (costs : List ℕ) : Type 0 where
-  pub areas : length costs ≡ 64
-  pub each : IsTrue (list_all is_cost costs)
-
--- a mesh with other costs of areas; its tiles and links are the same
-abbrev pub with_costs : List ℕ → Mesh → Mesh
-with_costs costs mesh = record mesh { setting = record mesh.setting { costs = costs } }
 
 -- what is seen, with other costs
 abbrev pub seen_at : List ℕ → Seen → Seen
