@@ -1,10 +1,13 @@
 -- The field of a frame: there is one at most.
-use Rattle.std.proofs.Common.{◌≡◌, ℕ, ◌^◌, ◌<◌, false, ℤ, ap, ◌∙◌, subst, subst₂, pow_pos, w32, w64, to_z, of_z, lt_trans, lit<}
+use Rattle.std.proofs.Common.{◌≡◌, ℕ, ◌^◌, ◌<◌, ◌≤◌, false, ℤ, pos, ◌+ℤ◌, ◌*ℤ◌, arith, ap, ◌∙◌, subst, subst₂, sym, pow_pos, w32, w64, to_z, of_z, lt_trans, lit<}
 use Rattle.std.specs.Int.RustNames.{unsigned_abs}
 use Rattle.std.specs.Float.{Float}
+use Rattle.std.proofs.lemmas.Int.{ints, to_z-of_z, fits_signed_from_abs}
+use lib.Signed.{mag, nat_abs-le}
 use native.Mathlib.Nat.{eq_of_mul-eq-mul_right}
 use Rattle.world_grid.specs.Grid.{IsNearest, IsSteps, IsStepOf, length_of}
 use Rattle.world_grid.specs.Frames.{IsStretch, IsStretchBetween, IsFloorOf, AreSteps, IsWithinHeight}
+use Rattle.world_grid.specs.Places.{IsOffset}
 use Rattle.world_grid.specs.declared.grid_step.GridStep.{GridStep}
 use Rattle.world_grid.specs.declared.frame.Stretch.{Stretch}
 use Rattle.world_grid.proofs.ValueLaws.{one_value}
@@ -58,3 +61,28 @@ column_reads low high cell stretch h = narrow_reads stretch.first (small_first s
 
 pub floor_reads : (low high : Float) (unit : GridStep) (y : ℤ) → IsFloorOf low high unit y → to_z w32 (of_z w32 y) ≡ y
 floor_reads low high unit y h = narrow_reads y h.ends.low_near
+
+pub offset_by_length : (x : Float) (a b : GridStep) (from n : ℤ) → length_of a ≡ length_of b → IsOffset x a from n → IsOffset x b from n
+offset_by_length x a b from n e h = record { begins = h.begins; is = by_length x a b (from +ℤ n) e h.is; near = h.near }
+
+-- the corner of a frame, as the code reads it
+wide : (n : ℤ) → unsigned_abs n ≤ 2147483648 → unsigned_abs (pos 16 *ℤ n) ≤ 34359738368
+wide n h = omega (arith, ints)
+
+pub cells_read : (m n : ℤ) → mag n < 2147483648 → m ≡ pos 16 *ℤ to_z w32 (of_z w32 n) → to_z w64 (of_z w64 m) ≡ pos 16 *ℤ n
+cells_read m n fits e =
+    ap (λ (z : ℤ). to_z w64 (of_z w64 z)) (e ∙ ap (λ (z : ℤ). pos 16 *ℤ z) (to_z-of_z w32 n (record { sfits = fits })))
+    ∙ to_z-of_z w64 (pos 16 *ℤ n) (fits_signed_from_abs w64 (pos 16 *ℤ n) (omega (arith, wide n (nat_abs-le n fits))))
+
+pub units_read : (m n : ℤ) → mag n < 2147483648 → m ≡ to_z w32 (of_z w32 n) → to_z w64 (of_z w64 m) ≡ n
+units_read m n fits e =
+    ap (λ (z : ℤ). to_z w64 (of_z w64 z)) (e ∙ to_z-of_z w32 n (record { sfits = fits })) ∙ to_z-of_z w64 n (fits_signed_from_abs w64 n (omega (arith, nat_abs-le n fits)))
+
+apart : (from n : ℤ) → unsigned_abs from < 2 ^ 23 → unsigned_abs (from +ℤ n) < 2 ^ 23 → unsigned_abs n < 2 ^ 24
+apart from n h k = omega (arith, ints)
+
+-- an offset that was found, from the corner that was read
+pub offset_reads : (x : Float) (step : GridStep) (a b n : ℤ) → a ≡ b → IsOffset x step a n → IsOffset x step b (to_z w32 (of_z w32 n))
+offset_reads x step a b n e h =
+    subst₂ (λ (from m : ℤ). IsOffset x step from m) e
+    (sym (to_z-of_z w32 n (fits_signed_from_abs w32 n (omega (arith, apart a n h.begins h.near))))) h

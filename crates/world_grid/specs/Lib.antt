@@ -1,3 +1,4 @@
 pub mod Grid
 pub mod FloatParts
 pub mod Frames
+pub mod Places

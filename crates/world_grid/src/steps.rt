@@ -1,5 +1,5 @@
 //! Floats as numbers of steps, and back.
-ghost use Rattle.std.specs.Prelude.{◌≡◌, ◌↔◌, ℕ, ◌*◌, ◌≤◌, ◌<◌, ◌^◌, Bool, false, MatchBool, IfSome, IsNone, ℤ};
+ghost use Rattle.std.specs.Prelude.{◌≡◌, ◌↔◌, ℕ, ◌≤◌, ◌<◌, ◌^◌, false, MatchBool, IfSome, IsNone, ℤ};
 ghost use Rattle.std.specs.Float.{float_is_finite};
 ghost use Rattle.std.specs.Int.RustNames.{unsigned_abs};
 ghost use Rattle.world_grid.specs.FloatParts.{HasParts, size_of};
@@ -38,7 +38,8 @@ fn is_grid_size(size: f32) -> bool
     LEAST_SIZE <= size && size <= MOST_SIZE
 }
 
-/// How many steps a float is: the number nearest to it, of two the even one. None where it is infinite or no number, or `most` steps or more.
+/// How many steps a float is: the number nearest to it, of two the even one.
+/// None where it is infinite or no number, and where it is `most` steps or more.
 pub fn quantize(x: f32, step: GridStep, most: u64) -> Option<i64>
     requires most { most ≤ 2 ^ 31 }
     ensures found { IfSome result (IsSteps x step) }
