@@ -1,11 +1,12 @@
 -- What a level publishes next, and what its press shows then.
-use Rattle.std.proofs.Common.{◌≡◌, ℕ, List, [], ◌∷◌, ◌++◌, length, take, take-add, ◌-◌, ap, ◌∙◌, refl, sym, arith, Result, Ok, Err}
+use Rattle.std.proofs.Common.{◌≡◌, ℕ, List, [], ◌∷◌, ◌++◌, length, drop, take, take-add, ◌-◌, ap, ◌∙◌, refl, sym, arith, Result, Ok, Err}
 use Rattle.std.specs.Prelude.{slice_range, OnOk, OnErr}
 use Rattle.std.proofs.lemmas.List.{length-take-le, take-append-le, take_all}
+use Rattle.std.proofs.lemmas.List.Elements.{All-drop, All-same, All-take}
 use Rattle.nav_ground.specs.declared.history.Entry.{Entry}
 use Rattle.nav_ground.specs.declared.history.Ground.{Ground}
 use Rattle.nav_ground.specs.declared.history.Request.{Request}
-use Rattle.nav_ground.specs.History.{alive_after}
+use Rattle.nav_ground.specs.History.{IsRequest, alive_after}
 use Rattle.mesh_types.specs.declared.mesh.Mesh.{Mesh}
 use Rattle.mesh_types.specs.Builds.{build_of}
 use Rattle.mesh_types.specs.Soundness.{IsSound}
@@ -65,6 +66,9 @@ module _ (state : BookState) (press : PressView) (kept : IsShown state press) wh
         kept.rules.aimed,
         kept.rules.replied.few,
       );
+      requests = All-same (λ (entry : Entry). IsRequest entry.request) more (slice_range state.history state.published state.target) between
+          (All-take (λ (entry : Entry). IsRequest entry.request) (state.target - state.published) (drop state.published state.history)
+          (All-drop (λ (entry : Entry). IsRequest entry.request) state.published state.history kept.rules.replied.requests));
       shows = is
           ∙ sym
           (ap (λ (w : Ground). build_of w (press.entries ++ more) (length (press.entries ++ more))) kept.level

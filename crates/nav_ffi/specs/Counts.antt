@@ -4,7 +4,7 @@ use Rattle.nav_ground.specs.Tiling.{tile_count}
 use Rattle.mesh_types.specs.Soundness.{link_count, polygon_count}
 use Rattle.build_queue.specs.BookState.{BookState}
 use Rattle.nav_book.specs.LevelResults.{published_mesh}
-use Rattle.nav_handle.specs.declared.wire.TheConstants as status
+use Rattle.nav_handle.specs.Statuses as status
 use Rattle.nav_handle.specs.declared.wire.NavdCounts.{NavdCounts}
 
 abbrev pub counts_of : BookState → NavdCounts
@@ -19,5 +19,5 @@ counts_of state = record {
 
 -- counts were asked for: a level tells them, and where there is none, nothing is told
 abbrev pub AreCounted : Option BookState → NavdCounts → NavdCounts → ℕ → Type 0
-AreCounted None before after ended = (ended ≡ status.EMPTY) × (after ≡ before)
-AreCounted (Some state) before after ended = (ended ≡ status.OK) × (after ≡ counts_of state)
+AreCounted None before after ended = (ended ≡ status.empty) × (after ≡ before)
+AreCounted (Some state) before after ended = (ended ≡ status.ok) × (after ≡ counts_of state)

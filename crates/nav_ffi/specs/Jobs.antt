@@ -6,7 +6,7 @@ use Rattle.build_queue.specs.declared.live.Submitted.TheVariants.{Taken, Stale}
 use Rattle.build_queue.specs.BookState.{BookState}
 use Rattle.build_queue.specs.Steps.{after_claim, after_put_back, after_put_back_all, after_submit, submission}
 use Rattle.nav_handle.specs.Works.{IsOf, Working, built, next_work}
-use Rattle.nav_handle.specs.declared.wire.TheConstants as status
+use Rattle.nav_handle.specs.Statuses as status
 
 -- how a claim ended, which tile it told, and what the two handles hold then
 pub record Claimed : Type 0 where
@@ -17,26 +17,26 @@ pub record Claimed : Type 0 where
 
 -- a claim gives the least tile that is awaited and not claimed, where there is one; where there is none, nothing is done
 abbrev pub claimed_by : BookState → ℕ → Option Working → Claimed
-claimed_by state before (Some work) = record { status = status.OK; number = work.job.tile; level = Some (after_claim state); job = Some work }
-claimed_by state before None = record { status = status.SAME; number = before; level = Some state; job = None }
+claimed_by state before (Some work) = record { status = status.ok; number = work.job.tile; level = Some (after_claim state); job = Some work }
+claimed_by state before None = record { status = status.same; number = before; level = Some state; job = None }
 
 -- a claim of what a handle holds, into a job's handle that holds nothing; unless memory is refused, and then nothing is done
 abbrev pub IsClaimed : Option BookState → Option Working → ℕ → Claimed → Type 0
-IsClaimed None job before ended = ended ≡ record { status = status.EMPTY; number = before; level = None; job = job }
+IsClaimed None job before ended = ended ≡ record { status = status.empty; number = before; level = None; job = job }
 IsClaimed (Some state) (Some work) before ended =
-    ended ≡ record { status = status.BUSY; number = before; level = Some state; job = Some work }
+    ended ≡ record { status = status.busy; number = before; level = Some state; job = Some work }
 IsClaimed (Some state) None before ended =
     (ended ≡ claimed_by state before (next_work state))
-    ⊎ (ended ≡ record { status = status.NO_MEMORY; number = before; level = Some state; job = None })
+    ⊎ (ended ≡ record { status = status.no_memory; number = before; level = Some state; job = None })
 
 -- a build of a job that is not built yet; unless memory is refused, and then nothing is done
 abbrev pub IsBuiltNow : Bool → Working → Option Working → ℕ → Type 0
-IsBuiltNow true work after ended = (ended ≡ status.SAME) × (after ≡ Some work)
+IsBuiltNow true work after ended = (ended ≡ status.same) × (after ≡ Some work)
 IsBuiltNow false work after ended =
-    ((ended ≡ status.OK) × (after ≡ Some (built work))) ⊎ ((ended ≡ status.NO_MEMORY) × (after ≡ Some work))
+    ((ended ≡ status.ok) × (after ≡ Some (built work))) ⊎ ((ended ≡ status.no_memory) × (after ≡ Some work))
 
 abbrev pub IsBuilt : Option Working → Option Working → ℕ → Type 0
-IsBuilt None after ended = (ended ≡ status.EMPTY) × (after ≡ None)
+IsBuilt None after ended = (ended ≡ status.empty) × (after ≡ None)
 IsBuilt (Some work) after ended = IsBuiltNow work.built work after ended
 
 -- how a call of a level and a job ended, and what the two handles hold then
@@ -47,18 +47,18 @@ pub record Handed : Type 0 where
 
 -- how a build that was handed in ends
 abbrev pub submit_status : Submitted → ℕ
-submit_status Taken = status.OK
-submit_status Stale = status.STALE
+submit_status Taken = status.ok
+submit_status Stale = status.stale
 
 -- whether a job may be handed in: it is of the level's ground, and is built
 abbrev pub readiness : Bool → ℕ
-readiness true = status.OK
-readiness false = status.NOT_YET
+readiness true = status.ok
+readiness false = status.not_yet
 
 pub record IsReady (work : Working) (ground : Ground) (ended : ℕ) : Type 0 where
   pub ready : IsOf work ground → ended ≡ readiness work.built
-  pub foreign : (IsOf work ground → ⊥) → ended ≡ status.FOREIGN
-  pub own : (ended ≡ status.FOREIGN → ⊥) → IsOf work ground
+  pub foreign : (IsOf work ground → ⊥) → ended ≡ status.foreign
+  pub own : (ended ≡ status.foreign → ⊥) → IsOf work ground
 
 -- a job that is built is submitted; one that is not stays, as does one of another ground
 abbrev pub submitted : Bool → BookState → Working → Handed
@@ -67,28 +67,28 @@ submitted true state work = record {
   level = Some (after_submit state work.job.tile work.job.shapes);
   job = None;
 }
-submitted false state work = record { status = status.NOT_YET; level = Some state; job = Some work }
+submitted false state work = record { status = status.not_yet; level = Some state; job = Some work }
 
 pub record IsSubmitted (state : BookState) (work : Working) (ended : Handed) : Type 0 where
   pub own : IsOf work state.ground → ended ≡ submitted work.built state work
-  pub foreign : (IsOf work state.ground → ⊥) → ended ≡ record { status = status.FOREIGN; level = Some state; job = Some work }
+  pub foreign : (IsOf work state.ground → ⊥) → ended ≡ record { status = status.foreign; level = Some state; job = Some work }
 
 abbrev pub IsHandedIn : Option BookState → Option Working → Handed → Type 0
-IsHandedIn None job ended = ended ≡ record { status = status.EMPTY; level = None; job = job }
-IsHandedIn (Some state) None ended = ended ≡ record { status = status.EMPTY; level = Some state; job = None }
+IsHandedIn None job ended = ended ≡ record { status = status.empty; level = None; job = job }
+IsHandedIn (Some state) None ended = ended ≡ record { status = status.empty; level = Some state; job = None }
 IsHandedIn (Some state) (Some work) ended = IsSubmitted state work ended
 
 -- a job is put back; one of another ground stays
 pub record IsGivenBack (state : BookState) (work : Working) (ended : Handed) : Type 0 where
-  pub own : IsOf work state.ground → ended ≡ record { status = status.OK; level = Some (after_put_back state work.job.tile); job = None }
-  pub foreign : (IsOf work state.ground → ⊥) → ended ≡ record { status = status.FOREIGN; level = Some state; job = Some work }
+  pub own : IsOf work state.ground → ended ≡ record { status = status.ok; level = Some (after_put_back state work.job.tile); job = None }
+  pub foreign : (IsOf work state.ground → ⊥) → ended ≡ record { status = status.foreign; level = Some state; job = Some work }
 
 abbrev pub IsPutBack : Option BookState → Option Working → Handed → Type 0
-IsPutBack None job ended = ended ≡ record { status = status.EMPTY; level = None; job = job }
-IsPutBack (Some state) None ended = ended ≡ record { status = status.EMPTY; level = Some state; job = None }
+IsPutBack None job ended = ended ≡ record { status = status.empty; level = None; job = job }
+IsPutBack (Some state) None ended = ended ≡ record { status = status.empty; level = Some state; job = None }
 IsPutBack (Some state) (Some work) ended = IsGivenBack state work ended
 
 -- all claims are ended
 abbrev pub AreFree : Option BookState → Option BookState → ℕ → Type 0
-AreFree None after ended = (ended ≡ status.EMPTY) × (after ≡ None)
-AreFree (Some state) after ended = (ended ≡ status.OK) × (after ≡ Some (after_put_back_all state))
+AreFree None after ended = (ended ≡ status.empty) × (after ≡ None)
+AreFree (Some state) after ended = (ended ≡ status.ok) × (after ≡ Some (after_put_back_all state))

@@ -4,7 +4,7 @@ use Rattle.nav_ground.specs.History.{alive_after}
 use Rattle.build_queue.specs.BookState.{BookState}
 use Rattle.build_queue.specs.Renewal.{IsRenewed}
 use Rattle.nav_book.specs.LevelResults.{published_mesh}
-use Rattle.nav_handle.specs.declared.wire.TheConstants as status
+use Rattle.nav_handle.specs.Statuses as status
 use Rattle.nav_handle.specs.Wire.{laid}
 
 -- how a renewal ended, what the handle holds then, and the host's places: for how many numbers there are, and for the numbers
@@ -22,7 +22,7 @@ numbers_of state = alive_after state.history (length state.history)
 pub record HasBegunAgain (state : BookState) (room : ℕ × List ℕ) (ended : Renewing) : Type 0 where
   pub shown : state.published ≡ length state.history
   pub fits : length (numbers_of state) ≤ length room.1
-  pub status : ended.status ≡ status.OK
+  pub status : ended.status ≡ status.ok
   pub after : BookState
   pub held : ended.held ≡ Some after
   pub renewed : IsRenewed state after
@@ -33,16 +33,16 @@ pub record HasBegunAgain (state : BookState) (room : ℕ × List ℕ) (ended : R
 pub record WantsRoom (state : BookState) (room : ℕ × List ℕ) (ended : Renewing) : Type 0 where
   pub shown : state.published ≡ length state.history
   pub over : length room.1 < length (numbers_of state)
-  pub ends : ended ≡ record { status = status.NO_ROOM; held = Some state; told = (length (numbers_of state), room.1) }
+  pub ends : ended ≡ record { status = status.no_room; held = Some state; told = (length (numbers_of state), room.1) }
 
 -- not all is published: nothing is done
 pub record WantsPublish (state : BookState) (room : ℕ × List ℕ) (ended : Renewing) : Type 0 where
   pub waits : state.published ≡ length state.history → ⊥
-  pub ends : ended ≡ record { status = status.NOT_YET; held = Some state; told = room }
+  pub ends : ended ≡ record { status = status.not_yet; held = Some state; told = room }
 
 -- a renewal of what a handle holds; where memory is refused, nothing is done
 abbrev pub IsRenewing : Option BookState → ℕ × List ℕ → Renewing → Type 0
-IsRenewing None room ended = ended ≡ record { status = status.EMPTY; held = None; told = room }
+IsRenewing None room ended = ended ≡ record { status = status.empty; held = None; told = room }
 IsRenewing (Some state) room ended =
     (HasBegunAgain state room ended ⊎ WantsRoom state room ended)
-    ⊎ (WantsPublish state room ended ⊎ (ended ≡ record { status = status.NO_MEMORY; held = Some state; told = room }))
+    ⊎ (WantsPublish state room ended ⊎ (ended ≡ record { status = status.no_memory; held = Some state; told = room }))

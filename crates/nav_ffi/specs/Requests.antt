@@ -8,19 +8,19 @@ use Rattle.nav_ground.specs.declared.shape.Shape.{Shape}
 use Rattle.nav_ground.specs.Limits.{IsShape}
 use Rattle.build_queue.specs.BookState.{BookState}
 use Rattle.build_queue.specs.Steps.{is_full, next_reply, requested}
-use Rattle.nav_handle.specs.declared.wire.TheConstants as status
+use Rattle.nav_handle.specs.Statuses as status
 
 -- how an entry with a reply ends
 abbrev pub reply_status : Reply → ℕ
-reply_status (Added number) = status.OK
-reply_status Removed = status.OK
-reply_status (Full live) = status.TOO_MANY
-reply_status (Dead number) = status.DEAD
+reply_status (Added number) = status.ok
+reply_status Removed = status.ok
+reply_status (Full live) = status.too_many
+reply_status (Dead number) = status.dead
 
 -- how a request of what a handle holds ends
 abbrev pub request_status : Option BookState → Request → ℕ
-request_status None request = status.EMPTY
-request_status (Some state) request = if is_full state then status.HISTORY_FULL else reply_status (next_reply state request)
+request_status None request = status.empty
+request_status (Some state) request = if is_full state then status.history_full else reply_status (next_reply state request)
 
 -- the number of the entry that it makes, from 1; 0 where it makes none
 abbrev pub entry_made : Option BookState → ℕ
@@ -40,4 +40,4 @@ pub record IsRequested (before after : Option BookState) (request : Request) (en
 -- an obstacle was to be added: where its numbers are in their limits it was asked for; else nothing was done
 pub record IsAddAsked (before after : Option BookState) (shape : Shape) (ended made : ℕ) : Type 0 where
   pub asked : IsShape shape → IsRequested before after (Add shape) ended made
-  pub refused : (IsShape shape → ⊥) → (ended ≡ status.OUT_OF_RANGE) × (made ≡ 0) × (after ≡ before)
+  pub refused : (IsShape shape → ⊥) → (ended ≡ status.out_of_range) × (made ≡ 0) × (after ≡ before)

@@ -2,7 +2,7 @@
 use Rattle.std.specs.Prelude.{◌≡◌, ◌⊎◌, ℕ, List, Option, Some, None}
 use Rattle.build_queue.specs.BookState.{BookState}
 use Rattle.nav_handle.specs.Views.{AreCosts, Seen, seen_at, shown_to}
-use Rattle.nav_handle.specs.declared.wire.TheConstants as status
+use Rattle.nav_handle.specs.Statuses as status
 
 -- how a look ended, which length it told, and what the view's handle holds then
 pub record Looked : Type 0 where
@@ -18,18 +18,18 @@ own_in (Some seen) = seen.own
 -- a look at what a handle holds, for a view: it shows what is published now, with the costs that it has of its own, unless memory is refused; where
 -- there is no level it is as it was
 abbrev pub IsLooked : Option BookState → Option Seen → ℕ → Looked → Type 0
-IsLooked None before number ended = ended ≡ record { status = status.EMPTY; number = number; held = before }
+IsLooked None before number ended = ended ≡ record { status = status.empty; number = number; held = before }
 IsLooked (Some state) before number ended =
-    (ended ≡ record { status = status.OK; number = state.published; held = Some (shown_to (own_in before) state) })
-    ⊎ (ended ≡ record { status = status.NO_MEMORY; number = number; held = before })
+    (ended ≡ record { status = status.ok; number = state.published; held = Some (shown_to (own_in before) state) })
+    ⊎ (ended ≡ record { status = status.no_memory; number = number; held = before })
 
 -- a view was given costs: where there is one it has them, unless memory is refused
 abbrev pub IsGiven : Option Seen → List ℕ → Option Seen → ℕ → Type 0
-IsGiven None costs after ended = (ended ≡ status.EMPTY) × (after ≡ None)
+IsGiven None costs after ended = (ended ≡ status.empty) × (after ≡ None)
 IsGiven (Some seen) costs after ended =
-    ((ended ≡ status.OK) × (after ≡ Some (seen_at costs seen))) ⊎ ((ended ≡ status.NO_MEMORY) × (after ≡ Some seen))
+    ((ended ≡ status.ok) × (after ≡ Some (seen_at costs seen))) ⊎ ((ended ≡ status.no_memory) × (after ≡ Some seen))
 
 -- numbers were handed over as its costs: where they are costs it was given them, else nothing was done
 pub record IsCosted (before : Option Seen) (costs : List ℕ) (after : Option Seen) (ended : ℕ) : Type 0 where
   pub given : AreCosts costs → IsGiven before costs after ended
-  pub refused : (AreCosts costs → ⊥) → (ended ≡ status.OUT_OF_RANGE) × (after ≡ before)
+  pub refused : (AreCosts costs → ⊥) → (ended ≡ status.out_of_range) × (after ≡ before)

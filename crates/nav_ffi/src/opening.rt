@@ -18,6 +18,7 @@ ghost use Rattle.tri_raster.specs.Rasters.{IsRaster};
 ghost use Rattle.tri_raster.specs.TriFormat.{IsTextFault};
 ghost use Rattle.tri_raster.specs.TriText.{IsTriText};
 ghost use Rattle.nav_ffi.specs.Triangles.{HasTooMany, HoldsRastered};
+ghost use Rattle.nav_handle.specs.Statuses as status;
 
 use layer_cut::ground;
 use nav_base::Steps;
@@ -65,13 +66,13 @@ pub extern "C" fn navd_open(
     text: &[u8],
     fault: &mut NavdFault,
 ) -> u32
-    ensures ends { (result ≡ OK) ⊎ ((result ≡ FAULTY) ⊎ (result ≡ NO_MEMORY)) }
-    ensures opened { result ≡ OK → HoldsOpened text.now level.new.level }
+    ensures ends { (result ≡ status.ok) ⊎ ((result ≡ status.faulty) ⊎ (result ≡ status.no_memory)) }
+    ensures opened { result ≡ status.ok → HoldsOpened text.now level.new.level }
     ensures only { (setting : Setting) (field : Field) → BeginsWith text.now setting field
-        → ((result ≡ OK) × (level.new.level ≡ Some (first_state (ground_of setting field)))) ⊎ (result ≡ NO_MEMORY) }
-    ensures fault { result ≡ FAULTY → IsFirstFault field_format AtNav 0 (lines text.now) (fault_of fault.new) }
-    ensures told { (result ≡ FAULTY → ⊥) → fault.new ≡ fault.old }
-    ensures kept { (result ≡ OK → ⊥) → level.new.level ≡ level.old.level }
+        → ((result ≡ status.ok) × (level.new.level ≡ Some (first_state (ground_of setting field)))) ⊎ (result ≡ status.no_memory) }
+    ensures fault { result ≡ status.faulty → IsFirstFault field_format AtNav 0 (lines text.now) (fault_of fault.new) }
+    ensures told { (result ≡ status.faulty → ⊥) → fault.new ≡ fault.old }
+    ensures kept { (result ≡ status.ok → ⊥) → level.new.level ≡ level.old.level }
 {
     let text = match read_field(alloc, text) {
         Ok(text) => text,
@@ -143,15 +144,15 @@ pub extern "C" fn navd_open_triangles(
     text: &[u8],
     fault: &mut NavdFault,
 ) -> u32
-    ensures ends { (result ≡ OK) ⊎ ((result ≡ FAULTY) ⊎ ((result ≡ TOO_MANY_SPANS) ⊎ (result ≡ NO_MEMORY))) }
-    ensures opened { result ≡ OK → HoldsRastered text.now level.new.level }
+    ensures ends { (result ≡ status.ok) ⊎ ((result ≡ status.faulty) ⊎ ((result ≡ status.too_many_spans) ⊎ (result ≡ status.no_memory))) }
+    ensures opened { result ≡ status.ok → HoldsRastered text.now level.new.level }
     ensures only { (setting : Setting) (header : ℕ) (tris : List Tri) (field : Field)
         → IsTriText text.now setting header tris → IsRaster setting tris field → length field.spans ≤ 2000000
-        → ((result ≡ OK) × (level.new.level ≡ Some (first_state (ground_of setting field)))) ⊎ (result ≡ NO_MEMORY) }
-    ensures many { result ≡ TOO_MANY_SPANS → HasTooMany text.now }
-    ensures fault { result ≡ FAULTY → IsTextFault text.now (fault_of fault.new) }
-    ensures told { (result ≡ FAULTY → ⊥) → fault.new ≡ fault.old }
-    ensures kept { (result ≡ OK → ⊥) → level.new.level ≡ level.old.level }
+        → ((result ≡ status.ok) × (level.new.level ≡ Some (first_state (ground_of setting field)))) ⊎ (result ≡ status.no_memory) }
+    ensures many { result ≡ status.too_many_spans → HasTooMany text.now }
+    ensures fault { result ≡ status.faulty → IsTextFault text.now (fault_of fault.new) }
+    ensures told { (result ≡ status.faulty → ⊥) → fault.new ≡ fault.old }
+    ensures kept { (result ≡ status.ok → ⊥) → level.new.level ≡ level.old.level }
 {
     let text = match read_triangles(alloc, text) {
         Ok(text) => text,

@@ -10,13 +10,14 @@ ghost use Rattle.nav_handle.specs.Telling.{PathRoom, told_floors, told_path, tol
 ghost use Rattle.nav_handle.specs.Walking.{WalkRoom, march_asked, send_asked, told_march, told_send, walk_ends};
 ghost use Rattle.nav_handle.specs.Wire.{path_asked, ray_asked};
 ghost use Rattle.nav_ffi.specs.Counts.{AreCounted};
+ghost use Rattle.nav_handle.specs.Statuses as status;
 
 use nav_base::Question;
 use nav_ground::tiles;
 use nav_handle::{
     EMPTY, NO_MEMORY, NavdCounts, NavdFloor, NavdHop, NavdJump, NavdLevel, NavdLink, NavdPath,
-    NavdRay, NavdStep, NavdTurn, NavdWalker, NavdWay, OK, OUT_OF_RANGE, cast_ray, find_floors,
-    find_hop, find_path, march, send,
+    NavdRay, NavdStep, NavdTurn, NavdWalker, NavdWay, OK, cast_ray, find_floors, find_hop,
+    find_path, march, send,
 };
 use std::alloc::Global;
 
@@ -51,7 +52,7 @@ pub extern "C" fn navd_find_path(
     ensures asked { IsAnswerable (path_asked way.now)
         → IsAsked told_path (shown_in level.old.level) (path_asked way.now) (path.old, links.old, turns.old) (path.new, links.new, turns.new) result }
     ensures refused { (IsAnswerable (path_asked way.now) → ⊥)
-        → EndsSo {Room = PathRoom} OUT_OF_RANGE (path.old, links.old, turns.old) (path.new, links.new, turns.new) result }
+        → EndsSo {Room = PathRoom} status.out_of_range (path.old, links.old, turns.old) (path.new, links.new, turns.new) result }
     ensures same { level.new.level ≡ level.old.level }
 {
     find_path(alloc, level, way, links, turns, path)
@@ -66,7 +67,7 @@ pub extern "C" fn navd_cast_ray(
     ray: &mut NavdRay,
 ) -> u32
     ensures asked { IsAnswerable (ray_asked way.now) → IsAsked told_ray (shown_in level.old.level) (ray_asked way.now) ray.old ray.new result }
-    ensures refused { (IsAnswerable (ray_asked way.now) → ⊥) → EndsSo OUT_OF_RANGE ray.old ray.new result }
+    ensures refused { (IsAnswerable (ray_asked way.now) → ⊥) → EndsSo status.out_of_range ray.old ray.new result }
     ensures same { level.new.level ≡ level.old.level }
 {
     cast_ray(alloc, level, way, ray)
@@ -101,7 +102,7 @@ pub extern "C" fn navd_find_hop(
     ensures asked { CanHop (hop_asked hop.old.way jumps.now) → IsAskedBy (IsRightHop (hop_asked hop.old.way jumps.now)) hop_ends told_hop
         (shown_in level.old.level) (hop.old, steps.old, turns.old) (hop.new, steps.new, turns.new) result }
     ensures refused { (CanHop (hop_asked hop.old.way jumps.now) → ⊥)
-        → EndsSo {Room = HopRoom} OUT_OF_RANGE (hop.old, steps.old, turns.old) (hop.new, steps.new, turns.new) result }
+        → EndsSo {Room = HopRoom} status.out_of_range (hop.old, steps.old, turns.old) (hop.new, steps.new, turns.new) result }
     ensures same { level.new.level ≡ level.old.level }
 {
     find_hop(alloc, level, hop, jumps, steps, turns)
@@ -119,7 +120,7 @@ pub extern "C" fn navd_send(
     ensures asked { CanSend (send_asked way.now) → IsAskedBy (IsRightSent (send_asked way.now)) walk_ends (told_send way.now)
         (shown_in level.old.level) (walker.old, links.old) (walker.new, links.new) result }
     ensures refused { (CanSend (send_asked way.now) → ⊥)
-        → EndsSo {Room = WalkRoom} OUT_OF_RANGE (walker.old, links.old) (walker.new, links.new) result }
+        → EndsSo {Room = WalkRoom} status.out_of_range (walker.old, links.old) (walker.new, links.new) result }
     ensures same { level.new.level ≡ level.old.level }
 {
     send(alloc, level, way, links, walker)
@@ -137,7 +138,7 @@ pub extern "C" fn navd_march(
     ensures asked { CanMarch (march_asked walker.old length) → IsAskedBy (IsRightMarched (march_asked walker.old length)) walk_ends told_march
         (shown_in level.old.level) (walker.old, links.old) (walker.new, links.new) result }
     ensures refused { (CanMarch (march_asked walker.old length) → ⊥)
-        → EndsSo {Room = WalkRoom} OUT_OF_RANGE (walker.old, links.old) (walker.new, links.new) result }
+        → EndsSo {Room = WalkRoom} status.out_of_range (walker.old, links.old) (walker.new, links.new) result }
     ensures same { level.new.level ≡ level.old.level }
 {
     march(alloc, level, walker, length, links)

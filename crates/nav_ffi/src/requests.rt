@@ -5,6 +5,7 @@ ghost use Rattle.nav_ground.specs.History.{IsRequest};
 ghost use Rattle.nav_ground.specs.Limits.{IsShape};
 ghost use Rattle.nav_ffi.specs.Requests.{IsAddAsked, IsRequested};
 ghost use Rattle.nav_handle.specs.Wire.{block_of, cylinder_of};
+ghost use Rattle.nav_handle.specs.Statuses as status;
 
 use nav_ground::{Reply, Request, Shape};
 use nav_handle::{
@@ -44,7 +45,7 @@ fn request(alloc: Global, level: &mut NavdLevel, request: Request) -> (u32, u32)
 fn add(alloc: Global, level: &mut NavdLevel, shape: Option<Shape>) -> (u32, u32)
     requires { IfSome shape IsShape }
     ensures added { IfSome shape (λ shape. IsRequested level.old.level level.new.level (Request.Add shape) result.0 result.1) }
-    ensures none { IsNone shape → (result ≡ (OUT_OF_RANGE, 0)) × (level.new.level ≡ level.old.level) }
+    ensures none { IsNone shape → (result ≡ (status.out_of_range, 0)) × (level.new.level ≡ level.old.level) }
 {
     match shape {
         Some(shape) => request(alloc, level, Request::Add(shape)),

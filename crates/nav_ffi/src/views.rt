@@ -12,6 +12,7 @@ ghost use Rattle.nav_handle.specs.Walking.{WalkRoom, march_asked, send_asked, to
 ghost use Rattle.nav_handle.specs.Wire.{path_asked, ray_asked};
 ghost use Rattle.nav_handle.specs.Looking.{AreShown, AreTold, faces_of, inner_links_of, border_links_of};
 ghost use Rattle.nav_ffi.specs.Viewing.{IsLooked, own_in, IsCosted};
+ghost use Rattle.nav_handle.specs.Statuses as status;
 
 use nav_base::Question;
 use nav_book::Level;
@@ -91,7 +92,7 @@ pub extern "C" fn navd_view_find_path(
     ensures asked { IsAnswerable (path_asked way.now)
         → IsAsked told_path (seen_in view.old.view) (path_asked way.now) (path.old, links.old, turns.old) (path.new, links.new, turns.new) result }
     ensures refused { (IsAnswerable (path_asked way.now) → ⊥)
-        → EndsSo {Room = PathRoom} OUT_OF_RANGE (path.old, links.old, turns.old) (path.new, links.new, turns.new) result }
+        → EndsSo {Room = PathRoom} status.out_of_range (path.old, links.old, turns.old) (path.new, links.new, turns.new) result }
     ensures same { view.new.view ≡ view.old.view }
 {
     find_path(alloc, view, way, links, turns, path)
@@ -106,7 +107,7 @@ pub extern "C" fn navd_view_cast_ray(
     ray: &mut NavdRay,
 ) -> u32
     ensures asked { IsAnswerable (ray_asked way.now) → IsAsked told_ray (seen_in view.old.view) (ray_asked way.now) ray.old ray.new result }
-    ensures refused { (IsAnswerable (ray_asked way.now) → ⊥) → EndsSo OUT_OF_RANGE ray.old ray.new result }
+    ensures refused { (IsAnswerable (ray_asked way.now) → ⊥) → EndsSo status.out_of_range ray.old ray.new result }
     ensures same { view.new.view ≡ view.old.view }
 {
     cast_ray(alloc, view, way, ray)
@@ -141,7 +142,7 @@ pub extern "C" fn navd_view_find_hop(
     ensures asked { CanHop (hop_asked hop.old.way jumps.now) → IsAskedBy (IsRightHop (hop_asked hop.old.way jumps.now)) hop_ends told_hop
         (seen_in view.old.view) (hop.old, steps.old, turns.old) (hop.new, steps.new, turns.new) result }
     ensures refused { (CanHop (hop_asked hop.old.way jumps.now) → ⊥)
-        → EndsSo {Room = HopRoom} OUT_OF_RANGE (hop.old, steps.old, turns.old) (hop.new, steps.new, turns.new) result }
+        → EndsSo {Room = HopRoom} status.out_of_range (hop.old, steps.old, turns.old) (hop.new, steps.new, turns.new) result }
     ensures same { view.new.view ≡ view.old.view }
 {
     find_hop(alloc, view, hop, jumps, steps, turns)
@@ -159,7 +160,7 @@ pub extern "C" fn navd_view_send(
     ensures asked { CanSend (send_asked way.now) → IsAskedBy (IsRightSent (send_asked way.now)) walk_ends (told_send way.now)
         (seen_in view.old.view) (walker.old, links.old) (walker.new, links.new) result }
     ensures refused { (CanSend (send_asked way.now) → ⊥)
-        → EndsSo {Room = WalkRoom} OUT_OF_RANGE (walker.old, links.old) (walker.new, links.new) result }
+        → EndsSo {Room = WalkRoom} status.out_of_range (walker.old, links.old) (walker.new, links.new) result }
     ensures same { view.new.view ≡ view.old.view }
 {
     send(alloc, view, way, links, walker)
@@ -177,7 +178,7 @@ pub extern "C" fn navd_view_march(
     ensures asked { CanMarch (march_asked walker.old length) → IsAskedBy (IsRightMarched (march_asked walker.old length)) walk_ends told_march
         (seen_in view.old.view) (walker.old, links.old) (walker.new, links.new) result }
     ensures refused { (CanMarch (march_asked walker.old length) → ⊥)
-        → EndsSo {Room = WalkRoom} OUT_OF_RANGE (walker.old, links.old) (walker.new, links.new) result }
+        → EndsSo {Room = WalkRoom} status.out_of_range (walker.old, links.old) (walker.new, links.new) result }
     ensures same { view.new.view ≡ view.old.view }
 {
     march(alloc, view, walker, length, links)

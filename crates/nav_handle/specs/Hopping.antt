@@ -9,7 +9,7 @@ use Rattle.off_links.specs.declared.hops.HopQuestion.{HopQuestion}
 use Rattle.nav_handle.specs.declared.hops.NavdHop.{NavdHop}
 use Rattle.nav_handle.specs.declared.hops.NavdJump.{NavdJump}
 use Rattle.nav_handle.specs.declared.hops.NavdStep.{NavdStep}
-use Rattle.nav_handle.specs.declared.wire.TheConstants as status
+use Rattle.nav_handle.specs.Statuses as status
 use Rattle.nav_handle.specs.declared.wire.NavdTurn.{NavdTurn}
 use Rattle.nav_handle.specs.declared.wire.NavdWay.{NavdWay}
 use Rattle.nav_handle.specs.Wire.{laid, link_told, point_of, polygon_told, turn_told}
@@ -32,10 +32,10 @@ hop_asked way jumps = record {
 
 -- how the question ends with an answer
 abbrev pub hop_ends : HopAnswer → ℕ
-hop_ends (Found found) = status.OK
-hop_ends NoStart = status.NO_START
-hop_ends NoGoal = status.NO_GOAL
-hop_ends NoPath = status.NO_PATH
+hop_ends (Found found) = status.ok
+hop_ends NoStart = status.no_start
+hop_ends NoGoal = status.no_goal
+hop_ends NoPath = status.no_path
 
 -- what is told of a step: of a link all, of a jump its place among the jumps and the polygon that it enters
 abbrev pub step_told : HopStep → NavdStep

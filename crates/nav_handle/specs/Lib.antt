@@ -2,6 +2,7 @@ pub mod Handles
 pub mod Views
 pub mod Works
 pub mod Wire
+pub mod Statuses
 pub mod Telling
 pub mod Answers
 pub mod Looking

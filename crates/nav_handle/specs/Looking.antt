@@ -13,7 +13,7 @@ use Rattle.mesh_types.specs.declared.polygon.Polygon.{Polygon}
 use Rattle.mesh_types.specs.declared.mesh.TileMesh.{TileMesh}
 use Rattle.build_queue.specs.BookState.{BookState}
 use Rattle.nav_handle.specs.Views.{Seen}
-use Rattle.nav_handle.specs.declared.wire.TheConstants as status
+use Rattle.nav_handle.specs.Statuses as status
 use Rattle.nav_handle.specs.declared.faces.NavdCorner.{NavdCorner}
 use Rattle.nav_handle.specs.declared.faces.NavdFace.{NavdFace}
 use Rattle.nav_handle.specs.declared.faces.NavdObstacle.{NavdObstacle}
@@ -55,12 +55,12 @@ border_links_of mesh tile = option_map (λ (links : List Link). map link_told li
 
 -- a list was asked for: it is told as far as there is room, with how many there are; where there is none, a number was out of its limits
 abbrev pub IsListed : {A : Type 0} → Option (List A) → ℕ × List A → ℕ × List A → ℕ → Type 0
-IsListed None before after ended = EndsSo status.OUT_OF_RANGE before after ended
-IsListed (Some list) before after ended = (ended ≡ status.OK) × (after ≡ (length list, laid list before.1))
+IsListed None before after ended = EndsSo status.out_of_range before after ended
+IsListed (Some list) before after ended = (ended ≡ status.ok) × (after ≡ (length list, laid list before.1))
 
 -- a list of a tile was asked for: the mesh tells it; where there is no mesh, nothing is told
 abbrev pub AreTold : {A : Type 0} → (Mesh → ℕ → Option (List A)) → Option Mesh → ℕ → ℕ × List A → ℕ × List A → ℕ → Type 0
-AreTold these None tile before after ended = EndsSo status.EMPTY before after ended
+AreTold these None tile before after ended = EndsSo status.empty before after ended
 AreTold these (Some mesh) tile before after ended = IsListed (these mesh tile) before after ended
 
 -- a block and a cylinder under a number; what is not there is 0
@@ -97,11 +97,11 @@ obstacles_of state = map (obstacle_of state.history) (alive_after state.history 
 
 -- they were asked for: they are told as far as there is room, unless memory is refused; where there is no level, nothing is told
 abbrev pub AreObstacles : Option BookState → ℕ × List NavdObstacle → ℕ × List NavdObstacle → ℕ → Type 0
-AreObstacles None before after ended = EndsSo status.EMPTY before after ended
-AreObstacles (Some state) before after ended = IsListed (Some (obstacles_of state)) before after ended ⊎ EndsSo status.NO_MEMORY before after ended
+AreObstacles None before after ended = EndsSo status.empty before after ended
+AreObstacles (Some state) before after ended = IsListed (Some (obstacles_of state)) before after ended ⊎ EndsSo status.no_memory before after ended
 
 -- how many entries a view shows, and how many tiles there are
 abbrev pub AreShown : Option Seen → NavdShown → NavdShown → ℕ → Type 0
-AreShown None before after ended = EndsSo status.EMPTY before after ended
+AreShown None before after ended = EndsSo status.empty before after ended
 AreShown (Some seen) before after ended =
-    (ended ≡ status.OK) × (after ≡ record { published = seen.length; tiles = tile_count seen.mesh.setting })
+    (ended ≡ status.ok) × (after ≡ record { published = seen.length; tiles = tile_count seen.mesh.setting })

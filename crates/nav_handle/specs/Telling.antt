@@ -2,7 +2,7 @@
 use Rattle.std.specs.Prelude.{ℕ, List, length, map}
 use Rattle.mesh_types.specs.declared.answers.Answer.{Answer}
 use Rattle.mesh_types.specs.declared.answers.Answer.TheVariants.{Floors, Path, NoStart, NoGoal, NoPath, Reached, Wall}
-use Rattle.nav_handle.specs.declared.wire.TheConstants as status
+use Rattle.nav_handle.specs.Statuses as status
 use Rattle.nav_handle.specs.declared.wire.NavdFloor.{NavdFloor}
 use Rattle.nav_handle.specs.declared.wire.NavdLink.{NavdLink}
 use Rattle.nav_handle.specs.declared.wire.NavdPath.{NavdPath}
@@ -12,13 +12,13 @@ use Rattle.nav_handle.specs.Wire.{laid, floor_told, link_told, path_told, point_
 
 -- how a question with an answer ends
 abbrev pub answer_status : Answer → ℕ
-answer_status (Floors floors) = status.OK
-answer_status (Path found) = status.OK
-answer_status NoStart = status.NO_START
-answer_status NoGoal = status.NO_GOAL
-answer_status NoPath = status.NO_PATH
-answer_status (Reached at) = status.OK
-answer_status (Wall a b num den) = status.WALL
+answer_status (Floors floors) = status.ok
+answer_status (Path found) = status.ok
+answer_status NoStart = status.no_start
+answer_status NoGoal = status.no_goal
+answer_status NoPath = status.no_path
+answer_status (Reached at) = status.ok
+answer_status (Wall a b num den) = status.wall
 
 -- the host's places for a path: one for its cost and counts, and room for its links and for its turns
 abbrev pub PathRoom : Type 0

@@ -4,7 +4,7 @@ use Rattle.mesh_types.specs.declared.answers.WalkAnswer.{WalkAnswer}
 use Rattle.mesh_types.specs.declared.answers.WalkAnswer.TheVariants.{Walking, NoStart, NoGoal, NoPath}
 use Rattle.agent_walks.specs.declared.eyes.Marching.{Marching}
 use Rattle.agent_walks.specs.declared.eyes.Sending.{Sending}
-use Rattle.nav_handle.specs.declared.wire.TheConstants as status
+use Rattle.nav_handle.specs.Statuses as status
 use Rattle.nav_handle.specs.declared.walkers.NavdWalker.{NavdWalker}
 use Rattle.nav_handle.specs.declared.wire.NavdLink.{NavdLink}
 use Rattle.nav_handle.specs.declared.wire.NavdPoint.{NavdPoint}
@@ -27,10 +27,10 @@ march_asked walker far = record {
 
 -- how each of the two ends with an answer
 abbrev pub walk_ends : WalkAnswer → ℕ
-walk_ends (Walking at point y cost links) = status.OK
-walk_ends NoStart = status.NO_START
-walk_ends NoGoal = status.NO_GOAL
-walk_ends NoPath = status.NO_PATH
+walk_ends (Walking at point y cost links) = status.ok
+walk_ends NoStart = status.no_start
+walk_ends NoGoal = status.no_goal
+walk_ends NoPath = status.no_path
 
 -- the host's places: for the walker, and room for the links that lead on
 abbrev pub WalkRoom : Type 0

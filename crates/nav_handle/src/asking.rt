@@ -6,6 +6,7 @@ ghost use Rattle.nav_query.specs.Questions.{IsAnswerable};
 ghost use Rattle.nav_handle.specs.Answers.{EndsSo, IsAsked};
 ghost use Rattle.nav_handle.specs.Telling.{PathRoom, told_floors, told_path, told_ray};
 ghost use Rattle.nav_handle.specs.Wire.{path_asked, ray_asked};
+ghost use Rattle.nav_handle.specs.Statuses as status;
 
 use crate::ends::{end_floors, end_path, end_ray, is_way, path_question, ray_question};
 use crate::handles::{NavdLevel, NavdView};
@@ -127,7 +128,7 @@ pub fn find_path<H: HasMesh>(
     ensures asked { IsAnswerable (path_asked way.now)
         → IsAsked told_path (H.mesh_in held.old) (path_asked way.now) (path.old, links.old, turns.old) (path.new, links.new, turns.new) result }
     ensures refused { (IsAnswerable (path_asked way.now) → ⊥)
-        → EndsSo {Room = PathRoom} OUT_OF_RANGE (path.old, links.old, turns.old) (path.new, links.new, turns.new) result }
+        → EndsSo {Room = PathRoom} status.out_of_range (path.old, links.old, turns.old) (path.new, links.new, turns.new) result }
     ensures same { H.is_same held.old held.new }
 {
     if !is_way(way) {
@@ -140,7 +141,7 @@ pub fn find_path<H: HasMesh>(
 /// The straight walk from a place toward a point.
 pub fn cast_ray<H: HasMesh>(alloc: Global, held: &mut H, way: &NavdWay, ray: &mut NavdRay) -> u32
     ensures asked { IsAnswerable (ray_asked way.now) → IsAsked told_ray (H.mesh_in held.old) (ray_asked way.now) ray.old ray.new result }
-    ensures refused { (IsAnswerable (ray_asked way.now) → ⊥) → EndsSo OUT_OF_RANGE ray.old ray.new result }
+    ensures refused { (IsAnswerable (ray_asked way.now) → ⊥) → EndsSo status.out_of_range ray.old ray.new result }
     ensures same { H.is_same held.old held.new }
 {
     if !is_way(way) {

@@ -7,6 +7,7 @@ ghost use Rattle.off_links.specs.Questions.{CanHop, IsRightHop};
 ghost use Rattle.nav_handle.specs.Answers.{EndsSo, IsAskedBy, IsRepliedBy};
 ghost use Rattle.nav_handle.specs.Hopping.{HopRoom, hop_asked, hop_ends, jumps_of, told_hop};
 ghost use Rattle.nav_handle.specs.Wire.{laid};
+ghost use Rattle.nav_handle.specs.Statuses as status;
 
 use crate::asking::HasMesh;
 use crate::ends::{has_coordinates, is_way, lay_turns, link_told, point_of, polygon_told};
@@ -229,7 +230,7 @@ pub fn find_hop<H: HasMesh>(
     ensures asked { CanHop (hop_asked hop.old.way jumps.now) → IsAskedBy (IsRightHop (hop_asked hop.old.way jumps.now)) hop_ends told_hop
         (H.mesh_in held.old) (hop.old, steps.old, turns.old) (hop.new, steps.new, turns.new) result }
     ensures refused { (CanHop (hop_asked hop.old.way jumps.now) → ⊥)
-        → EndsSo {Room = HopRoom} OUT_OF_RANGE (hop.old, steps.old, turns.old) (hop.new, steps.new, turns.new) result }
+        → EndsSo {Room = HopRoom} status.out_of_range (hop.old, steps.old, turns.old) (hop.new, steps.new, turns.new) result }
     ensures same { H.is_same held.old held.new }
 {
     let asked = Hopping {

@@ -5,6 +5,7 @@ ghost use Rattle.mesh_types.specs.declared.mesh.Mesh.{Mesh};
 ghost use Rattle.agent_walks.specs.Questions.{CanMarch, CanSend, IsRightMarched, IsRightSent};
 ghost use Rattle.nav_handle.specs.Answers.{EndsSo, IsAskedBy, IsRepliedBy};
 ghost use Rattle.nav_handle.specs.Walking.{WalkRoom, march_asked, send_asked, told_march, told_send, walk_ends};
+ghost use Rattle.nav_handle.specs.Statuses as status;
 
 use crate::asking::HasMesh;
 use crate::ends::{has_coordinates, is_way, lay_links, point_of, point_told, polygon_told};
@@ -162,7 +163,7 @@ pub fn send<H: HasMesh>(
     ensures asked { CanSend (send_asked way.now) → IsAskedBy (IsRightSent (send_asked way.now)) walk_ends (told_send way.now)
         (H.mesh_in held.old) (walker.old, links.old) (walker.new, links.new) result }
     ensures refused { (CanSend (send_asked way.now) → ⊥)
-        → EndsSo {Room = WalkRoom} OUT_OF_RANGE (walker.old, links.old) (walker.new, links.new) result }
+        → EndsSo {Room = WalkRoom} status.out_of_range (walker.old, links.old) (walker.new, links.new) result }
     ensures same { H.is_same held.old held.new }
 {
     if !is_way(way) {
@@ -183,7 +184,7 @@ pub fn march<H: HasMesh>(
     ensures asked { CanMarch (march_asked walker.old length) → IsAskedBy (IsRightMarched (march_asked walker.old length)) walk_ends told_march
         (H.mesh_in held.old) (walker.old, links.old) (walker.new, links.new) result }
     ensures refused { (CanMarch (march_asked walker.old length) → ⊥)
-        → EndsSo {Room = WalkRoom} OUT_OF_RANGE (walker.old, links.old) (walker.new, links.new) result }
+        → EndsSo {Room = WalkRoom} status.out_of_range (walker.old, links.old) (walker.new, links.new) result }
     ensures same { H.is_same held.old held.new }
 {
     if !may_march(walker) {

@@ -1,5 +1,5 @@
 //! What crosses the border: plain numbers in structs that C has too, and the statuses with which calls end. The header, `include/navd.h`, has
-//! the same, and says what each of them is.
+//! the same, and says what each of them is. Contracts name statuses by the numbers of `specs/Statuses.antt`.
 
 /// A point of the plane, in sixteenths of a cell.
 #[repr(C)]

@@ -1,9 +1,12 @@
 -- A version's mesh is whole, and so is the one that a patch makes of it; and the version that comes next keeps the rules of versions.
 use Rattle.std.proofs.Common.{◌≡◌, ℕ, ◌++◌, List, length, refl, sym, ap, ◌∙◌, subst, arith}
 use Rattle.std.specs.Arc.{arc_value}
+use Rattle.std.specs.Prelude.{All}
+use Rattle.std.proofs.lemmas.List.Elements.{All-append}
 use Rattle.nav_ground.specs.declared.history.Entry.{Entry}
 use Rattle.nav_ground.specs.declared.history.Ground.{Ground}
 use Rattle.nav_ground.specs.Grounds.{IsGround}
+use Rattle.nav_ground.specs.History.{IsRequest}
 use Rattle.nav_ground.specs.Limits.{IsSetting}
 use Rattle.mesh_types.specs.declared.mesh.Mesh.{Mesh}
 use Rattle.mesh_types.specs.Builds.{build_of}
@@ -47,6 +50,7 @@ IsNext-of_patch last patch news mesh rules' may is are sound' =
     let tiles = ap (λ (m : Mesh). m.tiles) rules'.mesh in
     record {
       few = may.few;
+      requests = may.requests;
       shows = is ∙ (λ i. mesh_of (setting i) (tiles_after (are i) (tiles i))) ∙ may.mesh;
       sound = sound';
     }
@@ -57,6 +61,8 @@ pub IsVersion-next : (last next : Version) (more : List Entry) (mesh : Mesh) →
 IsVersion-next last next more mesh rules' may ground entries is = record {
   ground = subst IsGround (sym ground) rules'.ground;
   few = let few = may.few in omega (arith, ap (λ (list : List Entry). length list) entries);
+  requests = subst (λ (list : List Entry). All (λ (entry : Entry). IsRequest entry.request) list) (sym entries)
+      (All-append (λ (entry : Entry). IsRequest entry.request) last.entries more rules'.requests may.requests);
   mesh = is ∙ may.shows ∙ (λ i. build_of (sym ground i) (sym entries i) (length (sym entries i)));
   sound = subst IsSound (sym is) may.sound;
 }

@@ -1,4 +1,4 @@
--- What a ground and the entries of its history keep in every book.
+-- What the ground and the entries of each version keep.
 use Rattle.std.specs.Prelude.{List, All}
 use Rattle.nav_ground.specs.declared.history.Entry.{Entry}
 use Rattle.nav_ground.specs.declared.history.Ground.{Ground}

@@ -13,6 +13,7 @@ use Rattle.mesh_types.specs.declared.mesh.Mesh.{Mesh}
 use Rattle.mesh_types.specs.Builds.{build_of}
 use Rattle.nav_version.specs.declared.version.PublishedVersion.{PublishedVersion}
 use Rattle.nav_version.specs.Lists.{ToldView}
+use Rattle.nav_version.specs.Rules.{KeepRules}
 use Rattle.nav_version.specs.Versions.{IsVersion}
 
 -- what a shown version is of: its pair, and that pair's ground
@@ -98,9 +99,10 @@ pub record Takes (before after : Option PublishedVersion) : Type 0 where
   pub knows : after ≡ Some shown
 
 -- a version that was shown answered a question: its list goes on from the one that was seen and has fewer entries than a
--- u32 can count, and the answer is right in its mesh, which is that of the ground and the list
+-- u32 can count, ground and list keep their rules, and the answer is right in its mesh, which is that of the ground and the list
 pub record HasFound {A : Type 0} (right : Mesh → A → Type 0) (ground : Ground) (seen : ToldView) (found : ToldView × A) : Type 0 where
   pub pair : found.0.pair ≡ seen.pair
   pub goes_on : IsPrefix seen.entries found.0.entries
   pub few : length found.0.entries < 4294967295
+  pub rules : KeepRules ground found.0.entries
   pub right_there : right (build_of ground found.0.entries (length found.0.entries)) found.1

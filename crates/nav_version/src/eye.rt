@@ -8,7 +8,6 @@ ghost use Rattle.mesh_types.specs.Builds.{build_of};
 ghost use Rattle.mesh_types.specs.Right.{IsRight};
 ghost use Rattle.nav_query.specs.Questions.{HasLowCost, HasUnfoldedWay, IsAnswerable};
 ghost use Rattle.nav_version.specs.Pairs.{HasLooked, after_learning, eye_of};
-ghost use Rattle.nav_version.specs.Rules.{KeepRules};
 ghost use Rattle.nav_version.specs.VersionRule.{HasFound, IsKnownOf, IsShown, IsTaken, Takes, ground_known};
 
 use crate::rule::{Entering, Told};
@@ -123,9 +122,8 @@ impl Eye {
         ensures right { IfOk result (λ told. IsRight (build_of self.old.ground self.new.seen told.0) question.now told.1) }
         ensures low_cost { IfOk result (λ told. HasLowCost told.1) }
 
-        // Where the ground and the entries keep their rules, as in every book, no portal on a path's way folds back on the one before it. A pair
-        // takes entries with shapes of any size, so an eye does not know that of itself.
-        ensures unfolded { IfOk result (λ told. KeepRules self.old.ground self.new.seen → HasUnfoldedWay told.1) }
+        // No portal on a path's way folds back on the one before it.
+        ensures unfolded { IfOk result (λ told. HasUnfoldedWay told.1) }
 
         // After a refusal the eye has looked all the same, or nothing has changed.
         ensures refused { OnErr result (HasLooked self.old self.new ⊎ (self.new ≡ self.old)) }

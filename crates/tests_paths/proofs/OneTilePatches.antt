@@ -9,7 +9,7 @@ use Rattle.nav_ground.specs.declared.history.Entry.{Entry}
 use Rattle.nav_ground.specs.declared.history.Ground.{Ground}
 use Rattle.nav_ground.specs.declared.shape.Shape.{Shape}
 use Rattle.nav_ground.specs.Grounds.{IsGround}
-use Rattle.nav_ground.specs.History.{shapes_alive}
+use Rattle.nav_ground.specs.History.{IsRequest, shapes_alive}
 use Rattle.nav_ground.specs.Limits.{IsShape}
 use Rattle.nav_ground.specs.Tiling.{tile_count}
 use Rattle.mesh_types.specs.declared.mesh.TileMesh.{TileMesh}
@@ -48,9 +48,9 @@ are_new setting (new ∷ []) one are = record {
 }
 
 pub is_patch : (ground : Ground) (shapes : List Shape) (entry : Entry) (patch : Patch) (tiles : List TileMesh) → IsGround ground → tile_count ground.setting ≡ 1 → All IsShape shapes
-    → shapes_alive (entry ∷ []) 1 ≡ shapes → tiles ≡ tiles_under ground shapes → patch.entries ≡ entry ∷ [] → patch.tiles.items ≡ numbered_tiles tiles
+    → IsRequest entry.request → shapes_alive (entry ∷ []) 1 ≡ shapes → tiles ≡ tiles_under ground shapes → patch.entries ≡ entry ∷ [] → patch.tiles.items ≡ numbered_tiles tiles
     → IsPatch ground [] patch
-is_patch ground shapes entry patch tiles rules' one limits alive are entries news =
+is_patch ground shapes entry patch tiles rules' one limits may alive are entries news =
     let made : List TileMesh = tiles_under ground shapes in
     let fit : AreTiles ground.setting made = are_tiles ground shapes rules' limits in
     let is : patch.tiles.items ≡ numbered_tiles made = news ∙ ap numbered_tiles are in
@@ -62,6 +62,8 @@ is_patch ground shapes entry patch tiles rules' one limits alive are entries new
       tiles = subst (AreNew ground.setting) (sym is) (are_new ground.setting made one fit);
       polygons = omega (arith, ap polygon_count replaced, fit.few);
       few = omega (arith, ap (λ (list : List Entry). length list) entries);
+      requests = subst (λ (list : List Entry). All (λ (e : Entry). IsRequest e.request) list) (sym entries)
+          (All-cons (λ (e : Entry). IsRequest e.request) entry [] may (All-nil (λ (e : Entry). IsRequest e.request)));
       mesh = ap (mesh_of ground.setting) replaced
           ∙ build_from ground (entry ∷ []) 1 made (mesh_of ground.setting made) (ap (tiles_under ground) (sym alive)) refl
           ∙ ap (λ (list : List Entry). build_of ground list (length list)) (sym entries);

@@ -1,4 +1,4 @@
-use Rattle.std.proofs.Common.{◌∙◌, rules}
+use Rattle.std.proofs.Common.{◌∙◌}
 use Rattle.std.specs.Prelude.{replicate, []}
 use Rattle.nav_version.specs.Pairs.{eye_of}
 use Rattle.nav_book.proofs.book.Book.begin.Goals as goal

@@ -1,4 +1,4 @@
-use Rattle.std.proofs.Common.{◌≡◌, ◌∙◌, ap, subst, sym}
+use Rattle.std.proofs.Common.{◌∙◌, ap, subst, sym}
 use Rattle.nav_ground.specs.declared.history.Ground.{Ground}
 use Rattle.build_queue.specs.Steps.{IsJob}
 use Rattle.nav_book.specs.Results.{tile_under}

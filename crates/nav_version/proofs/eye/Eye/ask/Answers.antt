@@ -1,5 +1,5 @@
 use Rattle.std.proofs.lemmas.Result.{IfOk-weaker}
-use Rattle.nav_query.proofs.UnfoldedBuilds.{unfolded_answer}
+use Rattle.nav_version.proofs.Looking.{unfolded_told}
 use Rattle.nav_version.proofs.eye.Eye.ask.Goals as goal
 
 pub returns-clause-right : goal.returns-clause-right
@@ -10,6 +10,4 @@ returns-clause-low_cost c = IfOk-weaker c.ask_by.result _ _ (λ told is. is.1) c
 
 pub returns-clause-unfolded : goal.returns-clause-unfolded
 returns-clause-unfolded c =
-    IfOk-weaker c.ask_by.result _ _
-    (λ told is rules'. unfolded_answer _ _ told.0 c.args.question.now told.1 rules'.level rules'.requests is.0)
-    c.ask_by.ensures.right
+    unfolded_told c.ask_by.result c.args.self.now c.ask_by.new.self c.args.question.now c.ask_by.ensures.right c.ask_by.ensures.looked
