@@ -8,8 +8,8 @@ use Rattle.mesh_input.specs.declared.slope.Edge.{Edge}
 abbrev pub square : ℕ → ℕ
 square n = n * n
 
--- The shadows of a triangle on the planes of the axes, twice their areas, by its edges from the first corner to the second and to the third. The one
--- on the ground is above 0 where the upper side is up.
+-- The shadows of a triangle on the planes of the axes, twice their areas, by its edges from the first corner to the second and to the third.
+-- The one on the ground is above 0 where the upper side is up.
 abbrev pub shadow_x : Edge → Edge → ℤ
 shadow_x p q = (p.y *ℤ q.z) -ℤ (p.z *ℤ q.y)
 
@@ -28,8 +28,8 @@ pub record IsUpper (slope : Slope) (up : ℤ) : Type 0 where
 pub record IsFlatEnough (slope : Slope) (x y z : ℕ) : Type 0 where
   pub flat : square slope.run * (square x + square z) ≤ square slope.rise * square y
 
--- somebody can walk on a triangle with these edges from its first corner: it has a shadow on the ground, its upper side is up where both sides do not
--- count, and it is no steeper than the slope
+-- somebody can walk on a triangle with these edges from its first corner: it has a shadow on the ground, its upper side is up where both sides
+-- do not count, and it is no steeper than the slope
 pub record IsGentle (slope : Slope) (p q : Edge) : Type 0 where
   pub upper : IsUpper slope (shadow_y p q)
   pub flat_enough : IsFlatEnough slope (unsigned_abs (shadow_x p q)) (unsigned_abs (shadow_y p q)) (unsigned_abs (shadow_z p q))

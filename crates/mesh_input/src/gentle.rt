@@ -5,8 +5,8 @@ ghost use Rattle.mesh_input.specs.Slopes.{IsGentle, IsUpper, IsFlatEnough, squar
 
 use crate::slope::{Edge, Slope};
 
-/// Whether a triangle is one to walk on, by its edges from the first corner to the second and to the third: it has a shadow on the ground, lies with
-/// its upper side up where both sides do not count, and is no steeper than the slope.
+/// Whether a triangle is one to walk on, by its edges from the first corner to the second and to the third: it has a shadow on the ground,
+/// lies with its upper side up where both sides do not count, and is no steeper than the slope.
 pub fn is_gentle(slope: Slope, p: Edge, q: Edge) -> bool
     ensures { MatchBool result (IsGentle slope p q) (¬ IsGentle slope p q) }
 {

@@ -8,8 +8,8 @@ use Rattle.world_grid.specs.declared.frame.Stretch.{Stretch}
 use Rattle.world_grid.specs.declared.frame.WorldPoint.{WorldPoint}
 use Rattle.world_grid.specs.Grid.{IsSteps, IsStepOf}
 
--- The columns from one number of sixteenths to another: the first begins `part` sixteenths before the lower end and `rest` before the upper one;
--- they are the fewest that reach the upper end, but one at least, and 1024 at most.
+-- The columns from one number of sixteenths to another: the first begins `part` sixteenths before the lower end and `rest` before the upper
+-- one; they are the fewest that reach the upper end, but one at least, and 1024 at most.
 pub record IsStretch (low high : ℤ) (stretch : Stretch) : Type 0 where
   pub part : ℕ
   pub rest : ℕ

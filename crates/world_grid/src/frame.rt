@@ -56,9 +56,9 @@ const MOST_COLUMNS: u32 = 1024;
 /// The height units between the lowest and the highest place of a level, at most.
 const MOST_HEIGHT: i64 = 8190;
 
-/// The frame whose field begins in the last whole column that is not behind `low`, at its height, and the columns that reach from there to
-/// `high`. None where no field of 1024 columns and 8190 height units holds both, where a place is 2^23 steps or more from 0, where `high` is
-/// behind `low`, and where a size is none of 2^-10 to 2^10.
+/// The frame whose field begins in the last whole column that is not behind `low`, at its height, and the columns that reach from there
+/// to `high`. None where no field of 1024 columns and 8190 height units holds both, where a place is 2^23 steps or more from 0, where `high`
+/// is behind `low`, and where a size is none of 2^-10 to 2^10.
 pub fn frame_of(
     cell_size: f32,
     cell_height: f32,

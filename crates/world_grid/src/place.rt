@@ -19,8 +19,8 @@ pub struct FramePlace {
     pub z: i32,
 }
 
-/// Where a point of the game lies in a frame. None where a number of it is infinite or no number, where it or the frame's corner is 2^23 steps or
-/// more from 0, and where a size of the frame is none of 2^-10 to 2^10.
+/// Where a point of the game lies in a frame. None where a number of it is infinite or no number, where it or the frame's corner is 2^23
+/// steps or more from 0, and where a size of the frame is none of 2^-10 to 2^10.
 pub fn place_of(frame: Frame, at: WorldPoint) -> Option<FramePlace>
     ensures found { IfSome result (IsPlaceOf frame at) }
     ensures none { IsNone result → (place : FramePlace) → ¬ IsPlaceOf frame at place }
