@@ -15,7 +15,8 @@ use Rattle.nav_ground.specs.declared.history.Request.{Request}
 use Rattle.nav_ground.specs.declared.history.Request.TheVariants.{Add, Remove}
 use Rattle.nav_ground.specs.History.{alive_after, entry_at, is_added, is_alive, is_removal_of, is_removed, reply_to, IsWellReplied}
 use Rattle.nav_ground.proofs.Selections.{found, slice_get-take}
-use Rattle.tile_changes.specs.Telling.{RemovesWhatIsThere, is_removed_from}
+use Rattle.tile_changes.specs.Telling.{RemovesWhatIsThere}
+use Rattle.tile_changes.proofs.ToldEntries.{is_removed_from}
 
 -- the first of the first entries
 entry_before : (history : List Entry) (a b number : ℕ) → number ≤ a → a ≤ b → entry_at (take b history) number ≡ entry_at (take a history) number

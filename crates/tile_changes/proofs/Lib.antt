@@ -1,3 +1,4 @@
+pub mod ToldEntries
 pub mod AliveBetween
 pub mod ToldShapes
 pub mod ToldTiles

@@ -16,7 +16,8 @@ use Rattle.nav_ground.specs.declared.shape.Shape.{Shape}
 use Rattle.nav_ground.specs.History.{is_added, is_alive, is_removal_of, is_removed, shape_in, shape_of}
 use Rattle.nav_ground.proofs.Selections.{found, slice_get-take}
 use Rattle.tile_changes.specs.Changes.{IsThereOnce}
-use Rattle.tile_changes.specs.Telling.{AreLaterRemovals, AreTold, IsToldFrom, RemovesWhatIsThere, is_removed_from, told_at, told_by}
+use Rattle.tile_changes.specs.Telling.{RemovesWhatIsThere, told_by}
+use Rattle.tile_changes.proofs.ToldEntries.{AreLaterRemovals, AreTold, IsToldFrom, is_removed_from, told_at}
 use Rattle.tile_changes.proofs.AliveBetween.{alive_before, alive_between, not_yet, removed_more}
 
 -- before the first entry is looked at

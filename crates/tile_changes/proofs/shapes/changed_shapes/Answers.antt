@@ -5,7 +5,7 @@ use Rattle.nav_ground.specs.declared.history.Entry.{Entry}
 use Rattle.nav_ground.specs.declared.history.Reply.TheVariants.{Added}
 use Rattle.nav_ground.specs.declared.history.Request.TheVariants.{Add}
 use Rattle.nav_ground.specs.declared.shape.Shape.TheVariants.{Block}
-use Rattle.tile_changes.specs.Telling.{AreLaterRemovals, AreTold}
+use Rattle.tile_changes.proofs.ToldEntries.{AreLaterRemovals, AreTold}
 use Rattle.tile_changes.proofs.AliveBetween.{removed_earlier}
 use Rattle.tile_changes.proofs.ToldShapes.{marked_more, none_marked, none_told, told_are_changed, told_none, told_one}
 use Rattle.tile_changes.proofs.shapes.changed_shapes.Goals as goal

@@ -1,5 +1,5 @@
 use Rattle.std.specs.Prelude.{◌≤◌}
-use Rattle.tile_changes.specs.Telling.{AreLaterRemovals, AreTold}
+use Rattle.tile_changes.proofs.ToldEntries.{AreLaterRemovals, AreTold}
 use Rattle.tile_changes.proofs.shapes.changed_shapes.Given as goal
 
 -- the shapes that the entries looked at tell are there, and the marks say what these entries remove
