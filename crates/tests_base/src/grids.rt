@@ -95,7 +95,9 @@ fn point(x: f32, y: f32, z: f32) -> WorldPoint {
 #[test]
 fn frames_begin_at_whole_cells(rt: HostRuntime) {
     // -0.1 is half a height unit below 0, and 5.33 sixteenths of a cell.
-    let field = frame_of(0.3, 0.2, point(-0.1, -0.1, 0.0), point(3.0, 2.0, 3.0)).expect(&rt, "a field");
+    let field = frame_of(0.3, 0.2, point(-0.1, -0.1, 0.0), point(3.0, 2.0, 3.0)).expect(
+        &rt, "a field",
+    );
     let frame = field.frame;
     same(&rt, (frame.x, frame.y, frame.z), (-1, 0, 0));
     same(&rt, (field.width, field.depth), (11, 10));
@@ -104,7 +106,11 @@ fn frames_begin_at_whole_cells(rt: HostRuntime) {
 #[test]
 fn frames_hold_1024_columns(rt: HostRuntime) {
     let most = frame_of(0.3, 0.2, point(0.0, 0.0, 0.0), point(307.2, 0.0, 0.0));
-    same(&rt, most.map(|field| (field.width, field.depth)), Some((1024, 1)));
+    same(
+        &rt,
+        most.map(|field| (field.width, field.depth)),
+        Some((1024, 1)),
+    );
     let wide = frame_of(0.3, 0.2, point(0.0, 0.0, 0.0), point(307.3, 0.0, 0.0));
     same(&rt, wide.is_some(), false);
 }
