@@ -30,12 +30,12 @@ static CELLS: [(f32, Option<i64>); 5] = [
 /// In cells of 0.2: the first is 2.49999996 sixteenths.
 static SMALL_CELLS: [(f32, Option<i64>); 2] = [(0.03125, Some(2)), (0.09375, Some(7))];
 
-/// In cells of 0.3: how many sixteenths, and the bits of the float nearest to them.
-static TOLD: [(i32, u32); 4] = [
-    (53, 0x3f7e_6667),
-    (-53, 0xbf7e_6667),
-    (8388607, 0x4819_9999),
-    (0, 0),
+/// In cells of 0.3: how many sixteenths, and the float nearest to them.
+static TOLD: [(i32, f32); 4] = [
+    (53, 0.99375004),
+    (-53, -0.99375004),
+    (8388607, 157286.39),
+    (0, 0.0),
 ];
 
 /// A size, and whether a cell may have it.
@@ -63,11 +63,11 @@ fn floats_to_steps(rt: HostRuntime) {
     check_steps(&rt, 0.2, &SMALL_CELLS);
 }
 
-fn check_told(rt: &impl Abort, step: GridStep, rows: &[(i32, u32)]) {
+fn check_told(rt: &impl Abort, step: GridStep, rows: &[(i32, f32)]) {
     for (n, wanted) in rows {
         if n.unsigned_abs() < 0x80_0000 {
             let x = dequantize(*n, step);
-            same(rt, x == f32::from_bits(*wanted), true);
+            same(rt, x == *wanted, true);
         }
     }
 }
@@ -95,7 +95,9 @@ fn point(x: f32, y: f32, z: f32) -> WorldPoint {
 #[test]
 fn frames_begin_at_whole_cells(rt: HostRuntime) {
     // -0.1 is half a height unit below 0, and 5.33 sixteenths of a cell.
-    let field = frame_of(0.3, 0.2, point(-0.1, -0.1, 0.0), point(3.0, 2.0, 3.0)).expect(&rt, "a field");
+    let field = frame_of(0.3, 0.2, point(-0.1, -0.1, 0.0), point(3.0, 2.0, 3.0)).expect(
+        &rt, "a field",
+    );
     let frame = field.frame;
     same(&rt, (frame.x, frame.y, frame.z), (-1, 0, 0));
     same(&rt, (field.width, field.depth), (11, 10));
@@ -104,7 +106,11 @@ fn frames_begin_at_whole_cells(rt: HostRuntime) {
 #[test]
 fn frames_hold_1024_columns(rt: HostRuntime) {
     let most = frame_of(0.3, 0.2, point(0.0, 0.0, 0.0), point(307.2, 0.0, 0.0));
-    same(&rt, most.map(|field| (field.width, field.depth)), Some((1024, 1)));
+    same(
+        &rt,
+        most.map(|field| (field.width, field.depth)),
+        Some((1024, 1)),
+    );
     let wide = frame_of(0.3, 0.2, point(0.0, 0.0, 0.0), point(307.3, 0.0, 0.0));
     same(&rt, wide.is_some(), false);
 }
