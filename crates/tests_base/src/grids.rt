@@ -30,12 +30,12 @@ static CELLS: [(f32, Option<i64>); 5] = [
 /// In cells of 0.2: the first is 2.49999996 sixteenths.
 static SMALL_CELLS: [(f32, Option<i64>); 2] = [(0.03125, Some(2)), (0.09375, Some(7))];
 
-/// In cells of 0.3: how many sixteenths, and the bits of the float nearest to them.
-static TOLD: [(i32, u32); 4] = [
-    (53, 0x3f7e_6667),
-    (-53, 0xbf7e_6667),
-    (8388607, 0x4819_9999),
-    (0, 0),
+/// In cells of 0.3: how many sixteenths, and the float nearest to them.
+static TOLD: [(i32, f32); 4] = [
+    (53, 0.99375004),
+    (-53, -0.99375004),
+    (8388607, 157286.39),
+    (0, 0.0),
 ];
 
 /// A size, and whether a cell may have it.
@@ -63,11 +63,11 @@ fn floats_to_steps(rt: HostRuntime) {
     check_steps(&rt, 0.2, &SMALL_CELLS);
 }
 
-fn check_told(rt: &impl Abort, step: GridStep, rows: &[(i32, u32)]) {
+fn check_told(rt: &impl Abort, step: GridStep, rows: &[(i32, f32)]) {
     for (n, wanted) in rows {
         if n.unsigned_abs() < 0x80_0000 {
             let x = dequantize(*n, step);
-            same(rt, x == f32::from_bits(*wanted), true);
+            same(rt, x == *wanted, true);
         }
     }
 }
