@@ -283,6 +283,13 @@ uint32_t navd_publish(navd_level *level, uint32_t *number);
  * NAVD_OK. NAVD_NOT_YET: not all of the history is published. NAVD_NO_ROOM: only `count` was left. NAVD_EMPTY. NAVD_NO_MEMORY. */
 uint32_t navd_renew(navd_level *level, uint32_t *numbers, size_t room, size_t *count);
 
+/* The tiles that may differ between a length of the history and what is published, by rising numbers; how many there are is left at `count`. They
+ * are those that an obstacle touches which is alive after exactly one of the two; one that came and went in between is not told. Each other tile
+ * has the polygons and links that it had, and so have the links between two such tiles. `since` is a length that navd_settle or navd_publish left,
+ * or any other up to what is published, since the last navd_renew.
+ * NAVD_OK. NAVD_OUT_OF_RANGE: not so much is published. NAVD_EMPTY. NAVD_NO_MEMORY. */
+uint32_t navd_changed_tiles(navd_level *level, uint32_t since, uint32_t *tiles, size_t room, size_t *count);
+
 /* == Jobs ==
  * Worker threads of the host build tiles beside whoever changes the level: a job is claimed (a call of both handles), built from its own handle
  * alone, as long as it likes, and handed in or put back (calls of both handles). A tile that is claimed is given to no other claim, and navd_step

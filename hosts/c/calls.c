@@ -156,6 +156,7 @@ static void look(void) {
     static navd_face faces[4096], few_faces[8];
     static navd_link links[16384], few_links[8];
     static navd_obstacle obstacles[1024], few_obstacles[8];
+    static uint32_t changed[65536], few_changed[8];
     navd_counts counts;
     size_t all = 0, count = 0, room = pick(8);
     ENDS(navd_count(&first, &counts), "navd_count", NAVD_OK);
@@ -184,6 +185,16 @@ static void look(void) {
     ENDS(navd_obstacles(&first, few_obstacles, room, &count), "navd_obstacles", NAVD_OK);
     laid = count < room ? count : room;
     if (all != alive_count || count != all || memcmp(obstacles, few_obstacles, laid * sizeof *obstacles)) ENDS(1, "the obstacles of a small room", 0);
+    uint32_t since = number(counts.published);
+    allowed = since <= counts.published ? NAVD_OK : NAVD_OUT_OF_RANGE;
+    all = count = 0;
+    ENDS(navd_changed_tiles(&first, since, changed, 65536, &all), "navd_changed_tiles", allowed);
+    ENDS(navd_changed_tiles(&first, since, few_changed, room, &count), "navd_changed_tiles", allowed);
+    laid = count < room ? count : room;
+    if (all != count || all > counts.tiles || memcmp(changed, few_changed, laid * sizeof *changed)) ENDS(1, "the tiles of a small room", 0);
+    for (size_t i = 0; i < all; i++)
+        if (changed[i] >= counts.tiles || (i && changed[i] <= changed[i - 1])) ENDS(1, "a tile that changed", 0);
+    if (since == counts.published && all) ENDS(1, "a tile that changed since now", 0);
 }
 
 /* A view, which has costs of its own now and then. */
@@ -326,6 +337,7 @@ static void of_empty(void) {
     ENDS(navd_inner_links(&empty, 0, links, 1, &count), "an empty handle", NAVD_EMPTY);
     ENDS(navd_border_links(&empty, 0, links, 1, &count), "an empty handle", NAVD_EMPTY);
     ENDS(navd_obstacles(&empty, &obstacle, 1, &count), "an empty handle", NAVD_EMPTY);
+    ENDS(navd_changed_tiles(&empty, 0, &told, 1, &count), "an empty handle", NAVD_EMPTY);
     ENDS(navd_send(&empty, &way, links, 1, &walker), "an empty handle", NAVD_EMPTY);
     ENDS(navd_march(&empty, &walker, 5, links, 1), "an empty handle", NAVD_EMPTY);
     ENDS(navd_find_hop(&empty, &hop, &jump, 1, steps, 1, turns, 1), "an empty handle", NAVD_EMPTY);

@@ -276,6 +276,7 @@ def _library():
         "navd_polygons": faces, "navd_view_polygons": faces, "navd_inner_links": links, "navd_view_inner_links": links,
         "navd_border_links": links, "navd_view_border_links": links,
         "navd_obstacles": [handle, POINTER(_Obstacle), c_size_t, count],
+        "navd_changed_tiles": [handle, c_uint32, number, c_size_t, count],
         "navd_view_count": [handle, POINTER(_Shown)],
         "navd_view_set_costs": [handle, number, c_size_t],
         "navd_claim": [handle, handle, number],
@@ -523,6 +524,10 @@ class Level(_Asked):
         if status:
             raise NavdError(status)
         return list(numbers[:count.value])
+
+    def changed_tiles(self, since):
+        """The numbers of the tiles that may differ between a length of the history, of those published, and what is published now."""
+        return _all(c_uint32, lambda *room: self._calls.navd_changed_tiles(byref(self._handle), since, *room))
 
     def obstacles(self):
         """The Obstacles that are alive."""

@@ -6,3 +6,4 @@ pub mod Renewing
 pub mod Viewing
 pub mod Jobs
 pub mod Triangles
+pub mod Changing

@@ -5,9 +5,10 @@
 //! was, and its status, its counts and what it leaves in the host's arrays are those of an answer that is right in the published mesh, or what
 //! there is to draw: the definitions stand in `nav_handle` with what crosses the border (`specs/Answers.antt`, `specs/Hopping.antt`,
 //! `specs/Walking.antt`, `specs/Looking.antt` there). How levels are opened stands in `specs/Opening.antt` and `specs/Triangles.antt`, what
-//! views show in `specs/Viewing.antt`. No call asks anything of its numbers: those that are out of their limits are told so, and no others.
+//! views show in `specs/Viewing.antt`, which tiles changed in `specs/Changing.antt`. No call asks anything of its numbers: those that are out of their limits are told so, and no others.
 #![tactic(auto)]
 
+mod changes;
 mod jobs;
 mod looking;
 mod opening;
@@ -15,6 +16,7 @@ mod questions;
 mod requests;
 mod views;
 
+pub use changes::navd_changed_tiles;
 pub use jobs::{
     navd_aim, navd_build, navd_claim, navd_job_close, navd_publish, navd_put_back,
     navd_put_back_all, navd_settle, navd_step, navd_submit,

@@ -1,4 +1,4 @@
-//! What there is, to draw it: polygons, links and obstacles.
+//! What there is, to draw it: polygons, links and obstacles; and which tiles changed.
 
 use crate::{done, sys, Block, Cylinder, Error, Face, Level, Link, Shown, View};
 
@@ -45,6 +45,11 @@ impl Level {
     /// The links that lead from a tile to others.
     pub fn border_links(&mut self, tile: u32) -> Result<Vec<Link>, Error> {
         all(Link::default(), |links, room, count| unsafe { sys::navd_border_links(&mut self.handle, tile, links, room, count) })
+    }
+
+    /// The tiles that may differ between a length of the history, of those published, and what is published now.
+    pub fn changed_tiles(&mut self, since: u32) -> Result<Vec<u32>, Error> {
+        all(0, |tiles, room, count| unsafe { sys::navd_changed_tiles(&mut self.handle, since, tiles, room, count) })
     }
 
     /// The obstacles that are alive after the whole history.

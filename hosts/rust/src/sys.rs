@@ -253,6 +253,7 @@ extern "C" {
     pub fn navd_polygons(level: *mut Handle, tile: u32, polygons: *mut Face, room: usize, count: *mut usize) -> u32;
     pub fn navd_inner_links(level: *mut Handle, tile: u32, links: *mut Link, room: usize, count: *mut usize) -> u32;
     pub fn navd_border_links(level: *mut Handle, tile: u32, links: *mut Link, room: usize, count: *mut usize) -> u32;
+    pub fn navd_changed_tiles(level: *mut Handle, since: u32, tiles: *mut u32, room: usize, count: *mut usize) -> u32;
     pub fn navd_obstacles(level: *mut Handle, obstacles: *mut Obstacle, room: usize, count: *mut usize) -> u32;
     pub fn navd_claim(level: *mut Handle, job: *mut Handle, tile: *mut u32) -> u32;
     pub fn navd_build(job: *mut Handle) -> u32;
