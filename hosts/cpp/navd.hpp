@@ -300,6 +300,9 @@ public:
     Status put_back(Job &job) noexcept { return Status{navd_put_back(&handle, job.get())}; }
     Status put_back_all() noexcept { return Status{navd_put_back_all(&handle)}; }
 
+    Status changed_tiles(uint32_t since, std::vector<uint32_t> &tiles) {
+        return detail::all(tiles, [&](uint32_t *to, size_t *count) { return navd_changed_tiles(&handle, since, to, *count, count); });
+    }
     Status obstacles(std::vector<navd_obstacle> &obstacles) {
         return detail::all(obstacles, [&](navd_obstacle *to, size_t *count) { return navd_obstacles(&handle, to, *count, count); });
     }

@@ -285,6 +285,8 @@ namespace Navd
         [DllImport(Library)]
         internal static extern Status navd_border_links(LevelHandle level, uint tile, [Out] Link[] links, UIntPtr room, out UIntPtr count);
         [DllImport(Library)]
+        internal static extern Status navd_changed_tiles(LevelHandle level, uint since, [Out] uint[] tiles, UIntPtr room, out UIntPtr count);
+        [DllImport(Library)]
         internal static extern Status navd_obstacles(LevelHandle level, [Out] Obstacle[] obstacles, UIntPtr room, out UIntPtr count);
         [DllImport(Library)]
         internal static extern Status navd_count(LevelHandle level, out Counts counts);
@@ -687,6 +689,17 @@ namespace Navd
         public Status PutBackAll()
         {
             return Native.navd_put_back_all(level);
+        }
+
+        public Status ChangedTiles(uint since, Room<uint> tiles)
+        {
+            Status status;
+            UIntPtr count;
+            do
+            {
+                status = Native.navd_changed_tiles(level, since, tiles.Items, tiles.Length, out count);
+            } while (!tiles.Takes(status == Status.Ok, count));
+            return status;
         }
 
         public Status Obstacles(Room<Obstacle> obstacles)

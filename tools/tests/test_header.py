@@ -112,7 +112,7 @@ ROWS = [
     ("csharp", "        [DllImport(Library)]\n        internal static extern Status navd_prepare(LevelHandle level);\n", "",
      "the call navd_prepare is missing"),
     ("csharp", "[DllImport(Library)]\n        internal static extern Status navd_aim",
-     '[DllImport("other")]\n        internal static extern Status navd_aim', "of 42 places like"),
+     '[DllImport("other")]\n        internal static extern Status navd_aim', "of 43 places like"),
     # C++: its compiler compares the rest
     ("cpp", "navd_view_find_hop;", "navd_find_hop;", "the call navd_view_find_hop is missing"),
     ("cpp", "stale = NAVD_STALE, ", "", "the number STALE is missing"),
@@ -158,7 +158,7 @@ class Comparing(unittest.TestCase):
     def test_all_agree(self):
         ran = self.run_tool("--check")
         self.assertEqual((ran.returncode, ran.stderr), (0, ""), ran.stdout)
-        self.assertRegex(ran.stdout, r"^the header, the library, .* alike: 42 calls .*, 23 structs .*, 19 status numbers\n$")
+        self.assertRegex(ran.stdout, r"^the header, the library, .* alike: 43 calls .*, 23 structs .*, 19 status numbers\n$")
 
     def test_each_change_is_told(self):
         for place, old, new, due in ROWS:
