@@ -3,8 +3,8 @@
  *     bench TEXT WAY COUNT
  *
  * In the level of a field text, COUNT times: 4 the path from one end to the other, 6 the floors of a random column, 7 an aim, 8 the floors of an
- * empty handle, which is the frame of a call alone. They are the ways of the program bench_hops, which makes the same calls inside. The
- * nanoseconds a call are written, by processor time. */
+ * empty handle, which is the frame of a call alone, 9 the tiles that a door's coming changed. All but the last are the ways of the program
+ * bench_hops, which makes the same calls inside. The nanoseconds a call are written, by processor time. */
 #define _POSIX_C_SOURCE 200809L
 
 #include <inttypes.h>
@@ -47,12 +47,16 @@ int main(int argc, char **words) {
     static navd_turn turns[65536];
     navd_path path = {0};
     navd_floor floors[64];
+    static uint32_t tiles[65536];
     size_t found = 0, all = 0;
+    navd_block door = {width / 2, width / 2 + 1, 0, 100, depth / 2, depth / 2 + 3};
+    if (way == 9 && (navd_add_block(&level, &door, 0, &told) || navd_settle(&level, &told))) return 1;
     double start = seconds();
     for (long i = 0; i < count; i++) switch (way) {
         case 4: navd_find_path(&level, &ends, links, 65536, turns, 65536, &path); all += path.links; break;
         case 6: navd_floors(&level, pick(16 * width) / 16, pick(16 * depth) / 16, floors, 64, &found); all += found; break;
         case 7: navd_aim(&level, &told); all += told; break;
+        case 9: navd_changed_tiles(&level, 0, tiles, 65536, &found); all += found; break;
         default: navd_floors(&empty, 0, 0, floors, 64, &found);
         }
     printf("%.1f ns a call, %zu in all\n", (seconds() - start) / (double)(count ? count : 1) * 1e9, all);
